@@ -159,7 +159,6 @@ static int write_past_pool(pool_file *file, uint64_t no, const uint8_t *bytes) {
         if (put <= 0) return POOL_IO;
         done += (size_t)put;
     }
-    file->direct_writes++;
     return WARM_OK;
 }
 
@@ -172,7 +171,10 @@ static int write_past_pool(pool_file *file, uint64_t no, const uint8_t *bytes) {
 static int write_part(pool_file *file, uint64_t no, size_t at, const uint8_t *bytes, size_t length) {
     warm_slot slot;
     bool is_in = residents_have(&file->residents, no), is_new = no * file->page_size >= file->size;
-    if (!is_new && length == file->page_size && !is_in) return write_past_pool(file, no, bytes);
+    if (!is_new && length == file->page_size && !is_in) {
+        file->direct_writes++;
+        return write_past_pool(file, no, bytes);
+    }
     if (is_new) refer(file, no, is_in);
     int status = pin(file, no, &slot);
     if (status != WARM_OK) return status;
@@ -357,7 +359,43 @@ int pool_file_leave(pool_file *file) {
     if (status != WARM_OK) return status;
     if (!read_header(file, header)) return POOL_IO;
     memcpy(file->counter, header + COUNTER_AT, POOL_COUNTER);
+    file->header_page_size = page_size_in(header + SIZE_AT);
     file->has_written = false;
+    return WARM_OK;
+}
+
+/* ---- another copy ---- */
+
+static int take_into_frame(pool_file *file, uint64_t no, const uint8_t *bytes, uint8_t *room, bool *differs) {
+    warm_slot slot;
+    int status = pin(file, no, &slot);
+    if (status != WARM_OK) return status;
+    status = warm_read(pool_file_handle(file), slot, 0, room, file->page_size);
+    *differs = status == WARM_OK && memcmp(room, bytes, file->page_size) != 0;
+    if (*differs) status = warm_write(pool_file_handle(file), slot, 0, bytes, file->page_size);
+    if (*differs && status == WARM_OK) file->is_dirty = true;
+    int unpinned = warm_unpin(pool_file_handle(file), slot);
+    return status != WARM_OK ? status : unpinned;
+}
+
+static int take_past_pool(pool_file *file, uint64_t no, const uint8_t *bytes, uint8_t *room, bool *differs) {
+    ssize_t got;
+    do got = pread(file->fd, room, file->page_size, (off_t)(no * file->page_size));
+    while (got < 0 && errno == EINTR);
+    if (got < 0) return POOL_IO;
+    /* A page that is read in part is written whole: that is never wrong. */
+    *differs = (size_t)got < file->page_size || memcmp(room, bytes, file->page_size) != 0;
+    return *differs ? write_past_pool(file, no, bytes) : WARM_OK;
+}
+
+int pool_file_take(pool_file *file, uint64_t no, const uint8_t *bytes, uint8_t *room, bool *differs, bool *is_in) {
+    if (file->is_failed) return POOL_IO;
+    *is_in = residents_have(&file->residents, no);
+    *differs = false;
+    int status = *is_in ? take_into_frame(file, no, bytes, room, differs) : take_past_pool(file, no, bytes, room, differs);
+    if (status != WARM_OK) return status;
+    file->has_written = true;
+    if (file->size < (no + 1) * file->page_size) file->size = (no + 1) * file->page_size;
     return WARM_OK;
 }
 

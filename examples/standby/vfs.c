@@ -145,11 +145,11 @@ static char *full_path(const char *path) {
     return NULL;
 }
 
-int pool_vfs_prepare(const char *path, pool_file **pool) {
+int pool_vfs_prepare(const char *now_at, const char *path, pool_file **pool) {
     if (prepared != NULL) return SQLITE_MISUSE;
     prepared_path = full_path(path);
     if (prepared_path == NULL) return SQLITE_CANTOPEN;
-    int result = open_pool(prepared_path, &prepared);
+    int result = open_pool(now_at, &prepared);
     if (result == SQLITE_OK) {
         *pool = prepared;
         return SQLITE_OK;
@@ -293,6 +293,20 @@ static const sqlite3_io_methods db_methods = {
 
 /* ---- the methods of the VFS ---- */
 
+/* Whether the pool's file is the one at this path, of which the default VFS has the locks. */
+static bool is_at(const pool_file *pool, const char *path) {
+    struct stat own, there;
+    return fstat(pool->fd, &own) == 0 && stat(path, &there) == 0 && own.st_dev == there.st_dev && own.st_ino == there.st_ino;
+}
+
+static int pool_at(const char *path, pool_file **pool) {
+    *pool = take_prepared(path);
+    if (*pool == NULL) return open_pool(path, pool);
+    if (is_at(*pool, path)) return SQLITE_OK;
+    close_pool(*pool);
+    return SQLITE_CANTOPEN;
+}
+
 static int open_db(const char *name, sqlite3_file *file, int flags, int *flags_out) {
     db_file *own = (db_file *)file;
     int opened_with = flags;
@@ -300,8 +314,7 @@ static int open_db(const char *name, sqlite3_file *file, int flags, int *flags_o
     int result = inner_vfs->xOpen(inner_vfs, name, inner(file), flags, &opened_with);
     if (result != SQLITE_OK) return result;
     own->lock = SQLITE_LOCK_NONE;
-    own->pool = take_prepared(name);
-    if (own->pool == NULL) result = open_pool(name, &own->pool);
+    result = pool_at(name, &own->pool);
     if (result != SQLITE_OK) {
         inner(file)->pMethods->xClose(inner(file));
         return result;

@@ -17,10 +17,11 @@ int pool_vfs_configure(void);
  * and is this replica. Called again it changes these for databases that are opened later. Answers an SQLite result. */
 int pool_vfs_register(uint16_t replica, size_t frames);
 
-/* Makes the pool of a database file before SQLite opens it: a standby's pool hears gossip and warms up so. The next sqlite3_open of this
- * path by the VFS "warm" takes it over, and closes it in the end. The pool is of the calling thread, and so is the connection. Answers an
- * SQLite result. */
-int pool_vfs_prepare(const char *path, pool_file **pool);
+/* Makes the pool of a database file before SQLite opens it: a standby's pool hears gossip and warms up so. The file is at one path now, and
+ * is renamed to the other one before the next sqlite3_open of that by the VFS "warm", which takes the pool over, and closes it in the end;
+ * where another file is there by then it is refused. The pool is of the calling thread, and so is the connection. Answers an SQLite
+ * result. */
+int pool_vfs_prepare(const char *now_at, const char *path, pool_file **pool);
 
 /* The pool of a connection's main database, or NULL where it was opened by another VFS. */
 pool_file *pool_vfs_of(sqlite3 *db);
