@@ -5,6 +5,7 @@ make_work() {
     local parent=${TMPDIR:-/tmp}
     [ -d /dev/shm ] && [ -w /dev/shm ] && [ -z "${TMPDIR:-}" ] && parent=/dev/shm
     work=$(mktemp -d "$parent/warm-standby-XXXXXX")
+    files=$work # of the standbys
     bin=$work/bin
     broker=
     standby=
@@ -15,7 +16,7 @@ make_work() {
 
 # Ends what this script started. A test that runs beside the others is a process group.
 clean_up() {
-    for process in $standby $broker $primary "${tests[@]/#/-}"; do
+    for process in $standby ${late:-} $broker $primary "${tests[@]/#/-}"; do
         kill -9 -- "$process" || true
     done 2> /dev/null
     [ ${#tests[@]} -eq 0 ] || disown "${tests[@]}"
@@ -60,22 +61,24 @@ wait_for() {
     fail "$1 never said '$2': $(tail -n 5 "$1")"
 }
 
+# start_standby MODE WORD...: one that hears the primary, with a copy of its file. What it says is in MODE.out.
 start_standby() {
-    "$bin/standby" --db "$work/standby.db" --from "$work/primary.db" --port "$port" --replica 2 --peer 1 --frames "$frames" --seed 9 "$@" \
-        > "$work/warm.out" &
+    cp "$work/standby.copy" "$files/$1.db.copy"
+    "$bin/standby" --db "$files/$1.db" --from "$work/primary.db" --mode "$1" --port "$port" --replica 2 --peer 1 --frames "$frames" --seed 9 "${@:2}" \
+        > "$work/$1.out" &
     standby=$!
 }
 
-# The standby takes over, and its answer is in warm.out.
+# take_over MODE: that standby takes over.
 take_over() {
     kill -USR1 "$standby"
-    wait "$standby" || fail "the standby failed: $(tail -n 5 "$work/warm.out")"
+    wait "$standby" || fail "the standby failed: $(tail -n 5 "$work/$1.out")"
     standby=
 }
 
 # The same takeover without a warm history, and by stock SQLite.
 take_over_as() {
-    "$bin/standby" --db "$work/$1.db" --from "$work/primary.db" --mode "$1" --frames "$frames" --seed 9 "${@:2}" > "$work/$1.out" ||
+    "$bin/standby" --db "$files/$1.db" --from "$work/primary.db" --mode "$1" --frames "$frames" --seed 9 "${@:2}" > "$work/$1.out" ||
         fail "$1 failed"
 }
 

@@ -48,6 +48,8 @@ static void warm_up(pool_file *file, uint64_t most) {
     if (status != WARM_OK) printf("standby: the warm-up ended with status %d\n", status);
 }
 
+/* A look at the primary's file, now and then. Once the primary's connection is gone the copy and the frames are thus soon as they have to be,
+ * before anybody sends the signal. */
 static void follow(const options *o, pool_file *file, uint64_t *follow_at) {
     if (milliseconds_now() < *follow_at) return;
     take_pages(file, o->from);
