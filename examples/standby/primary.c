@@ -94,7 +94,7 @@ int main(int count, char **words) {
     orders work;
     gossip g;
     progress p = {0};
-    struct sigaction action = {.sa_handler = on_signal};
+    struct sigaction action = {.sa_handler = on_signal, .sa_flags = SA_RESTART};
     sigaction(SIGTERM, &action, NULL);
     register_vfs(&o);
     sqlite3 *db = open_database(&o);

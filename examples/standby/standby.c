@@ -48,11 +48,11 @@ static void warm_up(pool_file *file, uint64_t most) {
     if (status != WARM_OK) printf("standby: the warm-up ended with status %d\n", status);
 }
 
-/* A look at the primary's file, now and then. Once the primary's connection is gone the copy and the frames are thus soon as they have to be,
- * before anybody sends the signal. */
+/* A look at the primary's file, now and then. After the last one before the signal, nothing is left to load but what became hot since. */
 static void follow(const options *o, pool_file *file, uint64_t *follow_at) {
+    taken counts;
     if (milliseconds_now() < *follow_at) return;
-    take_pages(file, o->from);
+    if (!take_pages(file, o->from, &counts)) printf("standby: %s is not followed: %s\n", o->from, strerror(errno));
     warm_up(file, STEPS);
     *follow_at = milliseconds_now() + FOLLOW_MILLISECONDS;
 }
@@ -129,7 +129,7 @@ static void go_on(const options *o, sqlite3 *db) {
 }
 
 static void listen_to_signals(void) {
-    struct sigaction action = {.sa_handler = on_signal};
+    struct sigaction action = {.sa_handler = on_signal, .sa_flags = SA_RESTART};
     sigaction(SIGUSR1, &action, NULL);
     sigaction(SIGTERM, &action, NULL);
 }
@@ -152,6 +152,7 @@ static void wait_warm(const options *o) {
 
 /* Without a history nothing is to be waited for. The VFS "warm" opens the file anew. */
 static void take_cold(const options *o) {
+    take_copy_path(o->db);
     take_over(o, NULL);
     int fd = o->evicts ? open(o->db, O_RDONLY | O_CLOEXEC) : -1;
     if (fd >= 0) posix_fadvise(fd, 0, 0, POSIX_FADV_DONTNEED);

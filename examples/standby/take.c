@@ -13,6 +13,7 @@
 #include <stdio.h>
 #include <stdlib.h>
 #include <string.h>
+#include <sys/file.h>
 #include <sys/sendfile.h>
 #include <sys/stat.h>
 #include <unistd.h>
@@ -29,48 +30,61 @@ static char *joined(const char *path, const char *end) {
     return all;
 }
 
+static void must_not_be_there(const char *db) {
+    if (access(db, F_OK) == 0) errno = EEXIST;
+    take_must(errno == ENOENT, db);
+}
+
+/* The descriptor stays open: with it goes the lock, and closing it would also drop SQLite's locks on what is DB by then. */
 const char *take_copy_path(const char *db) {
     char *copy = joined(db, ".copy");
+    must_not_be_there(db);
     int fd = open(copy, O_RDWR | O_CREAT | O_CLOEXEC, 0666);
-    take_must(fd >= 0 && close(fd) == 0, copy);
+    take_must(fd >= 0 && flock(fd, LOCK_EX | LOCK_NB) == 0, copy);
     return copy;
 }
 
 /* ---- pages ---- */
 
 /* Bytes past the end of the file are zeros. */
-static void read_page(int fd, uint8_t *page, size_t page_size, uint64_t no) {
+static bool read_page(int fd, uint8_t *page, size_t page_size, uint64_t no) {
     size_t done = 0;
     while (done < page_size) {
         ssize_t got = pread(fd, page + done, page_size - done, (off_t)(no * page_size + done));
         if (got < 0 && errno == EINTR) continue;
-        take_must(got >= 0, "the primary's database");
+        if (got < 0) return false;
         if (got == 0) break;
         done += (size_t)got;
     }
     memset(page + done, 0, page_size - done);
+    return true;
+}
+
+/* room is for two pages. */
+static bool take_all(pool_file *copy, int fd, uint64_t size, uint8_t *room, taken *counts) {
+    for (uint64_t no = 0; no * copy->page_size < size; no++) {
+        bool differs, is_in;
+        if (!read_page(fd, room, copy->page_size, no)) return false;
+        if (pool_file_take(copy, no, room, room + copy->page_size, &differs, &is_in) != WARM_OK) return false;
+        counts->pages++;
+        counts->changed += differs;
+        counts->in_frames += differs && is_in;
+    }
+    return copy->size == size || pool_file_truncate(copy, size) == WARM_OK;
 }
 
 /* The size is looked at first: a page that the primary adds meanwhile comes with the next pass. */
-taken take_pages(pool_file *copy, const char *from) {
-    taken counts = {0};
+bool take_pages(pool_file *copy, const char *from, taken *counts) {
     struct stat about;
     int fd = open(from, O_RDONLY | O_CLOEXEC);
-    take_must(fd >= 0 && fstat(fd, &about) == 0, from);
-    uint64_t size = (uint64_t)about.st_size;
-    uint8_t *page = malloc(2 * copy->page_size);
-    take_must(page != NULL, "a page");
-    for (; counts.pages * copy->page_size < size; counts.pages++) {
-        bool differs, is_in;
-        read_page(fd, page, copy->page_size, counts.pages);
-        take_must(pool_file_take(copy, counts.pages, page, page + copy->page_size, &differs, &is_in) == WARM_OK, "the copy");
-        counts.changed += differs;
-        counts.in_frames += differs && is_in;
-    }
-    if (copy->size != size) take_must(pool_file_truncate(copy, size) == WARM_OK, "the copy");
-    free(page);
-    close(fd);
-    return counts;
+    uint8_t *room = malloc(2 * copy->page_size);
+    *counts = (taken){0};
+    bool is_done = fd >= 0 && room != NULL && fstat(fd, &about) == 0 && take_all(copy, fd, (uint64_t)about.st_size, room, counts);
+    int error = errno;
+    free(room);
+    if (fd >= 0) close(fd);
+    errno = error;
+    return is_done;
 }
 
 /* ---- files ---- */
@@ -112,8 +126,9 @@ static void take_beside(const char *from, const char *db, const char *end) {
 static taken take_database(pool_file *copy, const char *from, const char *copy_path) {
     taken counts = {0};
     if (copy != NULL) {
-        counts = take_pages(copy, from);
-        take_must(pool_file_leave(copy) == WARM_OK, copy_path);
+        take_must(take_pages(copy, from, &counts), from);
+        /* What stood in the copy before this program may not be on its disk, so it is synced also where nothing differed. */
+        take_must(pool_file_leave(copy) == WARM_OK && fsync(copy->fd) == 0, copy_path);
     } else {
         int source = open(from, O_RDONLY | O_CLOEXEC);
         take_must(source >= 0, from);
@@ -125,8 +140,7 @@ static taken take_database(pool_file *copy, const char *from, const char *copy_p
 
 taken take_files(pool_file *copy, const char *from, const char *db) {
     char *copy_path = joined(db, ".copy");
-    if (access(db, F_OK) == 0) errno = EEXIST;
-    take_must(errno == ENOENT, db);
+    must_not_be_there(db);
     taken counts = take_database(copy, from, copy_path);
     take_beside(from, db, "-journal");
     take_beside(from, db, "-wal");
