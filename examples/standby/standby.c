@@ -138,7 +138,9 @@ static void listen_to_signals(void) {
 static void wait_warm(const options *o) {
     pool_file *file;
     gossip g;
-    must_be_ok(pool_vfs_prepare(take_copy_path(o->db), o->db, &file), NULL, o->db);
+    char *copy = take_copy_path(o->db);
+    must_be_ok(pool_vfs_prepare(copy, o->db, &file), NULL, copy);
+    sqlite3_free(copy);
     const char *wrong = gossip_open(&g, file, o->host, (int)o->port, (unsigned)o->peer);
     if (wrong != NULL) {
         fprintf(stderr, "standby: %s\n", wrong);
@@ -152,7 +154,7 @@ static void wait_warm(const options *o) {
 
 /* Without a history nothing is to be waited for. The VFS "warm" opens the file anew. */
 static void take_cold(const options *o) {
-    take_copy_path(o->db);
+    sqlite3_free(take_copy_path(o->db));
     take_over(o, NULL);
     int fd = o->evicts ? open(o->db, O_RDONLY | O_CLOEXEC) : -1;
     if (fd >= 0) posix_fadvise(fd, 0, 0, POSIX_FADV_DONTNEED);

@@ -36,7 +36,7 @@ static void must_not_be_there(const char *db) {
 }
 
 /* The descriptor stays open: with it goes the lock, and closing it would also drop SQLite's locks on what is DB by then. */
-const char *take_copy_path(const char *db) {
+char *take_copy_path(const char *db) {
     char *copy = joined(db, ".copy");
     must_not_be_there(db);
     int fd = open(copy, O_RDWR | O_CREAT | O_CLOEXEC, 0666);

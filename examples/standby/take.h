@@ -12,9 +12,9 @@ typedef struct taken {
     uint64_t in_frames;      /* of these: in a frame */
 } taken;
 
-/* The path of the copy, which is made empty where there is none, and is this program's alone until it ends. It is never freed. Ends the
+/* The path of the copy, for sqlite3_free. The copy is made empty where there is none, and is this program's alone until it ends. Ends the
  * program where DB is there: it was taken over before. */
-const char *take_copy_path(const char *db);
+char *take_copy_path(const char *db);
 
 /* One pass over the primary's database through the pool of the copy: each page that differs is written into its frame, or where it is in
  * none into the copy. While the primary runs the copy is of no moment of it, and is read by nobody as a database. False where the primary's
