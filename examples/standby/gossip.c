@@ -65,7 +65,7 @@ static void on_message(struct mosquitto *client, void *data, const struct mosqui
     static const uint8_t no_bytes[1];
     const uint8_t *frame = length > 0 ? message->payload : no_bytes; /* a pointer is not null, also where there is no byte */
     int status = warm_receive(pool_file_handle(g->file), frame, length);
-    if (status >= 0 && status <= WARM_BAD_BUCKET) g->statuses[status]++;
+    if (status >= 0 && status < GOSSIP_STATUSES) g->statuses[status]++;
     if (status != WARM_OK) return;
     if (frame_sender(frame, length) == g->file->replica) g->own++;
     pool_file_heard(g->file, frame_latest(frame, length));
@@ -173,9 +173,9 @@ void gossip_publish(gossip *g) {
 
 void gossip_print(const gossip *g, FILE *to) {
     uint64_t all = 0;
-    for (int status = 0; status <= WARM_BAD_BUCKET; status++) all += g->statuses[status];
+    for (int status = 0; status < GOSSIP_STATUSES; status++) all += g->statuses[status];
     fprintf(to, "gossip: %llu frames came", (unsigned long long)all);
-    for (int status = 0; status <= WARM_BAD_BUCKET; status++) {
+    for (int status = 0; status < GOSSIP_STATUSES; status++) {
         uint8_t name[32] = {0};
         size_t length;
         if (g->statuses[status] == 0) continue;

@@ -18,6 +18,9 @@ typedef struct published {
 /* In milliseconds: gossip_publish waits no longer, whatever the broker and the network do, and gossip_open not at all. */
 enum { GOSSIP_WAIT = 50 };
 
+/* More than the greatest status of warm.h. */
+enum { GOSSIP_STATUSES = 128 };
+
 typedef struct gossip {
     struct mosquitto *client;
     pool_file *file;
@@ -29,7 +32,7 @@ typedef struct gossip {
     published buckets[BUCKETS];
     uint64_t sent, unsent;                   /* frames that the client took, and that it refused */
     uint64_t skipped;                        /* calls of gossip_publish without a broker, or while it took nothing */
-    uint64_t statuses[WARM_BAD_BUCKET + 1];  /* of frames that came */
+    uint64_t statuses[GOSSIP_STATUSES];      /* of frames that came */
     uint64_t own;                            /* of these: from this replica itself */
 } gossip;
 

@@ -16,6 +16,11 @@
  * So even with synchronous=OFF, where SQLite does not call xSync, the pages are written back where it would have: at
  * SQLITE_FCNTL_SYNC, which comes before the journal is deleted. (Then they are also synced, since warm_write_back does both.)
  *
+ * warm_open asks that nothing else writes to a page of the file that may be in a frame. Twice something does, and no frame's bytes are used
+ * after it. Other connections commit while this one has no lock: pool_file_enter then makes a new pool before a page is read, and the old
+ * one, which has nothing dirty, is asked for its history alone. And the file is cut off by ftruncate: what frames have of pages behind its
+ * end is not read (pool_file_read ends with the file), and is written over before the file grows over it (write_zeros, or whole pages).
+ *
  * With a WAL a commit is in the WAL, which is no file of the pool. Pages reach the database in a checkpoint alone, and the WAL has them
  * until it is reset: truncated, deleted, or written from its start again. In walCheckpoint of SQLite 3.40 the order is: the WAL is synced
  * (not with OFF); pages are written; SQLITE_FCNTL_CKPT_DONE; the database is truncated to its size, and synced (not with OFF); and only

@@ -28,23 +28,26 @@
 enum { FOLLOW_MILLISECONDS = 250, STEPS = 200 };
 
 static volatile sig_atomic_t takes_over, ends;
+static volatile uint64_t takeover_at; /* written before takes_over, and read after it */
 
 static void on_signal(int number) {
-    if (number == SIGUSR1) takes_over = 1;
-    else ends = 1;
+    if (number != SIGUSR1) ends = 1;
+    else if (!takes_over) {
+        takeover_at = nanoseconds(CLOCK_MONOTONIC);
+        takes_over = 1;
+    }
 }
 
-/* Microseconds since the takeover began. */
-static uint64_t outage_began;
+/* Microseconds since the signal. */
+static uint64_t outage(void) { return (nanoseconds(CLOCK_MONOTONIC) - takeover_at) / 1000; }
 
-static uint64_t outage(void) { return nanoseconds(CLOCK_MONOTONIC) / 1000 - outage_began; }
-
-/* Loads pages of the warm-up, so many at most. A page that cannot be read or put into a frame ends it: the standby is as warm as it is. */
-static void warm_up(pool_file *file, uint64_t most) {
+/* Loads pages of the warm-up, so many at most, and none once it is time for something else. A page that cannot be read or put into a frame ends
+ * it: the standby is as warm as it is. */
+static void warm_up(pool_file *file, uint64_t most, const volatile sig_atomic_t *is_time) {
     uint64_t end = file->warmed + most;
     bool found = true;
     int status = WARM_OK;
-    while (status == WARM_OK && found && file->warmed < end && !ends) status = pool_file_step(file, &found);
+    while (status == WARM_OK && found && file->warmed < end && !*is_time) status = pool_file_step(file, &found);
     if (status != WARM_OK) printf("standby: the warm-up ended with status %d\n", status);
 }
 
@@ -53,7 +56,7 @@ static void follow(const options *o, pool_file *file, uint64_t *follow_at) {
     taken counts;
     if (milliseconds_now() < *follow_at) return;
     if (!take_pages(file, o->from, &counts)) printf("standby: %s is not followed: %s\n", o->from, strerror(errno));
-    warm_up(file, STEPS);
+    warm_up(file, STEPS, &takes_over);
     *follow_at = milliseconds_now() + FOLLOW_MILLISECONDS;
 }
 
@@ -81,7 +84,6 @@ static void stand_by(const options *o, gossip *g, pool_file *file) {
 /* The files, and then the pages that became hot since. Without a pool the files alone. */
 static void take_over(const options *o, pool_file *file) {
     uint64_t warmed = file != NULL ? file->warmed : 0;
-    outage_began = nanoseconds(CLOCK_MONOTONIC) / 1000;
     taken counts = take_files(file, o->from, o->db);
     uint64_t had_files = outage();
     if (file == NULL) {
@@ -91,7 +93,7 @@ static void take_over(const options *o, pool_file *file) {
     /* What the files are read by is not measured: the system forgets it. */
     if (o->evicts) posix_fadvise(file->fd, 0, 0, POSIX_FADV_DONTNEED);
     uint64_t began = outage();
-    warm_up(file, UINT32_MAX);
+    warm_up(file, UINT32_MAX, &ends);
     printf("standby: warmed up %llu pages before the takeover\n", (unsigned long long)warmed);
     printf("standby: outage: files %llu us, of %llu pages %llu had changed, %llu of them in frames\n", (unsigned long long)had_files,
         (unsigned long long)counts.pages, (unsigned long long)counts.changed, (unsigned long long)counts.in_frames);
@@ -152,8 +154,9 @@ static void wait_warm(const options *o) {
     gossip_close(&g);
 }
 
-/* Without a history nothing is to be waited for. The VFS "warm" opens the file anew. */
+/* Without a history nothing is to be waited for, and no signal. */
 static void take_cold(const options *o) {
+    on_signal(SIGUSR1);
     sqlite3_free(take_copy_path(o->db));
     take_over(o, NULL);
     int fd = o->evicts ? open(o->db, O_RDONLY | O_CLOEXEC) : -1;
