@@ -53,7 +53,9 @@ static void print_help(const char *program, const option *known, size_t count) {
     for (size_t i = 0; i < count; i++) {
         printf("  %-14s %-6s %s", known[i].name, known[i].is_set != NULL ? "" : known[i].number != NULL ? "NUMBER" : "TEXT", known[i].help);
         if (known[i].choices != NULL) printf(": %s", known[i].choices);
-        if (known[i].number != NULL) printf(" (%llu to %llu, else %llu)", (unsigned long long)known[i].least, (unsigned long long)known[i].most, (unsigned long long)*known[i].number);
+        if (known[i].number != NULL)
+            printf(" (%llu to %llu, else %llu)", (unsigned long long)known[i].least, (unsigned long long)known[i].most,
+                (unsigned long long)*known[i].number);
         printf("\n");
     }
 }
