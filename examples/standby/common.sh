@@ -54,8 +54,10 @@ stop_broker() {
 
 # wait_for FILE PATTERN [COUNT]: until so many lines of a file have it, at most 20 seconds.
 wait_for() {
+    local lines
     for _ in $(seq 400); do
-        [ "$(grep -c -- "$2" "$1" 2> /dev/null)" -ge "${3:-1}" ] && return
+        lines=$(grep -c -- "$2" "$1" 2> /dev/null || true) # nothing where the file is not there yet
+        [ "${lines:-0}" -ge "${3:-1}" ] && return
         sleep 0.05
     done
     fail "$1 never said '$2': $(tail -n 5 "$1")"
