@@ -39,9 +39,11 @@ static void on_connect(struct mosquitto *client, void *data, int code) {
     g->is_connected = true;
     forget_published(g);
     state_topic(topic, g->file->replica);
-    mosquitto_publish(client, NULL, topic, 4, "here", 0, true);
+    int published = mosquitto_publish(client, NULL, topic, 4, "here", 0, true);
     snprintf(topic, sizeof topic, "warm/%u/#", g->peer);
-    mosquitto_subscribe(client, NULL, topic, 0);
+    int subscribed = mosquitto_subscribe(client, NULL, topic, 0);
+    /* Without memory for both another connection is tried. */
+    if (published != MOSQ_ERR_SUCCESS || subscribed != MOSQ_ERR_SUCCESS) mosquitto_disconnect(client);
 }
 
 static void on_disconnect(struct mosquitto *client, void *data, int code) {

@@ -36,7 +36,7 @@ static bool take_number(const option *known, const char *value) {
 
 static bool take_value(const option *known, const char *value) {
     if (known->number != NULL) return take_number(known, value);
-    if (known->choices != NULL && !is_choice(known->choices, value)) return false;
+    if (value[0] == 0 || (known->choices != NULL && !is_choice(known->choices, value))) return false;
     *known->text = value;
     return true;
 }

@@ -81,6 +81,11 @@ static void stand_by(const options *o, gossip *g, pool_file *file) {
     if (ends) exit(0);
 }
 
+/* For the measure: what was written is read from its disk again. */
+static void evict(const options *o, int fd) {
+    if (o->evicts && posix_fadvise(fd, 0, 0, POSIX_FADV_DONTNEED) != 0) printf("standby: the system keeps the file in its cache\n");
+}
+
 /* The files, and then the pages that became hot since. Without a pool the files alone. */
 static void take_over(const options *o, pool_file *file) {
     uint64_t warmed = file != NULL ? file->warmed : 0;
@@ -90,8 +95,7 @@ static void take_over(const options *o, pool_file *file) {
         printf("standby: outage: files %llu us\n", (unsigned long long)had_files);
         return;
     }
-    /* What the files are read by is not measured: the system forgets it. */
-    if (o->evicts) posix_fadvise(file->fd, 0, 0, POSIX_FADV_DONTNEED);
+    evict(o, file->fd);
     uint64_t began = outage();
     warm_up(file, UINT32_MAX, &ends);
     printf("standby: warmed up %llu pages before the takeover\n", (unsigned long long)warmed);
@@ -159,9 +163,10 @@ static void take_cold(const options *o) {
     on_signal(SIGUSR1);
     sqlite3_free(take_copy_path(o->db));
     take_over(o, NULL);
-    int fd = o->evicts ? open(o->db, O_RDONLY | O_CLOEXEC) : -1;
-    if (fd >= 0) posix_fadvise(fd, 0, 0, POSIX_FADV_DONTNEED);
-    if (fd >= 0) close(fd);
+    int fd = open(o->db, O_RDONLY | O_CLOEXEC);
+    take_must(fd >= 0, o->db);
+    evict(o, fd);
+    close(fd);
 }
 
 int main(int count, char **words) {
