@@ -97,7 +97,8 @@ static const char *const of_shared[] = {"PRAGMA locking_mode=EXCLUSIVE", "PRAGMA
 static const char *const of_alone[] = {"PRAGMA journal_mode=WAL", "PRAGMA journal_mode=WAL", "PRAGMA journal_mode=WAL", "PRAGMA journal_mode=WAL",
     "PRAGMA journal_mode=DELETE", "PRAGMA journal_mode=PERSIST", "PRAGMA wal_checkpoint", "PRAGMA wal_checkpoint(FULL)",
     "PRAGMA wal_checkpoint(RESTART)", "PRAGMA wal_checkpoint(TRUNCATE)", "PRAGMA wal_autocheckpoint=1", "PRAGMA wal_autocheckpoint=20",
-    "PRAGMA wal_autocheckpoint=0", "PRAGMA journal_size_limit=0", "PRAGMA synchronous=NORMAL"};
+    "PRAGMA wal_autocheckpoint=0", "PRAGMA journal_size_limit=0", "PRAGMA synchronous=NORMAL", "PRAGMA synchronous=OFF",
+    "PRAGMA synchronous=OFF", "PRAGMA synchronous=OFF"};
 
 static const char *draw_pragma(bool is_alone) {
     if (is_alone) return of_alone[draw(sizeof of_alone / sizeof *of_alone)];
@@ -122,7 +123,7 @@ static void draw_statement(char *sql, size_t room, bool is_alone) {
         case 4: snprintf(sql, room, "SELECT a, b, substr(c, 1, 5) FROM t WHERE b = %u ORDER BY a", draw(1000)); break;
         case 5: snprintf(sql, room, "INSERT OR REPLACE INTO t VALUES (%u, %u, hex(zeroblob(%u)))", a, n, draw(20000)); break;
         case 6: snprintf(sql, room, "%s", fixed[draw(sizeof fixed / sizeof *fixed)]); break;
-        default: snprintf(sql, room, "%s", draw(3) == 0 ? draw_pragma(is_alone) : fixed[draw(sizeof fixed / sizeof *fixed)]); break;
+        default: snprintf(sql, room, "%s", is_alone || draw(3) == 0 ? draw_pragma(is_alone) : fixed[draw(sizeof fixed / sizeof *fixed)]); break;
     }
 }
 
@@ -193,10 +194,11 @@ static void random_run(uint64_t seed, size_t frames, int statements, bool is_alo
     pool_vfs_register(1, frames);
     sqlite3 *stock = open_for_run("unix", "stock", is_alone), *pooled = open_for_run(POOL_VFS, "pooled", is_alone);
     same_answer(stock, pooled, "CREATE TABLE t(a INTEGER PRIMARY KEY, b, c)");
+    if (is_alone) same_answer(stock, pooled, "PRAGMA journal_mode=WAL");
     for (int at = 0; at < statements; at++) {
         draw_statement(sql, sizeof sql, is_alone);
         same_answer(stock, pooled, sql);
-        if (draw(20) == 0) same_after_kill();
+        if (draw(is_alone ? 8 : 20) == 0) same_after_kill();
         if (draw(40) > 0) continue;
         sqlite3_close(stock); /* an open transaction is rolled back */
         sqlite3_close(pooled);
@@ -729,6 +731,22 @@ static void modes(void) {
     sqlite3_close(db);
 }
 
+/* A database in WAL mode is opened by a connection that is alone, and refused to any other. */
+static void wal_mode(void) {
+    sqlite3 *db = open_alone(POOL_VFS, "modes");
+    MUST(answers(db, "PRAGMA journal_mode=WAL", "wal|\n"));
+    sqlite3_close(db);
+    MUST(pool_vfs_open(path_of("modes"), SQLITE_OPEN_READWRITE, false, &db) == SQLITE_CANTOPEN);
+    sqlite3_close(db);
+    db = open_alone(POOL_VFS, "modes");
+    MUST(answers(db, "SELECT sum(a) FROM t", "18|\n"));
+    MUST(answers(db, "PRAGMA journal_mode=DELETE", "delete|\n"));
+    sqlite3_close(db);
+    db = open_by(POOL_VFS, "modes", 0);
+    MUST(answers(db, "SELECT sum(a) FROM t", "18|\n"));
+    sqlite3_close(db);
+}
+
 int main(int count, char **words) {
     if (count < 2 || count > 4) {
         fprintf(stderr, "usage: vfs_test FOLDER [RUNS] [SEED], or vfs_test FOLDER full, where FOLDER is on an empty disk of 512 KB\n");
@@ -754,6 +772,7 @@ int main(int count, char **words) {
     failing_checkpoint("PRAGMA synchronous=FULL");
     refused_memory(runs > 12 ? 1000 : 50);
     modes();
+    wal_mode();
     many_pages();
     change_counter();
     heard_times();
