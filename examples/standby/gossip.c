@@ -66,11 +66,9 @@ static void on_message(struct mosquitto *client, void *data, const struct mosqui
     }
     static const uint8_t no_bytes[1];
     const uint8_t *frame = length > 0 ? message->payload : no_bytes; /* a pointer is not null, also where there is no byte */
-    int status = warm_receive(pool_file_handle(g->file), frame, length);
+    int status = pool_file_receive(g->file, frame, length);
     if (status >= 0 && status < GOSSIP_STATUSES) g->statuses[status]++;
-    if (status != WARM_OK) return;
-    if (frame_sender(frame, length) == g->file->replica) g->own++;
-    pool_file_heard(g->file, frame_latest(frame, length));
+    if (status == WARM_OK && frame_sender(frame, length) == g->file->replica) g->own++;
 }
 
 /* Begins to connect, now and then. mosquitto_loop says whether it came to pass; where it cannot even begin, it is tried again. */

@@ -85,6 +85,12 @@ void pool_file_heard(pool_file *file, uint64_t time) {
     if (time >= file->time && time <= nanoseconds(CLOCK_REALTIME) + HOUR) file->time = time + 1;
 }
 
+int pool_file_receive(pool_file *file, const uint8_t *frame, size_t length) {
+    int status = warm_receive(pool_file_handle(file), frame, length);
+    if (status == WARM_OK) pool_file_heard(file, frame_latest(frame, length));
+    return status;
+}
+
 /* Opens one of the two handles, with frames that are all empty, and makes it the current one. */
 static int open_handle(pool_file *file, int which, size_t page_size) {
     warm_device device = {.pages = MOST_PAGES, .fd = file->fd};

@@ -50,9 +50,15 @@ static void hear_first(gossip *g) {
 typedef struct progress {
     uint64_t done, published;         /* transactions, and page reads at the last gossip */
     uint64_t longest, longest_gossip; /* milliseconds: of a transaction and the gossip after it, and of that gossip alone */
+    bool has_broker;                  /* as was last said */
 } progress;
 
 static uint64_t greater(uint64_t one, uint64_t other) { return one > other ? one : other; }
+
+static void say_broker(const gossip *g, progress *p) {
+    if (g->is_connected != p->has_broker) fprintf(stderr, "primary: broker %s\n", g->is_connected ? "there" : "gone");
+    p->has_broker = g->is_connected;
+}
 
 static void gossip_between(const options *o, gossip *g, progress *p) {
     uint64_t began = milliseconds_now();
@@ -61,6 +67,7 @@ static void gossip_between(const options *o, gossip *g, progress *p) {
         p->published = g->file->page_reads;
         gossip_publish(g);
     }
+    say_broker(g, p);
     p->longest_gossip = greater(p->longest_gossip, milliseconds_now() - began);
 }
 
