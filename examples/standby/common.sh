@@ -5,6 +5,7 @@ make_work() {
     local parent=${TMPDIR:-/tmp}
     [ -d /dev/shm ] && [ -w /dev/shm ] && [ -z "${TMPDIR:-}" ] && parent=/dev/shm
     work=$(mktemp -d "$parent/warm-standby-XXXXXX")
+    files=$work # of the standbys
     bin=$work/bin
     broker=
     standby=
@@ -15,7 +16,7 @@ make_work() {
 
 # Ends what this script started. A test that runs beside the others is a process group.
 clean_up() {
-    for process in $standby $broker $primary "${tests[@]/#/-}"; do
+    for process in $standby ${late:-} $broker $primary "${tests[@]/#/-}"; do
         kill -9 -- "$process" || true
     done 2> /dev/null
     [ ${#tests[@]} -eq 0 ] || disown "${tests[@]}"
@@ -33,8 +34,8 @@ free_port() {
 
 # A broker that keeps nothing on disk, at $port.
 start_broker() {
-    printf 'listener %s 127.0.0.1\nallow_anonymous true\npersistence false\nlog_type error\n' "$port" > "$work/broker.conf"
-    PATH=$PATH:/usr/sbin mosquitto -c "$work/broker.conf" 2>> "$work/broker.log" &
+    printf 'listener %s 127.0.0.1\nallow_anonymous true\npersistence false\nlog_type error\n' "$port" > "$work/broker-$port.conf"
+    PATH=$PATH:/usr/sbin mosquitto -c "$work/broker-$port.conf" 2>> "$work/broker-$port.log" &
     broker=$!
     # a broker that is not told of does not print its end
     disown "$broker"
@@ -42,7 +43,7 @@ start_broker() {
         mosquitto_pub -h 127.0.0.1 -p "$port" -t ready -m yes 2> /dev/null && return
         sleep 0.05
     done
-    fail "the broker did not start: $(cat "$work/broker.log")"
+    fail "the broker did not start: $(cat "$work/broker-$port.log")"
 }
 
 stop_broker() {
@@ -53,29 +54,33 @@ stop_broker() {
 
 # wait_for FILE PATTERN [COUNT]: until so many lines of a file have it, at most 20 seconds.
 wait_for() {
+    local lines
     for _ in $(seq 400); do
-        [ "$(grep -c -- "$2" "$1" 2> /dev/null)" -ge "${3:-1}" ] && return
+        lines=$(grep -c -- "$2" "$1" 2> /dev/null || true) # nothing where the file is not there yet
+        [ "${lines:-0}" -ge "${3:-1}" ] && return
         sleep 0.05
     done
     fail "$1 never said '$2': $(tail -n 5 "$1")"
 }
 
+# start_standby MODE WORD...: one that hears the primary, with a copy of its file. What it says is in MODE.out.
 start_standby() {
-    "$bin/standby" --db "$work/standby.db" --from "$work/primary.db" --port "$port" --replica 2 --peer 1 --frames "$frames" --seed 9 "$@" \
-        > "$work/warm.out" &
+    cp "$work/standby.copy" "$files/$1.db.copy"
+    "$bin/standby" --db "$files/$1.db" --from "$work/primary.db" --mode "$1" --port "$port" --replica 2 --peer 1 --frames "$frames" --seed 9 "${@:2}" \
+        > "$work/$1.out" &
     standby=$!
 }
 
-# The standby takes over, and its answer is in warm.out.
+# take_over MODE: that standby takes over.
 take_over() {
     kill -USR1 "$standby"
-    wait "$standby" || fail "the standby failed: $(tail -n 5 "$work/warm.out")"
+    wait "$standby" || fail "the standby failed: $(tail -n 5 "$work/$1.out")"
     standby=
 }
 
 # The same takeover without a warm history, and by stock SQLite.
 take_over_as() {
-    "$bin/standby" --db "$work/$1.db" --from "$work/primary.db" --mode "$1" --frames "$frames" --seed 9 "${@:2}" > "$work/$1.out" ||
+    "$bin/standby" --db "$files/$1.db" --from "$work/primary.db" --mode "$1" --frames "$frames" --seed 9 "${@:2}" > "$work/$1.out" ||
         fail "$1 failed"
 }
 

@@ -6,18 +6,23 @@
  * warm/1/state is "here", and by the client's last will "gone". That says that a connection ended, not that the primary is dead: a
  * standby does not take over by it.
  *
- * The client runs in mosquitto_loop, in the caller's thread: a handle is used from one thread alone.
+ * The client runs in mosquitto_loop, in the caller's thread: a handle is used from one thread alone. A database's transactions come to
+ * pass between its calls, so none of them waits for a broker, or for a network that answers nothing: the connect is begun and not awaited
+ * (in libmosquitto 2.0 mosquitto_connect_async), no name is looked up, and what the system does not take at once stays with the client.
  */
 #define _GNU_SOURCE
 #include "gossip.h"
 
+#include <netdb.h>
 #include <stdlib.h>
 #include <string.h>
-#include <time.h>
+#include <sys/socket.h>
 #include <unistd.h>
 
+#include "clock.h"
 #include "fnv.h"
 
+/* A broker that says nothing for twice the seconds of KEEPALIVE is given up, as is a connect without an answer after one time that. */
 enum { TOPIC_ROOM = 64, KEEPALIVE = 10, RETRY_MILLISECONDS = 200 };
 
 static void state_topic(char topic[TOPIC_ROOM], unsigned replica) { snprintf(topic, TOPIC_ROOM, "warm/%u/state", replica); }
@@ -34,9 +39,11 @@ static void on_connect(struct mosquitto *client, void *data, int code) {
     g->is_connected = true;
     forget_published(g);
     state_topic(topic, g->file->replica);
-    mosquitto_publish(client, NULL, topic, 4, "here", 0, true);
+    int published = mosquitto_publish(client, NULL, topic, 4, "here", 0, true);
     snprintf(topic, sizeof topic, "warm/%u/#", g->peer);
-    mosquitto_subscribe(client, NULL, topic, 0);
+    int subscribed = mosquitto_subscribe(client, NULL, topic, 0);
+    /* Without memory for both another connection is tried. */
+    if (published != MOSQ_ERR_SUCCESS || subscribed != MOSQ_ERR_SUCCESS) mosquitto_disconnect(client);
 }
 
 static void on_disconnect(struct mosquitto *client, void *data, int code) {
@@ -59,38 +66,41 @@ static void on_message(struct mosquitto *client, void *data, const struct mosqui
     }
     static const uint8_t no_bytes[1];
     const uint8_t *frame = length > 0 ? message->payload : no_bytes; /* a pointer is not null, also where there is no byte */
-    int status = warm_receive(pool_file_handle(g->file), frame, length);
-    if (status >= 0 && status <= WARM_BAD_BUCKET) g->statuses[status]++;
+    int status = pool_file_receive(g->file, frame, length);
+    if (status >= 0 && status < GOSSIP_STATUSES) g->statuses[status]++;
     if (status == WARM_OK && frame_sender(frame, length) == g->file->replica) g->own++;
 }
 
-static uint64_t milliseconds_now(void) {
-    struct timespec now;
-    clock_gettime(CLOCK_MONOTONIC, &now);
-    return (uint64_t)now.tv_sec * 1000 + (uint64_t)now.tv_nsec / 1000000;
-}
-
-/* Tries now and then: a database's transactions do not wait for a broker. */
+/* Begins to connect, now and then. mosquitto_loop says whether it came to pass; where it cannot even begin, it is tried again. */
 static void connect_to_broker(gossip *g) {
     uint64_t now = milliseconds_now();
     if (now < g->retry_at) return;
     g->retry_at = now + RETRY_MILLISECONDS;
-    mosquitto_connect(g->client, g->host, g->port, KEEPALIVE);
+    mosquitto_connect_async(g->client, g->host, g->port, KEEPALIVE);
 }
 
-bool gossip_open(gossip *g, pool_file *file, const char *host, int port, unsigned peer) {
+/* A name is looked up at each connect, and for as long as its servers like. */
+static bool is_address(const char *host) {
+    struct addrinfo hints = {.ai_flags = AI_NUMERICHOST, .ai_socktype = SOCK_STREAM}, *found;
+    if (getaddrinfo(host, NULL, &hints, &found) != 0) return false;
+    freeaddrinfo(found);
+    return true;
+}
+
+const char *gossip_open(gossip *g, pool_file *file, const char *host, int port, unsigned peer) {
     char topic[TOPIC_ROOM];
     *g = (gossip){.file = file, .host = host, .port = port, .peer = peer};
+    if (!is_address(host)) return "the broker's host is no numeric address";
     mosquitto_lib_init();
     g->client = mosquitto_new(NULL, true, g);
-    if (g->client == NULL) return false;
+    if (g->client == NULL) return "no memory for an MQTT client";
     state_topic(topic, file->replica);
-    mosquitto_will_set(g->client, topic, 4, "gone", 0, true);
+    if (mosquitto_will_set(g->client, topic, 4, "gone", 0, true) != MOSQ_ERR_SUCCESS) return "no memory for a last will";
     mosquitto_connect_callback_set(g->client, on_connect);
     mosquitto_disconnect_callback_set(g->client, on_disconnect);
     mosquitto_message_callback_set(g->client, on_message);
     connect_to_broker(g);
-    return true;
+    return NULL;
 }
 
 void gossip_poll(gossip *g, int milliseconds) {
@@ -98,7 +108,7 @@ void gossip_poll(gossip *g, int milliseconds) {
     if (result == MOSQ_ERR_SUCCESS) return;
     g->is_connected = false;
     connect_to_broker(g);
-    usleep(1000 * (unsigned)milliseconds);
+    if (result == MOSQ_ERR_NO_CONN) usleep(1000 * (unsigned)milliseconds); /* the loop has not waited */
 }
 
 /* The place of a piece's hash, or NULL where there is no memory for it: then the piece is published again next time. */
@@ -142,9 +152,15 @@ static void publish_bucket(gossip *g, uint8_t bucket, uint8_t *frame) {
     } while (is_later);
 }
 
+/* Gives what was published to the system, as far as it takes it in time. */
+static void flush(gossip *g) {
+    uint64_t end = milliseconds_now() + GOSSIP_WAIT;
+    while (g->is_connected && mosquitto_want_write(g->client) && milliseconds_now() < end) gossip_poll(g, 5);
+}
+
 void gossip_publish(gossip *g) {
-    if (!g->is_connected) {
-        g->unsent++;
+    if (!g->is_connected || mosquitto_want_write(g->client)) {
+        g->skipped++;
         return;
     }
     uint8_t *frame = malloc(FRAME_ROOM);
@@ -152,14 +168,14 @@ void gossip_publish(gossip *g) {
     pool_file_absorb(g->file);
     for (uint8_t bucket = 0; bucket < BUCKETS; bucket++) publish_bucket(g, bucket, frame);
     free(frame);
-    while (g->is_connected && mosquitto_want_write(g->client)) gossip_poll(g, 10);
+    flush(g);
 }
 
 void gossip_print(const gossip *g, FILE *to) {
     uint64_t all = 0;
-    for (int status = 0; status <= WARM_BAD_BUCKET; status++) all += g->statuses[status];
+    for (int status = 0; status < GOSSIP_STATUSES; status++) all += g->statuses[status];
     fprintf(to, "gossip: %llu frames came", (unsigned long long)all);
-    for (int status = 0; status <= WARM_BAD_BUCKET; status++) {
+    for (int status = 0; status < GOSSIP_STATUSES; status++) {
         uint8_t name[32] = {0};
         size_t length;
         if (g->statuses[status] == 0) continue;
@@ -167,6 +183,8 @@ void gossip_print(const gossip *g, FILE *to) {
         fprintf(to, ", %llu %s", (unsigned long long)g->statuses[status], (const char *)name);
     }
     fprintf(to, ", %llu of the replica itself\n", (unsigned long long)g->own);
+    fprintf(to, "gossip: %llu frames sent, %llu refused, %llu times without a broker that takes them\n", (unsigned long long)g->sent,
+        (unsigned long long)g->unsent, (unsigned long long)g->skipped);
     fflush(to);
 }
 

@@ -1,4 +1,4 @@
-/* The words of the command line of primary, standby, audit and speed: --NAME VALUE, in any order. */
+/* The words of the command line of primary, standby and audit: --NAME VALUE, in any order. --help prints them. */
 #ifndef OPTIONS_H
 #define OPTIONS_H
 
@@ -7,20 +7,24 @@
 #include <stdint.h>
 
 typedef struct options {
-    const char *db;        /* the database file */
-    const char *from;      /* standby: the primary's database file */
-    const char *committed; /* the file of the numbers of committed orders */
-    const char *mode;      /* warm, cold or stock: the VFS "warm" with or without a warm-up, or the default VFS */
-    const char *host;
-    uint64_t port;         /* of the broker; 0: no gossip */
+    const char *db;          /* the database file */
+    const char *from;        /* standby: the primary's database file */
+    const char *committed;   /* the file of the numbers of committed orders */
+    const char *mode;        /* warm, late, cold or stock: see is_mode */
+    const char *synchronous; /* FULL, NORMAL or OFF */
+    const char *host;        /* of the broker: a numeric address */
+    uint64_t port;           /* of the broker; 0: no gossip */
     uint64_t seed, frames, transactions, reads, every, replica, peer;
-    bool dies, reads_only, answers, is_unsynced;
+    uint64_t checkpoint;     /* a WAL of so many pages is checkpointed */
+    bool dies, reads_only, answers, has_wal, evicts;
 } options;
 
-/* Ends the program with 2 where a word is unknown. */
+/* Ends the program with 2 where a word is unknown or a value none that it can have, and with 0 after --help. */
 options options_of(int count, char **words);
 
-bool is_stock(const options *o);
+/* warm and late: the VFS "warm" with a warm-up, which in a standby is made as it stands by, or not before the takeover. cold: that VFS
+ * without a warm-up. stock: the default VFS. */
+bool is_mode(const options *o, const char *mode);
 
 /* Sets the VFS "warm" up, before anything else of SQLite. Ends the program where that fails. */
 void register_vfs(const options *o);

@@ -15,6 +15,19 @@
  * One thing differs from a file: what a process wrote outlives its kill -9 in the system's cache, and what is in a frame does not.
  * So even with synchronous=OFF, where SQLite does not call xSync, the pages are written back where it would have: at
  * SQLITE_FCNTL_SYNC, which comes before the journal is deleted. (Then they are also synced, since warm_write_back does both.)
+ *
+ * warm_open asks that nothing else writes to a page of the file that may be in a frame. Twice something does, and no frame's bytes are used
+ * after it. Other connections commit while this one has no lock: pool_file_enter then makes a new pool before a page is read, and the old
+ * one, which has nothing dirty, is asked for its history alone. And the file is cut off by ftruncate: what frames have of pages behind its
+ * end is not read (pool_file_read ends with the file), and is written over before the file grows over it (write_zeros, or whole pages).
+ *
+ * With a WAL a commit is in the WAL, which is no file of the pool. Pages reach the database in a checkpoint alone, and the WAL has them
+ * until it is reset: truncated, deleted, or written from its start again. In walCheckpoint of SQLite 3.40 the order is: the WAL is synced
+ * (not with OFF); pages are written; SQLITE_FCNTL_CKPT_DONE; the database is truncated to its size, and synced (not with OFF); and only
+ * then are the pages counted as being in the database, without which nothing resets the WAL. Every checkpoint is that one: PASSIVE, FULL,
+ * RESTART, TRUNCATE, the automatic one, that of a close, and that of a journal_mode that leaves WAL. So at SQLITE_FCNTL_CKPT_DONE the
+ * pages are written back. A checkpoint of a part of the WAL, which would skip the truncation, is made only where other connections
+ * still read, and with locking_mode=EXCLUSIVE there are none.
  */
 #define _GNU_SOURCE
 #include "pool_file.h"
@@ -24,12 +37,14 @@
 #include <stdlib.h>
 #include <string.h>
 #include <sys/stat.h>
-#include <time.h>
 #include <unistd.h>
 
+#include "clock.h"
 #include "frames.h"
 
 enum { DEFAULT_PAGE_SIZE = 4096, SMALLEST_PAGE = 512, SIZE_AT = 16, COUNTER_AT = 24, HEADER_PART = COUNTER_AT + POOL_COUNTER };
+
+static const uint64_t HOUR = 3600 * (uint64_t)1000000000;
 
 /* SQLite's greatest number of pages. The pool's device is as large, since its file may grow to that. */
 static const uint64_t MOST_PAGES = 4294967294;
@@ -61,10 +76,19 @@ static bool read_size(pool_file *file) {
 
 /* The clock is read once a transaction. Times rise even where it stands still. */
 static void read_clock(pool_file *file) {
-    struct timespec now;
-    clock_gettime(CLOCK_REALTIME, &now);
-    uint64_t time = (uint64_t)now.tv_sec * 1000000000u + (uint64_t)now.tv_nsec;
+    uint64_t time = nanoseconds(CLOCK_REALTIME);
     if (time > file->time) file->time = time;
+}
+
+/* Without that the new pages of a replica whose clock is behind would rank below all of its peer's, until its clock is where the peer's was. */
+void pool_file_heard(pool_file *file, uint64_t time) {
+    if (time >= file->time && time <= nanoseconds(CLOCK_REALTIME) + HOUR) file->time = time + 1;
+}
+
+int pool_file_receive(pool_file *file, const uint8_t *frame, size_t length) {
+    int status = warm_receive(pool_file_handle(file), frame, length);
+    if (status == WARM_OK) pool_file_heard(file, frame_latest(frame, length));
+    return status;
 }
 
 /* Opens one of the two handles, with frames that are all empty, and makes it the current one. */
@@ -146,7 +170,6 @@ static int write_past_pool(pool_file *file, uint64_t no, const uint8_t *bytes) {
         if (put <= 0) return POOL_IO;
         done += (size_t)put;
     }
-    file->direct_writes++;
     return WARM_OK;
 }
 
@@ -159,7 +182,10 @@ static int write_past_pool(pool_file *file, uint64_t no, const uint8_t *bytes) {
 static int write_part(pool_file *file, uint64_t no, size_t at, const uint8_t *bytes, size_t length) {
     warm_slot slot;
     bool is_in = residents_have(&file->residents, no), is_new = no * file->page_size >= file->size;
-    if (!is_new && length == file->page_size && !is_in) return write_past_pool(file, no, bytes);
+    if (!is_new && length == file->page_size && !is_in) {
+        file->direct_writes++;
+        return write_past_pool(file, no, bytes);
+    }
     if (is_new) refer(file, no, is_in);
     int status = pin(file, no, &slot);
     if (status != WARM_OK) return status;
@@ -344,7 +370,43 @@ int pool_file_leave(pool_file *file) {
     if (status != WARM_OK) return status;
     if (!read_header(file, header)) return POOL_IO;
     memcpy(file->counter, header + COUNTER_AT, POOL_COUNTER);
+    file->header_page_size = page_size_in(header + SIZE_AT);
     file->has_written = false;
+    return WARM_OK;
+}
+
+/* ---- another copy ---- */
+
+static int take_into_frame(pool_file *file, uint64_t no, const uint8_t *bytes, uint8_t *room, bool *differs) {
+    warm_slot slot;
+    int status = pin(file, no, &slot);
+    if (status != WARM_OK) return status;
+    status = warm_read(pool_file_handle(file), slot, 0, room, file->page_size);
+    *differs = status == WARM_OK && memcmp(room, bytes, file->page_size) != 0;
+    if (*differs) status = warm_write(pool_file_handle(file), slot, 0, bytes, file->page_size);
+    if (*differs && status == WARM_OK) file->is_dirty = true;
+    int unpinned = warm_unpin(pool_file_handle(file), slot);
+    return status != WARM_OK ? status : unpinned;
+}
+
+static int take_past_pool(pool_file *file, uint64_t no, const uint8_t *bytes, uint8_t *room, bool *differs) {
+    ssize_t got;
+    do got = pread(file->fd, room, file->page_size, (off_t)(no * file->page_size));
+    while (got < 0 && errno == EINTR);
+    if (got < 0) return POOL_IO;
+    /* A page that is read in part is written whole: that is never wrong. */
+    *differs = (size_t)got < file->page_size || memcmp(room, bytes, file->page_size) != 0;
+    return *differs ? write_past_pool(file, no, bytes) : WARM_OK;
+}
+
+int pool_file_take(pool_file *file, uint64_t no, const uint8_t *bytes, uint8_t *room, bool *differs, bool *is_in) {
+    if (file->is_failed) return POOL_IO;
+    *is_in = residents_have(&file->residents, no);
+    *differs = false;
+    int status = *is_in ? take_into_frame(file, no, bytes, room, differs) : take_past_pool(file, no, bytes, room, differs);
+    if (status != WARM_OK) return status;
+    file->has_written = true;
+    if (file->size < (no + 1) * file->page_size) file->size = (no + 1) * file->page_size;
     return WARM_OK;
 }
 
@@ -364,4 +426,10 @@ int pool_file_step(pool_file *file, bool *found) {
     if (status == WARM_OK) residents_note(&file->residents, slot, page.no);
     else file->is_failed = true;
     return status;
+}
+
+void pool_file_print(const pool_file *file, FILE *to) {
+    fprintf(to, "pool: %llu page reads, %llu device reads, %llu warmed up, %llu direct writes, %llu reloads, %llu lost references\n",
+        (unsigned long long)file->page_reads, (unsigned long long)file->device_reads, (unsigned long long)file->warmed,
+        (unsigned long long)file->direct_writes, (unsigned long long)file->reloads, (unsigned long long)file->lost_references);
 }

@@ -5,6 +5,7 @@
 #include <stdbool.h>
 #include <stddef.h>
 #include <stdint.h>
+#include <stdio.h>
 
 #include "batch.h"
 #include "residents.h"
@@ -61,10 +62,23 @@ int pool_file_enter(pool_file *file);
 /* Notes the state of the file in which other processes may find it. Whatever is dirty is written first. */
 int pool_file_leave(pool_file *file);
 
+/* A page as another copy of the file has it, of page_size bytes, where it differs is written into its frame, or past the pool to the file. Writes
+ * whether it differs, and whether it is in a frame. It is no reference. room is for page_size bytes. */
+int pool_file_take(pool_file *file, uint64_t no, const uint8_t *bytes, uint8_t *room, bool *differs, bool *is_in);
+
 /* Takes the references that wait into the history. */
 void pool_file_absorb(pool_file *file);
 
 /* Loads one page of the warm-up, and writes whether there was one. */
 int pool_file_step(pool_file *file, bool *found);
+
+/* Takes in a frame from a peer, of any bytes, as warm_receive does, and hears its times. */
+int pool_file_receive(pool_file *file, const uint8_t *frame, size_t length);
+
+/* A peer's reference has this time: those that follow here are later. A time that is more than an hour ahead of the clock is not believed. */
+void pool_file_heard(pool_file *file, uint64_t time);
+
+/* One line: what was counted. */
+void pool_file_print(const pool_file *file, FILE *to);
 
 #endif

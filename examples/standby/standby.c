@@ -1,10 +1,12 @@
 /*
- * The standby: has a copy of the database file, and hears the history of the primary's page references. At SIGUSR1 it takes over: it takes
- * the primary's file and journal as they are, loads the hottest pages, opens the database, and goes on with the workload. It prints, after
- * each transaction, how many pages were asked for and how many were read from the file.
+ * The standby: hears the history of the primary's page references, and follows its database file. While it stands by, the hottest pages
+ * come into its frames, and the pages that the primary writes come into its copy and into these frames. At SIGUSR1 it takes over: it takes
+ * what is still missing of the primary's file, and its journal or its WAL, loads the pages that are hot since, opens the database, and
+ * goes on with the workload. It prints what each part of the outage took, and after each transaction how many pages were asked for and
+ * how many were read from the file.
  *
- * That the primary is dead is for the operator to know, who sends the signal: a lost connection does not say it. Copying the file stands for
- * a disk that both can reach, or one that is mirrored.
+ * That the primary is dead is for the operator to know, who sends the signal: a lost connection does not say it. Reading the primary's file
+ * stands for a mirror, or for a disk that both can reach.
  */
 #define _GNU_SOURCE
 #include <errno.h>
@@ -13,77 +15,93 @@
 #include <stdio.h>
 #include <stdlib.h>
 #include <string.h>
-#include <sys/sendfile.h>
 #include <unistd.h>
 
+#include "clock.h"
 #include "gossip.h"
 #include "options.h"
 #include "orders.h"
+#include "take.h"
 #include "vfs.h"
 
+/* Between two passes over the primary's file, and how many pages are loaded after each: between them the standby hears gossip. */
+enum { FOLLOW_MILLISECONDS = 250, STEPS = 200 };
+
 static volatile sig_atomic_t takes_over, ends;
+static volatile uint64_t takeover_at; /* written before takes_over, and read after it */
 
 static void on_signal(int number) {
-    if (number == SIGUSR1) takes_over = 1;
-    else ends = 1;
+    if (number != SIGUSR1) ends = 1;
+    else if (!takes_over) {
+        takeover_at = nanoseconds(CLOCK_MONOTONIC);
+        takes_over = 1;
+    }
 }
 
-static void must(bool is_so, const char *what) {
-    if (is_so) return;
-    fprintf(stderr, "standby: %s: %s\n", what, strerror(errno));
-    exit(1);
+/* Microseconds since the signal. */
+static uint64_t outage(void) { return (nanoseconds(CLOCK_MONOTONIC) - takeover_at) / 1000; }
+
+/* Loads pages of the warm-up, so many at most, and none once it is time for something else. A page that cannot be read or put into a frame ends
+ * it: the standby is as warm as it is. */
+static void warm_up(pool_file *file, uint64_t most, const volatile sig_atomic_t *is_time) {
+    uint64_t end = file->warmed + most;
+    bool found = true;
+    int status = WARM_OK;
+    while (status == WARM_OK && found && file->warmed < end && !*is_time) status = pool_file_step(file, &found);
+    if (status != WARM_OK) printf("standby: the warm-up ended with status %d\n", status);
 }
 
-/* Copies into the file that is there, where there is one: the pool holds its descriptor. */
-static void copy_file(const char *from, const char *to) {
-    int source = open(from, O_RDONLY | O_CLOEXEC), target = open(to, O_WRONLY | O_CREAT | O_CLOEXEC, 0666);
-    must(source >= 0, from);
-    must(target >= 0 && ftruncate(target, 0) == 0, to);
-    ssize_t copied;
-    while ((copied = sendfile(target, source, NULL, 1 << 30)) > 0) {}
-    must(copied == 0 && fsync(target) == 0, to);
-    close(source);
-    close(target);
+/* A look at the primary's file, now and then. After the last one before the signal, nothing is left to load but what became hot since. */
+static void follow(const options *o, pool_file *file, uint64_t *follow_at) {
+    taken counts;
+    if (milliseconds_now() < *follow_at) return;
+    if (!take_pages(file, o->from, &counts)) printf("standby: %s is not followed: %s\n", o->from, strerror(errno));
+    warm_up(file, STEPS, &takes_over);
+    *follow_at = milliseconds_now() + FOLLOW_MILLISECONDS;
 }
 
-/* The file, and its journal where the primary left one. */
-static void take_files(const options *o) {
-    char from[512], to[512];
-    snprintf(from, sizeof from, "%s-journal", o->from);
-    snprintf(to, sizeof to, "%s-journal", o->db);
-    copy_file(o->from, o->db);
-    bool is_hot = access(from, F_OK) == 0;
-    if (is_hot) copy_file(from, to);
-    else unlink(to);
-    printf("standby: took the file%s\n", is_hot ? " and a journal" : "");
+static void say_changes(const gossip *g, bool *was_connected, bool *was_gone) {
+    if (g->is_connected != *was_connected) printf("standby: broker %s\n", g->is_connected ? "there" : "gone");
+    if (g->peer_is_gone != *was_gone) printf("standby: primary's connection %s\n", g->peer_is_gone ? "gone" : "there");
+    *was_connected = g->is_connected;
+    *was_gone = g->peer_is_gone;
+    fflush(stdout);
 }
 
-static void hear(gossip *g) {
+static void stand_by(const options *o, gossip *g, pool_file *file) {
     bool was_connected = false, was_gone = false;
+    uint64_t follow_at = 0;
+    printf("standby: stands by\n");
+    fflush(stdout);
     while (!takes_over && !ends) {
         gossip_poll(g, 50);
-        if (g->is_connected != was_connected) printf("standby: broker %s\n", g->is_connected ? "there" : "gone");
-        if (g->peer_is_gone != was_gone) printf("standby: primary's connection %s\n", g->peer_is_gone ? "gone" : "there");
-        was_connected = g->is_connected;
-        was_gone = g->peer_is_gone;
-        fflush(stdout);
+        say_changes(g, &was_connected, &was_gone);
+        if (is_mode(o, "warm")) follow(o, file, &follow_at);
     }
-    gossip_poll(g, 0);
-    gossip_print(g, stdout);
+    if (ends) exit(0);
 }
 
-/* A page that cannot be read or put into a frame ends the warm-up, and the standby takes over as warm as it is. */
-static void warm_up(pool_file *file) {
-    size_t known = 0;
-    bool found = true;
-    int status = pool_file_enter(file);
-    while (status == WARM_OK && found) {
-        status = pool_file_step(file, &found);
-        if (found && file->warmed % 100 == 0) printf("standby: warm-up, %llu pages of %zu frames\n", (unsigned long long)file->warmed, file->frames);
+/* For the measure: what was written is read from its disk again. */
+static void evict(const options *o, int fd) {
+    if (o->evicts && posix_fadvise(fd, 0, 0, POSIX_FADV_DONTNEED) != 0) printf("standby: the system keeps the file in its cache\n");
+}
+
+/* The files, and then the pages that became hot since. Without a pool the files alone. */
+static void take_over(const options *o, pool_file *file) {
+    uint64_t warmed = file != NULL ? file->warmed : 0;
+    taken counts = take_files(file, o->from, o->db);
+    uint64_t had_files = outage();
+    if (file == NULL) {
+        printf("standby: outage: files %llu us\n", (unsigned long long)had_files);
+        return;
     }
-    warm_history_length(pool_file_handle(file), &known);
-    printf("standby: warm-up loaded %llu pages of %zu that the history knows\n", (unsigned long long)file->warmed, known);
-    if (status != WARM_OK) printf("standby: warm-up ended with status %d\n", status);
+    evict(o, file->fd);
+    uint64_t began = outage();
+    warm_up(file, UINT32_MAX, &ends);
+    printf("standby: warmed up %llu pages before the takeover\n", (unsigned long long)warmed);
+    printf("standby: outage: files %llu us, of %llu pages %llu had changed, %llu of them in frames\n", (unsigned long long)had_files,
+        (unsigned long long)counts.pages, (unsigned long long)counts.changed, (unsigned long long)counts.in_frames);
+    printf("standby: outage: warm-up %llu us, %llu pages\n", (unsigned long long)(outage() - began), (unsigned long long)(file->warmed - warmed));
 }
 
 /* Pages that SQLite asked for, and those of them that were read from the file. Stock SQLite reads each that its cache misses. */
@@ -98,22 +116,26 @@ static void count_pages(sqlite3 *db, pool_file *file, uint64_t *asked, uint64_t 
 static void go_on(const options *o, sqlite3 *db) {
     orders work;
     int64_t order;
-    uint64_t asked = 0, device = 0;
+    uint64_t asked = 0, device = 0, opened = outage(), first = 0;
     must_be_ok(orders_begin(&work, db, o->seed), db, "begin");
     work.keeps_answers = true;
+    work.reads_only = o->reads_only;
     while (asked < o->reads) {
-        must_be_ok(orders_next(&work, &order), NULL, "transaction");
+        must_be_ok(orders_next(&work, &order), db, "transaction");
         count_pages(db, pool_vfs_of(db), &asked, &device);
+        if (first == 0) first = outage();
         printf("after %llu %llu\n", (unsigned long long)asked, (unsigned long long)device);
     }
     printf("standby: %s: %llu pages, %llu hits, %llu device reads\n", o->mode, (unsigned long long)asked, (unsigned long long)(asked - device),
         (unsigned long long)device);
+    printf("standby: %s: opened after %llu us, first transaction after %llu us, all after %llu us\n", o->mode, (unsigned long long)opened,
+        (unsigned long long)first, (unsigned long long)outage());
     printf("answers %016llx\n", (unsigned long long)work.answers);
     orders_end(&work);
 }
 
 static void listen_to_signals(void) {
-    struct sigaction action = {.sa_handler = on_signal};
+    struct sigaction action = {.sa_handler = on_signal, .sa_flags = SA_RESTART};
     sigaction(SIGUSR1, &action, NULL);
     sigaction(SIGTERM, &action, NULL);
 }
@@ -122,13 +144,29 @@ static void listen_to_signals(void) {
 static void wait_warm(const options *o) {
     pool_file *file;
     gossip g;
-    must_be_ok(pool_vfs_prepare(o->db, &file), NULL, o->db);
-    must(gossip_open(&g, file, o->host, (int)o->port, (unsigned)o->peer), "gossip");
-    hear(&g);
+    char *copy = take_copy_path(o->db);
+    must_be_ok(pool_vfs_prepare(copy, o->db, &file), NULL, copy);
+    sqlite3_free(copy);
+    const char *wrong = gossip_open(&g, file, o->host, (int)o->port, (unsigned)o->peer);
+    if (wrong != NULL) {
+        fprintf(stderr, "standby: %s\n", wrong);
+        exit(1);
+    }
+    stand_by(o, &g, file);
+    take_over(o, file);
+    gossip_print(&g, stdout);
     gossip_close(&g);
-    if (ends) exit(0);
-    take_files(o);
-    warm_up(file);
+}
+
+/* Without a history nothing is to be waited for, and no signal. */
+static void take_cold(const options *o) {
+    on_signal(SIGUSR1);
+    sqlite3_free(take_copy_path(o->db));
+    take_over(o, NULL);
+    int fd = open(o->db, O_RDONLY | O_CLOEXEC);
+    take_must(fd >= 0, o->db);
+    evict(o, fd);
+    close(fd);
 }
 
 int main(int count, char **words) {
@@ -136,11 +174,11 @@ int main(int count, char **words) {
     listen_to_signals();
     register_vfs(&o);
     if (o.from == NULL) {
-        fprintf(stderr, "standby: --from FILE is missing\n");
+        fprintf(stderr, "standby: --from FILE is missing, see --help\n");
         return 2;
     }
-    if (strcmp(o.mode, "warm") == 0) wait_warm(&o);
-    else take_files(&o);
+    if (is_mode(&o, "warm") || is_mode(&o, "late")) wait_warm(&o);
+    else take_cold(&o);
     sqlite3 *db = open_database(&o);
     go_on(&o, db);
     return sqlite3_close(db) != SQLITE_OK;

@@ -3,8 +3,8 @@
  * and all locks are those of the default VFS. Why committed transactions outlive kill -9 is said in pool_file.c.
  *
  * Limits:
- *  - The methods have version 1, without shared memory: journal_mode is DELETE, TRUNCATE or PERSIST. A database that is in WAL mode
- *    cannot be opened. There is no memory map.
+ *  - The methods have version 1, without shared memory. So journal_mode=WAL needs locking_mode=EXCLUSIVE, and stays as it was without.
+ *    To open a database that is in WAL mode EXCLUSIVE is set before anything is read, as pool_vfs_open does. There is no memory map.
  *  - A pool has one thread, so a connection is used by the thread that opened it.
  *  - Each connection has a pool of its own. Two connections to one file are right, and share no frame: each drops its frames when the
  *    change counter says that the other has committed.
@@ -145,11 +145,11 @@ static char *full_path(const char *path) {
     return NULL;
 }
 
-int pool_vfs_prepare(const char *path, pool_file **pool) {
+int pool_vfs_prepare(const char *now_at, const char *path, pool_file **pool) {
     if (prepared != NULL) return SQLITE_MISUSE;
     prepared_path = full_path(path);
     if (prepared_path == NULL) return SQLITE_CANTOPEN;
-    int result = open_pool(prepared_path, &prepared);
+    int result = open_pool(now_at, &prepared);
     if (result == SQLITE_OK) {
         *pool = prepared;
         return SQLITE_OK;
@@ -243,8 +243,10 @@ static int db_check_reserved(sqlite3_file *file, int *is_reserved) {
 
 static int db_control(sqlite3_file *file, int code, void *argument) {
     switch (code) {
-        /* Comes before xSync, and in place of it with synchronous=OFF: see pool_file.c. */
-        case SQLITE_FCNTL_SYNC: return db_sync(file, 0);
+        /* Each comes before xSync, and in place of it with synchronous=OFF: see pool_file.c. SQLite does not look at the answer to the
+         * second. A failure is remembered by the file, which then refuses the truncation that ends each checkpoint. */
+        case SQLITE_FCNTL_SYNC:
+        case SQLITE_FCNTL_CKPT_DONE: return db_sync(file, 0);
         /* The default VFS would change the length of the file itself. */
         case SQLITE_FCNTL_SIZE_HINT:
         case SQLITE_FCNTL_CHUNK_SIZE: return SQLITE_OK;
@@ -291,6 +293,20 @@ static const sqlite3_io_methods db_methods = {
 
 /* ---- the methods of the VFS ---- */
 
+/* Whether the pool's file is the one at this path, of which the default VFS has the locks. */
+static bool is_at(const pool_file *pool, const char *path) {
+    struct stat own, there;
+    return fstat(pool->fd, &own) == 0 && stat(path, &there) == 0 && own.st_dev == there.st_dev && own.st_ino == there.st_ino;
+}
+
+static int pool_at(const char *path, pool_file **pool) {
+    *pool = take_prepared(path);
+    if (*pool == NULL) return open_pool(path, pool);
+    if (is_at(*pool, path)) return SQLITE_OK;
+    close_pool(*pool);
+    return SQLITE_CANTOPEN;
+}
+
 static int open_db(const char *name, sqlite3_file *file, int flags, int *flags_out) {
     db_file *own = (db_file *)file;
     int opened_with = flags;
@@ -298,8 +314,7 @@ static int open_db(const char *name, sqlite3_file *file, int flags, int *flags_o
     int result = inner_vfs->xOpen(inner_vfs, name, inner(file), flags, &opened_with);
     if (result != SQLITE_OK) return result;
     own->lock = SQLITE_LOCK_NONE;
-    own->pool = take_prepared(name);
-    if (own->pool == NULL) result = open_pool(name, &own->pool);
+    result = pool_at(name, &own->pool);
     if (result != SQLITE_OK) {
         inner(file)->pMethods->xClose(inner(file));
         return result;
@@ -423,8 +438,9 @@ pool_file *pool_vfs_of(sqlite3 *db) {
     return file->pMethods == &db_methods ? pool_of(file) : NULL;
 }
 
-int pool_vfs_open(const char *path, int flags, sqlite3 **db) {
+int pool_vfs_open(const char *path, int flags, bool is_alone, sqlite3 **db) {
     int result = sqlite3_open_v2(path, db, flags, POOL_VFS);
+    if (result == SQLITE_OK && is_alone) result = sqlite3_exec(*db, "PRAGMA locking_mode = EXCLUSIVE;", NULL, NULL, NULL);
     if (result != SQLITE_OK) return result;
     return sqlite3_exec(*db, "PRAGMA cache_size = 0; PRAGMA cache_spill = OFF;", NULL, NULL, NULL);
 }

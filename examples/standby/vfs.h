@@ -17,16 +17,19 @@ int pool_vfs_configure(void);
  * and is this replica. Called again it changes these for databases that are opened later. Answers an SQLite result. */
 int pool_vfs_register(uint16_t replica, size_t frames);
 
-/* Makes the pool of a database file before SQLite opens it: a standby's pool hears gossip and warms up so. The next sqlite3_open of this
- * path by the VFS "warm" takes it over, and closes it in the end. The pool is of the calling thread, and so is the connection. Answers an
- * SQLite result. */
-int pool_vfs_prepare(const char *path, pool_file **pool);
+/* Makes the pool of a database file before SQLite opens it: a standby's pool hears gossip and warms up so. The file is at one path now, and
+ * is renamed to the other one before the next sqlite3_open of that by the VFS "warm", which takes the pool over, and closes it in the end;
+ * where another file is there by then it is refused. The pool is of the calling thread, and so is the connection. Answers an SQLite
+ * result. */
+int pool_vfs_prepare(const char *now_at, const char *path, pool_file **pool);
 
 /* The pool of a connection's main database, or NULL where it was opened by another VFS. */
 pool_file *pool_vfs_of(sqlite3 *db);
 
 /* Opens a database by the VFS "warm" with the settings that it wants: the least cache of SQLite's own, as the pool has the pages, and no
- * spilling, so that pages reach the pool once a transaction, at its commit. Answers an SQLite result; db is to be closed in either case. */
-int pool_vfs_open(const char *path, int flags, sqlite3 **db);
+ * spilling, so that pages reach the pool once a transaction, at its commit. A connection that is alone has locking_mode=EXCLUSIVE: no
+ * other one reads or writes the file until it is closed, and WAL can be used. Answers an SQLite result; db is to be closed in either
+ * case. */
+int pool_vfs_open(const char *path, int flags, bool is_alone, sqlite3 **db);
 
 #endif

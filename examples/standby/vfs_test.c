@@ -1,5 +1,6 @@
 /* Tests of the VFS "warm": every answer is compared with that of stock SQLite on a file of its own. vfs_test FOLDER */
 #define _GNU_SOURCE
+#include <errno.h>
 #include <fcntl.h>
 #include <signal.h>
 #include <stdarg.h>
@@ -35,10 +36,21 @@ static const char *path_of(const char *name) {
 
 static sqlite3 *open_by(const char *vfs, const char *name, int flags) {
     sqlite3 *db;
+    bool is_pooled = strcmp(vfs, POOL_VFS) == 0;
     if (flags == 0) flags = SQLITE_OPEN_READWRITE | SQLITE_OPEN_CREATE;
-    int result = strcmp(vfs, POOL_VFS) == 0 ? pool_vfs_open(path_of(name), flags, &db) : sqlite3_open_v2(path_of(name), &db, flags, vfs);
+    int result = is_pooled ? pool_vfs_open(path_of(name), flags, false, &db) : sqlite3_open_v2(path_of(name), &db, flags, vfs);
     if (result != SQLITE_OK) fprintf(stderr, "vfs_test: %s by %s: %s\n", name, vfs, sqlite3_errmsg(db));
     MUST(result == SQLITE_OK);
+    return db;
+}
+
+/* With locking_mode=EXCLUSIVE, which WAL needs over the pool; and without spilling, so that both write the same frames to a WAL. */
+static sqlite3 *open_alone(const char *vfs, const char *name) {
+    sqlite3 *db;
+    int flags = SQLITE_OPEN_READWRITE | SQLITE_OPEN_CREATE;
+    if (strcmp(vfs, POOL_VFS) == 0) MUST(pool_vfs_open(path_of(name), flags, true, &db) == SQLITE_OK);
+    else MUST(sqlite3_open_v2(path_of(name), &db, flags, vfs) == SQLITE_OK);
+    MUST(sqlite3_exec(db, "PRAGMA locking_mode=EXCLUSIVE; PRAGMA cache_spill=0", NULL, NULL, NULL) == SQLITE_OK);
     return db;
 }
 
@@ -79,14 +91,26 @@ static uint32_t draw(uint32_t below) {
     return (uint32_t)(random_state >> 33) % below;
 }
 
+/* A connection that is not alone has no WAL over the pool, and one that is alone stays so. */
+static const char *const of_shared[] = {"PRAGMA locking_mode=EXCLUSIVE", "PRAGMA locking_mode=NORMAL", "PRAGMA cache_spill=1",
+    "PRAGMA cache_spill=0", "PRAGMA journal_mode=PERSIST", "PRAGMA journal_mode=TRUNCATE", "PRAGMA journal_mode=DELETE"};
+static const char *const of_alone[] = {"PRAGMA journal_mode=WAL", "PRAGMA journal_mode=WAL", "PRAGMA journal_mode=WAL", "PRAGMA journal_mode=WAL",
+    "PRAGMA journal_mode=DELETE", "PRAGMA journal_mode=PERSIST", "PRAGMA wal_checkpoint", "PRAGMA wal_checkpoint(FULL)",
+    "PRAGMA wal_checkpoint(RESTART)", "PRAGMA wal_checkpoint(TRUNCATE)", "PRAGMA wal_autocheckpoint=1", "PRAGMA wal_autocheckpoint=20",
+    "PRAGMA wal_autocheckpoint=0", "PRAGMA journal_size_limit=0", "PRAGMA synchronous=NORMAL", "PRAGMA synchronous=OFF",
+    "PRAGMA synchronous=OFF", "PRAGMA synchronous=OFF"};
+
+static const char *draw_pragma(bool is_alone) {
+    if (is_alone) return of_alone[draw(sizeof of_alone / sizeof *of_alone)];
+    return of_shared[draw(sizeof of_shared / sizeof *of_shared)];
+}
+
 /* One statement. Some are refused, as a COMMIT without a BEGIN: then both databases refuse it. */
-static void draw_statement(char *sql, size_t room) {
+static void draw_statement(char *sql, size_t room, bool is_alone) {
     static const char *const fixed[] = {"BEGIN", "BEGIN", "COMMIT", "COMMIT", "ROLLBACK", "SAVEPOINT s", "ROLLBACK TO s", "RELEASE s", "VACUUM",
         "PRAGMA page_size=1024", "PRAGMA page_size=8192", "PRAGMA page_size=512", "PRAGMA page_size=4096", "PRAGMA auto_vacuum=1",
-        "PRAGMA auto_vacuum=2", "PRAGMA auto_vacuum=0", "PRAGMA incremental_vacuum(7)", "PRAGMA journal_mode=PERSIST",
-        "PRAGMA journal_mode=TRUNCATE", "PRAGMA journal_mode=DELETE", "PRAGMA synchronous=OFF", "PRAGMA synchronous=FULL",
-        "PRAGMA cache_spill=1", "PRAGMA cache_spill=0", "CREATE INDEX i ON t(b)", "DROP INDEX i", "REINDEX", "ANALYZE",
-        "PRAGMA locking_mode=EXCLUSIVE", "PRAGMA locking_mode=NORMAL", "DELETE FROM t", "PRAGMA page_count",
+        "PRAGMA auto_vacuum=2", "PRAGMA auto_vacuum=0", "PRAGMA incremental_vacuum(7)", "PRAGMA synchronous=OFF", "PRAGMA synchronous=FULL",
+        "CREATE INDEX i ON t(b)", "DROP INDEX i", "REINDEX", "ANALYZE", "DELETE FROM t", "PRAGMA page_count",
         "PRAGMA freelist_count", "PRAGMA integrity_check", "PRAGMA shrink_memory", "PRAGMA secure_delete=1"};
     uint32_t a = draw(4000), n = 1 + draw(300);
     switch (draw(8)) {
@@ -98,7 +122,8 @@ static void draw_statement(char *sql, size_t room) {
         case 3: snprintf(sql, room, "SELECT count(*), sum(b), sum(length(c)) FROM t WHERE a > %u", a); break;
         case 4: snprintf(sql, room, "SELECT a, b, substr(c, 1, 5) FROM t WHERE b = %u ORDER BY a", draw(1000)); break;
         case 5: snprintf(sql, room, "INSERT OR REPLACE INTO t VALUES (%u, %u, hex(zeroblob(%u)))", a, n, draw(20000)); break;
-        default: snprintf(sql, room, "%s", fixed[draw(sizeof fixed / sizeof *fixed)]); break;
+        case 6: snprintf(sql, room, "%s", fixed[draw(sizeof fixed / sizeof *fixed)]); break;
+        default: snprintf(sql, room, "%s", is_alone || draw(3) == 0 ? draw_pragma(is_alone) : fixed[draw(sizeof fixed / sizeof *fixed)]); break;
     }
 }
 
@@ -124,25 +149,67 @@ static off_t size_of(const char *name) {
     return about.st_size;
 }
 
-static void random_run(uint64_t seed, size_t frames, int statements) {
+/* The bytes of a file as another process finds them, where there is one. (Closing a file drops the locks of the process on it, which
+ * here are in nobody's way.) */
+static void copy_of(const char *from, const char *to, const char *suffix) {
+    static uint8_t bytes[1 << 16];
+    char name[64];
+    ssize_t got = 0;
+    snprintf(name, sizeof name, "%s%s", to, suffix);
+    unlink(path_of(name));
+    int target = -1, source;
+    char source_name[64];
+    snprintf(source_name, sizeof source_name, "%s%s", from, suffix);
+    if ((source = open(path_of(source_name), O_RDONLY)) < 0) return;
+    MUST((target = open(path_of(name), O_WRONLY | O_CREAT, 0666)) >= 0);
+    while ((got = read(source, bytes, sizeof bytes)) > 0) MUST(write(target, bytes, (size_t)got) == got);
+    MUST(got == 0 && close(source) == 0 && close(target) == 0);
+}
+
+/* What both would leave if they were killed now, read by stock SQLite after it has recovered it, is the same. */
+static void same_after_kill(void) {
+    static const char *const suffixes[] = {"", "-journal", "-wal"};
+    unlink(path_of("stock2-shm"));
+    unlink(path_of("pooled2-shm"));
+    for (int at = 0; at < 3; at++) {
+        copy_of("stock", "stock2", suffixes[at]);
+        copy_of("pooled", "pooled2", suffixes[at]);
+    }
+    sqlite3 *stock = open_by("unix", "stock2", 0), *pooled = open_by("unix", "pooled2", 0);
+    MUST(is_whole(pooled));
+    same_answer(stock, pooled, "SELECT a, b, length(c) FROM t ORDER BY a");
+    sqlite3_close(stock);
+    sqlite3_close(pooled);
+}
+
+static sqlite3 *open_for_run(const char *vfs, const char *name, bool is_alone) {
+    return is_alone ? open_alone(vfs, name) : open_by(vfs, name, 0);
+}
+
+static void random_run(uint64_t seed, size_t frames, int statements, bool is_alone) {
     char sql[256];
     random_state = seed;
     unlink(path_of("stock"));
     unlink(path_of("pooled"));
     pool_vfs_register(1, frames);
-    sqlite3 *stock = open_by("unix", "stock", 0), *pooled = open_by(POOL_VFS, "pooled", 0);
+    sqlite3 *stock = open_for_run("unix", "stock", is_alone), *pooled = open_for_run(POOL_VFS, "pooled", is_alone);
     same_answer(stock, pooled, "CREATE TABLE t(a INTEGER PRIMARY KEY, b, c)");
+    if (is_alone) same_answer(stock, pooled, "PRAGMA journal_mode=WAL");
     for (int at = 0; at < statements; at++) {
-        draw_statement(sql, sizeof sql);
+        draw_statement(sql, sizeof sql, is_alone);
         same_answer(stock, pooled, sql);
+        if (draw(is_alone ? 8 : 20) == 0) same_after_kill();
         if (draw(40) > 0) continue;
         sqlite3_close(stock); /* an open transaction is rolled back */
         sqlite3_close(pooled);
-        stock = open_by("unix", "stock", 0);
-        pooled = open_by(POOL_VFS, "pooled", 0);
+        stock = open_for_run("unix", "stock", is_alone);
+        pooled = open_for_run(POOL_VFS, "pooled", is_alone);
     }
-    sqlite3_exec(stock, "ROLLBACK; PRAGMA locking_mode=NORMAL; SELECT 1 FROM t", NULL, NULL, NULL);
+    sqlite3_exec(stock, "ROLLBACK", NULL, NULL, NULL); /* an error where there is no transaction */
     sqlite3_exec(pooled, "ROLLBACK", NULL, NULL, NULL);
+    same_answer(stock, pooled, "PRAGMA journal_mode=DELETE");
+    same_answer(stock, pooled, "PRAGMA locking_mode=NORMAL");
+    same_answer(stock, pooled, "SELECT count(*) FROM t");
     MUST(is_whole(pooled));
     MUST(pool_vfs_of(pooled)->page_size == pool_vfs_of(pooled)->header_page_size);
     sqlite3_close(pooled);
@@ -289,6 +356,33 @@ static void many_pages(void) {
     MUST(pwrite(fd, header, sizeof header, 0) == sizeof header);
     MUST(pool_file_enter(&file) == WARM_OK && file.reloads == 1);
     MUST(warm_history_length(pool_file_handle(&file), &known) == WARM_OK && known == PAGES);
+    pool_file_close(&file);
+    close(fd);
+}
+
+/* The times of a frame's entries are found in either format, and a reference is later than each that was heard, but for absurd ones. */
+static void heard_times(void) {
+    static const uint8_t two[] = "L2G2\1\0\1\0\0\0\0\0\0\0\0\0\0\0\70\0\0\0\2" /* the body has 4, 31 and 21 bytes */
+        "\0\0\0\0\0\0\0\0\0\7\2\0\0\0\0\0\0\1\4\0\1\0\0\0\0\0\0\0\12\0\1"
+        "\0\0\0\0\0\0\0\0\0\107\1\0\0\0\0\0\0\0\5\0\1";
+    static const uint8_t old[] = "L2G1\1\0\1\0\0\0\25\0\0\0\1\0\0\0\0\0\7\1\0\0\0\0\0\0\2\0\0\1";
+    static const uint8_t request[] = "L2G2\3\0\2\0\0\0\0\0\0\0\0\0\0\0\10\0\0\0\0\0\0\0\6";
+    static const uint64_t minute = 60 * (uint64_t)1000000000;
+    static pool_file file;
+    int fd = open(path_of("heard"), O_RDWR | O_CREAT | O_TRUNC, 0666);
+    MUST(fd >= 0 && pool_file_open(&file, fd, 1, 4) == WARM_OK);
+    MUST(warm_receive(pool_file_handle(&file), two, sizeof two - 1) == WARM_OK && frame_latest(two, sizeof two - 1) == 260);
+    MUST(warm_receive(pool_file_handle(&file), old, sizeof old - 1) == WARM_OK && frame_latest(old, sizeof old - 1) == 512);
+    MUST(warm_receive(pool_file_handle(&file), request, sizeof request - 1) == WARM_OK && frame_latest(request, sizeof request - 1) == 0);
+    uint64_t now = file.time;
+    pool_file_heard(&file, now - minute);
+    MUST(file.time == now);
+    pool_file_heard(&file, now + minute);
+    MUST(file.time == now + minute + 1);
+    pool_file_heard(&file, UINT64_MAX);
+    pool_file_heard(&file, now + 120 * minute);
+    MUST(file.time == now + minute + 1);
+    MUST(pool_file_enter(&file) == WARM_OK && file.time == now + minute + 1); /* the clock is behind */
     pool_file_close(&file);
     close(fd);
 }
@@ -454,6 +548,86 @@ static void killed_without_sync(void) {
     }
 }
 
+/* Runs SQL in a process of its own, which then ends by kill -9. */
+static void run_and_die(const char *vfs, const char *const *sql, int count) {
+    int status;
+    if (fork() == 0) {
+        sqlite3 *db = open_alone(vfs, "wal");
+        for (int at = 0; at < count; at++) MUST(sqlite3_exec(db, sql[at], NULL, NULL, NULL) == SQLITE_OK);
+        kill(getpid(), SIGKILL);
+    }
+    wait(&status);
+    MUST(WIFSIGNALED(status));
+}
+
+/* What stock SQLite finds in a WAL database after such an end. The caller frees it. */
+static char *after_death(const char *vfs, const char *synchronous, const char *last) {
+    const char *const sql[] = {"PRAGMA journal_mode=WAL", synchronous, "CREATE TABLE t(a INTEGER PRIMARY KEY, b)",
+        "WITH RECURSIVE n(i) AS (SELECT 1 UNION ALL SELECT i + 1 FROM n LIMIT 100) INSERT INTO t SELECT i, hex(zeroblob(1000)) FROM n", last,
+        "INSERT INTO t VALUES (1000, 'last')"};
+    unlink(path_of("wal"));
+    unlink(path_of("wal-wal"));
+    run_and_die(vfs, sql, 6);
+    sqlite3 *db = open_by("unix", "wal", 0);
+    MUST(is_whole(db));
+    char *found = answer(db, "SELECT count(*), sum(a), sum(length(b)) FROM t");
+    sqlite3_close(db);
+    return found;
+}
+
+/* Whatever writes pages of a WAL to the database, and whatever SQLite syncs, nothing that was committed is lost with the process: what is
+ * there is what stock SQLite leaves. */
+static void killed_in_wal(void) {
+    static const char *const synchronous[] = {"PRAGMA synchronous=OFF", "PRAGMA synchronous=NORMAL", "PRAGMA synchronous=FULL"};
+    static const char *const last[] = {"PRAGMA wal_checkpoint", "PRAGMA wal_checkpoint(FULL)", "PRAGMA wal_checkpoint(RESTART)",
+        "PRAGMA wal_checkpoint(TRUNCATE)", "PRAGMA journal_mode=DELETE", "PRAGMA wal_autocheckpoint=1; UPDATE t SET b = b || 'x'",
+        "DELETE FROM t WHERE a > 50; VACUUM; PRAGMA wal_checkpoint(TRUNCATE)"};
+    for (size_t which = 0; which < 3 * sizeof last / sizeof *last; which++) {
+        char *wanted = after_death("unix", synchronous[which % 3], last[which / 3]);
+        MUST(strncmp(wanted, which / 3 == 6 ? "51|" : "101|", 3) == 0);
+        for (size_t frames = 2; frames <= 200; frames += 198) {
+            pool_vfs_register(1, frames);
+            char *found = after_death(POOL_VFS, synchronous[which % 3], last[which / 3]);
+            if (strcmp(found, wanted) != 0) fprintf(stderr, "vfs_test: %s, %s, %zu frames: %s", synchronous[which % 3], last[which / 3], frames, found);
+            MUST(strcmp(found, wanted) == 0);
+            sqlite3_free(found);
+        }
+        sqlite3_free(wanted);
+    }
+}
+
+static bool refuses_syncs;
+
+int __real_fsync(int fd);
+int __wrap_fsync(int fd);
+
+int __wrap_fsync(int fd) {
+    if (!refuses_syncs) return __real_fsync(fd);
+    errno = EIO;
+    return -1;
+}
+
+/* A checkpoint whose pages cannot be synced leaves the WAL, also with synchronous=OFF, where SQLite itself syncs nothing. */
+static void failing_checkpoint(const char *synchronous) {
+    pool_vfs_register(1, 50);
+    unlink(path_of("wal"));
+    sqlite3 *db = open_alone(POOL_VFS, "wal");
+    MUST(answers(db, "PRAGMA journal_mode=WAL", "wal|\n") && done(db, synchronous));
+    MUST(done(db, "CREATE TABLE t(a INTEGER PRIMARY KEY, b); INSERT INTO t VALUES (1, hex(zeroblob(20000))), (2, 'b')"));
+    refuses_syncs = true;
+    MUST((sqlite3_exec(db, "PRAGMA wal_checkpoint(TRUNCATE)", NULL, NULL, NULL) & 0xff) == SQLITE_IOERR);
+    refuses_syncs = false;
+    MUST((sqlite3_exec(db, "PRAGMA wal_checkpoint(TRUNCATE)", NULL, NULL, NULL) & 0xff) == SQLITE_IOERR); /* once is for good */
+    MUST(size_of("wal-wal") > 40000);
+    sqlite3_close(db);
+    MUST(size_of("wal-wal") > 40000);
+    db = open_alone(POOL_VFS, "wal");
+    MUST(answers(db, "SELECT a, length(b) FROM t", "1|40000|\n2|1|\n"));
+    MUST(is_whole(db) && answers(db, "PRAGMA journal_mode", "wal|\n"));
+    sqlite3_close(db);
+    MUST(access(path_of("wal-wal"), F_OK) != 0);
+}
+
 /* ---- refused memory ---- */
 
 /* Of the allocations of this program and of the pool, not of SQLite's library, the one at which the countdown ends is refused. */
@@ -486,7 +660,7 @@ static int rows_of_a_run(long refused) {
     sqlite3 *db;
     int rows = 0;
     countdown = refused;
-    if (pool_vfs_open(path_of("refused"), SQLITE_OPEN_READWRITE, &db) == SQLITE_OK) {
+    if (pool_vfs_open(path_of("refused"), SQLITE_OPEN_READWRITE, false, &db) == SQLITE_OK) {
         rows += done_or_refused(db, "INSERT INTO t(b) VALUES (hex(zeroblob(3000)))");
         done_or_refused(db, "SELECT sum(length(b)) FROM t");
         long left = countdown;
@@ -557,6 +731,22 @@ static void modes(void) {
     sqlite3_close(db);
 }
 
+/* A database in WAL mode is opened by a connection that is alone, and refused to any other. */
+static void wal_mode(void) {
+    sqlite3 *db = open_alone(POOL_VFS, "modes");
+    MUST(answers(db, "PRAGMA journal_mode=WAL", "wal|\n"));
+    sqlite3_close(db);
+    MUST(pool_vfs_open(path_of("modes"), SQLITE_OPEN_READWRITE, false, &db) == SQLITE_CANTOPEN);
+    sqlite3_close(db);
+    db = open_alone(POOL_VFS, "modes");
+    MUST(answers(db, "SELECT sum(a) FROM t", "18|\n"));
+    MUST(answers(db, "PRAGMA journal_mode=DELETE", "delete|\n"));
+    sqlite3_close(db);
+    db = open_by(POOL_VFS, "modes", 0);
+    MUST(answers(db, "SELECT sum(a) FROM t", "18|\n"));
+    sqlite3_close(db);
+}
+
 int main(int count, char **words) {
     if (count < 2 || count > 4) {
         fprintf(stderr, "usage: vfs_test FOLDER [RUNS] [SEED], or vfs_test FOLDER full, where FOLDER is on an empty disk of 512 KB\n");
@@ -577,13 +767,19 @@ int main(int count, char **words) {
     failing_device(100, true);
     failing_device(1, false);
     killed_without_sync();
+    killed_in_wal();
+    failing_checkpoint("PRAGMA synchronous=OFF");
+    failing_checkpoint("PRAGMA synchronous=FULL");
     refused_memory(runs > 12 ? 1000 : 50);
     modes();
+    wal_mode();
     many_pages();
     change_counter();
+    heard_times();
     for (int at = 0; at < runs; at++) batches(seed + (uint64_t)at);
     for (int at = 0; at < runs; at++) random_bytes(seed + (uint64_t)at, frames[at % 6]);
-    for (int at = 0; at < runs; at++) random_run(seed + (uint64_t)at, frames[at % 6], 400);
+    for (int at = 0; at < runs; at++) random_run(seed + (uint64_t)at, frames[at % 6], 400, at % 2 == 1);
+    for (int at = 0; at < runs; at++) random_run(seed + (uint64_t)at, frames[at % 6], 400, at % 2 == 0);
     printf("vfs_test: %d checks\n", checks);
     return 0;
 }

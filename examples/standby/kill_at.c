@@ -1,0 +1,52 @@
+/*
+ * Ends a program that is started with it as LD_PRELOAD by kill -9, just before the call number KILL_AT of those that KILL_CALLS names, as
+ * "rename fsync": of rename, unlink, fsync, ftruncate, sendfile and pwrite.
+ */
+#define _GNU_SOURCE
+#include <dlfcn.h>
+#include <signal.h>
+#include <stdio.h>
+#include <stdlib.h>
+#include <string.h>
+#include <sys/sendfile.h>
+#include <sys/types.h>
+#include <unistd.h>
+
+static void count(const char *name) {
+    static long calls;
+    const char *at = getenv("KILL_AT"), *names = getenv("KILL_CALLS");
+    if (at == NULL || names == NULL || strstr(names, name) == NULL) return;
+    if (++calls == atol(at)) kill(getpid(), SIGKILL);
+}
+
+#define NEXT(name) ((__typeof__(&name))dlsym(RTLD_NEXT, #name))
+
+int rename(const char *from, const char *to) {
+    count("rename");
+    return NEXT(rename)(from, to);
+}
+
+int unlink(const char *path) {
+    count("unlink");
+    return NEXT(unlink)(path);
+}
+
+int fsync(int fd) {
+    count("fsync");
+    return NEXT(fsync)(fd);
+}
+
+int ftruncate(int fd, off_t size) {
+    count("ftruncate");
+    return NEXT(ftruncate)(fd, size);
+}
+
+ssize_t sendfile(int to, int from, off_t *at, size_t length) {
+    count("sendfile");
+    return NEXT(sendfile)(to, from, at, length);
+}
+
+ssize_t pwrite(int fd, const void *bytes, size_t length, off_t at) {
+    count("pwrite");
+    return NEXT(pwrite)(fd, bytes, length, at);
+}
