@@ -56,7 +56,7 @@ def expect_answer(program, data):
     except Fault as fault:
         line = f"warmhist: standard input: {fault.name} at byte {fault.at}\n"
         found = program.run("check", "-", given=data)
-        if found != (1, "", line):
+        if found != (2, "", line):
             raise Wrong(f"{data[:99].hex()}.. is answered by {found}, and not by {line!r}")
         return fault.name
 
@@ -83,17 +83,18 @@ def check_unreadable(program):
     (folder / "empty").write_bytes(b"")
     (folder / "folder").mkdir(exist_ok=True)
     (folder / "two").write_bytes(small_dump() * 2)
-    program.expect(["check", "empty"], 1, error="warmhist: empty: CutShort at byte 0\n")
-    program.expect(["show", "missing"], 1, error="warmhist: cannot open missing: ")
-    program.expect(["hot", "folder"], 1, error="warmhist: folder: ReadFault at byte 0: is a directory\n")
-    program.expect(["check", "two"], 1, error=f"warmhist: two: MoreFollows at byte {len(small_dump())}\n")
-    program.expect(["diff", "a", "two"], 1, error="warmhist: two: MoreFollows")
-    program.expect(["join", "a", "missing", "-o", "never"], 1, error="warmhist: cannot open missing: ")
+    program.expect(["check", "empty"], 2, error="warmhist: empty: CutShort at byte 0\n")
+    program.expect(["show", "missing"], 2, error="warmhist: cannot open missing: ")
+    program.expect(["hot", "folder"], 2, error="warmhist: folder: ReadFault at byte 0: is a directory\n")
+    program.expect(["check", "two"], 2, error=f"warmhist: two: MoreFollows at byte {len(small_dump())}\n")
+    program.expect(["diff", "a", "two"], 2, error="warmhist: two: MoreFollows")
+    program.expect(["diff", "missing", "a"], 2, error="warmhist: cannot open missing: ")
+    program.expect(["join", "a", "missing", "-o", "never"], 2, error="warmhist: cannot open missing: ")
     if (folder / "never").exists():
         raise Wrong("a join that failed wrote its file")
     (folder / "secret").write_bytes(small_dump())
     (folder / "secret").chmod(0)
-    program.expect(["show", "secret"], 1, error="warmhist: cannot open secret: ", **as_nobody())
+    program.expect(["show", "secret"], 2, error="warmhist: cannot open secret: ", **as_nobody())
 
 
 def as_nobody():
@@ -111,16 +112,16 @@ def check_unwritable(program):
     folder, old = program.folder, dump_of(History(3), 2)
     (folder / "old").write_bytes(old)
     join = ["join", "a", "-o"]
-    program.expect([*join, "old"], 1, error="warmhist: old: WriteFault: ", preexec_fn=limited)
-    program.expect([*join, "folder"], 1, error="warmhist: folder: cannot replace it: ")
-    program.expect([*join, "/dev/full"], 1, error="warmhist: /dev/full: cannot replace it: not a regular file\n")
-    program.expect([*join, "no/file"], 1, error="warmhist: no/file: cannot open its folder: ")
-    program.expect([*join, ""], 1, error="warmhist: ")
+    program.expect([*join, "old"], 2, error="warmhist: old: WriteFault: ", preexec_fn=limited)
+    program.expect([*join, "folder"], 2, error="warmhist: folder: cannot replace it: ")
+    program.expect([*join, "/dev/full"], 2, error="warmhist: /dev/full: cannot replace it: not a regular file\n")
+    program.expect([*join, "no/file"], 2, error="warmhist: no/file: cannot open its folder: ")
+    program.expect([*join, ""], 2, error="warmhist: ")
     locked = folder / "locked"
     locked.mkdir(exist_ok=True)
     (locked / "old").write_bytes(old)
     locked.chmod(0o555)
-    program.expect([*join, "locked/old"], 1, error="warmhist: locked/old: cannot make a new file in its folder: ", **as_nobody())
+    program.expect([*join, "locked/old"], 2, error="warmhist: locked/old: cannot make a new file in its folder: ", **as_nobody())
     locked.chmod(0o755)
     if (folder / "old").read_bytes() != old or (locked / "old").read_bytes() != old:
         raise Wrong("a join that failed changed the old file")
@@ -137,7 +138,7 @@ def check_full_disk(program):
         try:
             (Path(place) / "old").write_bytes(old)
             (Path(place) / "rest").write_bytes(bytes(4096))
-            program.expect(["join", "a", "-o", f"{place}/old"], 1, error=f"warmhist: {place}/old: WriteFault: ")
+            program.expect(["join", "a", "-o", f"{place}/old"], 2, error=f"warmhist: {place}/old: WriteFault: ")
             if (Path(place) / "old").read_bytes() != old or sorted(os.listdir(place)) != ["old", "rest"]:
                 raise Wrong("a join onto a full disk changed what is there")
         finally:
@@ -149,11 +150,11 @@ def check_lost_output(program):
     """Standard output that takes nothing: a full device, and a pipe that nobody reads."""
     for words in [["show", "a"], ["hot", "a"], ["check", "a"], ["diff", "a", "old"], ["--help"], ["join", "a", "-o", "-"]]:
         with open("/dev/full", "wb") as full:
-            program.expect(words, 1, error="warmhist: standard output: ", stdout=full)
+            program.expect(words, 2, error="warmhist: standard output: ", stdout=full)
         read_end, write_end = os.pipe()
         os.close(read_end)
         with os.fdopen(write_end, "wb") as closed:
-            program.expect(words, 1, error="warmhist: standard output: ", stdout=closed)
+            program.expect(words, 2, error="warmhist: standard output: ", stdout=closed)
 
 
 def check_paths(program):

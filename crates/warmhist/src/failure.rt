@@ -5,7 +5,7 @@ use std::io::{self, ErrorKind};
 use warm_files::DumpError;
 use warm_store::StoreFault;
 
-/// Why a command did not reach its end. Each has status 1.
+/// Why a command did not reach its end. Each has status 2.
 #[derive(Drop)]
 pub enum Failure<'a> {
     /// Memory was refused.

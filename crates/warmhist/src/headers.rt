@@ -1,17 +1,11 @@
 //! What the headers of a stream of frames say.
 
-// How many bytes the magic number has, and the header with it, in either format.
-const MAGIC_SIZE: usize = 4;
-
-const HEADER_SIZE: usize = 19;
-
-const NARROW_HEADER_SIZE: usize = 11;
-
-// The older format, which has no horizon.
-const NARROW_MAGIC: u64 = 0x4C32_4731;
+use warm_frames::layout::{
+    HEADER_SIZE, KIND_SIZE, MAGIC_SIZE, NARROW_HEADER_SIZE, NARROW_MAGIC, SENDER_SIZE,
+};
 
 // How many bytes the magic number, the kind and the sender have.
-const UP_TO_SENDER: usize = 7;
+const UP_TO_SENDER: usize = MAGIC_SIZE + KIND_SIZE + SENDER_SIZE;
 
 const LOW_32: u64 = 0xFFFF_FFFF;
 
@@ -69,7 +63,7 @@ impl Headers {
     fn pass_header(&mut self, byte: u8) {
         self.tail = self.tail << 8 | u64::from(byte);
         self.held = self.held.saturating_add(1);
-        if self.held == MAGIC_SIZE && self.tail & LOW_32 == NARROW_MAGIC {
+        if self.held == MAGIC_SIZE && self.tail & LOW_32 == u64::from(NARROW_MAGIC) {
             self.size = NARROW_HEADER_SIZE;
         }
         if self.held == UP_TO_SENDER {

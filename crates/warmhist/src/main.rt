@@ -21,14 +21,13 @@ use std::env;
 use std::io::{BufWriter, Stdout, Write};
 use std::process::ExitCode;
 
+// The statuses are those of diff and grep.
 const DONE: u8 = 0;
 
-// The dumps differ, or the command failed.
 const DIFFERENT: u8 = 1;
 
-const FAILED: u8 = 1;
-
-const REFUSED: u8 = 2;
+// The command line is refused, or the command failed.
+const TROUBLE: u8 = 2;
 
 fn buffered<'a>(rt: &'a HostRuntime) -> Result<BufWriter<Stdout>, Failure<'a>> {
     Ok(BufWriter::new(rt.alloc(), rt.stdout())?)
@@ -84,21 +83,21 @@ fn done<'a>(rt: &'a HostRuntime, asked: &Asked<'a>) -> Result<u8, Failure<'a>> {
 fn status_of(rt: &HostRuntime, asked: &Asked<'_>) -> u8 {
     if reads_twice(asked) {
         let _ = eprintln!(rt; "warmhist: standard input can be read once");
-        return REFUSED;
+        return TROUBLE;
     }
     match done(rt, asked) {
         Ok(status) => status,
         Err(failure) => {
             // Where standard error takes nothing, the status is all that is left to say.
             let _ = report(rt, &failure);
-            FAILED
+            TROUBLE
         }
     }
 }
 
 fn no_memory(rt: &HostRuntime) -> u8 {
     let _ = report(rt, &Failure::Memory);
-    FAILED
+    TROUBLE
 }
 
 // clap's text, and the status: that of help is 0 where it could be written.
@@ -108,13 +107,13 @@ fn print_clap(rt: &HostRuntime, error: &clap::Error) -> u8 {
     }
     let printed = error.print(rt);
     if error.use_stderr() {
-        return REFUSED;
+        return TROUBLE;
     }
     match printed {
         Ok(()) => DONE,
         Err(error) => {
             let _ = report(rt, &Failure::Unprinted(error));
-            FAILED
+            TROUBLE
         }
     }
 }
@@ -127,7 +126,7 @@ fn status_of_words(rt: &HostRuntime, words: &[String]) -> u8 {
     };
     match asked_in(rt.alloc(), &matches) {
         Ok(Some(asked)) => status_of(rt, &asked),
-        Ok(None) => REFUSED,
+        Ok(None) => TROUBLE,
         Err(_) => no_memory(rt),
     }
 }
@@ -137,7 +136,7 @@ fn main(rt: HostRuntime) -> ExitCode {
         Ok(args) => args,
         Err(error) => {
             let _ = eprintln!(rt; "warmhist: the command line: {error}");
-            return ExitCode::from(REFUSED);
+            return ExitCode::from(TROUBLE);
         }
     };
     let words: Vec<String> = match args.collect(rt.alloc()) {

@@ -35,8 +35,8 @@ const EXAMPLES: &str = "Examples:
   ssh standby cat standby.dump | warmhist join - local.dump -o local.dump
 
 FILE is a dump of a history; - is standard input. OUT is replaced whole or not at all; - is standard output.
-Exit status: 0 done, and no difference; 1 the dumps differ, or a file is no dump, or it cannot be read or written; \
-2 the command line is refused.";
+Exit status: 0 done, and no difference; 1 diff found a difference; 2 trouble: the command line is refused, \
+a file is no dump or cannot be read or written, or memory runs out.";
 
 fn file_argument<'a>(alloc: Global, name: &'a str, help: &'a str) -> Arg<'a> {
     Arg::new(alloc, name)
