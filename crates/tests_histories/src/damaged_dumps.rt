@@ -4,6 +4,7 @@ use crate::dumps::{
 };
 use crate::histories::are_equal;
 use std::alloc::Global;
+use std::fmt;
 use std::process::Abort;
 use warm_files::{DumpError, DumpFault};
 use warm_frames::{DIGEST_SIZE, FrameFault};
@@ -210,4 +211,23 @@ fn faults_have_numbers_and_names(rt: HostRuntime) {
     for (fault, code, name) in NAMES {
         assert!(rt; fault.code() == code && fault.name() == name);
     }
+}
+
+// Whether this is what a fault displays.
+fn shows(rt: &impl Abort, alloc: Global, fault: &impl fmt::Display, want: &str) -> bool {
+    let text = format!(in alloc; "{fault}").expect(rt, "memory for a text");
+    text.as_str() == want
+}
+
+// A frame's fault is displayed as the frame shows it, and an error also says where it is.
+#[test]
+fn faults_are_shown_by_their_names(rt: HostRuntime) {
+    for (fault, _, name) in NAMES {
+        assert!(rt; shows(&rt, rt.alloc(), &fault, name));
+    }
+    let error = DumpError {
+        at: 54,
+        fault: DumpFault::Frame(FrameFault::BadMagic),
+    };
+    assert!(rt; shows(&rt, rt.alloc(), &error, "BadMagic at byte 54"));
 }

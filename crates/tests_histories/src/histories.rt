@@ -182,6 +182,11 @@ fn gives_those_after_a_page_of_any_bucket(rt: HostRuntime) {
     }
 }
 
+// The entry of a page that was referenced once.
+fn seen_once(dev: u16, no: u64) -> Entry {
+    entry(page_on(dev, no), once(10, 1))
+}
+
 // Whether these are the first two entries of a bucket after a page.
 fn are_next_two(
     rt: &impl Abort,
@@ -199,22 +204,25 @@ fn are_next_two(
 // The pages 0:1, 0:65 and 1:0 are all of bucket 1.
 #[test]
 fn entries_of_one_bucket(rt: HostRuntime) {
-    let [first, second] = [entry(page(1), once(10, 1)), entry(page(65), once(10, 1))];
-    let third = entry(page_on(1, 0), once(10, 1));
     let mut here = History::new(rt.alloc());
-    here.join_entries(0, &[first, second, third])
+    let first = [seen_once(0, 1), seen_once(0, 65)];
+    let then = [seen_once(1, 0)];
+    here.join_entries(0, &first)
         .expect(&rt, "memory for entries");
-    assert!(rt; are_next_two(&rt, &here, 1, None, &[first, second]));
-    assert!(rt; are_next_two(&rt, &here, 1, Some(page(65)), &[third]));
+    here.join_entries(0, &then)
+        .expect(&rt, "memory for entries");
+    assert!(rt; are_next_two(&rt, &here, 1, None, &first));
+    assert!(rt; are_next_two(&rt, &here, 1, Some(page(65)), &then));
     assert!(rt; are_next_two(&rt, &here, 1, Some(page_on(1, 0)), &[]));
     assert!(rt; are_next_two(&rt, &here, 2, None, &[]));
 }
 
 #[test]
 fn entries_come_in_any_order(rt: HostRuntime) {
-    let [first, second] = [entry(page(1), once(10, 1)), entry(page(2), once(10, 1))];
     let mut here = History::new(rt.alloc());
-    here.join_entries(0, &[second, first])
+    here.join_entries(0, &[seen_once(0, 2), seen_once(0, 1)])
         .expect(&rt, "memory for entries");
-    assert!(rt; here.len() == 2 && here.at(0) == Some(first) && here.at(1) == Some(second));
+    assert!(rt; here.len() == 2);
+    assert!(rt; here.at(0) == Some(seen_once(0, 1)));
+    assert!(rt; here.at(1) == Some(seen_once(0, 2)));
 }

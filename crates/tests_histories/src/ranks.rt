@@ -87,18 +87,19 @@ fn set_of_three(contest: &mut Contest, slot: usize, key: Option<RankKey>)
     contest.set(slot, key);
 }
 
+// The key of 0:5, referenced once.
+fn key_of_5() -> Option<RankKey> {
+    Some(key_of(page(5), Some(once(10, 1))))
+}
+
 // A contest of the keys of 0:1 with stamps 2@1 and 1@1, of 0:5 with 10@1, and of 0:6 with 11@1: the least is cleared until none is
 // left. Then one key is in two slots.
 #[test]
 fn the_least_of_three_keys_is_found(rt: HostRuntime) {
     let mut contest = Contest::new(rt.alloc(), 3).expect(&rt, "memory for slots");
-    let key = key_of(page(5), Some(once(10, 1)));
-    set_of_three(
-        &mut contest,
-        0,
-        Some(key_of(page(1), Some(twice((2, 1), (1, 1))))),
-    );
-    set_of_three(&mut contest, 1, Some(key));
+    let referenced_twice = key_of(page(1), Some(twice((2, 1), (1, 1))));
+    set_of_three(&mut contest, 0, Some(referenced_twice));
+    set_of_three(&mut contest, 1, key_of_5());
     set_of_three(&mut contest, 2, Some(key_of(page(6), Some(once(11, 1)))));
     assert!(rt; contest.least() == Some(1));
     set_of_three(&mut contest, 1, None);
@@ -107,8 +108,8 @@ fn the_least_of_three_keys_is_found(rt: HostRuntime) {
     assert!(rt; contest.least() == Some(0));
     set_of_three(&mut contest, 0, None);
     assert!(rt; contest.least() == None);
-    set_of_three(&mut contest, 0, Some(key));
-    set_of_three(&mut contest, 2, Some(key));
+    set_of_three(&mut contest, 0, key_of_5());
+    set_of_three(&mut contest, 2, key_of_5());
     assert!(rt; contest.least() == Some(0));
 }
 
