@@ -4,6 +4,8 @@ ghost use Rattle.warm_world.specs.Opening.{AreFew};
 ghost use Rattle.warm_world.specs.Views.{listed};
 
 mod dropped;
+mod exchange;
+mod sizes;
 
 use std::alloc::Global;
 use std::process::Abort;
