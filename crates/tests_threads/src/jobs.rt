@@ -30,26 +30,42 @@ impl Gate for Open {
 }
 
 // A gate at which four jobs wait for one another before their first step: the number that arrived,
-// and the number that saw all arrive. Each call before or after a step is counted in the step's own
-// octal digit, of five for each job.
+// and the number that saw all arrive. The calls of each job are counted in 16 bits of their own, and
+// each has to be the next: before step 0, after it, before step 1, and so on.
 #[derive(Drop)]
 struct Meeting<'a, C: Clock> {
     clock: &'a C,
     here: AtomicU64,
     met: AtomicU64,
-    before: AtomicU64,
-    after: AtomicU64,
+    calls: AtomicU64,
+    // A call was not the next of its job.
+    disorder: AtomicU64,
 }
 
-// One in the digit of a step.
-fn once_at(job: usize, step: usize) -> u64 {
-    let digit = job.wrapping_mul(5).wrapping_add(step) % 21;
-    1 << (3 * digit as u32)
+impl<'a, C: Clock> Meeting<'a, C> {
+    fn new(clock: &'a C) -> Meeting<'a, C> {
+        Meeting {
+            clock,
+            here: AtomicU64::new(0),
+            met: AtomicU64::new(0),
+            calls: AtomicU64::new(0),
+            disorder: AtomicU64::new(0),
+        }
+    }
+
+    // A call of a job, which has to come after this many others of it.
+    fn count(&self, job: usize, earlier: usize) {
+        let shift = 16 * (job % 4) as u32;
+        let calls = self.calls.fetch_add(1 << shift, Ordering::SeqCst);
+        if calls >> shift & 0xFFFF != earlier as u64 {
+            self.disorder.store(1, Ordering::SeqCst);
+        }
+    }
 }
 
 impl<'a, C: Clock> Gate for Meeting<'a, C> {
     fn before(&self, job: usize, step: usize) {
-        self.before.fetch_add(once_at(job, step), Ordering::SeqCst);
+        self.count(job, step.wrapping_mul(2));
         if step > 0 {
             return;
         }
@@ -60,7 +76,7 @@ impl<'a, C: Clock> Gate for Meeting<'a, C> {
     }
 
     fn after(&self, job: usize, step: usize) {
-        self.after.fetch_add(once_at(job, step), Ordering::SeqCst);
+        self.count(job, step.wrapping_mul(2).wrapping_add(1));
     }
 }
 
@@ -102,10 +118,11 @@ fn make(rt: &impl Abort, alloc: Global, call: Call) -> Step {
 }
 
 // A job that requests the victim; where it has five steps, after three touches of its page and a
-// flush. Its buffer holds two.
+// flush. Its buffer holds two. Then come as many flushes as the number of its page, so that each of
+// four jobs has another number of steps.
 fn job_of(rt: &impl Abort, alloc: Global, no: u64, five: bool) -> Job {
     let victim = make(rt, alloc, Call::Victim);
-    let steps = if five {
+    let mut steps = if five {
         vec![in alloc;
             Step::Touch(seen(page(no), u64::wrapping_add(10, no), 1)),
             Step::Touch(seen(page(no), u64::wrapping_add(20, no), 1)),
@@ -117,6 +134,9 @@ fn job_of(rt: &impl Abort, alloc: Global, no: u64, five: bool) -> Job {
     } else {
         vec![in alloc; victim].expect(rt, "memory for a step")
     };
+    for _ in 0..no {
+        steps.push(Step::Flush).expect(rt, "memory for a step");
+    }
     Job { capacity: 2, steps }
 }
 
@@ -139,10 +159,21 @@ fn is_answered(replies: &[StepReply], no: u64) -> bool {
     back.unwrap_or(seen(page(no), 30, 1)) == seen(page(no), 30, 1)
 }
 
+// The same, and then this many flushes.
+fn is_answered_and_flushed(replies: &[StepReply], no: usize) -> bool {
+    let (first, flushes) = replies.split_at(replies.len().saturating_sub(no));
+    for reply in flushes {
+        let StepReply::Flushed = reply else {
+            return false;
+        };
+    }
+    flushes.len() == no && is_answered(first, no as u64)
+}
+
 // Whether each of four jobs is answered.
 fn are_answered(all: &[Vec<StepReply>]) -> bool {
     for (no, replies) in all.iter().enumerate() {
-        if !is_answered(replies.as_slice(), no as u64) {
+        if !is_answered_and_flushed(replies.as_slice(), no) {
             return false;
         }
     }
@@ -169,25 +200,20 @@ fn are_met<R: Threads + Wait + Abort + Sync, G: Gate + Sync>(
     are_answered(&all) && pages.as_slice() == hottest
 }
 
-// Four jobs of one call, and of five steps: then each of the pages 0 to 3 was referenced twice, and a later one later.
+// Four jobs of one call, and of five steps: then each of the pages 0 to 3 was referenced twice, and a later one later. Behind
+// these steps job 0 has none, and each other job one more than the job before it.
 #[test]
 fn four_jobs_meet(rt: HostRuntime) {
     let all = [page(3), page(2), page(1), page(0)];
     for (five, hottest, calls) in [
-        (false, all.split_at(0).0, 0o00001_00001_00001_00001),
-        (true, all.as_slice(), 0o11111_11111_11111_11111),
+        (false, all.split_at(0).0, 0x0008_0006_0004_0002),
+        (true, all.as_slice(), 0x0010_000E_000C_000A),
     ] {
-        let gate = Meeting {
-            clock: &rt,
-            here: AtomicU64::new(0),
-            met: AtomicU64::new(0),
-            before: AtomicU64::new(0),
-            after: AtomicU64::new(0),
-        };
+        let gate = Meeting::new(&rt);
         assert!(rt; are_met(&rt, rt.alloc(), &gate, five, hottest));
         assert!(rt; gate.met.load(Ordering::SeqCst) == 4);
-        assert!(rt; gate.before.load(Ordering::SeqCst) == calls);
-        assert!(rt; gate.after.load(Ordering::SeqCst) == calls);
+        assert!(rt; gate.calls.load(Ordering::SeqCst) == calls);
+        assert!(rt; gate.disorder.load(Ordering::SeqCst) == 0);
     }
 }
 

@@ -20,6 +20,10 @@ struct Flags {
     touched: AtomicU64,
     // A wait came to its limit.
     late: AtomicU64,
+    // The gate was called before the step that pins, and not yet after it.
+    pinning: AtomicU64,
+    // The device was read outside that step.
+    outside: AtomicU64,
 }
 
 impl Flags {
@@ -28,6 +32,8 @@ impl Flags {
             reading: AtomicU64::new(0),
             touched: AtomicU64::new(0),
             late: AtomicU64::new(0),
+            pinning: AtomicU64::new(0),
+            outside: AtomicU64::new(0),
         };
         Arc::new(alloc, flags).expect(rt, "memory for flags")
     }
@@ -39,7 +45,7 @@ impl Flags {
     }
 }
 
-// The reads of a device wait until the other thread has touched.
+// The reads of a device wait until the other thread has touched. They belong to the step that pins.
 #[derive(Drop)]
 struct SlowReads {
     clock: HostRuntime,
@@ -48,6 +54,9 @@ struct SlowReads {
 
 impl Hooks for SlowReads {
     fn before_read(&self) {
+        if self.flags.pinning.load(Ordering::SeqCst) == 0 {
+            self.flags.outside.store(1, Ordering::SeqCst);
+        }
         self.flags.reading.store(1, Ordering::SeqCst);
         self.flags.wait(&self.clock, &self.flags.touched);
     }
@@ -71,12 +80,16 @@ impl<'a, C: Clock> Gate for WhileRead<'a, C> {
     fn before(&self, job: usize, _step: usize) {
         if job == TOUCHES {
             self.flags.wait(self.clock, &self.flags.reading);
+        } else {
+            self.flags.pinning.store(1, Ordering::SeqCst);
         }
     }
 
     fn after(&self, job: usize, _step: usize) {
         if job == TOUCHES {
             self.flags.touched.store(1, Ordering::SeqCst);
+        } else {
+            self.flags.pinning.store(0, Ordering::SeqCst);
         }
     }
 }
@@ -152,4 +165,5 @@ fn a_touch_waits_for_no_device(rt: HostRuntime) {
     let clock = rt.clone().expect(&rt, "a runtime more");
     assert!(rt; are_answered(&rt, rt.alloc(), clock, &flags));
     assert!(rt; flags.late.load(Ordering::SeqCst) == 0);
+    assert!(rt; flags.outside.load(Ordering::SeqCst) == 0);
 }
