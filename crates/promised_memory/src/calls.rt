@@ -1,4 +1,5 @@
-//! A node's allocation-free calls, and those of a buffer and a contest.
+//! A node's allocation-free calls, and those of a buffer, a contest and a history.
+ghost use Rattle.std.specs.Prelude.{◌≡◌, ◌<◌, length};
 
 use refused_rows::{Ended, Met, takes_none};
 use std::alloc::Global;
@@ -7,7 +8,7 @@ use warm_devices::MemDevice;
 use warm_gossip::{Call, Node, Reply};
 use warm_history::{History, PageHist};
 use warm_pool::{Pool, Slot};
-use warm_rank::{Contest, key_of};
+use warm_rank::{Contest, RankKey, key_of};
 use warm_refbuffer::RefBuffer;
 use warm_stamps::{ByteList, PageId, Reference, ReplicaId, Stamp};
 
@@ -33,7 +34,7 @@ pub(crate) fn opened(
 }
 
 // A reference to page `no` of device 0, at the time of its number.
-fn reference(replica: ReplicaId, no: u64) -> Reference {
+pub(crate) fn reference(replica: ReplicaId, no: u64) -> Reference {
     Reference {
         page: PageId { dev: 0, no },
         stamp: Stamp { time: no, replica },
@@ -81,10 +82,15 @@ fn pinned<P: Print>(
     takes_none(rt, "write")?;
     met.holds(matches!(node.call(call), Reply::Done), "a write is refused")?;
     let mut into = [0u8; 4];
-    takes_none(rt, "read into a buffer")?;
+    takes_none(rt, "read of a pool")?;
     met.holds(
         node.pool().read(slot, 3, &mut into).is_ok(),
         "a read is refused",
+    )?;
+    takes_none(rt, "read_into")?;
+    met.holds(
+        node.read_into(slot, 3, &mut into).is_ok(),
+        "a read into a buffer is refused",
     )?;
     takes_none(rt, "unpin of a page with two fixes")?;
     met.holds(is_unpinned(node, 1), "an unpin is refused")?;
@@ -92,8 +98,25 @@ fn pinned<P: Print>(
     met.holds(is_unpinned(node, 1), "a second unpin is refused")
 }
 
-// A page is pinned, written to and unpinned; another replaces it; the horizon rises past one of
-// them, and the node restarts.
+// The page that replaced another is written to, unpinned and written back.
+fn written_back<P: Print>(rt: &P, met: &mut Met, node: &mut Node<MemDevice>) -> Result<(), Ended> {
+    let slot = Slot {
+        index: 0,
+        generation: 2,
+    };
+    takes_none(rt, "write of a slice")?;
+    met.holds(
+        node.write(slot, 0, b"cold").is_ok(),
+        "a write of a slice is refused",
+    )?;
+    takes_none(rt, "unpin")?;
+    met.holds(is_unpinned(node, 2), "an unpin is refused")?;
+    takes_none(rt, "write_back")?;
+    met.holds(node.write_back().is_ok(), "a page is not written back")
+}
+
+// A page is pinned, written to and unpinned; another replaces it, and is written back; the horizon
+// rises past one of them, and the node restarts.
 pub(crate) fn rows<P: Print>(
     rt: &P,
     met: &mut Met,
@@ -106,8 +129,7 @@ pub(crate) fn rows<P: Print>(
     met.holds(matches!(left, Reply::Page(Some(_))), "a victim is refused")?;
     takes_none(rt, "pin over a dirty page")?;
     met.holds(is_pinned(node, 2, 2), "a pin over a dirty page is refused")?;
-    takes_none(rt, "unpin")?;
-    met.holds(is_unpinned(node, 2), "an unpin is refused")?;
+    written_back(rt, met, node)?;
     takes_none(rt, "unpin of a stale slot")?;
     met.holds(!is_unpinned(node, 1), "a stale slot is unpinned")?;
     takes_none(rt, "horizon")?;
@@ -117,12 +139,11 @@ pub(crate) fn rows<P: Print>(
     met.holds(matches!(ended, Reply::Done), "a restart is refused")
 }
 
-// A buffer of two, a contest of two slots, and a history of one page.
+// A buffer of two, and a history of one page.
 #[derive(Drop)]
 pub(crate) struct Made {
     replica: ReplicaId,
     buffer: RefBuffer,
-    contest: Contest,
     history: History,
 }
 
@@ -134,13 +155,11 @@ impl Made {
         let Ok(buffer) = RefBuffer::new(alloc, 2) else {
             return Err(Ended::NoMemory);
         };
-        let contest = Contest::new(alloc, 2)?;
         let mut history = History::new(alloc);
         history.absorb(&[reference(replica, 1)])?;
         Ok(Made {
             replica,
             buffer,
-            contest,
             history,
         })
     }
@@ -150,12 +169,40 @@ impl Made {
         let Made {
             replica,
             buffer,
-            contest: _,
             history,
         } = self;
         touched(rt, met, buffer, replica)?;
         remembered(rt, met, history, replica)
     }
+}
+
+// Sets or clears the key of one of two slots.
+fn set_of_two(contest: &mut Contest, slot: usize, key: Option<RankKey>)
+    requires two { length contest.old ≡ 2 }
+    requires one { slot < 2 }
+    ensures { length contest.new ≡ 2 }
+{
+    contest.set(slot, key);
+}
+
+// Keys of two slots are set and cleared.
+pub(crate) fn contested<P: Print>(rt: &P, met: &mut Met, mut contest: Contest) -> Result<(), Ended>
+    requires { length contest ≡ 2 }
+{
+    let first = key_of(PageId { dev: 0, no: 1 }, None);
+    let second = key_of(PageId { dev: 0, no: 2 }, None);
+    takes_none(rt, "set of a key")?;
+    set_of_two(&mut contest, 0, Some(second));
+    takes_none(rt, "set of a lesser key")?;
+    set_of_two(&mut contest, 1, Some(first));
+    takes_none(rt, "least")?;
+    met.holds(contest.least() == Some(1), "another key is the least")?;
+    takes_none(rt, "clear_vacant")?;
+    contest.clear_vacant(&[Some(0), None]);
+    met.holds(contest.least() == Some(0), "a vacant slot has a key")?;
+    takes_none(rt, "set of no key")?;
+    set_of_two(&mut contest, 0, None);
+    met.holds(contest.least() == None, "a key is not cleared")
 }
 
 // Touches of a buffer of two up to its capacity, and one more after it is emptied.

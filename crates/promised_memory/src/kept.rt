@@ -1,7 +1,7 @@
 //! Calls whose result is cached: the first allocates, and the second, without changes since, does
-//! not. Taking in known references in between is not a change.
+//! not. Taking in known references or entries in between is not a change.
 
-use crate::calls::opened;
+use crate::calls::{opened, reference};
 use refused_rows::{Ended, Met, is_done, takes, takes_none};
 use std::alloc::Global;
 use std::io::Print;
@@ -9,13 +9,13 @@ use warm_devices::MemDevice;
 use warm_digest::{DigestedHistory, Digests};
 use warm_gossip::{Call, Node, Reply};
 use warm_history::History;
-use warm_stamps::{PageId, Reference, ReplicaId, Stamp};
+use warm_stamps::{Bucket, PageId, Reference, ReplicaId, Stamp};
 
 // The number of frames of the node. Its history has as many pages.
 const FRAMES: usize = 2;
 
-// A node that has offered its digests and taken one step of its warm-up, and a history whose
-// digests were computed before a batch was repeated.
+// A node that has offered its digests and taken one step of its warm-up, before calls that brought
+// it nothing new; and a history whose digests were computed before a batch was repeated.
 #[derive(Drop)]
 pub(crate) struct Kept {
     node: Node<MemDevice>,
@@ -34,6 +34,46 @@ fn is_loaded(node: &mut Node<MemDevice>, no: Option<u64>) -> bool {
         None => None,
     };
     matches!(node.call(Call::WarmStep), Reply::Loaded(found) if found == page)
+}
+
+// A node takes in the references that it knows.
+fn absorbs_known(node: &mut Node<MemDevice>) -> Result<(), Ended> {
+    let id = node.id();
+    match node.absorb(&[reference(id, 1), reference(id, 2)]) {
+        Ok(()) => Ok(()),
+        Err(_) => Err(Ended::NoMemory),
+    }
+}
+
+// A node takes in its own history.
+fn joins_known(node: &mut Node<MemDevice>) -> Result<(), Ended> {
+    let known = node.history().copy()?;
+    match node.join(&known) {
+        Ok(()) => Ok(()),
+        Err(_) => Err(Ended::NoMemory),
+    }
+}
+
+// A node takes in a message of the entries of one of its buckets.
+fn receives_known(node: &mut Node<MemDevice>) -> Result<(), Ended> {
+    let Some(bucket) = Bucket::new(1) else {
+        return Err(Ended::Broken);
+    };
+    let Ok(message) = node.send(bucket, None) else {
+        return Err(Ended::NoMemory);
+    };
+    match node.receive(message) {
+        Ok(_) => Ok(()),
+        Err(_) => Err(Ended::NoMemory),
+    }
+}
+
+// Calls that bring a node nothing new: what it has cached stays.
+fn brings_nothing(met: &mut Met, node: &mut Node<MemDevice>) -> Result<(), Ended> {
+    absorbs_known(node)?;
+    joins_known(node)?;
+    receives_known(node)?;
+    met.holds(node.raise(0) == 0, "an earlier time is a horizon")
 }
 
 fn taken_once(history: &mut DigestedHistory) -> Result<(), Ended> {
@@ -60,7 +100,7 @@ fn digested<P: Print>(rt: &P, alloc: Global) -> Result<DigestedHistory, Ended> {
 }
 
 impl Kept {
-    pub(crate) fn new<P: Print>(rt: &P, alloc: Global) -> Result<Kept, Ended> {
+    pub(crate) fn new<P: Print>(rt: &P, met: &mut Met, alloc: Global) -> Result<Kept, Ended> {
         let mut node = opened(alloc, MemDevice::new(alloc, 8, 16)?, FRAMES)?;
         takes(rt, FRAMES, "offer")?;
         if !is_offered(&mut node) {
@@ -71,6 +111,7 @@ impl Kept {
             return Err(Ended::NoMemory);
         }
         is_done(rt)?;
+        brings_nothing(met, &mut node)?;
         let history = digested(rt, alloc)?;
         Ok(Kept {
             node,
@@ -79,7 +120,7 @@ impl Kept {
         })
     }
 
-    // The second call of each, without changes since the first.
+    // The second call of each, with nothing new since the first.
     pub(crate) fn rows<P: Print>(self, rt: &P, met: &mut Met) -> Result<(), Ended> {
         let Kept {
             mut node,

@@ -12,6 +12,7 @@ mod frames;
 mod kept;
 mod lines;
 mod sizes;
+mod worlds;
 
 use crate::calls::Made;
 use crate::kept::Kept;
@@ -20,19 +21,24 @@ use std::alloc::Global;
 use std::io::Print;
 use std::process::ExitCode;
 use warm_devices::MemDevice;
+use warm_rank::Contest;
 use warm_stamps::ByteList;
 
 fn play<P: Print>(rt: &P, met: &mut Met, alloc: Global) -> Result<(), Ended> {
     sizes::rows(rt, met, alloc)?;
     dumps::rows(rt, met, alloc)?;
-    let kept = Kept::new(rt, alloc)?;
+    let kept = Kept::new(rt, met, alloc)?;
     let mut node = calls::opened(alloc, MemDevice::new(alloc, 8, 16)?, 1)?;
     let mut bytes = Vec::new(alloc);
     bytes.extend_from_slice(b"warm")?;
     let made = Made::new(alloc)?;
+    let contest = Contest::new(alloc, 2)?;
+    let world = worlds::changed(met, alloc)?;
     // from here on nothing is allocated
     calls::rows(rt, met, &mut node, ByteList::of(bytes))?;
     made.rows(rt, met)?;
+    calls::contested(rt, met, contest)?;
+    worlds::rows(rt, met, world)?;
     kept.rows(rt, met)?;
     frames::rows(rt, met, alloc)?;
     lines::rows(rt, met, alloc)?;

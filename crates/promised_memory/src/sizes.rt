@@ -91,7 +91,12 @@ fn read<P: Print>(rt: &P, alloc: Global, history: &History) -> Result<(), Ended>
     is_done(rt)
 }
 
-fn encoded<P: Print>(rt: &P, alloc: Global, entries: Vec<Entry>) -> Result<Vec<u8>, Ended> {
+fn encoded<P: Print>(
+    rt: &P,
+    met: &mut Met,
+    alloc: Global,
+    entries: Vec<Entry>,
+) -> Result<Vec<u8>, Ended> {
     let sender = replica()?;
     let count = entries.len();
     let Ok(entries) = EntryList::of(entries) else {
@@ -105,6 +110,7 @@ fn encoded<P: Print>(rt: &P, alloc: Global, entries: Vec<Entry>) -> Result<Vec<u
     takes(rt, count, "encode")?;
     let bytes = encode(alloc, &message)?;
     is_done(rt)?;
+    met.holds(bytes.len() == 21_023, "1000 entries have 21,023 bytes")?;
     Ok(bytes)
 }
 
@@ -228,7 +234,7 @@ pub(crate) fn rows<P: Print>(rt: &P, met: &mut Met, alloc: Global) -> Result<(),
     copied(rt, met, alloc, &history)?;
     read(rt, alloc, &history)?;
     let entries = listed(rt, &history)?;
-    let bytes = encoded(rt, alloc, entries)?;
+    let bytes = encoded(rt, met, alloc, entries)?;
     fed(rt, met, alloc, &bytes)?;
     made(rt, alloc)?;
     let message = decoded(rt, alloc, &bytes)?;

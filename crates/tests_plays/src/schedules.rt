@@ -124,7 +124,7 @@ const TWO_FRAMES: [(&str, &str); 2] = [
     ),
 ];
 
-const FOUR_FRAMES: [(&str, &str); 4] = [
+const FOUR_FRAMES: [(&str, &str); 5] = [
     // the pages of a scan are evicted before pages that were referenced twice
     (
         "ref 1 1 0:1 1\nref 1 1 0:1 2\nref 1 1 0:5 10\nref 1 1 0:6 11\nflush 1 1\npin 1 0:1\npin 1 0:5\npin 1 0:6\n\
@@ -147,6 +147,12 @@ const FOUR_FRAMES: [(&str, &str); 4] = [
         "ref 4 1 0:1 1\nref 1 3 0:1 1\nref 9 9 0:1 1\ndeliver 1 1\npin 1 1:0\npin 1 0:256\nsend 1 64\nfoo\n",
         "refused 14 NoSuchReplica\nrefused 15 NoSuchWorker\nrefused 14 NoSuchReplica\nrefused 16 NoSuchFrame\n\
          refused 4 NoDevice\nrefused 5 NoPage\nbad line 7\nbad line 8\n",
+    ),
+    // the same without pages
+    (
+        "ref 4 1 0:1 1\nref 1 3 0:1 1\nref 9 9 0:1 1\ndeliver 1 1\nsend 1 64\nfoo\n",
+        "refused 14 NoSuchReplica\nrefused 15 NoSuchWorker\nrefused 14 NoSuchReplica\nrefused 16 NoSuchFrame\n\
+         bad line 5\nbad line 6\n",
     ),
 ];
 
@@ -266,19 +272,20 @@ fn a_refused_end_is_the_last_line(rt: HostRuntime) {
     }
 }
 
-// References of worker 1 of replica 1, each to a page whose number is greater by `spread` than that of the one before, at times from
-// the first on; then these lines.
+// References of worker 1 of replica 1: to the page of the first number, and then to one whose number is greater by `spread` than that
+// of the one before; at times from the first on. Then these lines.
 fn references(
     rt: &impl Abort,
     alloc: Global,
     count: u32,
-    spread: u32,
+    (page, spread): (u32, u32),
     first: u32,
     lines: &str,
 ) -> Vec<u8> {
     let mut schedule = Vec::new(alloc);
     for place in 0..count {
-        let (no, time) = (spread.wrapping_mul(place), first.wrapping_add(place));
+        let no = page.wrapping_add(spread.wrapping_mul(place));
+        let time = first.wrapping_add(place);
         writeln!(&mut schedule, "ref 1 1 0:{no} {time}").expect(rt, "memory for a line");
     }
     add(rt, &mut schedule, 1, lines.as_bytes());
@@ -305,8 +312,15 @@ fn prints_after(
 // A buffer of 64 is flushed by the reference that finds it full.
 #[test]
 fn a_full_buffer_is_flushed_first(rt: HostRuntime) {
-    let schedule = references(&rt, rt.alloc(), 65, 0, 1, "show 1\nflush 1 1\nshow 1\n");
-    let want = "0:0 last 64@1 prev 63@1\nend 1\nok\n0:0 last 65@1 prev 64@1\nend 1\n";
+    let schedule = references(
+        &rt,
+        rt.alloc(),
+        65,
+        (1, 0),
+        1,
+        "show 1\nflush 1 1\nshow 1\n",
+    );
+    let want = "0:1 last 64@1 prev 63@1\nend 1\nok\n0:1 last 65@1 prev 64@1\nend 1\n";
     prints_after(
         &rt,
         rt.alloc(),
@@ -325,11 +339,11 @@ fn the_largest_worlds_play(rt: HostRuntime) {
     let lines = "show 1\nref 64 16 0:1 5\nflush 64 16\nshow 64\nflush 64 17\nflush 65 1\n";
     let want =
         "0:0 last 1024@1 prev 1023@1\nend 1\nok\nok\n0:1 last 5@64\nend 1\nrefused 15 NoSuchWorker\nrefused 14 NoSuchReplica\n";
-    let schedule = references(&rt, alloc, 1025, 0, 1, lines);
+    let schedule = references(&rt, alloc, 1025, (0, 0), 1, lines);
     prints_after(&rt, alloc, setup, &schedule, 1025, want.as_bytes());
     let setup = Setup::new(1, 1, 1, 65_536, 16).expect(&rt, "a setup");
     let lines = "flush 1 1\nwarmstep 1\nwarmstep 1\npin 1 0:2\n";
-    let schedule = references(&rt, alloc, 1, 0, 1, lines);
+    let schedule = references(&rt, alloc, 1, (0, 0), 1, lines);
     let want = b"ok\nloaded 0:0\nnone\nslot 1.1\n";
     prints_after(&rt, alloc, setup, &schedule, 1, want);
 }
@@ -349,7 +363,7 @@ fn show_pages(rt: &impl Abort, want: &mut Vec<u8>, count: u32, lines: &str) {
 fn a_long_bucket_takes_two_frames(rt: HostRuntime) {
     let lines = "flush 1 1\nsend 1 0\nsend 1 0 0:63936\ndeliver 2 1\nshow 2\ndeliver 2 2\nshow 2\n\
                  offer 3\ndeliver 1 3\n";
-    let schedule = references(&rt, rt.alloc(), 1001, 64, 0, lines);
+    let schedule = references(&rt, rt.alloc(), 1001, (0, 64), 0, lines);
     let mut want = Vec::new(rt.alloc());
     add(&rt, &mut want, 1, b"ok\nframe 1\nframe 2\ntook 0\n");
     show_pages(&rt, &mut want, 1000, "end 1000\ntook 0\n");

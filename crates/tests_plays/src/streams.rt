@@ -45,18 +45,18 @@ fn trickles(rt: &impl Abort, alloc: Global, schedule: &[u8], want: &[u8]) {
     assert!(rt; played == Ok(()) && answers.as_slice() == want);
 }
 
-// A hundred thousand reads of one byte each, with as many interrupted ones: 9,090 lines of 11
-// bytes, and 10 bytes of the last line.
+// 150,699 reads of one byte each, with as many interrupted ones, are more than 2^18: 13,699 lines of 11 bytes, and 10 bytes of the
+// last line.
 #[test]
 fn a_schedule_may_come_in_bytes(rt: HostRuntime) {
     for (schedule, want) in GOSSIP {
         trickles(&rt, rt.alloc(), schedule.as_bytes(), want.as_bytes());
     }
     let mut schedule = Vec::new(rt.alloc());
-    add(&rt, &mut schedule, 10_000, b"  show 001\n");
-    schedule.truncate(100_000);
+    add(&rt, &mut schedule, 13_700, b"  show 001\n");
+    schedule.truncate(150_699);
     let mut want = Vec::new(rt.alloc());
-    add(&rt, &mut want, 9_091, b"end 0\n");
+    add(&rt, &mut want, 13_700, b"end 0\n");
     trickles(&rt, rt.alloc(), schedule.as_slice(), want.as_slice());
 }
 

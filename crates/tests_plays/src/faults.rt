@@ -1,0 +1,92 @@
+//! How faults are displayed: those of lines, setups, commands and runs, of worlds, and of their nodes and pools.
+use std::alloc::Global;
+use std::fmt;
+use std::process::Abort;
+use warm_gossip::NodeFault;
+use warm_pool::PoolFault;
+use warm_schedule::{LineFault, PlayFault};
+use warm_setup::{CmdFault, PathText, ProgramFault, SetupFault};
+use warm_world::{BadSetup, BadWorld, WorldFault};
+
+// Whether this is what a fault displays.
+fn shows(rt: &impl Abort, alloc: Global, fault: &impl fmt::Display, want: &str) -> bool {
+    let text = format!(in alloc; "{fault}").expect(rt, "memory for a text");
+    text.as_str() == want
+}
+
+const POOL: [(PoolFault, &str); 10] = [
+    (PoolFault::SizeDiffers, "SizeDiffers"),
+    (PoolFault::NoDevice, "NoDevice"),
+    (PoolFault::NoPage, "NoPage"),
+    (PoolFault::AllFixed, "AllFixed"),
+    (PoolFault::ReadFault, "ReadFault"),
+    (PoolFault::WriteBack, "WriteBack"),
+    (PoolFault::FixesFull, "FixesFull"),
+    (PoolFault::OutOfPage, "OutOfPage"),
+    (PoolFault::Fixed, "Fixed"),
+    (PoolFault::Fault, "Fault"),
+];
+
+// A fault of a pool is displayed as such by its node, and by the world.
+#[test]
+fn pool_faults_are_shown_through_a_world(rt: HostRuntime) {
+    for (fault, want) in POOL {
+        let fault = WorldFault::Node(NodeFault::Pool(fault));
+        assert!(rt; shows(&rt, rt.alloc(), &fault, want));
+    }
+}
+
+const WORLD: [(WorldFault, &str); 5] = [
+    (WorldFault::Node(NodeFault::Memory), "Memory"),
+    (WorldFault::Node(NodeFault::StaleSlot), "StaleSlot"),
+    (WorldFault::NoSuchReplica, "NoSuchReplica"),
+    (WorldFault::NoSuchWorker, "NoSuchWorker"),
+    (WorldFault::NoSuchFrame, "NoSuchFrame"),
+];
+
+const NEW_WORLD: [(BadWorld, &str); 3] = [
+    (BadWorld::Memory, "Memory"),
+    (BadWorld::SizeDiffers, "SizeDiffers"),
+    (BadWorld::DevicesDiffer, "DevicesDiffer"),
+];
+
+#[test]
+fn world_faults_are_shown_by_their_names(rt: HostRuntime) {
+    for (fault, want) in WORLD {
+        assert!(rt; shows(&rt, rt.alloc(), &fault, want));
+    }
+    for (fault, want) in NEW_WORLD {
+        assert!(rt; shows(&rt, rt.alloc(), &fault, want));
+    }
+    assert!(rt; shows(&rt, rt.alloc(), &BadSetup, "BadSetup"));
+}
+
+const SETUP: [(SetupFault, &str); 4] = [
+    (SetupFault::Memory, "Memory"),
+    (SetupFault::NotToml, "NotToml"),
+    (SetupFault::BadKey, "BadKey"),
+    (SetupFault::BadValue, "BadValue"),
+];
+
+#[test]
+fn faults_of_what_is_read_are_shown_by_their_names(rt: HostRuntime) {
+    for (fault, want) in SETUP {
+        assert!(rt; shows(&rt, rt.alloc(), &fault, want));
+    }
+    assert!(rt; shows(&rt, rt.alloc(), &LineFault::Memory, "Memory"));
+    assert!(rt; shows(&rt, rt.alloc(), &LineFault::Bad, "Bad"));
+}
+
+#[test]
+fn faults_of_a_run_show_their_part(rt: HostRuntime) {
+    let alloc = rt.alloc();
+    let name = PathText::copied_from(alloc, "no/such file").expect(&rt, "memory for a path");
+    let unopened = ProgramFault::CannotOpen(name);
+    assert!(rt; shows(&rt, alloc, &unopened, "cannot open no/such file"));
+    let setup = ProgramFault::Setup(SetupFault::BadKey);
+    assert!(rt; shows(&rt, alloc, &setup, "setup: BadKey"));
+    let play = ProgramFault::Play(PlayFault::WriteFault);
+    assert!(rt; shows(&rt, alloc, &play, "WriteFault"));
+    let command = ProgramFault::Command(CmdFault::Memory);
+    assert!(rt; shows(&rt, alloc, &command, "Memory"));
+}
