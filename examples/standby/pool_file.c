@@ -86,6 +86,7 @@ void pool_file_heard(pool_file *file, uint64_t time) {
 }
 
 int pool_file_receive(pool_file *file, const uint8_t *frame, size_t length) {
+    warm_limit(pool_file_handle(file), nanoseconds(CLOCK_REALTIME) + HOUR);
     int status = warm_receive(pool_file_handle(file), frame, length);
     if (status == WARM_OK) pool_file_heard(file, frame_latest(frame, length));
     return status;

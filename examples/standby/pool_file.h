@@ -72,7 +72,8 @@ void pool_file_absorb(pool_file *file);
 /* Loads one page of the warm-up, and writes whether there was one. */
 int pool_file_step(pool_file *file, bool *found);
 
-/* Takes in a frame from a peer, of any bytes, as warm_receive does, and hears its times. */
+/* Takes in a frame from a peer, of any bytes, as warm_receive does, and hears its times. One that speaks of a time more than an hour ahead of the
+ * clock is refused: its horizon would empty the history, or its pages would rank as hottest until then. */
 int pool_file_receive(pool_file *file, const uint8_t *frame, size_t length);
 
 /* A peer's reference has this time: those that follow here are later. A time that is more than an hour ahead of the clock is not believed. */
