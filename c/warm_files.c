@@ -1,5 +1,5 @@
 /*
- * warm_files.c: the calls of the system that the library makes, which are pread, pwrite and fsync. The proved part, crates/warm_c,
+ * warm_files.c: the calls of the system that the library makes, which are pread, pwrite, fsync and fstat. The proved part, crates/warm_c,
  * asks for them as warm_files.h says (crates/warm_c/src/descriptor.rt). Nothing here is proved; c/check tests it.
  */
 #define _FILE_OFFSET_BITS 64
@@ -9,12 +9,13 @@
 
 #include <errno.h>
 #include <string.h>
+#include <sys/stat.h>
 #include <unistd.h>
 
 _Static_assert(sizeof(off_t) == 8, "a place in a file has 64 bits");
 
 /* The layouts that the proved part has (crates/warm_c/src/values.rt and handle.rt). */
-_Static_assert(sizeof(size_t) == 8 && sizeof(bool) == 1, "lengths have 64 bits");
+_Static_assert(sizeof(size_t) == 8 && sizeof(bool) == 1, "lengths have 64 bits, and a bool is a byte that is 0 or 1");
 _Static_assert(sizeof(warm) == 16 && offsetof(warm, at) == 8, "a handle");
 _Static_assert(sizeof(warm_page) == 16 && offsetof(warm_page, dev) == 8, "a page");
 _Static_assert(sizeof(warm_reference) == 24 && offsetof(warm_reference, dev) == 16, "a reference");
@@ -84,19 +85,33 @@ static ssize_t flush_file(int fd) {
     return status == 0 ? WARM_FILES_REQUEST : -1;
 }
 
+static void put_number(uint8_t *into, uint64_t number) {
+    for (int i = 7; i >= 0; i--, number >>= 8) into[i] = (uint8_t)number;
+}
+
+static ssize_t read_identity(int fd, uint8_t *into, size_t length) {
+    struct stat file;
+    if (length != WARM_FILES_IDENTITY_LENGTH) return invalid();
+    if (fstat(fd, &file) != 0) return -1;
+    put_number(into, file.st_dev);
+    put_number(into + 8, file.st_ino);
+    return WARM_FILES_IDENTITY_LENGTH;
+}
+
 static ssize_t start_request(int fd, const uint8_t *bytes, size_t length) {
     uint64_t at = 0;
     if (length != WARM_FILES_REQUEST) return invalid();
     for (int i = 1; i < WARM_FILES_REQUEST; i++) at = at << 8 | bytes[i];
     if (at > INT64_MAX) return invalid();
     if (bytes[0] == WARM_FILES_FLUSH && at == 0) return flush_file(fd);
-    if (bytes[0] != WARM_FILES_READ && bytes[0] != WARM_FILES_WRITE) return invalid();
+    if (bytes[0] != WARM_FILES_READ && bytes[0] != WARM_FILES_WRITE && (bytes[0] != WARM_FILES_IDENTITY || at != 0)) return invalid();
     waiting = (request){.kind = bytes[0], .fd = fd, .at = (off_t)at};
     return WARM_FILES_REQUEST;
 }
 
 ssize_t warm_files_read(int fd, void *into, size_t length) {
     request asked = take_request();
+    if (asked.kind == WARM_FILES_IDENTITY && asked.fd == fd) return read_identity(fd, into, length);
     if (asked.kind != WARM_FILES_READ || asked.fd != fd) return invalid();
     return read_file(fd, into, length, asked.at);
 }

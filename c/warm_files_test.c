@@ -14,12 +14,14 @@
 #include <stdlib.h>
 #include <string.h>
 #include <sys/resource.h>
+#include <sys/stat.h>
 #include <unistd.h>
 
-/* Where most is not 0, a call moves at most that many bytes, and every other call is interrupted. Where it is to put nothing, it does. */
+/* Where most is not 0, a call moves at most that many bytes, and every other call is interrupted. Where it is to put nothing, it does, and
+ * where a sync is to fail, the next one does. */
 static struct {
     size_t most;
-    bool was_interrupted, puts_nothing;
+    bool was_interrupted, puts_nothing, fails_sync;
     int syncs;
 } slow;
 
@@ -43,6 +45,11 @@ static ssize_t slow_pwrite(int fd, const void *from, size_t length, off_t at) {
 
 static int slow_fsync(int fd) {
     if (interrupts()) return -1;
+    if (slow.fails_sync) {
+        slow.fails_sync = false;
+        errno = EIO;
+        return -1;
+    }
     slow.syncs++;
     return fsync(fd);
 }
@@ -136,6 +143,45 @@ static void test_slow_calls(void) {
     close(fd);
 }
 
+static bool gets_identity(int fd, uint8_t *into) { return ask(fd, 4, 0) == 9 && warm_files_read(fd, into, 16) == 16; }
+
+/* Descriptors of one file give one identity, whichever they are, and another file has another. */
+static void test_identities(void) {
+    uint8_t first[16], again[16], pair[16];
+    char path[64];
+    struct stat file;
+    int fd = new_file(), second = dup(fd), other = new_file(), ends[2];
+    snprintf(path, sizeof path, "/proc/self/fd/%d", fd);
+    int third = open(path, O_RDONLY);
+    MUST(second >= 0 && third >= 0 && pipe(ends) == 0 && fstat(fd, &file) == 0);
+    MUST(gets_identity(fd, first) && gets_identity(second, again) && memcmp(first, again, 16) == 0);
+    MUST(gets_identity(third, again) && memcmp(first, again, 16) == 0);
+    for (int i = 0; i < 8; i++) {
+        MUST(first[i] == (uint8_t)((uint64_t)file.st_dev >> (56 - 8 * i)));
+        MUST(first[8 + i] == (uint8_t)((uint64_t)file.st_ino >> (56 - 8 * i)));
+    }
+    MUST(gets_identity(other, again) && memcmp(first, again, 16) != 0);
+    MUST(gets_identity(ends[0], pair) && memcmp(first, pair, 16) != 0);
+    MUST(close(third) == 0 && ask(third, 4, 0) == 9); /* a request is no call of the system */
+    FAILS(warm_files_read(third, again, 16), EBADF);
+    MUST(ask(-1, 4, 0) == 9);
+    FAILS(warm_files_read(-1, again, 16), EBADF);
+    close(ends[0]);
+    close(ends[1]);
+    close(second);
+    close(other);
+    close(fd);
+}
+
+/* A sync that fails once is a flush that fails, and what the next one says is the system's word again: the proved part remembers. */
+static void test_failed_sync(void) {
+    int fd = new_file();
+    slow.fails_sync = true;
+    FAILS(ask(fd, 3, 0), EIO);
+    MUST(ask(fd, 3, 0) == 9);
+    close(fd);
+}
+
 static void fails_at_each(int fd, int reading, int writing, int flushing) {
     FAILS(read_at(fd, 0, 512), reading);
     FAILS(write_at(fd, 0, 512), writing);
@@ -189,9 +235,10 @@ static void test_order(void) {
     FAILS(warm_files_write(fd, page, 8), EINVAL);
     FAILS(warm_files_write(fd, page, 0), EINVAL);
     FAILS(ask(fd, 0, 0), EINVAL); /* no such kind */
-    FAILS(ask(fd, 4, 0), EINVAL);
+    FAILS(ask(fd, 5, 0), EINVAL);
     FAILS(ask(fd, 255, 0), EINVAL);
     FAILS(ask(fd, 3, 1), EINVAL); /* a flush has no place */
+    FAILS(ask(fd, 4, 1), EINVAL); /* nor has an identity */
     is_as_ever(fd);
     MUST(ask(fd, 1, 0) == 9); /* a read asked for, and a write made */
     FAILS(warm_files_write(fd, page, 512), EINVAL);
@@ -206,6 +253,17 @@ static void test_order(void) {
     MUST(ask(fd, 2, 0) == 9);
     FAILS(warm_files_write(other, page, 512), EINVAL);
     MUST(lseek(other, 0, SEEK_END) == 0);
+    is_as_ever(fd);
+    MUST(ask(fd, 4, 0) == 9); /* an identity asked for, and a write made */
+    FAILS(warm_files_write(fd, page, 16), EINVAL);
+    FAILS(warm_files_read(fd, got, 16), EINVAL);
+    MUST(ask(fd, 4, 0) == 9); /* of another descriptor */
+    FAILS(warm_files_read(other, got, 16), EINVAL);
+    is_as_ever(fd);
+    MUST(ask(fd, 4, 0) == 9); /* of another length */
+    FAILS(warm_files_read(fd, got, 15), EINVAL);
+    MUST(ask(fd, 4, 0) == 9);
+    FAILS(warm_files_read(fd, got, 17), EINVAL);
     is_as_ever(fd);
     MUST(ask(fd, 1, 0) == 9); /* a request before the last has its data */
     FAILS(ask(fd, 3, 0), EINVAL);
@@ -247,6 +305,8 @@ int main(void) {
     for (size_t at = 0; at < SIZE; at++) page[at] = (uint8_t)(at % 251 + 1);
     test_file();
     test_slow_calls();
+    test_identities();
+    test_failed_sync();
     test_descriptors();
     test_limit();
     test_order();

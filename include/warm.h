@@ -86,7 +86,7 @@ typedef struct warm_device {
     int32_t fd;
 } warm_device;
 
-/* The statuses. 1 to 13 are those of the pool and the node, 34 to 42 say why bytes are no frame, 64 to 68 are the library's own, and 77 to
+/* The statuses. 1 to 13 are those of the pool and the node, 34 to 42 say why bytes are no frame, 64 to 69 are the library's own, and 77 to
  * 82 say why a dump was not read or not written. */
 enum {
     WARM_OK = 0,
@@ -117,6 +117,7 @@ enum {
     WARM_BUFFER_TOO_SMALL = 66, /* the frame does not fit; the length that it needs was written */
     WARM_BAD_REPLICA = 67,      /* a replica's number is 1 to 64 */
     WARM_BAD_BUCKET = 68,       /* a bucket's number is 0 to 63 */
+    WARM_SAME_FILE = 69,        /* two devices are of one file */
     WARM_CUT_SHORT = 77,        /* of a dump: its bytes end before the frame of the digests does */
     WARM_DIGESTS_DIFFER = 78,   /* its digests are not those of the history that its entries give */
     WARM_HORIZONS_DIFFER = 79,  /* its frames have different horizons */
@@ -127,17 +128,23 @@ enum {
 
 /* Opens a closed handle: a node of this replica (1 to 64), with a pool of empty frames (1 to 65,536) for pages of page_size bytes (1 to
  * 65,536) over these devices, and an empty history. All memory of the pool is allocated here, frames * page_size bytes and more.
- * A pool has at most 65,536 devices, and the pages of each fit into 2^63 - 1 bytes. The descriptors are neither used here nor closed later.
+ * A pool has at most 65,536 devices, and the pages of each fit into 2^63 - 1 bytes. The descriptors are not closed later, and all that is
+ * asked of them here is which files they are of (fstat). No two devices are of one file: the pool would have a page of that file in two
+ * frames, and one would overwrite the other. Two devices with one descriptor are refused, and two whose descriptors have the same
+ * st_dev and st_ino; a descriptor that fstat refuses has no file.
  * Refused: WARM_ALREADY_OPEN, and the handle is as it was; then, with the handle closed, WARM_BAD_REPLICA, WARM_NO_DEVICE,
- * WARM_BAD_FRAMES, WARM_SIZE_DIFFERS; WARM_MEMORY at any point.
+ * WARM_SAME_FILE, WARM_BAD_FRAMES, WARM_SIZE_DIFFERS; WARM_MEMORY at any point.
  * Caller: devices points to device_count elements, which are not kept. Until warm_close, each descriptor stays open and is of the same
- * file, has no O_APPEND, and nothing else writes to the pages of its file. (A descriptor that is closed or negative, that is of a
- * pipe, or that may not be read or written does no harm: reads, writes and flushes fail. A write beyond the file size limit of the
- * process raises SIGXFSZ, and fails where that is ignored.) */
+ * file, has no O_APPEND (each write would go to the end of the file, wherever the page is), and nothing else writes to a page of its
+ * file that may be in a frame. A page may be in one from the warm_pin or warm_step that reads it on; of any other the handle has no copy.
+ * (A descriptor that is closed or negative, that is of a pipe, or that may not be read or written does no harm: reads, writes and
+ * flushes fail. O_DIRECT does not work: the memory of a page is not aligned for it, so the system refuses each read (EINVAL), and that
+ * is WARM_READ_FAULT. A write beyond the file size limit of the process raises SIGXFSZ, and fails where that is ignored.) */
 int warm_open(warm *handle, uint16_t replica, size_t frames, size_t page_size, const warm_device *devices, size_t device_count);
 
-/* Closes a handle and frees what it holds; a closed one stays closed. What was written to pages and not written back is lost: call
- * warm_write_back first. Devices are flushed to which pages went since their last flush, and a failure of that is not reported.
+/* Closes a handle and frees what it holds; a closed one stays closed. No page is written: what was written to pages and not written back is
+ * lost, and nothing says so. A device to whose file a page went since its last flush is flushed (fsync), and a failure of that is not
+ * reported. Call warm_write_back first: where it returns WARM_OK, the close loses nothing and has nothing to flush.
  * Caller: the descriptors are still open. */
 void warm_close(warm *handle);
 
@@ -170,7 +177,7 @@ int warm_read(warm *handle, warm_slot slot, size_t at, uint8_t *into, size_t len
 int warm_write(warm *handle, warm_slot slot, size_t at, const uint8_t *bytes, size_t length);
 
 /* Writes whether there is a page that would leave the pool next, and which; page is as it was where there is none. Allocation-free.
- * Caller: found and page point to one element each, and found is false or true before the call. */
+ * Caller: found and page point to one element each. */
 int warm_victim(warm *handle, bool *found, warm_page *page);
 
 /* Writes the hottest pages of the history, hottest first, and their number: as many as there is room for, or all.
@@ -181,7 +188,7 @@ int warm_list(warm *handle, warm_page *pages, size_t room, size_t *count);
 /* Reads into a frame of the pool the hottest page that is in none, of as many of the hottest pages as the pool has frames; writes whether
  * there was one, and which. page is as it was where there was none: the pool is then warm.
  * Refused: WARM_MEMORY, WARM_ALL_FIXED, WARM_FIXES_FULL, WARM_READ_FAULT, WARM_WRITE_BACK.
- * Caller: found and page point to one element each, and found is false or true before the call. */
+ * Caller: found and page point to one element each. */
 int warm_step(warm *handle, bool *found, warm_page *page);
 
 /* Writes the frame with the digests of the history, and its length.
@@ -211,8 +218,9 @@ int warm_next_answer(warm *handle, uint8_t *frame, size_t room, size_t *length);
 int warm_horizon(warm *handle, uint64_t time, uint64_t *horizon);
 
 /* Writes each page that was written to and not written back to its device, and flushes (fsync) each device that waits for it.
- * Refused: WARM_FAULT at the first write or flush that fails. A page that was not written is still in the pool. After a flush that failed,
- * do not trust the file: the system may have dropped what it held.
+ * Refused: WARM_FAULT at the first write or flush that fails. A page that was not written is still in the pool, and may be written by
+ * another call. A flush that failed is remembered: each later flush of that device fails, so that each later call is refused, until the
+ * handle is closed. Do not trust the file then: the system may have dropped what was written to it, though its next fsync would succeed.
  * Caller: nothing more. */
 int warm_write_back(warm *handle);
 

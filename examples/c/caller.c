@@ -63,11 +63,11 @@ static void must_be_equal(warm *first, warm *second) {
 
 static void warm_up(warm *standby) {
     warm_page page;
-    bool found = true;
-    while (found) {
+    bool found;
+    do {
         DO(warm_step(standby, &found, &page));
         if (found) printf("loaded page %llu\n", (unsigned long long)page.no);
-    }
+    } while (found);
 }
 
 /* Writes to a page through the pool, and looks for it in the file. */

@@ -1,5 +1,5 @@
 -- What each call does to what an open handle holds, and what it writes.
-use Rattle.std.specs.Prelude.{ℕ, ◌+◌, ◌<◌, ◌≡◌, ◌⊎◌, Bool, List, map, length, Option, Some, None, IfSome, Result, Ok, Err, Contains, slice_get}
+use Rattle.std.specs.Prelude.{ℕ, ◌+◌, ◌<◌, ◌≡◌, ◌⊎◌, List, map, length, Option, Some, None, IfSome, Result, Ok, Err, Contains, slice_get}
 use Rattle.warm_stamps.specs.Replicas.{IsReplica}
 use Rattle.warm_stamps.specs.Buckets.{IsBucket}
 use Rattle.warm_stamps.specs.declared.PageId.{PageId}
@@ -24,7 +24,7 @@ use Rattle.warm_c.specs.declared.values.PinnedSlot.{PinnedSlot}
 use Rattle.warm_c.specs.declared.values.WarmPage.{WarmPage}
 use Rattle.warm_c.specs.declared.values.WarmReference.{WarmReference}
 use Rattle.warm_c.specs.declared.values.WarmSlot.{WarmSlot}
-use Rattle.warm_c.specs.Values.{c_page, page_if, page_of, pinned_slot, reference_of, slot_of, with_start}
+use Rattle.warm_c.specs.Values.{c_page, IsPut, page_of, pinned_slot, reference_of, slot_of, with_start}
 
 -- what a call of the library ends with
 abbrev pub Ending : Type 0
@@ -95,11 +95,11 @@ abbrev pub Writes : WarmSlot → ℕ → List ℕ → Held → Ending → Held �
 Writes slot at bytes old (Ok given) new = Replies (Write (slot_of slot) at bytes) old Done new
 Writes slot at bytes old (Err why) new = RefusedByNode (Write (slot_of slot) at bytes) old why new
 
-abbrev pub Names : Bool → WarmPage → Held → Held → Type 0
-Names found page old new = Replies Victim old (Page (page_if found page)) new
+abbrev pub Names : WarmPage → ℕ → WarmPage → Held → Held → Type 0
+Names before found page old new = (named : Option PageId) × Replies Victim old (Page named) new × IsPut named before found page
 
-abbrev pub Steps : Bool → WarmPage → Bool → WarmPage → Held → Ending → Held → Type 0
-Steps found page found' page' old (Ok given) new = Replies WarmStep old (Loaded (page_if found' page')) new
+abbrev pub Steps : ℕ → WarmPage → ℕ → WarmPage → Held → Ending → Held → Type 0
+Steps found page found' page' old (Ok given) new = (loaded : Option PageId) × Replies WarmStep old (Loaded loaded) new × IsPut loaded page found' page'
 Steps found page found' page' old (Err why) new = RefusedByNode WarmStep old why new × (found' ≡ found) × (page' ≡ page)
 
 abbrev pub WritesBack : Held → Ending → Held → Type 0

@@ -1,5 +1,6 @@
 -- What a call of a handle does: a closed one says so, and an open one makes the call.
-use Rattle.std.specs.Prelude.{ℕ, ℤ, pos, ◌*◌, ◌^◌, ◌<◌, ◌≤◌, ◌≡◌, List, [], map, length, Option, Some, None, Ok, Err, Contains}
+use Rattle.std.specs.Prelude.{ℕ, ℤ, pos, ◌*◌, ◌^◌, ◌<◌, ◌≤◌, ◌≡◌, ◌≢◌, ◌⊎◌, List, [], map, length, Option, Some, None, Ok, Err, Contains}
+use Rattle.std.specs.List.{AllPairs}
 use Rattle.warm_stamps.specs.Replicas.{IsReplica}
 use Rattle.warm_devices.specs.Device.{DeviceState}
 use Rattle.warm_pool.specs.declared.TheConstants.{MAX_DEVICES}
@@ -10,7 +11,7 @@ use Rattle.warm_gossip.specs.declared.fault.NodeFault.TheVariants.{Memory, Pool}
 use Rattle.warm_gossip.specs.State as nodes
 use Rattle.warm_c.specs.declared.held.Held.{Held}
 use Rattle.warm_c.specs.declared.status.Refusal.{Refusal}
-use Rattle.warm_c.specs.declared.status.Refusal.TheVariants.{Node, NewPool, Closed, AlreadyOpen, BadReplica}
+use Rattle.warm_c.specs.declared.status.Refusal.TheVariants.{Node, NewPool, Closed, AlreadyOpen, BadReplica, SameFile}
 use Rattle.warm_c.specs.declared.values.WarmDevice.{WarmDevice}
 use Rattle.warm_c.specs.FdParts.{fd_opened}
 use Rattle.warm_c.specs.Statuses.{code_of, status_of}
@@ -41,12 +42,37 @@ asked replica frames page_size devices = record { replica = replica; frames = fr
 
 -- the devices that it makes
 abbrev pub devices_of : ℕ → List WarmDevice → List DeviceState
-devices_of page_size devices = map (λ d. fd_opened d.pages page_size) devices
+devices_of page_size devices = map (λ d. fd_opened d.fd d.pages page_size) devices
 
 -- there are no more devices than a pool takes, and their pages fit into what a file's offsets can name
 pub record AreDevices (page_size : ℕ) (devices : List WarmDevice) : Type 0 where
   pub few : length devices ≤ MAX_DEVICES
   pub fit : (d : WarmDevice) → Contains devices d → d.pages * page_size < 2 ^ 63
+
+-- no two of these are equal
+abbrev pub AllDiffer : {A : Type 0} → List A → Type 0
+AllDiffer items = AllPairs (λ x y. x ≢ y) items
+
+-- no two devices have one descriptor
+abbrev pub DescriptorsDiffer : List WarmDevice → Type 0
+DescriptorsDiffer devices = AllDiffer (map (λ d. d.fd) devices)
+
+-- Two devices are of one file: they have one descriptor, or the system gave identities of the files of some devices, and two are equal.
+-- Which identities it gives is nothing that a contract can say.
+abbrev pub HaveOneFile : List WarmDevice → Type 0
+HaveOneFile devices = (DescriptorsDiffer devices → ⊥) ⊎ ((files : List ℕ) × (length files ≤ length devices) × (AllDiffer files → ⊥))
+
+-- why devices are not checked to be of different files
+abbrev pub IsClash : List WarmDevice → Refusal → Type 0
+IsClash devices (Node Memory) = Unit {0}
+IsClash devices SameFile = HaveOneFile devices
+IsClash devices why = ⊥
+
+-- what an open handle was opened with
+pub record IsAsked (a : Asked) : Type 0 where
+  pub replica : IsReplica a.replica
+  pub devices : AreDevices a.page_size a.devices
+  pub apart : DescriptorsDiffer a.devices
 
 -- a node that was given nothing, over a pool without a page, and no answer waits
 abbrev pub opened : Asked → Held
@@ -56,20 +82,23 @@ opened a = record {
   given = 0;
 }
 
--- why no devices are made
+-- why no devices are made: where both hold, `NoDevice`
 abbrev pub IsUnmade : ℕ → List WarmDevice → Refusal → Type 0
 IsUnmade page_size devices (Node Memory) = Unit {0}
 IsUnmade page_size devices (Node (Pool NoDevice)) = AreDevices page_size devices → ⊥
+IsUnmade page_size devices SameFile = AreDevices page_size devices × HaveOneFile devices
 IsUnmade page_size devices why = ⊥
 
--- why no node is made
+-- Why no node is made: the first that holds of `BadReplica`, why no devices are made, and why no pool is. An allocation may fail at any
+-- point.
 abbrev pub IsUnopened : Asked → Refusal → Type 0
+IsUnopened a (Node Memory) = Unit {0}
 IsUnopened a BadReplica = IsReplica a.replica → ⊥
-IsUnopened a (NewPool fault) = NewRefused a.frames a.page_size (devices_of a.page_size a.devices) fault
-IsUnopened a why = IsUnmade a.page_size a.devices why
+IsUnopened a (NewPool fault) = IsAsked a × NewRefused a.frames a.page_size (devices_of a.page_size a.devices) fault
+IsUnopened a why = IsReplica a.replica × IsUnmade a.page_size a.devices why
 
 -- An open handle says that it is open, and is as it was. A closed one is then open and holds such a node, or stays closed.
 abbrev pub Opens : Asked → Option Held → ℤ → Option Held → Type 0
 Opens a (Some old) status new = (status ≡ pos (code_of AlreadyOpen)) × (new ≡ Some old)
-Opens a None status (Some held) = (status ≡ pos 0) × (held ≡ opened a)
+Opens a None status (Some held) = (status ≡ pos 0) × (held ≡ opened a) × IsAsked a
 Opens a None status None = (why : Refusal) × (status ≡ pos (code_of why)) × IsUnopened a why

@@ -1,6 +1,9 @@
 -- The names of statuses.
 use Rattle.std.specs.Prelude.{◌≡◌, ℕ, ℤ, pos, negsuc, List, codes, if◌then◌else◌, ◌==◌, nat_lt}
+use Rattle.warm_files.specs.declared.fault.DumpFault.TheVariants as dump
+use Rattle.warm_frames.specs.declared.fault.FrameFault.TheVariants as frame
 use Rattle.warm_c.specs.declared.status.Refusal.{Refusal}
+use Rattle.warm_c.specs.declared.status.Refusal.TheVariants.{Frame, Dump}
 use Rattle.warm_c.specs.Statuses.{code_of, name_of}
 
 abbrev pub pool_name_at : ℕ → List ℕ
@@ -15,8 +18,7 @@ abbrev pub frame_name_at : ℕ → List ℕ
 frame_name_at n =
     if n == 34 then codes "Truncated" else (if n == 35 then codes "BadMagic" else (if n == 36 then codes "BadKind" else (
     if n == 37 then codes "BadSender" else (if n == 38 then codes "BadLength" else (if n == 39 then codes "BadCount" else (
-    if n == 40 then codes "BadTag" else (if n == 41 then codes "BadStamp" else (if n == 42 then codes "BadOrder" else (
-    if n == 43 then codes "Failed" else codes "Unknown")))))))))
+    if n == 40 then codes "BadTag" else (if n == 41 then codes "BadStamp" else (if n == 42 then codes "BadOrder" else codes "Unknown"))))))))
 
 abbrev pub dump_name_at : ℕ → List ℕ
 dump_name_at n =
@@ -26,7 +28,7 @@ dump_name_at n =
 abbrev pub library_name_at : ℕ → List ℕ
 library_name_at n =
     if n == 64 then codes "Closed" else (if n == 65 then codes "AlreadyOpen" else (if n == 66 then codes "BufferTooSmall" else (
-    if n == 67 then codes "BadReplica" else (if n == 68 then codes "BadBucket" else dump_name_at n))))
+    if n == 67 then codes "BadReplica" else (if n == 68 then codes "BadBucket" else (if n == 69 then codes "SameFile" else dump_name_at n)))))
 
 -- the name of the status with this number
 abbrev pub name_at : ℕ → List ℕ
@@ -37,6 +39,12 @@ abbrev pub status_name : ℤ → List ℕ
 status_name (pos n) = name_at n
 status_name (negsuc n) = codes "Unknown"
 
+-- the fault of a decoder that has failed before: no whole frame has it, and no call of the library gives it
+abbrev pub IsFailed : Refusal → Type 0
+IsFailed (Frame frame.Failed) = Unit {0}
+IsFailed (Dump (dump.Frame frame.Failed)) = Unit {0}
+IsFailed why = ⊥
+
 -- the name of a refusal's status is its own
 abbrev pub NamesRefusals : Type 0
-NamesRefusals = (why : Refusal) → status_name (pos (code_of why)) ≡ name_of why
+NamesRefusals = (why : Refusal) → (IsFailed why → ⊥) → status_name (pos (code_of why)) ≡ name_of why

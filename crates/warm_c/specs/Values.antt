@@ -1,5 +1,5 @@
 -- What crosses to C, in the node's terms.
-use Rattle.std.specs.Prelude.{Bool, true, false, List, [], ◌∷◌, ◌++◌, length, drop, Option, Some, None}
+use Rattle.std.specs.Prelude.{ℕ, ◌≡◌, Bool, true, false, List, [], ◌∷◌, ◌++◌, length, drop, Option, Some, None}
 use Rattle.warm_stamps.specs.declared.PageId.{PageId}
 use Rattle.warm_stamps.specs.declared.Reference.{Reference}
 use Rattle.warm_pool.specs.declared.slot.Slot.{Slot}
@@ -19,6 +19,11 @@ c_page p = record { no = p.no; dev = p.dev }
 abbrev pub page_if : Bool → WarmPage → Option PageId
 page_if true p = Some (page_of p)
 page_if false p = None
+
+-- whether there is a page, as a bool of C, and which; page is as it was where there is none
+abbrev pub IsPut : Option PageId → WarmPage → ℕ → WarmPage → Type 0
+IsPut None before found page = (found ≡ 0) × (page ≡ before)
+IsPut (Some p) before found page = (found ≡ 1) × (page ≡ c_page p)
 
 -- a reference as the node knows it
 abbrev pub reference_of : WarmReference → Reference

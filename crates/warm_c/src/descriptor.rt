@@ -1,15 +1,19 @@
 //! A file descriptor of the engine. Its reads, writes and flushes are asked for by what `io` calls of C, `read` and `write`.
 //!
 //! In the library for C these two symbols are functions of c/warm_files.c, which make the calls of the system at once, in the same
-//! thread. A request is nine bytes that are written to the descriptor: one for its kind (1 reads, 2 writes, 3 flushes), eight for the
-//! place in its file, highest byte first. The read that follows fills its buffer from that place on, with zeros past the end of the
-//! file; the write that follows puts its bytes there; a flush is done as it is asked for.
+//! thread. A request is nine bytes that are written to the descriptor: one for its kind (1 reads, 2 writes, 3 flushes, 4 asks which file it is of),
+//! eight for the place in its file, highest byte first. The read that follows fills its buffer from that place on, with zeros past the
+//! end of the file; the write that follows puts its bytes there; a flush is done as it is asked for; the read that follows a request for
+//! the file takes its identity, 16 bytes.
+ghost use Rattle.std.specs.Prelude.{◌≡◌};
 
 const READ: u8 = 1;
 
 const WRITE: u8 = 2;
 
 const FLUSH: u8 = 3;
+
+const IDENTITY: u8 = 4;
 
 /// A descriptor of the engine.
 #[derive(Clone, Copy)]
@@ -26,7 +30,9 @@ fn ask(fd: i32, kind: u8, at: u64) -> bool {
 
 impl Descriptor {
     /// This descriptor. Nothing is asked of it yet.
-    pub fn new(fd: i32) -> Descriptor {
+    pub fn new(fd: i32) -> Descriptor
+        ensures { result.fd ≡ fd }
+    {
         Descriptor { fd }
     }
 
@@ -46,6 +52,16 @@ impl Descriptor {
             return true;
         }
         ask(self.fd, WRITE, at) && io::write_all(self.fd, bytes)
+    }
+
+    /// The identity of the descriptor's file: a number that all descriptors of that file have, and those of another file have not. `None`
+    /// where the system gives none, as for a descriptor that is closed.
+    pub fn file(self) -> Option<u128> {
+        let mut identity = [0; 16];
+        if !ask(self.fd, IDENTITY, 0) || io::read_full(self.fd, &mut identity) != identity.len() {
+            return None;
+        }
+        Some(u128::from_be_bytes(identity))
     }
 
     /// Has what was written put down. False where that fails.

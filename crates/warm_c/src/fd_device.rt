@@ -1,15 +1,17 @@
 //! A device over a file descriptor of the engine. What its file holds is nothing that a contract can say.
-ghost use Rattle.std.specs.Prelude.{◌≡◌, ◌*◌, ◌^◌, ◌<◌, ◌≤◌, IfNone, IfSome};
+ghost use Rattle.std.specs.Prelude.{◌≡◌, ◌*◌, ◌^◌, ◌<◌, ◌≤◌, IfNone, IfSome, false};
 
 use crate::descriptor::Descriptor;
+use crate::device_file::DeviceFile;
 use warm_devices::{DeviceFault, PageDevice};
 
 /// Pages in a file that the engine opened, one after another from its start. A flush syncs the file.
 ///
 /// Pages past the end of the file read as zeros, and a write of one extends the file. The descriptor is the engine's: it is not closed
 /// here. The device is safe whatever the descriptor is and the file gives, and it counts its failures. Of the bytes it claims nothing.
+/// Once a flush has failed, each later one fails, as [`DeviceFile`] says.
 pub struct FdDevice {
-    descriptor: Descriptor,
+    file: DeviceFile,
     pages: u64,
     page_size: usize,
     waiting: bool,
@@ -20,16 +22,18 @@ pub struct FdDevice {
 impl FdDevice {
     ghost use Rattle.warm_c.specs.FdParts.{fd_opened, fd_state};
 
-    /// A device of `pages` pages of `page_size` bytes over this descriptor, of which nothing is asked yet. `None` comes exactly where
+    /// A device of `pages` pages of `page_size` bytes over the descriptor of this number, of which nothing is asked yet. `None` comes exactly where
     /// the pages do not fit into 2^63 - 1 bytes, which is what a file's offsets can name.
-    pub fn new(descriptor: Descriptor, pages: u64, page_size: usize) -> Option<FdDevice>
-        ensures opened { IfSome result (λ device. fd_state device ≡ fd_opened pages page_size) }
+    pub fn new(fd: i32, pages: u64, page_size: usize) -> Option<FdDevice>
+        ensures opened { IfSome result (λ device.
+            fd_state device ≡ fd_opened fd pages page_size) }
+        ensures unfailed { IfSome result (λ device. device.file.flush_failed ≡ false) }
         ensures fits { IfSome result (λ _. pages * page_size < 2 ^ 63) }
         ensures refused { IfNone result (2 ^ 63 ≤ pages * page_size) }
     {
         match pages.checked_mul(page_size as u64) {
             Some(len) if len < 1 << 63 => Some(FdDevice {
-                descriptor,
+                file: DeviceFile::new(Descriptor::new(fd)),
                 pages,
                 page_size,
                 waiting: false,
@@ -63,7 +67,7 @@ impl PageDevice for FdDevice {
 
     fn read(&mut self, no: u64, into: &mut [u8]) -> Result<(), DeviceFault> {
         let at = no * self.page_size as u64;
-        if !self.descriptor.read(at, into) {
+        if !self.file.read(at, into) {
             self.failures = self.failures.saturating_add(1);
             return Err(DeviceFault::Read);
         }
@@ -73,7 +77,7 @@ impl PageDevice for FdDevice {
     fn write(&mut self, no: u64, bytes: &[u8]) -> Result<(), DeviceFault> {
         self.waiting = true;
         let at = no * self.page_size as u64;
-        if !self.descriptor.write(at, bytes) {
+        if !self.file.write(at, bytes) {
             self.failures = self.failures.saturating_add(1);
             return Err(DeviceFault::Write);
         }
@@ -81,7 +85,7 @@ impl PageDevice for FdDevice {
     }
 
     fn flush(&mut self) -> Result<(), DeviceFault> {
-        if !self.descriptor.flush() {
+        if !self.file.flush() {
             self.failures = self.failures.saturating_add(1);
             return Err(DeviceFault::Flush);
         }
@@ -100,11 +104,12 @@ impl Drop for FdDevice {
     fn drop(mut self) {
         self.settle();
         let FdDevice {
-            descriptor: _,
+            file,
             pages: _,
             page_size: _,
             waiting: _,
             failures: _,
         } = self;
+        drop(file);
     }
 }

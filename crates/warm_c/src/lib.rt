@@ -19,6 +19,7 @@ ghost use Rattle.warm_c.specs.StatusNames.{status_name};
 ghost use Rattle.warm_c.specs.Values.{page_if, with_some};
 
 pub mod descriptor;
+pub mod device_file;
 mod dump_calls;
 pub mod dump_file;
 pub mod fd_device;
@@ -192,15 +193,15 @@ pub extern "C" fn warm_write(
     status_of(done)
 }
 
-/// Writes whether a page would leave the pool next, and which; where none would, `page` is as it was.
+/// Writes whether a page would leave the pool next, 1 or 0, and which; where none would, `page` is as it was.
 #[unsafe(no_mangle)]
 pub extern "C" fn warm_victim(
     alloc: Global,
     handle: &mut Handle,
-    found: &mut bool,
+    found: &mut u8,
     page: &mut WarmPage,
 ) -> i32
-    ensures called { Called (Surely (Names found.new page.new)) handle.old.slot.held result
+    ensures called { Called (Surely (Names page.old found.new page.new)) handle.old.slot.held result
         handle.new.slot.held }
     ensures closed { handle.old.slot.held ≡ None → (found.new ≡ found.old) × (page.new ≡ page.old) }
 {
@@ -236,7 +237,8 @@ pub extern "C" fn warm_list(
     status_of(done)
 }
 
-/// Loads the hottest page that is in no frame, of as many as the pool has frames, and writes whether there was one, and which.
+/// Loads the hottest page that is in no frame, of as many as the pool has frames, and writes whether there was one, 1 or 0, and which;
+/// where there was none, `page` is as it was.
 ///
 /// # Errors
 /// 1 where an allocation failed; 6 to 9, in the order of the pool's load. `found` and `page` are as they were.
@@ -244,7 +246,7 @@ pub extern "C" fn warm_list(
 pub extern "C" fn warm_step(
     alloc: Global,
     handle: &mut Handle,
-    found: &mut bool,
+    found: &mut u8,
     page: &mut WarmPage,
 ) -> i32
     ensures called { Called (Steps found.old page.old found.new page.new)

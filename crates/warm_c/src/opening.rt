@@ -1,18 +1,79 @@
 //! Making what an open handle holds.
-ghost use Rattle.std.specs.Prelude.{◌≡◌, ◌≤◌, length, map, IfErr, IfOk};
+ghost use Rattle.std.specs.Bool.{Decides};
+ghost use Rattle.std.specs.Prelude.{◌≡◌, ◌≤◌, length, map, IfErr, IfOk, OnOk};
 ghost use Rattle.warm_c.specs.FdParts.{fd_state};
-ghost use Rattle.warm_c.specs.Handles.{IsUnmade, IsUnopened, asked, devices_of, opened};
+ghost use Rattle.warm_c.specs.Handles.{AllDiffer, AreDevices, DescriptorsDiffer, IsAsked, IsClash, IsUnmade, IsUnopened, asked, devices_of, opened};
 
 use crate::descriptor::Descriptor;
 use crate::fd_device::FdDevice;
 use crate::held::Held;
 use crate::status::Refusal;
 use crate::values::WarmDevice;
-use std::alloc::Global;
+use std::alloc::{AllocError, Global};
+use std::collections::BTreeSet;
+use std::iter::FromIterator;
 use warm_frames::MessageList;
 use warm_gossip::{Node, NodeFault};
 use warm_pool::{MAX_DEVICES, Pool, PoolFault};
 use warm_stamps::ReplicaId;
+
+// Whether no two of these descriptors are equal.
+fn descriptors_differ(alloc: Global, fds: Vec<i32>) -> Result<bool, AllocError>
+    ensures { IfOk result (λ differ. Decides differ (AllDiffer fds.items)) }
+{
+    let count = fds.len();
+    let distinct = BTreeSet::from_iter(alloc, fds)?;
+    Ok(distinct.len() == count)
+}
+
+// Whether no two of these files are equal.
+fn files_differ(alloc: Global, files: Vec<u128>) -> Result<bool, AllocError>
+    ensures { IfOk result (λ differ. Decides differ (AllDiffer files.items)) }
+{
+    let count = files.len();
+    let distinct = BTreeSet::from_iter(alloc, files)?;
+    Ok(distinct.len() == count)
+}
+
+// The descriptors of these devices.
+fn fds_of(alloc: Global, devices: &[WarmDevice]) -> Result<Vec<i32>, AllocError>
+    ensures { IfOk result (λ fds. fds.items ≡ map (λ d. d.fd) devices.now) }
+{
+    let mut fds = Vec::with_capacity(alloc, devices.len())?;
+    for device in devices {
+        fds.push_reserved(device.fd);
+    }
+    Ok(fds)
+}
+
+// The identities of the files of these devices, of those to which the system gives one.
+fn files_of(alloc: Global, devices: &[WarmDevice]) -> Result<Vec<u128>, AllocError>
+    ensures { IfOk result (λ files. length files.items ≤ length devices.now) }
+{
+    let mut files = Vec::with_capacity(alloc, devices.len())?;
+    for device in devices {
+        if let Some(file) = Descriptor::new(device.fd).file() {
+            files.push_reserved(file);
+        }
+    }
+    Ok(files)
+}
+
+// Checks that no two devices have one descriptor, nor one file by what the system says.
+fn check_apart(alloc: Global, devices: &[WarmDevice]) -> Result<(), Refusal>
+    ensures apart { OnOk result (DescriptorsDiffer devices.now) }
+    ensures refused { IfErr result (IsClash devices.now) }
+{
+    let fds = fds_of(alloc, devices)?;
+    if !descriptors_differ(alloc, fds)? {
+        return Err(Refusal::SameFile);
+    }
+    let files = files_of(alloc, devices)?;
+    if !files_differ(alloc, files)? {
+        return Err(Refusal::SameFile);
+    }
+    Ok(())
+}
 
 // The devices over these descriptors.
 fn devices_of(
@@ -23,6 +84,8 @@ fn devices_of(
     ensures made { IfOk result (λ made.
         map fd_state made.items ≡ devices_of page_size devices.now) }
     ensures few { IfOk result (λ made. length made.items ≤ MAX_DEVICES) }
+    ensures are { OnOk result (AreDevices page_size devices.now) }
+    ensures apart { OnOk result (DescriptorsDiffer devices.now) }
     ensures refused { IfErr result (IsUnmade page_size devices.now) }
 {
     if devices.len() > MAX_DEVICES {
@@ -30,11 +93,13 @@ fn devices_of(
     }
     let mut made = Vec::with_capacity(alloc, devices.len())?;
     for device in devices {
-        let descriptor = Descriptor::new(device.fd);
-        let Some(device) = FdDevice::new(descriptor, device.pages, page_size) else {
+        let Some(device) = FdDevice::new(device.fd, device.pages, page_size) else {
             return Err(Refusal::Node(NodeFault::Pool(PoolFault::NoDevice)));
         };
         made.push_reserved(device);
+    }
+    if let Err(why) = check_apart(alloc, devices) {
+        return Err(why);
     }
     Ok(made)
 }
@@ -43,7 +108,8 @@ fn devices_of(
 ///
 /// # Errors
 /// In this order: `BadReplica`; `Node`, with `NoDevice` where there are more devices than a pool takes, or the pages of one do not fit
-/// into what a file's offsets can name; `NewPool`, with why no pool is made; and `Node`, with `Memory`, wherever it comes.
+/// into what a file's offsets can name; `SameFile` where two devices have one descriptor, or one file by what the system says;
+/// `NewPool`, with why no pool is made; and `Node`, with `Memory`, wherever it comes.
 pub fn open(
     alloc: Global,
     replica: u16,
@@ -53,6 +119,7 @@ pub fn open(
 ) -> Result<Held, Refusal>
     ensures opened { IfOk result (λ held.
         held ≡ opened (asked replica frames page_size devices.now)) }
+    ensures is_asked { OnOk result (IsAsked (asked replica frames page_size devices.now)) }
     ensures refused { IfErr result (IsUnopened (asked replica frames page_size devices.now)) }
 {
     let Ok(replica) = ReplicaId::new(replica) else {

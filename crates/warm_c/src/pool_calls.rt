@@ -1,24 +1,24 @@
 //! The calls on the pool of an open handle.
-ghost use Rattle.std.specs.Prelude.{◌≡◌, false};
 ghost use Rattle.warm_c.specs.Calls.{Names, Pins, Reads, Steps, Unpins, Writes, WritesBack};
-ghost use Rattle.warm_c.specs.Values.{page_if};
+ghost use Rattle.warm_c.specs.Values.{IsPut};
 
 use crate::held::Held;
 use crate::status::Refusal;
 use crate::values::{PinnedSlot, WarmPage, WarmSlot};
 use warm_stamps::PageId;
 
-// Writes whether there is a page, and which; `page` is as it was where there is none.
-fn put_page(given: Option<PageId>, found: &mut bool, page: &mut WarmPage)
-    ensures put { page_if found.new page.new ≡ given }
-    ensures none { found.new ≡ false → page.new ≡ page.old }
+// Writes whether there is a page, as a bool of C, and which; `page` is as it was where there is none.
+//
+// `found` is a number here, and not a `bool`: what a caller of C never wrote may be none, and is none of what this reads.
+fn put_page(given: Option<PageId>, found: &mut u8, page: &mut WarmPage)
+    ensures { IsPut given page.old found.new page.new }
 {
     match given {
         Some(given) => {
-            *found = true;
+            *found = 1;
             *page = WarmPage::of(given);
         }
-        None => *found = false,
+        None => *found = 0,
     }
 }
 
@@ -69,9 +69,8 @@ impl Held {
     }
 
     /// The node's [`warm_gossip::Node::victim`]: whether there is one is written, and which.
-    pub fn victim(&mut self, found: &mut bool, page: &mut WarmPage)
-        ensures named { Names found.new page.new self.old self.new }
-        ensures none { found.new ≡ false → page.new ≡ page.old }
+    pub fn victim(&mut self, found: &mut u8, page: &mut WarmPage)
+        ensures { Names page.old found.new page.new self.old self.new }
     {
         put_page(self.node.victim(), found, page);
     }
@@ -80,7 +79,7 @@ impl Held {
     ///
     /// # Errors
     /// The node's own. `found` and `page` are then as they were.
-    pub fn step(&mut self, found: &mut bool, page: &mut WarmPage) -> Result<(), Refusal>
+    pub fn step(&mut self, found: &mut u8, page: &mut WarmPage) -> Result<(), Refusal>
         ensures { Steps found.old page.old found.new page.new self.old result self.new }
     {
         let loaded = self.node.warm_step()?;

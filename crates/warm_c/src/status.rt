@@ -29,6 +29,8 @@ pub enum Refusal {
     BadReplica,
     /// 68: a bucket's number is 0 to 63.
     BadBucket,
+    /// 69: two devices are of one file.
+    SameFile,
     /// 1, 35 to 42, or 77 to 82: why a dump is not written or not read. That of a frame in it is the frame's; others are the fault's
     /// own number and 64.
     Dump(DumpFault),
@@ -97,6 +99,7 @@ impl Refusal {
             Refusal::BufferTooSmall => 66,
             Refusal::BadReplica => 67,
             Refusal::BadBucket => 68,
+            Refusal::SameFile => 69,
             Refusal::Dump(fault) => dump_code(fault),
         }
     }
@@ -183,7 +186,6 @@ fn frame_name(number: u32) -> &'static str
         40 => "BadTag",
         41 => "BadStamp",
         42 => "BadOrder",
-        43 => "Failed",
         _ => "Unknown",
     }
 }
@@ -198,6 +200,7 @@ fn library_name(number: u32) -> &'static str
         66 => "BufferTooSmall",
         67 => "BadReplica",
         68 => "BadBucket",
+        69 => "SameFile",
         _ => dump_name(number),
     }
 }
@@ -240,7 +243,8 @@ pub fn name_of_status(status: i32) -> &'static str
     name_of_number(status as u32)
 }
 
-/// A theorem: the name of a refusal's status is its own, as its crate spells it.
+/// A theorem: the name of a refusal's status is its own, as its crate spells it. `Failed` has none: no whole frame has that fault, so 43
+/// is no status.
 pub fn statuses_name_refusals()
     ensures { NamesRefusals }
 {}

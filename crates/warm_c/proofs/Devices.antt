@@ -1,0 +1,46 @@
+-- The devices of `warm_open`: those made so far, and why none are made.
+use Rattle.std.proofs.Common.{◌≡◌, ◌<◌, ◌+◌, ℕ, ℤ, List, [], ◌∷◌, ◌++◌, Contains, ⊎_elim, add-one, ap, ◌∙◌, get_or, length, map, refl, sym, subst, take, take-suc}
+use Rattle.std.proofs.lemmas.List.Elements.{Contains-push_cases}
+use Rattle.warm_gossip.specs.declared.fault.NodeFault.TheVariants.{Memory, Pool, StaleSlot}
+use Rattle.warm_devices.specs.Device.{DeviceState}
+use Rattle.warm_c.specs.declared.fd_device.FdDevice.{FdDevice}
+use Rattle.warm_c.specs.declared.status.Refusal.{Refusal}
+use Rattle.warm_c.specs.declared.status.Refusal.TheVariants.{Node, NewPool, Frame, Closed, AlreadyOpen, BufferTooSmall, BadReplica, BadBucket, SameFile, Dump}
+use Rattle.warm_c.specs.declared.values.WarmDevice.{WarmDevice}
+use Rattle.warm_c.specs.FdParts.{fd_opened, fd_state}
+use Rattle.warm_c.specs.Handles.{AreDevices, IsClash, IsUnmade, devices_of}
+
+-- devices that may be opened, each by itself, but not together
+pub clash_unmade : (page_size : ℕ) (devices : List WarmDevice) (why : Refusal) → AreDevices page_size devices → IsClash devices why → IsUnmade page_size devices why
+clash_unmade page_size devices (Node Memory) are clash = tt
+clash_unmade page_size devices (Node (Pool _)) are clash = absurd clash
+clash_unmade page_size devices (Node StaleSlot) are clash = absurd clash
+clash_unmade page_size devices (NewPool _) are clash = absurd clash
+clash_unmade page_size devices (Frame _) are clash = absurd clash
+clash_unmade page_size devices Closed are clash = absurd clash
+clash_unmade page_size devices AlreadyOpen are clash = absurd clash
+clash_unmade page_size devices BufferTooSmall are clash = absurd clash
+clash_unmade page_size devices BadReplica are clash = absurd clash
+clash_unmade page_size devices BadBucket are clash = absurd clash
+clash_unmade page_size devices SameFile are clash = (are, clash)
+clash_unmade page_size devices (Dump _) are clash = absurd clash
+
+-- what holds of the first i devices, and of the next one, holds of the first i + 1
+pub contains_next : (ds : List WarmDevice) (i : ℕ) (x : WarmDevice) (P : WarmDevice → Type 0) → i < length ds → ((d : WarmDevice) → Contains (take i ds) d → P d)
+    → P (get_or ds i x) → (d : WarmDevice) → Contains (take (i + 1) ds) d → P d
+contains_next ds i x P below so next d has =
+    ⊎_elim (so d) (λ is. subst P is next) (Contains-push_cases (take i ds) (get_or ds i x) d (subst (λ (l : List WarmDevice). Contains l d) (rw add-one (take-suc ds i x below)) has))
+
+map_push : {A B : Type 0} (f : A → B) (xs : List A) (x : A) → map f (xs ++ x ∷ []) ≡ map f xs ++ f x ∷ []
+map_push f [] x = refl
+map_push f (y ∷ ys) x = ap (λ rest. f y ∷ rest) (map_push f ys x)
+
+-- one more device is made, over the descriptor of the next
+pub made_next : (ds : List WarmDevice) (i : ℕ) (x : WarmDevice) (page_size : ℕ) (made : List FdDevice) (device : FdDevice) (fd : ℤ) → i < length ds
+    → map fd_state made ≡ devices_of page_size (take i ds) → fd ≡ (get_or ds i x).fd → fd_state device ≡ fd_opened fd (get_or ds i x).pages page_size
+    → map fd_state (made ++ device ∷ []) ≡ devices_of page_size (take (i + 1) ds)
+made_next ds i x page_size made device fd below so same opened =
+    let shown : WarmDevice → DeviceState = λ d. fd_opened d.fd d.pages page_size in
+    let next : fd_state device ≡ shown (get_or ds i x) = opened ∙ ap (λ (n : ℤ). fd_opened n (get_or ds i x).pages page_size) same in
+    map_push fd_state made device ∙ ap (λ (states : List DeviceState). states ++ fd_state device ∷ []) so ∙ ap (λ (s : DeviceState). devices_of page_size (take i ds) ++ s ∷ []) next
+    ∙ sym (map_push shown (take i ds) (get_or ds i x)) ∙ ap (map shown) (sym (rw add-one (take-suc ds i x below)))
