@@ -3,8 +3,9 @@
  *
  * A handle holds one node: a buffer pool over the caller's file descriptors, with LRU-2 replacement (O'Neil, O'Neil, Weikum, 1993),
  * and the history of page references that ranks its pages. Replicas exchange their histories as frames: a frame is the bytes of one
- * message, and the caller carries it, by any transport. Frames that are lost, repeated or reordered do no harm. (A frame of the pool is
- * another thing: memory for one page.)
+ * message, and the caller carries it, by any transport. Frames that are lost, repeated or reordered do no harm. The times in a frame are
+ * believed, and wrong ones do harm: frames from senders that are not trusted need warm_limit. (A frame of the pool is another thing:
+ * memory for one page.)
  *
  *     warm handle = {0};
  *     warm_device device = {.pages = 1000, .fd = fd};
@@ -86,7 +87,7 @@ typedef struct warm_device {
     int32_t fd;
 } warm_device;
 
-/* The statuses. 1 to 13 are those of the pool and the node, 34 to 42 say why bytes are no frame, 64 to 69 are the library's own, and 77 to
+/* The statuses. 1 to 13 are those of the pool and the node, 34 to 42 say why bytes are no frame, 64 to 71 are the library's own, and 77 to
  * 82 say why a dump was not read or not written. */
 enum {
     WARM_OK = 0,
@@ -118,6 +119,8 @@ enum {
     WARM_BAD_REPLICA = 67,      /* a replica's number is 1 to 64 */
     WARM_BAD_BUCKET = 68,       /* a bucket's number is 0 to 63 */
     WARM_SAME_FILE = 69,        /* two devices are of one file */
+    WARM_LATE_HORIZON = 70,     /* of a frame: its horizon is later than the limit of the handle */
+    WARM_LATE_STAMP = 71,       /* of a frame: a stamp of an entry is later than the limit of the handle */
     WARM_CUT_SHORT = 77,        /* of a dump: its bytes end before the frame of the digests does */
     WARM_DIGESTS_DIFFER = 78,   /* its digests are not those of the history that its entries give */
     WARM_HORIZONS_DIFFER = 79,  /* its frames have different horizons */
@@ -202,9 +205,19 @@ int warm_offer(warm *handle, uint8_t *frame, size_t room, size_t *length);
  * Caller: has_after is false or true; frame points to room bytes, length to one element. */
 int warm_send(warm *handle, uint8_t bucket, bool has_after, warm_page after, uint8_t *frame, size_t room, size_t *length);
 
+/* Sets the limit of a handle: from then on warm_receive refuses each frame that speaks of a time later than this one. Of a handle that was
+ * just opened the limit is 2^64 - 1, which refuses none; no other function changes it. Where times are of a clock, the limit is the current
+ * time and as much as clocks may differ; set it again before each frame. What the history has already stays. */
+int warm_limit(warm *handle, uint64_t time);
+
 /* Takes in one whole frame that another replica sent. Its answers wait for warm_next_answer; those of the frame before are dropped.
- * Refused: WARM_TRUNCATED to WARM_BAD_ORDER, by the first fault from left to right; WARM_MEMORY. The answers of the frame before then
- * still wait.
+ * The times in a frame are believed. A frame whose horizon is greater than this replica's is well formed: the replica takes the horizon, so
+ * that all older stamps are gone for good, and passes it on; a horizon of 2^64 - 1 empties the history of every replica that it reaches. And
+ * a page that was referenced at time 2^64 - 1 is the hottest one for ever. Frames that a sender that is not trusted made, or a transport
+ * may change, need warm_limit.
+ * Refused: WARM_TRUNCATED to WARM_BAD_ORDER, by the first fault from left to right; WARM_LATE_HORIZON where the horizon is later than the
+ * limit (each kind of frame has one; that of an older format is 0), WARM_LATE_STAMP where a stamp is; WARM_MEMORY at any
+ * point. The answers of the frame before then still wait.
  * Caller: frame points to length bytes, of any content. */
 int warm_receive(warm *handle, const uint8_t *frame, size_t length);
 
@@ -241,7 +254,8 @@ int warm_save(warm *handle, int fd);
 
 /* Reads the dump that the first length bytes of a descriptor's file are, from byte 0 on, and joins its history to the handle's: afterwards
  * the history is that of all references of both, at the later horizon of both. All or nothing. Loading a dump again changes nothing, and
- * a dump of any replica may be loaded. The answers that wait for warm_next_answer still wait.
+ * a dump of any replica may be loaded. The answers that wait for warm_next_answer still wait. The limit of warm_limit does not hold here: a
+ * dump is the caller's own file.
  * Refused: by the first fault from left to right, WARM_BAD_MAGIC to WARM_BAD_ORDER, WARM_HORIZONS_DIFFER, WARM_DIGESTS_DIFFER,
  * WARM_MORE_FOLLOWS, WARM_CUT_SHORT; WARM_DUMP_NOT_READ, WARM_MEMORY at any point.
  * Caller: length is the size of the file (st_size of fstat), and the file, open for reading, does not change during the call. With a

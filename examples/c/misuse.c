@@ -57,6 +57,7 @@ static void closed_handle(void) {
     EXPECT(WARM_CLOSED, warm_step(&handle, &found, &page));
     EXPECT(WARM_CLOSED, warm_offer(&handle, &byte, 1, &length));
     EXPECT(WARM_CLOSED, warm_send(&handle, 0, false, page, &byte, 1, &length));
+    EXPECT(WARM_CLOSED, warm_limit(&handle, 1));
     EXPECT(WARM_CLOSED, warm_receive(&handle, &byte, 1));
     EXPECT(WARM_CLOSED, warm_next_answer(&handle, &byte, 1, &length));
     EXPECT(WARM_CLOSED, warm_horizon(&handle, 1, &horizon));
@@ -257,19 +258,22 @@ static void buffers(void) {
     close(fd);
 }
 
-/* The frame of page 0:7 with 20@1 and 10@1 from replica 1, with the horizon 12: an example of docs/FORMATS.md. Each case changes one byte. */
+/* The frame of page 0:7 with 20@1 and 10@1 from replica 1, with the horizon 12: an example of docs/FORMATS.md. */
+static const uint8_t good[54] = {'L', '2', 'G', '2', 1, 0, 1, 0, 0, 0, 0, 0, 0, 0, 12, 0, 0, 0, 0x23, 0, 0, 0, 1, 0, 0,
+    0, 0, 0, 0, 0, 0, 0, 7, 2, 0, 0, 0, 0, 0, 0, 0, 20, 0, 1, 0, 0, 0, 0, 0, 0, 0, 10, 0, 1};
+
+/* The frame of page 0:8 with the same stamps in the older format, which has no horizon and four bytes of a page's number. */
+static const uint8_t narrow[42] = {'L', '2', 'G', '1', 1, 0, 1, 0, 0, 0, 0x1f, 0, 0, 0, 1, 0, 0, 0, 0, 0, 8, 2,
+    0, 0, 0, 0, 0, 0, 0, 20, 0, 1, 0, 0, 0, 0, 0, 0, 0, 10, 0, 1};
+
+/* Each case changes one byte. */
 static void damaged_frames(void) {
-    static const uint8_t good[54] = {'L', '2', 'G', '2', 1, 0, 1, 0, 0, 0, 0, 0, 0, 0, 12, 0, 0, 0, 0x23, 0, 0, 0, 1, 0, 0,
-        0, 0, 0, 0, 0, 0, 0, 7, 2, 0, 0, 0, 0, 0, 0, 0, 20, 0, 1, 0, 0, 0, 0, 0, 0, 0, 10, 0, 1};
     static const struct {
         int status;
         uint8_t at, byte;
     } cases[] = {{WARM_BAD_MAGIC, 0, 'M'}, {WARM_BAD_MAGIC, 3, '3'}, {WARM_BAD_KIND, 4, 4}, {WARM_BAD_SENDER, 6, 65}, {WARM_TRUNCATED, 18, 0x24},
         {WARM_BAD_LENGTH, 18, 0x22}, {WARM_BAD_LENGTH, 18, 3}, {WARM_BAD_COUNT, 21, 4}, {WARM_BAD_LENGTH, 22, 0}, {WARM_BAD_LENGTH, 22, 2},
         {WARM_BAD_TAG, 33, 3}, {WARM_BAD_STAMP, 43, 0}, {WARM_BAD_STAMP, 51, 20}};
-    /* The same of page 0:8 in the older format, which has no horizon and four bytes of a page's number. */
-    static const uint8_t narrow[42] = {'L', '2', 'G', '1', 1, 0, 1, 0, 0, 0, 0x1f, 0, 0, 0, 1, 0, 0, 0, 0, 0, 8, 2,
-        0, 0, 0, 0, 0, 0, 0, 20, 0, 1, 0, 0, 0, 0, 0, 0, 0, 10, 0, 1};
     uint8_t frame[sizeof good];
     size_t count;
     warm_device none = {0};
@@ -395,6 +399,57 @@ static void joined_dumps(void) {
     OK(warm_load(&handle, fd, DUMP_SIZE));
     OK(warm_send(&handle, 7, false, (warm_page){0}, again, sizeof again, &length));
     MUST(length == 44 && memcmp(frame, again, 44) == 0 && pages_of(&handle) == 2);
+    warm_close(&handle);
+    warm_close(&other);
+    close(fd);
+}
+
+static void knows(warm *handle, size_t pages, uint64_t horizon) {
+    uint64_t kept;
+    OK(warm_horizon(handle, 0, &kept)); /* the horizon is not raised by this */
+    MUST(pages_of(handle) == pages && kept == horizon);
+}
+
+/* Frames that speak of times later than the limit of a handle change nothing, and those of the limit itself are taken. */
+static void late_frames(void) {
+    uint8_t frame[4096];
+    int fd = dump_of_one();
+    uint64_t horizon;
+    size_t length;
+    warm handle = {0}, other = {0};
+    open_alone(&handle, 2);
+    open_alone(&other, 3);
+    OK(warm_limit(&handle, 11));
+    EXPECT(WARM_LATE_HORIZON, warm_receive(&handle, good, sizeof good)); /* its horizon is 12, and a stamp 20 */
+    OK(warm_limit(&handle, 12));
+    EXPECT(WARM_LATE_STAMP, warm_receive(&handle, good, sizeof good));
+    OK(warm_limit(&handle, 19));
+    EXPECT(WARM_LATE_STAMP, warm_receive(&handle, good, sizeof good));
+    EXPECT(WARM_LATE_STAMP, warm_receive(&handle, narrow, sizeof narrow));
+    EXPECT(WARM_TRUNCATED, warm_receive(&handle, good, sizeof good - 1)); /* what is no frame is so whatever the limit is */
+    knows(&handle, 0, 0);
+    OK(warm_offer(&other, frame, sizeof frame, &length)); /* a frame of digests has a horizon alone */
+    OK(warm_receive(&handle, frame, length));
+    OK(warm_horizon(&other, 20, &horizon));
+    OK(warm_offer(&other, frame, sizeof frame, &length));
+    EXPECT(WARM_LATE_HORIZON, warm_receive(&handle, frame, length));
+    knows(&handle, 0, 0);
+    OK(warm_limit(&handle, 0));
+    OK(warm_load(&handle, fd, DUMP_SIZE)); /* a dump is the caller's own */
+    knows(&handle, 1, 0);
+    OK(warm_limit(&handle, 20));
+    OK(warm_receive(&handle, good, sizeof good));
+    OK(warm_receive(&handle, narrow, sizeof narrow));
+    knows(&handle, 2, 12);
+    OK(warm_limit(&handle, 0));
+    warm_close(&handle);
+    open_alone(&handle, 2);
+    OK(warm_receive(&handle, good, sizeof good)); /* a handle that was just opened has no limit */
+    knows(&handle, 1, 12);
+    memcpy(frame, good, sizeof good);
+    memset(frame + 7, 0xff, 8);
+    OK(warm_receive(&handle, frame, sizeof good));
+    knows(&handle, 0, UINT64_MAX); /* the greatest horizon empties it */
     warm_close(&handle);
     warm_close(&other);
     close(fd);
@@ -620,6 +675,7 @@ int main(int count, char **words) {
     damaged_dumps();
     wrong_lengths();
     joined_dumps();
+    late_frames();
     dumps_of_wrong_descriptors();
     dumps_without_room(count > 1 ? words[1] : NULL);
     if (count > 1) disk_full(words[1]);

@@ -1,5 +1,5 @@
 -- What each call does to what an open handle holds, and what it writes.
-use Rattle.std.specs.Prelude.{ℕ, ◌+◌, ◌<◌, ◌≡◌, ◌⊎◌, List, map, length, Option, Some, None, IfSome, Result, Ok, Err, Contains, slice_get}
+use Rattle.std.specs.Prelude.{ℕ, ◌+◌, ◌<◌, ◌≤◌, ◌≡◌, ◌⊎◌, List, map, length, Option, Some, None, IfSome, Result, Ok, Err, Contains, slice_get}
 use Rattle.warm_stamps.specs.Replicas.{IsReplica}
 use Rattle.warm_stamps.specs.Buckets.{IsBucket}
 use Rattle.warm_stamps.specs.declared.PageId.{PageId}
@@ -7,6 +7,9 @@ use Rattle.warm_history.specs.Histories.{HistoryView, IsHistory, entries_of}
 use Rattle.warm_files.specs.Reading.{IsDump, IsRefused}
 use Rattle.warm_files.specs.Writing.{StopsWriting}
 use Rattle.warm_frames.specs.declared.message.Message.{Message}
+use Rattle.warm_frames.specs.declared.limit.TimeFault.{TimeFault}
+use Rattle.warm_frames.specs.declared.limit.TimeFault.TheVariants.{LateHorizon, LateStamp}
+use Rattle.warm_frames.specs.Limits.{SpeaksBy, StampsBy, entries_in, horizon_in}
 use Rattle.warm_frames.specs.Reading.{Gives, read_frame, reserved_by}
 use Rattle.warm_frames.specs.Spelling.{Spells, spelling}
 use Rattle.warm_pool.specs.State.{IsSettled}
@@ -19,7 +22,7 @@ use Rattle.warm_gossip.specs.declared.fault.NodeFault.TheVariants.{Memory}
 use Rattle.warm_gossip.specs.Clauses.{Goes, Joins, SameView, WriteBackFails}
 use Rattle.warm_c.specs.declared.held.Held.{Held}
 use Rattle.warm_c.specs.declared.status.Refusal.{Refusal}
-use Rattle.warm_c.specs.declared.status.Refusal.TheVariants.{Node, Frame, BufferTooSmall, BadReplica, BadBucket, Dump}
+use Rattle.warm_c.specs.declared.status.Refusal.TheVariants.{Node, Frame, Late, BufferTooSmall, BadReplica, BadBucket, Dump}
 use Rattle.warm_c.specs.declared.values.PinnedSlot.{PinnedSlot}
 use Rattle.warm_c.specs.declared.values.WarmPage.{WarmPage}
 use Rattle.warm_c.specs.declared.values.WarmReference.{WarmReference}
@@ -30,14 +33,15 @@ use Rattle.warm_c.specs.Values.{c_page, IsPut, page_of, pinned_slot, reference_o
 abbrev pub Ending : Type 0
 Ending = Result (Unit {0}) Refusal
 
--- the answers that wait are as they were
-pub record SameAnswers (old new : Held) : Type 0 where
+-- what is held beside the node is as it was: the answers that wait, and the limit of times
+pub record SameBeside (old new : Held) : Type 0 where
   pub answers : new.answers ≡ old.answers
   pub given : new.given ≡ old.given
+  pub limit : new.limit ≡ old.limit
 
--- The node has answered this call so, and the answers that wait are as they were.
+-- The node has answered this call so, and what is held beside it is as it was.
 abbrev pub Replies : Call → Held → Reply → Held → Type 0
-Replies call old reply new = Goes old.node call reply new.node × SameAnswers old new
+Replies call old reply new = Goes old.node call reply new.node × SameBeside old new
 
 -- the node refuses the call for this reason
 abbrev pub RefusedByNode : Call → Held → Refusal → Held → Type 0
@@ -103,8 +107,8 @@ Steps found page found' page' old (Ok given) new = (loaded : Option PageId) × R
 Steps found page found' page' old (Err why) new = RefusedByNode WarmStep old why new × (found' ≡ found) × (page' ≡ page)
 
 abbrev pub WritesBack : Held → Ending → Held → Type 0
-WritesBack old (Ok given) new = SameView old.node new.node × IsSettled new.node.pool × SameAnswers old new
-WritesBack old (Err (Node why)) new = WriteBackFails old.node why new.node × SameAnswers old new
+WritesBack old (Ok given) new = SameView old.node new.node × IsSettled new.node.pool × SameBeside old new
+WritesBack old (Err (Node why)) new = WriteBackFails old.node why new.node × SameBeside old new
 WritesBack old (Err why) new = ⊥
 
 -- Frames
@@ -128,12 +132,25 @@ SendsBucket bucket page before len after len' old ending new =
     ((IsBucket bucket → ⊥) × (ending ≡ Err BadBucket) × (after ≡ before) × (len' ≡ len) × (new ≡ old))
     ⊎ Sends (Send bucket page) before len after len' old ending new
 
--- The bytes spell a frame, which the node has received: its answers wait, and none is given yet. Or it refuses the frame; or they spell none.
+-- why a message is refused that speaks of a time later than the limit: its horizon is later, or else a stamp of an entry is
+abbrev pub IsLate : ℕ → Message → TimeFault → Type 0
+IsLate limit message LateHorizon = limit < horizon_in message
+IsLate limit message LateStamp = (horizon_in message ≤ limit) × (StampsBy limit (entries_in message) → ⊥)
+
+-- The bytes spell a frame that speaks of no time later than the limit, which the node has received: its answers wait, and none is given yet.
+-- Or it refuses the frame; or the frame speaks of a later time, or the bytes spell none, and nothing has changed.
 abbrev pub Receives : List ℕ → Held → Ending → Held → Type 0
-Receives bytes old (Ok given) new = (message : Message) × Spells bytes message × Goes old.node (Receive message) (Answers new.answers) new.node × (new.given ≡ 0)
-Receives bytes old (Err (Node why)) new = (message : Message) × Spells bytes message × Replies (Receive message) old (Refused why) new
+Receives bytes old (Ok given) new =
+    (message : Message) × Spells bytes message × SpeaksBy old.limit message
+    × Goes old.node (Receive message) (Answers new.answers) new.node × (new.given ≡ 0) × (new.limit ≡ old.limit)
+Receives bytes old (Err (Node why)) new = (message : Message) × Spells bytes message × SpeaksBy old.limit message × Replies (Receive message) old (Refused why) new
+Receives bytes old (Err (Late fault)) new = (message : Message) × Spells bytes message × IsLate old.limit message fault × (new ≡ old)
 Receives bytes old (Err (Frame fault)) new = Gives (Err fault) (read_frame bytes) (reserved_by bytes) × (new ≡ old)
 Receives bytes old (Err why) new = ⊥
+
+-- the limit of times is this one from then on, and nothing else has changed
+abbrev pub Limits : ℕ → Held → Held → Type 0
+Limits time old new = new ≡ record old { limit = time }
 
 -- the answer that comes next, if one waits
 abbrev pub next_answer : Held → Option Message
@@ -167,7 +184,7 @@ Saves old (Err why) new = IsUnsaved why × (new ≡ old)
 -- The node has joined a history, of which the bytes are a dump, where they are known. Or they show why they are none, or were not read, and
 -- nothing has changed; or an allocation for the join failed, and nothing has changed that a caller sees.
 abbrev pub Loads : Option (List ℕ) → Held → Ending → Held → Type 0
-Loads bytes old (Ok given) new = ((h : HistoryView) × IsHistory h × IfSome bytes (λ text. IsDump text h) × Joins old.node h new.node) × SameAnswers old new
-Loads bytes old (Err (Node Memory)) new = SameView old.node new.node × SameAnswers old new
+Loads bytes old (Ok given) new = ((h : HistoryView) × IsHistory h × IfSome bytes (λ text. IsDump text h) × Joins old.node h new.node) × SameBeside old new
+Loads bytes old (Err (Node Memory)) new = SameView old.node new.node × SameBeside old new
 Loads bytes old (Err (Dump why)) new = ((at : ℕ) × IfSome bytes (λ text. IsRefused text at why)) × (new ≡ old)
 Loads bytes old (Err why) new = ⊥

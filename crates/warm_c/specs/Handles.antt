@@ -1,5 +1,5 @@
 -- What a call of a handle does: a closed one says so, and an open one makes the call.
-use Rattle.std.specs.Prelude.{ℕ, ℤ, pos, ◌*◌, ◌^◌, ◌<◌, ◌≤◌, ◌≡◌, ◌≢◌, ◌⊎◌, List, [], map, length, Option, Some, None, Ok, Err, Contains}
+use Rattle.std.specs.Prelude.{ℕ, ℤ, pos, ◌*◌, ◌^◌, ◌-◌, ◌<◌, ◌≤◌, ◌≡◌, ◌≢◌, ◌⊎◌, List, [], map, length, Option, Some, None, Ok, Err, Contains}
 use Rattle.std.specs.List.{AllPairs}
 use Rattle.warm_stamps.specs.Replicas.{IsReplica}
 use Rattle.warm_devices.specs.Device.{DeviceState}
@@ -74,12 +74,13 @@ pub record IsAsked (a : Asked) : Type 0 where
   pub devices : AreDevices a.page_size a.devices
   pub apart : DescriptorsDiffer a.devices
 
--- a node that was given nothing, over a pool without a page, and no answer waits
+-- a node that was given nothing, over a pool without a page; no answer waits, and no time is later than the limit
 abbrev pub opened : Asked → Held
 opened a = record {
   node = nodes.opened a.replica (pools.opened a.frames a.page_size (devices_of a.page_size a.devices));
   answers = [];
   given = 0;
+  limit = 2 ^ 64 - 1;
 }
 
 -- why no devices are made: where both hold, `NoDevice`

@@ -28,7 +28,8 @@ dump_name_at n =
 abbrev pub library_name_at : ℕ → List ℕ
 library_name_at n =
     if n == 64 then codes "Closed" else (if n == 65 then codes "AlreadyOpen" else (if n == 66 then codes "BufferTooSmall" else (
-    if n == 67 then codes "BadReplica" else (if n == 68 then codes "BadBucket" else (if n == 69 then codes "SameFile" else dump_name_at n)))))
+    if n == 67 then codes "BadReplica" else (if n == 68 then codes "BadBucket" else (if n == 69 then codes "SameFile" else (
+    if n == 70 then codes "LateHorizon" else (if n == 71 then codes "LateStamp" else dump_name_at n)))))))
 
 -- the name of the status with this number
 abbrev pub name_at : ℕ → List ℕ

@@ -9,7 +9,7 @@ use Rattle.warm_files.specs.Faults as dump_faults
 use Rattle.warm_pool.specs.Faults as pool_faults
 use Rattle.warm_gossip.specs.Faults as node_faults
 use Rattle.warm_c.specs.declared.status.Refusal.{Refusal}
-use Rattle.warm_c.specs.declared.status.Refusal.TheVariants.{Node, NewPool, Frame, Closed, AlreadyOpen, BufferTooSmall, BadReplica, BadBucket, SameFile, Dump}
+use Rattle.warm_c.specs.declared.status.Refusal.TheVariants.{Node, NewPool, Frame, Closed, AlreadyOpen, BufferTooSmall, BadReplica, BadBucket, SameFile, Late, Dump}
 
 -- an allocation failure is 1, wherever it comes; of another fault of a frame it is the fault's own number and 32
 abbrev pub frame_code_of : FrameFault → ℕ
@@ -31,6 +31,7 @@ code_of BufferTooSmall = 66
 code_of BadReplica = 67
 code_of BadBucket = 68
 code_of SameFile = 69
+code_of (Late fault) = 69 + frame_faults.time_fault_code fault
 code_of (Dump fault) = dump_code_of fault
 
 abbrev pub name_of : Refusal → List ℕ
@@ -43,6 +44,7 @@ name_of BufferTooSmall = codes "BufferTooSmall"
 name_of BadReplica = codes "BadReplica"
 name_of BadBucket = codes "BadBucket"
 name_of SameFile = codes "SameFile"
+name_of (Late fault) = frame_faults.time_fault_name fault
 name_of (Dump fault) = dump_faults.dump_fault_name fault
 
 -- 0, or the number of the refusal

@@ -1,13 +1,13 @@
 //! The calls of an open handle that give frames or take one.
 ghost use Rattle.std.specs.Prelude.{◌≡◌, ◌<◌, ◌≤◌, length};
 ghost use Rattle.warm_gossip.specs.declared.call.Call.TheVariants.{Offer};
-ghost use Rattle.warm_c.specs.Calls.{GivesNext, PutsFrame, Receives, Sends, SendsBucket};
+ghost use Rattle.warm_c.specs.Calls.{GivesNext, Limits, PutsFrame, Receives, Sends, SendsBucket};
 ghost use Rattle.warm_c.specs.Values.{with_start};
 
 use crate::held::Held;
 use crate::status::Refusal;
 use std::alloc::Global;
-use warm_frames::{Message, decode, encode};
+use warm_frames::{Message, check_times, decode, encode};
 use warm_stamps::{Bucket, PageId};
 
 // Puts bytes at the start of a buffer.
@@ -71,14 +71,23 @@ impl Held {
         put_frame(alloc, &message, frame, len)
     }
 
+    /// Sets the latest time that a received frame may speak of.
+    pub fn limit(&mut self, time: u64)
+        ensures { Limits time self.old self.new }
+    {
+        self.limit = time;
+    }
+
     /// The node's [`warm_gossip::Node::receive`] of the message of a frame. Its answers wait; those that waited are dropped.
     ///
     /// # Errors
-    /// Why the bytes are no frame; the node's own. Nothing has changed, and what waited still waits.
+    /// Why the bytes are no frame; `Late` where its horizon, or else a stamp, is later than the limit; the node's own. Nothing has
+    /// changed, and what waited still waits.
     pub fn receive(&mut self, alloc: Global, frame: &[u8]) -> Result<(), Refusal>
         ensures { Receives frame.now self.old result self.new }
     {
         let message = decode(alloc, frame)?;
+        check_times(&message, self.limit)?;
         let answers = self.node.receive(message)?;
         self.answers = answers;
         self.given = 0;

@@ -3,7 +3,7 @@ use crate::fd_device::FdDevice;
 use warm_frames::MessageList;
 use warm_gossip::Node;
 
-/// A node over the engine's descriptors, and the answers to the frame that it received last.
+/// A node over the engine's descriptors, the answers to the frame that it received last, and a limit of the times that frames speak of.
 #[derive(Drop)]
 pub struct Held {
     /// The node.
@@ -12,4 +12,6 @@ pub struct Held {
     pub answers: MessageList,
     /// How many of them were given.
     pub given: usize,
+    /// The latest time that a received frame may speak of.
+    pub limit: u64,
 }

@@ -13,7 +13,7 @@
 
 ghost use Rattle.std.specs.Prelude.{◌≡◌, pos, [], ◌∷◌, ◌++◌, length, None};
 ghost use Rattle.warm_gossip.specs.declared.call.Call.TheVariants.{Offer};
-ghost use Rattle.warm_c.specs.Calls.{Absorbs, Counts, GivesNext, Lists, Loads, Names, Pins, Raises, Reads, Receives, Saves, Sends, SendsBucket, Steps, Unpins, Writes, WritesBack};
+ghost use Rattle.warm_c.specs.Calls.{Absorbs, Counts, GivesNext, Limits, Lists, Loads, Names, Pins, Raises, Reads, Receives, Saves, Sends, SendsBucket, Steps, Unpins, Writes, WritesBack};
 ghost use Rattle.warm_c.specs.Handles.{Called, Opens, Surely, asked};
 ghost use Rattle.warm_c.specs.StatusNames.{status_name};
 ghost use Rattle.warm_c.specs.Values.{page_if, with_some};
@@ -312,11 +312,25 @@ pub extern "C" fn warm_send(
     status_of(done)
 }
 
+/// Sets the latest time that a received frame may speak of: [`warm_receive`] refuses one whose horizon or a stamp is later. Of a handle
+/// that was just opened it is 2^64 - 1, so that no frame is refused.
+#[unsafe(no_mangle)]
+pub extern "C" fn warm_limit(alloc: Global, handle: &mut Handle, time: u64) -> i32
+    ensures { Called (Surely (Limits time)) handle.old.slot.held result handle.new.slot.held }
+{
+    let Some(mut held) = handle.take(alloc) else {
+        return status_of(Err(Refusal::Closed));
+    };
+    held.limit(time);
+    *handle = Handle::of(held);
+    status_of(Ok(()))
+}
+
 /// Takes in one whole frame that another replica sent. Its answers wait for [`warm_next_answer`]; those that waited are dropped.
 ///
 /// # Errors
-/// 34 to 42 where the bytes are no frame, by the first fault from left to right; 1 where an allocation failed. Nothing has changed,
-/// and what waited still waits.
+/// 34 to 42 where the bytes are no frame, by the first fault from left to right; 70 where its horizon is later than the limit, and 71
+/// where that is not, but a stamp is; 1 where an allocation failed. Nothing has changed, and what waited still waits.
 #[unsafe(no_mangle)]
 pub extern "C" fn warm_receive(alloc: Global, handle: &mut Handle, frame: &[u8]) -> i32
     ensures { Called (Receives frame.now) handle.old.slot.held result handle.new.slot.held }

@@ -131,6 +131,7 @@ pub fn open(
             node: Node::new(alloc, replica, pool),
             answers: MessageList::of(Vec::new(alloc)),
             given: 0,
+            limit: u64::MAX,
         }),
         Err(unmade) => Err(Refusal::NewPool(unmade.fault)),
     }

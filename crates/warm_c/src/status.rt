@@ -6,7 +6,7 @@ ghost use Rattle.warm_c.specs.Values.{with_some};
 
 use std::alloc::AllocError;
 use warm_files::DumpFault;
-use warm_frames::FrameFault;
+use warm_frames::{FrameFault, TimeFault};
 use warm_gossip::NodeFault;
 use warm_pool::NewPoolFault;
 
@@ -31,6 +31,8 @@ pub enum Refusal {
     BadBucket,
     /// 69: two devices are of one file.
     SameFile,
+    /// 70 or 71: a frame speaks of a time later than the limit; it is the fault's own number and 69.
+    Late(TimeFault),
     /// 1, 35 to 42, or 77 to 82: why a dump is not written or not read. That of a frame in it is the frame's; others are the fault's
     /// own number and 64.
     Dump(DumpFault),
@@ -73,6 +75,18 @@ impl From<FrameFault> for Refusal {
     }
 }
 
+/// A fault of a frame's times is `Late`, with which.
+impl From<TimeFault> for Refusal {
+    ghost use Rattle.std.specs.Prelude.{◌≡◌};
+    ghost use Rattle.warm_c.specs.declared.status.Refusal.TheVariants.{Late};
+
+    ghost from_gives = { λ fault why. why ≡ Late fault };
+
+    fn from(fault: TimeFault) -> Refusal {
+        Refusal::Late(fault)
+    }
+}
+
 /// A fault of a dump is `Dump`, with which.
 impl From<DumpFault> for Refusal {
     ghost use Rattle.std.specs.Prelude.{◌≡◌};
@@ -100,6 +114,8 @@ impl Refusal {
             Refusal::BadReplica => 67,
             Refusal::BadBucket => 68,
             Refusal::SameFile => 69,
+            Refusal::Late(TimeFault::LateHorizon) => 70,
+            Refusal::Late(TimeFault::LateStamp) => 71,
             Refusal::Dump(fault) => dump_code(fault),
         }
     }
@@ -201,6 +217,8 @@ fn library_name(number: u32) -> &'static str
         67 => "BadReplica",
         68 => "BadBucket",
         69 => "SameFile",
+        70 => "LateHorizon",
+        71 => "LateStamp",
         _ => dump_name(number),
     }
 }
