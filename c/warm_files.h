@@ -8,7 +8,7 @@
  *  - WARM_FILES_WRITE: the next call is a write to the same descriptor. It puts its bytes at that place.
  *  - WARM_FILES_FLUSH: the file is synced while the request is written. Its place is 0.
  *  - WARM_FILES_IDENTITY: the next call is a read of the same descriptor, of WARM_FILES_IDENTITY_LENGTH bytes: st_dev and st_ino of fstat, eight
- *    bytes each, highest byte first. All descriptors of one file give the same, and those of two files do not. Its place is 0.
+ *    bytes each, highest byte first. All descriptors of one file give the same. Two device nodes of one block device do not. Its place is 0.
  *
  * A call does all that is asked of it and returns its length, or returns -1 with errno. A call that is no request, and that does not
  * belong to the one before it, fails with EINVAL. Each call ends the request before it, also a call that fails. Each thread has

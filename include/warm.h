@@ -141,8 +141,8 @@ enum {
  * file, has no O_APPEND (each write would go to the end of the file, wherever the page is), and nothing else writes to a page of its
  * file that may be in a frame. A page may be in one from the warm_pin or warm_step that reads it on; of any other the handle has no copy.
  * (A descriptor that is closed or negative, that is of a pipe, or that may not be read or written does no harm: reads, writes and
- * flushes fail. O_DIRECT does not work: the memory of a page is not aligned for it, so the system refuses each read (EINVAL), and that
- * is WARM_READ_FAULT. A write beyond the file size limit of the process raises SIGXFSZ, and fails where that is ignored.) */
+ * flushes fail. O_DIRECT is not for devices: the memory of a page is not aligned for it, so the system may refuse each read (EINVAL), and
+ * that is WARM_READ_FAULT. A write beyond the file size limit of the process raises SIGXFSZ, and fails where that is ignored.) */
 int warm_open(warm *handle, uint16_t replica, size_t frames, size_t page_size, const warm_device *devices, size_t device_count);
 
 /* Closes a handle and frees what it holds; a closed one stays closed. No page is written: what was written to pages and not written back is
@@ -234,6 +234,7 @@ int warm_horizon(warm *handle, uint64_t time, uint64_t *horizon);
  * Refused: WARM_FAULT at the first write or flush that fails. A page that was not written is still in the pool, and may be written by
  * another call. A flush that failed is remembered: each later flush of that device fails, so that each later call is refused, until the
  * handle is closed. Do not trust the file then: the system may have dropped what was written to it, though its next fsync would succeed.
+ * The devices behind it, in the order of warm_open, are then flushed by warm_close alone: whoever needs them synced calls fsync.
  * Caller: nothing more. */
 int warm_write_back(warm *handle);
 
