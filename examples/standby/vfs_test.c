@@ -341,8 +341,8 @@ static void change_counter(void) {
     close(fd);
 }
 
-/* A page that was cut off, and comes again with the bytes that its frame still has, is written to the file again; so are pages before it that
- * nobody takes. */
+/* A page that was cut off, and comes again with the bytes that its frame still has, is written to the file again. Pages before it that nobody
+ * takes are zeros, as are those of a file that is made longer, whatever their frames had. */
 static void taken_again(void) {
     enum { PAGE = 4096, PAGES = 5 };
     static pool_file file;
@@ -364,6 +364,10 @@ static void taken_again(void) {
     MUST(pool_file_leave(&file) == WARM_OK && file.size == sizeof pages);
     memset(pages[2], 0, 2 * PAGE);
     MUST(pread(fd, read, sizeof read, 0) == sizeof read && memcmp(read, pages, sizeof read) == 0);
+    MUST(pool_file_read(&file, read[0], sizeof read, 0) == WARM_OK && memcmp(read, pages, sizeof read) == 0);
+    MUST(pool_file_truncate(&file, 3 * PAGE) == WARM_OK && pool_file_truncate(&file, sizeof pages) == WARM_OK);
+    memset(pages[3], 0, 2 * PAGE);
+    MUST(pool_file_read(&file, read[0], sizeof read, 0) == WARM_OK && memcmp(read, pages, sizeof read) == 0);
     pool_file_close(&file);
     close(fd);
 }
