@@ -67,7 +67,8 @@ int pool_file_enter(pool_file *file);
 int pool_file_leave(pool_file *file);
 
 /* A page as another copy of the file has it, of page_size bytes, where it differs is written into its frame, or past the pool to the file. Writes
- * whether it differs, and whether it is in a frame. It is no reference. room is for page_size bytes. */
+ * whether it differs, and whether it is in a frame. Bytes between the end of the file and the page are zeros. It is no reference. room is for
+ * page_size bytes. */
 int pool_file_take(pool_file *file, uint64_t no, const uint8_t *bytes, uint8_t *room, bool *differs, bool *is_in);
 
 /* Takes the references that wait into the history. */
