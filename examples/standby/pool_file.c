@@ -408,12 +408,12 @@ static int take_past_pool(pool_file *file, uint64_t no, const uint8_t *bytes, ui
 int pool_file_take(pool_file *file, uint64_t no, const uint8_t *bytes, uint8_t *room, bool *differs, bool *is_in) {
     if (file->is_failed) return POOL_IO;
     *differs = false;
+    file->has_written = true;
     int status = write_zeros(file, no * file->page_size);
     if (status != WARM_OK) return status;
     *is_in = residents_have(&file->residents, no);
     status = *is_in ? take_into_frame(file, no, bytes, room, differs) : take_past_pool(file, no, bytes, room, differs);
     if (status != WARM_OK) return status;
-    file->has_written = true;
     if (file->size < (no + 1) * file->page_size) file->size = (no + 1) * file->page_size;
     return WARM_OK;
 }
