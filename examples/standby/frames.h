@@ -22,11 +22,11 @@ static inline unsigned frame_sender(const uint8_t *frame, size_t length) {
     return length < 7 ? 0 : (unsigned)frame_number(frame + 5, 2);
 }
 
-/* The latest time of a frame's entries, or 0 where it has none. The frame is one that warm_receive took, in either format. */
+/* The latest time in a frame: of its horizon, which the older format has not, and of its entries. The frame is one that warm_receive took. */
 static inline uint64_t frame_latest(const uint8_t *frame, size_t length) {
     size_t number = frame[3] == '2' ? 8 : 4, head = number == 8 ? 23 : 15;
-    uint64_t latest = 0;
-    if (frame[4] != 1) return 0;
+    uint64_t latest = number == 8 ? frame_number(frame + 7, 8) : 0;
+    if (frame[4] != 1) return latest;
     for (size_t at = head; at + 2 + number + 11 <= length; at += 2 + number + 1 + 10 * (size_t)frame[at + 2 + number]) {
         uint64_t time = frame_number(frame + at + 2 + number + 1, 8);
         if (time > latest) latest = time;

@@ -1,6 +1,7 @@
 /*
  * Ends a program that is started with it as LD_PRELOAD by kill -9, just before the call number KILL_AT of those that KILL_CALLS names, as
- * "rename fsync": of rename, unlink, fsync, ftruncate, sendfile and pwrite.
+ * "rename fsync": of rename, unlink, fsync, ftruncate, sendfile and pwrite. renameat2 counts as rename, fdatasync as fsync, and ftruncate64 and
+ * pwrite64, which SQLite calls, as what they are without the number.
  */
 #define _GNU_SOURCE
 #include <dlfcn.h>
@@ -26,6 +27,11 @@ int rename(const char *from, const char *to) {
     return NEXT(rename)(from, to);
 }
 
+int renameat2(int from_folder, const char *from, int to_folder, const char *to, unsigned flags) {
+    count("rename");
+    return NEXT(renameat2)(from_folder, from, to_folder, to, flags);
+}
+
 int unlink(const char *path) {
     count("unlink");
     return NEXT(unlink)(path);
@@ -36,9 +42,19 @@ int fsync(int fd) {
     return NEXT(fsync)(fd);
 }
 
+int fdatasync(int fd) {
+    count("fsync");
+    return NEXT(fdatasync)(fd);
+}
+
 int ftruncate(int fd, off_t size) {
     count("ftruncate");
     return NEXT(ftruncate)(fd, size);
+}
+
+int ftruncate64(int fd, off64_t size) {
+    count("ftruncate");
+    return NEXT(ftruncate64)(fd, size);
 }
 
 ssize_t sendfile(int to, int from, off_t *at, size_t length) {
@@ -49,4 +65,9 @@ ssize_t sendfile(int to, int from, off_t *at, size_t length) {
 ssize_t pwrite(int fd, const void *bytes, size_t length, off_t at) {
     count("pwrite");
     return NEXT(pwrite)(fd, bytes, length, at);
+}
+
+ssize_t pwrite64(int fd, const void *bytes, size_t length, off64_t at) {
+    count("pwrite");
+    return NEXT(pwrite64)(fd, bytes, length, at);
 }

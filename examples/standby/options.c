@@ -19,7 +19,7 @@ typedef struct option {
 static bool is_choice(const char *choices, const char *value) {
     size_t length = strlen(value);
     for (const char *at = choices; *at != 0; at = strchr(at, ' ') + 1)
-        if (strncmp(at, value, length) == 0 && at[length] == ' ') return true;
+        if (strcspn(at, " ") == length && strncmp(at, value, length) == 0) return true;
     return false;
 }
 
@@ -158,10 +158,11 @@ static void set_number(sqlite3 *db, const char *pragma, uint64_t value) {
 
 /* The default VFS is not called by its name: where the machine has another default, that one is compared. */
 sqlite3 *open_database(const options *o) {
-    sqlite3 *db;
+    sqlite3 *db = NULL;
     bool is_stock = is_mode(o, "stock");
     int flags = SQLITE_OPEN_READWRITE | SQLITE_OPEN_CREATE;
-    must_be_ok(is_stock ? sqlite3_open_v2(o->db, &db, flags, NULL) : pool_vfs_open(o->db, flags, o->has_wal, &db), db, o->db);
+    int result = is_stock ? sqlite3_open_v2(o->db, &db, flags, NULL) : pool_vfs_open(o->db, flags, o->has_wal, &db);
+    must_be_ok(result, db, o->db);
     set(db, "synchronous", o->synchronous);
     if (is_stock) set_number(db, "cache_size", o->frames);
     if (o->has_wal) set_wal(db);

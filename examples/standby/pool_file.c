@@ -19,7 +19,8 @@
  * warm_open asks that nothing else writes to a page of the file that may be in a frame. Twice something does, and no frame's bytes are used
  * after it. Other connections commit while this one has no lock: pool_file_enter then makes a new pool before a page is read, and the old
  * one, which has nothing dirty, is asked for its history alone. And the file is cut off by ftruncate: what frames have of pages behind its
- * end is not read (pool_file_read ends with the file), and is written over before the file grows over it (write_zeros, or whole pages).
+ * end is not read (pool_file_read ends with the file), and is written over before the file grows over it (write_zeros, or whole pages, also
+ * where the bytes are those that the frame has: behind the end they are in no file).
  *
  * With a WAL a commit is in the WAL, which is no file of the pool. Pages reach the database in a checkpoint alone, and the WAL has them
  * until it is reset: truncated, deleted, or written from its start again. In walCheckpoint of SQLite 3.40 the order is: the WAL is synced
@@ -44,7 +45,7 @@
 
 enum { DEFAULT_PAGE_SIZE = 4096, SMALLEST_PAGE = 512, SIZE_AT = 16, COUNTER_AT = 24, HEADER_PART = COUNTER_AT + POOL_COUNTER };
 
-static const uint64_t HOUR = 3600 * (uint64_t)1000000000;
+static const uint64_t SKEW = POOL_SKEW_SECONDS * (uint64_t)1000000000;
 
 /* SQLite's greatest number of pages. The pool's device is as large, since its file may grow to that. */
 static const uint64_t MOST_PAGES = 4294967294;
@@ -82,12 +83,12 @@ static void read_clock(pool_file *file) {
 
 /* Without that the new pages of a replica whose clock is behind would rank below all of its peer's, until its clock is where the peer's was. */
 void pool_file_heard(pool_file *file, uint64_t time) {
-    if (time >= file->time && time <= nanoseconds(CLOCK_REALTIME) + HOUR) file->time = time + 1;
+    if (time >= file->time && time <= nanoseconds(CLOCK_REALTIME) + SKEW) file->time = time + 1;
 }
 
 int pool_file_receive(pool_file *file, const uint8_t *frame, size_t length) {
-    warm_limit(pool_file_handle(file), nanoseconds(CLOCK_REALTIME) + HOUR);
-    int status = warm_receive(pool_file_handle(file), frame, length);
+    int status = warm_limit(pool_file_handle(file), nanoseconds(CLOCK_REALTIME) + SKEW);
+    if (status == WARM_OK) status = warm_receive(pool_file_handle(file), frame, length);
     if (status == WARM_OK) pool_file_heard(file, frame_latest(frame, length));
     return status;
 }
@@ -275,13 +276,15 @@ int pool_file_write(pool_file *file, const uint8_t *bytes, size_t length, uint64
     return status;
 }
 
-/* A dirty page beyond the new end stays in its frame. Where it reaches the file, the next sync cuts the file again. */
+/* A page beyond the new end stays in its frame. Where it is dirty and reaches the file, the next sync cuts the file again. Where the file
+ * grows, what frames have of bytes behind the old end is written over. */
 int pool_file_truncate(pool_file *file, uint64_t size) {
     if (file->is_failed) return POOL_IO;
     file->is_unsynced = file->has_written = true;
     if (ftruncate(file->fd, (off_t)size) != 0) return POOL_IO;
-    file->size = size;
-    return WARM_OK;
+    int status = write_zeros(file, size);
+    if (status == WARM_OK) file->size = size;
+    return status;
 }
 
 /* Once pages were written back the file may be longer than it should: a page of the pool is written whole where SQLite's are smaller, and
@@ -378,12 +381,14 @@ int pool_file_leave(pool_file *file) {
 
 /* ---- another copy ---- */
 
+/* A page that ends behind the end of the file is written also where its frame has these bytes: the file has not. */
 static int take_into_frame(pool_file *file, uint64_t no, const uint8_t *bytes, uint8_t *room, bool *differs) {
     warm_slot slot;
+    bool is_cut = (no + 1) * file->page_size > file->size;
     int status = pin(file, no, &slot);
     if (status != WARM_OK) return status;
     status = warm_read(pool_file_handle(file), slot, 0, room, file->page_size);
-    *differs = status == WARM_OK && memcmp(room, bytes, file->page_size) != 0;
+    *differs = status == WARM_OK && (is_cut || memcmp(room, bytes, file->page_size) != 0);
     if (*differs) status = warm_write(pool_file_handle(file), slot, 0, bytes, file->page_size);
     if (*differs && status == WARM_OK) file->is_dirty = true;
     int unpinned = warm_unpin(pool_file_handle(file), slot);
@@ -402,11 +407,13 @@ static int take_past_pool(pool_file *file, uint64_t no, const uint8_t *bytes, ui
 
 int pool_file_take(pool_file *file, uint64_t no, const uint8_t *bytes, uint8_t *room, bool *differs, bool *is_in) {
     if (file->is_failed) return POOL_IO;
-    *is_in = residents_have(&file->residents, no);
     *differs = false;
-    int status = *is_in ? take_into_frame(file, no, bytes, room, differs) : take_past_pool(file, no, bytes, room, differs);
-    if (status != WARM_OK) return status;
     file->has_written = true;
+    int status = write_zeros(file, no * file->page_size);
+    if (status != WARM_OK) return status;
+    *is_in = residents_have(&file->residents, no);
+    status = *is_in ? take_into_frame(file, no, bytes, room, differs) : take_past_pool(file, no, bytes, room, differs);
+    if (status != WARM_OK) return status;
     if (file->size < (no + 1) * file->page_size) file->size = (no + 1) * file->page_size;
     return WARM_OK;
 }

@@ -20,6 +20,10 @@ enum {
 
 enum { POOL_COUNTER = 16 };
 
+/* So far may a time that is heard be ahead of this clock. Clocks that are set by NTP differ by less than a second, and a machine that was just
+ * started by some. A frame that claims more could do harm for as long: each history that hears a horizon forgets what is earlier. */
+enum { POOL_SKEW_SECONDS = 60 };
+
 typedef struct pool_file {
     /* One is open. The other takes the history over where the frames of the first are out of date. A handle is not copied. */
     warm handles[2];
@@ -63,7 +67,8 @@ int pool_file_enter(pool_file *file);
 int pool_file_leave(pool_file *file);
 
 /* A page as another copy of the file has it, of page_size bytes, where it differs is written into its frame, or past the pool to the file. Writes
- * whether it differs, and whether it is in a frame. It is no reference. room is for page_size bytes. */
+ * whether it differs, and whether it is in a frame. Bytes between the end of the file and the page are zeros. It is no reference. room is for
+ * page_size bytes. */
 int pool_file_take(pool_file *file, uint64_t no, const uint8_t *bytes, uint8_t *room, bool *differs, bool *is_in);
 
 /* Takes the references that wait into the history. */
@@ -72,11 +77,13 @@ void pool_file_absorb(pool_file *file);
 /* Loads one page of the warm-up, and writes whether there was one. */
 int pool_file_step(pool_file *file, bool *found);
 
-/* Takes in a frame from a peer, of any bytes, as warm_receive does, and hears its times. One that speaks of a time more than an hour ahead of the
- * clock is refused: its horizon would empty the history, or its pages would rank as hottest until then. */
+/* Takes in a frame from a peer, of any bytes, as warm_receive does, and hears its times. One that speaks of a time more than POOL_SKEW_SECONDS
+ * ahead of the clock is refused (WARM_LATE_HORIZON, WARM_LATE_STAMP): its horizon would empty the history, or its pages would rank as hottest
+ * until then. */
 int pool_file_receive(pool_file *file, const uint8_t *frame, size_t length);
 
-/* A peer's reference has this time: those that follow here are later. A time that is more than an hour ahead of the clock is not believed. */
+/* A peer's reference or its horizon has this time: references that follow here are later. A time that is more than POOL_SKEW_SECONDS ahead of
+ * the clock is not believed. */
 void pool_file_heard(pool_file *file, uint64_t time);
 
 /* One line: what was counted. */

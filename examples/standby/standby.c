@@ -24,11 +24,12 @@
 #include "take.h"
 #include "vfs.h"
 
-/* Between two passes over the primary's file, and how many pages are loaded after each: between them the standby hears gossip. */
-enum { FOLLOW_MILLISECONDS = 250, STEPS = 200 };
+/* From one pass over the primary's file to the next; how long it is followed, and warmed up, at a time; and how many messages are heard between
+ * two slices of a pass. */
+enum { FOLLOW_MILLISECONDS = 250, SLICE_MILLISECONDS = 50, HEARD = 64 };
 
-static volatile sig_atomic_t takes_over, ends;
-static volatile uint64_t takeover_at; /* written before takes_over, and read after it */
+static volatile sig_atomic_t takes_over, ends, is_called; /* the last: either of both */
+static volatile uint64_t takeover_at;                     /* written before takes_over, and read after it */
 
 static void on_signal(int number) {
     if (number != SIGUSR1) ends = 1;
@@ -36,49 +37,81 @@ static void on_signal(int number) {
         takeover_at = nanoseconds(CLOCK_MONOTONIC);
         takes_over = 1;
     }
+    is_called = 1;
 }
 
 /* Microseconds since the signal. */
 static uint64_t outage(void) { return (nanoseconds(CLOCK_MONOTONIC) - takeover_at) / 1000; }
 
-/* Loads pages of the warm-up, so many at most, and none once it is time for something else. A page that cannot be read or put into a frame ends
- * it: the standby is as warm as it is. */
-static void warm_up(pool_file *file, uint64_t most, const volatile sig_atomic_t *is_time) {
-    uint64_t end = file->warmed + most;
+/* Loads pages of the warm-up, for so long at most, and none once it is time for something else. A page that cannot be read or put into a frame
+ * ends it: the standby is as warm as it is. */
+static void warm_up(pool_file *file, uint64_t milliseconds, const volatile sig_atomic_t *is_time) {
+    uint64_t end = milliseconds_now() + milliseconds;
     bool found = true;
     int status = WARM_OK;
-    while (status == WARM_OK && found && file->warmed < end && !*is_time) status = pool_file_step(file, &found);
+    while (status == WARM_OK && found && !*is_time && milliseconds_now() < end) status = pool_file_step(file, &found);
     if (status != WARM_OK) printf("standby: the warm-up ended with status %d\n", status);
 }
 
-/* A look at the primary's file, now and then. After the last one before the signal, nothing is left to load but what became hot since. */
-static void follow(const options *o, pool_file *file, uint64_t *follow_at) {
-    taken counts;
+/* A pass over the primary's file, now and then, a slice of it at a time, and then one of the warm-up. After the last one before the signal,
+ * nothing is left to load but what became hot since. */
+static void follow(const options *o, pool_file *file, pass *p, uint64_t *follow_at) {
+    bool is_over = false;
     if (milliseconds_now() < *follow_at) return;
-    if (!take_pages(file, o->from, &counts)) printf("standby: %s is not followed: %s\n", o->from, strerror(errno));
-    warm_up(file, STEPS, &takes_over);
+    bool is_right = (p->room != NULL || take_begin(p, file, o->from)) && take_slice(p, file, SLICE_MILLISECONDS, &is_called, &is_over);
+    if (!is_right) printf("standby: %s is not followed: %s\n", o->from, strerror(errno));
+    if (is_right && !is_over) return;
+    take_end(p);
+    warm_up(file, SLICE_MILLISECONDS, &is_called);
     *follow_at = milliseconds_now() + FOLLOW_MILLISECONDS;
 }
 
-static void say_changes(const gossip *g, bool *was_connected, bool *was_gone) {
-    if (g->is_connected != *was_connected) printf("standby: broker %s\n", g->is_connected ? "there" : "gone");
-    if (g->peer_is_gone != *was_gone) printf("standby: primary's connection %s\n", g->peer_is_gone ? "gone" : "there");
-    *was_connected = g->is_connected;
-    *was_gone = g->peer_is_gone;
+/* What was last said. */
+typedef struct said {
+    bool is_connected, is_gone, is_late;
+} said;
+
+static void say_changes(const gossip *g, said *last) {
+    bool is_late = g->statuses[WARM_LATE_HORIZON] + g->statuses[WARM_LATE_STAMP] > 0;
+    if (g->is_connected != last->is_connected) printf("standby: broker %s\n", g->is_connected ? "there" : "gone");
+    if (g->peer_is_gone != last->is_gone) printf("standby: primary's connection %s\n", g->peer_is_gone ? "gone" : "there");
+    if (is_late && !last->is_late)
+        printf("standby: frames are refused: they speak of a time more than %d s ahead of this clock\n", POOL_SKEW_SECONDS);
+    *last = (said){g->is_connected, g->peer_is_gone, is_late};
     fflush(stdout);
 }
 
-static void stand_by(const options *o, gossip *g, pool_file *file) {
-    bool was_connected = false, was_gone = false;
+/* A call takes one message. Within a pass none is waited for. */
+static void hear(gossip *g, bool is_within_pass) {
+    for (int at = 0; at < HEARD && is_within_pass; at++) gossip_poll(g, 0);
+    if (!is_within_pass) gossip_poll(g, 50);
+}
+
+static void stand_by(const options *o, gossip *g, pool_file *file, said *last) {
+    pass p = {0};
     uint64_t follow_at = 0;
     printf("standby: stands by\n");
     fflush(stdout);
-    while (!takes_over && !ends) {
-        gossip_poll(g, 50);
-        say_changes(g, &was_connected, &was_gone);
-        if (is_mode(o, "warm")) follow(o, file, &follow_at);
+    while (!is_called) {
+        hear(g, p.room != NULL);
+        say_changes(g, last);
+        if (is_mode(o, "warm")) follow(o, file, &p, &follow_at);
     }
+    take_end(&p);
     if (ends) exit(0);
+}
+
+/* Until the signal, and that of a primary whose file nobody has a lock on: where somebody has, nothing was taken, and it can be sent again. */
+static source wait_for_source(const options *o, gossip *g, pool_file *file) {
+    said last = {0};
+    source primary;
+    for (;;) {
+        stand_by(o, g, file, &last);
+        if (take_source(&primary, o->from)) return primary;
+        printf("standby: the primary still has a lock on %s: it is not taken over\n", o->from);
+        takes_over = is_called = 0;
+        if (ends) exit(0);
+    }
 }
 
 /* For the measure: what was written is read from its disk again. */
@@ -87,9 +120,9 @@ static void evict(const options *o, int fd) {
 }
 
 /* The files, and then the pages that became hot since. Without a pool the files alone. */
-static void take_over(const options *o, pool_file *file) {
+static void take_over(const options *o, pool_file *file, source *primary) {
     uint64_t warmed = file != NULL ? file->warmed : 0;
-    taken counts = take_files(file, o->from, o->db);
+    taken counts = take_files(file, primary, o->db);
     uint64_t had_files = outage();
     if (file == NULL) {
         printf("standby: outage: files %llu us\n", (unsigned long long)had_files);
@@ -145,6 +178,7 @@ static void wait_warm(const options *o) {
     pool_file *file;
     gossip g;
     char *copy = take_copy_path(o->db);
+    take_header(copy, o->from);
     must_be_ok(pool_vfs_prepare(copy, o->db, &file), NULL, copy);
     sqlite3_free(copy);
     const char *wrong = gossip_open(&g, file, o->host, (int)o->port, (unsigned)o->peer);
@@ -152,17 +186,22 @@ static void wait_warm(const options *o) {
         fprintf(stderr, "standby: %s\n", wrong);
         exit(1);
     }
-    stand_by(o, &g, file);
-    take_over(o, file);
+    source primary = wait_for_source(o, &g, file);
+    take_over(o, file, &primary);
     gossip_print(&g, stdout);
     gossip_close(&g);
 }
 
 /* Without a history nothing is to be waited for, and no signal. */
 static void take_cold(const options *o) {
+    source primary;
     on_signal(SIGUSR1);
     sqlite3_free(take_copy_path(o->db));
-    take_over(o, NULL);
+    if (!take_source(&primary, o->from)) {
+        fprintf(stderr, "standby: the primary still has a lock on %s\n", o->from);
+        exit(1);
+    }
+    take_over(o, NULL, &primary);
     int fd = open(o->db, O_RDONLY | O_CLOEXEC);
     take_must(fd >= 0, o->db);
     evict(o, fd);
@@ -179,7 +218,10 @@ int main(int count, char **words) {
     }
     if (is_mode(&o, "warm") || is_mode(&o, "late")) wait_warm(&o);
     else take_cold(&o);
+    if (take_has_wal(o.db)) o.has_wal = true;
     sqlite3 *db = open_database(&o);
     go_on(&o, db);
+    pool_file *file = pool_vfs_of(db);
+    if (file != NULL) pool_file_print(file, stdout);
     return sqlite3_close(db) != SQLITE_OK;
 }

@@ -18,6 +18,8 @@
 #include <sys/stat.h>
 #include <unistd.h>
 
+#include "clock.h"
+
 void take_must(bool is_so, const char *what) {
     if (is_so) return;
     fprintf(stderr, "standby: %s: %s\n", what, strerror(errno));
@@ -30,18 +32,41 @@ static char *joined(const char *path, const char *end) {
     return all;
 }
 
+/* A symbolic link to nothing is there too. */
 static void must_not_be_there(const char *db) {
-    if (access(db, F_OK) == 0) errno = EEXIST;
+    struct stat about;
+    if (lstat(db, &about) == 0) errno = EEXIST;
     take_must(errno == ENOENT, db);
 }
 
-/* The descriptor stays open: with it goes the lock, and closing it would also drop SQLite's locks on what is DB by then. */
+/* Whether the descriptors are of two files: what is written to one must not be what is read from the other. */
+static bool are_two_files(int one, int other) {
+    struct stat first, second;
+    if (fstat(one, &first) != 0 || fstat(other, &second) != 0) return false;
+    if (first.st_dev != second.st_dev || first.st_ino != second.st_ino) return true;
+    errno = EINVAL;
+    return false;
+}
+
+/* The descriptor stays open: with it goes the lock, and closing it would also drop SQLite's locks on what is DB by then. A symbolic link is
+ * refused: it, and not its file, would become DB. */
 char *take_copy_path(const char *db) {
     char *copy = joined(db, ".copy");
     must_not_be_there(db);
-    int fd = open(copy, O_RDWR | O_CREAT | O_CLOEXEC, 0666);
+    int fd = open(copy, O_RDWR | O_CREAT | O_NOFOLLOW | O_CLOEXEC, 0666);
     take_must(fd >= 0 && flock(fd, LOCK_EX | LOCK_NB) == 0, copy);
     return copy;
+}
+
+void take_header(const char *copy_path, const char *from) {
+    uint8_t header[100];
+    struct stat about;
+    int copy = open(copy_path, O_WRONLY | O_CLOEXEC), source = open(from, O_RDONLY | O_CLOEXEC);
+    take_must(copy >= 0 && fstat(copy, &about) == 0, copy_path);
+    bool is_known = about.st_size == 0 && source >= 0 && pread(source, header, sizeof header, 0) == sizeof header;
+    take_must(!is_known || pwrite(copy, header, sizeof header, 0) == sizeof header, copy_path);
+    if (source >= 0) close(source);
+    close(copy);
 }
 
 /* ---- pages ---- */
@@ -60,40 +85,104 @@ static bool read_page(int fd, uint8_t *page, size_t page_size, uint64_t no) {
     return true;
 }
 
-/* room is for two pages. */
-static bool take_all(pool_file *copy, int fd, uint64_t size, uint8_t *room, taken *counts) {
-    for (uint64_t no = 0; no * copy->page_size < size; no++) {
-        bool differs, is_in;
-        if (!read_page(fd, room, copy->page_size, no)) return false;
-        if (pool_file_take(copy, no, room, room + copy->page_size, &differs, &is_in) != WARM_OK) return false;
-        counts->pages++;
-        counts->changed += differs;
-        counts->in_frames += differs && is_in;
-    }
-    return copy->size == size || pool_file_truncate(copy, size) == WARM_OK;
+/* The size is looked at first: a page that the primary adds meanwhile comes with the next pass. */
+static bool begin_at(pass *p, const pool_file *copy, int source) {
+    struct stat about;
+    *p = (pass){.source = source};
+    if (fstat(source, &about) != 0 || !are_two_files(source, copy->fd)) return false;
+    p->size = (uint64_t)about.st_size;
+    p->room = malloc(2 * copy->page_size);
+    return p->room != NULL;
 }
 
-/* The size is looked at first: a page that the primary adds meanwhile comes with the next pass. */
-bool take_pages(pool_file *copy, const char *from, taken *counts) {
-    struct stat about;
-    int fd = open(from, O_RDONLY | O_CLOEXEC);
-    uint8_t *room = malloc(2 * copy->page_size);
-    *counts = (taken){0};
-    bool is_done = fd >= 0 && room != NULL && fstat(fd, &about) == 0 && take_all(copy, fd, (uint64_t)about.st_size, room, counts);
+bool take_begin(pass *p, const pool_file *copy, const char *from) {
+    int source = open(from, O_RDONLY | O_CLOEXEC);
+    if (source >= 0 && begin_at(p, copy, source)) return true;
     int error = errno;
-    free(room);
-    if (fd >= 0) close(fd);
+    if (source >= 0) close(source);
     errno = error;
-    return is_done;
+    return false;
+}
+
+void take_end(pass *p) {
+    if (p->room == NULL) return;
+    close(p->source);
+    free(p->room);
+    *p = (pass){0};
+}
+
+static bool take_page(pass *p, pool_file *copy) {
+    bool differs, is_in;
+    if (!read_page(p->source, p->room, copy->page_size, p->next)) return false;
+    if (pool_file_take(copy, p->next, p->room, p->room + copy->page_size, &differs, &is_in) != WARM_OK) return false;
+    p->next++;
+    p->counts.pages++;
+    p->counts.changed += differs;
+    p->counts.in_frames += differs && is_in;
+    return true;
+}
+
+bool take_slice(pass *p, pool_file *copy, uint64_t milliseconds, const volatile sig_atomic_t *is_time, bool *is_over) {
+    uint64_t end = milliseconds_now() + milliseconds;
+    *is_over = false;
+    while (p->next * copy->page_size < p->size) {
+        if (*is_time || milliseconds_now() >= end) return true;
+        if (!take_page(p, copy)) return false;
+    }
+    *is_over = true;
+    return copy->size == p->size || pool_file_truncate(copy, p->size) == WARM_OK;
+}
+
+/* A whole pass, whatever it takes. */
+static bool take_pages(pool_file *copy, int source, taken *counts) {
+    static const volatile sig_atomic_t never;
+    pass p;
+    bool is_over = false;
+    if (!begin_at(&p, copy, source) || !take_slice(&p, copy, UINT32_MAX, &never, &is_over)) return false;
+    *counts = p.counts;
+    free(p.room);
+    return is_over;
+}
+
+/* ---- the primary's file ---- */
+
+/* SQLite's locks are on 512 bytes of the database, from here on. Whoever reads has one of them, and whoever writes. */
+enum { LOCKS_AT = 0x40000000, LOCK_BYTES = 512, LOCK_TRIES = 100, TRY_MICROSECONDS = 10000 };
+
+/* A lock on all of these bytes. Without the right to write, it is one that readers share. */
+static bool lock_all(int fd) {
+    bool may_write = (fcntl(fd, F_GETFL) & O_ACCMODE) == O_RDWR;
+    struct flock all = {.l_type = may_write ? F_WRLCK : F_RDLCK, .l_whence = SEEK_SET, .l_start = LOCKS_AT, .l_len = LOCK_BYTES};
+    return fcntl(fd, F_SETLK, &all) == 0;
+}
+
+/* It is tried again for a second: a process that was just killed may not have ended. */
+bool take_source(source *primary, const char *from) {
+    primary->path = realpath(from, NULL);
+    take_must(primary->path != NULL, from);
+    primary->fd = open(primary->path, O_RDWR | O_CLOEXEC);
+    if (primary->fd < 0) primary->fd = open(primary->path, O_RDONLY | O_CLOEXEC);
+    take_must(primary->fd >= 0, from);
+    for (int at = 0; at < LOCK_TRIES; at++) {
+        if (lock_all(primary->fd)) return true;
+        if (errno != EACCES && errno != EAGAIN) {
+            printf("standby: %s is taken without a lock: %s\n", from, strerror(errno));
+            return true;
+        }
+        usleep(TRY_MICROSECONDS);
+    }
+    close(primary->fd);
+    free(primary->path);
+    return false;
 }
 
 /* ---- files ---- */
 
-/* Copies a whole file, which is on its disk then. */
+/* Copies a whole file, which is on its disk then. The target is cut once it is known to be another file. */
 static void copy_file(int source, const char *to) {
     ssize_t copied;
-    int target = open(to, O_WRONLY | O_CREAT | O_TRUNC | O_CLOEXEC, 0666);
-    take_must(target >= 0, to);
+    int target = open(to, O_WRONLY | O_CREAT | O_NOFOLLOW | O_CLOEXEC, 0666);
+    take_must(target >= 0 && are_two_files(source, target) && ftruncate(target, 0) == 0, to);
     do copied = sendfile(target, source, NULL, 1 << 30);
     while (copied > 0 || (copied < 0 && errno == EINTR));
     take_must(copied == 0 && fsync(target) == 0 && close(target) == 0, to);
@@ -123,30 +212,46 @@ static void take_beside(const char *from, const char *db, const char *end) {
     sqlite3_free(draft);
 }
 
-static taken take_database(pool_file *copy, const char *from, const char *copy_path) {
+/* DB may have come meanwhile: it is not written over. Where the file system, or the system, has no such rename, a look must do. */
+static void put_in_place(const char *copy_path, const char *db) {
+    if (renameat2(AT_FDCWD, copy_path, AT_FDCWD, db, RENAME_NOREPLACE) == 0) return;
+    take_must(errno == EINVAL || errno == ENOSYS, db);
+    must_not_be_there(db);
+    take_must(rename(copy_path, db) == 0, db);
+}
+
+static taken take_database(pool_file *copy, const source *primary, const char *copy_path) {
     taken counts = {0};
     if (copy != NULL) {
-        take_must(take_pages(copy, from, &counts), from);
+        take_must(take_pages(copy, primary->fd, &counts), primary->path);
         /* What stood in the copy before this program may not be on its disk, so it is synced also where nothing differed. */
         take_must(pool_file_leave(copy) == WARM_OK && fsync(copy->fd) == 0, copy_path);
     } else {
-        int source = open(from, O_RDONLY | O_CLOEXEC);
-        take_must(source >= 0, from);
-        copy_file(source, copy_path);
-        close(source);
+        copy_file(primary->fd, copy_path);
     }
     return counts;
 }
 
-taken take_files(pool_file *copy, const char *from, const char *db) {
+/* The primary's descriptor is closed last: that drops the lock. */
+taken take_files(pool_file *copy, source *primary, const char *db) {
     char *copy_path = joined(db, ".copy");
     must_not_be_there(db);
-    taken counts = take_database(copy, from, copy_path);
-    take_beside(from, db, "-journal");
-    take_beside(from, db, "-wal");
+    taken counts = take_database(copy, primary, copy_path);
+    take_beside(primary->path, db, "-journal");
+    take_beside(primary->path, db, "-wal");
     sync_folder_of(db);
-    take_must(rename(copy_path, db) == 0, db);
+    put_in_place(copy_path, db);
     sync_folder_of(db);
     sqlite3_free(copy_path);
+    close(primary->fd);
+    free(primary->path);
     return counts;
+}
+
+/* Byte 19 of a database is the version of its format for readers: 2 is that of a WAL. */
+bool take_has_wal(const char *db) {
+    uint8_t version = 0;
+    int fd = open(db, O_RDONLY | O_CLOEXEC);
+    take_must(fd >= 0 && pread(fd, &version, 1, 19) >= 0 && close(fd) == 0, db);
+    return version == 2;
 }

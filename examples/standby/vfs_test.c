@@ -244,9 +244,10 @@ static void write_both(pool_file *file, model *m, size_t at, size_t length) {
     if (m->size < at + length) m->size = at + length;
 }
 
+/* Makes the file shorter, or now and then longer. */
 static void truncate_both(pool_file *file, model *m) {
-    size_t size = draw((uint32_t)m->size + 1);
-    memset(m->bytes + size, 0, m->size - size);
+    size_t size = draw(3) == 0 ? draw(MODEL_ROOM - 8192) : draw((uint32_t)m->size + 1);
+    if (size < m->size) memset(m->bytes + size, 0, m->size - size);
     m->size = size;
     MUST(pool_file_truncate(file, size) == WARM_OK);
 }
@@ -340,6 +341,37 @@ static void change_counter(void) {
     close(fd);
 }
 
+/* A page that was cut off, and comes again with the bytes that its frame still has, is written to the file again. Pages before it that nobody
+ * takes are zeros, as are those of a file that is made longer, whatever their frames had. */
+static void taken_again(void) {
+    enum { PAGE = 4096, PAGES = 5 };
+    static pool_file file;
+    static uint8_t pages[PAGES][PAGE], read[PAGES][PAGE], room[PAGE];
+    bool differs, is_in, found;
+    int fd = open(path_of("taken"), O_RDWR | O_CREAT | O_TRUNC, 0666);
+    MUST(fd >= 0 && pool_file_open(&file, fd, 1, 8) == WARM_OK);
+    for (uint64_t at = 0; at < PAGES; at++) {
+        warm_reference hot = {.time = at + 1, .no = at, .replica = 2};
+        memset(pages[at], (int)at + 1, PAGE);
+        MUST(pool_file_take(&file, at, pages[at], room, &differs, &is_in) == WARM_OK && differs && !is_in);
+        MUST(warm_absorb(pool_file_handle(&file), &hot, 1) == WARM_OK);
+    }
+    for (int at = 0; at < PAGES; at++) MUST(pool_file_step(&file, &found) == WARM_OK && found);
+    MUST(pool_file_truncate(&file, PAGE + 100) == WARM_OK);
+    MUST(pool_file_take(&file, 1, pages[1], room, &differs, &is_in) == WARM_OK && differs && is_in);
+    MUST(pool_file_take(&file, 4, pages[4], room, &differs, &is_in) == WARM_OK && differs && is_in);
+    MUST(pool_file_take(&file, 4, pages[4], room, &differs, &is_in) == WARM_OK && !differs && is_in);
+    MUST(pool_file_leave(&file) == WARM_OK && file.size == sizeof pages);
+    memset(pages[2], 0, 2 * PAGE);
+    MUST(pread(fd, read, sizeof read, 0) == sizeof read && memcmp(read, pages, sizeof read) == 0);
+    MUST(pool_file_read(&file, read[0], sizeof read, 0) == WARM_OK && memcmp(read, pages, sizeof read) == 0);
+    MUST(pool_file_truncate(&file, 3 * PAGE) == WARM_OK && pool_file_truncate(&file, sizeof pages) == WARM_OK);
+    memset(pages[3], 0, 2 * PAGE);
+    MUST(pool_file_read(&file, read[0], sizeof read, 0) == WARM_OK && memcmp(read, pages, sizeof read) == 0);
+    pool_file_close(&file);
+    close(fd);
+}
+
 /* A bucket of more pages than a frame carries is handed over in pieces: as the pool is opened again, and as gossip publishes it. */
 static void many_pages(void) {
     enum { PAGES = 2 * FRAME_ENTRIES + 500 };
@@ -360,29 +392,47 @@ static void many_pages(void) {
     close(fd);
 }
 
-/* The times of a frame's entries are found in either format, and a reference is later than each that was heard, but for absurd ones. */
+/* A request of replica 2 with this horizon. */
+static void request_with(uint8_t request[27], uint64_t horizon) {
+    memcpy(request, "L2G2\3\0\2\0\0\0\0\0\0\0\0\0\0\0\10\0\0\0\0\0\0\0\6", 27);
+    for (int at = 0; at < 8; at++) request[7 + at] = (uint8_t)(horizon >> (56 - 8 * at));
+}
+
+/* The times of a frame are found in either format, and a reference is later than each that was heard. A frame that speaks of a later time than
+ * is believed is refused, and neither empties the history nor moves its times. */
 static void heard_times(void) {
     static const uint8_t two[] = "L2G2\1\0\1\0\0\0\0\0\0\0\0\0\0\0\70\0\0\0\2" /* the body has 4, 31 and 21 bytes */
         "\0\0\0\0\0\0\0\0\0\7\2\0\0\0\0\0\0\1\4\0\1\0\0\0\0\0\0\0\12\0\1"
         "\0\0\0\0\0\0\0\0\0\107\1\0\0\0\0\0\0\0\5\0\1";
     static const uint8_t old[] = "L2G1\1\0\1\0\0\0\25\0\0\0\1\0\0\0\0\0\7\1\0\0\0\0\0\0\2\0\0\1";
-    static const uint8_t request[] = "L2G2\3\0\2\0\0\0\0\0\0\0\0\0\0\0\10\0\0\0\0\0\0\0\6";
-    static const uint64_t minute = 60 * (uint64_t)1000000000;
+    static const uint64_t second = 1000000000;
     static pool_file file;
+    uint8_t request[27];
+    size_t known;
     int fd = open(path_of("heard"), O_RDWR | O_CREAT | O_TRUNC, 0666);
     MUST(fd >= 0 && pool_file_open(&file, fd, 1, 4) == WARM_OK);
     MUST(warm_receive(pool_file_handle(&file), two, sizeof two - 1) == WARM_OK && frame_latest(two, sizeof two - 1) == 260);
     MUST(warm_receive(pool_file_handle(&file), old, sizeof old - 1) == WARM_OK && frame_latest(old, sizeof old - 1) == 512);
-    MUST(warm_receive(pool_file_handle(&file), request, sizeof request - 1) == WARM_OK && frame_latest(request, sizeof request - 1) == 0);
+    request_with(request, 258);
+    MUST(frame_latest(request, sizeof request) == 258);
     uint64_t now = file.time;
-    pool_file_heard(&file, now - minute);
+    pool_file_heard(&file, now - second);
     MUST(file.time == now);
-    pool_file_heard(&file, now + minute);
-    MUST(file.time == now + minute + 1);
+    pool_file_heard(&file, now + 30 * second);
+    MUST(file.time == now + 30 * second + 1);
     pool_file_heard(&file, UINT64_MAX);
-    pool_file_heard(&file, now + 120 * minute);
-    MUST(file.time == now + minute + 1);
-    MUST(pool_file_enter(&file) == WARM_OK && file.time == now + minute + 1); /* the clock is behind */
+    pool_file_heard(&file, now + 3600 * second);
+    MUST(file.time == now + 30 * second + 1);
+    MUST(pool_file_enter(&file) == WARM_OK && file.time == now + 30 * second + 1); /* the clock is behind */
+    request_with(request, now + 3540 * second);
+    MUST(pool_file_receive(&file, request, sizeof request) == WARM_LATE_HORIZON && file.time == now + 30 * second + 1);
+    MUST(warm_history_length(pool_file_handle(&file), &known) == WARM_OK && known == 2);
+    /* The horizon of a peer whose clock is ahead drops nothing of what is referenced from then on. */
+    request_with(request, now + 40 * second);
+    MUST(pool_file_receive(&file, request, sizeof request) == WARM_OK && file.time == now + 40 * second + 1);
+    MUST(pool_file_write(&file, request, sizeof request, 4096) == WARM_OK);
+    pool_file_absorb(&file);
+    MUST(warm_history_length(pool_file_handle(&file), &known) == WARM_OK && known == 2);
     pool_file_close(&file);
     close(fd);
 }
@@ -775,6 +825,7 @@ int main(int count, char **words) {
     wal_mode();
     many_pages();
     change_counter();
+    taken_again();
     heard_times();
     for (int at = 0; at < runs; at++) batches(seed + (uint64_t)at);
     for (int at = 0; at < runs; at++) random_bytes(seed + (uint64_t)at, frames[at % 6]);
