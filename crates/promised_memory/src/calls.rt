@@ -197,12 +197,12 @@ pub(crate) fn contested<P: Print>(rt: &P, met: &mut Met, mut contest: Contest) -
     set_of_two(&mut contest, 1, Some(first));
     takes_none(rt, "least")?;
     met.holds(contest.least() == Some(1), "another key is the least")?;
-    takes_none(rt, "clear_vacant")?;
-    contest.clear_vacant(&[Some(0), None]);
-    met.holds(contest.least() == Some(0), "a vacant slot has a key")?;
     takes_none(rt, "set of no key")?;
-    set_of_two(&mut contest, 0, None);
-    met.holds(contest.least() == None, "a key is not cleared")
+    set_of_two(&mut contest, 1, None);
+    met.holds(contest.least() == Some(0), "a key is not cleared")?;
+    takes_none(rt, "clear_vacant")?;
+    contest.clear_vacant(&[None, Some(0)]);
+    met.holds(contest.least() == None, "a vacant slot has a key")
 }
 
 // Touches of a buffer of two up to its capacity, and one more after it is emptied.
