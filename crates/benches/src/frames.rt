@@ -126,13 +126,13 @@ fn entries_in(frame: Option<BoxedMessage>) -> u64 {
     let Some(frame) = frame else {
         return 0;
     };
-    match frame.as_frame() {
+    match frame.as_message() {
         Message::Entries { entries, .. } => entries.as_slice().len() as u64,
         _ => 0,
     }
 }
 
-// Feeds all of a piece, and counts the entries of the frames that end in it. `None` at a fault.
+// FeedStep all of a piece, and counts the entries of the frames that end in it. `None` at a fault.
 fn feed_all(decoder: &mut Decoder, piece: &[u8]) -> Option<u64> {
     let mut count = 0u64;
     let mut rest = piece;

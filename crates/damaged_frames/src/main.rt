@@ -41,7 +41,7 @@ fn put_digests<W: Write>(alloc: Global, writer: &mut W, digests: &DigestTable) -
     Ok(())
 }
 
-// A frame's fields, and whether these bytes are its spelling.
+// A frame's fields, and whether these bytes are its encoding.
 fn put_frame<W: Write>(alloc: Global, writer: &mut W, frame: &Message, bytes: &[u8]) -> Result<()> {
     match frame {
         Message::Entries {
@@ -97,7 +97,7 @@ struct Reader<'a> {
     begun: usize,
 }
 
-// Feeds the rest of a piece, once. `false` after a fault.
+// FeedStep the rest of a piece, once. `false` after a fault.
 fn put_fed<W: Write>(
     alloc: Global,
     writer: &mut W,
@@ -112,7 +112,7 @@ fn put_fed<W: Write>(
             reader.fed = reader.fed.wrapping_add(taken);
             if let Some(frame) = frame {
                 let spelled = reader.bytes.get(reader.begun..reader.fed);
-                put_frame(alloc, writer, frame.as_frame(), spelled.unwrap_or(&[]))?;
+                put_frame(alloc, writer, frame.as_message(), spelled.unwrap_or(&[]))?;
                 reader.begun = reader.fed;
                 write!(writer, " to {}", reader.fed)?;
             }
@@ -126,7 +126,7 @@ fn put_fed<W: Write>(
     }
 }
 
-// Feeds a piece until all of it is consumed. `false` after a fault.
+// FeedStep a piece until all of it is consumed. `false` after a fault.
 fn put_piece<W: Write>(
     alloc: Global,
     writer: &mut W,

@@ -46,7 +46,7 @@ fn call(history: &mut DigestedHistory, line: &str) -> Result<Option<&'static str
             Ok(Some("digests"))
         }
         Some("since") => {
-            history.digests_since(number(words.next())?)?;
+            history.digests_at_horizon(number(words.next())?)?;
             Ok(Some("since"))
         }
         _ => bail!("no call"),

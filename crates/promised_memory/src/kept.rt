@@ -135,9 +135,9 @@ impl Kept {
         met.holds(is_loaded(&mut node, None), "the last step is refused")?;
         takes_none(rt, "second digests")?;
         met.holds(history.digests().is_ok(), "kept digests are refused")?;
-        takes_none(rt, "digests_since at the same horizon")?;
+        takes_none(rt, "digests_at_horizon at the same horizon")?;
         met.holds(
-            history.digests_since(0).is_ok(),
+            history.digests_at_horizon(0).is_ok(),
             "kept digests at the same horizon are refused",
         )?;
         takes_none(rt, "renew of no bucket")?;

@@ -148,12 +148,12 @@ fn joined_history(met: &mut Met, alloc: Global, later: &DigestTable) -> Result<(
 // The digests at the horizon 15, which change nothing.
 fn kept_since(met: &mut Met, history: &mut DigestedHistory) -> Result<DigestTable, Ended> {
     let len = history.history().len();
-    match history.digests_since(15) {
+    match history.digests_at_horizon(15) {
         Ok(table) => Ok(table),
         Err(_) => {
             let same = history.horizon() == 0 && history.history().len() == len;
             met.refuse(same, "refused digests at a horizon raise nothing")?;
-            match history.digests_since(15) {
+            match history.digests_at_horizon(15) {
                 Ok(table) => Ok(table),
                 Err(_) => Err(met.broken("digests at a horizon are refused again")),
             }

@@ -42,7 +42,7 @@ fn spelled(met: &mut Met, alloc: Global, frame: &Message, wanted: &[u8]) -> Resu
     met.holds(bytes.as_slice() == wanted, "a frame is written in one way")
 }
 
-// Feeds a piece that lies in the frame. A refusal consumes nothing, so the same piece is fed again.
+// FeedStep a piece that lies in the frame. A refusal consumes nothing, so the same piece is fed again.
 fn fed(met: &mut Met, decoder: &mut Decoder, piece: &[u8]) -> Result<Option<BoxedMessage>, Ended> {
     let Fed { taken, frame } = match decoder.feed(piece) {
         Ok(fed) => fed,
@@ -67,7 +67,7 @@ fn pieces(met: &mut Met, alloc: Global) -> Result<(), Ended> {
     let Some(frame) = fed(met, &mut decoder, &WIDE[53..])? else {
         return Err(met.broken("54 bytes are a frame"));
     };
-    spelled(met, alloc, frame.as_frame(), &WIDE)
+    spelled(met, alloc, frame.as_message(), &WIDE)
 }
 
 pub(crate) fn rows(met: &mut Met, alloc: Global) -> Result<(), Ended> {

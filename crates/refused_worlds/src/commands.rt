@@ -1,7 +1,7 @@
 //! Words of the command line.
 use refused_rows::{Ended, Met};
 use std::alloc::Global;
-use warm_setup::{Cmd, CmdFault, PathText, command_of, not_text};
+use warm_setup::{Cmd, CmdFault, PathText, command_of, non_utf8_argument};
 
 // The meaning of words, or that they are refused.
 #[derive(Clone, Copy)]
@@ -76,10 +76,10 @@ fn row(met: &mut Met, alloc: Global, words: &[&str], asked: Asked) -> Result<(),
 
 // The refusal of words that are not text; an allocation failure may come first.
 fn no_text(met: &mut Met, alloc: Global) -> Result<(), Ended> {
-    let mut read = read_as(&Err(not_text(alloc)), Asked::Refused);
+    let mut read = read_as(&Err(non_utf8_argument(alloc)), Asked::Refused);
     if read == Read::Memory {
         met.refuse(true, "")?;
-        read = read_as(&Err(not_text(alloc)), Asked::Refused);
+        read = read_as(&Err(non_utf8_argument(alloc)), Asked::Refused);
     }
     met.holds(
         read == Read::Rightly,

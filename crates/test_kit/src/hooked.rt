@@ -4,7 +4,7 @@ ghost use Rattle.std.specs.Prelude.{◌≡◌, IfOk, length};
 use std::alloc::{AllocError, Global};
 use warm_devices::{DeviceFault, MemDevice, PageDevice};
 
-/// What a test observes of a [`Hooked`] device; a hook may also delay a call. No contract says what
+/// What a test observes of a [`HookedDevice`] device; a hook may also delay a call. No contract says what
 /// a hook does.
 pub trait Hooks: Drop {
     /// A page is about to be read. The device forwards the call when this returns.
@@ -23,29 +23,29 @@ pub trait Hooks: Drop {
 
 /// A device in memory that forwards each call, and calls its hooks before a read or a write and
 /// when its drop begins.
-pub struct Hooked<H: Hooks> {
+pub struct HookedDevice<H: Hooks> {
     inner: MemDevice,
     hooks: H,
     page: Vec<u8>,
     ghost fits: { length page.items ≡ inner.page_size },
 }
 
-impl<H: Hooks> Hooked<H> {
+impl<H: Hooks> HookedDevice<H> {
     ghost use Rattle.test_kit.specs.HookedParts.{hooked_state};
 
     /// Forwards calls to `inner`.
     ///
     /// # Errors
     /// Where the allocation of a page buffer fails. Device and hooks are then dropped.
-    pub fn new(alloc: Global, inner: MemDevice, hooks: H) -> Result<Hooked<H>, AllocError>
+    pub fn new(alloc: Global, inner: MemDevice, hooks: H) -> Result<HookedDevice<H>, AllocError>
         ensures { IfOk result (λ device. hooked_state device ≡ inner) }
     {
         let page = Vec::from_elem(alloc, 0, inner.page_size())?;
-        Ok(Hooked { inner, hooks, page })
+        Ok(HookedDevice { inner, hooks, page })
     }
 }
 
-impl<H: Hooks> PageDevice for Hooked<H> {
+impl<H: Hooks> PageDevice for HookedDevice<H> {
     ghost use Rattle.test_kit.specs.HookedParts.{hooked_state};
 
     ghost state = { hooked_state };
@@ -98,9 +98,9 @@ fn show_all<H: Hooks>(inner: &mut MemDevice, hooks: &H, page: &mut Vec<u8>)
     }
 }
 
-impl<H: Hooks> Drop for Hooked<H> {
+impl<H: Hooks> Drop for HookedDevice<H> {
     fn drop(self) {
-        let Hooked {
+        let HookedDevice {
             mut inner,
             hooks,
             mut page,

@@ -14,7 +14,7 @@ mod values;
 
 pub use bytes::{NARROW, WIDE};
 pub use devices::{alone, both, flaky, memory};
-pub use hooked::{Hooked, Hooks};
+pub use hooked::{HookedDevice, Hooks};
 pub use lists::{SeenAt, history_of, references};
 pub use note::{Found, Note, Noting, noting};
 pub use values::{bucket, entry, once, page, page_on, replica, seen, stamp, twice};

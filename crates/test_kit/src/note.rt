@@ -6,7 +6,7 @@ ghost use Rattle.std.specs.Prelude.{◌≡◌, IfOk};
 ghost use Rattle.test_kit.specs.HookedParts.{hooked_state};
 ghost use Rattle.warm_devices.specs.Device.{zeroed};
 
-use crate::{Hooked, Hooks};
+use crate::{HookedDevice, Hooks};
 use std::alloc::{AllocError, Global};
 use std::sync::Arc;
 use std::sync::atomic::{AtomicU8, AtomicU64, Ordering};
@@ -112,7 +112,7 @@ impl Hooks for Arc<Note, Global> {
 }
 
 /// A device in memory that records its drop.
-pub type Noting = Hooked<Arc<Note, Global>>;
+pub type Noting = HookedDevice<Arc<Note, Global>>;
 
 /// A device of `pages` pages of `page_size` zeros that records its drop, and the note.
 ///
@@ -128,6 +128,6 @@ pub fn noting(
     let note = Note::blank(alloc, pages, page_size)?;
     let other = Arc::try_clone(&note)?;
     let inner = MemDevice::new(alloc, pages, page_size)?;
-    let device = Hooked::new(alloc, inner, other)?;
+    let device = HookedDevice::new(alloc, inner, other)?;
     Ok((device, note))
 }

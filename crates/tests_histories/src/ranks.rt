@@ -1,17 +1,17 @@
 //! Which pages leave first by a history, the contest that finds the least key, and the list of a warm-up.
 ghost use Rattle.std.specs.Prelude.{◌≡◌, ◌<◌, ◌≤◌, length};
-ghost use Rattle.warm_rank.specs.declared.TheConstants.{MAX_SLOTS};
+ghost use Rattle.warm_rank.specs.declared.TheConstants.{MAX_FRAMES};
 
 use std::alloc::Global;
 use std::cmp::Ordering;
 use std::process::Abort;
 use test_kit::{history_of, once, page, seen, twice};
 use warm_history::History;
-use warm_rank::{Contest, RankKey, key_of, leaving_order, warm_list};
+use warm_rank::{Contest, RankKey, key_of, eviction_order, warm_list};
 use warm_stamps::{PageId, PageList};
 
 fn leaves_first(history: &History, first: u64, second: u64) -> bool {
-    match leaving_order(history, page(first), page(second)) {
+    match eviction_order(history, page(first), page(second)) {
         Ordering::Less => true,
         _ => false,
     }
@@ -60,7 +60,7 @@ fn set_rising(contest: &mut Contest, slots: u32)
 // Keys rise with the slots, so the first slot that has one has the least.
 fn rises(rt: &impl Abort, alloc: Global, slots: u32) -> bool
     requires some { 0 < slots }
-    requires few { slots ≤ MAX_SLOTS }
+    requires few { slots ≤ MAX_FRAMES }
 {
     let mut contest = Contest::new(alloc, slots as usize).expect(rt, "memory for slots");
     set_rising(&mut contest, slots);

@@ -18,7 +18,7 @@ use std::process::Abort;
 use test_kit::{alone, both, flaky, memory, page, page_on};
 use warm_devices::{MemDevice, PageDevice};
 use warm_history::History;
-use warm_pool::{NewPoolFault, Pool, PoolFault, Slot, Unretired};
+use warm_pool::{NewPoolFault, Pool, PoolFault, Slot, RetireError};
 use warm_stamps::PageId;
 
 const fn slot(index: u32, generation: u64) -> Slot {
@@ -130,7 +130,7 @@ fn retire<D: PageDevice>(
     history: &History,
     dev: u16,
     device: D,
-) -> Result<(), Unretired<D>>
+) -> Result<(), RetireError<D>>
     requires { RankedBy pool.old history.now }
     ensures { RankedBy pool.new history.now }
 {

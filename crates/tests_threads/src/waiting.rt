@@ -7,7 +7,7 @@ use std::sync::atomic::{AtomicU64, Ordering};
 use std::sync::{Arc, Wait};
 use std::thread::Threads;
 use std::time::Clock;
-use test_kit::{Hooked, Hooks, memory, page, seen};
+use test_kit::{HookedDevice, Hooks, memory, page, seen};
 use warm_gossip::{Call, Reply};
 use warm_replica::{Absorbing, BoxedCall, Gate, Job, Replies, Step, StepReply};
 
@@ -100,10 +100,10 @@ fn slow_device(
     alloc: Global,
     clock: HostRuntime,
     flags: &Arc<Flags, Global>,
-) -> Hooked<SlowReads> {
+) -> HookedDevice<SlowReads> {
     let flags = Arc::try_clone(flags).expect(rt, "one owner more");
     let inner = memory(alloc, 8).expect(rt, "memory for a device");
-    Hooked::new(alloc, inner, SlowReads { clock, flags }).expect(rt, "memory for a page")
+    HookedDevice::new(alloc, inner, SlowReads { clock, flags }).expect(rt, "memory for a page")
 }
 
 // A job of one step.

@@ -9,7 +9,7 @@ use std::process::Abort;
 use test_kit::{NARROW, WIDE};
 use warm_frames::{Decoder, FrameFault};
 
-// Feeds the start of a piece, and appends the spelling of a returned frame to the text. Returns the
+// FeedStep the start of a piece, and appends the encoding of a returned frame to the text. Returns the
 // number of consumed bytes.
 fn feed_some(
     rt: &impl Abort,
@@ -21,13 +21,13 @@ fn feed_some(
     let fed = decoder.feed(piece).expect(rt, "no fault");
     let taken = fed.taken;
     if let Some(frame) = &fed.frame {
-        let bytes = encoded(rt, alloc, frame.as_frame());
+        let bytes = encoded(rt, alloc, frame.as_message());
         put(rt, text, &bytes);
     }
     taken
 }
 
-// Feeds a whole piece, and appends the spellings of the returned frames to the text.
+// FeedStep a whole piece, and appends the spellings of the returned frames to the text.
 fn feed_all(
     rt: &impl Abort,
     alloc: Global,

@@ -8,7 +8,7 @@ use Rattle.warm_c.specs.declared.status.Refusal.{Refusal}
 use Rattle.warm_c.specs.declared.status.Refusal.TheVariants.{Node, NewPool, Frame, Closed, AlreadyOpen, BufferTooSmall, BadReplica, BadBucket, SameFile, Late, Dump}
 use Rattle.warm_c.specs.declared.values.WarmDevice.{WarmDevice}
 use Rattle.warm_c.specs.FdParts.{fd_opened, fd_state}
-use Rattle.warm_c.specs.Handles.{AreDevices, IsClash, IsUnmade, devices_of}
+use Rattle.warm_c.specs.Handles.{AreDevices, IsClash, IsUnmade, fd_devices}
 
 -- devices that may be opened, each by itself, but not together
 pub clash_unmade : (page_size : ℕ) (devices : List WarmDevice) (why : Refusal) → AreDevices page_size devices → IsClash devices why → IsUnmade page_size devices why
@@ -38,10 +38,10 @@ map_push f (y ∷ ys) x = ap (λ rest. f y ∷ rest) (map_push f ys x)
 
 -- one more device is made, over the descriptor of the next
 pub made_next : (ds : List WarmDevice) (i : ℕ) (x : WarmDevice) (page_size : ℕ) (made : List FdDevice) (device : FdDevice) (fd : ℤ) → i < length ds
-    → map fd_state made ≡ devices_of page_size (take i ds) → fd ≡ (get_or ds i x).fd → fd_state device ≡ fd_opened fd (get_or ds i x).pages page_size
-    → map fd_state (made ++ device ∷ []) ≡ devices_of page_size (take (i + 1) ds)
+    → map fd_state made ≡ fd_devices page_size (take i ds) → fd ≡ (get_or ds i x).fd → fd_state device ≡ fd_opened fd (get_or ds i x).pages page_size
+    → map fd_state (made ++ device ∷ []) ≡ fd_devices page_size (take (i + 1) ds)
 made_next ds i x page_size made device fd below so same opened =
     let shown : WarmDevice → DeviceState = λ d. fd_opened d.fd d.pages page_size in
     let next : fd_state device ≡ shown (get_or ds i x) = opened ∙ ap (λ (n : ℤ). fd_opened n (get_or ds i x).pages page_size) same in
-    map_push fd_state made device ∙ ap (λ (states : List DeviceState). states ++ fd_state device ∷ []) so ∙ ap (λ (s : DeviceState). devices_of page_size (take i ds) ++ s ∷ []) next
+    map_push fd_state made device ∙ ap (λ (states : List DeviceState). states ++ fd_state device ∷ []) so ∙ ap (λ (s : DeviceState). fd_devices page_size (take i ds) ++ s ∷ []) next
     ∙ sym (map_push shown (take i ds) (get_or ds i x)) ∙ ap (map shown) (sym (rw add-one (take-suc ds i x below)))

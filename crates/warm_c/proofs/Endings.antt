@@ -5,7 +5,7 @@ use Rattle.warm_c.specs.declared.held.Held.{Held}
 use Rattle.warm_c.specs.declared.status.Refusal.{Refusal}
 use Rattle.warm_c.specs.Statuses.{code_of, status_of}
 use Rattle.warm_c.specs.Calls.{Ending}
-use Rattle.warm_c.specs.Handles.{Asked, Called, IsUnopened, Opens}
+use Rattle.warm_c.specs.Handles.{OpenRequest, Called, IsUnopened, Opens}
 
 -- an open handle, which holds something before and after
 pub called : (goes : Held → Ending → Held → Type 0) (before after : Option Held) (status : ℤ) (old new : Held) (ending : Ending)
@@ -14,7 +14,7 @@ called goes before after status old new ending was is went said =
     subst (λ (o : Option Held). Called goes o status after) (sym was) (subst (λ (o : Option Held). Called goes (Some old) status o) (sym is) (ending, went, said))
 
 -- a closed one of which none was made
-pub unopened : (a : Asked) (before after : Option Held) (status : ℤ) (why : Refusal)
+pub unopened : (a : OpenRequest) (before after : Option Held) (status : ℤ) (why : Refusal)
     → before ≡ None → after ≡ None → status ≡ pos (code_of why) → IsUnopened a why → Opens a before status after
 unopened a before after status why was is said for =
     subst (λ (o : Option Held). Opens a o status after) (sym was) (subst (λ (o : Option Held). Opens a None status o) (sym is) (why, said, for))

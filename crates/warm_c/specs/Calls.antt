@@ -4,14 +4,14 @@ use Rattle.warm_stamps.specs.Replicas.{IsReplica}
 use Rattle.warm_stamps.specs.Buckets.{IsBucket}
 use Rattle.warm_stamps.specs.declared.PageId.{PageId}
 use Rattle.warm_history.specs.Histories.{HistoryView, IsHistory, entries_of}
-use Rattle.warm_files.specs.Reading.{IsDump, IsRefused}
+use Rattle.warm_files.specs.Reading.{IsDump, IsDumpRefused}
 use Rattle.warm_files.specs.Writing.{StopsWriting}
 use Rattle.warm_frames.specs.declared.message.Message.{Message}
 use Rattle.warm_frames.specs.declared.limit.TimeFault.{TimeFault}
 use Rattle.warm_frames.specs.declared.limit.TimeFault.TheVariants.{LateHorizon, LateStamp}
 use Rattle.warm_frames.specs.Limits.{SpeaksBy, StampsBy, entries_in, horizon_in}
-use Rattle.warm_frames.specs.Reading.{Gives, read_frame, reserved_by}
-use Rattle.warm_frames.specs.Spelling.{Spells, spelling}
+use Rattle.warm_frames.specs.Reading.{GivesReading, read_frame, reserved_by}
+use Rattle.warm_frames.specs.Spelling.{Encodes, encoding}
 use Rattle.warm_pool.specs.State.{IsSettled}
 use Rattle.warm_gossip.specs.declared.call.Call.{Call}
 use Rattle.warm_gossip.specs.declared.call.Call.TheVariants.{Absorb, Send, Receive, Horizon, Pin, Unpin, Read, Write, Victim, WarmList, WarmStep}
@@ -19,7 +19,7 @@ use Rattle.warm_gossip.specs.declared.call.Reply.{Reply}
 use Rattle.warm_gossip.specs.declared.call.Reply.TheVariants.{Done, Sent, Answers, Kept, Pinned, Bytes, Page, Pages, Loaded, Refused}
 use Rattle.warm_gossip.specs.declared.fault.NodeFault.{NodeFault}
 use Rattle.warm_gossip.specs.declared.fault.NodeFault.TheVariants.{Memory}
-use Rattle.warm_gossip.specs.Clauses.{Goes, Joins, SameView, WriteBackFails}
+use Rattle.warm_gossip.specs.Clauses.{Goes, Joins, SameView, NodeWriteBackFails}
 use Rattle.warm_c.specs.declared.held.Held.{Held}
 use Rattle.warm_c.specs.declared.status.Refusal.{Refusal}
 use Rattle.warm_c.specs.declared.status.Refusal.TheVariants.{Node, Frame, Late, BufferTooSmall, BadReplica, BadBucket, Dump}
@@ -27,7 +27,7 @@ use Rattle.warm_c.specs.declared.values.PinnedSlot.{PinnedSlot}
 use Rattle.warm_c.specs.declared.values.WarmPage.{WarmPage}
 use Rattle.warm_c.specs.declared.values.WarmReference.{WarmReference}
 use Rattle.warm_c.specs.declared.values.WarmSlot.{WarmSlot}
-use Rattle.warm_c.specs.Values.{c_page, IsPut, page_of, pinned_slot, reference_of, slot_of, with_start}
+use Rattle.warm_c.specs.Values.{c_page, IsOptionalPage, page_of_c, pinned_slot, reference_of, slot_of_c, with_start}
 
 -- what a call of the library ends with
 abbrev pub Ending : Type 0
@@ -76,47 +76,47 @@ Lists before count after number old (Ok given) new =
 Lists before count after number old (Err why) new = RefusedByNode (WarmList (length before)) old why new × (after ≡ before) × (number ≡ count)
 
 -- how many pages the history knows
-abbrev pub Counts : ℕ → Held → Held → Type 0
-Counts number old new = (number ≡ length (entries_of old.node.history)) × (new ≡ old)
+abbrev pub CountsPages : ℕ → Held → Held → Type 0
+CountsPages number old new = (number ≡ length (entries_of old.node.history)) × (new ≡ old)
 
 -- The pool
 
 abbrev pub Pins : WarmPage → PinnedSlot → PinnedSlot → Held → Ending → Held → Type 0
-Pins page before after old (Ok given) new = Replies (Pin (page_of page)) old (Pinned (pinned_slot after)) new
-Pins page before after old (Err why) new = RefusedByNode (Pin (page_of page)) old why new × (after ≡ before)
+Pins page before after old (Ok given) new = Replies (Pin (page_of_c page)) old (Pinned (pinned_slot after)) new
+Pins page before after old (Err why) new = RefusedByNode (Pin (page_of_c page)) old why new × (after ≡ before)
 
 abbrev pub Unpins : WarmSlot → Held → Ending → Held → Type 0
-Unpins slot old (Ok given) new = Replies (Unpin (slot_of slot)) old Done new
-Unpins slot old (Err why) new = RefusedByNode (Unpin (slot_of slot)) old why new
+Unpins slot old (Ok given) new = Replies (Unpin (slot_of_c slot)) old Done new
+Unpins slot old (Err why) new = RefusedByNode (Unpin (slot_of_c slot)) old why new
 
 -- as many bytes as the buffer has room for; never refused for memory
-abbrev pub Reads : WarmSlot → ℕ → List ℕ → List ℕ → Held → Ending → Held → Type 0
-Reads slot at before after old (Ok given) new = Replies (Read (slot_of slot) at (length before)) old (Bytes after) new
-Reads slot at before after old (Err (Node Memory)) new = ⊥
-Reads slot at before after old (Err why) new = RefusedByNode (Read (slot_of slot) at (length before)) old why new × (after ≡ before)
+abbrev pub ReadsPage : WarmSlot → ℕ → List ℕ → List ℕ → Held → Ending → Held → Type 0
+ReadsPage slot at before after old (Ok given) new = Replies (Read (slot_of_c slot) at (length before)) old (Bytes after) new
+ReadsPage slot at before after old (Err (Node Memory)) new = ⊥
+ReadsPage slot at before after old (Err why) new = RefusedByNode (Read (slot_of_c slot) at (length before)) old why new × (after ≡ before)
 
 abbrev pub Writes : WarmSlot → ℕ → List ℕ → Held → Ending → Held → Type 0
-Writes slot at bytes old (Ok given) new = Replies (Write (slot_of slot) at bytes) old Done new
-Writes slot at bytes old (Err why) new = RefusedByNode (Write (slot_of slot) at bytes) old why new
+Writes slot at bytes old (Ok given) new = Replies (Write (slot_of_c slot) at bytes) old Done new
+Writes slot at bytes old (Err why) new = RefusedByNode (Write (slot_of_c slot) at bytes) old why new
 
 abbrev pub Names : WarmPage → ℕ → WarmPage → Held → Held → Type 0
-Names before found page old new = (named : Option PageId) × Replies Victim old (Page named) new × IsPut named before found page
+Names before found page old new = (named : Option PageId) × Replies Victim old (Page named) new × IsOptionalPage named before found page
 
-abbrev pub Steps : ℕ → WarmPage → ℕ → WarmPage → Held → Ending → Held → Type 0
-Steps found page found' page' old (Ok given) new = (loaded : Option PageId) × Replies WarmStep old (Loaded loaded) new × IsPut loaded page found' page'
-Steps found page found' page' old (Err why) new = RefusedByNode WarmStep old why new × (found' ≡ found) × (page' ≡ page)
+abbrev pub StepsWarmUp : ℕ → WarmPage → ℕ → WarmPage → Held → Ending → Held → Type 0
+StepsWarmUp found page found' page' old (Ok given) new = (loaded : Option PageId) × Replies WarmStep old (Loaded loaded) new × IsOptionalPage loaded page found' page'
+StepsWarmUp found page found' page' old (Err why) new = RefusedByNode WarmStep old why new × (found' ≡ found) × (page' ≡ page)
 
 abbrev pub WritesBack : Held → Ending → Held → Type 0
 WritesBack old (Ok given) new = SameView old.node new.node × IsSettled new.node.pool × SameBeside old new
-WritesBack old (Err (Node why)) new = WriteBackFails old.node why new.node × SameBeside old new
+WritesBack old (Err (Node why)) new = NodeWriteBackFails old.node why new.node × SameBeside old new
 WritesBack old (Err why) new = ⊥
 
 -- Frames
 
 -- the frame of a message stands at the start of the buffer, and its length is given; the length is given too where it does not fit
 abbrev pub PutsFrame : Message → List ℕ → ℕ → List ℕ → ℕ → Ending → Type 0
-PutsFrame message before len after len' (Ok given) = (after ≡ with_start (spelling message) before) × (len' ≡ length (spelling message))
-PutsFrame message before len after len' (Err BufferTooSmall) = (length before < length (spelling message)) × (after ≡ before) × (len' ≡ length (spelling message))
+PutsFrame message before len after len' (Ok given) = (after ≡ with_start (encoding message) before) × (len' ≡ length (encoding message))
+PutsFrame message before len after len' (Err BufferTooSmall) = (length before < length (encoding message)) × (after ≡ before) × (len' ≡ length (encoding message))
 PutsFrame message before len after len' (Err (Node Memory)) = (after ≡ before) × (len' ≡ len)
 PutsFrame message before len after len' (Err why) = ⊥
 
@@ -127,8 +127,8 @@ Sends call before len after len' old ending new =
     ⊎ ((why : NodeFault) × (ending ≡ Err (Node why)) × Replies call old (Refused why) new × (after ≡ before) × (len' ≡ len))
 
 -- the number is no bucket's, and nothing has changed; or the same of that bucket
-abbrev pub SendsBucket : ℕ → Option PageId → List ℕ → ℕ → List ℕ → ℕ → Held → Ending → Held → Type 0
-SendsBucket bucket page before len after len' old ending new =
+abbrev pub SendsFromBucket : ℕ → Option PageId → List ℕ → ℕ → List ℕ → ℕ → Held → Ending → Held → Type 0
+SendsFromBucket bucket page before len after len' old ending new =
     ((IsBucket bucket → ⊥) × (ending ≡ Err BadBucket) × (after ≡ before) × (len' ≡ len) × (new ≡ old))
     ⊎ Sends (Send bucket page) before len after len' old ending new
 
@@ -141,11 +141,11 @@ IsLate limit message LateStamp = (horizon_in message ≤ limit) × (StampsBy lim
 -- Or it refuses the frame; or the frame speaks of a later time, or the bytes spell none, and nothing has changed.
 abbrev pub Receives : List ℕ → Held → Ending → Held → Type 0
 Receives bytes old (Ok given) new =
-    (message : Message) × Spells bytes message × SpeaksBy old.limit message
+    (message : Message) × Encodes bytes message × SpeaksBy old.limit message
     × Goes old.node (Receive message) (Answers new.answers) new.node × (new.given ≡ 0) × (new.limit ≡ old.limit)
-Receives bytes old (Err (Node why)) new = (message : Message) × Spells bytes message × SpeaksBy old.limit message × Replies (Receive message) old (Refused why) new
-Receives bytes old (Err (Late fault)) new = (message : Message) × Spells bytes message × IsLate old.limit message fault × (new ≡ old)
-Receives bytes old (Err (Frame fault)) new = Gives (Err fault) (read_frame bytes) (reserved_by bytes) × (new ≡ old)
+Receives bytes old (Err (Node why)) new = (message : Message) × Encodes bytes message × SpeaksBy old.limit message × Replies (Receive message) old (Refused why) new
+Receives bytes old (Err (Late fault)) new = (message : Message) × Encodes bytes message × IsLate old.limit message fault × (new ≡ old)
+Receives bytes old (Err (Frame fault)) new = GivesReading (Err fault) (read_frame bytes) (reserved_by bytes) × (new ≡ old)
 Receives bytes old (Err why) new = ⊥
 
 -- the limit of times is this one from then on, and nothing else has changed
@@ -186,5 +186,5 @@ Saves old (Err why) new = IsUnsaved why × (new ≡ old)
 abbrev pub Loads : Option (List ℕ) → Held → Ending → Held → Type 0
 Loads bytes old (Ok given) new = ((h : HistoryView) × IsHistory h × IfSome bytes (λ text. IsDump text h) × Joins old.node h new.node) × SameBeside old new
 Loads bytes old (Err (Node Memory)) new = SameView old.node new.node × SameBeside old new
-Loads bytes old (Err (Dump why)) new = ((at : ℕ) × IfSome bytes (λ text. IsRefused text at why)) × (new ≡ old)
+Loads bytes old (Err (Dump why)) new = ((at : ℕ) × IfSome bytes (λ text. IsDumpRefused text at why)) × (new ≡ old)
 Loads bytes old (Err why) new = ⊥

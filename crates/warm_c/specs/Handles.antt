@@ -6,7 +6,7 @@ use Rattle.warm_devices.specs.Device.{DeviceState}
 use Rattle.warm_pool.specs.declared.TheConstants.{MAX_DEVICES}
 use Rattle.warm_pool.specs.declared.fault.PoolFault.TheVariants.{NoDevice}
 use Rattle.warm_pool.specs.State as pools
-use Rattle.warm_pool.specs.Opening.{NewRefused}
+use Rattle.warm_pool.specs.Opening.{NewPoolRefused}
 use Rattle.warm_gossip.specs.declared.fault.NodeFault.TheVariants.{Memory, Pool}
 use Rattle.warm_gossip.specs.State as nodes
 use Rattle.warm_c.specs.declared.held.Held.{Held}
@@ -31,18 +31,18 @@ Surely goes old (Err why) new = ⊥
 -- Opening
 
 -- what is asked of `warm_open`
-pub record Asked : Type 0 where
+pub record OpenRequest : Type 0 where
   pub replica : ℕ
   pub frames : ℕ
   pub page_size : ℕ
   pub devices : List WarmDevice
 
-abbrev pub asked : ℕ → ℕ → ℕ → List WarmDevice → Asked
-asked replica frames page_size devices = record { replica = replica; frames = frames; page_size = page_size; devices = devices }
+abbrev pub open_request : ℕ → ℕ → ℕ → List WarmDevice → OpenRequest
+open_request replica frames page_size devices = record { replica = replica; frames = frames; page_size = page_size; devices = devices }
 
 -- the devices that it makes
-abbrev pub devices_of : ℕ → List WarmDevice → List DeviceState
-devices_of page_size devices = map (λ d. fd_opened d.fd d.pages page_size) devices
+abbrev pub fd_devices : ℕ → List WarmDevice → List DeviceState
+fd_devices page_size devices = map (λ d. fd_opened d.fd d.pages page_size) devices
 
 -- there are no more devices than a pool takes, and their pages fit into what a file's offsets can name
 pub record AreDevices (page_size : ℕ) (devices : List WarmDevice) : Type 0 where
@@ -69,15 +69,15 @@ IsClash devices SameFile = HaveOneFile devices
 IsClash devices why = ⊥
 
 -- what an open handle was opened with
-pub record IsAsked (a : Asked) : Type 0 where
+pub record IsAsked (a : OpenRequest) : Type 0 where
   pub replica : IsReplica a.replica
   pub devices : AreDevices a.page_size a.devices
   pub apart : DescriptorsDiffer a.devices
 
 -- a node that was given nothing, over a pool without a page; no answer waits, and no time is later than the limit
-abbrev pub opened : Asked → Held
-opened a = record {
-  node = nodes.opened a.replica (pools.opened a.frames a.page_size (devices_of a.page_size a.devices));
+abbrev pub opened_handle : OpenRequest → Held
+opened_handle a = record {
+  node = nodes.opened a.replica (pools.opened a.frames a.page_size (fd_devices a.page_size a.devices));
   answers = [];
   given = 0;
   limit = 2 ^ 64 - 1;
@@ -92,14 +92,14 @@ IsUnmade page_size devices why = ⊥
 
 -- Why no node is made: the first that holds of `BadReplica`, why no devices are made, and why no pool is. An allocation may fail at any
 -- point.
-abbrev pub IsUnopened : Asked → Refusal → Type 0
+abbrev pub IsUnopened : OpenRequest → Refusal → Type 0
 IsUnopened a (Node Memory) = Unit {0}
 IsUnopened a BadReplica = IsReplica a.replica → ⊥
-IsUnopened a (NewPool fault) = IsAsked a × NewRefused a.frames a.page_size (devices_of a.page_size a.devices) fault
+IsUnopened a (NewPool fault) = IsAsked a × NewPoolRefused a.frames a.page_size (fd_devices a.page_size a.devices) fault
 IsUnopened a why = IsReplica a.replica × IsUnmade a.page_size a.devices why
 
 -- An open handle says that it is open, and is as it was. A closed one is then open and holds such a node, or stays closed.
-abbrev pub Opens : Asked → Option Held → ℤ → Option Held → Type 0
+abbrev pub Opens : OpenRequest → Option Held → ℤ → Option Held → Type 0
 Opens a (Some old) status new = (status ≡ pos (code_of AlreadyOpen)) × (new ≡ Some old)
-Opens a None status (Some held) = (status ≡ pos 0) × (held ≡ opened a) × IsAsked a
+Opens a None status (Some held) = (status ≡ pos 0) × (held ≡ opened_handle a) × IsAsked a
 Opens a None status None = (why : Refusal) × (status ≡ pos (code_of why)) × IsUnopened a why

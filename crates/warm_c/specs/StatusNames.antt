@@ -41,11 +41,11 @@ status_name (pos n) = name_at n
 status_name (negsuc n) = codes "Unknown"
 
 -- the fault of a decoder that has failed before: no whole frame has it, and no call of the library gives it
-abbrev pub IsFailed : Refusal → Type 0
-IsFailed (Frame frame.Failed) = Unit {0}
-IsFailed (Dump (dump.Frame frame.Failed)) = Unit {0}
-IsFailed why = ⊥
+abbrev pub IsDecoderFailed : Refusal → Type 0
+IsDecoderFailed (Frame frame.Failed) = Unit {0}
+IsDecoderFailed (Dump (dump.Frame frame.Failed)) = Unit {0}
+IsDecoderFailed why = ⊥
 
 -- the name of a refusal's status is its own
 abbrev pub NamesRefusals : Type 0
-NamesRefusals = (why : Refusal) → (IsFailed why → ⊥) → status_name (pos (code_of why)) ≡ name_of why
+NamesRefusals = (why : Refusal) → (IsDecoderFailed why → ⊥) → status_name (pos (code_of why)) ≡ name_of why

@@ -9,29 +9,29 @@ use Rattle.warm_c.specs.declared.values.WarmReference.{WarmReference}
 use Rattle.warm_c.specs.declared.values.WarmSlot.{WarmSlot}
 
 -- a page as the node knows it, and as C does
-abbrev pub page_of : WarmPage → PageId
-page_of p = record { dev = p.dev; no = p.no }
+abbrev pub page_of_c : WarmPage → PageId
+page_of_c p = record { dev = p.dev; no = p.no }
 
 abbrev pub c_page : PageId → WarmPage
 c_page p = record { no = p.no; dev = p.dev }
 
 -- the page, where there is one
 abbrev pub page_if : Bool → WarmPage → Option PageId
-page_if true p = Some (page_of p)
+page_if true p = Some (page_of_c p)
 page_if false p = None
 
 -- whether there is a page, as a bool of C, and which; page is as it was where there is none
-abbrev pub IsPut : Option PageId → WarmPage → ℕ → WarmPage → Type 0
-IsPut None before found page = (found ≡ 0) × (page ≡ before)
-IsPut (Some p) before found page = (found ≡ 1) × (page ≡ c_page p)
+abbrev pub IsOptionalPage : Option PageId → WarmPage → ℕ → WarmPage → Type 0
+IsOptionalPage None before found page = (found ≡ 0) × (page ≡ before)
+IsOptionalPage (Some p) before found page = (found ≡ 1) × (page ≡ c_page p)
 
 -- a reference as the node knows it
 abbrev pub reference_of : WarmReference → Reference
 reference_of r = record { page = record { dev = r.dev; no = r.no }; stamp = record { time = r.time; replica = r.replica } }
 
 -- a slot that C passes, as the node knows it
-abbrev pub slot_of : WarmSlot → Slot
-slot_of s = record { index = s.index; generation = s.generation }
+abbrev pub slot_of_c : WarmSlot → Slot
+slot_of_c s = record { index = s.index; generation = s.generation }
 
 -- a slot as a pin gives it to C
 abbrev pub c_slot : Slot → PinnedSlot

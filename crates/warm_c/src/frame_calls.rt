@@ -1,7 +1,7 @@
 //! The calls of an open handle that give frames or take one.
 ghost use Rattle.std.specs.Prelude.{◌≡◌, ◌<◌, ◌≤◌, length};
 ghost use Rattle.warm_gossip.specs.declared.call.Call.TheVariants.{Offer};
-ghost use Rattle.warm_c.specs.Calls.{GivesNext, Limits, PutsFrame, Receives, Sends, SendsBucket};
+ghost use Rattle.warm_c.specs.Calls.{GivesNext, Limits, PutsFrame, Receives, Sends, SendsFromBucket};
 ghost use Rattle.warm_c.specs.Values.{with_start};
 
 use crate::held::Held;
@@ -61,7 +61,7 @@ impl Held {
         frame: &mut [u8],
         len: &mut usize,
     ) -> Result<(), Refusal>
-        ensures { SendsBucket bucket after frame.old len.old frame.new len.new self.old result
+        ensures { SendsFromBucket bucket after frame.old len.old frame.new len.new self.old result
             self.new }
     {
         let Some(bucket) = Bucket::new(bucket) else {

@@ -1,6 +1,6 @@
 //! The calls on the history of an open handle.
 ghost use Rattle.std.specs.Prelude.{◌≡◌, ◌≤◌, length, map, IfErr, IfOk};
-ghost use Rattle.warm_c.specs.Calls.{Absorbs, BatchRefused, Counts, Lists, Raises};
+ghost use Rattle.warm_c.specs.Calls.{Absorbs, BatchRefused, CountsPages, Lists, Raises};
 ghost use Rattle.warm_c.specs.Values.{c_page, reference_of, with_start};
 
 use crate::held::Held;
@@ -94,7 +94,7 @@ impl Held {
 
     /// How many pages the history knows.
     pub fn count(&mut self, number: &mut usize)
-        ensures { Counts number.new self.old self.new }
+        ensures { CountsPages number.new self.old self.new }
     {
         *number = self.node.history().len();
     }

@@ -13,8 +13,8 @@
 
 ghost use Rattle.std.specs.Prelude.{◌≡◌, pos, [], ◌∷◌, ◌++◌, length, None};
 ghost use Rattle.warm_gossip.specs.declared.call.Call.TheVariants.{Offer};
-ghost use Rattle.warm_c.specs.Calls.{Absorbs, Counts, GivesNext, Limits, Lists, Loads, Names, Pins, Raises, Reads, Receives, Saves, Sends, SendsBucket, Steps, Unpins, Writes, WritesBack};
-ghost use Rattle.warm_c.specs.Handles.{Called, Opens, Surely, asked};
+ghost use Rattle.warm_c.specs.Calls.{Absorbs, CountsPages, GivesNext, Limits, Lists, Loads, Names, Pins, Raises, ReadsPage, Receives, Saves, Sends, SendsFromBucket, StepsWarmUp, Unpins, Writes, WritesBack};
+ghost use Rattle.warm_c.specs.Handles.{Called, Opens, Surely, open_request};
 ghost use Rattle.warm_c.specs.StatusNames.{status_name};
 ghost use Rattle.warm_c.specs.Values.{page_if, with_some};
 
@@ -59,7 +59,7 @@ pub extern "C" fn warm_open(
     page_size: usize,
     devices: &[WarmDevice],
 ) -> i32
-    ensures { Opens (asked replica frames page_size devices.now) handle.old.slot.held result
+    ensures { Opens (open_request replica frames page_size devices.now) handle.old.slot.held result
         handle.new.slot.held }
 {
     if let Some(held) = handle.take(alloc) {
@@ -158,7 +158,7 @@ pub extern "C" fn warm_read(
     at: usize,
     into: &mut [u8],
 ) -> i32
-    ensures called { Called (Reads slot at into.old into.new) handle.old.slot.held result
+    ensures called { Called (ReadsPage slot at into.old into.new) handle.old.slot.held result
         handle.new.slot.held }
     ensures closed { handle.old.slot.held ≡ None → into.new ≡ into.old }
 {
@@ -249,7 +249,7 @@ pub extern "C" fn warm_step(
     found: &mut u8,
     page: &mut WarmPage,
 ) -> i32
-    ensures called { Called (Steps found.old page.old found.new page.new)
+    ensures called { Called (StepsWarmUp found.old page.old found.new page.new)
         handle.old.slot.held result handle.new.slot.held }
     ensures closed { handle.old.slot.held ≡ None → (found.new ≡ found.old) × (page.new ≡ page.old) }
 {
@@ -300,7 +300,7 @@ pub extern "C" fn warm_send(
     len: &mut usize,
 ) -> i32
     ensures called { Called
-        (SendsBucket bucket (page_if has_after after) frame.old len.old frame.new len.new)
+        (SendsFromBucket bucket (page_if has_after after) frame.old len.old frame.new len.new)
         handle.old.slot.held result handle.new.slot.held }
     ensures closed { handle.old.slot.held ≡ None → (frame.new ≡ frame.old) × (len.new ≡ len.old) }
 {
@@ -405,7 +405,7 @@ pub extern "C" fn warm_write_back(alloc: Global, handle: &mut Handle) -> i32
 /// Writes how many pages the history knows.
 #[unsafe(no_mangle)]
 pub extern "C" fn warm_history_length(alloc: Global, handle: &mut Handle, number: &mut usize) -> i32
-    ensures called { Called (Surely (Counts number.new)) handle.old.slot.held result
+    ensures called { Called (Surely (CountsPages number.new)) handle.old.slot.held result
         handle.new.slot.held }
     ensures closed { handle.old.slot.held ≡ None → number.new ≡ number.old }
 {

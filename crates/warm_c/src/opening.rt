@@ -2,7 +2,7 @@
 ghost use Rattle.std.specs.Bool.{Decides};
 ghost use Rattle.std.specs.Prelude.{◌≡◌, ◌≤◌, length, map, IfErr, IfOk, OnOk};
 ghost use Rattle.warm_c.specs.FdParts.{fd_state};
-ghost use Rattle.warm_c.specs.Handles.{AllDiffer, AreDevices, DescriptorsDiffer, IsAsked, IsClash, IsUnmade, IsUnopened, asked, devices_of, opened};
+ghost use Rattle.warm_c.specs.Handles.{AllDiffer, AreDevices, DescriptorsDiffer, IsAsked, IsClash, IsUnmade, IsUnopened, open_request, fd_devices, opened_handle};
 
 use crate::descriptor::Descriptor;
 use crate::fd_device::FdDevice;
@@ -82,7 +82,7 @@ fn devices_of(
     devices: &[WarmDevice],
 ) -> Result<Vec<FdDevice>, Refusal>
     ensures made { IfOk result (λ made.
-        map fd_state made.items ≡ devices_of page_size devices.now) }
+        map fd_state made.items ≡ fd_devices page_size devices.now) }
     ensures few { IfOk result (λ made. length made.items ≤ MAX_DEVICES) }
     ensures are { OnOk result (AreDevices page_size devices.now) }
     ensures apart { OnOk result (DescriptorsDiffer devices.now) }
@@ -117,10 +117,10 @@ pub fn open(
     page_size: usize,
     devices: &[WarmDevice],
 ) -> Result<Held, Refusal>
-    ensures opened { IfOk result (λ held.
-        held ≡ opened (asked replica frames page_size devices.now)) }
-    ensures is_asked { OnOk result (IsAsked (asked replica frames page_size devices.now)) }
-    ensures refused { IfErr result (IsUnopened (asked replica frames page_size devices.now)) }
+    ensures opened_handle { IfOk result (λ held.
+        held ≡ opened_handle (open_request replica frames page_size devices.now)) }
+    ensures is_asked { OnOk result (IsAsked (open_request replica frames page_size devices.now)) }
+    ensures refused { IfErr result (IsUnopened (open_request replica frames page_size devices.now)) }
 {
     let Ok(replica) = ReplicaId::new(replica) else {
         return Err(Refusal::BadReplica);

@@ -1,6 +1,6 @@
 //! The calls on the pool of an open handle.
-ghost use Rattle.warm_c.specs.Calls.{Names, Pins, Reads, Steps, Unpins, Writes, WritesBack};
-ghost use Rattle.warm_c.specs.Values.{IsPut};
+ghost use Rattle.warm_c.specs.Calls.{Names, Pins, ReadsPage, StepsWarmUp, Unpins, Writes, WritesBack};
+ghost use Rattle.warm_c.specs.Values.{IsOptionalPage};
 
 use crate::held::Held;
 use crate::status::Refusal;
@@ -11,7 +11,7 @@ use warm_stamps::PageId;
 //
 // `found` is a number here, and not a `bool`: what a caller of C never wrote may be none, and is none of what this reads.
 fn put_page(given: Option<PageId>, found: &mut u8, page: &mut WarmPage)
-    ensures { IsPut given page.old found.new page.new }
+    ensures { IsOptionalPage given page.old found.new page.new }
 {
     match given {
         Some(given) => {
@@ -51,7 +51,7 @@ impl Held {
     /// # Errors
     /// The node's own. `into` is then as it was.
     pub fn read(&mut self, slot: WarmSlot, at: usize, into: &mut [u8]) -> Result<(), Refusal>
-        ensures { Reads slot at into.old into.new self.old result self.new }
+        ensures { ReadsPage slot at into.old into.new self.old result self.new }
     {
         self.node.read_into(slot.slot(), at, into)?;
         Ok(())
@@ -80,7 +80,7 @@ impl Held {
     /// # Errors
     /// The node's own. `found` and `page` are then as they were.
     pub fn step(&mut self, found: &mut u8, page: &mut WarmPage) -> Result<(), Refusal>
-        ensures { Steps found.old page.old found.new page.new self.old result self.new }
+        ensures { StepsWarmUp found.old page.old found.new page.new self.old result self.new }
     {
         let loaded = self.node.warm_step()?;
         put_page(loaded, found, page);

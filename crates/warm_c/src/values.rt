@@ -1,6 +1,6 @@
 //! What crosses to C, beside numbers, bytes and a handle.
 ghost use Rattle.std.specs.Prelude.{◌≡◌};
-ghost use Rattle.warm_c.specs.Values.{c_page, c_slot, page_if, page_of, slot_of};
+ghost use Rattle.warm_c.specs.Values.{c_page, c_slot, page_if, page_of_c, slot_of_c};
 
 use warm_pool::Slot;
 use warm_stamps::PageId;
@@ -74,7 +74,7 @@ impl WarmPage {
 
     /// The page, for the node.
     pub fn page(self) -> PageId
-        ensures { result ≡ page_of self }
+        ensures { result ≡ page_of_c self }
     {
         PageId {
             dev: self.dev,
@@ -98,7 +98,7 @@ impl PinnedSlot {
 impl WarmSlot {
     /// The slot, for the node.
     pub fn slot(self) -> Slot
-        ensures { result ≡ slot_of self }
+        ensures { result ≡ slot_of_c self }
     {
         Slot {
             index: self.index,

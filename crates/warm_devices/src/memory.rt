@@ -22,14 +22,14 @@ pub struct MemDevice {
 impl Model for MemDevice {
     ghost use Rattle.std.specs.Prelude.{◌≡◌, ◌*◌, length, true};
     ghost use Rattle.warm_devices.specs.Device.{DeviceState};
-    ghost use Rattle.warm_devices.specs.Pieces.{pieces};
+    ghost use Rattle.warm_devices.specs.Pieces.{equal_pieces};
 
     ghost Value = { DeviceState };
 
     ghost view = { λ m. record {
       pages = m.pages;
       page_size = m.page_size;
-      contents = pieces m.pages m.page_size m.bytes.items;
+      contents = equal_pieces m.pages m.page_size m.bytes.items;
       waiting = m.waiting;
       failures = 0;
       honest = true;

@@ -18,8 +18,8 @@ use Rattle.warm_stamps.proofs.DistinctLemmas.{is_equal, all_filter}
 use Rattle.warm_stamps.proofs.StampLemmas.{page_order}
 use Rattle.warm_history.specs.declared.hist.Entry.{Entry}
 use Rattle.warm_history.specs.Carried.{bucket_entries}
-use Rattle.warm_history.specs.ReferenceSets.{ReferenceSet, recent, references, ◌∪◌}
-use Rattle.warm_history.specs.ListHistories.{references_to, first_two, hist}
+use Rattle.warm_history.specs.ReferenceSets.{ReferenceSet, references_from, references, ◌∪◌}
+use Rattle.warm_history.specs.ListHistories.{list_references_to, first_two, list_hist}
 use Rattle.warm_history.specs.Histories.{HistoryView, entries_of, history}
 use Rattle.warm_history.proofs.ChangeLemmas.{get-bucket}
 use Rattle.warm_history.proofs.KeptLemmas.{kept_alike}
@@ -72,7 +72,7 @@ same_entries (e ∷ es) (f ∷ fs) some others same =
 -- ---- a bucket says all of its pages
 
 -- lists that agree on a bucket agree on each of its pages
-same_bucket_same_hist : (S T : ReferenceSet) (p : PageId) → bucket_entries (page_bucket p) (entries_of (history S)) ≡ bucket_entries (page_bucket p) (entries_of (history T)) → hist (references S) p ≡ hist (references T) p
+same_bucket_same_hist : (S T : ReferenceSet) (p : PageId) → bucket_entries (page_bucket p) (entries_of (history S)) ≡ bucket_entries (page_bucket p) (entries_of (history T)) → list_hist (references S) p ≡ list_hist (references T) p
 same_bucket_same_hist S T p same =
     sym (get-history (references S) p)
     ∙ ap (λ es. get es p) (sym (entries-history S))
@@ -87,10 +87,10 @@ same_bucket_same_hist S T p same =
 abbrev pub kept : (PageId → Bool) → List Reference → List Reference
 kept test S = filter (λ r. test r.page) S
 
-references_to-kept : (test : PageId → Bool) (S : List Reference) (p : PageId) → references_to (kept test S) p ≡ cond (test p) (references_to S p) []
+references_to-kept : (test : PageId → Bool) (S : List Reference) (p : PageId) → list_references_to (kept test S) p ≡ cond (test p) (list_references_to S p) []
 references_to-kept test [] p = cases (test p)
   where
-    cases : (t : Bool) → references_to [] p ≡ cond t (references_to [] p) []
+    cases : (t : Bool) → list_references_to [] p ≡ cond t (list_references_to [] p) []
     cases true = refl
     cases false = refl
 references_to-kept test (r ∷ S) p = cases (test r.page) refl (is_eq (page_cmp r.page p)) refl (references_to-kept test S p)
@@ -98,8 +98,8 @@ references_to-kept test (r ∷ S) p = cases (test r.page) refl (is_eq (page_cmp 
     page_is : is_eq (page_cmp r.page p) ≡ true → test p ≡ test r.page
     page_is here = ap test (sym (page_order.same r.page p (is_equal (page_cmp r.page p) here)))
 
-    cases : (t : Bool) → test r.page ≡ t → (c : Bool) → is_eq (page_cmp r.page p) ≡ c → references_to (kept test S) p ≡ cond (test p) (references_to S p) []
-        → references_to (cond t (r ∷ kept test S) (kept test S)) p ≡ cond (test p) (cond c (r ∷ references_to S p) (references_to S p)) []
+    cases : (t : Bool) → test r.page ≡ t → (c : Bool) → is_eq (page_cmp r.page p) ≡ c → list_references_to (kept test S) p ≡ cond (test p) (list_references_to S p) []
+        → list_references_to (cond t (r ∷ kept test S) (kept test S)) p ≡ cond (test p) (cond c (r ∷ list_references_to S p) (list_references_to S p)) []
     cases true is true here rest =
         let yes : test p ≡ true = page_is here ∙ is in
         rw here (rw yes (ap (λ t. r ∷ t) (rest ∙ rw yes refl)))
@@ -109,26 +109,26 @@ references_to-kept test (r ∷ S) p = cases (test r.page) refl (is_eq (page_cmp 
         rest ∙ rw not refl
     cases false is false other rest = rest
 
-pub hist-kept : (test : PageId → Bool) (S : List Reference) (p : PageId) → hist (kept test S) p ≡ cond (test p) (hist S p) None
+pub hist-kept : (test : PageId → Bool) (S : List Reference) (p : PageId) → list_hist (kept test S) p ≡ cond (test p) (list_hist S p) None
 hist-kept test S p =
     ap (λ rs. first_two (distinct (flip_args stamp_cmp) (map (λ (r : Reference). r.stamp) rs))) (references_to-kept test S p)
-    ∙ elim (test p) as (λ b. first_two (distinct (flip_args stamp_cmp) (map (λ (r : Reference). r.stamp) (cond b (references_to S p) []))) ≡ cond b (hist S p) None) [ true ↦ refl | false ↦ refl ]
+    ∙ elim (test p) as (λ b. first_two (distinct (flip_args stamp_cmp) (map (λ (r : Reference). r.stamp) (cond b (list_references_to S p) []))) ≡ cond b (list_hist S p) None) [ true ↦ refl | false ↦ refl ]
 
 -- ---- what is known twice, and what is not known
 
-pub joined_same : (S : List Reference) (p : PageId) → joined (hist S p) (hist S p) ≡ hist S p
+pub joined_same : (S : List Reference) (p : PageId) → joined (list_hist S p) (list_hist S p) ≡ list_hist S p
 joined_same S p = sym (hist-append S S p) ∙ hist_repeat S p
 
-pub joined_none : (S : List Reference) (p : PageId) → joined (hist S p) None ≡ hist S p
-joined_none S p = sym (hist-append S [] p) ∙ ap (λ (R : List Reference). hist R p) (append-nil S)
+pub joined_none : (S : List Reference) (p : PageId) → joined (list_hist S p) None ≡ list_hist S p
+joined_none S p = sym (hist-append S [] p) ∙ ap (λ (R : List Reference). list_hist R p) (append-nil S)
 
 -- on pages that pass the test S says the same as its part that passes; on others S says what T does
-hist_exchanged : (test : PageId → Bool) (S T : List Reference) (p : PageId) → (test p ≡ false → hist S p ≡ hist T p) → hist (T ++ kept test S) p ≡ hist (T ++ S) p
-hist_exchanged test S T p same = hist-append T (kept test S) p ∙ ap (joined (hist T p)) (hist-kept test S p) ∙ cases (test p) refl ∙ sym (hist-append T S p)
+hist_exchanged : (test : PageId → Bool) (S T : List Reference) (p : PageId) → (test p ≡ false → list_hist S p ≡ list_hist T p) → list_hist (T ++ kept test S) p ≡ list_hist (T ++ S) p
+hist_exchanged test S T p same = hist-append T (kept test S) p ∙ ap (joined (list_hist T p)) (hist-kept test S p) ∙ cases (test p) refl ∙ sym (hist-append T S p)
   where
-    cases : (t : Bool) → test p ≡ t → joined (hist T p) (cond t (hist S p) None) ≡ joined (hist T p) (hist S p)
+    cases : (t : Bool) → test p ≡ t → joined (list_hist T p) (cond t (list_hist S p) None) ≡ joined (list_hist T p) (list_hist S p)
     cases true is = refl
-    cases false is = joined_none T p ∙ sym (joined_same T p) ∙ ap (joined (hist T p)) (sym (same is))
+    cases false is = joined_none T p ∙ sym (joined_same T p) ∙ ap (joined (list_hist T p)) (sym (same is))
 
 -- ---- digests
 
@@ -178,7 +178,7 @@ exchanged : (S T : ReferenceSet) (buckets : ℕ) → Fits (history S) → Fits (
 exchanged S T buckets fits others settled =
     let test : PageId → Bool = λ q. bit_at buckets (page_bucket q) == 1 in
     let m = max T.horizon S.horizon in
-    let alike : (p : PageId) → hist (references T ++ kept test (references S)) p ≡ hist (references T ++ references S) p = λ p.
+    let alike : (p : PageId) → list_hist (references T ++ kept test (references S)) p ≡ list_hist (references T ++ references S) p = λ p.
     hist_exchanged test (references S) (references T) p (λ clear. elim (settled (page_bucket p) (low_bucket p)) [
       | inl set ↦ (let never : true ≡ false = sym (eq-eqb (bit_at buckets (page_bucket p)) 1 set) ∙ clear in absurd (cc))
       | inr text ↦ same_bucket_same_hist S T p (same_entries
@@ -188,10 +188,10 @@ exchanged S T buckets fits others settled =
           text)
     ]) in
     same_hists (T ∪ in_buckets buckets S) (T ∪ S) refl (λ p.
-    ap (λ rs. hist rs p) (references-both T (in_buckets buckets S))
-    ∙ ap (λ rs. hist (recent m (references T ++ rs)) p) (references-those (λ r. test r.page) S)
+    ap (λ rs. list_hist rs p) (references-both T (in_buckets buckets S))
+    ∙ ap (λ rs. list_hist (references_from m (references T ++ rs)) p) (references-those (λ r. test r.page) S)
     ∙ kept_alike m (references T ++ kept test (references S)) (references T ++ references S) alike p
-    ∙ ap (λ rs. hist rs p) (sym (references-both T S)))
+    ∙ ap (λ rs. list_hist rs p) (sym (references-both T S)))
 
 pub exchange_joins : ExchangeJoins
 exchange_joins S T buckets fits others differ = elim (all_settled (history S) (history T) buckets BUCKETS (omega arith) differ) [

@@ -9,12 +9,12 @@ use Rattle.warm_stamps.specs.declared.TheConstants.{BUCKETS}
 use Rattle.warm_history.specs.declared.hist.Entry.{Entry}
 use Rattle.warm_history.specs.Changes.{MarksChanged}
 use Rattle.warm_history.specs.Losses.{MarksLosing, raised}
-use Rattle.warm_history.specs.Histories.{HistoryView, entries_of, holding}
+use Rattle.warm_history.specs.Histories.{HistoryView, entries_of, history_of_entries}
 use Rattle.warm_frames.specs.Entries.{entries_bytes}
 use Rattle.warm_frames.specs.Digests.{digest_at}
 use Rattle.sha2.specs.Sha256.{sha256}
-use Rattle.warm_digest.specs.BucketDigests.{bucket_digest, digests_of, digests_since}
-use Rattle.warm_digest.specs.KeptDigests.{HasDigestsOf, SameDigestsOutside, IsKept}
+use Rattle.warm_digest.specs.BucketDigests.{bucket_digest, digests_of, digests_at_horizon}
+use Rattle.warm_digest.specs.KeptDigests.{HasDigestsOf, SameDigestsOutside, AreCurrent}
 
 abbrev digest_from : List Entry → List ℕ
 digest_from es = sha256 (entries_bytes es)
@@ -24,7 +24,7 @@ both_clear : (a b i : ℕ) → bit_at (bit_or a b) i ≡ 0 → (bit_at a i ≡ 0
 both_clear a b i clear = let is = bit_at_or a b i in (omega (arith, is, clear), omega (arith, is, clear))
 
 -- the digests that are not marked stay right where the buckets are marked whose entries change
-pub kept_as_marked : (es fs : List Entry) (old changed : ℕ) (digests : List (List ℕ)) → IsKept old es digests → MarksChanged es fs changed → IsKept (bit_or old changed) fs digests
+pub kept_as_marked : (es fs : List Entry) (old changed : ℕ) (digests : List (List ℕ)) → AreCurrent old es digests → MarksChanged es fs changed → AreCurrent (bit_or old changed) fs digests
 kept_as_marked es fs old changed digests kept marks bucket low clear =
     let both = both_clear old changed bucket clear in
     kept bucket low both.0 ∙ sym (ap digest_from ((marks bucket low).1 both.1))
@@ -35,7 +35,7 @@ pub digest_is : (es : List Entry) (bucket : ℕ) → bucket < BUCKETS → digest
 digest_is es bucket low = get_or-map-range_with_len (bucket_digest es) 0 BUCKETS bucket bucket [] low (omega arith)
 
 -- the digests of nothing are right for a history that holds nothing
-pub nothing_kept : (changed : ℕ) (h : HistoryView) (digests : List (List ℕ)) → digests ≡ digests_of [] → h ≡ holding [] → IsKept changed (entries_of h) digests
+pub nothing_kept : (changed : ℕ) (h : HistoryView) (digests : List (List ℕ)) → digests ≡ digests_of [] → h ≡ history_of_entries [] → AreCurrent changed (entries_of h) digests
 nothing_kept changed h digests are none bucket low clear = ap (λ (s : List (List ℕ)). digest_at s bucket) are ∙ digest_is [] bucket low ∙ sym (ap (λ (g : HistoryView). bucket_digest (entries_of g) bucket) none)
 
 -- a table that has the digest of each bucket is the table of digests
@@ -43,7 +43,7 @@ all_done : (digests : List (List ℕ)) (h : List Entry) → length digests ≡ B
 all_done digests h all each = fill_by_all (bucket_digest h) digests BUCKETS [] all each
 
 -- digests that were right but for the marked ones, and these renewed, are all right
-pub all_right : (changed : ℕ) (h : List Entry) (old new : List (List ℕ)) → length new ≡ BUCKETS → IsKept changed h old → HasDigestsOf changed h new → SameDigestsOutside changed old new → new ≡ digests_of h
+pub all_right : (changed : ℕ) (h : List Entry) (old new : List (List ℕ)) → length new ≡ BUCKETS → AreCurrent changed h old → HasDigestsOf changed h new → SameDigestsOutside changed old new → new ≡ digests_of h
 all_right changed h old new count kept has same = all_done new h count (λ bucket low. elim (cases_eq (bit_at changed bucket) 1) [
   | inl set ↦ has bucket low set
   | inr clear ↦ (let zero_is : bit_at changed bucket ≡ 0 = omega (arith, bit_at-lt changed bucket, clear) in same bucket low zero_is ∙ kept bucket low zero_is)
@@ -56,8 +56,8 @@ all_renewed h digests count has = all_done digests h count (λ bucket low. has b
 -- ---- digests at a horizon
 
 -- of the changed buckets those are renewed that lose nothing: the others stay marked
-pub others_right : (changed lost : ℕ) (h : List Entry) (old new : List (List ℕ)) → lost < 2 ^ 64 → IsKept changed h old → HasDigestsOf (bit_and changed (bit_not w64 lost)) h new → SameDigestsOutside (bit_and changed (bit_not w64 lost)) old new
-    → IsKept (bit_and changed lost) h new
+pub others_right : (changed lost : ℕ) (h : List Entry) (old new : List (List ℕ)) → lost < 2 ^ 64 → AreCurrent changed h old → HasDigestsOf (bit_and changed (bit_not w64 lost)) h new → SameDigestsOutside (bit_and changed (bit_not w64 lost)) old new
+    → AreCurrent (bit_and changed lost) h new
 others_right changed lost h old new fits kept has same bucket low clear =
     let buckets = bit_and changed (bit_not w64 lost) in
     let not_lost : bit_at (bit_not w64 lost) bucket ≡ 1 - bit_at lost bucket = bit_at_not w64 lost bucket fits low in
@@ -69,8 +69,8 @@ others_right changed lost h old new fits kept has same bucket low clear =
     ]
 
 -- digests of a history, with those that it would have at a horizon of the buckets that lose something there
-pub all_since : (changed lost horizon : ℕ) (h : HistoryView) (own table : List (List ℕ)) → length table ≡ BUCKETS → IsKept (bit_and changed lost) (entries_of h) own → MarksLosing horizon h lost
-    → HasDigestsOf lost (entries_of (raised horizon h)) table → SameDigestsOutside lost own table → table ≡ digests_since horizon h
+pub all_since : (changed lost horizon : ℕ) (h : HistoryView) (own table : List (List ℕ)) → length table ≡ BUCKETS → AreCurrent (bit_and changed lost) (entries_of h) own → MarksLosing horizon h lost
+    → HasDigestsOf lost (entries_of (raised horizon h)) table → SameDigestsOutside lost own table → table ≡ digests_at_horizon horizon h
 all_since changed lost horizon h own table count kept loses has same = all_done table (entries_of (raised horizon h)) count (λ bucket low. elim (cases_eq (bit_at lost bucket) 1) [
   | inl set ↦ has bucket low set
   | inr clear ↦ (let zero_is : bit_at lost bucket ≡ 0 = omega (arith, bit_at-lt lost bucket, clear) in

@@ -20,8 +20,8 @@ abbrev pub digests_of : List Entry → List (List ℕ)
 digests_of h = map (bucket_digest h) (range_with_len 0 BUCKETS)
 
 -- the digests that a history would have if it were raised to the horizon
-abbrev pub digests_since : ℕ → HistoryView → List (List ℕ)
-digests_since horizon h = digests_of (entries_of (raised horizon h))
+abbrev pub digests_at_horizon : ℕ → HistoryView → List (List ℕ)
+digests_at_horizon horizon h = digests_of (entries_of (raised horizon h))
 
 -- a bit of the set is set exactly where the digests of the bucket of its number differ
 abbrev pub MarksDiffering : ℕ → List (List ℕ) → List (List ℕ) → Type 0

@@ -5,7 +5,7 @@ use Rattle.std.specs.Int.{bit_at}
 use Rattle.sha2.specs.Sha256.{sha256}
 use Rattle.warm_stamps.specs.declared.TheConstants.{BUCKETS}
 use Rattle.warm_stamps.specs.Buckets.{page_bucket}
-use Rattle.warm_history.specs.ReferenceSets.{ReferenceSet, ◌∪◌, those}
+use Rattle.warm_history.specs.ReferenceSets.{ReferenceSet, ◌∪◌, filter_references}
 use Rattle.warm_history.specs.Histories.{HistoryView, entries_of, history}
 use Rattle.warm_history.specs.Carried.{bucket_entries}
 use Rattle.warm_frames.specs.Entries.{IsEntry, entries_bytes}
@@ -28,7 +28,7 @@ IsDifferenceOf h g buckets = (bucket : ℕ) → bucket < BUCKETS
 
 -- the references of S to pages of these buckets
 abbrev pub in_buckets : ℕ → ReferenceSet → ReferenceSet
-in_buckets buckets S = those (λ r. bit_at buckets (page_bucket r.page) == 1) S
+in_buckets buckets S = filter_references (λ r. bit_at buckets (page_bucket r.page) == 1) S
 
 -- the entries of a history are valid
 abbrev pub Fits : HistoryView → Type 0

@@ -18,8 +18,8 @@ abbrev pub SameDigestsOutside : ℕ → List (List ℕ) → List (List ℕ) → 
 SameDigestsOutside buckets old new = (bucket : ℕ) → bucket < BUCKETS → bit_at buckets bucket ≡ 0 → digest_at new bucket ≡ digest_at old bucket
 
 -- each bucket that isn't marked as changed has the digest of its entries
-abbrev pub IsKept : ℕ → List Entry → List (List ℕ) → Type 0
-IsKept changed h digests = (bucket : ℕ) → bucket < BUCKETS → bit_at changed bucket ≡ 0 → digest_at digests bucket ≡ bucket_digest h bucket
+abbrev pub AreCurrent : ℕ → List Entry → List (List ℕ) → Type 0
+AreCurrent changed h digests = (bucket : ℕ) → bucket < BUCKETS → bit_at changed bucket ≡ 0 → digest_at digests bucket ≡ bucket_digest h bucket
 
 -- what contracts see of a history with cached digests: the history, and the set of the buckets
 -- whose digest must be recomputed

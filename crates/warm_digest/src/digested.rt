@@ -1,9 +1,9 @@
 //! A history whose bucket digests are cached.
 ghost use Rattle.std.specs.Prelude.{◌≡◌, ◌≤◌, [], IfOk, IsOk, OnOk, OnErr};
 ghost use Rattle.warm_history.specs.Changes.{MarksChanged};
-ghost use Rattle.warm_history.specs.ReferenceSets.{these, since, ◌∪◌};
-ghost use Rattle.warm_history.specs.Histories.{entries_of, history, holding, holding_since, join, refs};
-ghost use Rattle.warm_digest.specs.BucketDigests.{digests_of, digests_since};
+ghost use Rattle.warm_history.specs.ReferenceSets.{set_of_list, with_horizon, ◌∪◌};
+ghost use Rattle.warm_history.specs.Histories.{entries_of, history, history_of_entries, history_of_entries_at, join, references_of};
+ghost use Rattle.warm_digest.specs.BucketDigests.{digests_of, digests_at_horizon};
 ghost use Rattle.warm_digest.specs.KeptDigests.{MarksChanges, StaysMarked};
 
 use crate::kept::Digests;
@@ -43,20 +43,20 @@ impl Drop for DigestedHistory {
 
 impl Model for DigestedHistory {
     ghost use Rattle.warm_history.specs.Histories.{entries_of};
-    ghost use Rattle.warm_digest.specs.KeptDigests.{DigestedView, IsKept};
+    ghost use Rattle.warm_digest.specs.KeptDigests.{DigestedView, AreCurrent};
 
     ghost Value = { DigestedView };
 
     ghost view = { λ digested. record { history = digested.history; marked = digested.changed } };
 
     ghost invariant = { λ digested.
-        IsKept digested.changed (entries_of digested.history) digested.digests };
+        AreCurrent digested.changed (entries_of digested.history) digested.digests };
 }
 
 impl DigestedHistory {
     /// An empty history, with its digests. Allocation-free.
     pub fn new(alloc: Global) -> DigestedHistory
-        ensures empty { result.history ≡ holding [] }
+        ensures empty { result.history ≡ history_of_entries [] }
         ensures marks { result.marked ≡ 0 }
     {
         DigestedHistory {
@@ -78,7 +78,7 @@ impl DigestedHistory {
     /// returns the set of them: bit b, of value 2^b, is set for bucket b.
     pub fn absorb(&mut self, batch: &[Reference]) -> Result<u64, AllocError>
         ensures exact { OnOk result
-            (self.new.history ≡ history (refs self.old.history ∪ these batch.now)) }
+            (self.new.history ≡ history (references_of self.old.history ∪ set_of_list batch.now)) }
         ensures changed { IfOk result
             (MarksChanged (entries_of self.old.history) (entries_of self.new.history)) }
         ensures none { IfOk result
@@ -96,7 +96,7 @@ impl DigestedHistory {
     /// and returns the set of them.
     pub fn join_entries(&mut self, horizon: u64, more: &[Entry]) -> Result<u64, AllocError>
         ensures exact { OnOk result
-            (self.new.history ≡ join self.old.history (holding_since horizon more.now)) }
+            (self.new.history ≡ join self.old.history (history_of_entries_at horizon more.now)) }
         ensures changed { IfOk result
             (MarksChanged (entries_of self.old.history) (entries_of self.new.history)) }
         ensures none { IfOk result (λ changed.
@@ -138,7 +138,7 @@ impl DigestedHistory {
     /// Where the time is later than the horizon, finding them costs one more scan of each bucket,
     /// up to its first older stamp.
     pub fn raise(&mut self, time: u64) -> u64
-        ensures exact { self.new.history ≡ history (since time (refs self.old.history)) }
+        ensures exact { self.new.history ≡ history (with_horizon time (references_of self.old.history)) }
         ensures changed { MarksChanged (entries_of self.old.history)
             (entries_of self.new.history) result }
         ensures none { result ≡ 0
@@ -153,7 +153,7 @@ impl DigestedHistory {
 
     /// Forgets everything. Allocation-free.
     pub fn clear(&mut self)
-        ensures empty { self.new.history ≡ holding [] }
+        ensures empty { self.new.history ≡ history_of_entries [] }
         ensures marks { self.new.marked ≡ 0 }
     {
         self.history = History::new(self.alloc);
@@ -188,8 +188,8 @@ impl DigestedHistory {
     /// was marked before and has such a stamp: its digest was computed without older stamps, and is
     /// still to be computed with them. `AllocError` occurs only where the allocation of a buffer of
     /// 4,096 bytes and one entry fails; the marks stay, and the next call computes the same digests.
-    pub fn digests_since(&mut self, horizon: u64) -> Result<DigestTable, AllocError>
-        ensures table { IfOk result (λ table. table ≡ digests_since horizon self.old.history) }
+    pub fn digests_at_horizon(&mut self, horizon: u64) -> Result<DigestTable, AllocError>
+        ensures table { IfOk result (λ table. table ≡ digests_at_horizon horizon self.old.history) }
         ensures same { self.new.history ≡ self.old.history }
         ensures marks { OnOk result
             (StaysMarked horizon self.old.history self.old.marked self.new.marked) }

@@ -15,7 +15,7 @@ use std::alloc::{AllocError, Global};
 use std::marker::Model;
 use warm_frames::{DIGEST_SIZE, DigestTable, MAX_ENTRY_SIZE, put_entry};
 use warm_history::laws::is_history;
-use warm_history::{EntriesSince, Entry, History};
+use warm_history::{CutEntries, Entry, History};
 use warm_stamps::{BUCKETS, Bucket};
 
 // The hasher is given the bytes of entries once they are as many as this, so that it hashes whole
@@ -122,7 +122,7 @@ fn gather_entry(hasher: &mut Sha256, text: &mut Vec<u8>, entry: &Entry) -> Resul
 // The digest of entries. The buffer is overwritten. With capacity for `HASHED_SIZE` bytes and the
 // bytes of an entry it never grows.
 fn digest_of(
-    entries: EntriesSince<'_>,
+    entries: CutEntries<'_>,
     buffer: &mut Vec<u8>,
 ) -> Result<[u8; DIGEST_SIZE], AllocError>
     ensures { IfOk result (λ digest. digest ≡ sha256 (entries_bytes entries.entry)) }
@@ -155,7 +155,7 @@ fn renewed(
                 unreachable!()
             };
             digests[usize::from(index)] = digest_of(
-                history.bucket_since(bucket, horizon),
+                history.bucket_at_horizon(bucket, horizon),
                 &mut buffer,
             )?;
         }

@@ -26,8 +26,8 @@ none_wanted (r ∷ S) = rw (bit_at-zero (page_bucket r.page)) (none_wanted S)
 alone : (S T : ReferenceSet) → S.horizon ≡ T.horizon → T ∪ in_buckets 0 S ≡ T
 alone S T same =
     let horizon : max T.horizon S.horizon ≡ T.horizon = ap (max T.horizon) same ∙ max-eq_left (omega arith) in
-    let told : T.told ++ filter (λ r. bit_at 0 (page_bucket r.page) == 1) S.told ≡ T.told = ap (λ (R : List Reference). T.told ++ R) (none_wanted S.told) ∙ append-nil T.told in
-    λ i. record { horizon = horizon i; told = told i }
+    let told : T.given ++ filter (λ r. bit_at 0 (page_bucket r.page) == 1) S.given ≡ T.given = ap (λ (R : List Reference). T.given ++ R) (none_wanted S.given) ∙ append-nil T.given in
+    λ i. record { horizon = horizon i; given = told i }
 
 collision_too : (h g : HistoryView) → IsCollision h g → IsCollision g h
 collision_too h g c = record { bucket = c.bucket; low = c.low; differ = (λ same. c.differ (sym same)); same_digest = sym c.same_digest }
@@ -54,5 +54,5 @@ seen_of S T h g is_h is_g horizon fits others same = rw (is_h, is_g) (same_histo
 
 pub changed_dump_is_seen : ChangedDumpIsSeen
 changed_dump_is_seen text changed h g a b horizon digests =
-    seen_of (references_in g.horizon b.frames) (references_in h.horizon a.frames) g h b.told a.told horizon (dump_fits changed g b) (dump_fits text h a)
+    seen_of (references_in g.horizon b.frames) (references_in h.horizon a.frames) g h b.given a.given horizon (dump_fits changed g b) (dump_fits text h a)
     (sym b.same_digests ∙ digests ∙ a.same_digests)

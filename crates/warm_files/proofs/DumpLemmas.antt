@@ -7,21 +7,21 @@ use Rattle.std.proofs.KnownBytes.{Appends-trans}
 use Rattle.std.proofs.lemmas.List.Concat.{flat_map-append, flat_map-cons}
 use Rattle.std.proofs.lemmas.List.FromFn.{map-range_with_len_more}
 use Rattle.std.proofs.lemmas.List.{length-drop, length-take, take_at, drop_at, take_all, drop_all}
-use Rattle.warm_stamps.specs.Distinct.{IsRising}
+use Rattle.warm_stamps.specs.Distinct.{IsAscending}
 use Rattle.warm_stamps.specs.Stamps.{page_cmp}
 use Rattle.warm_stamps.proofs.DistinctLemmas.{rising_filter, rising_take}
 use Rattle.warm_history.specs.declared.hist.Entry.{Entry}
 use Rattle.warm_history.specs.Carried.{bucket_entries}
-use Rattle.warm_history.specs.Histories.{HistoryView, PagesRise, IsHistory, entries_of}
+use Rattle.warm_history.specs.Histories.{HistoryView, PagesAscend, IsHistory, entries_of}
 use Rattle.warm_frames.specs.declared.layout.TheConstants.{MAX_ENTRIES}
 use Rattle.warm_frames.specs.declared.message.Message.{Message}
 use Rattle.warm_frames.specs.declared.message.Message.TheVariants.{Entries}
 use Rattle.warm_frames.specs.Entries.{FitsInFrame}
-use Rattle.warm_frames.specs.Spelling.{spelling}
+use Rattle.warm_frames.specs.Spelling.{encoding}
 use Rattle.warm_stamps.specs.Buckets.{page_bucket}
 use Rattle.std.specs.Prelude.{◌==◌}
 use Rattle.std.specs.declared.cmp.Ordering.{Ordering}
-use Rattle.warm_files.specs.Dumps.{pieces_of, pieces, frames_of, bucket_frames, text_of}
+use Rattle.warm_files.specs.Dumps.{pieces_of, pieces, messages_of, bucket_frames, text_of}
 
 -- the frames of the first buckets
 abbrev pub frames_below : ℕ → HistoryView → ℕ → List Message
@@ -64,18 +64,18 @@ piece_last n piece left next all is none over few =
 
 -- a frame of the first entries, and then those of the others
 bucket_more : (sender horizon : ℕ) (left : List Entry) → 0 < length left
-    → text_of (frames_of sender horizon left) ≡ spelling (Entries sender horizon (take MAX_ENTRIES left)) ++ text_of (frames_of sender horizon (drop MAX_ENTRIES left))
+    → text_of (messages_of sender horizon left) ≡ encoding (Entries sender horizon (take MAX_ENTRIES left)) ++ text_of (messages_of sender horizon (drop MAX_ENTRIES left))
 bucket_more sender horizon left some =
     ap (λ (parts : List (List Entry)). text_of (map (λ piece. Entries sender horizon piece) parts)) (pieces-cons MAX_ENTRIES left (omega arith) some)
-    ∙ flat_map-cons spelling (Entries sender horizon (take MAX_ENTRIES left)) (frames_of sender horizon (drop MAX_ENTRIES left))
+    ∙ flat_map-cons encoding (Entries sender horizon (take MAX_ENTRIES left)) (messages_of sender horizon (drop MAX_ENTRIES left))
 
 -- what a bucket's frames add to the writer, where a frame of a piece was written after some others
-pub frame_more : (sender horizon : ℕ) (out text : List ℕ) (piece left next : List Entry) → piece ≡ take MAX_ENTRIES left → next ≡ drop MAX_ENTRIES left → 0 < length piece → out ++ text_of (frames_of sender horizon left) ≡ text
-    → (out ++ spelling (Entries sender horizon piece)) ++ text_of (frames_of sender horizon next) ≡ text
+pub frame_more : (sender horizon : ℕ) (out text : List ℕ) (piece left next : List Entry) → piece ≡ take MAX_ENTRIES left → next ≡ drop MAX_ENTRIES left → 0 < length piece → out ++ text_of (messages_of sender horizon left) ≡ text
+    → (out ++ encoding (Entries sender horizon piece)) ++ text_of (messages_of sender horizon next) ≡ text
 frame_more sender horizon out text piece left next first later some is =
     let some_left : 0 < length left = omega (arith, some, ap (λ (es : List Entry). length es) first, length-take MAX_ENTRIES left) in
-    let F = λ (es : List Entry). spelling (Entries sender horizon es) in
-    let R = λ (es : List Entry). text_of (frames_of sender horizon es) in
+    let F = λ (es : List Entry). encoding (Entries sender horizon es) in
+    let R = λ (es : List Entry). text_of (messages_of sender horizon es) in
     append_assoc out (F piece) (R next)
     ∙ ap (λ (es : List Entry). out ++ (F es ++ R next)) first
     ∙ ap (λ (es : List Entry). out ++ (F (take MAX_ENTRIES left) ++ R es)) later
@@ -83,7 +83,7 @@ frame_more sender horizon out text piece left next first later some is =
     ∙ is
 
 -- no piece is left
-pub frames_none : (sender horizon : ℕ) (out text : List ℕ) (piece left : List Entry) → piece ≡ take MAX_ENTRIES left → length piece ≡ 0 → out ++ text_of (frames_of sender horizon left) ≡ text → out ≡ text
+pub frames_none : (sender horizon : ℕ) (out text : List ℕ) (piece left : List Entry) → piece ≡ take MAX_ENTRIES left → length piece ≡ 0 → out ++ text_of (messages_of sender horizon left) ≡ text → out ≡ text
 frames_none sender horizon out text piece [] first none is = sym (append-nil out) ∙ is
 frames_none sender horizon out text piece (e ∷ left) first none is = absurd (omega (arith, none, ap (λ (es : List Entry). length es) first, length-take MAX_ENTRIES (e ∷ left)))
 
@@ -91,19 +91,19 @@ pub left_shorter : (piece left next : List Entry) → piece ≡ take MAX_ENTRIES
 left_shorter piece left next first later some =
     omega (arith, some, ap (λ (es : List Entry). length es) first, length-take MAX_ENTRIES left, ap (λ (es : List Entry). length es) later, length-drop MAX_ENTRIES left)
 
-pub rising_drop : {A : Type 0} (cmp : A → A → Ordering) (n : ℕ) (xs : List A) → IsRising cmp xs → IsRising cmp (drop n xs)
+pub rising_drop : {A : Type 0} (cmp : A → A → Ordering) (n : ℕ) (xs : List A) → IsAscending cmp xs → IsAscending cmp (drop n xs)
 rising_drop cmp zero xs rising = rising
 rising_drop cmp (suc n) [] rising = tt
 rising_drop cmp (suc n) (x ∷ xs) rising = rising_drop cmp n xs rising.1
 
-pub piece_fits : (piece left : List Entry) → piece ≡ take MAX_ENTRIES left → PagesRise left → FitsInFrame piece
+pub piece_fits : (piece left : List Entry) → piece ≡ take MAX_ENTRIES left → PagesAscend left → FitsInFrame piece
 piece_fits piece left first rise = (
-  subst PagesRise (sym first) (rising_take (on (λ e. e.page) page_cmp) MAX_ENTRIES left rise),
+  subst PagesAscend (sym first) (rising_take (on (λ e. e.page) page_cmp) MAX_ENTRIES left rise),
   omega (arith, ap (λ (es : List Entry). length es) first, length-take MAX_ENTRIES left),
 )
 
-pub rest_rises : (left next : List Entry) → next ≡ drop MAX_ENTRIES left → PagesRise left → PagesRise next
-rest_rises left next later rise = subst PagesRise (sym later) (rising_drop (on (λ e. e.page) page_cmp) MAX_ENTRIES left rise)
+pub rest_rises : (left next : List Entry) → next ≡ drop MAX_ENTRIES left → PagesAscend left → PagesAscend next
+rest_rises left next later rise = subst PagesAscend (sym later) (rising_drop (on (λ e. e.page) page_cmp) MAX_ENTRIES left rise)
 
 -- ---- bucket after bucket
 
@@ -116,14 +116,14 @@ frames_more sender n h =
     ∙ flat_map-append (bucket_frames sender h) (range_with_len 0 n) (n ∷ [])
     ∙ ap (λ (fs : List Message). frames_below sender h n ++ fs) (append-nil (bucket_frames sender h n))
 
-pub bucket_written : (a b c : Option (List ℕ)) (sender bucket n horizon : ℕ) (h : HistoryView) (es : List Entry) → bucket ≡ n → horizon ≡ h.horizon → es ≡ bucket_entries bucket (entries_of h) → Appends a b (text_of (frames_below sender h n)) → Appends b c (text_of (frames_of sender horizon es))
+pub bucket_written : (a b c : Option (List ℕ)) (sender bucket n horizon : ℕ) (h : HistoryView) (es : List Entry) → bucket ≡ n → horizon ≡ h.horizon → es ≡ bucket_entries bucket (entries_of h) → Appends a b (text_of (frames_below sender h n)) → Appends b c (text_of (messages_of sender horizon es))
     → Appends a c (text_of (frames_below sender h (n + 1)))
 bucket_written a b c sender bucket n horizon h es is same all before this =
-    let of_bucket : text_of (frames_of sender horizon es) ≡ text_of (bucket_frames sender h n) =
-    ap (λ (m : ℕ). text_of (frames_of sender m es)) same ∙ ap (λ (x : List Entry). text_of (frames_of sender h.horizon x)) all ∙ ap (λ (k : ℕ). text_of (frames_of sender h.horizon (bucket_entries k (entries_of h)))) is in
+    let of_bucket : text_of (messages_of sender horizon es) ≡ text_of (bucket_frames sender h n) =
+    ap (λ (m : ℕ). text_of (messages_of sender m es)) same ∙ ap (λ (x : List Entry). text_of (messages_of sender h.horizon x)) all ∙ ap (λ (k : ℕ). text_of (messages_of sender h.horizon (bucket_entries k (entries_of h)))) is in
     let both : text_of (frames_below sender h n) ++ text_of (bucket_frames sender h n) ≡ text_of (frames_below sender h (n + 1)) =
-    sym (flat_map-append spelling (frames_below sender h n) (bucket_frames sender h n)) ∙ ap text_of (sym (frames_more sender n h)) in
+    sym (flat_map-append encoding (frames_below sender h n) (bucket_frames sender h n)) ∙ ap text_of (sym (frames_more sender n h)) in
     subst (Appends a c) both (Appends-trans a b c _ _ before (subst (Appends b c) of_bucket this))
 
-pub bucket_rises : (bucket : ℕ) (h : HistoryView) (es : List Entry) → es ≡ bucket_entries bucket (entries_of h) → IsHistory h → PagesRise es
-bucket_rises bucket h es is whole = subst PagesRise (sym is) (rising_filter (on (λ e. e.page) page_cmp) (λ e. page_bucket e.page == bucket) (entries_of h) whole.pages_rise)
+pub bucket_rises : (bucket : ℕ) (h : HistoryView) (es : List Entry) → es ≡ bucket_entries bucket (entries_of h) → IsHistory h → PagesAscend es
+bucket_rises bucket h es is whole = subst PagesAscend (sym is) (rising_filter (on (λ e. e.page) page_cmp) (λ e. page_bucket e.page == bucket) (entries_of h) whole.pages_ascend)

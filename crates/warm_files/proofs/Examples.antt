@@ -3,7 +3,7 @@ use Rattle.std.proofs.Common.{◌≡◌, List, ℕ, [], ◌∷◌, ◌++◌, ref
 use Rattle.sha2.specs.Sha256.{digest_bytes, sha256}
 use Rattle.warm_stamps.specs.declared.PageId.{PageId}
 use Rattle.warm_stamps.specs.declared.Stamp.{Stamp}
-use Rattle.warm_history.specs.ListHistories as list
+use Rattle.warm_history.specs.ListHistories.{list_history}
 use Rattle.warm_history.specs.declared.hist.Entry.{Entry}
 use Rattle.warm_history.specs.declared.hist.PageHist.TheVariants.{Once, Twice}
 use Rattle.warm_history.specs.Histories.{HistoryView, history}
@@ -13,7 +13,7 @@ use Rattle.warm_digest.specs.BucketDigests.{digests_of}
 use Rattle.warm_frames.proofs.SizeLemmas.{nothing_short, part_without_header}
 use Rattle.warm_files.specs.declared.fault.DumpFault.TheVariants.{CutShort}
 use Rattle.warm_files.specs.Dumps.{pieces, entry_frames, text_of, dump_of}
-use Rattle.warm_files.specs.Reading.{told_by, IsRefused}
+use Rattle.warm_files.specs.Reading.{history_of_messages, IsDumpRefused}
 
 abbrev at_1 : ℕ → Stamp
 at_1 time = record { time = time; replica = 1 }
@@ -58,19 +58,19 @@ unfolding digest_bytes sha256
 nothing_dumped = refl
 
 -- the frames tell the history, in any order and more than once, at their horizon
-one_page_told : told_by 10 (Entries 1 10 (seventh ∷ []) ∷ []) ≡ one_page
-unfolding history list.history
+one_page_told : history_of_messages 10 (Entries 1 10 (seventh ∷ []) ∷ []) ≡ one_page
+unfolding history list_history
 one_page_told = refl
 
-told_again : told_by 0 (Entries 2 0 (seventh ∷ []) ∷ Entries 1 0 (first ∷ []) ∷ Entries 2 0 (seventh ∷ []) ∷ []) ≡ record { horizon = 0; entries = first ∷ seventh ∷ [] }
-unfolding history list.history
+told_again : history_of_messages 0 (Entries 2 0 (seventh ∷ []) ∷ Entries 1 0 (first ∷ []) ∷ Entries 2 0 (seventh ∷ []) ∷ []) ≡ record { horizon = 0; entries = first ∷ seventh ∷ [] }
+unfolding history list_history
 told_again = refl
 
 -- an older stamp is forgotten
-told_later : told_by 15 (Entries 1 15 (first ∷ seventh ∷ []) ∷ []) ≡ record { horizon = 15; entries = record { page = seventh.page; hist = Once (at_1 20) } ∷ [] }
-unfolding history list.history
+told_later : history_of_messages 15 (Entries 1 15 (first ∷ seventh ∷ []) ∷ []) ≡ record { horizon = 15; entries = record { page = seventh.page; hist = Once (at_1 20) } ∷ [] }
+unfolding history list_history
 told_later = refl
 
 -- no bytes are cut short, behind none of whole frames
-nothing_refused : IsRefused [] 0 CutShort
+nothing_refused : IsDumpRefused [] 0 CutShort
 nothing_refused = (0, [], [], tt, ([], record { texts = []; whole = refl; each = tt }, refl), record { texts = []; whole = refl; each = tt; part = part_without_header [] (nothing_short [] refl) })

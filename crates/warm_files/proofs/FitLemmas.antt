@@ -10,23 +10,23 @@ use Rattle.warm_stamps.specs.declared.Stamp.{Stamp}
 use Rattle.warm_stamps.specs.declared.Reference.{Reference}
 use Rattle.warm_stamps.specs.Bytes.{IsPage, IsStamp}
 use Rattle.warm_stamps.specs.Stamps.{stamp_cmp, page_cmp}
-use Rattle.warm_stamps.specs.Distinct.{insert_distinct, distinct, IsRising}
+use Rattle.warm_stamps.specs.Distinct.{insert_distinct, distinct, IsAscending}
 use Rattle.warm_stamps.proofs.DistinctLemmas.{by_cases, all_append, all_filter, distinct_rises}
 use Rattle.warm_stamps.proofs.StampLemmas.{stamp_order, IsStrictOrder-flip}
 use Rattle.warm_history.specs.declared.hist.PageHist.{PageHist}
 use Rattle.warm_history.specs.declared.hist.PageHist.TheVariants.{Once, Twice}
 use Rattle.warm_history.specs.declared.hist.Entry.{Entry}
-use Rattle.warm_history.specs.ListHistories as list
+use Rattle.warm_history.specs.ListHistories.{references_of_entry}
 use Rattle.warm_history.specs.ReferenceSets.{ReferenceSet, is_kept, references}
-use Rattle.warm_history.specs.Histories.{HistoryView, held_by, references_to, stamps, first_two, hist, pages, history}
+use Rattle.warm_history.specs.Histories.{HistoryView, references_of_entries, references_to, stamps, first_two, hist, pages, history}
 use Rattle.warm_history.proofs.ListHistoryLemmas.{entries}
 use Rattle.warm_frames.specs.declared.message.Message.{Message}
 use Rattle.warm_frames.specs.declared.message.Message.TheVariants.{Entries, Digest, Want}
 use Rattle.warm_frames.specs.Entries.{IsEntry, IsHist}
 use Rattle.warm_frames.specs.Pieces.{SpellAll}
-use Rattle.warm_frames.specs.Spelling.{IsFrame}
+use Rattle.warm_frames.specs.Spelling.{IsValidMessage}
 use Rattle.warm_digest.specs.Exchange.{Fits}
-use Rattle.warm_files.specs.Reading.{brought, entries_in, references_in, IsDump}
+use Rattle.warm_files.specs.Reading.{brought, entries_brought, references_in, IsDump}
 
 -- a reference of a page and a stamp that there are
 pub record IsReference (r : Reference) : Type 0 where
@@ -58,7 +58,7 @@ abbrev FitsIfAny : Option PageHist → Type 0
 FitsIfAny None = Unit {0}
 FitsIfAny (Some h) = IsHist h
 
-first_two_fit : (ss : List Stamp) → IsRising (flip_args stamp_cmp) ss → AllByRecursion IsStamp ss → FitsIfAny (first_two ss)
+first_two_fit : (ss : List Stamp) → IsAscending (flip_args stamp_cmp) ss → AllByRecursion IsStamp ss → FitsIfAny (first_two ss)
 first_two_fit [] falls all = tt
 first_two_fit (a ∷ []) falls all = all.0
 first_two_fit (a ∷ b ∷ ss) falls all = (all.0, all.1.0, falls.0.0)
@@ -83,26 +83,26 @@ history_fits S all = entries_fit (hist S) (pages S) (λ p. hist_fits S p all) (a
 
 -- ---- the references of frames
 
-entry_held : (page : _) (h : PageHist) → IsPage page → IsHist h → AreReferences (list.entry_refs (record { page = page; hist = h }))
+entry_held : (page : _) (h : PageHist) → IsPage page → IsHist h → AreReferences (references_of_entry (record { page = page; hist = h }))
 entry_held page (Once last) own is = (record { page = own; stamp = is }, tt)
 entry_held page (Twice two) own is = (record { page = own; stamp = is.0 }, (record { page = own; stamp = is.1 }, tt))
 
-all_held : (es : List Entry) → AllByRecursion IsEntry es → AreReferences (held_by es)
+all_held : (es : List Entry) → AllByRecursion IsEntry es → AreReferences (references_of_entries es)
 all_held [] all = tt
-all_held (e ∷ es) all = all_append IsReference (list.entry_refs e) (held_by es) (entry_held e.page e.hist all.0.page all.0.hist) (all_held es all.1)
+all_held (e ∷ es) all = all_append IsReference (references_of_entry e) (references_of_entries es) (entry_held e.page e.hist all.0.page all.0.hist) (all_held es all.1)
 
-brought_fits : (f : Message) → IsFrame f → AllByRecursion IsEntry (brought f)
+brought_fits : (f : Message) → IsValidMessage f → AllByRecursion IsEntry (brought f)
 brought_fits (Entries sender own es) is = is.2.each
 brought_fits (Digest sender own digests) is = tt
 brought_fits (Want sender own request) is = tt
 
-frames_fit : (ts : List (List ℕ)) (fs more : List Message) → SpellAll ts (fs ++ more) → AllByRecursion IsEntry (entries_in fs)
+frames_fit : (ts : List (List ℕ)) (fs more : List Message) → SpellAll ts (fs ++ more) → AllByRecursion IsEntry (entries_brought fs)
 frames_fit ts [] more all = tt
 frames_fit [] (f ∷ fs) more all = absurd all
 frames_fit (t ∷ ts) (f ∷ fs) more all =
-    subst (AllByRecursion IsEntry) (sym (flat_map-cons brought f fs)) (all_append IsEntry (brought f) (entries_in fs) (brought_fits f all.0.1.fits) (frames_fit ts fs more all.1))
+    subst (AllByRecursion IsEntry) (sym (flat_map-cons brought f fs)) (all_append IsEntry (brought f) (entries_brought fs) (brought_fits f all.0.1.fits) (frames_fit ts fs more all.1))
 
 pub dump_fits : (text : List ℕ) (h : HistoryView) → IsDump text h → Fits h
 dump_fits text h d =
-    let all = all_held (entries_in d.frames) (frames_fit d.whole.texts d.frames (Digest d.sender h.horizon d.digests ∷ []) d.whole.each) in
-    subst Fits (sym d.told) (history_fits (references_in h.horizon d.frames) (all_filter IsReference (λ r. is_kept h.horizon r.stamp) (held_by (entries_in d.frames)) all))
+    let all = all_held (entries_brought d.frames) (frames_fit d.whole.texts d.frames (Digest d.sender h.horizon d.digests ∷ []) d.whole.each) in
+    subst Fits (sym d.given) (history_fits (references_in h.horizon d.frames) (all_filter IsReference (λ r. is_kept h.horizon r.stamp) (references_of_entries (entries_brought d.frames)) all))

@@ -4,20 +4,20 @@ use Rattle.std.specs.List.{AllByRecursion}
 use Rattle.std.proofs.lemmas.List.{take_at, drop_at, take-append-drop, take-append-le}
 use Rattle.warm_frames.specs.declared.message.Message.{Message}
 use Rattle.warm_frames.specs.declared.message.Message.TheVariants.{Entries, Digest, Want}
-use Rattle.warm_frames.specs.Pieces.{IsPart, SpellAll, texts_of, Splits}
-use Rattle.warm_frames.specs.Spelling.{Spells}
-use Rattle.warm_frames.proofs.FrameLemmas.{frame_read, one_spelling, no_prefix}
+use Rattle.warm_frames.specs.Pieces.{IsIncomplete, SpellAll, texts_of, Splits}
+use Rattle.warm_frames.specs.Spelling.{Encodes}
+use Rattle.warm_frames.proofs.FrameLemmas.{frame_read, encoding_is_injective, prefix_free}
 use Rattle.warm_frames.proofs.SizeLemmas.{no_ok, lt_or_le, nothing_short, part_without_header}
 use Rattle.warm_history.specs.Histories.{HistoryView}
 use Rattle.warm_files.specs.Reading.{IsEntriesAt, AreEntriesAt, IsPartAt, Begins, IsDump}
 
 -- ---- the first text
 
-nothing_is_part : IsPart []
+nothing_is_part : IsIncomplete []
 nothing_is_part = part_without_header [] (nothing_short [] refl)
 
 -- a frame has a byte at least
-empty_spelt : (f : Message) → Spells [] f → ⊥
+empty_spelt : (f : Message) → Encodes [] f → ⊥
 empty_spelt f spelt = no_ok (sym (nothing_is_part 0) ∙ frame_read [] f spelt)
 
 -- of two fronts of one list the shorter is a front of the longer
@@ -26,15 +26,15 @@ longer a x b y same le =
     let front : take (length a) b ≡ a = sym (take-append-le (length a) b y le) ∙ ap (take (length a)) (sym same) ∙ take_at a x (length a) refl in
     sym (take-append-drop (length a) b) ∙ ap (λ (w : List ℕ). w ++ drop (length a) b) front
 
-front_text : (s t : List ℕ) (f g : Message) (x y : List ℕ) → Spells s f → Spells t g → s ++ x ≡ t ++ y → length s ≤ length t → s ≡ t
+front_text : (s t : List ℕ) (f g : Message) (x y : List ℕ) → Encodes s f → Encodes t g → s ++ x ≡ t ++ y → length s ≤ length t → s ≡ t
 front_text s t f g x y is_f is_g same le =
     let rest = drop (length s) t in
     let parts : t ≡ s ++ rest = longer s x t y same le in
-    let none : rest ≡ [] = no_prefix s rest f g is_f (subst (λ (w : List ℕ). Spells w g) parts is_g) in
+    let none : rest ≡ [] = prefix_free s rest f g is_f (subst (λ (w : List ℕ). Encodes w g) parts is_g) in
     sym (append-nil s) ∙ ap (λ (r : List ℕ). s ++ r) (sym none) ∙ sym parts
 
 -- where two spellings begin one text they are one
-first_text : (s t : List ℕ) (f g : Message) (x y : List ℕ) → Spells s f → Spells t g → s ++ x ≡ t ++ y → s ≡ t
+first_text : (s t : List ℕ) (f g : Message) (x y : List ℕ) → Encodes s f → Encodes t g → s ++ x ≡ t ++ y → s ≡ t
 first_text s t f g x y is_f is_g same =
     ⊎_elim (λ lt. front_text s t f g x y is_f is_g same (omega (arith, lt))) (λ le. sym (front_text t s g f y x is_g is_f (sym same) le)) (lt_or_le (length s) (length t))
 
@@ -53,7 +53,7 @@ first_frames (t ∷ ts) (u ∷ us) (f ∷ fs) (g ∷ gs) rest a b same =
     let y = texts_of us ++ rest in
     let both : t ++ x ≡ u ++ y = same ∙ append_assoc u (texts_of us) rest in
     let text : t ≡ u = first_text t u f g x y a.0 b.0 both in
-    let first : f ≡ g = one_spelling u f g (subst (λ (w : List ℕ). Spells w f) text a.0) b.0 in
+    let first : f ≡ g = encoding_is_injective u f g (subst (λ (w : List ℕ). Encodes w f) text a.0) b.0 in
     let behind : x ≡ y = sym (drop_at t x (length t) refl) ∙ ap (drop (length t)) both ∙ drop_at u y (length t) (sym (ap length text)) in
     let later = first_frames ts us fs gs rest a.1 b.1 behind in
     (later.0, later.1, later.2, (λ i. first i ∷ later.3 i), later.4)

@@ -10,8 +10,8 @@ use Rattle.warm_frames.specs.Pieces.{SpellAll, texts_of}
 use Rattle.warm_frames.proofs.StreamLemmas.{one_reading, part_or_fault}
 use Rattle.warm_digest.specs.BucketDigests.{digests_of}
 use Rattle.warm_files.specs.declared.fault.DumpFault.TheVariants.{Frame, CutShort, DigestsDiffer, HorizonsDiffer, MoreFollows, ReadFault, WriteFault}
-use Rattle.warm_files.specs.Laws.{OneHistory, DumpIsTaken}
-use Rattle.warm_files.specs.Reading.{IsEntriesAt, AreEntriesAt, IsPartAt, told_by, Begins, IsDump, ShowsFrameFault, HasRequest, IsCutShort, HasTwoHorizons, HasOtherDigests, HasMore}
+use Rattle.warm_files.specs.Laws.{DumpHasOneHistory, DumpIsTaken}
+use Rattle.warm_files.specs.Reading.{IsEntriesAt, AreEntriesAt, IsPartAt, history_of_messages, Begins, IsDump, ShowsFrameFault, HasRequest, IsCutShort, HasTwoHorizons, HasOtherDigests, HasMore}
 use Rattle.warm_files.proofs.FrontLemmas.{dump_splits, begins_dump, one_front, all_parts, dump_parts, one_horizon, first_horizon}
 
 abbrev horizon_of : Message → ℕ
@@ -24,15 +24,15 @@ digests_in (Entries sender own es) = []
 digests_in (Digest sender own digests) = digests
 digests_in (Want sender own request) = []
 
-pub one_history : OneHistory
+pub one_history : DumpHasOneHistory
 one_history text h g a b =
     let d : Message = Digest a.sender h.horizon a.digests in
     let e : Message = Digest b.sender g.horizon b.digests in
     let same = one_reading text (a.frames ++ d ∷ []) (b.frames ++ e ∷ []) [] [] (dump_splits text h a) (dump_splits text g b) in
     let parts = one_front h.horizon g.horizon a.frames b.frames d e [] a.entries b.entries tt tt same.0 in
     let horizon : h.horizon ≡ g.horizon = ap horizon_of parts.1 in
-    let told : told_by h.horizon a.frames ≡ told_by g.horizon b.frames = λ i. told_by (horizon i) (parts.0 i) in
-    a.told ∙ told ∙ sym b.told
+    let told : history_of_messages h.horizon a.frames ≡ history_of_messages g.horizon b.frames = λ i. history_of_messages (horizon i) (parts.0 i) in
+    a.given ∙ told ∙ sym b.given
 
 no_fault : (text : List ℕ) (h : HistoryView) (at : ℕ) (fault : FrameFault) → IsDump text h → ShowsFrameFault text at fault → ⊥
 no_fault text h at fault d shown = part_or_fault text (d.frames ++ Digest d.sender h.horizon d.digests ∷ []) shown.1 [] fault (dump_splits text h d) shown.4
@@ -83,7 +83,7 @@ own_digests text h at d r =
     let frames = r.1 in
     let parts = last_of text h d horizon horizon r.2 frames r.3 r.4 r.5 r.8 in
     let own : h.horizon ≡ horizon = ap horizon_of parts.1 in
-    let told : h ≡ told_by horizon frames = d.told ∙ (λ i. told_by (own i) (parts.0 i)) in
+    let told : h ≡ history_of_messages horizon frames = d.given ∙ (λ i. history_of_messages (own i) (parts.0 i)) in
     r.6 (sym (ap digests_in parts.1) ∙ d.same_digests ∙ ap (λ (k : HistoryView). digests_of (entries_of k)) told)
 
 no_more : (text : List ℕ) (h : HistoryView) (at : ℕ) → IsDump text h → HasMore text at → ⊥

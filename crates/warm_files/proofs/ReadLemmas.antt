@@ -6,9 +6,9 @@ use Rattle.std.proofs.lemmas.List.{take_all, take-append-drop, length-append, le
 use Rattle.std.proofs.Math.Nat.{max_comm, max-eq_left}
 use Rattle.warm_stamps.proofs.DistinctLemmas.{all_append}
 use Rattle.warm_history.specs.declared.hist.Entry.{Entry}
-use Rattle.warm_history.specs.ListHistories as list
-use Rattle.warm_history.specs.ReferenceSets.{ReferenceSet, these, since, ◌∪◌}
-use Rattle.warm_history.specs.Histories.{HistoryView, entries_of, held_by, history, holding_since, refs, StandsFor, TakesIn}
+use Rattle.warm_history.specs.ListHistories.{references_of_entry}
+use Rattle.warm_history.specs.ReferenceSets.{ReferenceSet, set_of_list, with_horizon, ◌∪◌}
+use Rattle.warm_history.specs.Histories.{HistoryView, entries_of, references_of_entries, history, history_of_entries_at, references_of, StandsFor, TakesIn}
 use Rattle.warm_history.specs.Losses.{raised}
 use Rattle.warm_history.proofs.HistoryLemmas.{horizon-history}
 use Rattle.warm_history.proofs.JoinLemmas.{history_first}
@@ -17,18 +17,18 @@ use Rattle.warm_frames.specs.declared.fault.FrameFault.{FrameFault}
 use Rattle.warm_frames.specs.declared.fault.FrameFault.TheVariants as frame_faults
 use Rattle.warm_frames.specs.declared.message.Message.{Message}
 use Rattle.warm_frames.specs.declared.message.Message.TheVariants.{Entries, Digest, Want}
-use Rattle.warm_frames.specs.Pieces.{DecoderState, Inside, IsPart, Breaks, Feeds, SpellAll, texts_of}
-use Rattle.warm_frames.specs.Pieces.{Takes as TakesBytes}
+use Rattle.warm_frames.specs.Pieces.{DecoderState, Inside, IsIncomplete, Breaks, FeedStep, SpellAll, texts_of}
+use Rattle.warm_frames.specs.Pieces.{TakesPiece as TakesBytes}
 use Rattle.warm_frames.specs.Reading.{read_frame}
-use Rattle.warm_frames.specs.Spelling.{Spells}
+use Rattle.warm_frames.specs.Spelling.{Encodes}
 use Rattle.warm_frames.proofs.FrameLemmas.{frame_read}
 use Rattle.warm_frames.proofs.SizeLemmas.{no_ok, nothing_short, part_without_header}
 use Rattle.warm_digest.specs.BucketDigests.{digests_of}
 use Rattle.warm_files.specs.declared.fault.DumpFault.{DumpFault}
 use Rattle.warm_files.specs.declared.fault.DumpFault.TheVariants.{Frame, CutShort, DigestsDiffer, HorizonsDiffer, MoreFollows}
 use Rattle.warm_files.specs.declared.reading.Gathered.{Gathered}
-use Rattle.warm_files.specs.Gathering.{Agrees, AreAt, references_at, Gathers, HasRead, Takes, Rejects, IsRefusedForGood}
-use Rattle.warm_files.specs.Reading.{IsEntriesAt, AreEntriesAt, IsPartAt, brought, entries_in, references_in, told_by, Begins, IsDump, EndsWithDigests, EndsAt, ShowsFrameFault, IsRefused}
+use Rattle.warm_files.specs.Gathering.{Agrees, AreAt, references_at, Gathers, HasRead, TakesPiece, Rejects, IsRefusedForGood}
+use Rattle.warm_files.specs.Reading.{IsEntriesAt, AreEntriesAt, IsPartAt, brought, entries_brought, references_in, history_of_messages, Begins, IsDump, EndsWithDigests, EndsAt, ShowsFrameFault, IsDumpRefused}
 
 -- ---- texts one after the other
 
@@ -36,14 +36,14 @@ one_text : (ts : List (List ℕ)) (t : List ℕ) → texts_of (ts ++ t ∷ []) �
 one_text [] t = append-nil t
 one_text (u ∷ us) t = ap (λ (w : List ℕ). u ++ w) (one_text us t) ∙ sym (append_assoc u (texts_of us) t)
 
-one_spelled : (ts : List (List ℕ)) (t : List ℕ) (fs : List Message) (f : Message) → SpellAll ts fs → Spells t f → SpellAll (ts ++ t ∷ []) (fs ++ f ∷ [])
+one_spelled : (ts : List (List ℕ)) (t : List ℕ) (fs : List Message) (f : Message) → SpellAll ts fs → Encodes t f → SpellAll (ts ++ t ∷ []) (fs ++ f ∷ [])
 one_spelled [] t [] f all this = (this, tt)
 one_spelled [] t (g ∷ gs) f all this = absurd all
 one_spelled (u ∷ us) t [] f all this = absurd all
 one_spelled (u ∷ us) t (g ∷ gs) f all this = (all.0, one_spelled us t gs f all.1 this)
 
 -- a frame more
-pub begins_more : (seen begun front later : List ℕ) (frames : List Message) (f : Message) → Begins seen frames begun → Spells (begun ++ front) f → Begins (seen ++ (front ++ later)) (frames ++ f ∷ []) later
+pub begins_more : (seen begun front later : List ℕ) (frames : List Message) (f : Message) → Begins seen frames begun → Encodes (begun ++ front) f → Begins (seen ++ (front ++ later)) (frames ++ f ∷ []) later
 begins_more seen begun front later frames f b spelt =
     let T = texts_of b.texts in
     record {
@@ -62,14 +62,14 @@ cut n seen piece later =
 
 -- ---- what frames hold
 
-pub held-append : (es fs : List Entry) → held_by (es ++ fs) ≡ held_by es ++ held_by fs
+pub held-append : (es fs : List Entry) → references_of_entries (es ++ fs) ≡ references_of_entries es ++ references_of_entries fs
 held-append [] fs = refl
-held-append (e ∷ es) fs = ap (λ rs. list.entry_refs e ++ rs) (held-append es fs) ∙ sym (append_assoc (list.entry_refs e) (held_by es) (held_by fs))
+held-append (e ∷ es) fs = ap (λ rs. references_of_entry e ++ rs) (held-append es fs) ∙ sym (append_assoc (references_of_entry e) (references_of_entries es) (references_of_entries fs))
 
-held_more : (frames : List Message) (f : Message) → held_by (entries_in (frames ++ f ∷ [])) ≡ held_by (entries_in frames) ++ held_by (brought f)
+held_more : (frames : List Message) (f : Message) → references_of_entries (entries_brought (frames ++ f ∷ [])) ≡ references_of_entries (entries_brought frames) ++ references_of_entries (brought f)
 held_more frames f =
-    ap held_by (flat_map-append brought frames (f ∷ []) ∙ ap (λ (es : List Entry). entries_in frames ++ es) (append-nil (brought f)))
-    ∙ held-append (entries_in frames) (brought f)
+    ap references_of_entries (flat_map-append brought frames (f ∷ []) ∙ ap (λ (es : List Entry). entries_brought frames ++ es) (append-nil (brought f)))
+    ∙ held-append (entries_brought frames) (brought f)
 
 above_zero : (n : ℕ) → max 0 n ≡ n
 above_zero n = max_comm 0 n ∙ max-eq_left (omega arith)
@@ -79,23 +79,23 @@ same_max k n e = ap (λ m. max m n) e ∙ max-eq_left (omega arith)
 
 -- the references of the frames, and then those of a frame with their horizon
 references_more : (known : Option ℕ) (horizon sender : ℕ) (es : List Entry) (frames : List Message) → AreAt known frames → Agrees known horizon
-    → references_at known frames ∪ refs (holding_since horizon es) ≡ references_in horizon (frames ++ Entries sender horizon es ∷ [])
+    → references_at known frames ∪ references_of (history_of_entries_at horizon es) ≡ references_in horizon (frames ++ Entries sender horizon es ∷ [])
 references_more None horizon sender es frames none agrees =
-    let told : held_by es ≡ held_by (entries_in (frames ++ Entries sender horizon es ∷ [])) =
-    sym (ap (λ (fs : List Message). held_by (entries_in (fs ++ Entries sender horizon es ∷ []))) none ∙ held_more [] (Entries sender horizon es)) in
-    λ i. record { horizon = above_zero horizon i; told = told i }
+    let told : references_of_entries es ≡ references_of_entries (entries_brought (frames ++ Entries sender horizon es ∷ [])) =
+    sym (ap (λ (fs : List Message). references_of_entries (entries_brought (fs ++ Entries sender horizon es ∷ []))) none ∙ held_more [] (Entries sender horizon es)) in
+    λ i. record { horizon = above_zero horizon i; given = told i }
 references_more (Some known) horizon sender es frames some agrees =
     let told = sym (held_more frames (Entries sender horizon es)) in
-    λ i. record { horizon = same_max known horizon agrees i; told = told i }
+    λ i. record { horizon = same_max known horizon agrees i; given = told i }
 
 -- and those of the digests, which hold none
-references_closed : (known : Option ℕ) (horizon : ℕ) (frames : List Message) → AreAt known frames → Agrees known horizon → since horizon (references_at known frames) ≡ references_in horizon frames
+references_closed : (known : Option ℕ) (horizon : ℕ) (frames : List Message) → AreAt known frames → Agrees known horizon → with_horizon horizon (references_at known frames) ≡ references_in horizon frames
 references_closed None horizon frames none agrees =
-    let told : [] ≡ held_by (entries_in frames) = ap (λ (fs : List Message). held_by (entries_in fs)) (sym none) in
-    λ i. record { horizon = above_zero horizon i; told = told i }
+    let told : [] ≡ references_of_entries (entries_brought frames) = ap (λ (fs : List Message). references_of_entries (entries_brought fs)) (sym none) in
+    λ i. record { horizon = above_zero horizon i; given = told i }
 references_closed (Some known) horizon frames some agrees =
-    let told = append-nil (held_by (entries_in frames)) in
-    λ i. record { horizon = same_max known horizon agrees i; told = told i }
+    let told = append-nil (references_of_entries (entries_brought frames)) in
+    λ i. record { horizon = same_max known horizon agrees i; given = told i }
 
 some_at : (known : Option ℕ) (horizon : ℕ) (frames : List Message) → AreAt known frames → Agrees known horizon → AreEntriesAt horizon frames
 some_at None horizon frames none agrees = subst (AreEntriesAt horizon) (sym none) tt
@@ -125,7 +125,7 @@ counted seen piece n a b before more few = omega (arith, before, more, few, leng
 
 -- ---- nothing was read
 
-pub nothing_read : (g : Gathered) → g.whole ≡ false → g.decoder ≡ Inside [] → g.horizon ≡ None → StandsFor g.history (these []) → g.seen ≡ 0 → g.at ≡ 0 → HasRead [] g
+pub nothing_read : (g : Gathered) → g.whole ≡ false → g.decoder ≡ Inside [] → g.horizon ≡ None → StandsFor g.history (set_of_list []) → g.seen ≡ 0 → g.at ≡ 0 → HasRead [] g
 nothing_read g unclosed inside none stands seen at = inr (
   unclosed,
   record {
@@ -154,7 +154,7 @@ inside_is : (b c : List ℕ) → Inside b ≡ Inside c → b ≡ c
 inside_is b c e = cc
 
 -- all of it is a part of the frame that has begun
-pub took_part : (seen piece : List ℕ) (n : ℕ) (old new : Gathered) → Gathers seen old → n ≡ length piece → ((begun : List ℕ) → old.decoder ≡ Inside begun → IsPart (begun ++ piece) × (new.decoder ≡ Inside (begun ++ piece)))
+pub took_part : (seen piece : List ℕ) (n : ℕ) (old new : Gathered) → Gathers seen old → n ≡ length piece → ((begun : List ℕ) → old.decoder ≡ Inside begun → IsIncomplete (begun ++ piece) × (new.decoder ≡ Inside (begun ++ piece)))
     → new.history ≡ old.history → new.horizon ≡ old.horizon → new.whole ≡ false → new.seen ≡ old.seen + n → new.at ≡ old.at → HasRead (seen ++ take n piece) new
 took_part seen piece n old new g all feeds history horizon unclosed more same =
     let whole : new.seen ≡ length (seen ++ take n piece) = counted seen piece n old.seen new.seen g.seen more (omega (arith, all)) in
@@ -185,8 +185,8 @@ taken_text : (seen piece : List ℕ) (n : ℕ) → seen ++ (take n piece ++ []) 
 taken_text seen piece n = ap (λ (w : List ℕ). seen ++ w) (append-nil (take n piece))
 
 -- of entries
-took_entries : (seen piece : List ℕ) (n sender horizon : ℕ) (es : List Entry) (old new : Gathered) (g : Gathers seen old) → Spells (g.begun ++ take n piece) (Entries sender horizon es) → new.decoder ≡ Inside []
-    → Agrees old.horizon horizon → new.horizon ≡ Some horizon → TakesIn old.history (refs (holding_since horizon es)) new.history → new.whole ≡ false
+took_entries : (seen piece : List ℕ) (n sender horizon : ℕ) (es : List Entry) (old new : Gathered) (g : Gathers seen old) → Encodes (g.begun ++ take n piece) (Entries sender horizon es) → new.decoder ≡ Inside []
+    → Agrees old.horizon horizon → new.horizon ≡ Some horizon → TakesIn old.history (references_of (history_of_entries_at horizon es)) new.history → new.whole ≡ false
     → new.seen ≡ length (seen ++ take n piece) → new.at ≡ length (seen ++ take n piece) → HasRead (seen ++ take n piece) new
 took_entries seen piece n sender horizon es old new g spelt inside agrees known takes unclosed all here =
     let frames = g.frames ++ Entries sender horizon es ∷ [] in
@@ -210,10 +210,10 @@ took_entries seen piece n sender horizon es old new g spelt inside agrees known 
     )
 
 -- of digests
-took_digests : (seen piece : List ℕ) (n sender horizon : ℕ) (digests : List (List ℕ)) (old new : Gathered) (g : Gathers seen old) → Spells (g.begun ++ take n piece) (Digest sender horizon digests)
-    → Agrees old.horizon horizon → ((S : ReferenceSet) → StandsFor old.history S → StandsFor new.history (since horizon S)) → digests ≡ digests_of (entries_of new.history) → IsDump (seen ++ take n piece) new.history
+took_digests : (seen piece : List ℕ) (n sender horizon : ℕ) (digests : List (List ℕ)) (old new : Gathered) (g : Gathers seen old) → Encodes (g.begun ++ take n piece) (Digest sender horizon digests)
+    → Agrees old.horizon horizon → ((S : ReferenceSet) → StandsFor old.history S → StandsFor new.history (with_horizon horizon S)) → digests ≡ digests_of (entries_of new.history) → IsDump (seen ++ take n piece) new.history
 took_digests seen piece n sender horizon digests old new g spelt agrees takes same =
-    let told : new.history ≡ told_by horizon g.frames = takes (references_at old.horizon g.frames) g.stands ∙ ap history (references_closed old.horizon horizon g.frames g.horizon agrees) in
+    let told : new.history ≡ history_of_messages horizon g.frames = takes (references_at old.horizon g.frames) g.stands ∙ ap history (references_closed old.horizon horizon g.frames g.horizon agrees) in
     let at : horizon ≡ new.history.horizon = sym (ap (λ (h : HistoryView). h.horizon) told ∙ horizon-history (references_in horizon g.frames)) in
     let frames = λ (m : ℕ). g.frames ++ Digest sender m digests ∷ [] in
     let begins : Begins (seen ++ take n piece) (frames horizon) [] = subst (λ (w : List ℕ). Begins w (frames horizon) []) (taken_text seen piece n) (begins_more seen g.begun (take n piece) [] g.frames (Digest sender horizon digests) g.front spelt) in
@@ -223,48 +223,48 @@ took_digests seen piece n sender horizon digests old new g spelt agrees takes sa
       digests = digests;
       whole = subst (λ (m : ℕ). Begins (seen ++ take n piece) (frames m) []) at begins;
       entries = subst (λ (m : ℕ). AreEntriesAt m g.frames) at (some_at old.horizon horizon g.frames g.horizon agrees);
-      told = subst (λ (m : ℕ). new.history ≡ told_by m g.frames) at told;
+      given = subst (λ (m : ℕ). new.history ≡ history_of_messages m g.frames) at told;
       same_digests = same;
     }
 
 -- either
 pub took_frame : (seen piece : List ℕ) (n : ℕ) (frame : Message) (old mid new : Gathered) → Gathers seen old
-    → ((begun : List ℕ) → old.decoder ≡ Inside begun → Spells (begun ++ take n piece) frame × (new.decoder ≡ Inside []))
-    → mid.history ≡ old.history → mid.horizon ≡ old.horizon → Takes mid frame new
+    → ((begun : List ℕ) → old.decoder ≡ Inside begun → Encodes (begun ++ take n piece) frame × (new.decoder ≡ Inside []))
+    → mid.history ≡ old.history → mid.horizon ≡ old.horizon → TakesPiece mid frame new
     → new.seen ≡ length (seen ++ take n piece) → new.at ≡ length (seen ++ take n piece) → HasRead (seen ++ take n piece) new
 took_frame seen piece n (Entries sender horizon es) old mid new g feeds history known takes all here =
     let fed = feeds g.begun g.held in
     took_entries seen piece n sender horizon es old new g fed.0 fed.1 (subst (λ (o : Option ℕ). Agrees o horizon) known takes.0) takes.1
-    (subst (λ (h : HistoryView). TakesIn h (refs (holding_since horizon es)) new.history) history takes.2) takes.3 all here
+    (subst (λ (h : HistoryView). TakesIn h (references_of (history_of_entries_at horizon es)) new.history) history takes.2) takes.3 all here
 took_frame seen piece n (Digest sender horizon digests) old mid new g feeds history known takes all here =
     let fed = feeds g.begun g.held in
     inl (
       takes.3,
       here,
       took_digests seen piece n sender horizon digests old new g fed.0 (subst (λ (o : Option ℕ). Agrees o horizon) known takes.0)
-          (subst (λ (h : HistoryView). (S : ReferenceSet) → StandsFor h S → StandsFor new.history (since horizon S)) history takes.1) takes.2,
+          (subst (λ (h : HistoryView). (S : ReferenceSet) → StandsFor h S → StandsFor new.history (with_horizon horizon S)) history takes.1) takes.2,
     )
 took_frame seen piece n (Want sender horizon request) old mid new g feeds history known takes all here = absurd takes
 
 -- where the frames end is no part of what a frame adds
-pub takes_placed : (frame : Message) (old new : Gathered) (at : ℕ) → Takes old frame new → Takes old frame (record new { at = at })
+pub takes_placed : (frame : Message) (old new : Gathered) (at : ℕ) → TakesPiece old frame new → TakesPiece old frame (record new { at = at })
 takes_placed (Entries sender horizon es) old new at takes = takes
 takes_placed (Digest sender horizon digests) old new at takes = takes
 takes_placed (Want sender horizon request) old new at takes = takes
 
 -- what a feed did, of a decoder inside a frame
-fed_inside : (piece : List ℕ) (fed : Fed) (frame : Option Message) (old next : DecoderState) → Feeds old piece (Ok fed) next → fed.frame ≡ frame → (b : List ℕ) → old ≡ Inside b → TakesBytes b piece fed.taken frame next
+fed_inside : (piece : List ℕ) (fed : Fed) (frame : Option Message) (old next : DecoderState) → FeedStep old piece (Ok fed) next → fed.frame ≡ frame → (b : List ℕ) → old ≡ Inside b → TakesBytes b piece fed.taken frame next
 fed_inside piece fed frame old next feeds is b inside =
-    subst (λ (o : Option Message). TakesBytes b piece fed.taken o next) is (subst (λ (d : DecoderState). Feeds d piece (Ok fed) next) inside feeds)
+    subst (λ (o : Option Message). TakesBytes b piece fed.taken o next) is (subst (λ (d : DecoderState). FeedStep d piece (Ok fed) next) inside feeds)
 
-pub part_read : (seen piece : List ℕ) (fed : Fed) (old new : Gathered) → Gathers seen old → Feeds old.decoder piece (Ok fed) new.decoder → fed.frame ≡ None
+pub part_read : (seen piece : List ℕ) (fed : Fed) (old new : Gathered) → Gathers seen old → FeedStep old.decoder piece (Ok fed) new.decoder → fed.frame ≡ None
     → new.history ≡ old.history → new.horizon ≡ old.horizon → new.whole ≡ false → new.seen ≡ old.seen + fed.taken → new.at ≡ old.at → HasRead (seen ++ take fed.taken piece) new
 part_read seen piece fed old new g feeds none history horizon unclosed more same =
     let f = fed_inside piece fed None old.decoder new.decoder feeds none in
     took_part seen piece fed.taken old new g (f g.begun g.held).0 (λ b is. ((f b is).1, (f b is).2)) history horizon unclosed more same
 
-pub whole_read : (seen piece : List ℕ) (fed : Fed) (frame : Message) (old mid new : Gathered) → Gathers seen old → Feeds old.decoder piece (Ok fed) mid.decoder → fed.frame ≡ Some frame
-    → mid.history ≡ old.history → mid.horizon ≡ old.horizon → new.decoder ≡ mid.decoder → Takes mid frame new
+pub whole_read : (seen piece : List ℕ) (fed : Fed) (frame : Message) (old mid new : Gathered) → Gathers seen old → FeedStep old.decoder piece (Ok fed) mid.decoder → fed.frame ≡ Some frame
+    → mid.history ≡ old.history → mid.horizon ≡ old.horizon → new.decoder ≡ mid.decoder → TakesPiece mid frame new
     → new.seen ≡ old.seen + fed.taken → new.at ≡ new.seen → HasRead (seen ++ take fed.taken piece) new
 whole_read seen piece fed frame old mid new g feeds some history horizon same takes more here =
     let f = fed_inside piece fed (Some frame) old.decoder mid.decoder feeds some in
@@ -272,20 +272,20 @@ whole_read seen piece fed frame old mid new g feeds some history horizon same ta
     took_frame seen piece fed.taken frame old mid new g (λ b is. ((f b is).1, same ∙ (f b is).2)) history horizon takes all (here ∙ all)
 
 -- a frame has a byte that the part before it hasn't
-pub some_taken : (seen piece : List ℕ) (n : ℕ) (frame : Message) (old : Gathered) → Gathers seen old → ((begun : List ℕ) → old.decoder ≡ Inside begun → Spells (begun ++ take n piece) frame) → 0 < n
+pub some_taken : (seen piece : List ℕ) (n : ℕ) (frame : Message) (old : Gathered) → Gathers seen old → ((begun : List ℕ) → old.decoder ≡ Inside begun → Encodes (begun ++ take n piece) frame) → 0 < n
 some_taken seen piece zero frame old g feeds =
-    let spelt : Spells g.begun frame = subst (λ (w : List ℕ). Spells w frame) (append-nil g.begun) (feeds g.begun g.held) in
+    let spelt : Encodes g.begun frame = subst (λ (w : List ℕ). Encodes w frame) (append-nil g.begun) (feeds g.begun g.held) in
     let whole : take (length g.begun) g.begun ≡ g.begun = take_all (length g.begun) g.begun (omega arith) in
     absurd (no_ok (sym (g.part (length g.begun)) ∙ ap read_frame whole ∙ frame_read g.begun frame spelt))
 some_taken seen piece (suc n) frame old g feeds = omega arith
 
-pub some_fed : (seen piece : List ℕ) (fed : Fed) (frame : Message) (old : Gathered) (next : DecoderState) → Gathers seen old → Feeds old.decoder piece (Ok fed) next → fed.frame ≡ Some frame → 0 < fed.taken
+pub some_fed : (seen piece : List ℕ) (fed : Fed) (frame : Message) (old : Gathered) (next : DecoderState) → Gathers seen old → FeedStep old.decoder piece (Ok fed) next → fed.frame ≡ Some frame → 0 < fed.taken
 some_fed seen piece fed frame old next g feeds some = some_taken seen piece fed.taken frame old g (λ b is. (fed_inside piece fed (Some frame) old.decoder next feeds some b is).1)
 
 -- ---- refusals
 
 -- a fault of a frame
-frame_refused : (text : List ℕ) (at : ℕ) (fault : FrameFault) → ShowsFrameFault text at fault → IsRefused text at (Frame fault)
+frame_refused : (text : List ℕ) (at : ℕ) (fault : FrameFault) → ShowsFrameFault text at fault → IsDumpRefused text at (Frame fault)
 frame_refused text at frame_faults.Memory shown = tt
 frame_refused text at frame_faults.Truncated shown = shown
 frame_refused text at frame_faults.BadMagic shown = shown
@@ -298,11 +298,11 @@ frame_refused text at frame_faults.BadStamp shown = shown
 frame_refused text at frame_faults.BadOrder shown = shown
 frame_refused text at frame_faults.Failed shown = shown
 
-pub fault_refused : (seen piece : List ℕ) (fault : FrameFault) (old : Gathered) (next : DecoderState) → Gathers seen old → Feeds old.decoder piece (Err fault) next → IsRefusedForGood (seen ++ piece) old.at (Frame fault)
-fault_refused seen piece fault old next g feeds later = cases (subst (λ (d : DecoderState). Feeds d piece (Err fault) next) g.held feeds)
+pub fault_refused : (seen piece : List ℕ) (fault : FrameFault) (old : Gathered) (next : DecoderState) → Gathers seen old → FeedStep old.decoder piece (Err fault) next → IsRefusedForGood (seen ++ piece) old.at (Frame fault)
+fault_refused seen piece fault old next g feeds later = cases (subst (λ (d : DecoderState). FeedStep d piece (Err fault) next) g.held feeds)
   where
-    cases : ((fault ≡ frame_faults.Memory) × (next ≡ Inside g.begun)) ⊎ Breaks g.begun piece fault next → IsRefused ((seen ++ piece) ++ later) old.at (Frame fault)
-    cases (inl none) = subst (λ (f : FrameFault). IsRefused ((seen ++ piece) ++ later) old.at (Frame f)) (sym none.0) tt
+    cases : ((fault ≡ frame_faults.Memory) × (next ≡ Inside g.begun)) ⊎ Breaks g.begun piece fault next → IsDumpRefused ((seen ++ piece) ++ later) old.at (Frame fault)
+    cases (inl none) = subst (λ (f : FrameFault). IsDumpRefused ((seen ++ piece) ++ later) old.at (Frame f)) (sym none.0) tt
     cases (inr b) =
         let n = b.0 in
         let T = texts_of g.front.texts in
@@ -325,12 +325,12 @@ fault_refused seen piece fault old next g feeds later = cases (subst (λ (d : De
           },
         )
 
-memory_refused : (text : List ℕ) (at : ℕ) (why : DumpFault) → why ≡ Frame frame_faults.Memory → IsRefused text at why
-memory_refused text at why is = subst (IsRefused text at) (sym is) tt
+memory_refused : (text : List ℕ) (at : ℕ) (why : DumpFault) → why ≡ Frame frame_faults.Memory → IsDumpRefused text at why
+memory_refused text at why is = subst (IsDumpRefused text at) (sym is) tt
 
 -- a frame with another horizon
-other_horizon : (seen piece later : List ℕ) (n : ℕ) (known : Option ℕ) (horizon : ℕ) (frame : Message) (frames : List Message) (begun : List ℕ) (end : ℕ) → Begins seen frames begun → Spells (begun ++ take n piece) frame → AreAt known frames → IsPartAt horizon frame → (Agrees known horizon → ⊥)
-    → EndsAt ((seen ++ piece) ++ later) frames end → IsRefused ((seen ++ piece) ++ later) end HorizonsDiffer
+other_horizon : (seen piece later : List ℕ) (n : ℕ) (known : Option ℕ) (horizon : ℕ) (frame : Message) (frames : List Message) (begun : List ℕ) (end : ℕ) → Begins seen frames begun → Encodes (begun ++ take n piece) frame → AreAt known frames → IsPartAt horizon frame → (Agrees known horizon → ⊥)
+    → EndsAt ((seen ++ piece) ++ later) frames end → IsDumpRefused ((seen ++ piece) ++ later) end HorizonsDiffer
 other_horizon seen piece later n None horizon frame frames begun end front spelt at is differ ends = absurd (differ tt)
 other_horizon seen piece later n (Some known) horizon frame frames begun end front spelt at is differ ends = (
   known,
@@ -347,12 +347,12 @@ other_horizon seen piece later n (Some known) horizon frame frames begun end fro
 )
 
 -- digests of another history
-other_digests : (seen piece later : List ℕ) (n sender horizon : ℕ) (digests : List (List ℕ)) (old : Gathered) (g : Gathers seen old) → Spells (g.begun ++ take n piece) (Digest sender horizon digests)
-    → Agrees old.horizon horizon → (digests ≢ digests_of (entries_of (raised horizon old.history))) → IsRefused ((seen ++ piece) ++ later) old.at DigestsDiffer
+other_digests : (seen piece later : List ℕ) (n sender horizon : ℕ) (digests : List (List ℕ)) (old : Gathered) (g : Gathers seen old) → Encodes (g.begun ++ take n piece) (Digest sender horizon digests)
+    → Agrees old.horizon horizon → (digests ≢ digests_of (entries_of (raised horizon old.history))) → IsDumpRefused ((seen ++ piece) ++ later) old.at DigestsDiffer
 other_digests seen piece later n sender horizon digests old g spelt agrees differ =
     let S = references_at old.horizon g.frames in
-    let told : raised horizon old.history ≡ told_by horizon g.frames =
-    ap (raised horizon) g.stands ∙ history_first S (record { horizon = horizon; told = [] }) ∙ ap history (references_closed old.horizon horizon g.frames g.horizon agrees) in (
+    let told : raised horizon old.history ≡ history_of_messages horizon g.frames =
+    ap (raised horizon) g.stands ∙ history_first S (record { horizon = horizon; given = [] }) ∙ ap history (references_closed old.horizon horizon g.frames g.horizon agrees) in (
       horizon,
       g.frames,
       sender,
@@ -365,18 +365,18 @@ other_digests seen piece later n sender horizon digests old g spelt agrees diffe
           (begins_more seen g.begun (take n piece) (drop n piece ++ later) g.frames (Digest sender horizon digests) g.front spelt),
     )
 
-rejects_refused : (seen piece later : List ℕ) (n : ℕ) (frame : Message) (why : DumpFault) (old : Gathered) (g : Gathers seen old) → Spells (g.begun ++ take n piece) frame → Rejects old frame why → IsRefused ((seen ++ piece) ++ later) old.at why
+rejects_refused : (seen piece later : List ℕ) (n : ℕ) (frame : Message) (why : DumpFault) (old : Gathered) (g : Gathers seen old) → Encodes (g.begun ++ take n piece) frame → Rejects old frame why → IsDumpRefused ((seen ++ piece) ++ later) old.at why
 rejects_refused seen piece later n (Entries sender horizon es) why old g spelt (inl none) = memory_refused ((seen ++ piece) ++ later) old.at why none
 rejects_refused seen piece later n (Entries sender horizon es) why old g spelt (inr x) =
-    subst (IsRefused ((seen ++ piece) ++ later) old.at) (sym x.0) (other_horizon seen piece later n old.horizon horizon (Entries sender horizon es) g.frames g.begun old.at g.front spelt g.horizon refl x.1 (ends_in seen piece later old g))
+    subst (IsDumpRefused ((seen ++ piece) ++ later) old.at) (sym x.0) (other_horizon seen piece later n old.horizon horizon (Entries sender horizon es) g.frames g.begun old.at g.front spelt g.horizon refl x.1 (ends_in seen piece later old g))
 rejects_refused seen piece later n (Digest sender horizon digests) why old g spelt (inl none) = memory_refused ((seen ++ piece) ++ later) old.at why none
 rejects_refused seen piece later n (Digest sender horizon digests) why old g spelt (inr (inl x)) =
-    subst (IsRefused ((seen ++ piece) ++ later) old.at) (sym x.0) (other_horizon seen piece later n old.horizon horizon (Digest sender horizon digests) g.frames g.begun old.at g.front spelt g.horizon refl x.1 (ends_in seen piece later old g))
+    subst (IsDumpRefused ((seen ++ piece) ++ later) old.at) (sym x.0) (other_horizon seen piece later n old.horizon horizon (Digest sender horizon digests) g.frames g.begun old.at g.front spelt g.horizon refl x.1 (ends_in seen piece later old g))
 rejects_refused seen piece later n (Digest sender horizon digests) why old g spelt (inr (inr x)) =
-    subst (IsRefused ((seen ++ piece) ++ later) old.at) (sym x.0) (other_digests seen piece later n sender horizon digests old g spelt x.1 x.2)
+    subst (IsDumpRefused ((seen ++ piece) ++ later) old.at) (sym x.0) (other_digests seen piece later n sender horizon digests old g spelt x.1 x.2)
 rejects_refused seen piece later n (Want sender own request) why old g spelt is =
     let at = all_at old.horizon g.frames g.horizon in
-    subst (IsRefused ((seen ++ piece) ++ later) old.at) (sym is)
+    subst (IsDumpRefused ((seen ++ piece) ++ later) old.at) (sym is)
     (inr (
       at.0,
       g.frames,
@@ -397,12 +397,12 @@ rejects_same (Digest sender horizon digests) why old mid history known x =
     (subst (λ (o : Option ℕ). (why ≡ Frame frame_faults.Memory) ⊎ ((why ≡ HorizonsDiffer) × (Agrees o horizon → ⊥)) ⊎ ((why ≡ DigestsDiffer) × Agrees o horizon × (digests ≢ digests_of (entries_of (raised horizon mid.history))))) known x)
 rejects_same (Want sender own request) why old mid history known x = x
 
-pub frame_rejected : (seen piece : List ℕ) (n : ℕ) (frame : Message) (why : DumpFault) (old mid : Gathered) → Gathers seen old → ((begun : List ℕ) → old.decoder ≡ Inside begun → Spells (begun ++ take n piece) frame)
+pub frame_rejected : (seen piece : List ℕ) (n : ℕ) (frame : Message) (why : DumpFault) (old mid : Gathered) → Gathers seen old → ((begun : List ℕ) → old.decoder ≡ Inside begun → Encodes (begun ++ take n piece) frame)
     → mid.history ≡ old.history → mid.horizon ≡ old.horizon → Rejects mid frame why → IsRefusedForGood (seen ++ piece) old.at why
 frame_rejected seen piece n frame why old mid g feeds history known x later =
     rejects_refused seen piece later n frame why old g (feeds g.begun g.held) (rejects_same frame why old mid history known x)
 
-pub whole_rejected : (seen piece : List ℕ) (fed : Fed) (frame : Message) (why : DumpFault) (old mid : Gathered) (next : DecoderState) → Gathers seen old → Feeds old.decoder piece (Ok fed) next → fed.frame ≡ Some frame
+pub whole_rejected : (seen piece : List ℕ) (fed : Fed) (frame : Message) (why : DumpFault) (old mid : Gathered) (next : DecoderState) → Gathers seen old → FeedStep old.decoder piece (Ok fed) next → fed.frame ≡ Some frame
     → mid.history ≡ old.history → mid.horizon ≡ old.horizon → Rejects mid frame why → IsRefusedForGood (seen ++ piece) old.at why
 whole_rejected seen piece fed frame why old mid next g feeds some history known x =
     frame_rejected seen piece fed.taken frame why old mid g (λ b is. (fed_inside piece fed (Some frame) old.decoder next feeds some b is).1) history known x
@@ -436,7 +436,7 @@ ended_dump seen g whole (inr x) = (let never : false ≡ true = sym x.0 ∙ whol
 pub ends_with_digests : (text : List ℕ) (h : HistoryView) → IsDump text h → EndsWithDigests text (digests_of (entries_of h))
 ends_with_digests text h d = (d.frames, d.sender, h.horizon, subst (λ (digests : List (List ℕ)). Begins text (d.frames ++ Digest d.sender h.horizon digests ∷ []) []) d.same_digests d.whole)
 
-pub ended_short : (seen : List ℕ) (g : Gathered) → g.whole ≡ false → HasRead seen g → IsRefused seen g.at CutShort
+pub ended_short : (seen : List ℕ) (g : Gathered) → g.whole ≡ false → HasRead seen g → IsDumpRefused seen g.at CutShort
 ended_short seen g unclosed read =
     let s = is_open seen g unclosed read in
     let at = all_at g.horizon s.frames s.horizon in

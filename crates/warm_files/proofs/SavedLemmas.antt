@@ -18,9 +18,9 @@ use Rattle.warm_stamps.specs.Replicas.{IsReplica}
 use Rattle.warm_stamps.specs.Stamps.{stamp_cmp, page_cmp}
 use Rattle.warm_stamps.proofs.DistinctLemmas.{all_append, all_filter, all_take, rising_filter, rising_take}
 use Rattle.warm_history.specs.declared.hist.Entry.{Entry}
-use Rattle.warm_history.specs.ListHistories as list
+use Rattle.warm_history.specs.ListHistories.{known_stamps, list_hist, first_two}
 use Rattle.warm_history.specs.Carried.{bucket_entries}
-use Rattle.warm_history.specs.Histories.{HistoryView, PagesRise, IsHistory, entries_of, held_by, history, refs}
+use Rattle.warm_history.specs.Histories.{HistoryView, PagesAscend, IsHistory, entries_of, references_of_entries, history, references_of}
 use Rattle.warm_history.proofs.HistoryLemmas.{same_hists}
 use Rattle.warm_history.proofs.JoinLemmas.{history_of_own_references}
 use Rattle.warm_history.proofs.KeptLemmas.{kept_alike}
@@ -32,23 +32,23 @@ use Rattle.warm_frames.specs.declared.message.Message.TheVariants.{Entries}
 use Rattle.warm_frames.specs.Digests.{IsDigestTable}
 use Rattle.warm_frames.specs.Entries.{IsEntry, entries_bytes}
 use Rattle.warm_frames.specs.Pieces.{SpellAll, texts_of}
-use Rattle.warm_frames.specs.Spelling.{IsFrame, Spells, spelling}
+use Rattle.warm_frames.specs.Spelling.{IsValidMessage, Encodes, encoding}
 use Rattle.warm_frames.specs.Reading.{format_of}
 use Rattle.warm_digest.specs.BucketDigests.{bucket_digest, digests_of}
 use Rattle.warm_digest.specs.Exchange.{Fits}
 use Rattle.warm_files.specs.Dumps.{pieces_of, bucket_frames, entry_frames, last_frame, text_of}
 use Rattle.warm_files.specs.Laws.{DumpReadsBack}
-use Rattle.warm_files.specs.Reading.{IsEntriesAt, AreEntriesAt, brought, entries_in, references_in}
+use Rattle.warm_files.specs.Reading.{IsEntriesAt, AreEntriesAt, brought, entries_brought, references_in}
 use Rattle.warm_files.proofs.DumpLemmas.{frames_below, range_more, rising_drop}
 use Rattle.warm_files.proofs.ReadLemmas.{held-append}
 
 -- ---- frames and their spellings
 
-text_is : (fs : List Message) → texts_of (map spelling fs) ≡ text_of fs
+text_is : (fs : List Message) → texts_of (map encoding fs) ≡ text_of fs
 text_is [] = refl
-text_is (f ∷ fs) = ap (λ (w : List ℕ). spelling f ++ w) (text_is fs) ∙ sym (flat_map-cons spelling f fs)
+text_is (f ∷ fs) = ap (λ (w : List ℕ). encoding f ++ w) (text_is fs) ∙ sym (flat_map-cons encoding f fs)
 
--- the spelling that is written, in the format of these letters: it has no name outside its crate
+-- the encoding that is written, in the format of these letters: it has no name outside its crate
 never : false ≡ true → ⊥
 never is = absurd (cc)
 
@@ -56,10 +56,10 @@ abbrev value_of : {A E : Type 0} (r : Result A E) → IsOk r → A
 value_of (Ok x) is = x
 value_of (Err e) is = absurd (never is)
 
-spelled : (f : Message) → IsFrame f → Spells (spelling f) f
+spelled : (f : Message) → IsValidMessage f → Encodes (encoding f) f
 spelled f fits = (value_of (format_of MAGIC) refl, record { fits = fits; holds = tt; text = refl })
 
-all_spelled : (fs : List Message) → AllByRecursion IsFrame fs → SpellAll (map spelling fs) fs
+all_spelled : (fs : List Message) → AllByRecursion IsValidMessage fs → SpellAll (map encoding fs) fs
 all_spelled [] all = tt
 all_spelled (f ∷ fs) all = (spelled f all.0, all_spelled fs all.1)
 
@@ -70,8 +70,8 @@ all_drop P zero xs all = all
 all_drop P (suc n) [] all = tt
 all_drop P (suc n) (x ∷ xs) all = all_drop P n xs all.1
 
-pieces_frames : (sender horizon n : ℕ) (es : List Entry) → IsReplica sender → horizon < 2 ^ 64 → PagesRise es → AllByRecursion IsEntry es
-    → AllByRecursion IsFrame (map (λ piece. Entries sender horizon piece) (pieces_of MAX_ENTRIES n es))
+pieces_frames : (sender horizon n : ℕ) (es : List Entry) → IsReplica sender → horizon < 2 ^ 64 → PagesAscend es → AllByRecursion IsEntry es
+    → AllByRecursion IsValidMessage (map (λ piece. Entries sender horizon piece) (pieces_of MAX_ENTRIES n es))
 pieces_frames sender horizon zero es replica low rise all = tt
 pieces_frames sender horizon (suc n) [] replica low rise all = tt
 pieces_frames sender horizon (suc n) (e ∷ es) replica low rise all =
@@ -80,7 +80,7 @@ pieces_frames sender horizon (suc n) (e ∷ es) replica low rise all =
         replica,
         low,
         record {
-          pages_rise = rising_take by_page MAX_ENTRIES (e ∷ es) rise;
+          pages_ascend = rising_take by_page MAX_ENTRIES (e ∷ es) rise;
           at_most = omega (arith, length-take MAX_ENTRIES (e ∷ es));
           each = all_take IsEntry MAX_ENTRIES (e ∷ es) all;
         },
@@ -93,7 +93,7 @@ pieces_entries sender horizon zero es = tt
 pieces_entries sender horizon (suc n) [] = tt
 pieces_entries sender horizon (suc n) (e ∷ es) = (refl, pieces_entries sender horizon n (drop MAX_ENTRIES (e ∷ es)))
 
-pieces_bring : (sender horizon n : ℕ) (es : List Entry) → length es ≤ n → entries_in (map (λ piece. Entries sender horizon piece) (pieces_of MAX_ENTRIES n es)) ≡ es
+pieces_bring : (sender horizon n : ℕ) (es : List Entry) → length es ≤ n → entries_brought (map (λ piece. Entries sender horizon piece) (pieces_of MAX_ENTRIES n es)) ≡ es
 pieces_bring sender horizon zero [] few = refl
 pieces_bring sender horizon zero (e ∷ es) few = absurd (omega (arith, few))
 pieces_bring sender horizon (suc n) [] few = refl
@@ -111,11 +111,11 @@ all_flat_map P f [] each = tt
 all_flat_map P f (x ∷ xs) each = subst (AllByRecursion P) (sym (flat_map-cons f x xs)) (all_append P (f x) (flat_map f xs) (each x) (all_flat_map P f xs each))
 
 -- the entries of a bucket rise, and there are such
-bucket_rise : (h : HistoryView) (bucket : ℕ) → IsHistory h → PagesRise (bucket_entries bucket (entries_of h))
-bucket_rise h bucket whole = rising_filter (on (λ (e : Entry). e.page) page_cmp) (λ e. page_bucket e.page == bucket) (entries_of h) whole.pages_rise
+bucket_rise : (h : HistoryView) (bucket : ℕ) → IsHistory h → PagesAscend (bucket_entries bucket (entries_of h))
+bucket_rise h bucket whole = rising_filter (on (λ (e : Entry). e.page) page_cmp) (λ e. page_bucket e.page == bucket) (entries_of h) whole.pages_ascend
 
-all_frames : (sender : ℕ) (h : HistoryView) → IsReplica sender → h.horizon < 2 ^ 64 → IsHistory h → Fits h → AllByRecursion IsFrame (entry_frames sender h)
-all_frames sender h replica low whole fits = all_flat_map IsFrame (bucket_frames sender h) (range_with_len 0 BUCKETS) (λ bucket.
+all_frames : (sender : ℕ) (h : HistoryView) → IsReplica sender → h.horizon < 2 ^ 64 → IsHistory h → Fits h → AllByRecursion IsValidMessage (entry_frames sender h)
+all_frames sender h replica low whole fits = all_flat_map IsValidMessage (bucket_frames sender h) (range_with_len 0 BUCKETS) (λ bucket.
     let es : List Entry = bucket_entries bucket (entries_of h) in
     pieces_frames sender h.horizon (length es) es replica low (bucket_rise h bucket whole) (all_filter IsEntry (λ e. page_bucket e.page == bucket) (entries_of h) fits))
 
@@ -128,56 +128,56 @@ all_entries sender h = all_flat_map (IsEntriesAt h.horizon) (bucket_frames sende
 
 -- the stamps that the first buckets' frames hold of the page p
 abbrev told_below : ℕ → HistoryView → ℕ → PageId → List Stamp
-told_below sender h n p = told (held_by (entries_in (frames_below sender h n))) p
+told_below sender h n p = told (references_of_entries (entries_brought (frames_below sender h n))) p
 
-bucket_brings : (sender n : ℕ) (h : HistoryView) → entries_in (frames_below sender h (n + 1)) ≡ entries_in (frames_below sender h n) ++ bucket_entries n (entries_of h)
+bucket_brings : (sender n : ℕ) (h : HistoryView) → entries_brought (frames_below sender h (n + 1)) ≡ entries_brought (frames_below sender h n) ++ bucket_entries n (entries_of h)
 bucket_brings sender n h =
     let es : List Entry = bucket_entries n (entries_of h) in
     let B = bucket_frames sender h in
-    ap (λ (ks : List ℕ). entries_in (flat_map B ks)) (range_more n)
-    ∙ ap entries_in (flat_map-append B (range_with_len 0 n) (n ∷ []) ∙ ap (λ (fs : List Message). frames_below sender h n ++ fs) (append-nil (B n)))
+    ap (λ (ks : List ℕ). entries_brought (flat_map B ks)) (range_more n)
+    ∙ ap entries_brought (flat_map-append B (range_with_len 0 n) (n ∷ []) ∙ ap (λ (fs : List Message). frames_below sender h n ++ fs) (append-nil (B n)))
     ∙ flat_map-append brought (frames_below sender h n) (B n)
-    ∙ ap (λ (x : List Entry). entries_in (frames_below sender h n) ++ x) (pieces_bring sender h.horizon (length es) es (omega arith))
+    ∙ ap (λ (x : List Entry). entries_brought (frames_below sender h n) ++ x) (pieces_bring sender h.horizon (length es) es (omega arith))
 
-told_more : (sender n : ℕ) (h : HistoryView) (p : PageId) → told_below sender h (suc n) p ≡ told_below sender h n p ++ told (held_by (bucket_entries n (entries_of h))) p
+told_more : (sender n : ℕ) (h : HistoryView) (p : PageId) → told_below sender h (suc n) p ≡ told_below sender h n p ++ told (references_of_entries (bucket_entries n (entries_of h))) p
 told_more sender n h p =
-    let before : List Entry = entries_in (frames_below sender h n) in
+    let before : List Entry = entries_brought (frames_below sender h n) in
     let es : List Entry = bucket_entries n (entries_of h) in
     let next : suc n ≡ n + 1 = omega arith in
     ap (λ (k : ℕ). told_below sender h k p) next
-    ∙ ap (λ (x : List Entry). told (held_by x) p) (bucket_brings sender n h)
+    ∙ ap (λ (x : List Entry). told (references_of_entries x) p) (bucket_brings sender n h)
     ∙ ap (λ rs. told rs p) (held-append before es)
-    ∙ told-append (held_by before) (held_by es) p
+    ∙ told-append (references_of_entries before) (references_of_entries es) p
 
 -- what a bucket tells of a page: all, if it is the page's own, and nothing otherwise
-told_in : (h : HistoryView) (n : ℕ) (p : PageId) → IsHistory h → told (held_by (bucket_entries n (entries_of h))) p ≡ list.held (cond (page_bucket p == n) (get (entries_of h) p) None)
-told_in h n p whole = told_refs (bucket_entries n (entries_of h)) (bucket_rise h n whole) p ∙ ap list.held (get-filter (λ q. page_bucket q == n) (entries_of h) p)
+told_in : (h : HistoryView) (n : ℕ) (p : PageId) → IsHistory h → told (references_of_entries (bucket_entries n (entries_of h))) p ≡ known_stamps (cond (page_bucket p == n) (get (entries_of h) p) None)
+told_in h n p whole = told_refs (bucket_entries n (entries_of h)) (bucket_rise h n whole) p ∙ ap known_stamps (get-filter (λ q. page_bucket q == n) (entries_of h) p)
 
-told_own : (h : HistoryView) (n : ℕ) (p : PageId) → IsHistory h → page_bucket p ≡ n → told (held_by (bucket_entries n (entries_of h))) p ≡ told (held_by (entries_of h)) p
+told_own : (h : HistoryView) (n : ℕ) (p : PageId) → IsHistory h → page_bucket p ≡ n → told (references_of_entries (bucket_entries n (entries_of h))) p ≡ told (references_of_entries (entries_of h)) p
 told_own h n p whole is =
-    told_in h n p whole ∙ ap (λ b. list.held (cond b (get (entries_of h) p) None)) (eq-eqb (page_bucket p) n is) ∙ sym (told_refs (entries_of h) whole.pages_rise p)
+    told_in h n p whole ∙ ap (λ b. known_stamps (cond b (get (entries_of h) p) None)) (eq-eqb (page_bucket p) n is) ∙ sym (told_refs (entries_of h) whole.pages_ascend p)
 
-told_elsewhere : (h : HistoryView) (n : ℕ) (p : PageId) → IsHistory h → (page_bucket p == n) ≡ false → told (held_by (bucket_entries n (entries_of h))) p ≡ []
-told_elsewhere h n p whole other = told_in h n p whole ∙ ap (λ b. list.held (cond b (get (entries_of h) p) None)) other
+told_elsewhere : (h : HistoryView) (n : ℕ) (p : PageId) → IsHistory h → (page_bucket p == n) ≡ false → told (references_of_entries (bucket_entries n (entries_of h))) p ≡ []
+told_elsewhere h n p whole other = told_in h n p whole ∙ ap (λ b. known_stamps (cond b (get (entries_of h) p) None)) other
 
 told_none : (sender n : ℕ) (h : HistoryView) (p : PageId) → IsHistory h → n ≤ page_bucket p → told_below sender h n p ≡ []
 told_none sender zero h p whole low = refl
 told_none sender (suc n) h p whole low =
     let other : (page_bucket p == n) ≡ false = ne_eqb (page_bucket p) n (λ is. omega (arith, is, low)) in
     told_more sender n h p
-    ∙ ap (λ (ss : List Stamp). ss ++ told (held_by (bucket_entries n (entries_of h))) p) (told_none sender n h p whole (omega (arith, low)))
+    ∙ ap (λ (ss : List Stamp). ss ++ told (references_of_entries (bucket_entries n (entries_of h))) p) (told_none sender n h p whole (omega (arith, low)))
     ∙ told_elsewhere h n p whole other
 
-told_all : (sender n : ℕ) (h : HistoryView) (p : PageId) → IsHistory h → page_bucket p < n → told_below sender h n p ≡ told (held_by (entries_of h)) p
+told_all : (sender n : ℕ) (h : HistoryView) (p : PageId) → IsHistory h → page_bucket p < n → told_below sender h n p ≡ told (references_of_entries (entries_of h)) p
 told_all sender zero h p whole low = absurd (omega (arith, low))
 told_all sender (suc n) h p whole low = elim (cases_eq (page_bucket p) n) [
   | inl is ↦ told_more sender n h p
-      ∙ ap (λ (ss : List Stamp). ss ++ told (held_by (bucket_entries n (entries_of h))) p) (told_none sender n h p whole (omega (arith, is)))
+      ∙ ap (λ (ss : List Stamp). ss ++ told (references_of_entries (bucket_entries n (entries_of h))) p) (told_none sender n h p whole (omega (arith, is)))
       ∙ told_own h n p whole is
   | inr other ↦ told_more sender n h p
-      ∙ ap (λ (ss : List Stamp). ss ++ told (held_by (bucket_entries n (entries_of h))) p) (told_all sender n h p whole (omega (arith, low, other)))
-      ∙ ap (λ (ss : List Stamp). told (held_by (entries_of h)) p ++ ss) (told_elsewhere h n p whole (ne_eqb (page_bucket p) n other))
-      ∙ append-nil (told (held_by (entries_of h)) p)
+      ∙ ap (λ (ss : List Stamp). ss ++ told (references_of_entries (bucket_entries n (entries_of h))) p) (told_all sender n h p whole (omega (arith, low, other)))
+      ∙ ap (λ (ss : List Stamp). told (references_of_entries (entries_of h)) p ++ ss) (told_elsewhere h n p whole (ne_eqb (page_bucket p) n other))
+      ∙ append-nil (told (references_of_entries (entries_of h)) p)
 ]
 
 low_bucket : (p : PageId) → page_bucket p < BUCKETS
@@ -187,9 +187,9 @@ low_bucket p = omega arith
 told_back : (sender : ℕ) (h : HistoryView) → IsHistory h → h ≡ history (references_in h.horizon (entry_frames sender h))
 told_back sender h whole =
     let S = references_in h.horizon (entry_frames sender h) in
-    let alike : (p : PageId) → list.hist (held_by (entries_of h)) p ≡ list.hist (held_by (entries_in (entry_frames sender h))) p =
-    λ p. ap (λ (ss : List Stamp). list.first_two (distinct (flip_args stamp_cmp) ss)) (sym (told_all sender BUCKETS h p whole (low_bucket p))) in
-    sym (history_of_own_references h whole) ∙ same_hists (refs h) S refl (kept_alike h.horizon (held_by (entries_of h)) (held_by (entries_in (entry_frames sender h))) alike)
+    let alike : (p : PageId) → list_hist (references_of_entries (entries_of h)) p ≡ list_hist (references_of_entries (entries_brought (entry_frames sender h))) p =
+    λ p. ap (λ (ss : List Stamp). first_two (distinct (flip_args stamp_cmp) ss)) (sym (told_all sender BUCKETS h p whole (low_bucket p))) in
+    sym (history_of_own_references h whole) ∙ same_hists (references_of h) S refl (kept_alike h.horizon (references_of_entries (entries_of h)) (references_of_entries (entries_brought (entry_frames sender h))) alike)
 
 -- ---- the digests
 
@@ -216,25 +216,25 @@ digests_fit es = record { count = length-map (range_with_len 0 BUCKETS) (bucket_
 all_last : {A : Type 0} (P : A → Type 0) (xs : List A) (x : A) → AllByRecursion P xs → P x → AllByRecursion P (xs ++ x ∷ [])
 all_last P xs x all last = all_append P xs (x ∷ []) all (last, tt)
 
-text_last : (fs : List Message) (f : Message) → text_of (fs ++ f ∷ []) ≡ text_of fs ++ spelling f
-text_last fs f = flat_map-append spelling fs (f ∷ []) ∙ ap (λ (w : List ℕ). text_of fs ++ w) (append-nil (spelling f))
+text_last : (fs : List Message) (f : Message) → text_of (fs ++ f ∷ []) ≡ text_of fs ++ encoding f
+text_last fs f = flat_map-append encoding fs (f ∷ []) ∙ ap (λ (w : List ℕ). text_of fs ++ w) (append-nil (encoding f))
 
 pub dump_reads_back : DumpReadsBack
 dump_reads_back sender h replica low whole fits =
     let frames : List Message = entry_frames sender h in
     let last : Message = last_frame sender h in
     let all : List Message = frames ++ last ∷ [] in
-    let is_last : IsFrame last = (replica, low, digests_fit (entries_of h)) in
+    let is_last : IsValidMessage last = (replica, low, digests_fit (entries_of h)) in
     record {
       frames = frames;
       sender = sender;
       digests = digests_of (entries_of h);
       whole = record {
-        texts = map spelling all;
-        whole = sym (text_last frames last) ∙ sym (text_is all) ∙ sym (append-nil (texts_of (map spelling all)));
-        each = all_spelled all (all_last IsFrame frames last (all_frames sender h replica low whole fits) is_last);
+        texts = map encoding all;
+        whole = sym (text_last frames last) ∙ sym (text_is all) ∙ sym (append-nil (texts_of (map encoding all)));
+        each = all_spelled all (all_last IsValidMessage frames last (all_frames sender h replica low whole fits) is_last);
       };
       entries = all_entries sender h;
-      told = told_back sender h whole;
+      given = told_back sender h whole;
       same_digests = refl;
     }

@@ -6,7 +6,7 @@ use Rattle.warm_files.specs.declared.fault.DumpFault.{DumpFault}
 use Rattle.warm_files.specs.declared.fault.DumpFault.TheVariants.{ReadFault}
 use Rattle.warm_files.specs.declared.reading.Gathered.{Gathered}
 use Rattle.warm_files.specs.Gathering.{HasRead, IsRefusedForGood}
-use Rattle.warm_files.specs.Reading.{IsRefused}
+use Rattle.warm_files.specs.Reading.{IsDumpRefused}
 use Rattle.warm_files.proofs.EndLemmas.{any_text}
 
 front_text : (a b : Option (List ℕ)) (bs : List ℕ) (P : List ℕ → Type 0) → Consumes a b bs → ((later : List ℕ) → P (bs ++ later)) → IfSome a P
@@ -15,6 +15,6 @@ front_text (Some t) None bs P p f = absurd p
 front_text (Some t) (Some y) bs P p f = subst P (sym p) (f y)
 
 pub read_refused : (a b c : Option (List ℕ)) (seen : List ℕ) (at : ℕ) (why : DumpFault) (now : Gathered) → Consumes a b seen → HasRead seen now
-    → ((why ≡ ReadFault) ⊎ ((bytes : List ℕ) × Consumes b c bytes × ((s : List ℕ) → HasRead s now → IsRefusedForGood (s ++ bytes) at why))) → IfSome a (λ text. IsRefused text at why)
-read_refused a b c seen at why now p read (inl is) = any_text a (λ text. IsRefused text at why) (λ t. subst (IsRefused t at) (sym is) tt)
-read_refused a b c seen at why now p read (inr x) = front_text a c (seen ++ x.0) (λ text. IsRefused text at why) (Consumes-trans a b c seen x.0 p x.1) (x.2 seen read)
+    → ((why ≡ ReadFault) ⊎ ((bytes : List ℕ) × Consumes b c bytes × ((s : List ℕ) → HasRead s now → IsRefusedForGood (s ++ bytes) at why))) → IfSome a (λ text. IsDumpRefused text at why)
+read_refused a b c seen at why now p read (inl is) = any_text a (λ text. IsDumpRefused text at why) (λ t. subst (IsDumpRefused t at) (sym is) tt)
+read_refused a b c seen at why now p read (inr x) = front_text a c (seen ++ x.0) (λ text. IsDumpRefused text at why) (Consumes-trans a b c seen x.0 p x.1) (x.2 seen read)

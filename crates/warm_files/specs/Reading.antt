@@ -3,7 +3,7 @@ use Rattle.std.specs.Prelude.{◌≡◌, ◌≢◌, ◌⊎◌, ℕ, ◌+◌, ◌
 use Rattle.std.specs.List.{AllByRecursion, flat_map}
 use Rattle.warm_history.specs.declared.hist.Entry.{Entry}
 use Rattle.warm_history.specs.ReferenceSets.{ReferenceSet}
-use Rattle.warm_history.specs.Histories.{HistoryView, entries_of, held_by, history}
+use Rattle.warm_history.specs.Histories.{HistoryView, entries_of, references_of_entries, history}
 use Rattle.warm_frames.specs.declared.fault.FrameFault.{FrameFault}
 use Rattle.warm_frames.specs.declared.fault.FrameFault.TheVariants as frame_faults
 use Rattle.warm_frames.specs.declared.message.Message.{Message}
@@ -31,16 +31,16 @@ brought (Entries sender own es) = es
 brought (Digest sender own digests) = []
 brought (Want sender own request) = []
 
-abbrev pub entries_in : List Message → List Entry
-entries_in frames = flat_map brought frames
+abbrev pub entries_brought : List Message → List Entry
+entries_brought frames = flat_map brought frames
 
 -- the references that frames hold, of which those before the horizon are forgotten
 abbrev pub references_in : ℕ → List Message → ReferenceSet
-references_in horizon frames = record { horizon = horizon; told = held_by (entries_in frames) }
+references_in horizon frames = record { horizon = horizon; given = references_of_entries (entries_brought frames) }
 
 -- the history that frames tell at a horizon: that of all these references
-abbrev pub told_by : ℕ → List Message → HistoryView
-told_by horizon frames = history (references_in horizon frames)
+abbrev pub history_of_messages : ℕ → List Message → HistoryView
+history_of_messages horizon frames = history (references_in horizon frames)
 
 -- ---- texts
 
@@ -58,7 +58,7 @@ pub record IsDump (text : List ℕ) (h : HistoryView) : Type 0 where
   pub digests : List (List ℕ)
   pub whole : Begins text (frames ++ Digest sender h.horizon digests ∷ []) []
   pub entries : AreEntriesAt h.horizon frames
-  pub told : h ≡ told_by h.horizon frames
+  pub given : h ≡ history_of_messages h.horizon frames
   pub same_digests : digests ≡ digests_of (entries_of h)
 
 -- the last frame of the text has these digests
@@ -98,7 +98,7 @@ HasTwoHorizons text at = (horizon other : ℕ) × (frames : List Message) × (fr
 -- behind frames of entries, which end here, comes a frame of digests that are not those of the history that the frames tell
 abbrev pub HasOtherDigests : List ℕ → ℕ → Type 0
 HasOtherDigests text at = (horizon : ℕ) × (frames : List Message) × (sender : ℕ) × (digests : List (List ℕ)) × (rest : List ℕ)
-    × AreEntriesAt horizon frames × (digests ≢ digests_of (entries_of (told_by horizon frames)))
+    × AreEntriesAt horizon frames × (digests ≢ digests_of (entries_of (history_of_messages horizon frames)))
     × EndsAt text frames at × Begins text (frames ++ Digest sender horizon digests ∷ []) rest
 
 -- behind a dump, which ends here, comes a byte at least
@@ -107,13 +107,13 @@ HasMore text at = (dump more : List ℕ) × (h : HistoryView) × (text ≡ dump 
 
 -- Why a text is refused, and behind how many bytes of whole frames. Want of memory, and a reader that fails, say nothing of the text.
 -- A reader answers no WriteFault.
-abbrev pub IsRefused : List ℕ → ℕ → DumpFault → Type 0
-IsRefused text at (Frame frame_faults.Memory) = ⊤
-IsRefused text at (Frame frame_faults.BadKind) = ShowsFrameFault text at frame_faults.BadKind ⊎ HasRequest text at
-IsRefused text at (Frame fault) = ShowsFrameFault text at fault
-IsRefused text at CutShort = IsCutShort text at
-IsRefused text at DigestsDiffer = HasOtherDigests text at
-IsRefused text at HorizonsDiffer = HasTwoHorizons text at
-IsRefused text at MoreFollows = HasMore text at
-IsRefused text at ReadFault = ⊤
-IsRefused text at WriteFault = ⊥
+abbrev pub IsDumpRefused : List ℕ → ℕ → DumpFault → Type 0
+IsDumpRefused text at (Frame frame_faults.Memory) = ⊤
+IsDumpRefused text at (Frame frame_faults.BadKind) = ShowsFrameFault text at frame_faults.BadKind ⊎ HasRequest text at
+IsDumpRefused text at (Frame fault) = ShowsFrameFault text at fault
+IsDumpRefused text at CutShort = IsCutShort text at
+IsDumpRefused text at DigestsDiffer = HasOtherDigests text at
+IsDumpRefused text at HorizonsDiffer = HasTwoHorizons text at
+IsDumpRefused text at MoreFollows = HasMore text at
+IsDumpRefused text at ReadFault = ⊤
+IsDumpRefused text at WriteFault = ⊥

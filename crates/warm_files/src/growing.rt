@@ -1,9 +1,9 @@
 //! A history that takes in entries frame by frame.
 ghost use Rattle.std.specs.Prelude.{◌≡◌, ◌↔◌, [], IfErr, IfOk, IsTrue, OnErr, OnOk};
 ghost use Rattle.warm_frames.specs.declared.fault.FrameFault.TheVariants as frame_faults;
-ghost use Rattle.warm_history.specs.Histories.{entries_of, holding_since, join, refs, StandsFor, TakesIn};
+ghost use Rattle.warm_history.specs.Histories.{entries_of, history_of_entries_at, join, references_of, StandsFor, TakesIn};
 ghost use Rattle.warm_history.specs.Losses.{raised};
-ghost use Rattle.warm_history.specs.ReferenceSets.{these};
+ghost use Rattle.warm_history.specs.ReferenceSets.{set_of_list};
 ghost use Rattle.warm_digest.specs.BucketDigests.{digests_of};
 ghost use Rattle.warm_files.specs.declared.fault.DumpFault.TheVariants.{Frame};
 
@@ -32,17 +32,17 @@ pub(crate) struct Growing {
 }
 
 impl Model for Growing {
-    ghost use Rattle.warm_history.specs.Histories.{HistoryView, holding_since, join};
+    ghost use Rattle.warm_history.specs.Histories.{HistoryView, history_of_entries_at, join};
 
     ghost Value = { HistoryView };
 
-    ghost view = { λ g. join g.history (holding_since g.history.horizon g.waiting.items) };
+    ghost view = { λ g. join g.history (history_of_entries_at g.history.horizon g.waiting.items) };
 }
 
 // Joins entries at the horizon of the history.
 fn join_all(history: &mut History, waiting: &[Entry]) -> Result<(), AllocError>
     ensures exact { OnOk result
-        (history.new ≡ join history.old (holding_since history.old.horizon waiting.now)) }
+        (history.new ≡ join history.old (history_of_entries_at history.old.horizon waiting.now)) }
     ensures err { OnErr result (history.new ≡ history.old) }
 {
     let horizon = history.horizon();
@@ -85,7 +85,7 @@ fn goes_on(entries: &[Entry], more: &[Entry]) -> bool {
 impl Growing {
     // The history of no references.
     pub(crate) fn new(alloc: Global) -> Growing
-        ensures { StandsFor result (these []) }
+        ensures { StandsFor result (set_of_list []) }
     {
         Growing {
             history: History::new(alloc),
@@ -96,7 +96,7 @@ impl Growing {
     // Takes in the entries of a frame.
     pub(crate) fn take(&mut self, horizon: u64, entries: &[Entry]) -> Result<(), AllocError>
         ensures { OnOk result
-            (TakesIn self.old (refs (holding_since horizon entries.now)) self.new) }
+            (TakesIn self.old (references_of (history_of_entries_at horizon entries.now)) self.new) }
     {
         self.make_room(entries)?;
         self.add(horizon, entries)?;
@@ -175,7 +175,7 @@ impl Growing {
 
     // Adds entries to those that wait.
     fn add(&mut self, horizon: u64, entries: &[Entry]) -> Result<(), AllocError>
-        ensures { OnOk result (self.new ≡ join self.old (holding_since horizon entries.now)) }
+        ensures { OnOk result (self.new ≡ join self.old (history_of_entries_at horizon entries.now)) }
     {
         self.history.raise(horizon);
         self.waiting.extend_from_slice(entries)?;

@@ -2,7 +2,7 @@
 //!
 //! Each function does nothing. What it ensures is a theorem, for the crates above to cite and for a reader to look up:
 //! `specs/Laws.antt` says each in full.
-ghost use Rattle.warm_files.specs.Laws.{DumpReadsBack, OneHistory, DumpIsTaken, ChangedDumpIsSeen};
+ghost use Rattle.warm_files.specs.Laws.{DumpReadsBack, DumpHasOneHistory, DumpIsTaken, ChangedDumpIsSeen};
 
 /// What is written of a history is a dump of it.
 pub fn dump_reads_back()
@@ -11,7 +11,7 @@ pub fn dump_reads_back()
 
 /// No bytes are dumps of two histories.
 pub fn one_history()
-    ensures { OneHistory }
+    ensures { DumpHasOneHistory }
 {}
 
 /// Of a dump no fault is reported but `Frame(Memory)` and `ReadFault`.

@@ -2,13 +2,13 @@
 ghost use Rattle.std.specs.Prelude.{◌≡◌, ◌≢◌, ◌⊎◌, ◌↔◌, ◌+◌, ◌≤◌, ◌<◌, ◌++◌, [], true, false, length, take, List, ℕ, IfOk, IfErr, IfSome, IsTrue, OnOk, Some};
 ghost use Rattle.std.specs.Io.KnownBytes.{Consumes, IsAtEnd};
 ghost use Rattle.warm_frames.specs.declared.fault.FrameFault.TheVariants as frame_faults;
-ghost use Rattle.warm_history.specs.Histories.{entries_of, holding_since, refs, StandsFor, TakesIn};
+ghost use Rattle.warm_history.specs.Histories.{entries_of, history_of_entries_at, references_of, StandsFor, TakesIn};
 ghost use Rattle.warm_history.specs.Losses.{raised};
-ghost use Rattle.warm_history.specs.ReferenceSets.{ReferenceSet, since};
+ghost use Rattle.warm_history.specs.ReferenceSets.{ReferenceSet, with_horizon};
 ghost use Rattle.warm_digest.specs.BucketDigests.{digests_of};
 ghost use Rattle.warm_files.specs.declared.fault.DumpFault.TheVariants.{Frame, DigestsDiffer, HorizonsDiffer, ReadFault};
-ghost use Rattle.warm_files.specs.Gathering.{Agrees, Gathers, HasRead, IsRefusedForGood, Rejects, Takes};
-ghost use Rattle.warm_files.specs.Reading.{EndsWithDigests, IsDump, IsRefused};
+ghost use Rattle.warm_files.specs.Gathering.{Agrees, Gathers, HasRead, IsRefusedForGood, Rejects, TakesMessage};
+ghost use Rattle.warm_files.specs.Reading.{EndsWithDigests, IsDump, IsDumpRefused};
 
 use crate::fault::{DumpError, DumpFault};
 use crate::growing::Growing;
@@ -81,7 +81,7 @@ impl Gathered {
         ensures agrees { OnOk result (Agrees self.old.horizon horizon) }
         ensures horizon { OnOk result (self.new.horizon ≡ Some horizon) }
         ensures history { OnOk result
-            (TakesIn self.old.history (refs (holding_since horizon entries.now)) self.new.history) }
+            (TakesIn self.old.history (references_of (history_of_entries_at horizon entries.now)) self.new.history) }
         ensures whole { self.new.whole ≡ self.old.whole }
         ensures decoder { self.new.decoder ≡ self.old.decoder }
         ensures counts { (self.new.seen ≡ self.old.seen) × (self.new.at ≡ self.old.at) }
@@ -100,7 +100,7 @@ impl Gathered {
     fn close(&mut self, horizon: u64, table: &DigestTable) -> Result<(), DumpFault>
         ensures agrees { OnOk result (Agrees self.old.horizon horizon) }
         ensures history { OnOk result ((S : ReferenceSet) → StandsFor self.old.history S
-            → StandsFor self.new.history (since horizon S)) }
+            → StandsFor self.new.history (with_horizon horizon S)) }
         ensures digests { OnOk result (table.now ≡ digests_of (entries_of self.new.history)) }
         ensures whole { OnOk result (self.new.whole ≡ true) }
         ensures decoder { self.new.decoder ≡ self.old.decoder }
@@ -123,7 +123,7 @@ impl Gathered {
     // Takes a frame.
     fn take_frame(&mut self, frame: &Message) -> Result<(), DumpFault>
         requires { self.old.whole ≡ false }
-        ensures takes { OnOk result (Takes self.old frame.now self.new) }
+        ensures takes { OnOk result (TakesMessage self.old frame.now self.new) }
         ensures decoder { self.new.decoder ≡ self.old.decoder }
         ensures counts { (self.new.seen ≡ self.old.seen) × (self.new.at ≡ self.old.at) }
         ensures refused { IfErr result (λ why. Rejects self.old frame.now why) }
@@ -161,7 +161,7 @@ impl Gathered {
                 let seen = count(self.seen, taken)?;
                 self.seen = seen;
                 match frame {
-                    Some(frame) => self.take_frame(frame.as_frame())?,
+                    Some(frame) => self.take_frame(frame.as_message())?,
                     None => return Ok(taken),
                 }
                 self.at = seen;
@@ -225,7 +225,7 @@ impl Gathered {
         ensures read { OnOk result (IfSome (R.remaining reader.old)
             (λ text. HasRead text self.new)) }
         ensures refused { IfErr result (λ why. IfSome (R.remaining reader.old)
-            (λ text. IsRefused text self.new.at why)) }
+            (λ text. IsDumpRefused text self.new.at why)) }
     {
         let mut buffer = vec![in self.alloc; 0u8; READ_SIZE]?;
         for _ in 0..MAX_READS {
@@ -241,7 +241,7 @@ impl Gathered {
     fn finish(self) -> Result<History, DumpError>
         ensures dump { IfOk result (λ h. (seen : List ℕ) → HasRead seen self → IsDump seen h) }
         ensures cut { IfErr result (λ error. (seen : List ℕ) → HasRead seen self
-            → IsRefused seen error.at error.fault) }
+            → IsDumpRefused seen error.at error.fault) }
     {
         let Gathered {
             alloc: _,
@@ -297,7 +297,7 @@ pub fn read_dump<R: Read>(alloc: Global, reader: &mut R) -> Result<History, Dump
     ensures digests { IfOk result (λ history. IfSome (R.remaining reader.old)
         (λ text. EndsWithDigests text (digests_of (entries_of history)))) }
     ensures refused { IfErr result (λ error. IfSome (R.remaining reader.old)
-        (λ text. IsRefused text error.at error.fault)) }
+        (λ text. IsDumpRefused text error.at error.fault)) }
 {
     let mut gathered = Gathered::new(alloc);
     match gathered.read_all(reader) {

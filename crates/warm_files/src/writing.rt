@@ -2,9 +2,9 @@
 ghost use Rattle.std.specs.Prelude.{◌≡◌, take, drop, OnOk, IfOk, IfErr};
 ghost use Rattle.std.specs.Io.KnownBytes.{Appends};
 ghost use Rattle.warm_frames.specs.declared.layout.TheConstants.{MAX_ENTRIES};
-ghost use Rattle.warm_frames.specs.Spelling.{spelling};
-ghost use Rattle.warm_history.specs.Histories.{PagesRise};
-ghost use Rattle.warm_files.specs.Dumps.{dump_of, entry_frames, frames_of, last_frame, text_of};
+ghost use Rattle.warm_frames.specs.Spelling.{encoding};
+ghost use Rattle.warm_history.specs.Histories.{PagesAscend};
+ghost use Rattle.warm_files.specs.Dumps.{dump_of, entry_frames, messages_of, last_frame, text_of};
 ghost use Rattle.warm_files.specs.Writing.{StopsWriting};
 
 use crate::fault::DumpFault;
@@ -19,7 +19,7 @@ use warm_stamps::{BUCKETS, Bucket, ReplicaId};
 // Writes a frame.
 fn write_frame<W: Write>(alloc: Global, writer: &mut W, frame: &Message) -> Result<(), DumpFault>
     ensures written { OnOk result
-        (Appends (W.contents writer.old) (W.contents writer.new) (spelling frame.now)) }
+        (Appends (W.contents writer.old) (W.contents writer.new) (encoding frame.now)) }
     ensures stopped { IfErr result StopsWriting }
 {
     let text = encode(alloc, frame)?;
@@ -50,9 +50,9 @@ fn write_bucket<W: Write>(
     horizon: u64,
     mut left: BucketEntries<'_>,
 ) -> Result<(), DumpFault>
-    requires { PagesRise left }
+    requires { PagesAscend left }
     ensures written { OnOk result (Appends (W.contents writer.old) (W.contents writer.new)
-        (text_of (frames_of sender horizon left.entry))) }
+        (text_of (messages_of sender horizon left.entry))) }
     ensures stopped { IfErr result StopsWriting }
 {
     loop {
@@ -100,7 +100,7 @@ fn write_digests<W: Write>(
     history: &History,
 ) -> Result<(), DumpFault>
     ensures written { OnOk result (Appends (W.contents writer.old) (W.contents writer.new)
-        (spelling (last_frame sender history.now))) }
+        (encoding (last_frame sender history.now))) }
     ensures stopped { IfErr result StopsWriting }
 {
     let digests = digests(alloc, history)?;

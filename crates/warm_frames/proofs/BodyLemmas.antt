@@ -14,7 +14,7 @@ use Rattle.warm_history.specs.declared.hist.PageHist.{PageHist}
 use Rattle.warm_history.specs.declared.hist.PageHist.TheVariants.{Once, Twice}
 use Rattle.warm_history.specs.declared.hist.Entry.{Entry}
 use Rattle.warm_history.specs.Carried.{comes_after}
-use Rattle.warm_history.specs.Histories.{PagesRise}
+use Rattle.warm_history.specs.Histories.{PagesAscend}
 use Rattle.warm_history.proofs.MergeLemmas.{rises_on}
 use Rattle.warm_frames.specs.declared.format.Format.{Format}
 use Rattle.warm_frames.specs.declared.format.Format.TheVariants.{Narrow, Wide}
@@ -22,7 +22,7 @@ use Rattle.warm_frames.specs.declared.layout.TheConstants.{MAX_ENTRIES, DIGEST_S
 use Rattle.warm_frames.specs.declared.fault.FrameFault.TheVariants.{BadLength, BadCount}
 use Rattle.warm_frames.specs.Entries.{hist_bytes, page_bytes_in, entry_bytes_in, entries_bytes_in, IsEntry, IsEntryList}
 use Rattle.warm_frames.specs.Digests.{IsDigestTable, table_size}
-use Rattle.warm_frames.specs.Reading.{◌>>=◌, entry_size, number_at, want, entry_at, entries_at, count_at, all_entries, entries_of, digests_of}
+use Rattle.warm_frames.specs.Reading.{◌>>=◌, entry_size, number_at, want, entry_at, entries_at, count_at, all_entries, read_entries, read_digests}
 use Rattle.warm_frames.proofs.FieldLemmas.{bind_ok, want_ok, chosen_ok, ok_is, Takes, Takes-then, wide32, number_takes, number_again, IsNarrowIn, entry_takes, entry_again, less_is, less_true}
 
 -- ---- entries
@@ -32,16 +32,16 @@ abbrev pub RiseFrom : Option PageId → List Entry → Type 0
 RiseFrom before [] = Unit {0}
 RiseFrom before (e ∷ es) = (comes_after before e.page ≡ true) × RiseFrom (Some e.page) es
 
-rise_all : (before : Option PageId) (es : List Entry) → RiseFrom before es → PagesRise es
+rise_all : (before : Option PageId) (es : List Entry) → RiseFrom before es → PagesAscend es
 rise_all before [] rise = tt
 rise_all before (e ∷ []) rise = (tt, tt)
 rise_all before (e ∷ f ∷ es) rise = rises_on e f es (rise_all (Some e.page) (f ∷ es) rise.1) (less_is _ rise.1.0)
 
-rise_after : (e : Entry) (es : List Entry) → PagesRise (e ∷ es) → RiseFrom (Some e.page) es
+rise_after : (e : Entry) (es : List Entry) → PagesAscend (e ∷ es) → RiseFrom (Some e.page) es
 rise_after e [] rise = tt
 rise_after e (f ∷ es) rise = (less_true _ rise.0.0, rise_after f es rise.1)
 
-rise_from : (es : List Entry) → PagesRise es → RiseFrom None es
+rise_from : (es : List Entry) → PagesAscend es → RiseFrom None es
 rise_from [] rise = tt
 rise_from (e ∷ es) rise = (refl, rise_after e es rise)
 
@@ -96,7 +96,7 @@ pub record AreEntries (format : Format) (count : ℕ) (bytes : List ℕ) (es : L
   pub as_many : length es ≡ count
   pub each : AllByRecursion IsEntry es
   pub narrow : AllByRecursion (λ e. IsNarrowIn format e.page) es
-  pub rise : PagesRise es
+  pub rise : PagesAscend es
 
 -- all bytes after a count are the entries
 pub all_take : (format : Format) (count : ℕ) (bytes : List ℕ) (es : List Entry) → IsBytes bytes → all_entries format count bytes ≡ Ok es → AreEntries format count bytes es
@@ -119,31 +119,31 @@ pub all_listed : (format : Format) (body : List ℕ) (count : ℕ) (rest : List 
 all_listed format body count rest es fits h e =
     let c = count_takes body (count, rest) fits h in
     let t = all_take format count rest es c.taken.rest_fits e in
-    record { pages_rise = t.rise; at_most = rw t.as_many c.few; each = t.each }
+    record { pages_ascend = t.rise; at_most = rw t.as_many c.few; each = t.each }
 
 pub record ListsEntries (format : Format) (body : List ℕ) (es : List Entry) : Type 0 where
   pub text : body ≡ to_be_bytes w32 (length es) ++ entries_bytes_in format es
   pub listed : IsEntryList es
   pub narrow : AllByRecursion (λ e. IsNarrowIn format e.page) es
 
-pub entries_body : (format : Format) (body : List ℕ) (es : List Entry) → IsBytes body → entries_of format body ≡ Ok es → ListsEntries format body es
-unfolding entries_of
+pub entries_body : (format : Format) (body : List ℕ) (es : List Entry) → IsBytes body → read_entries format body ≡ Ok es → ListsEntries format body es
+unfolding read_entries
 entries_body format body es fits e =
     let a = bind_ok (count_at body) (λ count. all_entries format count.0 count.1) es e in
     let c = count_takes body a.0 fits a.1 in
     let t = all_take format a.0.0 a.0.1 es c.taken.rest_fits a.2 in
     record {
       text = c.taken.parts ∙ ap (λ (w : List ℕ). to_be_bytes w32 a.0.0 ++ w) t.text ∙ ap (λ (n : ℕ). to_be_bytes w32 n ++ entries_bytes_in format es) (sym t.as_many);
-      listed = record { pages_rise = t.rise; at_most = rw t.as_many c.few; each = t.each };
+      listed = record { pages_ascend = t.rise; at_most = rw t.as_many c.few; each = t.each };
       narrow = t.narrow;
     }
 
-pub body_again : (format : Format) (es : List Entry) → IsEntryList es → AllByRecursion (λ e. IsNarrowIn format e.page) es → entries_of format (to_be_bytes w32 (length es) ++ entries_bytes_in format es) ≡ Ok es
-unfolding entries_of count_at all_entries
+pub body_again : (format : Format) (es : List Entry) → IsEntryList es → AllByRecursion (λ e. IsNarrowIn format e.page) es → read_entries format (to_be_bytes w32 (length es) ++ entries_bytes_in format es) ≡ Ok es
+unfolding read_entries count_at all_entries
 body_again format es listed narrow =
     let few : leb (length es) MAX_ENTRIES ≡ true = let h = listed.at_most in grind (arith, nat_tests) in
     let count = number_again w32 (2 ^ 32) BadLength wide32 (length es) (entries_bytes_in format es) (let h = listed.at_most in omega arith) in
-    let rest : entries_at format (length es) None (entries_bytes_in format es) ≡ Ok (es, []) = ap (entries_at format (length es) None) (sym (append-nil (entries_bytes_in format es))) ∙ entries_again format es None [] listed.each narrow (rise_from es listed.pages_rise) in
+    let rest : entries_at format (length es) None (entries_bytes_in format es) ≡ Ok (es, []) = ap (entries_at format (length es) None) (sym (append-nil (entries_bytes_in format es))) ∙ entries_again format es None [] listed.each narrow (rise_from es listed.pages_ascend) in
     rw (count, few, rest) refl
 
 -- ---- the length of entries
@@ -208,15 +208,15 @@ pub record HoldsDigests (body : List ℕ) (digests : List (List ℕ)) : Type 0 w
   pub text : body ≡ flat_map (λ x. x) digests
   pub table : IsDigestTable digests
 
-pub digests_body : (body : List ℕ) (digests : List (List ℕ)) → digests_of body ≡ Ok digests → HoldsDigests body digests
-unfolding digests_of
+pub digests_body : (body : List ℕ) (digests : List (List ℕ)) → read_digests body ≡ Ok digests → HoldsDigests body digests
+unfolding read_digests
 digests_body body digests e =
     let g = chosen_ok (eqb (length body) table_size) BadLength (first_chunks DIGEST_SIZE BUCKETS body) digests e in
     let len : length body ≡ table_size = eqb-true _ _ g.0 in
     subst (HoldsDigests body) g.1 (record { text = sym (joined_chunks DIGEST_SIZE BUCKETS body len); table = record { count = length-chunks DIGEST_SIZE BUCKETS body; each = chunks_long DIGEST_SIZE BUCKETS body len } })
 
-pub digests_again : (digests : List (List ℕ)) → IsDigestTable digests → digests_of (flat_map (λ x. x) digests) ≡ Ok digests
-unfolding digests_of
+pub digests_again : (digests : List (List ℕ)) → IsDigestTable digests → read_digests (flat_map (λ x. x) digests) ≡ Ok digests
+unfolding read_digests
 digests_again digests table =
     let again : first_chunks DIGEST_SIZE BUCKETS (flat_map (λ x. x) digests) ≡ digests = subst (λ (k : ℕ). first_chunks DIGEST_SIZE k (flat_map (λ x. x) digests) ≡ digests) table.count (chunks_joined DIGEST_SIZE digests table.each) in
     rw (length-digests digests table, again) refl

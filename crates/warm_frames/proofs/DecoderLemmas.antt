@@ -12,7 +12,7 @@ use Rattle.warm_frames.specs.declared.fault.FrameFault.{FrameFault}
 use Rattle.warm_frames.specs.declared.fault.FrameFault.TheVariants.{Memory, Truncated}
 use Rattle.warm_frames.specs.declared.message.Message.{Message}
 use Rattle.warm_frames.specs.declared.layout.TheConstants.{HEADER_SIZE}
-use Rattle.warm_frames.specs.Pieces.{DecoderState, Inside, Broken, state_of, IsPart, IsLasting, Feeds, Takes, DecodesWith, KnowsWith}
+use Rattle.warm_frames.specs.Pieces.{DecoderState, Inside, Broken, state_of, IsIncomplete, IsLasting, FeedStep, TakesPiece, DecodesWith, KnowsWith}
 use Rattle.warm_frames.specs.Sizes.{frame_size, KnowsSize, SaysSize}
 use Rattle.warm_frames.proofs.SizeLemmas.{size_goes, known_stays, no_ok, err_is, lt_or_le, lt_or_is, size_over, header_enough, header_lasts, size_whole, size_settled, fault_of_body, fault_of_header, ShownIn}
 
@@ -46,24 +46,24 @@ said_some begun piece size n is says = subst (λ (x : Option ℕ). SaysSize begu
 
 -- all of the piece was taken
 pub took_all : (old : DecoderState) (failed : Bool) (begun held piece : List ℕ) (fed : Fed) → state_of failed begun ≡ old → failed ≡ false → fed.taken ≡ length piece → fed.frame ≡ None → held ≡ begun ++ piece
-    → IsPart (begun ++ piece) → Feeds old piece (Ok fed) (state_of failed held)
+    → IsIncomplete (begun ++ piece) → FeedStep old piece (Ok fed) (state_of failed held)
 took_all old failed begun held piece fed view works all none is part =
     let stands : Inside begun ≡ old = ap (λ (b : Bool). state_of b begun) (sym works) ∙ view in
-    subst (λ (o : DecoderState). Feeds o piece (Ok fed) (state_of failed held)) stands
-    (subst (λ (frame : Option Message). Takes begun piece fed.taken frame (state_of failed held)) (sym none)
+    subst (λ (o : DecoderState). FeedStep o piece (Ok fed) (state_of failed held)) stands
+    (subst (λ (frame : Option Message). TakesPiece begun piece fed.taken frame (state_of failed held)) (sym none)
     (all, part, ap (λ (b : Bool). state_of b held) works ∙ ap (λ (bs : List ℕ). Inside bs) is))
 
 -- a byte of the piece shows a fault
-pub broke : (old : DecoderState) (failed : Bool) (begun piece : List ℕ) (fault : FrameFault) → state_of failed begun ≡ old → failed ≡ false → ShownIn begun piece fault → Feeds old piece (Err fault) Broken
+pub broke : (old : DecoderState) (failed : Bool) (begun piece : List ℕ) (fault : FrameFault) → state_of failed begun ≡ old → failed ≡ false → ShownIn begun piece fault → FeedStep old piece (Err fault) Broken
 broke old failed begun piece fault view works shown =
     let stands : Inside begun ≡ old = ap (λ (b : Bool). state_of b begun) (sym works) ∙ view in
-    subst (λ (o : DecoderState). Feeds o piece (Err fault) Broken) stands (inr (shown.0, shown.1, shown.2, refl))
+    subst (λ (o : DecoderState). FeedStep o piece (Err fault) Broken) stands (inr (shown.0, shown.1, shown.2, refl))
 
 -- an allocation failure
-pub no_room : (old : DecoderState) (failed : Bool) (begun held piece : List ℕ) (fault : FrameFault) → state_of failed begun ≡ old → failed ≡ false → fault ≡ Memory → held ≡ begun → Feeds old piece (Err fault) (state_of failed held)
+pub no_room : (old : DecoderState) (failed : Bool) (begun held piece : List ℕ) (fault : FrameFault) → state_of failed begun ≡ old → failed ≡ false → fault ≡ Memory → held ≡ begun → FeedStep old piece (Err fault) (state_of failed held)
 no_room old failed begun held piece fault view works memory is =
     let stands : Inside begun ≡ old = ap (λ (b : Bool). state_of b begun) (sym works) ∙ view in
-    subst (λ (o : DecoderState). Feeds o piece (Err fault) (state_of failed held)) stands
+    subst (λ (o : DecoderState). FeedStep o piece (Err fault) (state_of failed held)) stands
     (inl (memory, ap (λ (b : Bool). state_of b held) works ∙ ap (λ (bs : List ℕ). Inside bs) is))
 
 -- a fault of the header

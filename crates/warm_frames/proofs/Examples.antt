@@ -7,10 +7,10 @@ use Rattle.warm_frames.specs.declared.layout.TheConstants.{MAX_ENTRY_SIZE, MAX_E
 use Rattle.warm_frames.specs.declared.format.Format.TheVariants.{Narrow}
 use Rattle.warm_frames.specs.declared.fault.FrameFault.TheVariants.{Truncated, BadMagic, BadKind, BadSender, BadLength, BadCount, BadTag, BadStamp, BadOrder}
 use Rattle.warm_frames.specs.declared.message.Message.TheVariants.{Entries, Want}
-use Rattle.warm_frames.specs.Spelling.{spelling_in, spelling}
+use Rattle.warm_frames.specs.Spelling.{spelling_in, encoding}
 use Rattle.warm_frames.specs.Digests.{table_size}
 use Rattle.warm_frames.specs.Limits.{SpeaksBy}
-use Rattle.warm_frames.specs.Reading.{start_at, length_at, body_at, two_in, hist_at, page_at, entry_at, entries_at, count_at, all_entries, entries_of, frame_of, read_frame}
+use Rattle.warm_frames.specs.Reading.{start_at, length_at, body_at, two_in, hist_at, read_page, entry_at, entries_at, count_at, all_entries, read_entries, read_message, read_frame}
 
 abbrev at : ℕ → ℕ → Stamp
 at time replica = record { time = time; replica = replica }
@@ -64,8 +64,8 @@ two_stamps_spelled = refl
 request_spelled : spelling_in Narrow (Want 2 0 6) ≡ letters ++ 3 ∷ 0 ∷ 2 ∷ 0 ∷ 0 ∷ 0 ∷ 8 ∷ 0 ∷ 0 ∷ 0 ∷ 0 ∷ 0 ∷ 0 ∷ 0 ∷ 6 ∷ []
 request_spelled = refl
 
--- the wide spelling of the request, and of an entry under a horizon
-request_written : spelling (Want 2 0 6) ≡ 0x4C ∷ 0x32 ∷ 0x47 ∷ 0x32 ∷ 3 ∷ 0 ∷ 2 ∷ 0 ∷ 0 ∷ 0 ∷ 0 ∷ 0 ∷ 0 ∷ 0 ∷ 0 ∷ 0 ∷ 0 ∷ 0 ∷ 8 ∷ 0 ∷ 0 ∷ 0 ∷ 0 ∷ 0 ∷ 0 ∷ 0 ∷ 6 ∷ []
+-- the wide encoding of the request, and of an entry under a horizon
+request_written : encoding (Want 2 0 6) ≡ 0x4C ∷ 0x32 ∷ 0x47 ∷ 0x32 ∷ 3 ∷ 0 ∷ 2 ∷ 0 ∷ 0 ∷ 0 ∷ 0 ∷ 0 ∷ 0 ∷ 0 ∷ 0 ∷ 0 ∷ 0 ∷ 0 ∷ 8 ∷ 0 ∷ 0 ∷ 0 ∷ 0 ∷ 0 ∷ 0 ∷ 0 ∷ 6 ∷ []
 request_written = refl
 
 -- a page in ten bytes, its number's fourth byte from the end and its last
@@ -75,34 +75,34 @@ page_wide high n = 0 ∷ 0 ∷ 0 ∷ 0 ∷ 0 ∷ high ∷ 0 ∷ 0 ∷ 0 ∷ n �
 abbrev wide_frame : List ℕ → List ℕ
 wide_frame text = 0x4C ∷ 0x32 ∷ 0x47 ∷ 0x32 ∷ 1 ∷ 0 ∷ 1 ∷ 0 ∷ 0 ∷ 0 ∷ 0 ∷ 0 ∷ 0 ∷ 0 ∷ 12 ∷ 0 ∷ 0 ∷ 0 ∷ 0x23 ∷ 0 ∷ 0 ∷ 0 ∷ 1 ∷ text
 
-wide_written : spelling (Entries 1 12 (twice 7 (at 20 1) (at 10 1) ∷ [])) ≡ wide_frame (page_wide 0 7 ++ 2 ∷ (twenty ++ ten))
+wide_written : encoding (Entries 1 12 (twice 7 (at 20 1) (at 10 1) ∷ [])) ≡ wide_frame (page_wide 0 7 ++ 2 ∷ (twenty ++ ten))
 wide_written = refl
 
 wide_read : read_frame (wide_frame (page_wide 0 7 ++ 2 ∷ (twenty ++ ten))) ≡ Ok (Entries 1 12 (twice 7 (at 20 1) (at 10 1) ∷ []))
-unfolding read_frame start_at length_at body_at frame_of entries_of count_at all_entries entries_at entry_at page_at hist_at two_in
+unfolding read_frame start_at length_at body_at read_message read_entries count_at all_entries entries_at entry_at read_page hist_at two_in
 wide_read = refl
 
 -- a page number above 32 bits is read
 wide_page_read : read_frame (wide_frame (page_wide 1 0 ++ 2 ∷ (twenty ++ ten))) ≡ Ok (Entries 1 12 (twice 4294967296 (at 20 1) (at 10 1) ∷ []))
-unfolding read_frame start_at length_at body_at frame_of entries_of count_at all_entries entries_at entry_at page_at hist_at two_in
+unfolding read_frame start_at length_at body_at read_message read_entries count_at all_entries entries_at entry_at read_page hist_at two_in
 wide_page_read = refl
 
 -- ---- readings
 
 two_stamps_read : read_frame (entries_frame 1 0x1F 1 (page 7 ++ 2 ∷ (twenty ++ ten))) ≡ Ok (Entries 1 0 (twice 7 (at 20 1) (at 10 1) ∷ []))
-unfolding read_frame start_at length_at body_at frame_of entries_of count_at all_entries entries_at entry_at page_at hist_at two_in
+unfolding read_frame start_at length_at body_at read_message read_entries count_at all_entries entries_at entry_at read_page hist_at two_in
 two_stamps_read = refl
 
 rising_read : read_frame (entries_frame 1 0x26 2 (page 7 ++ 1 ∷ (twenty ++ page 8 ++ 1 ∷ ten))) ≡ Ok (Entries 1 0 (once 7 (at 20 1) ∷ once 8 (at 10 1) ∷ []))
-unfolding read_frame start_at length_at body_at frame_of entries_of count_at all_entries entries_at entry_at page_at hist_at
+unfolding read_frame start_at length_at body_at read_message read_entries count_at all_entries entries_at entry_at read_page hist_at
 rising_read = refl
 
-nothing_read : read_frame (spelling (Entries 3 0 [])) ≡ Ok (Entries 3 0 [])
-unfolding read_frame start_at length_at body_at frame_of entries_of count_at all_entries entries_at
+nothing_read : read_frame (encoding (Entries 3 0 [])) ≡ Ok (Entries 3 0 [])
+unfolding read_frame start_at length_at body_at read_message read_entries count_at all_entries entries_at
 nothing_read = refl
 
-request_read : read_frame (spelling (Want 2 0 6)) ≡ Ok (Want 2 0 6)
-unfolding read_frame start_at length_at body_at frame_of
+request_read : read_frame (encoding (Want 2 0 6)) ≡ Ok (Want 2 0 6)
+unfolding read_frame start_at length_at body_at read_message
 request_read = refl
 
 -- ---- first faults
@@ -132,23 +132,23 @@ unfolding read_frame start_at length_at body_at
 a_byte_more = refl
 
 count_1001 : read_frame (letters ++ 1 ∷ 0 ∷ 1 ∷ 0 ∷ 0 ∷ 0 ∷ 4 ∷ 0 ∷ 0 ∷ 3 ∷ 0xE9 ∷ []) ≡ Err BadCount
-unfolding read_frame start_at length_at body_at frame_of entries_of count_at
+unfolding read_frame start_at length_at body_at read_message read_entries count_at
 count_1001 = refl
 
 count_2 : read_frame (entries_frame 1 0x1F 2 (page 7 ++ 2 ∷ (twenty ++ ten))) ≡ Err BadLength
-unfolding read_frame start_at length_at body_at frame_of entries_of count_at all_entries entries_at entry_at page_at hist_at two_in
+unfolding read_frame start_at length_at body_at read_message read_entries count_at all_entries entries_at entry_at read_page hist_at two_in
 count_2 = refl
 
 tag_3 : read_frame (entries_frame 1 0x1F 1 (page 7 ++ 3 ∷ (twenty ++ ten))) ≡ Err BadTag
-unfolding read_frame start_at length_at body_at frame_of entries_of count_at all_entries entries_at entry_at page_at hist_at
+unfolding read_frame start_at length_at body_at read_message read_entries count_at all_entries entries_at entry_at read_page hist_at
 tag_3 = refl
 
 equal_stamps : read_frame (entries_frame 1 0x1F 1 (page 7 ++ 2 ∷ (twenty ++ twenty))) ≡ Err BadStamp
-unfolding read_frame start_at length_at body_at frame_of entries_of count_at all_entries entries_at entry_at page_at hist_at two_in
+unfolding read_frame start_at length_at body_at read_message read_entries count_at all_entries entries_at entry_at read_page hist_at two_in
 equal_stamps = refl
 
 equal_pages : read_frame (entries_frame 1 0x26 2 (page 7 ++ 1 ∷ (twenty ++ page 7 ++ 1 ∷ ten))) ≡ Err BadOrder
-unfolding read_frame start_at length_at body_at frame_of entries_of count_at all_entries entries_at entry_at page_at hist_at
+unfolding read_frame start_at length_at body_at read_message read_entries count_at all_entries entries_at entry_at read_page hist_at
 equal_pages = refl
 
 -- ---- times against a limit

@@ -19,7 +19,7 @@ use Rattle.warm_frames.specs.declared.fault.FrameFault.TheVariants.{Truncated, B
 use Rattle.warm_frames.specs.declared.reading.Kind.{Kind}
 use Rattle.warm_frames.specs.declared.reading.Kind.TheVariants as kinds
 use Rattle.warm_frames.specs.Pieces.{IsLasting}
-use Rattle.warm_frames.specs.Reading.{◌>>=◌, front_at, number_at, byte_at, want, is_replica, kind_of, Start, format_of, horizon_at, start_at, stamp_in, two_in, hist_at, page_at, entry_at, entries_at, count_at, all_entries, entries_of, digests_of, frame_by, frame_of}
+use Rattle.warm_frames.specs.Reading.{◌>>=◌, front_at, number_at, byte_at, want, is_replica, kind_of, Start, format_of, horizon_at, start_at, stamp_in, two_in, hist_at, read_page, entry_at, entries_at, count_at, all_entries, read_entries, read_digests, frame_by, read_message}
 use Rattle.warm_frames.specs.Digests.{table_size}
 use Rattle.warm_frames.specs.Sizes.{header_size}
 use Rattle.warm_frames.proofs.FieldLemmas.{done, guard_ok, ok_is}
@@ -88,15 +88,15 @@ hist_lasts (suc (suc zero)) bytes =
     only_then IsLasting (two_in last.0 prev.0) _ (two_lasts last.0 prev.0) (λ two is_two. tt)))
 hist_lasts (suc (suc (suc tag))) bytes = (omega arith, omega arith)
 
-page_lasts : (format : Format) (bytes : List ℕ) → Only IsLasting (page_at format bytes)
-unfolding page_at
+page_lasts : (format : Format) (bytes : List ℕ) → Only IsLasting (read_page format bytes)
+unfolding read_page
 page_lasts Narrow bytes = only_then IsLasting (front_at 6 BadLength bytes) _ (front_lasts 6 bytes) (λ six is_six. tt)
 page_lasts Wide bytes = only_then IsLasting (front_at 10 BadLength bytes) _ (front_lasts 10 bytes) (λ ten is_ten. tt)
 
 entry_lasts : (format : Format) (before : Option PageId) (bytes : List ℕ) → Only IsLasting (entry_at format before bytes)
 unfolding entry_at
 entry_lasts format before bytes =
-    only_then IsLasting (page_at format bytes) _ (page_lasts format bytes) (λ page is_page.
+    only_then IsLasting (read_page format bytes) _ (page_lasts format bytes) (λ page is_page.
     only_then IsLasting (want (comes_after before page.0) BadOrder) _ (only_want IsLasting (comes_after before page.0) BadOrder (omega arith, omega arith)) (λ greater is_greater.
     only_then IsLasting (byte_at BadLength page.1) _ (byte_lasts page.1) (λ tag is_tag.
     only_then IsLasting (hist_at tag.0 tag.1) _ (hist_lasts tag.0 tag.1) (λ hist is_hist. tt))))
@@ -108,8 +108,8 @@ entries_last format (suc n) before bytes =
     only_then IsLasting (entry_at format before bytes) _ (entry_lasts format before bytes) (λ first is_first.
     only_then IsLasting (entries_at format n (Some first.0.page) first.1) _ (entries_last format n (Some first.0.page) first.1) (λ later is_later. tt))
 
-body_lasts : (format : Format) (body : List ℕ) → Only IsLasting (entries_of format body)
-unfolding entries_of count_at all_entries
+body_lasts : (format : Format) (body : List ℕ) → Only IsLasting (read_entries format body)
+unfolding read_entries count_at all_entries
 body_lasts format body =
     only_then IsLasting (count_at body) _ (only_then IsLasting (number_at w32 BadLength body) _ (number_lasts w32 body) (λ count is_count.
     only_then IsLasting (want (leb count.0 MAX_ENTRIES) BadCount) _ (only_want IsLasting (leb count.0 MAX_ENTRIES) BadCount (omega arith, omega arith)) (λ few is_few. tt)))
@@ -119,14 +119,14 @@ body_lasts format body =
 
 -- a fault of a body is there for good
 by_lasts : (kind : Kind) (format : Format) (sender horizon : ℕ) (body : List ℕ) → Only IsLasting (frame_by kind format sender horizon body)
-unfolding digests_of
-by_lasts kinds.Entries format sender horizon body = only_then IsLasting (entries_of format body) _ (body_lasts format body) (λ entries is_entries. tt)
+unfolding read_digests
+by_lasts kinds.Entries format sender horizon body = only_then IsLasting (read_entries format body) _ (body_lasts format body) (λ entries is_entries. tt)
 by_lasts kinds.Digest format sender horizon body =
-    only_then IsLasting (digests_of body) _ (only_chosen IsLasting (eqb (length body) table_size) BadLength (first_chunks DIGEST_SIZE BUCKETS body) bad_length) (λ digests is_digests. tt)
+    only_then IsLasting (read_digests body) _ (only_chosen IsLasting (eqb (length body) table_size) BadLength (first_chunks DIGEST_SIZE BUCKETS body) bad_length) (λ digests is_digests. tt)
 by_lasts kinds.Want format sender horizon body = only_then IsLasting (number_at w64 BadLength body) _ (number_lasts w64 body) (λ request is_request. tt)
 
-pub frame_lasts : (start : Start) (body : List ℕ) → Only IsLasting (frame_of start body)
-unfolding frame_of
+pub frame_lasts : (start : Start) (body : List ℕ) → Only IsLasting (read_message start body)
+unfolding read_message
 frame_lasts start body = by_lasts start.kind start.format start.sender start.horizon body
 
 -- ---- the header: it ends too soon only where fewer bytes are there than it has

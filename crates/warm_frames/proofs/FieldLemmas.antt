@@ -10,7 +10,7 @@ use Rattle.std.proofs.lemmas.List.{take_at, drop_at, take-append-drop, length-ap
 use Rattle.std.proofs.lemmas.Nat.{be_bytes_2, be_bytes_4, be_bytes_8, from_be_bytes-to_be_bytes_2, from_be_bytes-to_be_bytes_4, from_be_bytes-to_be_bytes_8}
 use Rattle.warm_stamps.specs.declared.Stamp.{Stamp}
 use Rattle.warm_stamps.specs.declared.PageId.{PageId}
-use Rattle.warm_stamps.specs.Bytes.{bytes_of_stamp, stamp_of, bytes_of_page, page_of, narrow_bytes_of_page, page_of_narrow, IsReplica, IsStamp, IsPage}
+use Rattle.warm_stamps.specs.Bytes.{bytes_of_stamp, stamp_of, bytes_of_page, page_from_bytes, narrow_bytes_of_page, page_of_narrow, IsReplica, IsStamp, IsPage}
 use Rattle.warm_stamps.specs.Stamps.{stamp_cmp}
 use Rattle.warm_stamps.proofs.ByteLemmas.{IsBytes, IsBytes-take, IsBytes-drop, stamp_again, stamp_spelled, IsStamp-of, page_again, page_spelled, IsPage-of, narrow_again, narrow_spelled, IsNarrow-of, IsPage-of_narrow}
 use Rattle.warm_history.specs.declared.hist.PageHist.{PageHist}
@@ -22,7 +22,7 @@ use Rattle.warm_frames.specs.declared.format.Format.TheVariants.{Narrow, Wide}
 use Rattle.warm_frames.specs.declared.fault.FrameFault.{FrameFault}
 use Rattle.warm_frames.specs.declared.fault.FrameFault.TheVariants.{BadLength, BadStamp, BadOrder}
 use Rattle.warm_frames.specs.Entries.{hist_bytes, page_bytes_in, entry_bytes_in, IsHist, IsEntry}
-use Rattle.warm_frames.specs.Reading.{◌>>=◌, front_at, number_at, byte_at, want, is_replica, stamp_in, two_in, hist_at, page_at, entry_at, written_entry_at}
+use Rattle.warm_frames.specs.Reading.{◌>>=◌, front_at, number_at, byte_at, want, is_replica, stamp_in, two_in, hist_at, read_page, entry_at, written_entry_at}
 
 -- ---- steps
 
@@ -243,8 +243,8 @@ pub record TakesPage (format : Format) (bytes : List ℕ) (x : PageId × List �
   pub fits : IsPage x.0
   pub narrow : IsNarrowIn format x.0
 
-page_takes : (format : Format) (bytes : List ℕ) (x : PageId × List ℕ) → IsBytes bytes → page_at format bytes ≡ Ok x → TakesPage format bytes x
-unfolding page_at
+page_takes : (format : Format) (bytes : List ℕ) (x : PageId × List ℕ) → IsBytes bytes → read_page format bytes ≡ Ok x → TakesPage format bytes x
+unfolding read_page
 page_takes Narrow bytes x fits e =
     let a = bind_ok (front_at 6 BadLength bytes) (λ six. Ok (page_of_narrow six.0, six.1)) x e in
     let t = front_takes 6 BadLength bytes a.0 fits a.1 in
@@ -256,9 +256,9 @@ page_takes Narrow bytes x fits e =
       narrow = (IsNarrow-of a.0.0 t.fits).no;
     })
 page_takes Wide bytes x fits e =
-    let a = bind_ok (front_at 10 BadLength bytes) (λ ten. Ok (page_of ten.0, ten.1)) x e in
+    let a = bind_ok (front_at 10 BadLength bytes) (λ ten. Ok (page_from_bytes ten.0, ten.1)) x e in
     let t = front_takes 10 BadLength bytes a.0 fits a.1 in
-    let page = page_of a.0.0 in
+    let page = page_from_bytes a.0.0 in
     let made : PageId × List ℕ = (page, a.0.1) in
     subst (TakesPage Wide bytes) (ok_is made x a.2) (record {
       taken = record { parts = t.taken.parts ∙ ap (λ (w : List ℕ). w ++ a.0.1) (sym (page_spelled a.0.0 t.len t.fits)); rest_fits = t.taken.rest_fits };
@@ -266,8 +266,8 @@ page_takes Wide bytes x fits e =
       narrow = tt;
     })
 
-page_at_again : (format : Format) (p : PageId) (rest : List ℕ) → IsPage p → IsNarrowIn format p → page_at format (page_bytes_in format p ++ rest) ≡ Ok (p, rest)
-unfolding page_at
+page_at_again : (format : Format) (p : PageId) (rest : List ℕ) → IsPage p → IsNarrowIn format p → read_page format (page_bytes_in format p ++ rest) ≡ Ok (p, rest)
+unfolding read_page
 page_at_again Narrow p rest fits narrow = rw (front_again 6 BadLength (narrow_bytes_of_page p) rest refl, narrow_again p (record { dev = fits.dev; no = narrow })) refl
 page_at_again Wide p rest fits narrow = rw (front_again 10 BadLength (bytes_of_page p) rest refl, page_again p fits) refl
 
@@ -282,7 +282,7 @@ pub record TakesEntry (format : Format) (before : Option PageId) (bytes : List �
 pub entry_takes : (format : Format) (before : Option PageId) (bytes : List ℕ) (x : Entry × List ℕ) → IsBytes bytes → entry_at format before bytes ≡ Ok x → TakesEntry format before bytes x
 unfolding entry_at
 entry_takes format before bytes x fits e =
-    let a = bind_ok (page_at format bytes) (λ page. want (comes_after before page.0) BadOrder >>= λ greater. byte_at BadLength page.1 >>= λ tag. hist_at tag.0 tag.1 >>= λ hist. Ok (record { page = page.0; hist = hist.0 }, hist.1)) x e in
+    let a = bind_ok (read_page format bytes) (λ page. want (comes_after before page.0) BadOrder >>= λ greater. byte_at BadLength page.1 >>= λ tag. hist_at tag.0 tag.1 >>= λ hist. Ok (record { page = page.0; hist = hist.0 }, hist.1)) x e in
     let page = a.0.0 in
     let g = want_ok (comes_after before page) BadOrder (λ greater. byte_at BadLength a.0.1 >>= λ tag. hist_at tag.0 tag.1 >>= λ hist. Ok (record { page = page; hist = hist.0 }, hist.1)) x a.2 in
     let b = bind_ok (byte_at BadLength a.0.1) (λ tag. hist_at tag.0 tag.1 >>= λ hist. Ok (record { page = page; hist = hist.0 }, hist.1)) x g.1 in
@@ -313,5 +313,5 @@ written_again before e rest fits greater = entry_again Wide before e rest fits t
 
 -- nothing is no entry
 pub nothing_written : written_entry_at None [] ≡ Err BadLength
-unfolding entry_at page_at
+unfolding entry_at read_page
 nothing_written = refl

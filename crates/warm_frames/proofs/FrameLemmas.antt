@@ -18,8 +18,8 @@ use Rattle.warm_frames.specs.declared.message.Message.TheVariants as frames
 use Rattle.warm_frames.specs.declared.reading.Kind.{Kind}
 use Rattle.warm_frames.specs.declared.reading.Kind.TheVariants as kinds
 use Rattle.warm_frames.specs.Entries.{entries_bytes_in}
-use Rattle.warm_frames.specs.Spelling.{IsFrame, magic_of, horizon_bytes, spelling_in, Holds, SpellsIn, Spells}
-use Rattle.warm_frames.specs.Reading.{◌>>=◌, number_at, byte_at, want, is_replica, kind_of, entry_size, may_have, Start, format_of, horizon_at, start_at, length_at, whole_body, body_at, entries_of, digests_of, frame_by, frame_of, read_frame}
+use Rattle.warm_frames.specs.Spelling.{IsValidMessage, magic_of, horizon_bytes, spelling_in, CanHold, SpellsIn, Encodes}
+use Rattle.warm_frames.specs.Reading.{◌>>=◌, number_at, byte_at, want, is_replica, kind_of, entry_size, may_have, Start, format_of, horizon_at, start_at, length_at, whole_body, body_at, read_entries, read_digests, frame_by, read_message, read_frame}
 use Rattle.warm_frames.proofs.FieldLemmas.{done, IsNarrowIn, bind_ok, want_ok, ok_is, Takes, Takes-then, byte_takes, wide16, wide32, wide64, number_takes, number_again, replica_is, replica_true}
 use Rattle.warm_frames.proofs.BodyLemmas.{entries_body, body_again, short_entries, digests_body, digests_again, length-digests}
 
@@ -195,19 +195,19 @@ spelling_parts Wide (frames.Digest sender horizon digests) = refl
 spelling_parts Wide (frames.Want sender horizon request) = refl
 
 -- what the format says of the horizon and the pages says that it can hold the frame
-holds_entries : (format : Format) (sender horizon : ℕ) (es : List Entry) → HoldsHorizon format horizon → AllByRecursion (λ e. IsNarrowIn format e.page) es → Holds format (frames.Entries sender horizon es)
+holds_entries : (format : Format) (sender horizon : ℕ) (es : List Entry) → HoldsHorizon format horizon → AllByRecursion (λ e. IsNarrowIn format e.page) es → CanHold format (frames.Entries sender horizon es)
 holds_entries Narrow sender horizon es none narrow = (none, narrow)
 holds_entries Wide sender horizon es none narrow = tt
 
-holds_digest : (format : Format) (sender horizon : ℕ) (digests : List (List ℕ)) → HoldsHorizon format horizon → Holds format (frames.Digest sender horizon digests)
+holds_digest : (format : Format) (sender horizon : ℕ) (digests : List (List ℕ)) → HoldsHorizon format horizon → CanHold format (frames.Digest sender horizon digests)
 holds_digest Narrow sender horizon digests none = none
 holds_digest Wide sender horizon digests none = tt
 
-holds_want : (format : Format) (sender horizon request : ℕ) → HoldsHorizon format horizon → Holds format (frames.Want sender horizon request)
+holds_want : (format : Format) (sender horizon request : ℕ) → HoldsHorizon format horizon → CanHold format (frames.Want sender horizon request)
 holds_want Narrow sender horizon request none = none
 holds_want Wide sender horizon request none = tt
 
-held_horizon : (format : Format) (f : Message) → Holds format f → HoldsHorizon format (frame_horizon f)
+held_horizon : (format : Format) (f : Message) → CanHold format f → HoldsHorizon format (frame_horizon f)
 held_horizon Narrow (frames.Entries sender horizon entries) holds = holds.0
 held_horizon Narrow (frames.Digest sender horizon digests) holds = holds
 held_horizon Narrow (frames.Want sender horizon request) holds = holds
@@ -217,7 +217,7 @@ wide_all : (es : List Entry) → AllByRecursion (λ e. IsNarrowIn Wide e.page) e
 wide_all [] = tt
 wide_all (e ∷ es) = (tt, wide_all es)
 
-held_pages : (format : Format) (sender horizon : ℕ) (es : List Entry) → Holds format (frames.Entries sender horizon es) → AllByRecursion (λ e. IsNarrowIn format e.page) es
+held_pages : (format : Format) (sender horizon : ℕ) (es : List Entry) → CanHold format (frames.Entries sender horizon es) → AllByRecursion (λ e. IsNarrowIn format e.page) es
 held_pages Narrow sender horizon es holds = holds.1
 held_pages Wide sender horizon es holds = wide_all es
 
@@ -225,16 +225,16 @@ held_pages Wide sender horizon es holds = wide_all es
 pub record IsFrameOf (start : Start) (body : List ℕ) (f : Message) : Type 0 where
   pub start_is : start_of start.format f ≡ start
   pub body_is : body ≡ frame_body start.format f
-  pub fits : IsReplica start.sender → start.horizon < 2 ^ 64 → IsFrame f
-  pub holds : HoldsHorizon start.format start.horizon → Holds start.format f
+  pub fits : IsReplica start.sender → start.horizon < 2 ^ 64 → IsValidMessage f
+  pub holds : HoldsHorizon start.format start.horizon → CanHold start.format f
 
 frame_takes : (kind : Kind) (format : Format) (sender horizon : ℕ) (body : List ℕ) (f : Message) → IsBytes body → may_have format kind (length body) ≡ true → frame_by kind format sender horizon body ≡ Ok f → IsFrameOf (record { format = format; kind = kind; sender = sender; horizon = horizon }) body f
 frame_takes kinds.Entries format sender horizon body f fits allowed e =
-    let a = bind_ok (entries_of format body) (λ entries. Ok (frames.Entries sender horizon entries)) f e in
+    let a = bind_ok (read_entries format body) (λ entries. Ok (frames.Entries sender horizon entries)) f e in
     let t = entries_body format body a.0 fits a.1 in
     subst (IsFrameOf (record { format = format; kind = kinds.Entries; sender = sender; horizon = horizon }) body) (ok_is (frames.Entries sender horizon a.0) f a.2) (record { start_is = refl; body_is = t.text; fits = λ good few. (good, few, t.listed); holds = λ none. holds_entries format sender horizon a.0 none t.narrow })
 frame_takes kinds.Digest format sender horizon body f fits allowed e =
-    let a = bind_ok (digests_of body) (λ digests. Ok (frames.Digest sender horizon digests)) f e in
+    let a = bind_ok (read_digests body) (λ digests. Ok (frames.Digest sender horizon digests)) f e in
     let t = digests_body body a.0 a.1 in
     subst (IsFrameOf (record { format = format; kind = kinds.Digest; sender = sender; horizon = horizon }) body) (ok_is (frames.Digest sender horizon a.0) f a.2) (record { start_is = refl; body_is = t.text; fits = λ good few. (good, few, t.table); holds = λ none. holds_digest format sender horizon a.0 none })
 frame_takes kinds.Want format sender horizon body f fits allowed e =
@@ -245,14 +245,14 @@ frame_takes kinds.Want format sender horizon body f fits allowed e =
     let text : body ≡ to_be_bytes w64 a.0.0 = t.0.parts ∙ ap (λ (r : List ℕ). to_be_bytes w64 a.0.0 ++ r) nothing ∙ append-nil (to_be_bytes w64 a.0.0) in
     subst (IsFrameOf (record { format = format; kind = kinds.Want; sender = sender; horizon = horizon }) body) (ok_is (frames.Want sender horizon a.0.0) f a.2) (record { start_is = refl; body_is = text; fits = λ good few. (good, few, t.1); holds = λ none. holds_want format sender horizon a.0.0 none })
 
-frame_again : (format : Format) (f : Message) → IsFrame f → Holds format f → frame_by (frame_kind f) format (frame_sender f) (frame_horizon f) (frame_body format f) ≡ Ok f
+frame_again : (format : Format) (f : Message) → IsValidMessage f → CanHold format f → frame_by (frame_kind f) format (frame_sender f) (frame_horizon f) (frame_body format f) ≡ Ok f
 frame_again format (frames.Entries sender horizon entries) fits holds = rw (body_again format entries fits.2 (held_pages format sender horizon entries holds)) refl
 frame_again format (frames.Digest sender horizon digests) fits holds = rw (digests_again digests fits.2) refl
 frame_again format (frames.Want sender horizon request) fits holds =
     let whole : number_at w64 BadLength (to_be_bytes w64 request) ≡ Ok (request, []) = ap (number_at w64 BadLength) (sym (append-nil (to_be_bytes w64 request))) ∙ number_again w64 (2 ^ 64) BadLength wide64 request [] fits.2 in
     ap (λ (r : Result (ℕ × List ℕ) FrameFault). r >>= λ m. Ok (frames.Want sender horizon m.0)) whole
 
-good_sender : (f : Message) → IsFrame f → IsReplica (frame_sender f) × (frame_horizon f < 2 ^ 64)
+good_sender : (f : Message) → IsValidMessage f → IsReplica (frame_sender f) × (frame_horizon f < 2 ^ 64)
 good_sender (frames.Entries sender horizon entries) fits = (fits.0, fits.1)
 good_sender (frames.Digest sender horizon digests) fits = (fits.0, fits.1)
 good_sender (frames.Want sender horizon request) fits = (fits.0, fits.1)
@@ -266,7 +266,7 @@ most_size : (format : Format) → entry_size format ≤ 31
 most_size Narrow = omega arith
 most_size Wide = omega arith
 
-pub body_length : (format : Format) (f : Message) → IsFrame f → HasLength format f
+pub body_length : (format : Format) (f : Message) → IsValidMessage f → HasLength format f
 body_length Narrow (frames.Entries sender horizon entries) fits =
     let listed = fits.2.at_most in
     let whole : length (to_be_bytes w32 (length entries) ++ entries_bytes_in Narrow entries) ≡ 4 + length (entries_bytes_in Narrow entries) = length-append (to_be_bytes w32 (length entries)) (entries_bytes_in Narrow entries) in
@@ -289,8 +289,8 @@ body_length format (frames.Want sender horizon request) fits = record { few = om
 -- ---- whole frames
 
 -- what is read is spelled so
-pub frame_spelled : (bytes : List ℕ) (f : Message) → IsBytes bytes → read_frame bytes ≡ Ok f → Spells bytes f
-unfolding read_frame frame_of
+pub frame_spelled : (bytes : List ℕ) (f : Message) → IsBytes bytes → read_frame bytes ≡ Ok f → Encodes bytes f
+unfolding read_frame read_message
 frame_spelled bytes f fits e =
     let a = bind_ok (start_at bytes) _ f e in
     let start = a.0.0 in
@@ -310,7 +310,7 @@ frame_spelled bytes f fits e =
 
 -- what is spelled so is read
 pub spelt_read : (format : Format) (bytes : List ℕ) (f : Message) → SpellsIn format bytes f → read_frame bytes ≡ Ok f
-unfolding read_frame frame_of
+unfolding read_frame read_message
 spelt_read format bytes f spelt =
     let len = body_length format f spelt.fits in
     let good = good_sender f spelt.fits in
@@ -318,18 +318,18 @@ spelt_read format bytes f spelt =
     ap read_frame (spelt.text ∙ spelling_parts format f)
     ∙ rw (start_again format (frame_kind f) (frame_sender f) (frame_horizon f) (to_be_bytes w32 (length body) ++ body) good.0 good.1 (held_horizon format f spelt.holds), body_at_again format (frame_kind f) body len.few len.allowed, frame_again format f spelt.fits spelt.holds) refl
 
-pub frame_read : (bytes : List ℕ) (f : Message) → Spells bytes f → read_frame bytes ≡ Ok f
+pub frame_read : (bytes : List ℕ) (f : Message) → Encodes bytes f → read_frame bytes ≡ Ok f
 frame_read bytes f spelt = spelt_read spelt.0 bytes f spelt.1
 
 -- ---- the laws of spellings
 
-pub one_spelling : (bytes : List ℕ) (f g : Message) → Spells bytes f → Spells bytes g → f ≡ g
-one_spelling bytes f g first second = ok_is f g (sym (frame_read bytes f first) ∙ frame_read bytes g second)
+pub encoding_is_injective : (bytes : List ℕ) (f g : Message) → Encodes bytes f → Encodes bytes g → f ≡ g
+encoding_is_injective bytes f g first second = ok_is f g (sym (frame_read bytes f first) ∙ frame_read bytes g second)
 
--- where a frame's spelling is followed by more, no frame is spelled
-pub no_prefix : (text rest : List ℕ) (f g : Message) → Spells text f → Spells (text ++ rest) g → rest ≡ []
+-- where a frame's encoding is followed by more, no frame is spelled
+pub prefix_free : (text rest : List ℕ) (f g : Message) → Encodes text f → Encodes (text ++ rest) g → rest ≡ []
 unfolding read_frame
-no_prefix text rest f g first second =
+prefix_free text rest f g first second =
     let format = first.0 in
     let start = start_of format f in
     let kind = frame_kind f in

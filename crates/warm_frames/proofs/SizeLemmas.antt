@@ -12,10 +12,10 @@ use Rattle.warm_frames.specs.declared.reading.Kind.{Kind}
 use Rattle.warm_frames.specs.declared.reading.Kind.TheVariants as kinds
 use Rattle.warm_frames.specs.declared.format.Format.{Format}
 use Rattle.warm_frames.specs.declared.format.Format.TheVariants.{Narrow, Wide}
-use Rattle.warm_frames.specs.Pieces.{IsLasting, IsPart, ShowsFault}
-use Rattle.warm_frames.specs.Reading.{◌>>=◌, number_at, byte_at, want, is_replica, kind_of, may_have, Start, format_of, horizon_at, start_at, length_at, whole_body, body_at, frame_of, read_frame}
+use Rattle.warm_frames.specs.Pieces.{IsLasting, IsIncomplete, ShowsFault}
+use Rattle.warm_frames.specs.Reading.{◌>>=◌, number_at, byte_at, want, is_replica, kind_of, may_have, Start, format_of, horizon_at, start_at, length_at, whole_body, body_at, read_message, read_frame}
 use Rattle.warm_frames.specs.Sizes.{header_size, frame_size}
-use Rattle.warm_frames.specs.Spelling.{Spells}
+use Rattle.warm_frames.specs.Spelling.{Encodes}
 use Rattle.warm_frames.proofs.FieldLemmas.{bind_ok, want_ok, ok_is}
 use Rattle.warm_frames.proofs.FaultLemmas.{Only, only_then, only_fault, only_want, frame_lasts, ShortOrLasting, number_short, start_short, header_most, most_of, format_is, number_long, byte_long}
 use Rattle.warm_frames.proofs.FrameLemmas.{length_ok, frame_read}
@@ -143,7 +143,7 @@ pub record Headed (bytes : List ℕ) (size : ℕ) : Type 0 where
   pub length_is : length bytes ≡ header_size start.format + length rest
   pub most : header_most bytes ≡ header_size start.format
   pub allowed : may_have start.format start.kind len ≡ true
-  pub reads : read_frame bytes ≡ (whole_body len rest >>= frame_of start)
+  pub reads : read_frame bytes ≡ (whole_body len rest >>= read_message start)
 
 pub headed : (bytes : List ℕ) (size : ℕ) → frame_size bytes ≡ Ok size → Headed bytes size
 unfolding frame_size read_frame body_at
@@ -161,8 +161,8 @@ headed bytes size e =
       length_is = omega (arith, s.long, number_long w32 Truncated a.0.1 b.0 l.0);
       most = s.most;
       allowed = l.1;
-      reads = ap (λ (r : Result (Start × List ℕ) FrameFault). r >>= λ start. body_at start.0.format start.0.kind start.1 >>= λ body. frame_of start.0 body) a.1
-          ∙ ap (λ (r : Result (ℕ × List ℕ) FrameFault). (r >>= λ len. whole_body len.0 len.1) >>= λ body. frame_of start body) b.1;
+      reads = ap (λ (r : Result (Start × List ℕ) FrameFault). r >>= λ start. body_at start.0.format start.0.kind start.1 >>= λ body. read_message start.0 body) a.1
+          ∙ ap (λ (r : Result (ℕ × List ℕ) FrameFault). (r >>= λ len. whole_body len.0 len.1) >>= λ body. read_message start body) b.1;
     }
 
 -- fewer bytes than its size end too soon
@@ -189,8 +189,8 @@ size_whole bytes e size is =
     let as_many : h.len ≡ length h.rest = omega (arith, h.size_is, h.length_is) in
     let test : leb h.len (length h.rest) ≡ true = grind (arith, nat_tests, as_many) in
     let back : leb (length h.rest) h.len ≡ true = grind (arith, nat_tests, as_many) in
-    let reads : read_frame bytes ≡ frame_of h.start h.rest = h.reads ∙ rw (test, back) refl in
-    only_fault IsLasting (frame_of h.start h.rest) e (frame_lasts h.start h.rest) (sym reads ∙ is)
+    let reads : read_frame bytes ≡ read_message h.start h.rest = h.reads ∙ rw (test, back) refl in
+    only_fault IsLasting (read_message h.start h.rest) e (frame_lasts h.start h.rest) (sym reads ∙ is)
 
 most_bytes : (format : Format) (kind : Kind) (len : ℕ) → may_have format kind len ≡ true → len ≤ 4 + MAX_ENTRY_SIZE * MAX_ENTRIES
 most_bytes Narrow kinds.Entries len e = grind (arith, nat_tests, e)
@@ -304,7 +304,7 @@ size_front : (n : ℕ) (bytes : List ℕ) → Goes (λ k. k) (frame_size (take n
 size_front n bytes = subst (λ (whole : List ℕ). Goes (λ k. k) (frame_size (take n bytes)) (frame_size whole)) (take-append-drop n bytes) (size_goes (take n bytes) (drop n bytes))
 
 -- no header yet: a part of a frame
-pub part_without_header : (bytes : List ℕ) → frame_size bytes ≡ Err Truncated → IsPart bytes
+pub part_without_header : (bytes : List ℕ) → frame_size bytes ≡ Err Truncated → IsIncomplete bytes
 part_without_header bytes e n =
     size_fault (take n bytes) Truncated (⊎_elim (λ is. is) (λ is. is) (front_err (frame_size (take n bytes)) (frame_size bytes) Truncated (size_front n bytes) e))
 
@@ -313,7 +313,7 @@ pub front_with_header : (bytes : List ℕ) (size n : ℕ) → frame_size bytes �
 front_with_header bytes size n e lt =
     ⊎_elim (λ known. size_short (take n bytes) size known lt) (λ short. size_fault (take n bytes) Truncated short) (front_ok (frame_size (take n bytes)) (frame_size bytes) size (size_front n bytes) e)
 
-pub part_with_header : (bytes : List ℕ) (size : ℕ) → frame_size bytes ≡ Ok size → length bytes < size → IsPart bytes
+pub part_with_header : (bytes : List ℕ) (size : ℕ) → frame_size bytes ≡ Ok size → length bytes < size → IsIncomplete bytes
 part_with_header bytes size e lt n = front_with_header bytes size n e (omega (arith, lt, length-take n bytes))
 
 -- a whole body has its fault with the last byte
@@ -384,7 +384,7 @@ by_size bytes short (Ok size) is =
     omega (arith, less, most, wide, h.size_is)
 
 -- a part of a frame has fewer bytes than the longest frame
-pub part_is_short : (bytes : List ℕ) → IsPart bytes → length bytes < HEADER_SIZE + 4 + MAX_ENTRY_SIZE * MAX_ENTRIES
+pub part_is_short : (bytes : List ℕ) → IsIncomplete bytes → length bytes < HEADER_SIZE + 4 + MAX_ENTRY_SIZE * MAX_ENTRIES
 part_is_short bytes part =
     let short : read_frame bytes ≡ Err Truncated = ap read_frame (sym (take_all (length bytes) bytes (omega arith))) ∙ part (length bytes) in
     by_size bytes short (frame_size bytes) refl
@@ -409,7 +409,7 @@ no_frame bytes more e f shown ok (Ok size) is =
     (lt_or_le size (length (bytes ++ more)))
 
 -- a fault stays, whatever follows
-pub fault_for_good : (bytes more : List ℕ) (e : FrameFault) (f : Message) → ShowsFault bytes e → Spells (bytes ++ more) f → ⊥
+pub fault_for_good : (bytes more : List ℕ) (e : FrameFault) (f : Message) → ShowsFault bytes e → Encodes (bytes ++ more) f → ⊥
 fault_for_good bytes more e f shown spelt = no_frame bytes more e f shown (frame_read (bytes ++ more) f spelt) (frame_size bytes) refl
 
 -- ---- for a decoder

@@ -7,10 +7,10 @@ use Rattle.warm_frames.specs.declared.decoder.Fed.{Fed}
 use Rattle.warm_frames.specs.declared.fault.FrameFault.{FrameFault}
 use Rattle.warm_frames.specs.declared.fault.FrameFault.TheVariants.{Truncated}
 use Rattle.warm_frames.specs.declared.message.Message.{Message}
-use Rattle.warm_frames.specs.Pieces.{DecoderState, Inside, Broken, IsPart, IsLasting, ShowsFault, Takes, Breaks, Feeds, Feeding, bytes_taken, taken_in, frame_given, frames_given, Feedings, SpellAll, texts_of, Splits, Fails}
+use Rattle.warm_frames.specs.Pieces.{DecoderState, Inside, Broken, IsIncomplete, IsLasting, ShowsFault, TakesPiece, Breaks, FeedStep, Feeding, bytes_taken, taken_in, frame_given, messages_given, Feedings, SpellAll, texts_of, Splits, Fails}
 use Rattle.warm_frames.specs.Reading.{read_frame}
-use Rattle.warm_frames.specs.Spelling.{Spells}
-use Rattle.warm_frames.proofs.FrameLemmas.{frame_read, one_spelling, no_prefix}
+use Rattle.warm_frames.specs.Spelling.{Encodes}
+use Rattle.warm_frames.proofs.FrameLemmas.{frame_read, encoding_is_injective, prefix_free}
 use Rattle.warm_frames.proofs.SizeLemmas.{failed, no_ok, err_is, lt_or_le, truncated_mends, nothing_short, part_without_header, fault_for_good}
 
 -- ---- feeds one after the other
@@ -25,19 +25,19 @@ broken_stays : (calls : List Feeding) (new : DecoderState) → Feedings Broken c
 broken_stays [] new run = run
 broken_stays (c ∷ calls) new run = broken_stays calls new (subst (λ (s : DecoderState). Feedings s calls new) run.1.1 run.2)
 
-nothing_is_part : IsPart []
+nothing_is_part : IsIncomplete []
 nothing_is_part = part_without_header [] (nothing_short [] refl)
 
 -- the later feeds are read from whatever part has come
 abbrev pub Later : List Feeding → DecoderState → List ℕ → Type 0
-Later calls new rest = (part : List ℕ) → IsPart part → Feedings (Inside part) calls new → Splits (part ++ taken_in calls) (frames_given calls) rest
+Later calls new rest = (part : List ℕ) → IsIncomplete part → Feedings (Inside part) calls new → Splits (part ++ taken_in calls) (messages_given calls) rest
 
-one_fed : (calls : List Feeding) (new : DecoderState) (rest begun piece : List ℕ) (taken : ℕ) (frame : Option Message) (next : DecoderState) → Later calls new rest → Takes begun piece taken frame next → Feedings next calls new
-    → Splits (begun ++ (take taken piece ++ taken_in calls)) (option_to_list frame ++ frames_given calls) rest
+one_fed : (calls : List Feeding) (new : DecoderState) (rest begun piece : List ℕ) (taken : ℕ) (frame : Option Message) (next : DecoderState) → Later calls new rest → TakesPiece begun piece taken frame next → Feedings next calls new
+    → Splits (begun ++ (take taken piece ++ taken_in calls)) (option_to_list frame ++ messages_given calls) rest
 one_fed calls new rest begun piece taken None next later takes run =
     let after = later (begun ++ piece) takes.1 (subst (λ (s : DecoderState). Feedings s calls new) takes.2 run) in
     let whole : take taken piece ≡ piece = take_all taken piece (omega (arith, takes.0)) in
-    subst (λ (s : List ℕ). Splits s (frames_given calls) rest) (append_assoc begun piece (taken_in calls) ∙ ap (λ (p : List ℕ). begun ++ (p ++ taken_in calls)) (sym whole)) after
+    subst (λ (s : List ℕ). Splits s (messages_given calls) rest) (append_assoc begun piece (taken_in calls) ∙ ap (λ (p : List ℕ). begun ++ (p ++ taken_in calls)) (sym whole)) after
 one_fed calls new rest begun piece taken (Some frame) next later takes run =
     let after = later [] nothing_is_part (subst (λ (s : DecoderState). Feedings s calls new) takes.2 run) in
     let first = takes.1 in
@@ -50,8 +50,8 @@ one_fed calls new rest begun piece taken (Some frame) next later takes run =
       part = after.part;
     }
 
-one_answered : (calls : List Feeding) (new : DecoderState) (rest begun piece : List ℕ) (answer : Result Fed FrameFault) (next : DecoderState) → Later calls new rest → IsPart begun → new ≡ Inside rest → Feeds (Inside begun) piece answer next → Feedings next calls new
-    → Splits (begun ++ (bytes_taken piece answer ++ taken_in calls)) (frame_given answer ++ frames_given calls) rest
+one_answered : (calls : List Feeding) (new : DecoderState) (rest begun piece : List ℕ) (answer : Result Fed FrameFault) (next : DecoderState) → Later calls new rest → IsIncomplete begun → new ≡ Inside rest → FeedStep (Inside begun) piece answer next → Feedings next calls new
+    → Splits (begun ++ (bytes_taken piece answer ++ taken_in calls)) (frame_given answer ++ messages_given calls) rest
 one_answered calls new rest begun piece (Ok fed) next later part ends feeds run = one_fed calls new rest begun piece fed.taken fed.frame next later feeds run
 one_answered calls new rest begun piece (Err fault) next later part ends (inl none) run = later begun part (subst (λ (s : DecoderState). Feedings s calls new) none.1 run)
 one_answered calls new rest begun piece (Err fault) next later part ends (inr breaks) run =
@@ -60,20 +60,20 @@ one_answered calls new rest begun piece (Err fault) next later part ends (inr br
 fed_from : (calls : List Feeding) (new : DecoderState) (rest : List ℕ) → new ≡ Inside rest → Later calls new rest
 fed_from [] new rest ends begun part run =
     let same : begun ≡ rest = inside_is begun rest (sym run ∙ ends) in
-    record { texts = []; whole = append-nil begun ∙ same; each = tt; part = subst IsPart same part }
+    record { texts = []; whole = append-nil begun ∙ same; each = tt; part = subst IsIncomplete same part }
 fed_from (c ∷ calls) new rest ends begun part run =
     let all = one_answered calls new rest begun c.piece c.answer run.0 (fed_from calls new rest ends) part ends run.1 run.2 in
     let bytes : taken_in (c ∷ calls) ≡ bytes_taken c.piece c.answer ++ taken_in calls = flat_map-cons (λ (d : Feeding). bytes_taken d.piece d.answer) c calls in
-    let frames : frames_given (c ∷ calls) ≡ frame_given c.answer ++ frames_given calls = flat_map-cons (λ (d : Feeding). frame_given d.answer) c calls in
+    let frames : messages_given (c ∷ calls) ≡ frame_given c.answer ++ messages_given calls = flat_map-cons (λ (d : Feeding). frame_given d.answer) c calls in
     subst (λ (fs : List Message). Splits (begun ++ taken_in (c ∷ calls)) fs rest) (sym frames)
-    (subst (λ (s : List ℕ). Splits (begun ++ s) (frame_given c.answer ++ frames_given calls) rest) (sym bytes) all)
+    (subst (λ (s : List ℕ). Splits (begun ++ s) (frame_given c.answer ++ messages_given calls) rest) (sym bytes) all)
 
 -- the consumed bytes are the returned frames and a part of the next
-pub in_pieces : (calls : List Feeding) (rest : List ℕ) → Feedings (Inside []) calls (Inside rest) → Splits (taken_in calls) (frames_given calls) rest
+pub in_pieces : (calls : List Feeding) (rest : List ℕ) → Feedings (Inside []) calls (Inside rest) → Splits (taken_in calls) (messages_given calls) rest
 in_pieces calls rest run = fed_from calls (Inside rest) rest refl [] nothing_is_part run
 
 -- and where a fault follows, the bytes up to it show it
-pub fault_in_pieces : (calls : List Feeding) (begun piece : List ℕ) (fault : FrameFault) → Feedings (Inside []) calls (Inside begun) → Breaks begun piece fault Broken → Fails (taken_in calls ++ piece) (frames_given calls) fault
+pub fault_in_pieces : (calls : List Feeding) (begun piece : List ℕ) (fault : FrameFault) → Feedings (Inside []) calls (Inside begun) → Breaks begun piece fault Broken → Fails (taken_in calls ++ piece) (messages_given calls) fault
 fault_in_pieces calls begun piece fault run breaks =
     let split = in_pieces calls begun run in
     let front = texts_of split.texts in
@@ -97,23 +97,23 @@ shorter a x b y same le = sym (take-append-le (length a) b y le) ∙ ap (take (l
 longer : (a x b y : List ℕ) → a ++ x ≡ b ++ y → length a ≤ length b → b ≡ a ++ drop (length a) b
 longer a x b y same le = sym (take-append-drop (length a) b) ∙ ap (λ (w : List ℕ). w ++ drop (length a) b) (shorter a x b y same le)
 
--- where one frame's spelling is a prefix of another's, the two spellings are equal
-front_text : (s t : List ℕ) (f g : Message) (x y : List ℕ) → Spells s f → Spells t g → s ++ x ≡ t ++ y → length s ≤ length t → s ≡ t
+-- where one frame's encoding is a prefix of another's, the two spellings are equal
+front_text : (s t : List ℕ) (f g : Message) (x y : List ℕ) → Encodes s f → Encodes t g → s ++ x ≡ t ++ y → length s ≤ length t → s ≡ t
 front_text s t f g x y is_f is_g same le =
     let rest = drop (length s) t in
     let parts : t ≡ s ++ rest = longer s x t y same le in
-    let none : rest ≡ [] = no_prefix s rest f g is_f (subst (λ (w : List ℕ). Spells w g) parts is_g) in
+    let none : rest ≡ [] = prefix_free s rest f g is_f (subst (λ (w : List ℕ). Encodes w g) parts is_g) in
     sym (append-nil s) ∙ ap (λ (r : List ℕ). s ++ r) (sym none) ∙ sym parts
 
-first_text : (s t : List ℕ) (f g : Message) (x y : List ℕ) → Spells s f → Spells t g → s ++ x ≡ t ++ y → s ≡ t
+first_text : (s t : List ℕ) (f g : Message) (x y : List ℕ) → Encodes s f → Encodes t g → s ++ x ≡ t ++ y → s ≡ t
 first_text s t f g x y is_f is_g same =
     ⊎_elim (λ lt. front_text s t f g x y is_f is_g same (omega (arith, lt))) (λ le. sym (front_text t s g f y x is_g is_f (sym same) le)) (lt_or_le (length s) (length t))
 
 -- no frame comes first
 abbrev pub NoFrame : List ℕ → Type 0
-NoFrame bytes = (text : List ℕ) (f : Message) (more : List ℕ) → Spells text f → bytes ≡ text ++ more → ⊥
+NoFrame bytes = (text : List ℕ) (f : Message) (more : List ℕ) → Encodes text f → bytes ≡ text ++ more → ⊥
 
-part_no_frame : (rest : List ℕ) → IsPart rest → NoFrame rest
+part_no_frame : (rest : List ℕ) → IsIncomplete rest → NoFrame rest
 part_no_frame rest part text f more spelt is =
     let n = length text in
     let front : take n rest ≡ text = ap (take n) is ∙ take_at text more n refl in
@@ -122,7 +122,7 @@ part_no_frame rest part text f more spelt is =
 bad_no_frame : (bad later : List ℕ) (fault : FrameFault) → ShowsFault bad fault → NoFrame (bad ++ later)
 bad_no_frame bad later fault shown text f more spelt is =
     ⊎_elim (λ lt. no_ok (sym (shown.not_before (length text) lt) ∙ ap read_frame (shorter text more bad later (sym is) (omega (arith, lt))) ∙ frame_read text f spelt))
-    (λ le. fault_for_good bad (drop (length bad) text) fault f shown (subst (λ (w : List ℕ). Spells w f) (longer bad later text more is le) spelt))
+    (λ le. fault_for_good bad (drop (length bad) text) fault f shown (subst (λ (w : List ℕ). Encodes w f) (longer bad later text more is le) spelt))
     (lt_or_le (length text) (length bad))
 
 same_reading : (ts us : List (List ℕ)) (fs gs : List Message) (r q : List ℕ) → SpellAll ts fs → SpellAll us gs → NoFrame r → NoFrame q → texts_of ts ++ r ≡ texts_of us ++ q → (fs ≡ gs) × (r ≡ q)
@@ -138,7 +138,7 @@ same_reading (t ∷ ts) (u ∷ us) (f ∷ fs) (g ∷ gs) r q all_f all_g none_r 
     let y = texts_of us ++ q in
     let both : t ++ x ≡ u ++ y = sym (append_assoc t (texts_of ts) r) ∙ same ∙ append_assoc u (texts_of us) q in
     let text : t ≡ u = first_text t u f g x y all_f.0 all_g.0 both in
-    let first : f ≡ g = one_spelling u f g (subst (λ (w : List ℕ). Spells w f) text all_f.0) all_g.0 in
+    let first : f ≡ g = encoding_is_injective u f g (subst (λ (w : List ℕ). Encodes w f) text all_f.0) all_g.0 in
     let behind : x ≡ y = sym (drop_at t x (length t) refl) ∙ ap (drop (length t)) both ∙ drop_at u y (length t) (sym (ap length text)) in
     let later = same_reading ts us fs gs r q all_f.1 all_g.1 none_r none_q behind in
     ((λ i. first i ∷ later.0 i), later.1)

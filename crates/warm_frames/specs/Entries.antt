@@ -8,7 +8,7 @@ use Rattle.warm_stamps.specs.Stamps.{stamp_cmp}
 use Rattle.warm_history.specs.declared.hist.PageHist.{PageHist}
 use Rattle.warm_history.specs.declared.hist.PageHist.TheVariants.{Once, Twice}
 use Rattle.warm_history.specs.declared.hist.Entry.{Entry}
-use Rattle.warm_history.specs.Histories.{PagesRise}
+use Rattle.warm_history.specs.Histories.{PagesAscend}
 use Rattle.warm_frames.specs.declared.format.Format.{Format}
 use Rattle.warm_frames.specs.declared.format.Format.TheVariants.{Narrow, Wide}
 use Rattle.warm_frames.specs.declared.layout.TheConstants.{MAX_ENTRIES}
@@ -25,11 +25,11 @@ pub record IsEntry (e : Entry) : Type 0 where
 
 -- entries that fit in one frame: their pages rise, and there are at most MAX_ENTRIES
 abbrev pub FitsInFrame : List Entry → Type 0
-FitsInFrame es = PagesRise es × (length es ≤ MAX_ENTRIES)
+FitsInFrame es = PagesAscend es × (length es ≤ MAX_ENTRIES)
 
 -- a list of valid entries that fits in a frame
 pub record IsEntryList (es : List Entry) : Type 0 where
-  pub pages_rise : PagesRise es
+  pub pages_ascend : PagesAscend es
   pub at_most : length es ≤ MAX_ENTRIES
   pub each : AllByRecursion IsEntry es
 

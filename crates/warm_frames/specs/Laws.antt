@@ -2,27 +2,27 @@
 use Rattle.std.specs.Prelude.{◌≡◌, ℕ, ◌<◌, List, [], ◌++◌, length}
 use Rattle.warm_frames.specs.declared.fault.FrameFault.{FrameFault}
 use Rattle.warm_frames.specs.declared.message.Message.{Message}
-use Rattle.warm_frames.specs.Pieces.{Inside, Broken, IsPart, longest_frame, ShowsFault, Breaks, Feeding, taken_in, frames_given, Feedings, Splits, Fails}
-use Rattle.warm_frames.specs.Spelling.{Spells}
+use Rattle.warm_frames.specs.Pieces.{Inside, Broken, IsIncomplete, longest_frame, ShowsFault, Breaks, Feeding, taken_in, messages_given, Feedings, Splits, Fails}
+use Rattle.warm_frames.specs.Spelling.{Encodes}
 
--- no two frames share a spelling
-abbrev pub OneSpelling : Type 0
-OneSpelling = (bytes : List ℕ) (f g : Message) → Spells bytes f → Spells bytes g → f ≡ g
+-- no two frames share a encoding
+abbrev pub EncodingIsInjective : Type 0
+EncodingIsInjective = (bytes : List ℕ) (f g : Message) → Encodes bytes f → Encodes bytes g → f ≡ g
 
--- no spelling is a proper prefix of another
-abbrev pub NoPrefix : Type 0
-NoPrefix = (text rest : List ℕ) (f g : Message) → Spells text f → Spells (text ++ rest) g → rest ≡ []
+-- no encoding is a proper prefix of another
+abbrev pub PrefixFree : Type 0
+PrefixFree = (text rest : List ℕ) (f g : Message) → Encodes text f → Encodes (text ++ rest) g → rest ≡ []
 
 -- The bytes that a decoder consumed are the spellings of the frames that it returned, then the part
 -- of a frame that it holds.
 abbrev pub InPieces : Type 0
-InPieces = (calls : List Feeding) (rest : List ℕ) → Feedings (Inside []) calls (Inside rest) → Splits (taken_in calls) (frames_given calls) rest
+InPieces = (calls : List Feeding) (rest : List ℕ) → Feedings (Inside []) calls (Inside rest) → Splits (taken_in calls) (messages_given calls) rest
 
 -- Where it then finds a fault in a piece, the stream up to the piece's end is the spellings of the
 -- frames returned, then bytes that show the fault.
 abbrev pub FaultInPieces : Type 0
 FaultInPieces = (calls : List Feeding) (begun piece : List ℕ) (fault : FrameFault) → Feedings (Inside []) calls (Inside begun) → Breaks begun piece fault Broken
-    → Fails (taken_in calls ++ piece) (frames_given calls) fault
+    → Fails (taken_in calls ++ piece) (messages_given calls) fault
 
 -- A stream has one list of frames and one rest, however it is cut into pieces.
 abbrev pub OneReading : Type 0
@@ -36,10 +36,10 @@ OneFault = (stream : List ℕ) (fs gs : List Message) (e d : FrameFault) → Fai
 abbrev pub PartOrFault : Type 0
 PartOrFault = (stream : List ℕ) (fs gs : List Message) (r : List ℕ) (fault : FrameFault) → Splits stream fs r → Fails stream gs fault → ⊥
 
--- no frame's spelling begins with bytes that show a fault
+-- no frame's encoding begins with bytes that show a fault
 abbrev pub FaultForGood : Type 0
-FaultForGood = (bytes more : List ℕ) (fault : FrameFault) (f : Message) → ShowsFault bytes fault → Spells (bytes ++ more) f → ⊥
+FaultForGood = (bytes more : List ℕ) (fault : FrameFault) (f : Message) → ShowsFault bytes fault → Encodes (bytes ++ more) f → ⊥
 
 -- a part of a frame is shorter than the longest frame
 abbrev pub PartIsShort : Type 0
-PartIsShort = (bytes : List ℕ) → IsPart bytes → length bytes < longest_frame
+PartIsShort = (bytes : List ℕ) → IsIncomplete bytes → length bytes < longest_frame

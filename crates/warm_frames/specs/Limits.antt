@@ -2,7 +2,7 @@
 use Rattle.std.specs.Prelude.{ℕ, ◌≤◌, List, []}
 use Rattle.std.specs.List.{AllByRecursion}
 use Rattle.warm_history.specs.declared.hist.Entry.{Entry}
-use Rattle.warm_history.specs.Histories.{stamps_held}
+use Rattle.warm_history.specs.Histories.{hist_stamps}
 use Rattle.warm_frames.specs.declared.message.Message.{Message}
 use Rattle.warm_frames.specs.declared.message.Message.TheVariants.{Entries, Digest, Want}
 
@@ -20,7 +20,7 @@ entries_in (Want sender horizon request) = []
 
 -- no stamp of the entries is later than the limit
 abbrev pub StampsBy : ℕ → List Entry → Type 0
-StampsBy limit es = AllByRecursion (λ e. AllByRecursion (λ s. s.time ≤ limit) (stamps_held e.hist)) es
+StampsBy limit es = AllByRecursion (λ e. AllByRecursion (λ s. s.time ≤ limit) (hist_stamps e.hist)) es
 
 -- the message speaks of no time later than the limit: neither its horizon is later nor a stamp of
 -- its entries

@@ -9,7 +9,7 @@ use Rattle.warm_frames.specs.declared.message.Message.{Message}
 use Rattle.warm_frames.specs.Faults.{fault_code}
 use Rattle.warm_frames.specs.Reading.{read_frame}
 use Rattle.warm_frames.specs.Sizes.{SaysSize}
-use Rattle.warm_frames.specs.Spelling.{Spells}
+use Rattle.warm_frames.specs.Spelling.{Encodes}
 
 -- The state of a decoder: inside a frame of which these bytes have come (none between two frames),
 -- or after a fault.
@@ -23,8 +23,8 @@ state_of true held = Broken
 state_of false held = Inside held
 
 -- The bytes are a part of a frame: reading them, or any prefix of them, gives `Truncated`.
-abbrev pub IsPart : List ℕ → Type 0
-IsPart bytes = (n : ℕ) → read_frame (take n bytes) ≡ Err Truncated
+abbrev pub IsIncomplete : List ℕ → Type 0
+IsIncomplete bytes = (n : ℕ) → read_frame (take n bytes) ≡ Err Truncated
 
 -- the size of the longest frame: a header, a count, and MAX_ENTRIES entries of the greatest size
 abbrev pub longest_frame : ℕ
@@ -42,9 +42,9 @@ pub record ShowsFault (bytes : List ℕ) (fault : FrameFault) : Type 0 where
 
 -- The whole piece was consumed, and the frame isn't complete yet; or bytes were consumed up to the
 -- end of a frame, which is returned.
-abbrev pub Takes : List ℕ → List ℕ → ℕ → Option Message → DecoderState → Type 0
-Takes begun piece taken None new = (taken ≡ length piece) × IsPart (begun ++ piece) × (new ≡ Inside (begun ++ piece))
-Takes begun piece taken (Some frame) new = (taken ≤ length piece) × Spells (begun ++ take taken piece) frame × (new ≡ Inside [])
+abbrev pub TakesPiece : List ℕ → List ℕ → ℕ → Option Message → DecoderState → Type 0
+TakesPiece begun piece taken None new = (taken ≡ length piece) × IsIncomplete (begun ++ piece) × (new ≡ Inside (begun ++ piece))
+TakesPiece begun piece taken (Some frame) new = (taken ≤ length piece) × Encodes (begun ++ take taken piece) frame × (new ≡ Inside [])
 
 -- a byte of the piece shows the fault
 abbrev pub Breaks : List ℕ → List ℕ → FrameFault → DecoderState → Type 0
@@ -52,10 +52,10 @@ Breaks begun piece fault new = (n : ℕ) × (n ≤ length piece) × ShowsFault (
 
 -- Feeding a piece, by the answer. An allocation failure changes nothing, and after a fault nothing
 -- is consumed.
-abbrev pub Feeds : DecoderState → List ℕ → Result Fed FrameFault → DecoderState → Type 0
-Feeds (Inside begun) piece (Ok fed) new = Takes begun piece fed.taken fed.frame new
-Feeds (Inside begun) piece (Err fault) new = ((fault ≡ Memory) × (new ≡ Inside begun)) ⊎ Breaks begun piece fault new
-Feeds Broken piece answer new = (answer ≡ Err Failed) × (new ≡ Broken)
+abbrev pub FeedStep : DecoderState → List ℕ → Result Fed FrameFault → DecoderState → Type 0
+FeedStep (Inside begun) piece (Ok fed) new = TakesPiece begun piece fed.taken fed.frame new
+FeedStep (Inside begun) piece (Err fault) new = ((fault ≡ Memory) × (new ≡ Inside begun)) ⊎ Breaks begun piece fault new
+FeedStep Broken piece answer new = (answer ≡ Err Failed) × (new ≡ Broken)
 
 -- a decoder inside a frame knows this of the frame's size, given the piece
 abbrev pub KnowsWith : DecoderState → List ℕ → Option ℕ → Type 0
@@ -93,13 +93,13 @@ abbrev pub frame_given : Result Fed FrameFault → List Message
 frame_given (Ok fed) = option_to_list fed.frame
 frame_given (Err fault) = []
 
-abbrev pub frames_given : List Feeding → List Message
-frames_given = flat_map (λ c. frame_given c.answer)
+abbrev pub messages_given : List Feeding → List Message
+messages_given = flat_map (λ c. frame_given c.answer)
 
 -- pieces fed one after the other
 abbrev pub Feedings : DecoderState → List Feeding → DecoderState → Type 0
 Feedings old [] new = new ≡ old
-Feedings old (c ∷ more) new = (next : DecoderState) × Feeds old c.piece c.answer next × Feedings next more new
+Feedings old (c ∷ more) new = (next : DecoderState) × FeedStep old c.piece c.answer next × Feedings next more new
 
 -- ---- streams
 
@@ -108,7 +108,7 @@ abbrev pub SpellAll : List (List ℕ) → List Message → Type 0
 SpellAll [] [] = ⊤
 SpellAll [] (f ∷ fs) = ⊥
 SpellAll (t ∷ ts) [] = ⊥
-SpellAll (t ∷ ts) (f ∷ fs) = Spells t f × SpellAll ts fs
+SpellAll (t ∷ ts) (f ∷ fs) = Encodes t f × SpellAll ts fs
 
 -- texts one after the other
 abbrev pub texts_of : List (List ℕ) → List ℕ
@@ -120,7 +120,7 @@ pub record Splits (stream : List ℕ) (frames : List Message) (rest : List ℕ) 
   pub texts : List (List ℕ)
   pub whole : stream ≡ texts_of texts ++ rest
   pub each : SpellAll texts frames
-  pub part : IsPart rest
+  pub part : IsIncomplete rest
 
 -- the stream is the spellings of these frames, then bytes that show this fault, then anything
 pub record Fails (stream : List ℕ) (frames : List Message) (fault : FrameFault) : Type 0 where

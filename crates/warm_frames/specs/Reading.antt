@@ -6,7 +6,7 @@ use Rattle.std.specs.Simd.{first_chunks}
 use Rattle.warm_stamps.specs.declared.TheConstants.{BUCKETS, MAX_REPLICAS}
 use Rattle.warm_stamps.specs.declared.Stamp.{Stamp}
 use Rattle.warm_stamps.specs.declared.PageId.{PageId}
-use Rattle.warm_stamps.specs.Bytes.{stamp_of, page_of, page_of_narrow}
+use Rattle.warm_stamps.specs.Bytes.{stamp_of, page_from_bytes, page_of_narrow}
 use Rattle.warm_stamps.specs.Stamps.{stamp_cmp}
 use Rattle.warm_history.specs.declared.hist.PageHist.{PageHist}
 use Rattle.warm_history.specs.declared.hist.PageHist.TheVariants.{Once, Twice}
@@ -21,7 +21,7 @@ use Rattle.warm_frames.specs.declared.message.Message.{Message}
 use Rattle.warm_frames.specs.declared.message.Message.TheVariants as frames
 use Rattle.warm_frames.specs.declared.reading.Kind.{Kind}
 use Rattle.warm_frames.specs.declared.reading.Kind.TheVariants as kinds
-use Rattle.warm_frames.specs.Spelling.{Spells}
+use Rattle.warm_frames.specs.Spelling.{Encodes}
 use Rattle.warm_frames.specs.Digests.{table_size}
 
 infixl 10 ◌>>=◌
@@ -30,9 +30,9 @@ abbrev pub ◌>>=◌ : {A B : Type 0} → Result A FrameFault → (A → Result 
 (Err e) >>= f = Err e
 
 -- The result of a function, seen through view, is what reading gives.
-abbrev pub Reads : {X Y : Type 0} → (X → Y) → Result X FrameFault → Result Y FrameFault → Type 0
-Reads view (Ok x) read = read ≡ Ok (view x)
-Reads view (Err e) read = read ≡ Err e
+abbrev pub IsReading : {X Y : Type 0} → (X → Y) → Result X FrameFault → Result Y FrameFault → Type 0
+IsReading view (Ok x) read = read ≡ Ok (view x)
+IsReading view (Err e) read = read ≡ Err e
 
 -- A field is a value and the bytes after it. Where too few bytes are left, the fault is the given
 -- one.
@@ -151,18 +151,18 @@ hist_at (suc (suc zero)) bytes = do
 hist_at (suc (suc (suc n))) bytes = Err BadTag
 
 -- a page, of ten bytes or, in the narrow format, of six
-unfoldable pub page_at : Format → List ℕ → Result (PageId × List ℕ) FrameFault
-page_at Narrow bytes = do
+unfoldable pub read_page : Format → List ℕ → Result (PageId × List ℕ) FrameFault
+read_page Narrow bytes = do
   six ← front_at 6 BadLength bytes
   Ok (page_of_narrow six.0, six.1)
-page_at Wide bytes = do
+read_page Wide bytes = do
   ten ← front_at 10 BadLength bytes
-  Ok (page_of ten.0, ten.1)
+  Ok (page_from_bytes ten.0, ten.1)
 
 -- an entry whose page is greater than the one before
 unfoldable pub entry_at : Format → Option PageId → List ℕ → Result (Entry × List ℕ) FrameFault
 entry_at format before bytes = do
-  page ← page_at format bytes
+  page ← read_page format bytes
   greater ← want (comes_after before page.0) BadOrder
   tag ← byte_at BadLength page.1
   hist ← hist_at tag.0 tag.1
@@ -204,38 +204,38 @@ all_entries format count bytes = do
   ended ← want (length entries.1 == 0) BadLength
   Ok entries.0
 
-unfoldable pub entries_of : Format → List ℕ → Result (List Entry) FrameFault
-entries_of format body = do
+unfoldable pub read_entries : Format → List ℕ → Result (List Entry) FrameFault
+read_entries format body = do
   count ← count_at body
   all_entries format count.0 count.1
 
 -- ---- frames
 
 -- a table of digests
-unfoldable pub digests_of : List ℕ → Result (List (List ℕ)) FrameFault
-digests_of body = if length body == table_size then Ok (first_chunks DIGEST_SIZE BUCKETS body) else Err BadLength
+unfoldable pub read_digests : List ℕ → Result (List (List ℕ)) FrameFault
+read_digests body = if length body == table_size then Ok (first_chunks DIGEST_SIZE BUCKETS body) else Err BadLength
 
 abbrev pub frame_by : Kind → Format → ℕ → ℕ → List ℕ → Result Message FrameFault
 frame_by kinds.Entries format sender horizon body = do
-  entries ← entries_of format body
+  entries ← read_entries format body
   Ok (frames.Entries sender horizon entries)
 frame_by kinds.Digest format sender horizon body = do
-  digests ← digests_of body
+  digests ← read_digests body
   Ok (frames.Digest sender horizon digests)
 frame_by kinds.Want format sender horizon body = do
   request ← number_at w64 BadLength body
   Ok (frames.Want sender horizon request.0)
 
 -- the frame of a body
-unfoldable pub frame_of : Start → List ℕ → Result Message FrameFault
-frame_of start body = frame_by start.kind start.format start.sender start.horizon body
+unfoldable pub read_message : Start → List ℕ → Result Message FrameFault
+read_message start body = frame_by start.kind start.format start.sender start.horizon body
 
 -- a whole frame
 unfoldable pub read_frame : List ℕ → Result Message FrameFault
 read_frame bytes = do
   start ← start_at bytes
   body ← body_at start.0.format start.0.kind start.1
-  frame_of start.0 body
+  read_message start.0 body
 
 -- the number of entries of a body for which capacity is reserved
 abbrev pub entries_reserved : List ℕ → Result ℕ FrameFault
@@ -262,9 +262,9 @@ Reserves reserved = (n : ℕ) × (0 < n) × (reserved ≡ Ok n)
 
 -- A function returned what reading gives or, where it reserves capacity, that the allocation
 -- failed.
-abbrev pub Gives : {X : Type 0} → Result X FrameFault → Result X FrameFault → Result ℕ FrameFault → Type 0
-Gives result read reserved = (result ≡ read) ⊎ ((result ≡ Err Memory) × Reserves reserved)
+abbrev pub GivesReading : {X : Type 0} → Result X FrameFault → Result X FrameFault → Result ℕ FrameFault → Type 0
+GivesReading result read reserved = (result ≡ read) ⊎ ((result ≡ Err Memory) × Reserves reserved)
 
 -- The frame that the bytes spell, if they spell one, was returned, unless the allocation failed.
 abbrev pub FindsSpelled : List ℕ → Result Message FrameFault → Type 0
-FindsSpelled bytes result = (frame : Message) → Spells bytes frame → Gives result (Ok frame) (reserved_by bytes)
+FindsSpelled bytes result = (frame : Message) → Encodes bytes frame → GivesReading result (Ok frame) (reserved_by bytes)

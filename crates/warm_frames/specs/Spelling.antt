@@ -13,10 +13,10 @@ use Rattle.warm_frames.specs.Entries.{IsEntryList, entries_bytes_in}
 use Rattle.warm_frames.specs.Digests.{IsDigestTable}
 
 -- the valid frames
-abbrev pub IsFrame : Message → Type 0
-IsFrame (Entries sender horizon entries) = IsReplica sender × (horizon < 2 ^ 64) × IsEntryList entries
-IsFrame (Digest sender horizon digests) = IsReplica sender × (horizon < 2 ^ 64) × IsDigestTable digests
-IsFrame (Want sender horizon request) = IsReplica sender × (horizon < 2 ^ 64) × (request < 2 ^ 64)
+abbrev pub IsValidMessage : Message → Type 0
+IsValidMessage (Entries sender horizon entries) = IsReplica sender × (horizon < 2 ^ 64) × IsEntryList entries
+IsValidMessage (Digest sender horizon digests) = IsReplica sender × (horizon < 2 ^ 64) × IsDigestTable digests
+IsValidMessage (Want sender horizon request) = IsReplica sender × (horizon < 2 ^ 64) × (request < 2 ^ 64)
 
 -- the magic number of a format
 abbrev pub magic_of : Format → ℕ
@@ -36,34 +36,34 @@ header_bytes format kind sender horizon len = to_be_bytes w32 (magic_of format) 
 abbrev pub framed : Format → ℕ → ℕ → ℕ → List ℕ → List ℕ
 framed format kind sender horizon body = header_bytes format kind sender horizon (length body) ++ body
 
--- The spelling of a message in a format, by its kind. The body of entries is their count and the
+-- The encoding of a message in a format, by its kind. The body of entries is their count and the
 -- entries, that of digests is the digests one after the other, and that of a request is its number.
 abbrev pub spelling_in : Format → Message → List ℕ
 spelling_in format (Entries sender horizon entries) = framed format 1 sender horizon (to_be_bytes w32 (length entries) ++ entries_bytes_in format entries)
 spelling_in format (Digest sender horizon digests) = framed format 2 sender horizon (flat_map (λ digest. digest) digests)
 spelling_in format (Want sender horizon request) = framed format 3 sender horizon (to_be_bytes w64 request)
 
--- the spelling that is written
-abbrev pub spelling : Message → List ℕ
-spelling f = spelling_in Wide f
+-- the encoding that is written
+abbrev pub encoding : Message → List ℕ
+encoding f = spelling_in Wide f
 
 -- the numbers of all pages fit in 32 bits
 abbrev pub AreNarrow : List Entry → Type 0
 AreNarrow es = AllByRecursion (λ e. e.page.no < 2 ^ 32) es
 
 -- the format can hold the frame: the narrow one holds no horizon, and only page numbers of 32 bits
-abbrev pub Holds : Format → Message → Type 0
-Holds Wide f = ⊤
-Holds Narrow (Entries sender horizon entries) = (horizon ≡ 0) × AreNarrow entries
-Holds Narrow (Digest sender horizon digests) = horizon ≡ 0
-Holds Narrow (Want sender horizon request) = horizon ≡ 0
+abbrev pub CanHold : Format → Message → Type 0
+CanHold Wide f = ⊤
+CanHold Narrow (Entries sender horizon entries) = (horizon ≡ 0) × AreNarrow entries
+CanHold Narrow (Digest sender horizon digests) = horizon ≡ 0
+CanHold Narrow (Want sender horizon request) = horizon ≡ 0
 
 -- these bytes spell this frame in a format
 pub record SpellsIn (format : Format) (bytes : List ℕ) (frame : Message) : Type 0 where
-  pub fits : IsFrame frame
-  pub holds : Holds format frame
+  pub fits : IsValidMessage frame
+  pub holds : CanHold format frame
   pub text : bytes ≡ spelling_in format frame
 
 -- these bytes spell this frame
-abbrev pub Spells : List ℕ → Message → Type 0
-Spells bytes frame = (format : Format) × SpellsIn format bytes frame
+abbrev pub Encodes : List ℕ → Message → Type 0
+Encodes bytes frame = (format : Format) × SpellsIn format bytes frame

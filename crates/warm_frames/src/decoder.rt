@@ -1,9 +1,9 @@
 //! Frames from a stream of bytes that is given in pieces.
 ghost use Rattle.std.specs.Prelude.{◌≡◌, ◌⊎◌, ◌<◌, ◌++◌, [], length, None, IfOk, IfErr, OnOk, OnErr};
 ghost use Rattle.warm_frames.specs.declared.layout.TheConstants.{HEADER_SIZE};
-ghost use Rattle.warm_frames.specs.Spelling.{Spells};
+ghost use Rattle.warm_frames.specs.Spelling.{Encodes};
 ghost use Rattle.warm_frames.specs.Sizes.{frame_size, KnowsSize, SaysSize};
-ghost use Rattle.warm_frames.specs.Pieces.{DecoderState.Inside, DecodesWith, Feeds, KnowsWith, finish_of};
+ghost use Rattle.warm_frames.specs.Pieces.{DecoderState.Inside, DecodesWith, FeedStep, KnowsWith, finish_of};
 
 use crate::fault::FrameFault;
 use crate::layout::HEADER_SIZE;
@@ -40,7 +40,7 @@ pub struct Decoder {
 }
 
 impl Model for Decoder {
-    ghost use Rattle.warm_frames.specs.Spelling.{Spells};
+    ghost use Rattle.warm_frames.specs.Spelling.{Encodes};
     ghost use Rattle.warm_frames.specs.Sizes.{KnowsSize};
     ghost use Rattle.warm_frames.specs.Pieces.{DecoderState, state_of};
 
@@ -109,7 +109,7 @@ fn all_of(piece: &[u8]) -> Fed
 // piece is decoded in place, without a copy.
 fn frame_with(alloc: Global, held: &mut Vec<u8>, end: &[u8]) -> Result<BoxedMessage, FrameFault>
     ensures reads { DecodesWith held.old.items end.now result held.new.items }
-    ensures spelled { IfOk result (λ frame. Spells (held.old.items ++ end.now) frame) }
+    ensures spelled { IfOk result (λ frame. Encodes (held.old.items ++ end.now) frame) }
 {
     if held.is_empty() {
         return decode_boxed(alloc, end);
@@ -147,10 +147,10 @@ impl Decoder {
     ///   consumed, and the same piece may be fed again;
     /// - any fault of [`decode`] but `Truncated`, at the byte that shows it: a fault of a header
     ///   field at the field's last byte, a fault of the body at the body's last byte. No frame's
-    ///   spelling begins with the bytes up to there;
+    ///   encoding begins with the bytes up to there;
     /// - `Failed`: there was a fault before. Nothing more is consumed.
     pub fn feed(&mut self, piece: &[u8]) -> Result<Fed, FrameFault>
-        ensures { Feeds self.old piece.now result self.new }
+        ensures { FeedStep self.old piece.now result self.new }
     {
         if self.failed {
             return Err(FrameFault::Failed);
@@ -167,7 +167,7 @@ impl Decoder {
     // Consumes bytes of the piece, given what is known of the frame's size.
     fn take(&mut self, size: Option<usize>, piece: &[u8]) -> Result<Fed, FrameFault>
         requires { KnowsWith self.old piece.now size }
-        ensures { Feeds self.old piece.now result self.new }
+        ensures { FeedStep self.old piece.now result self.new }
     {
         let Some(size) = size else {
             hold(&mut self.held, piece)?;

@@ -1,15 +1,15 @@
-//! The laws of spellings and of streams: a spelling is that of exactly one frame and determines its
+//! The laws of spellings and of streams: a encoding is that of exactly one frame and determines its
 //! own end, and a stream has one reading, however it is cut into pieces.
-ghost use Rattle.warm_frames.specs.Laws.{OneSpelling, NoPrefix, InPieces, FaultInPieces, OneReading, OneFault, PartOrFault, FaultForGood, PartIsShort};
+ghost use Rattle.warm_frames.specs.Laws.{EncodingIsInjective, PrefixFree, InPieces, FaultInPieces, OneReading, OneFault, PartOrFault, FaultForGood, PartIsShort};
 
-/// No two frames share a spelling.
-pub fn one_spelling()
-    ensures { OneSpelling }
+/// No two frames share a encoding.
+pub fn encoding_is_injective()
+    ensures { EncodingIsInjective }
 {}
 
-/// No spelling of a frame is a proper prefix of another.
-pub fn no_prefix()
-    ensures { NoPrefix }
+/// No encoding of a frame is a proper prefix of another.
+pub fn prefix_free()
+    ensures { PrefixFree }
 {}
 
 /// The bytes that a decoder consumed, in any pieces, are the spellings of the frames that it
@@ -38,7 +38,7 @@ pub fn part_or_fault()
     ensures { PartOrFault }
 {}
 
-/// No frame's spelling begins with bytes that show a fault, whatever follows them.
+/// No frame's encoding begins with bytes that show a fault, whatever follows them.
 pub fn fault_for_good()
     ensures { FaultForGood }
 {}

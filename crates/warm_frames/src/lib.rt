@@ -2,7 +2,7 @@
 //! message are the same thing.
 //!
 //! A [`Message`] carries entries of a history, the digests of all buckets, or the set of requested
-//! buckets. `specs/Spelling.antt` says which bytes spell a frame: each frame has one spelling in
+//! buckets. `specs/Spelling.antt` says which bytes spell a frame: each frame has one encoding in
 //! each format that can hold it, and no two frames share one. `specs/Reading.antt` says how bytes
 //! are read, and which fault is reported. A [`Decoder`] decodes frames from a stream that is given
 //! in pieces: `specs/Pieces.antt`. [`check_times`] refuses a message that speaks of times later than a

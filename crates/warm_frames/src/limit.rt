@@ -8,7 +8,7 @@
 //! compares these times with its own clock before it takes a message in.
 ghost use Rattle.std.specs.Prelude.{◌≡◌, ◌↔◌, ◌<◌, ◌≤◌, Err, IsOk, IsTrue};
 ghost use Rattle.std.specs.List.{AllByRecursion};
-ghost use Rattle.warm_history.specs.Histories.{stamps_held};
+ghost use Rattle.warm_history.specs.Histories.{hist_stamps};
 ghost use Rattle.warm_frames.specs.Faults.{time_fault_code, time_fault_name};
 ghost use Rattle.warm_frames.specs.Limits.{horizon_in, entries_in, StampsBy, SpeaksBy};
 
@@ -62,7 +62,7 @@ fn horizon_of(message: &Message) -> u64
 
 // Whether no stamp is later than the limit: of two stamps the second is the older one.
 fn is_by(hist: PageHist, limit: u64) -> bool
-    ensures { IsTrue result ↔ AllByRecursion (λ s. s.time ≤ limit) (stamps_held hist) }
+    ensures { IsTrue result ↔ AllByRecursion (λ s. s.time ≤ limit) (hist_stamps hist) }
 {
     match hist {
         PageHist::Once(last) => last.time <= limit,

@@ -1,7 +1,7 @@
-//! Frames, and their spelling.
+//! Frames, and their encoding.
 ghost use Rattle.std.specs.Prelude.{◌≡◌, ◌⊎◌, IfOk, Err};
-ghost use Rattle.warm_frames.specs.Spelling.{spelling, Spells};
-ghost use Rattle.warm_frames.specs.Reading.{Gives, FindsSpelled, read_frame, reserved_by};
+ghost use Rattle.warm_frames.specs.Spelling.{encoding, Encodes};
+ghost use Rattle.warm_frames.specs.Reading.{GivesReading, FindsSpelled, read_frame, reserved_by};
 
 use crate::digests::DigestTable;
 use crate::entries::EntryList;
@@ -50,9 +50,9 @@ pub type MessageList = Items<Message>;
 /// The bytes that spell the frame. `AllocError` occurs only where their allocation fails.
 pub fn encode(alloc: Global, frame: &Message) -> Result<Vec<u8>, AllocError>
     // The bytes written spell the frame, so `decode` returns it.
-    ensures spells { IfOk result (λ bytes. Spells bytes.items frame.now) }
-    // They are this spelling, whichever others a reader may accept.
-    ensures exact { IfOk result (λ bytes. bytes.items ≡ spelling frame.now) }
+    ensures spells { IfOk result (λ bytes. Encodes bytes.items frame.now) }
+    // They are this encoding, whichever others a reader may accept.
+    ensures exact { IfOk result (λ bytes. bytes.items ≡ encoding frame.now) }
 {
     match frame {
         Message::Entries {
@@ -94,11 +94,11 @@ pub fn encode(alloc: Global, frame: &Message) -> Result<Vec<u8>, AllocError>
 /// - `BadLength`: bytes after the last entry.
 pub fn decode(alloc: Global, bytes: &[u8]) -> Result<Message, FrameFault>
     // The bytes spell the decoded frame.
-    ensures found { IfOk result (λ frame. Spells bytes.now frame) }
+    ensures found { IfOk result (λ frame. Encodes bytes.now frame) }
     // A frame that the bytes spell is decoded, unless an allocation fails.
     ensures only { FindsSpelled bytes.now result }
     // The result is that of `read_frame`, so a fault is the first one; or an allocation failed.
-    ensures first { Gives result (read_frame bytes.now) (reserved_by bytes.now) }
+    ensures first { GivesReading result (read_frame bytes.now) (reserved_by bytes.now) }
 {
     frame_in(alloc, bytes)
 }
@@ -120,7 +120,7 @@ impl Model for BoxedMessage {
 
 impl BoxedMessage {
     /// The frame. Allocation-free.
-    pub fn as_frame(&self) -> &Message
+    pub fn as_message(&self) -> &Message
         ensures { result.now ≡ self.now }
     {
         &self.frame
@@ -136,7 +136,7 @@ impl BoxedMessage {
 
 /// As [`decode`]; a failed allocation of the box is `Memory` too.
 pub(crate) fn decode_boxed(alloc: Global, bytes: &[u8]) -> Result<BoxedMessage, FrameFault>
-    ensures found { IfOk result (λ frame. Spells bytes.now frame) }
+    ensures found { IfOk result (λ frame. Encodes bytes.now frame) }
     ensures reads { (result ≡ read_frame bytes.now) ⊎ (result ≡ Err FrameFault.Memory) }
 {
     let frame = decode(alloc, bytes)?;

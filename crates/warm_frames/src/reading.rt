@@ -3,7 +3,7 @@
 ghost use Rattle.std.specs.Prelude.{◌≡◌, ◌≤◌, [], Err, IfOk, IfErr, vec_capacity};
 ghost use Rattle.std.specs.Int.{w16, w32, w64};
 ghost use Rattle.warm_history.specs.Carried.{comes_after};
-ghost use Rattle.warm_frames.specs.Reading.{Reads, number_at, byte_at, kind_of, may_have, horizon_at, start_at, length_at, body_at, front_at, stamp_in, two_in, hist_at, page_at, entry_at, entry_with, entries_from, count_at, all_entries, entries_of, digests_of, read_frame, reserved_by, entries_reserved, Gives};
+ghost use Rattle.warm_frames.specs.Reading.{IsReading, number_at, byte_at, kind_of, may_have, horizon_at, start_at, length_at, body_at, front_at, stamp_in, two_in, hist_at, read_page, entry_at, entry_with, entries_from, count_at, all_entries, read_entries, read_digests, read_frame, reserved_by, entries_reserved, GivesReading};
 ghost use Rattle.warm_frames.specs.Sizes.{frame_size};
 
 use crate::digests::DigestTable;
@@ -28,7 +28,7 @@ enum Kind {
 }
 
 fn u16_at(bytes: &[u8], short: FrameFault) -> Result<(u16, &[u8]), FrameFault>
-    ensures { Reads (λ x. (x.0, x.1.now)) result (number_at w16 short bytes.now) }
+    ensures { IsReading (λ x. (x.0, x.1.now)) result (number_at w16 short bytes.now) }
 {
     match bytes.split_first_chunk::<2>() {
         Some((front, rest)) => Ok((u16::from_be_bytes(*front), rest)),
@@ -37,7 +37,7 @@ fn u16_at(bytes: &[u8], short: FrameFault) -> Result<(u16, &[u8]), FrameFault>
 }
 
 fn u32_at(bytes: &[u8], short: FrameFault) -> Result<(u32, &[u8]), FrameFault>
-    ensures { Reads (λ x. (x.0, x.1.now)) result (number_at w32 short bytes.now) }
+    ensures { IsReading (λ x. (x.0, x.1.now)) result (number_at w32 short bytes.now) }
 {
     match bytes.split_first_chunk::<4>() {
         Some((front, rest)) => Ok((u32::from_be_bytes(*front), rest)),
@@ -46,7 +46,7 @@ fn u32_at(bytes: &[u8], short: FrameFault) -> Result<(u32, &[u8]), FrameFault>
 }
 
 fn u64_at(bytes: &[u8], short: FrameFault) -> Result<(u64, &[u8]), FrameFault>
-    ensures { Reads (λ x. (x.0, x.1.now)) result (number_at w64 short bytes.now) }
+    ensures { IsReading (λ x. (x.0, x.1.now)) result (number_at w64 short bytes.now) }
 {
     match bytes.split_first_chunk::<8>() {
         Some((front, rest)) => Ok((u64::from_be_bytes(*front), rest)),
@@ -55,7 +55,7 @@ fn u64_at(bytes: &[u8], short: FrameFault) -> Result<(u64, &[u8]), FrameFault>
 }
 
 fn front_at<const N: usize>(bytes: &[u8]) -> Result<(&[u8; N], &[u8]), FrameFault>
-    ensures { Reads (λ x. (x.0.now, x.1.now)) result (front_at N FrameFault.BadLength bytes.now) }
+    ensures { IsReading (λ x. (x.0.now, x.1.now)) result (front_at N FrameFault.BadLength bytes.now) }
 {
     match bytes.split_first_chunk::<N>() {
         Some((front, rest)) => Ok((front, rest)),
@@ -64,7 +64,7 @@ fn front_at<const N: usize>(bytes: &[u8]) -> Result<(&[u8; N], &[u8]), FrameFaul
 }
 
 fn u8_at(bytes: &[u8], short: FrameFault) -> Result<(u8, &[u8]), FrameFault>
-    ensures { Reads (λ x. (x.0, x.1.now)) result (byte_at short bytes.now) }
+    ensures { IsReading (λ x. (x.0, x.1.now)) result (byte_at short bytes.now) }
 {
     match bytes.split_first() {
         Some((byte, rest)) => Ok((*byte, rest)),
@@ -97,7 +97,7 @@ fn may_have(format: Format, kind: Kind, len: usize) -> bool
 
 // The horizon, where the format has one.
 fn horizon_at(format: Format, bytes: &[u8]) -> Result<(u64, &[u8]), FrameFault>
-    ensures { Reads (λ x. (x.0, x.1.now)) result (horizon_at format bytes.now) }
+    ensures { IsReading (λ x. (x.0, x.1.now)) result (horizon_at format bytes.now) }
 {
     match format {
         Format::Narrow => Ok((0, bytes)),
@@ -108,7 +108,7 @@ fn horizon_at(format: Format, bytes: &[u8]) -> Result<(u64, &[u8]), FrameFault>
 // The header as far as the horizon.
 #[tactic(auto, unfolding(crate::specs::Reading::start_at))]
 fn start_at(bytes: &[u8]) -> Result<(Format, Kind, ReplicaId, u64, &[u8]), FrameFault>
-    ensures { Reads
+    ensures { IsReading
         (λ x. (record { format = x.0; kind = x.1; sender = x.2; horizon = x.3 }, x.4.now))
         result (start_at bytes.now) }
 {
@@ -127,7 +127,7 @@ fn start_at(bytes: &[u8]) -> Result<(Format, Kind, ReplicaId, u64, &[u8]), Frame
 // The length, where it is valid for the kind, and what follows.
 #[tactic(auto, unfolding(crate::specs::Reading::length_at))]
 fn length_at(format: Format, kind: Kind, bytes: &[u8]) -> Result<(u32, &[u8]), FrameFault>
-    ensures { Reads (λ x. (x.0, x.1.now)) result (length_at format kind bytes.now) }
+    ensures { IsReading (λ x. (x.0, x.1.now)) result (length_at format kind bytes.now) }
 {
     let (len, rest) = u32_at(bytes, FrameFault::Truncated)?;
     if !may_have(format, kind, len as usize) {
@@ -139,7 +139,7 @@ fn length_at(format: Format, kind: Kind, bytes: &[u8]) -> Result<(u32, &[u8]), F
 // The length and the body.
 #[tactic(auto, unfolding(crate::specs::Reading::body_at))]
 fn body_at(format: Format, kind: Kind, bytes: &[u8]) -> Result<&[u8], FrameFault>
-    ensures { Reads (λ body. body.now) result (body_at format kind bytes.now) }
+    ensures { IsReading (λ body. body.now) result (body_at format kind bytes.now) }
 {
     let (len, body) = length_at(format, kind, bytes)?;
     let len = len as usize;
@@ -190,7 +190,7 @@ fn two_in(later: &[u8; STAMP_SIZE], earlier: &[u8; STAMP_SIZE]) -> Result<PageHi
 
 #[tactic(auto, unfolding(crate::specs::Reading::hist_at))]
 fn hist_at(tag: u8, bytes: &[u8]) -> Result<(PageHist, &[u8]), FrameFault>
-    ensures { Reads (λ x. (x.0, x.1.now)) result (hist_at tag bytes.now) }
+    ensures { IsReading (λ x. (x.0, x.1.now)) result (hist_at tag bytes.now) }
 {
     match tag {
         ONCE_TAG => {
@@ -218,9 +218,9 @@ fn comes_after(before: Option<PageId>, page: PageId) -> bool
 }
 
 // A page, of ten bytes or, in the narrow format, of six.
-#[tactic(auto, unfolding(crate::specs::Reading::page_at))]
+#[tactic(auto, unfolding(crate::specs::Reading::read_page))]
 fn page_at(format: Format, bytes: &[u8]) -> Result<(PageId, &[u8]), FrameFault>
-    ensures { Reads (λ x. (x.0, x.1.now)) result (page_at format bytes.now) }
+    ensures { IsReading (λ x. (x.0, x.1.now)) result (read_page format bytes.now) }
 {
     match format {
         Format::Narrow => {
@@ -262,7 +262,7 @@ fn entries_at<'a>(
 ) -> Result<&'a [u8], FrameFault>
     requires empty { entries.old.items ≡ [] }
     requires capacity { count ≤ vec_capacity entries.old }
-    ensures { Reads (λ rest. (entries.new.items, rest.now)) result
+    ensures { IsReading (λ rest. (entries.new.items, rest.now)) result
         (entries_from format count bytes.now) }
 {
     let mut before = None;
@@ -286,7 +286,7 @@ fn entries_at<'a>(
 
 #[tactic(auto, unfolding(crate::specs::Reading::count_at))]
 fn count_at(body: &[u8]) -> Result<(u32, &[u8]), FrameFault>
-    ensures { Reads (λ x. (x.0, x.1.now)) result (count_at body.now) }
+    ensures { IsReading (λ x. (x.0, x.1.now)) result (count_at body.now) }
 {
     let (count, rest) = u32_at(body, FrameFault::BadLength)?;
     if count as usize > MAX_ENTRIES {
@@ -305,7 +305,7 @@ fn all_entries(
 ) -> Result<Vec<Entry>, FrameFault>
     requires empty { entries.items ≡ [] }
     requires capacity { count ≤ vec_capacity entries }
-    ensures { Reads (λ all. all.items) result (all_entries format count bytes.now) }
+    ensures { IsReading (λ all. all.items) result (all_entries format count bytes.now) }
 {
     let rest = entries_at(&mut entries, format, count, bytes)?;
     if !rest.is_empty() {
@@ -315,9 +315,9 @@ fn all_entries(
 }
 
 // The entries of a body. Their capacity is allocated once.
-#[tactic(auto, unfolding(crate::specs::Reading::entries_of))]
+#[tactic(auto, unfolding(crate::specs::Reading::read_entries))]
 fn entries_of(alloc: Global, format: Format, body: &[u8]) -> Result<EntryList, FrameFault>
-    ensures { Gives result (entries_of format body.now) (entries_reserved body.now) }
+    ensures { GivesReading result (read_entries format body.now) (entries_reserved body.now) }
 {
     let (count, rest) = count_at(body)?;
     let entries = Vec::with_capacity(alloc, count as usize)?;
@@ -325,9 +325,9 @@ fn entries_of(alloc: Global, format: Format, body: &[u8]) -> Result<EntryList, F
     Ok(EntryList::whole(entries))
 }
 
-#[tactic(auto, unfolding(crate::specs::Reading::digests_of))]
+#[tactic(auto, unfolding(crate::specs::Reading::read_digests))]
 fn digests_of(body: &[u8]) -> Result<DigestTable, FrameFault>
-    ensures { result ≡ digests_of body.now }
+    ensures { result ≡ read_digests body.now }
 {
     let (digests, rest) = body.as_chunks::<DIGEST_SIZE>();
     match digests.as_array::<DIGESTS>() {
@@ -337,9 +337,9 @@ fn digests_of(body: &[u8]) -> Result<DigestTable, FrameFault>
 }
 
 /// The frame that the bytes spell, or the first fault.
-#[tactic(auto, unfolding(crate::specs::Reading::read_frame, crate::specs::Reading::frame_of, crate::specs::Reading::reserved_by))]
+#[tactic(auto, unfolding(crate::specs::Reading::read_frame, crate::specs::Reading::read_message, crate::specs::Reading::reserved_by))]
 pub(crate) fn frame_in(alloc: Global, bytes: &[u8]) -> Result<Message, FrameFault>
-    ensures { Gives result (read_frame bytes.now) (reserved_by bytes.now) }
+    ensures { GivesReading result (read_frame bytes.now) (reserved_by bytes.now) }
 {
     let (format, kind, sender, horizon, rest) = match start_at(bytes) {
         Ok(start) => start,

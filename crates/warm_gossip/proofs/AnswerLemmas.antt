@@ -11,12 +11,12 @@ use Rattle.std.proofs.lemmas.List.{length-drop, take_min, drop_min}
 use Rattle.std.proofs.lemmas.List.FromFn.{filter_of_map_range_with_len_more}
 use Rattle.warm_stamps.specs.declared.TheConstants.{BUCKETS}
 use Rattle.warm_stamps.specs.Buckets.{page_bucket}
-use Rattle.warm_stamps.specs.Distinct.{IsRising}
+use Rattle.warm_stamps.specs.Distinct.{IsAscending}
 use Rattle.warm_stamps.specs.Stamps.{page_cmp}
 use Rattle.warm_stamps.proofs.DistinctLemmas.{rising_filter, rising_take}
 use Rattle.warm_history.specs.declared.hist.Entry.{Entry}
 use Rattle.warm_history.specs.Carried.{bucket_entries}
-use Rattle.warm_history.specs.Histories.{HistoryView, entries_of, PagesRise, IsHistory}
+use Rattle.warm_history.specs.Histories.{HistoryView, entries_of, PagesAscend, IsHistory}
 use Rattle.warm_frames.specs.declared.layout.TheConstants.{MAX_ENTRIES}
 use Rattle.warm_frames.specs.declared.message.Message.{Message}
 use Rattle.warm_frames.specs.declared.message.Message.TheVariants.{Entries, Want}
@@ -54,20 +54,20 @@ message_more id horizon messages rest some =
 
 -- ---- pages rise in parts of entries
 
-rising_drop : {A : Type 0} (cmp : A → A → Ordering) (n : ℕ) (xs : List A) → IsRising cmp xs → IsRising cmp (drop n xs)
+rising_drop : {A : Type 0} (cmp : A → A → Ordering) (n : ℕ) (xs : List A) → IsAscending cmp xs → IsAscending cmp (drop n xs)
 rising_drop cmp zero xs rising = rising
 rising_drop cmp (suc n) [] rising = tt
 rising_drop cmp (suc n) (x ∷ xs) rising = rising_drop cmp n xs rising.1
 
-pub pages_rise_take : (n : ℕ) (es part : List Entry) → part ≡ take n es → PagesRise es → PagesRise part
-pages_rise_take n es part is rise = subst PagesRise (sym is) (rising_take (on (λ e. e.page) page_cmp) n es rise)
+pub pages_rise_take : (n : ℕ) (es part : List Entry) → part ≡ take n es → PagesAscend es → PagesAscend part
+pages_rise_take n es part is rise = subst PagesAscend (sym is) (rising_take (on (λ e. e.page) page_cmp) n es rise)
 
-pub pages_rise_drop : (n : ℕ) (es later : List Entry) → later ≡ drop n es → PagesRise es → PagesRise later
-pages_rise_drop n es later is rise = subst PagesRise (sym is) (rising_drop (on (λ e. e.page) page_cmp) n es rise)
+pub pages_rise_drop : (n : ℕ) (es later : List Entry) → later ≡ drop n es → PagesAscend es → PagesAscend later
+pages_rise_drop n es later is rise = subst PagesAscend (sym is) (rising_drop (on (λ e. e.page) page_cmp) n es rise)
 
 -- and in a bucket
-pub bucket_rises : (bucket : ℕ) (h : HistoryView) (es : List Entry) → es ≡ bucket_entries bucket (entries_of h) → IsHistory h → PagesRise es
-bucket_rises bucket h es is whole = subst PagesRise (sym is) (rising_filter (on (λ e. e.page) page_cmp) (λ e. page_bucket e.page == bucket) (entries_of h) whole.pages_rise)
+pub bucket_rises : (bucket : ℕ) (h : HistoryView) (es : List Entry) → es ≡ bucket_entries bucket (entries_of h) → IsHistory h → PagesAscend es
+bucket_rises bucket h es is whole = subst PagesAscend (sym is) (rising_filter (on (λ e. e.page) page_cmp) (λ e. page_bucket e.page == bucket) (entries_of h) whole.pages_ascend)
 
 -- ---- messages of wanted buckets
 

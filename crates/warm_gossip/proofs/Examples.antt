@@ -3,9 +3,9 @@ use Rattle.std.proofs.Common.{◌≡◌, ℕ, [], ◌∷◌, None, refl}
 use Rattle.warm_stamps.specs.declared.Stamp.{Stamp}
 use Rattle.warm_history.specs.declared.hist.Entry.{Entry}
 use Rattle.warm_history.specs.declared.hist.PageHist.TheVariants.{Once, Twice}
-use Rattle.warm_history.specs.Histories.{holding, holding_since, history}
+use Rattle.warm_history.specs.Histories.{history_of_entries, history_of_entries_at, history}
 use Rattle.warm_frames.specs.declared.message.Message.TheVariants.{Entries, Want}
-use Rattle.warm_gossip.specs.Answers.{buckets_in, requested_messages, pieces, sent, taught}
+use Rattle.warm_gossip.specs.Answers.{buckets_in, requested_messages, pieces, sent, history_after}
 
 -- ---- pieces
 
@@ -31,26 +31,26 @@ abbrev once : ℕ → Stamp → Entry
 once n stamp = record { page = record { dev = 0; no = n }; hist = Once stamp }
 
 -- two pages of two buckets, which a replica sends in two messages; bucket 3 is empty, and gives none
-two_messages : requested_messages 1 (holding (once 1 (at 10 1) ∷ once 2 (at 11 2) ∷ [])) 14 ≡ Entries 1 0 (once 1 (at 10 1) ∷ []) ∷ Entries 1 0 (once 2 (at 11 2) ∷ []) ∷ []
+two_messages : requested_messages 1 (history_of_entries (once 1 (at 10 1) ∷ once 2 (at 11 2) ∷ [])) 14 ≡ Entries 1 0 (once 1 (at 10 1) ∷ []) ∷ Entries 1 0 (once 2 (at 11 2) ∷ []) ∷ []
 unfolding buckets_in
 two_messages = refl
 
 -- an empty bucket that is requested alone is sent as a message without entries
-empty_sent : sent 1 (holding (once 1 (at 10 1) ∷ [])) 2 None ≡ Entries 1 0 []
+empty_sent : sent 1 (history_of_entries (once 1 (at 10 1) ∷ [])) 2 None ≡ Entries 1 0 []
 unfolding history
 empty_sent = refl
 
 -- entries are joined, and do not take the place of what is known
-joined : taught (holding (once 1 (at 20 1) ∷ [])) (Entries 2 0 (once 1 (at 30 2) ∷ [])) ≡ holding ((let e : Entry = record { page = record { dev = 0; no = 1 }; hist = Twice (record { last = at 30 2; prev = at 20 1 }) } in e) ∷ [])
+joined : history_after (history_of_entries (once 1 (at 20 1) ∷ [])) (Entries 2 0 (once 1 (at 30 2) ∷ [])) ≡ history_of_entries ((let e : Entry = record { page = record { dev = 0; no = 1 }; hist = Twice (record { last = at 30 2; prev = at 20 1 }) } in e) ∷ [])
 unfolding history
 joined = refl
 
 -- a request teaches nothing but its horizon
-nothing_taught : taught (holding (once 1 (at 20 1) ∷ [])) (Want 2 20 6) ≡ holding_since 20 (once 1 (at 20 1) ∷ [])
+nothing_taught : history_after (history_of_entries (once 1 (at 20 1) ∷ [])) (Want 2 20 6) ≡ history_of_entries_at 20 (once 1 (at 20 1) ∷ [])
 unfolding history
 nothing_taught = refl
 
 -- and what is older than that is forgotten
-older_forgotten : taught (holding (once 1 (at 20 1) ∷ once 2 (at 21 1) ∷ [])) (Want 2 21 6) ≡ holding_since 21 (once 2 (at 21 1) ∷ [])
+older_forgotten : history_after (history_of_entries (once 1 (at 20 1) ∷ once 2 (at 21 1) ∷ [])) (Want 2 21 6) ≡ history_of_entries_at 21 (once 2 (at 21 1) ∷ [])
 unfolding history
 older_forgotten = refl

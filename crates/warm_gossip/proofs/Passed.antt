@@ -8,15 +8,15 @@ use Rattle.std.proofs.lemmas.Bool.{cases_order}
 use Rattle.std.proofs.lemmas.List.{length-set}
 use Rattle.std.proofs.lemmas.List.Elements.{Contains-get_or}
 use Rattle.warm_stamps.specs.declared.PageId.{PageId}
-use Rattle.warm_stamps.specs.Distinct.{distinct, IsRising}
+use Rattle.warm_stamps.specs.Distinct.{distinct, IsAscending}
 use Rattle.warm_stamps.proofs.DistinctLemmas.{distinct_rises, rising_take}
 use Rattle.warm_stamps.proofs.StampLemmas.{IsStrictOrder-flip}
 use Rattle.warm_history.specs.ReferenceSets.{ReferenceSet}
-use Rattle.warm_history.specs.Histories.{HistoryView, IsHistory, pages, refs}
+use Rattle.warm_history.specs.Histories.{HistoryView, IsHistory, pages, references_of}
 use Rattle.warm_history.proofs.JoinLemmas.{history_of_own_references}
-use Rattle.warm_rank.specs.Ranking.{IsBefore, IsVictim, leaving_cmp, warm}
+use Rattle.warm_rank.specs.Ranking.{IsBefore, IsVictim, eviction_cmp, hottest_pages}
 use Rattle.warm_rank.specs.WarmUp.{IsWarmUp}
-use Rattle.warm_rank.proofs.LeavingLemmas.{leaving_is_order, leaving_order}
+use Rattle.warm_rank.proofs.LeavingLemmas.{eviction_is_order, eviction_order}
 use Rattle.warm_pool.specs.declared.slot.Slot.{Slot}
 use Rattle.warm_pool.specs.View.{PoolView, frame_at, IsResident, unfixed_pages}
 use Rattle.warm_pool.specs.Pinning.{Pinned, PutsIn}
@@ -82,7 +82,7 @@ pinned h v w p slot x n passed (has, adds_or_puts) = elim adds_or_puts [
 -- ---- steps of the warm-up
 
 -- of two items of a rising list, the one that comes first is below the other
-rises_at : {A : Type 0} (cmp : A → A → Ordering) (xs : List A) (d : A) → IsRising cmp xs → (j i : ℕ) → j < i → i < length xs → cmp (get_or xs j d) (get_or xs i d) ≡ Less
+rises_at : {A : Type 0} (cmp : A → A → Ordering) (xs : List A) (d : A) → IsAscending cmp xs → (j i : ℕ) → j < i → i < length xs → cmp (get_or xs j d) (get_or xs i d) ≡ Less
 rises_at cmp [] d rising j i before there = absurd (omega (arith, there))
 rises_at cmp (x ∷ xs) d rising j zero before there = absurd (omega (arith, before))
 rises_at cmp (x ∷ xs) d rising zero (suc i) before there =
@@ -91,11 +91,11 @@ rises_at cmp (x ∷ xs) d rising zero (suc i) before there =
 rises_at cmp (x ∷ xs) d rising (suc j) (suc i) before there = rises_at cmp xs d rising.1 j i (omega (arith, before)) (omega (arith, there))
 
 -- of two pages of a warm-up list, the one that comes first leaves after the other
-leaves_later : (S : ReferenceSet) (n : ℕ) (ps : List PageId) → ps ≡ warm S n → (j i : ℕ) → j < i → i < length ps → IsBefore S (nth_page ps i) (nth_page ps j)
+leaves_later : (S : ReferenceSet) (n : ℕ) (ps : List PageId) → ps ≡ hottest_pages S n → (j i : ℕ) → j < i → i < length ps → IsBefore S (nth_page ps i) (nth_page ps j)
 leaves_later S n ps is j i before there =
-    let falls = flip_args (leaving_cmp S) in
-    let rising : IsRising falls (warm S n) = rising_take falls n (distinct falls (pages S)) (distinct_rises falls (IsStrictOrder-flip (leaving_cmp S) (leaving_order S)) (pages S)) in
-    rises_at falls ps (record { dev = 0; no = 0 }) (subst (IsRising falls) (sym is) rising) j i before there
+    let falls = flip_args (eviction_cmp S) in
+    let rising : IsAscending falls (hottest_pages S n) = rising_take falls n (distinct falls (pages S)) (distinct_rises falls (IsStrictOrder-flip (eviction_cmp S) (eviction_order S)) (pages S)) in
+    rises_at falls ps (record { dev = 0; no = 0 }) (subst (IsAscending falls) (sym is) rising) j i before there
 
 -- no other page than the victim leaves before all others
 one_victim : (S : ReferenceSet) (U : List PageId) (v : Option PageId) (q : PageId) → IsVictim S U v → IsVictim S U (Some q) → v ≡ Some q
@@ -103,21 +103,21 @@ one_victim S U None q none victim = let no : Contains [] q = subst (λ ps. Conta
 one_victim S U (Some r) q first second = elim (held_or_not r (Some q)) [
   | inl is ↦ sym is
   | inr other ↦
-      let order = leaving_is_order S in
+      let order = eviction_is_order S in
       let back : IsBefore S q r = second.1 r first.0 (λ is. other (ap Some (sym is))) in
       absurd (order.irreflexive q (order.transitive q r q back (first.1 q second.0 (λ is. other (ap Some is)))))
 ]
 
 -- a page that is loaded is passed too, where it evicted none of those before it
 pub loaded : (h : HistoryView) (v w : PoolView) (ps : List PageId) (slot : Slot) (victim : Option PageId) (at n : ℕ) → IsHistory h → at < length ps → IsUnderWay h v ps at
-    → PutsIn h v (nth_page ps at) 0 slot w → IsVictim (refs h) (unfixed_pages v) victim → PassedAtLoad h w (nth_page ps at) victim at n → IsUnderWay h w ps n
+    → PutsIn h v (nth_page ps at) 0 slot w → IsVictim (references_of h) (unfixed_pages v) victim → PassedAtLoad h w (nth_page ps at) victim at n → IsUnderWay h w ps n
 loaded h v w ps slot victim at n whole there under puts is_victim moves = record {
   hottest = subst (λ k. IsWarmUp h k ps) (sym (frames_count puts)) under.hottest;
   past = elim moves [ inl none ↦ λ j before. absurd (omega (arith, none, before)) | inr (next, none_before) ↦ past next none_before ];
 }
   where
     S : ReferenceSet
-    S = refs h
+    S = references_of h
 
     devices : w.devices ≡ v.devices
     devices = ap (λ x. x.devices) puts.becomes
@@ -128,7 +128,7 @@ loaded h v w ps slot victim at n whole there under puts is_victim moves = record
         let q = nth_page ps j in
         let left = victim_left puts q held in
         let gone = subst (IsNoneBefore h w (nth_page ps at)) (one_victim S (unfixed_pages v) victim q is_victim left.1) none_before in
-        let order = leaving_is_order S in
+        let order = eviction_is_order S in
         let later = leaves_later S (length v.frames) ps (under.hottest S (sym (history_of_own_references h whole))) j at before there in
         elim gone [ inl resident ↦ loadable.1 resident.frame resident.holds | inr first ↦ order.irreflexive q (order.transitive q (nth_page ps at) q first later) ]
 

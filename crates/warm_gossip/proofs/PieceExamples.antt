@@ -5,7 +5,7 @@ use Rattle.warm_stamps.specs.declared.Stamp.{Stamp}
 use Rattle.warm_stamps.specs.declared.Reference.{Reference}
 use Rattle.warm_history.specs.declared.hist.Entry.{Entry}
 use Rattle.warm_history.specs.declared.hist.PageHist.TheVariants.{Once, Twice}
-use Rattle.warm_history.specs.ReferenceSets.{ReferenceSet, these}
+use Rattle.warm_history.specs.ReferenceSets.{ReferenceSet, set_of_list}
 use Rattle.warm_history.specs.Histories.{entries_of, history}
 use Rattle.warm_history.specs.Carried.{bucket_entries}
 use Rattle.warm_gossip.specs.Answers.{pieces}
@@ -22,7 +22,7 @@ reference n time = record { page = page n; stamp = at time }
 
 -- the pages 0:1, 0:65 and 0:129 are of bucket 1, and 0:2 is not; the page 0:65 is referenced twice
 abbrev four : ReferenceSet
-four = these (reference 129 10 ∷ reference 65 20 ∷ reference 2 30 ∷ reference 1 40 ∷ reference 65 50 ∷ [])
+four = set_of_list (reference 129 10 ∷ reference 65 20 ∷ reference 2 30 ∷ reference 1 40 ∷ reference 65 50 ∷ [])
 
 abbrev once : ℕ → ℕ → Entry
 once n time = record { page = page n; hist = Once (at time) }

@@ -17,8 +17,8 @@ use Rattle.warm_stamps.proofs.DistinctLemmas.{flipped, all_take, rising_filter}
 use Rattle.warm_stamps.proofs.StampLemmas.{page_order}
 use Rattle.warm_history.specs.declared.hist.Entry.{Entry}
 use Rattle.warm_history.specs.ReferenceSets.{ReferenceSet}
-use Rattle.warm_history.specs.Histories.{entries_of, history, PagesRise}
-use Rattle.warm_history.specs.Carried.{bucket_entries, comes_after, is_chosen}
+use Rattle.warm_history.specs.Histories.{entries_of, history, PagesAscend}
+use Rattle.warm_history.specs.Carried.{bucket_entries, comes_after, is_next_in_bucket}
 use Rattle.warm_history.proofs.HistoryLemmas.{IsHistory-history}
 use Rattle.warm_history.proofs.CarriedLemmas.{history-carried}
 use Rattle.warm_frames.proofs.FieldLemmas.{less_is}
@@ -31,7 +31,7 @@ later after = filter (λ e. comes_after after e.page)
 
 -- those that are of the bucket, too
 abbrev chosen : ℕ → Option PageId → List Entry → List Entry
-chosen bucket after = filter (λ e. is_chosen bucket after e.page)
+chosen bucket after = filter (λ e. is_next_in_bucket bucket after e.page)
 
 -- ---- the last page of some entries
 
@@ -46,7 +46,7 @@ all_later p [] all = refl
 all_later p (x ∷ es) all = rw all.0 (ap (λ t. x ∷ t) (all_later p es all.1))
 
 -- of rising entries those after the last page of the first ones are the others
-later-drop : (n : ℕ) (e : Entry) (es : List Entry) → PagesRise (e ∷ es) → later (last_page (take (suc n) (e ∷ es))) (e ∷ es) ≡ drop (suc n) (e ∷ es)
+later-drop : (n : ℕ) (e : Entry) (es : List Entry) → PagesAscend (e ∷ es) → later (last_page (take (suc n) (e ∷ es))) (e ∷ es) ≡ drop (suc n) (e ∷ es)
 later-drop zero e es rise = rw (tied_itself page_order.total e.page) (all_later e.page es rise.0)
 later-drop (suc n) e [] rise = rw (tied_itself page_order.total e.page) refl
 later-drop (suc n) e (f ∷ es) rise =
@@ -75,12 +75,12 @@ chosen-later bucket after q first (e ∷ es) = cases (page_bucket e.page == buck
     cases true false false is too rest = rest
 
 all_chosen : (bucket : ℕ) (after : Option PageId) (es : List Entry) → AllByRecursion (λ x. comes_after after x.page ≡ true) (chosen bucket after es)
-all_chosen bucket after es = recursion_from_All (λ e. comes_after after e.page ≡ true) (chosen bucket after es) (All-weaker (λ e. is_chosen bucket after e.page ≡ true) (λ e. comes_after after e.page ≡ true)
-    (λ e passes. (and_parts (page_bucket e.page == bucket) (comes_after after e.page) passes).1) (chosen bucket after es) (filter_passes (λ e. is_chosen bucket after e.page) es))
+all_chosen bucket after es = recursion_from_All (λ e. comes_after after e.page ≡ true) (chosen bucket after es) (All-weaker (λ e. is_next_in_bucket bucket after e.page ≡ true) (λ e. comes_after after e.page ≡ true)
+    (λ e passes. (and_parts (page_bucket e.page == bucket) (comes_after after e.page) passes).1) (chosen bucket after es) (filter_passes (λ e. is_next_in_bucket bucket after e.page) es))
 
 -- all of a bucket are chosen where no page is given
 chosen-first : (bucket : ℕ) (es : List Entry) → bucket_entries bucket es ≡ chosen bucket None es
-chosen-first bucket es = filter_agree (λ e. page_bucket e.page == bucket) (λ e. is_chosen bucket None e.page) (λ e. sym (and-true (page_bucket e.page == bucket))) es
+chosen-first bucket es = filter_agree (λ e. page_bucket e.page == bucket) (λ e. is_next_in_bucket bucket None e.page) (λ e. sym (and-true (page_bucket e.page == bucket))) es
 
 -- ---- pieces
 
@@ -95,7 +95,7 @@ in_turn_from S bucket size (suc n) after [] is few = piece_is S bucket (suc size
 in_turn_from S bucket size (suc n) after (x ∷ xs) is few =
     let es : List Entry = x ∷ xs in
     let all = entries_of (history S) in
-    let rise : PagesRise es = subst PagesRise (sym is) (rising_filter (on (λ e. e.page) page_cmp) (λ e. is_chosen bucket after e.page) all (IsHistory-history S).pages_rise) in
+    let rise : PagesAscend es = subst PagesAscend (sym is) (rising_filter (on (λ e. e.page) page_cmp) (λ e. is_next_in_bucket bucket after e.page) all (IsHistory-history S).pages_ascend) in
     let each : AllByRecursion (λ e. comes_after after e.page ≡ true) es = subst (AllByRecursion (λ e. comes_after after e.page ≡ true)) (sym is) (all_chosen bucket after all) in
     let last = last_has (λ p. comes_after after p ≡ true) x (take size xs) (all_take (λ e. comes_after after e.page ≡ true) (suc size) es each) in
     let others : drop (suc size) es ≡ chosen bucket (last_page (take (suc size) es)) all =

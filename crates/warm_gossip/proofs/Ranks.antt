@@ -14,16 +14,16 @@ use Rattle.warm_stamps.proofs.StampLemmas.{page_order}
 use Rattle.warm_history.specs.declared.hist.Entry.{Entry}
 use Rattle.warm_history.specs.declared.hist.PageHist.{PageHist}
 use Rattle.warm_history.specs.KeptEntries.{kept_hist}
-use Rattle.warm_history.specs.ReferenceSets.{ReferenceSet, recent, references, these, ◌∪◌}
-use Rattle.warm_history.specs.ListHistories as list
-use Rattle.warm_history.specs.Histories.{HistoryView, IsHistory, holding_since, first_two, hist, history, entries_of, entry_refs, refs}
+use Rattle.warm_history.specs.ReferenceSets.{ReferenceSet, references_from, references, set_of_list, ◌∪◌}
+use Rattle.warm_history.specs.ListHistories.{list_references_of, list_hist}
+use Rattle.warm_history.specs.Histories.{HistoryView, IsHistory, history_of_entries_at, first_two, hist, history, entries_of, references_of_entry, references_of}
 use Rattle.warm_history.proofs.KeptLemmas.{hist-kept}
 use Rattle.warm_history.proofs.ListHistoryLemmas.{told, told-append, told_entry}
 use Rattle.warm_history.proofs.HistoryLemmas.{hist_refs-history, references-refs}
 use Rattle.warm_history.proofs.JoinLemmas.{history_of_own_references}
 use Rattle.warm_rank.specs.Keys.{rank_key}
 use Rattle.warm_rank.specs.WarmUp.{IsWarmUp}
-use Rattle.warm_rank.proofs.LeavingLemmas.{order_kept, rank_alike}
+use Rattle.warm_rank.proofs.LeavingLemmas.{truncation_keeps_order, rank_alike}
 use Rattle.warm_pool.specs.Frames.{nth_frame}
 use Rattle.warm_pool.specs.Refreshing.{AgreeOutside}
 use Rattle.warm_pool.specs.State.{PoolState, RankedBy}
@@ -41,53 +41,53 @@ untold (r ∷ T) p unnamed =
     rw (differs r.page p (λ is. unnamed (0, omega arith, is))) (untold T p (λ has. unnamed (suc has.0, omega arith, has.2)))
 
 -- nor a page without an entry
-untold_entries : (es : List Entry) (p : PageId) → (Contains (map (λ e. e.page) es) p → ⊥) → told (list.refs es) p ≡ []
+untold_entries : (es : List Entry) (p : PageId) → (Contains (map (λ e. e.page) es) p → ⊥) → told (list_references_of es) p ≡ []
 untold_entries [] p unnamed = refl
 untold_entries (e ∷ es) p unnamed =
-    told-append (entry_refs e) (list.refs es) p
-    ∙ ap (λ ss. ss ++ told (list.refs es) p) (told_entry e.page e.hist p)
+    told-append (references_of_entry e) (list_references_of es) p
+    ∙ ap (λ ss. ss ++ told (list_references_of es) p) (told_entry e.page e.hist p)
     ∙ (rw (differs e.page p (λ is. unnamed (0, omega arith, is))) (untold_entries es p (λ has. unnamed (suc has.0, omega arith, has.2))))
 
 pub no_greater : (a b : ℕ) → b ≤ a → max a b ≡ a
 no_greater a b le = omega (arith, le)
 
 -- references without a stamp of a page, and without a later horizon, change nothing about it
-hist_as_before : (S T : ReferenceSet) (p : PageId) → T.horizon ≤ S.horizon → told T.told p ≡ [] → hist S p ≡ hist (refs (history (S ∪ T))) p
+hist_as_before : (S T : ReferenceSet) (p : PageId) → T.horizon ≤ S.horizon → told T.given p ≡ [] → hist S p ≡ hist (references_of (history (S ∪ T))) p
 hist_as_before S T p le none =
     sym (hist_refs-history (S ∪ T) p
-    ∙ ap (λ m. list.hist (recent m (S.told ++ T.told)) p) (no_greater S.horizon T.horizon le)
-    ∙ hist-kept S.horizon (S.told ++ T.told) p
-    ∙ ap (λ ss. option_and_then (kept_hist S.horizon) (first_two (distinct (flip_args stamp_cmp) ss))) (told-append S.told T.told p ∙ ap (λ ss. told S.told p ++ ss) none ∙ append-nil (told S.told p))
-    ∙ sym (hist-kept S.horizon S.told p))
+    ∙ ap (λ m. list_hist (references_from m (S.given ++ T.given)) p) (no_greater S.horizon T.horizon le)
+    ∙ hist-kept S.horizon (S.given ++ T.given) p
+    ∙ ap (λ ss. option_and_then (kept_hist S.horizon) (first_two (distinct (flip_args stamp_cmp) ss))) (told-append S.given T.given p ∙ ap (λ ss. told S.given p ++ ss) none ∙ append-nil (told S.given p))
+    ∙ sym (hist-kept S.horizon S.given p))
 
 -- a history that takes references in agrees with itself outside their pages
-pub absorbed_agrees : (h : HistoryView) (batch : List Reference) → AgreeOutside (map (λ r. r.page) batch) h (history (refs h ∪ these batch))
-absorbed_agrees h batch p unnamed = hist_as_before (refs h) (these batch) p (omega arith) (untold batch p unnamed)
+pub absorbed_agrees : (h : HistoryView) (batch : List Reference) → AgreeOutside (map (λ r. r.page) batch) h (history (references_of h ∪ set_of_list batch))
+absorbed_agrees h batch p unnamed = hist_as_before (references_of h) (set_of_list batch) p (omega arith) (untold batch p unnamed)
 
 -- and one that takes entries in, of no later horizon, outside the pages of these
-pub joined_agrees : (h : HistoryView) (horizon : ℕ) (es : List Entry) → horizon ≤ h.horizon → AgreeOutside (map (λ e. e.page) es) h (history (refs h ∪ refs (holding_since horizon es)))
-joined_agrees h horizon es le p unnamed = hist_as_before (refs h) (refs (holding_since horizon es)) p le (untold_entries es p unnamed)
+pub joined_agrees : (h : HistoryView) (horizon : ℕ) (es : List Entry) → horizon ≤ h.horizon → AgreeOutside (map (λ e. e.page) es) h (history (references_of h ∪ references_of (history_of_entries_at horizon es)))
+joined_agrees h horizon es le p unnamed = hist_as_before (references_of h) (references_of (history_of_entries_at horizon es)) p le (untold_entries es p unnamed)
 
 -- ---- the same entries at another horizon
 
 -- histories with the same entries agree on each page, whatever their horizons
-hist_of_entries : (h g : HistoryView) → IsHistory h → IsHistory g → entries_of g ≡ entries_of h → (p : PageId) → hist (refs h) p ≡ hist (refs g) p
+hist_of_entries : (h g : HistoryView) → IsHistory h → IsHistory g → entries_of g ≡ entries_of h → (p : PageId) → hist (references_of h) p ≡ hist (references_of g) p
 hist_of_entries h g whole later same p =
-    let kept : references (refs h) ≡ references (refs g) = references-refs h whole ∙ sym (ap list.refs same) ∙ sym (references-refs g later) in
+    let kept : references (references_of h) ≡ references (references_of g) = references-refs h whole ∙ sym (ap list_references_of same) ∙ sym (references-refs g later) in
     ap (λ rs. first_two (distinct (flip_args stamp_cmp) (map (λ r. r.stamp) (filter (λ r. is_eq (page_cmp r.page p)) rs)))) kept
 
 -- so they rank a pool equally
-ranked_by_entries : (s : PoolState) (h g : HistoryView) → ((p : PageId) → hist (refs h) p ≡ hist (refs g) p) → RankedBy s h → RankedBy s g
+ranked_by_entries : (s : PoolState) (h g : HistoryView) → ((p : PageId) → hist (references_of h) p ≡ hist (references_of g) p) → RankedBy s h → RankedBy s g
 ranked_by_entries s h g alike ranked i =
     ranked i ∙ ap (λ (f : PageId → Option PageHist). option_map (λ p. rank_key p (f p)) (nth_frame s.frames i).page) (λ j p. alike p j)
 
 -- and have the same warm-up lists
-list_of_entries : (h g : HistoryView) (n : ℕ) (ps : List PageId) → IsHistory h → ((p : PageId) → hist (refs h) p ≡ hist (refs g) p) → IsWarmUp h n ps → IsWarmUp g n ps
+list_of_entries : (h g : HistoryView) (n : ℕ) (ps : List PageId) → IsHistory h → ((p : PageId) → hist (references_of h) p ≡ hist (references_of g) p) → IsWarmUp h n ps → IsWarmUp g n ps
 list_of_entries h g n ps whole alike hottest S stands =
-    hottest (refs h) (sym (history_of_own_references h whole)) ∙ (rank_alike (refs h) (refs g) alike).warm_alike n ∙ (order_kept g S stands).warm_alike n
+    hottest (references_of h) (sym (history_of_own_references h whole)) ∙ (rank_alike (references_of h) (references_of g) alike).warm_alike n ∙ (truncation_keeps_order g S stands).warm_alike n
 
 -- what is kept of a warm-up
-warming_by_entries : (h g : HistoryView) (v : PoolView) (x : WarmUp) → IsHistory h → ((p : PageId) → hist (refs h) p ≡ hist (refs g) p) → IsWarming h v x → IsWarming g v x
+warming_by_entries : (h g : HistoryView) (v : PoolView) (x : WarmUp) → IsHistory h → ((p : PageId) → hist (references_of h) p ≡ hist (references_of g) p) → IsWarming h v x → IsWarming g v x
 warming_by_entries h g v x whole alike under = elim x.pages as (λ o. IfSome o (λ ps. IsUnderWay h v ps.items x.passed) → IfSome o (λ ps. IsUnderWay g v ps.items x.passed)) [
   | None ↦ λ none. none
   | Some ps ↦ λ u. record { hottest = list_of_entries h g (length v.frames) ps.items whole alike u.hottest; past = u.past }

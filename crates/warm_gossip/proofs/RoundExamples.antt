@@ -3,11 +3,11 @@
 use Rattle.std.proofs.Common.{◌≡◌, [], ◌∷◌, ◌++◌, List, refl}
 use Rattle.warm_history.specs.declared.hist.Entry.{Entry}
 use Rattle.warm_history.specs.declared.hist.PageHist.TheVariants.{Once}
-use Rattle.warm_history.specs.Histories.{HistoryView, holding, holding_since, history, join}
+use Rattle.warm_history.specs.Histories.{HistoryView, history_of_entries, history_of_entries_at, history, join}
 use Rattle.warm_frames.specs.declared.message.Message.{Message}
 use Rattle.warm_frames.specs.declared.message.Message.TheVariants.{Entries, Want}
-use Rattle.warm_gossip.specs.Answers.{buckets_in, taught, requested_messages}
-use Rattle.warm_gossip.specs.Round.{Hears, offer}
+use Rattle.warm_gossip.specs.Answers.{buckets_in, history_after, requested_messages}
+use Rattle.warm_gossip.specs.Round.{Receives, offer}
 
 -- the page 0:1, referenced at 10 by replica 1, and the page 0:2, referenced at 11 by replica 2
 abbrev one : Entry
@@ -17,13 +17,13 @@ abbrev two : Entry
 two = record { page = record { dev = 0; no = 2 }; hist = Once (record { time = 11; replica = 2 }) }
 
 abbrev primary : HistoryView
-primary = holding (one ∷ [])
+primary = history_of_entries (one ∷ [])
 
 abbrev standby : HistoryView
-standby = holding (two ∷ [])
+standby = history_of_entries (two ∷ [])
 
 abbrev both : HistoryView
-both = holding (one ∷ two ∷ [])
+both = history_of_entries (one ∷ two ∷ [])
 
 -- what replica 2 answers to digests from which its own differ in the buckets 1 and 2, which is the request 6
 abbrev asked : List Message
@@ -37,12 +37,12 @@ asked_is = refl
 abbrev given : List Message
 given = Entries 1 0 (one ∷ []) ∷ Entries 1 0 (two ∷ []) ∷ []
 
-heard : Hears 1 primary asked given both
+heard : Receives 1 primary asked given both
 unfolding history buckets_in
 heard = ([], given, refl, (given, [], refl, (refl, refl), refl), refl)
 
 -- and replica 2 has nothing to say to these
-back : Hears 2 standby given [] both
+back : Receives 2 standby given [] both
 unfolding history
 back = ([], [], refl, ([], [], refl, (refl, refl), refl), refl)
 
@@ -53,10 +53,10 @@ join_is = refl
 -- The same where replica 2 has the horizon 11: the first page is too old for it, and replica 1
 -- forgets it when it receives that horizon.
 abbrev later : HistoryView
-later = holding_since 11 (two ∷ [])
+later = history_of_entries_at 11 (two ∷ [])
 
 -- what was offered without a horizon changes nothing
-offered : taught later (offer 1 primary) ≡ later
+offered : history_after later (offer 1 primary) ≡ later
 unfolding history
 offered = refl
 
@@ -70,11 +70,11 @@ asked_later_is = refl
 abbrev given_later : List Message
 given_later = Entries 1 11 (two ∷ []) ∷ []
 
-heard_later : Hears 1 primary asked_later given_later later
+heard_later : Receives 1 primary asked_later given_later later
 unfolding history buckets_in
 heard_later = ([], given_later, refl, (given_later, [], refl, (refl, refl), refl), refl)
 
-back_later : Hears 2 later given_later [] later
+back_later : Receives 2 later given_later [] later
 unfolding history
 back_later = ([], [], refl, (refl, refl), refl)
 

@@ -1,19 +1,19 @@
 -- What a call does to the history and to the pages in the frames, and which page leaves.
 use Rattle.std.proofs.Common.{◌≡◌, ◌≢◌, ◌⊎◌, ◌<◌, ℕ, List, [], Option, Some, None, length, set, get_or, refl, sym, ap, subst, ◌∙◌, inl, inr}
 use Rattle.warm_stamps.specs.declared.PageId.{PageId}
-use Rattle.warm_history.specs.ReferenceSets.{ReferenceSet, these, ◌∪◌}
-use Rattle.warm_history.specs.Histories.{HistoryView, StandsFor, history, holding, refs}
+use Rattle.warm_history.specs.ReferenceSets.{ReferenceSet, set_of_list, ◌∪◌}
+use Rattle.warm_history.specs.Histories.{HistoryView, StandsFor, history, history_of_entries, references_of}
 use Rattle.warm_history.proofs.JoinLemmas.{history_first}
 use Rattle.warm_rank.specs.Ranking.{IsVictim}
 use Rattle.warm_rank.specs.Laws.{IsFarthest}
-use Rattle.warm_rank.proofs.LeavingLemmas.{order_kept}
+use Rattle.warm_rank.proofs.LeavingLemmas.{truncation_keeps_order}
 use Rattle.warm_rank.proofs.VictimLemmas.{victim_is_farthest}
 use Rattle.warm_pool.specs.declared.slot.Slot.{Slot}
 use Rattle.warm_pool.specs.declared.fault.PoolFault.{PoolFault}
 use Rattle.warm_pool.specs.declared.fault.PoolFault.TheVariants.{NoDevice, NoPage, AllFixed, ReadFault, WriteBack, FixesFull, OutOfPage, Fixed, Fault}
 use Rattle.warm_pool.specs.View.{PoolView, FrameView, frame_at, unfixed_pages}
 use Rattle.warm_pool.specs.Keeping.{FailsAt}
-use Rattle.warm_pool.specs.Pinning.{AddsFix, IsFull, PutsIn, PutRefused, LoadRefused, PinRefused}
+use Rattle.warm_pool.specs.Pinning.{AddsFix, HasNoFreeFrame, PutsIn, PutRefused, LoadRefused, PinRefused}
 use Rattle.warm_pool.proofs.Slots.{at_set}
 use Rattle.warm_gossip.specs.declared.call.Call.{Call}
 use Rattle.warm_gossip.specs.declared.call.Call.TheVariants.{Absorb, Send, Offer, Receive, Horizon, Pin, Unpin, Read, Write, Victim, WarmList, WarmStep, Restart}
@@ -24,8 +24,8 @@ use Rattle.warm_gossip.specs.declared.fault.NodeFault.TheVariants.{Memory, Pool,
 use Rattle.warm_gossip.specs.Answers.{refs_in}
 use Rattle.warm_gossip.specs.State.{NodeView}
 use Rattle.warm_gossip.specs.Step.{Step, Refuses}
-use Rattle.warm_gossip.specs.Told.{told_by}
-use Rattle.warm_gossip.specs.Victims.{Leaves, VictimsAreFarthest, RepliesAreOverReferences}
+use Rattle.warm_gossip.specs.Given.{given_by_call}
+use Rattle.warm_gossip.specs.Victims.{IsEvicted, VictimsAreFarthest, RepliesAreOverReferences}
 
 -- what is read of a frame beyond the last
 abbrev pub no_frame : FrameView
@@ -102,7 +102,7 @@ refused old new call why impossible = absurd impossible
 
 -- ---- what a call does to the history, and to the pages in the frames
 
-none_given : holding [] ≡ history (these [])
+none_given : history_of_entries [] ≡ history (set_of_list [])
 unfolding history
 none_given = refl
 
@@ -120,17 +120,17 @@ leads_alone S call old new is (alone, keeps) = (ap (λ n. n.history) alone ∙ i
 leads_same : (S : ReferenceSet) (call : Call) (old new : NodeView) → old.history ≡ history S → new ≡ old → Leads S call old new
 leads_same S call old new is same = leads_alone S call old new is (none_changed old new same)
 
-leads_taught : (S T : ReferenceSet) (call : Call) (old new : NodeView) → old.history ≡ history S → new ≡ record old { history = history (refs old.history ∪ T) } → Leads (S ∪ T) call old new
+leads_taught : (S T : ReferenceSet) (call : Call) (old new : NodeView) → old.history ≡ history S → new ≡ record old { history = history (references_of old.history ∪ T) } → Leads (S ∪ T) call old new
 leads_taught S T call old new is step =
-    (ap (λ n. n.history) step ∙ ap (λ h. history (refs h ∪ T)) is ∙ history_first S T, λ other. inl (same_pool old.pool new.pool (ap (λ n. n.pool) step)))
+    (ap (λ n. n.history) step ∙ ap (λ h. history (references_of h ∪ T)) is ∙ history_first S T, λ other. inl (same_pool old.pool new.pool (ap (λ n. n.pool) step)))
 
 -- a call leads to the history of the references given before and of those that it gives
-pub step_leads : (S : ReferenceSet) (call : Call) (reply : Reply) (old new : NodeView) → old.history ≡ history S → Step old call reply new → Leads (told_by S call reply) call old new
-step_leads S (Absorb batch) Done old new is step = leads_taught S (these batch) (Absorb batch) old new is step
+pub step_leads : (S : ReferenceSet) (call : Call) (reply : Reply) (old new : NodeView) → old.history ≡ history S → Step old call reply new → Leads (given_by_call S call reply) call old new
+step_leads S (Absorb batch) Done old new is step = leads_taught S (set_of_list batch) (Absorb batch) old new is step
 step_leads S (Send bucket after) (Sent message) old new is step = leads_same S (Send bucket after) old new is step.1
 step_leads S Offer (Sent message) old new is step = leads_same S Offer old new is step.1
 step_leads S (Receive message) (Answers messages) old new is step = leads_taught S (refs_in message) (Receive message) old new is step.1
-step_leads S (Horizon time) (Kept horizon) old new is step = leads_taught S (record { horizon = time; told = [] }) (Horizon time) old new is step.0
+step_leads S (Horizon time) (Kept horizon) old new is step = leads_taught S (record { horizon = time; given = [] }) (Horizon time) old new is step.0
 step_leads S (Pin p) (Pinned slot) old new is step = (ap (λ n. n.history) step.0 ∙ is, λ other. pinned old.history old.pool new.pool p slot step.1.1)
 step_leads S (Unpin slot) Done old new is step = (ap (λ n. n.history) step.1 ∙ is, λ other. inl (fixes_change old.pool new.pool slot.index _ step.0.there (ap (λ n. n.pool.frames) step.1)))
 step_leads S (Read slot at len) (Bytes bytes) old new is step = leads_same S (Read slot at len) old new is step.3
@@ -159,19 +159,19 @@ frames_after {h} {v} {w} {p} {fixes} {slot} puts P here others i =
 -- the page of the frame into which another was loaded was the victim among the unpinned pages, and
 -- every frame had a page
 pub victim_left : {h : HistoryView} {v w : PoolView} {p : PageId} {fixes : ℕ} {slot : Slot} → PutsIn h v p fixes slot w → (q : PageId) → (frame_at v slot.index).page ≡ Some q
-    → IsFull v × IsVictim (refs h) (unfixed_pages v) (Some q)
+    → HasNoFreeFrame v × IsVictim (references_of h) (unfixed_pages v) (Some q)
 victim_left {h} {v} puts q held = elim puts.place [
   | inl free ↦ let no : None ≡ Some q = sym free.free ∙ held in absurd (cc)
-  | inr victim ↦ (victim.full, subst (λ o. IsVictim (refs h) (unfixed_pages v) o) (sym victim.holds ∙ held) victim.victim)
+  | inr victim ↦ (victim.full, subst (λ o. IsVictim (references_of h) (unfixed_pages v) o) (sym victim.holds ∙ held) victim.victim)
 ]
 
 -- a page that leaves was in that frame
-leaves_as_victim : {h : HistoryView} {v w : PoolView} {p : PageId} {fixes : ℕ} {slot : Slot} → PutsIn h v p fixes slot w → (q : PageId) → Leaves v w q → IsVictim (refs h) (unfixed_pages v) (Some q)
+leaves_as_victim : {h : HistoryView} {v w : PoolView} {p : PageId} {fixes : ℕ} {slot : Slot} → PutsIn h v p fixes slot w → (q : PageId) → IsEvicted v w q → IsVictim (references_of h) (unfixed_pages v) (Some q)
 leaves_as_victim {h} {v} puts q (was, gone) =
-    frames_after puts (λ i f. (frame_at v i).page ≡ Some q → f.page ≢ Some q → IsVictim (refs h) (unfixed_pages v) (Some q))
+    frames_after puts (λ i f. (frame_at v i).page ≡ Some q → f.page ≢ Some q → IsVictim (references_of h) (unfixed_pages v) (Some q))
     (λ held other. (victim_left puts q held).1) (λ j other held none. absurd (none held)) was.frame was.holds (gone was.frame)
 
-leaves_farthest : (S : ReferenceSet) (h : HistoryView) (v w : PoolView) → StandsFor h S → KeepsPages v w ⊎ PutsPage h v w → (q : PageId) → Leaves v w q → IsFarthest S (unfixed_pages v) q
+leaves_farthest : (S : ReferenceSet) (h : HistoryView) (v w : PoolView) → StandsFor h S → KeepsPages v w ⊎ PutsPage h v w → (q : PageId) → IsEvicted v w q → IsFarthest S (unfixed_pages v) q
 leaves_farthest S h v w stands (inl keeps) q (was, gone) = absurd (gone was.frame (keeps was.frame ∙ was.holds))
 leaves_farthest S h v w stands (inr puts) q leaves = victim_is_farthest h S stands (unfixed_pages v) q (leaves_as_victim puts.3 q leaves)
 
@@ -186,12 +186,12 @@ victims_are_farthest S old new call reply stands step = record {
 
 -- ---- what a node answers, over the references for which its history stands
 
-pub victim_over : (h : HistoryView) (S : ReferenceSet) → StandsFor h S → (U : List PageId) (v : Option PageId) → IsVictim (refs h) U v → IsVictim S U v
+pub victim_over : (h : HistoryView) (S : ReferenceSet) → StandsFor h S → (U : List PageId) (v : Option PageId) → IsVictim (references_of h) U v → IsVictim S U v
 victim_over h S stands U None none = none
-victim_over h S stands U (Some v) victim = (victim.0, λ q has other. sym ((order_kept h S stands).leave_alike v q) ∙ victim.1 q has other)
+victim_over h S stands U (Some v) victim = (victim.0, λ q has other. sym ((truncation_keeps_order h S stands).leave_alike v q) ∙ victim.1 q has other)
 
 pub replies_are_over_references : RepliesAreOverReferences
 replies_are_over_references S old new stands = record {
   victim = λ v step. victim_over old.history S stands (unfixed_pages old.pool) v step.0;
-  hottest = λ n ps step. step.0 ∙ (order_kept old.history S stands).warm_alike n;
+  hottest = λ n ps step. step.0 ∙ (truncation_keeps_order old.history S stands).warm_alike n;
 }

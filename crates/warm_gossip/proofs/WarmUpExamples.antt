@@ -5,18 +5,18 @@ use Rattle.std.specs.List.{Contains}
 use Rattle.std.proofs.lemmas.Bool.{false≢true}
 use Rattle.warm_stamps.specs.declared.PageId.{PageId}
 use Rattle.warm_stamps.specs.declared.Reference.{Reference}
-use Rattle.warm_history.specs.ReferenceSets.{ReferenceSet, these}
-use Rattle.warm_history.specs.Histories.{history, refs}
-use Rattle.warm_rank.specs.Ranking.{leaving_cmp, IsBefore, IsVictim, warm}
+use Rattle.warm_history.specs.ReferenceSets.{ReferenceSet, set_of_list}
+use Rattle.warm_history.specs.Histories.{history, references_of}
+use Rattle.warm_rank.specs.Ranking.{eviction_cmp, IsBefore, IsVictim, hottest_pages}
 use Rattle.warm_pool.specs.View.{PoolView, FrameView, DeviceView, device_at, contents_at, frame_at, is_page, IsAbsent}
 use Rattle.warm_pool.specs.Keeping.{KeepsContents}
-use Rattle.warm_pool.specs.Pinning.{IsFull, PutsIn}
+use Rattle.warm_pool.specs.Pinning.{HasNoFreeFrame, PutsIn}
 use Rattle.warm_pool.proofs.Bytes.{found_page}
 use Rattle.warm_gossip.specs.declared.call.Call.TheVariants.{WarmStep}
 use Rattle.warm_gossip.specs.declared.call.Reply.TheVariants.{Loaded}
 use Rattle.warm_gossip.specs.State.{NodeView}
 use Rattle.warm_gossip.specs.Step.{IsLoadable, IsNextWarm, Step, nth_page}
-use Rattle.warm_gossip.specs.Victims.{Leaves}
+use Rattle.warm_gossip.specs.Victims.{IsEvicted}
 use Rattle.warm_gossip.specs.WarmUps.{WarmSteps}
 
 -- the page 0:n, and a reference to it at a time
@@ -28,10 +28,10 @@ seen n time = record { page = page n; stamp = record { time = time; replica = 1 
 
 -- 0:2 is hotter than 0:1, and 0:0 is the coldest
 abbrev heated : ReferenceSet
-heated = these (seen 0 1 ∷ seen 1 2 ∷ seen 1 3 ∷ seen 2 4 ∷ seen 2 5 ∷ [])
+heated = set_of_list (seen 0 1 ∷ seen 1 2 ∷ seen 1 3 ∷ seen 2 4 ∷ seen 2 5 ∷ [])
 
-two_hottest : warm heated 2 ≡ page 2 ∷ page 1 ∷ []
-unfolding leaving_cmp
+two_hottest : hottest_pages heated 2 ≡ page 2 ∷ page 1 ∷ []
+unfolding eviction_cmp
 two_hottest = refl
 
 -- ---- two frames over a device of three pages of one byte
@@ -96,7 +96,7 @@ keeps first second m n g k one other = record {
 -- ---- the first step puts 0:2 into the free frame
 
 next_is_2 : IsNextWarm cold (Some (page 2))
-unfolding leaving_cmp history
+unfolding eviction_cmp history
 next_is_2 = (0, omega arith, refl, (record { device = omega arith; number = omega arith }, away (held 0 1) free (page 2) refl refl), λ j lt. absurd (omega (arith, lt)))
 
 puts_2 : PutsIn (history heated) (pool (held 0 1) free) (page 2) 0 (record { index = 1; generation = 1 }) (pool (held 0 1) (held 2 1))
@@ -119,20 +119,20 @@ first_step = (next_is_2, (refl, (record { index = 1; generation = 1 }, puts_2)))
 -- ---- the second puts 0:1 into the frame of 0:0, the victim
 
 next_is_1 : IsNextWarm warmer (Some (page 1))
-unfolding leaving_cmp history
+unfolding eviction_cmp history
 next_is_1 = (1, omega arith, refl, (record { device = omega arith; number = omega arith }, away (held 0 1) (held 2 1) (page 1) refl refl), not_before)
   where
     not_before : (j : ℕ) → j < 1 → IsLoadable (pool (held 0 1) (held 2 1)) (nth_page (page 2 ∷ page 1 ∷ []) j) → ⊥
     not_before zero lt loadable = loadable.1 1 refl
     not_before (suc j) lt loadable = absurd (omega (arith, lt))
 
-victim_is_0 : IsVictim (refs (history heated)) (page 0 ∷ page 2 ∷ []) (Some (page 0))
-unfolding leaving_cmp history
+victim_is_0 : IsVictim (references_of (history heated)) (page 0 ∷ page 2 ∷ []) (Some (page 0))
+unfolding eviction_cmp history
 victim_is_0 = ((0, omega arith, refl), others)
   where
-    others : (q : PageId) → Contains (page 0 ∷ page 2 ∷ []) q → q ≢ page 0 → IsBefore (refs (history heated)) (page 0) q
+    others : (q : PageId) → Contains (page 0 ∷ page 2 ∷ []) q → q ≢ page 0 → IsBefore (references_of (history heated)) (page 0) q
     others q (zero, lt, is) differ = absurd (differ (sym is))
-    others q (suc zero, lt, is) differ = subst (IsBefore (refs (history heated)) (page 0)) is refl
+    others q (suc zero, lt, is) differ = subst (IsBefore (references_of (history heated)) (page 0)) is refl
     others q (suc (suc k), lt, is) differ = absurd (omega arith)
 
 puts_1 : PutsIn (history heated) (pool (held 0 1) (held 2 1)) (page 1) 0 (record { index = 0; generation = 2 }) (pool (held 1 2) (held 2 1))
@@ -145,7 +145,7 @@ puts_1 = record {
   contents = keeps (held 0 1) (held 2 1) 1 2 2 1 refl refl;
 }
   where
-    full : IsFull (pool (held 0 1) (held 2 1))
+    full : HasNoFreeFrame (pool (held 0 1) (held 2 1))
     full zero lt is = let never : Some (page 0) ≡ None = is in absurd (cc)
     full (suc zero) lt is = let never : Some (page 2) ≡ None = is in absurd (cc)
     full (suc (suc i)) lt is = absurd (omega (arith, lt))
@@ -157,5 +157,5 @@ two_steps : WarmSteps 2 cold hot
 two_steps = (Some (page 2), warmer, first_step, (Some (page 1), hot, second_step, refl))
 
 -- the page 0:0 left
-page_0_left : Leaves warmer.pool hot.pool (page 0)
+page_0_left : IsEvicted warmer.pool hot.pool (page 0)
 page_0_left = (record { frame = 0; there = omega arith; holds = refl }, away (held 1 2) (held 2 1) (page 0) refl refl)

@@ -18,19 +18,19 @@ use Rattle.warm_stamps.proofs.StampLemmas.{page_order}
 use Rattle.warm_history.specs.ReferenceSets.{ReferenceSet}
 use Rattle.warm_history.specs.Histories.{HistoryView, StandsFor, pages}
 use Rattle.warm_rank.specs.Laws.{pages_in}
-use Rattle.warm_rank.specs.Ranking.{IsVictim, leaving_cmp, warm}
-use Rattle.warm_rank.proofs.LeavingLemmas.{order_kept}
+use Rattle.warm_rank.specs.Ranking.{IsVictim, eviction_cmp, hottest_pages}
+use Rattle.warm_rank.proofs.LeavingLemmas.{truncation_keeps_order}
 use Rattle.warm_pool.specs.declared.slot.Slot.{Slot}
 use Rattle.warm_pool.specs.State.{PoolState, IsPool}
 use Rattle.warm_pool.specs.View.{PoolView, FrameView, frame_at, is_page, HasPage, IsResident, IsAbsent, IsUnfixed, unfixed_page, unfixed_pages, view_of}
-use Rattle.warm_pool.specs.Pinning.{IsFull, PutsIn}
+use Rattle.warm_pool.specs.Pinning.{HasNoFreeFrame, PutsIn}
 use Rattle.warm_pool.proofs.Bytes.{page_found, found_page, frame_seen}
 use Rattle.warm_gossip.specs.declared.call.Call.TheVariants.{WarmStep}
 use Rattle.warm_gossip.specs.declared.call.Reply.TheVariants.{Loaded, Refused}
 use Rattle.warm_gossip.specs.State.{NodeView}
 use Rattle.warm_gossip.specs.Step.{IsFirstLoadable, IsLoadable, IsNextWarm, Step, nth_page}
 use Rattle.warm_gossip.specs.WarmingUp.{IsPast}
-use Rattle.warm_gossip.specs.WarmUps.{PagesDiffer, WarmSteps, WarmStepKeepsHottest, WarmUpLoads}
+use Rattle.warm_gossip.specs.WarmUps.{PagesDiffer, WarmSteps, WarmStepKeepsHottest, NodeWarmUpLoads}
 use Rattle.warm_gossip.proofs.HottestLemmas.{has_contains, after_listed}
 use Rattle.warm_gossip.proofs.Ranks.{differs}
 use Rattle.warm_gossip.proofs.VictimLemmas.{no_frame, frames_after, none_changed, refused, victim_left, victim_over}
@@ -73,7 +73,7 @@ same_page p q = (λ tied. page_order.same p q (is_equal (page_cmp p q) tied), λ
 
 -- Where every frame has a page and each page is in one frame, no list of as many pages as there are frames has all of these and one
 -- more.
-crowded : (v : PoolView) → PagesDiffer v → IsFull v → (q : PageId) → IsAbsent v q → (ps : List PageId) → length ps ≤ length v.frames → Contains ps q
+crowded : (v : PoolView) → PagesDiffer v → HasNoFreeFrame v → (q : PageId) → IsAbsent v q → (ps : List PageId) → length ps ≤ length v.frames → Contains ps q
     → ((i : ℕ) (r : PageId) → (frame_at v i).page ≡ Some r → Contains ps r) → ⊥
 crowded v differ full q absent ps few listed within =
     let more = length-le_from_is_member (eq_by_cmp_equiv page_order.total) (q ∷ held) ps (IsDistinct-from_apart (eq_by_cmp page_cmp) (q ∷ held) apart)
@@ -113,21 +113,21 @@ record IsWarming (S : ReferenceSet) (n : ℕ) (s : NodeView) : Type 0 where
   count : length s.pool.frames ≡ n
 
 -- the pages of the list cannot be more than the frames
-few_listed : (S : ReferenceSet) (n : ℕ) → length (warm S n) ≤ n
-few_listed S n = omega (arith, length-take n (distinct (flip_args (leaving_cmp S)) (pages S)))
+few_listed : (S : ReferenceSet) (n : ℕ) → length (hottest_pages S n) ≤ n
+few_listed S n = omega (arith, length-take n (distinct (flip_args (eviction_cmp S)) (pages S)))
 
 -- the page r is in the list, where the page p of the list leaves and r does not leave before it
-victim_last : (S : ReferenceSet) (n : ℕ) (U : List PageId) (p : PageId) → IsVictim S U (Some p) → Contains (warm S n) p → (r : PageId) → Contains U r → Contains (warm S n) r
+victim_last : (S : ReferenceSet) (n : ℕ) (U : List PageId) (p : PageId) → IsVictim S U (Some p) → Contains (hottest_pages S n) p → (r : PageId) → Contains U r → Contains (hottest_pages S n) r
 victim_last S n U p victim listed r has = elim (held_or_not p (Some r)) [
-  | inl is ↦ let same : r ≡ p = cc in subst (Contains (warm S n)) (sym same) listed
+  | inl is ↦ let same : r ≡ p = cc in subst (Contains (hottest_pages S n)) (sym same) listed
   | inr other ↦ after_listed S n p r listed (victim.1 r has (λ is. other (ap Some is)))
 ]
 
 -- While no page is pinned, a page of the list stays in its frame where another page of the list is
 -- loaded: if it left, it was the victim, so that all resident pages are in the list, and the other
 -- too, which are too many.
-stays : (S : ReferenceSet) (n : ℕ) (s : NodeView) {w : PoolView} {q : PageId} {slot : Slot} → IsWarming S n s → PutsIn s.history s.pool q 0 slot w → Contains (warm S n) q
-    → (p : PageId) → Contains (warm S n) p → (i : ℕ) → (frame_at s.pool i).page ≡ Some p → (frame_at w i).page ≡ Some p
+stays : (S : ReferenceSet) (n : ℕ) (s : NodeView) {w : PoolView} {q : PageId} {slot : Slot} → IsWarming S n s → PutsIn s.history s.pool q 0 slot w → Contains (hottest_pages S n) q
+    → (p : PageId) → Contains (hottest_pages S n) p → (i : ℕ) → (frame_at s.pool i).page ≡ Some p → (frame_at w i).page ≡ Some p
 stays S n s {w} {q} {slot} warming puts new p listed =
     frames_after puts (λ i f. (frame_at s.pool i).page ≡ Some p → f.page ≡ Some p) (λ held. absurd (too_many held)) (λ j other held. held)
   where
@@ -136,7 +136,7 @@ stays S n s {w} {q} {slot} warming puts new p listed =
         let U = unfixed_pages s.pool in
         let left = victim_left puts p held in
         let last = victim_last S n U p (victim_over s.history S warming.stands U (Some p) left.1) listed in
-        crowded s.pool warming.differ left.0 q puts.absent (warm S n) (omega (arith, few_listed S n, warming.count)) new
+        crowded s.pool warming.differ left.0 q puts.absent (hottest_pages S n) (omega (arith, few_listed S n, warming.count)) new
         (λ i r is. last r (has_contains U r (unfixed_has s.pool.frames warming.unfixed i r is)))
 
 -- there are as many frames as before
@@ -159,21 +159,21 @@ differ_after {h} {v} {w} {q} {slot} puts differ i j p first =
 record Advances (S : ReferenceSet) (n k : ℕ) (old new : NodeView) : Type 0 where
   warming : IsWarming S n new
   devices : new.pool.devices ≡ old.pool.devices
-  past : IsPast (warm S n) (suc k) new.pool
+  past : IsPast (hottest_pages S n) (suc k) new.pool
 
 -- the page to load next is one of the list
-next_listed : (S : ReferenceSet) (n : ℕ) (s : NodeView) (next : Option PageId) → IsWarming S n s → IsNextWarm s next → IsFirstLoadable s.pool (warm S n) next
+next_listed : (S : ReferenceSet) (n : ℕ) (s : NodeView) (next : Option PageId) → IsWarming S n s → IsNextWarm s next → IsFirstLoadable s.pool (hottest_pages S n) next
 next_listed S n s next warming first =
-    subst (λ ps. IsFirstLoadable s.pool ps next) ((order_kept s.history S warming.stands).warm_alike (length s.pool.frames) ∙ ap (warm S) warming.count) first
+    subst (λ ps. IsFirstLoadable s.pool ps next) ((truncation_keeps_order s.history S warming.stands).warm_alike (length s.pool.frames) ∙ ap (hottest_pages S) warming.count) first
 
-advance : (S : ReferenceSet) (n k : ℕ) (old new : NodeView) (loaded : Option PageId) → IsWarming S n old → Step old WarmStep (Loaded loaded) new → IsPast (warm S n) k old.pool → Advances S n k old new
+advance : (S : ReferenceSet) (n k : ℕ) (old new : NodeView) (loaded : Option PageId) → IsWarming S n old → Step old WarmStep (Loaded loaded) new → IsPast (hottest_pages S n) k old.pool → Advances S n k old new
 advance S n k old new None warming step past = record {
   warming = subst (IsWarming S n) (sym step.1) warming;
   devices = ap (λ s. s.pool.devices) step.1;
-  past = subst (λ s. IsPast (warm S n) (suc k) s.pool) (sym step.1) (λ j below there. next_listed S n old None warming step.0 j there);
+  past = subst (λ s. IsPast (hottest_pages S n) (suc k) s.pool) (sym step.1) (λ j below there. next_listed S n old None warming step.0 j there);
 }
 advance S n k old new (Some q) warming step past =
-    let list = warm S n in
+    let list = hottest_pages S n in
     let puts = step.1.1.1 in
     let next = next_listed S n old (Some q) warming step.0 in
     let new_listed : Contains list q = subst (Contains list) next.2 (Contains-get_or list next.0 _ next.1) in
@@ -198,19 +198,19 @@ advance S n k old new (Some q) warming step past =
 
 -- ---- as many steps as the list has pages
 
-loads : (S : ReferenceSet) (n m k : ℕ) (old new : NodeView) → IsWarming S n old → WarmSteps m old new → IsPast (warm S n) k old.pool → n ≤ k + m
-    → (p : PageId) → Contains (warm S n) p → HasPage old.pool p → IsResident new.pool p
+loads : (S : ReferenceSet) (n m k : ℕ) (old new : NodeView) → IsWarming S n old → WarmSteps m old new → IsPast (hottest_pages S n) k old.pool → n ≤ k + m
+    → (p : PageId) → Contains (hottest_pages S n) p → HasPage old.pool p → IsResident new.pool p
 loads S n zero k old new warming same past all p listed has = elim (resident_or_absent new.pool p) [
   | inl there ↦ there
   | inr absent ↦
-      let none = All-from_get_or (λ q. IsLoadable old.pool q → ⊥) (warm S n) (record { dev = 0; no = 0 }) (λ j there. past j (omega (arith, there, few_listed S n, all)) there) in
-      absurd (All-contains (λ q. IsLoadable old.pool q → ⊥) (warm S n) p none listed (has, subst (λ s. IsAbsent s.pool p) same absent))
+      let none = All-from_get_or (λ q. IsLoadable old.pool q → ⊥) (hottest_pages S n) (record { dev = 0; no = 0 }) (λ j there. past j (omega (arith, there, few_listed S n, all)) there) in
+      absurd (All-contains (λ q. IsLoadable old.pool q → ⊥) (hottest_pages S n) p none listed (has, subst (λ s. IsAbsent s.pool p) same absent))
 ]
 loads S n (suc m) k old new warming (loaded, next, step, steps) past all p listed has =
     let goes = advance S n k old next loaded warming step past in
     loads S n m (suc k) next new goes.warming steps goes.past (omega (arith, all)) p listed (has_same old.pool next.pool p goes.devices has)
 
-pub warm_up_loads : WarmUpLoads
+pub warm_up_loads : NodeWarmUpLoads
 warm_up_loads S old new stands differ unfixed steps p warm_page =
     let n = length old.pool.frames in
     let warming : IsWarming S n old = record { stands = stands; differ = differ; unfixed = unfixed; count = refl } in
@@ -223,7 +223,7 @@ warm_step_keeps_hottest S old new (Loaded (Some q)) stands differ unfixed step p
     let n = length old.pool.frames in
     let warming : IsWarming S n old = record { stands = stands; differ = differ; unfixed = unfixed; count = refl } in
     let next = next_listed S n old (Some q) warming step.0 in
-    let new_listed : Contains (warm S n) q = subst (Contains (warm S n)) next.2 (Contains-get_or (warm S n) next.0 _ next.1) in
+    let new_listed : Contains (hottest_pages S n) q = subst (Contains (hottest_pages S n)) next.2 (Contains-get_or (hottest_pages S n) next.0 _ next.1) in
     gone was.frame (stays S n old warming step.1.1.1 new_listed p listed was.frame was.holds)
 warm_step_keeps_hottest S old new reply stands differ unfixed step p listed leaves = absurd step
 

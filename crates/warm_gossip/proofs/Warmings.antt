@@ -1,9 +1,9 @@
 -- What loading does of a page that a device has and no frame.
 use Rattle.std.proofs.Common.{◌≡◌, ℕ, List, Option, Some, length, ap, inl, inr, subst, sym, arith}
 use Rattle.warm_stamps.specs.declared.PageId.{PageId}
-use Rattle.warm_history.specs.Histories.{HistoryView, IsHistory, refs}
+use Rattle.warm_history.specs.Histories.{HistoryView, IsHistory, references_of}
 use Rattle.warm_history.proofs.JoinLemmas.{history_of_own_references}
-use Rattle.warm_rank.specs.Ranking.{warm}
+use Rattle.warm_rank.specs.Ranking.{hottest_pages}
 use Rattle.warm_rank.specs.WarmUp.{IsWarmUp}
 use Rattle.warm_pool.specs.declared.slot.Slot.{Slot}
 use Rattle.warm_pool.specs.declared.fault.PoolFault.{PoolFault}
@@ -32,10 +32,10 @@ same_node id v h k is = ap (node id v) is
 
 -- the first page of a list of as many of the hottest pages as there are frames is the next to load
 pub next_warm : (v : PoolView) (h : HistoryView) (ps : List PageId) (o : Option PageId) → IsHistory h → IsWarmUp h (length v.frames) ps
-    → IsFirstLoadable v ps o → IsFirstLoadable v (warm (refs h) (length v.frames)) o
-next_warm v h ps o whole hottest = subst (λ xs. IsFirstLoadable v xs o) (hottest (refs h) (sym (history_of_own_references h whole)))
+    → IsFirstLoadable v ps o → IsFirstLoadable v (hottest_pages (references_of h) (length v.frames)) o
+next_warm v h ps o whole hottest = subst (λ xs. IsFirstLoadable v xs o) (hottest (references_of h) (sym (history_of_own_references h whole)))
 
 -- the same of a page that is that one
 pub next_is : (v : PoolView) (h : HistoryView) (ps : List PageId) (p q : PageId) → IsHistory h → IsWarmUp h (length v.frames) ps
-    → IsFirstLoadable v ps (Some p) → p ≡ q → IsFirstLoadable v (warm (refs h) (length v.frames)) (Some q)
+    → IsFirstLoadable v ps (Some p) → p ≡ q → IsFirstLoadable v (hottest_pages (references_of h) (length v.frames)) (Some q)
 next_is v h ps p q whole hottest first is = next_warm v h ps (Some q) whole hottest (subst (λ x. IsFirstLoadable v ps (Some x)) is first)

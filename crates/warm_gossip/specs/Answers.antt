@@ -6,7 +6,7 @@ use Rattle.warm_stamps.specs.declared.PageId.{PageId}
 use Rattle.warm_stamps.specs.declared.TheConstants.{BUCKETS}
 use Rattle.warm_history.specs.declared.hist.Entry.{Entry}
 use Rattle.warm_history.specs.ReferenceSets.{ReferenceSet, ◌∪◌}
-use Rattle.warm_history.specs.Histories.{HistoryView, entries_of, holding_since, history, refs}
+use Rattle.warm_history.specs.Histories.{HistoryView, entries_of, history_of_entries_at, history, references_of}
 use Rattle.warm_history.specs.Carried.{bucket_entries, carried}
 use Rattle.warm_frames.specs.declared.layout.TheConstants.{MAX_ENTRIES}
 use Rattle.warm_frames.specs.declared.message.Message.{Message}
@@ -50,22 +50,22 @@ AnswersDigests id h digests messages = (request : ℕ) × (request < 2 ^ 64) × 
 
 -- the references that a message brings, and its horizon
 abbrev pub refs_in : Message → ReferenceSet
-refs_in (Entries sender horizon entries) = refs (holding_since horizon entries)
-refs_in (Digest sender horizon digests) = refs (holding_since horizon [])
-refs_in (Want sender horizon request) = refs (holding_since horizon [])
+refs_in (Entries sender horizon entries) = references_of (history_of_entries_at horizon entries)
+refs_in (Digest sender horizon digests) = references_of (history_of_entries_at horizon [])
+refs_in (Want sender horizon request) = references_of (history_of_entries_at horizon [])
 
 -- the history after a message was taken
-abbrev pub taught : HistoryView → Message → HistoryView
-taught h message = history (refs h ∪ refs_in message)
+abbrev pub history_after : HistoryView → Message → HistoryView
+history_after h message = history (references_of h ∪ refs_in message)
 
 -- The answer of a replica of this id and history to a message, at the greater horizon: nothing to
 -- entries; to a request, its entries of these buckets.
 abbrev pub IsAnswer : ℕ → HistoryView → Message → List Message → Type 0
 IsAnswer id h (Entries sender horizon entries) messages = messages ≡ []
-IsAnswer id h (Want sender horizon request) messages = messages ≡ requested_messages id (taught h (Want sender horizon request)) request
-IsAnswer id h (Digest sender horizon digests) messages = AnswersDigests id (taught h (Digest sender horizon digests)) digests messages
+IsAnswer id h (Want sender horizon request) messages = messages ≡ requested_messages id (history_after h (Want sender horizon request)) request
+IsAnswer id h (Digest sender horizon digests) messages = AnswersDigests id (history_after h (Digest sender horizon digests)) digests messages
 
 -- the message of the first entries of the bucket whose page comes after the given one, up to
 -- MAX_ENTRIES
 abbrev pub sent : ℕ → HistoryView → ℕ → Option PageId → Message
-sent id h bucket after = Entries id h.horizon (entries_of (history (carried (refs h) bucket after MAX_ENTRIES)))
+sent id h bucket after = Entries id h.horizon (entries_of (history (carried (references_of h) bucket after MAX_ENTRIES)))

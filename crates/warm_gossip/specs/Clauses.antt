@@ -1,7 +1,7 @@
 -- Definitions for the contracts of nodes.
 use Rattle.std.specs.Prelude.{◌≡◌, ℕ, List, length, Some, Result, Ok, Err}
 use Rattle.warm_history.specs.declared.hist.Entry.{Entry}
-use Rattle.warm_history.specs.Histories.{HistoryView, holding_since, join}
+use Rattle.warm_history.specs.Histories.{HistoryView, history_of_entries_at, join}
 use Rattle.warm_stamps.specs.declared.PageId.{PageId}
 use Rattle.warm_pool.specs.declared.fault.PoolFault.TheVariants.{Fault}
 use Rattle.warm_pool.specs.Keeping.{KeepsBytes, KeepsFrames}
@@ -37,16 +37,16 @@ abbrev pub SameView : NodeState → NodeState → Type 0
 SameView old new = node_view new ≡ node_view old
 
 -- the node has taken these entries in
-abbrev pub Learns : NodeState → ℕ → List Entry → NodeState → Type 0
-Learns old horizon entries new = node_view new ≡ record (node_view old) { history = join old.history (holding_since horizon entries) }
+abbrev pub JoinsEntries : NodeState → ℕ → List Entry → NodeState → Type 0
+JoinsEntries old horizon entries new = node_view new ≡ record (node_view old) { history = join old.history (history_of_entries_at horizon entries) }
 
 -- the node has taken in all that another history stands for, at the later horizon of both
 abbrev pub Joins : NodeState → HistoryView → NodeState → Type 0
 Joins old other new = node_view new ≡ record (node_view old) { history = join old.history other }
 
 -- a page could not be written to its device, or a device could not be flushed
-abbrev pub WriteBackFails : NodeState → NodeFault → NodeState → Type 0
-WriteBackFails old why new = (why ≡ Pool Fault) × OnPool IsFailed (node_view old) (node_view new)
+abbrev pub NodeWriteBackFails : NodeState → NodeFault → NodeState → Type 0
+NodeWriteBackFails old why new = (why ≡ Pool Fault) × OnPool IsFailed (node_view old) (node_view new)
 
 -- the pool after a refused pin: frames are unchanged, and devices are as after a refused pin of the
 -- pool

@@ -6,7 +6,7 @@ pub mod Round
 pub mod Step
 pub mod WarmingUp
 pub mod Batches
-pub mod Told
+pub mod Given
 pub mod Clauses
 pub mod Victims
 pub mod WarmUps

@@ -1,6 +1,6 @@
 -- A node as plain data, and what a caller sees of it.
 use Rattle.std.specs.Prelude.{ℕ, []}
-use Rattle.warm_history.specs.Histories.{HistoryView, holding}
+use Rattle.warm_history.specs.Histories.{HistoryView, history_of_entries}
 use Rattle.warm_pool.specs.State.{PoolState}
 use Rattle.warm_pool.specs.View.{view_of, PoolView}
 
@@ -20,9 +20,9 @@ abbrev pub node_view : NodeState → NodeView
 node_view s = record { id = s.id; history = s.history; pool = view_of s.pool }
 
 -- a node without references
-abbrev pub opened : ℕ → PoolState → NodeState
-opened id pool = record { id = id; history = holding []; pool = pool }
+abbrev pub opened_node : ℕ → PoolState → NodeState
+opened_node id pool = record { id = id; history = history_of_entries []; pool = pool }
 
 -- a node without references and without a pool
-abbrev pub nobody : NodeView
-nobody = record { id = 0; history = holding []; pool = record { page_size = 0; devices = []; frames = []; contents = []; failures = [] } }
+abbrev pub empty_node : NodeView
+empty_node = record { id = 0; history = history_of_entries []; pool = record { page_size = 0; devices = []; frames = []; contents = []; failures = [] } }

@@ -1,9 +1,9 @@
 -- The effect of each call on a node, and its refusals, as a caller sees them.
 use Rattle.std.specs.Prelude.{◌≡◌, ℕ, ◌+◌, ◌<◌, ◌≤◌, List, [], length, Option, Some, None, slice_index_or}
 use Rattle.warm_stamps.specs.declared.PageId.{PageId}
-use Rattle.warm_history.specs.ReferenceSets.{these, since, ◌∪◌}
-use Rattle.warm_history.specs.Histories.{entries_of, holding, history, refs}
-use Rattle.warm_rank.specs.Ranking.{IsVictim, warm}
+use Rattle.warm_history.specs.ReferenceSets.{set_of_list, with_horizon, ◌∪◌}
+use Rattle.warm_history.specs.Histories.{entries_of, history_of_entries, history, references_of}
+use Rattle.warm_rank.specs.Ranking.{IsVictim, hottest_pages}
 use Rattle.warm_frames.specs.declared.message.Message.TheVariants.{Digest}
 use Rattle.warm_digest.specs.BucketDigests.{digests_of}
 use Rattle.warm_pool.specs.declared.fault.PoolFault.TheVariants.{OutOfPage, Fixed, Fault}
@@ -20,7 +20,7 @@ use Rattle.warm_gossip.specs.declared.call.Reply.TheVariants.{Done, Sent, Answer
 use Rattle.warm_gossip.specs.declared.fault.NodeFault.{NodeFault}
 use Rattle.warm_gossip.specs.declared.fault.NodeFault.TheVariants.{Memory, Pool, StaleSlot}
 use Rattle.warm_gossip.specs.State.{NodeView}
-use Rattle.warm_gossip.specs.Answers.{IsAnswer, taught, sent}
+use Rattle.warm_gossip.specs.Answers.{IsAnswer, history_after, sent}
 
 -- only the pool may have changed, in this way
 abbrev pub OnPool : (PoolView → PoolView → Type 0) → NodeView → NodeView → Type 0
@@ -47,13 +47,13 @@ IsFirstLoadable v pages (Some p) = (i : ℕ) × (i < length pages) × (nth_page 
 
 -- the page to load next, among the hottest pages, as many as the pool has frames
 abbrev pub IsNextWarm : NodeView → Option PageId → Type 0
-IsNextWarm s = IsFirstLoadable s.pool (warm (refs s.history) (length s.pool.frames))
+IsNextWarm s = IsFirstLoadable s.pool (hottest_pages (references_of s.history) (length s.pool.frames))
 
 -- Refusals
 
 -- `len` bytes from `at` on are within a page
-abbrev pub IsWithin : NodeView → ℕ → ℕ → Type 0
-IsWithin s at len = at + len ≤ s.pool.page_size
+abbrev pub IsWithinPage : NodeView → ℕ → ℕ → Type 0
+IsWithinPage s at len = at + len ≤ s.pool.page_size
 
 -- nothing has changed, and the slot doesn't hold its page; or it does, and the bytes reach beyond
 -- the page
@@ -61,7 +61,7 @@ abbrev pub IsStale : NodeView → Slot → NodeView → Type 0
 IsStale old slot new = (Holds old.pool slot → ⊥) × (new ≡ old)
 
 abbrev pub IsBeyond : NodeView → Slot → ℕ → ℕ → NodeView → Type 0
-IsBeyond old slot at len new = Holds old.pool slot × (IsWithin old at len → ⊥) × (new ≡ old)
+IsBeyond old slot at len new = Holds old.pool slot × (IsWithinPage old at len → ⊥) × (new ≡ old)
 
 -- Why a call is refused, and what has then changed. A call allocates only where this names Memory
 -- for it.
@@ -74,7 +74,7 @@ Refuses old (Pin p) (Pool why) new = OnPool (λ v w. PinRefused old.history v p 
 Refuses old (Unpin slot) StaleSlot new = IsStale old slot new
 Refuses old (Read slot at len) StaleSlot new = IsStale old slot new
 Refuses old (Read slot at len) (Pool OutOfPage) new = IsBeyond old slot at len new
-Refuses old (Read slot at len) Memory new = Holds old.pool slot × IsWithin old at len × (new ≡ old)
+Refuses old (Read slot at len) Memory new = Holds old.pool slot × IsWithinPage old at len × (new ≡ old)
 Refuses old (Write slot at bytes) StaleSlot new = IsStale old slot new
 Refuses old (Write slot at bytes) (Pool OutOfPage) new = IsBeyond old slot at (length bytes) new
 Refuses old (WarmList n) Memory new = new ≡ old
@@ -89,18 +89,18 @@ Refuses old call said new = ⊥
 -- The transition relation: from old, the call may get this reply and lead to new.
 abbrev pub Step : NodeView → Call → Reply → NodeView → Type 0
 Step old call (Refused said) new = Refuses old call said new
-Step old (Absorb batch) Done new = new ≡ record old { history = history (refs old.history ∪ these batch) }
+Step old (Absorb batch) Done new = new ≡ record old { history = history (references_of old.history ∪ set_of_list batch) }
 Step old (Send bucket after) (Sent message) new = (message ≡ sent old.id old.history bucket after) × (new ≡ old)
 Step old Offer (Sent message) new = (message ≡ Digest old.id old.history.horizon (digests_of (entries_of old.history))) × (new ≡ old)
-Step old (Horizon time) (Kept horizon) new = (new ≡ record old { history = history (since time (refs old.history)) }) × (horizon ≡ new.history.horizon)
-Step old (Receive message) (Answers messages) new = IsAnswer old.id old.history message messages × (new ≡ record old { history = taught old.history message })
+Step old (Horizon time) (Kept horizon) new = (new ≡ record old { history = history (with_horizon time (references_of old.history)) }) × (horizon ≡ new.history.horizon)
+Step old (Receive message) (Answers messages) new = IsAnswer old.id old.history message messages × (new ≡ record old { history = history_after old.history message })
 Step old (Pin p) (Pinned slot) new = OnPool (λ v w. PinnedIn old.history v p slot w) old new
 Step old (Unpin slot) Done new = Holds old.pool slot × (new ≡ record old { pool = unpinned old.pool slot })
 Step old (Read slot at len) (Bytes bytes) new = Holds old.pool slot × (length bytes ≡ len) × IsRead old.pool slot at bytes × (new ≡ old)
 Step old (Write slot at bytes) Done new = Holds old.pool slot × OnPool (λ v w. Written v slot at bytes w) old new
-Step old Victim (Page victim) new = IsVictim (refs old.history) (unfixed_pages old.pool) victim × (new ≡ old)
-Step old (WarmList n) (Pages pages) new = (pages ≡ warm (refs old.history) n) × (new ≡ old)
+Step old Victim (Page victim) new = IsVictim (references_of old.history) (unfixed_pages old.pool) victim × (new ≡ old)
+Step old (WarmList n) (Pages pages) new = (pages ≡ hottest_pages (references_of old.history) n) × (new ≡ old)
 Step old WarmStep (Loaded None) new = IsNextWarm old None × (new ≡ old)
 Step old WarmStep (Loaded (Some p)) new = IsNextWarm old (Some p) × OnPool (λ v w. (slot : Slot) × PutsIn old.history v p 0 slot w) old new
-Step old Restart Done new = (new ≡ record old { history = holding []; pool = new.pool }) × Emptied old.pool new.pool
+Step old Restart Done new = (new ≡ record old { history = history_of_entries []; pool = new.pool }) × Emptied old.pool new.pool
 Step old call reply new = ⊥

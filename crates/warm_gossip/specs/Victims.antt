@@ -4,7 +4,7 @@ use Rattle.std.specs.Prelude.{◌≡◌, ◌≢◌, ℕ, List, Option, Some}
 use Rattle.warm_stamps.specs.declared.PageId.{PageId}
 use Rattle.warm_history.specs.ReferenceSets.{ReferenceSet}
 use Rattle.warm_history.specs.Histories.{StandsFor}
-use Rattle.warm_rank.specs.Ranking.{IsVictim, warm}
+use Rattle.warm_rank.specs.Ranking.{IsVictim, hottest_pages}
 use Rattle.warm_rank.specs.Laws.{IsFarthest}
 use Rattle.warm_pool.specs.View.{PoolView, IsResident, IsAbsent, unfixed_pages}
 use Rattle.warm_gossip.specs.declared.call.Call.{Call}
@@ -15,14 +15,14 @@ use Rattle.warm_gossip.specs.State.{NodeView}
 use Rattle.warm_gossip.specs.Step.{Step}
 
 -- the page was resident, and is no longer
-abbrev pub Leaves : PoolView → PoolView → PageId → Type 0
-Leaves v w p = IsResident v p × IsAbsent w p
+abbrev pub IsEvicted : PoolView → PoolView → PageId → Type 0
+IsEvicted v w p = IsResident v p × IsAbsent w p
 
 -- The named page, and each page that is evicted by any call but a restart, is farthest back over S
 -- among the unpinned resident pages.
 pub record AreFarthest (S : ReferenceSet) (old : NodeView) (call : Call) (reply : Reply) (new : NodeView) : Type 0 where
   pub named : (v : PageId) → call ≡ Victim → reply ≡ Page (Some v) → IsFarthest S (unfixed_pages old.pool) v
-  pub leaves : (v : PageId) → call ≢ Restart → Leaves old.pool new.pool v → IsFarthest S (unfixed_pages old.pool) v
+  pub leaves : (v : PageId) → call ≢ Restart → IsEvicted old.pool new.pool v → IsFarthest S (unfixed_pages old.pool) v
 
 abbrev pub VictimsAreFarthest : Type 0
 VictimsAreFarthest = (S : ReferenceSet) (old new : NodeView) (call : Call) (reply : Reply) → StandsFor old.history S → Step old call reply new
@@ -31,7 +31,7 @@ VictimsAreFarthest = (S : ReferenceSet) (old new : NodeView) (call : Call) (repl
 -- the victim and the hottest pages that a node gives are those over S
 pub record RepliesOver (S : ReferenceSet) (old new : NodeView) : Type 0 where
   pub victim : (v : Option PageId) → Step old Victim (Page v) new → IsVictim S (unfixed_pages old.pool) v
-  pub hottest : (n : ℕ) (ps : List PageId) → Step old (WarmList n) (Pages ps) new → ps ≡ warm S n
+  pub hottest : (n : ℕ) (ps : List PageId) → Step old (WarmList n) (Pages ps) new → ps ≡ hottest_pages S n
 
 abbrev pub RepliesAreOverReferences : Type 0
 RepliesAreOverReferences = (S : ReferenceSet) (old new : NodeView) → StandsFor old.history S → RepliesOver S old new

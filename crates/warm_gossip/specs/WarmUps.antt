@@ -3,14 +3,14 @@ use Rattle.std.specs.Prelude.{◌≡◌, ℕ, zero, suc, length, Option, Some, C
 use Rattle.warm_stamps.specs.declared.PageId.{PageId}
 use Rattle.warm_history.specs.ReferenceSets.{ReferenceSet}
 use Rattle.warm_history.specs.Histories.{StandsFor}
-use Rattle.warm_rank.specs.Ranking.{warm}
+use Rattle.warm_rank.specs.Ranking.{hottest_pages}
 use Rattle.warm_pool.specs.View.{PoolView, frame_at, HasPage, IsResident, IsUnfixed}
 use Rattle.warm_gossip.specs.declared.call.Call.TheVariants.{WarmStep}
 use Rattle.warm_gossip.specs.declared.call.Reply.{Reply}
 use Rattle.warm_gossip.specs.declared.call.Reply.TheVariants.{Loaded}
 use Rattle.warm_gossip.specs.State.{NodeView}
 use Rattle.warm_gossip.specs.Step.{Step}
-use Rattle.warm_gossip.specs.Victims.{Leaves}
+use Rattle.warm_gossip.specs.Victims.{IsEvicted}
 
 -- no page is in two frames
 abbrev pub PagesDiffer : PoolView → Type 0
@@ -22,23 +22,23 @@ WarmSteps zero old new = new ≡ old
 WarmSteps (suc n) old new = (loaded : Option PageId) × (next : NodeView) × Step old WarmStep (Loaded loaded) next × WarmSteps n next new
 
 -- the page is among the hottest over S, as many as there are frames, and a device has it
-pub record IsWarm (S : ReferenceSet) (v : PoolView) (p : PageId) : Type 0 where
-  pub listed : Contains (warm S (length v.frames)) p
+pub record IsHot (S : ReferenceSet) (v : PoolView) (p : PageId) : Type 0 where
+  pub listed : Contains (hottest_pages S (length v.frames)) p
   pub had : HasPage v p
 
 -- while no page is pinned, none of the hottest pages is evicted by a warm-up step, whatever its
 -- reply
 abbrev pub WarmStepKeepsHottest : Type 0
 WarmStepKeepsHottest = (S : ReferenceSet) (old new : NodeView) (reply : Reply) → StandsFor old.history S → PagesDiffer old.pool → IsUnfixed old.pool
-    → Step old WarmStep reply new → (p : PageId) → Contains (warm S (length old.pool.frames)) p → Leaves old.pool new.pool p → ⊥
+    → Step old WarmStep reply new → (p : PageId) → Contains (hottest_pages S (length old.pool.frames)) p → IsEvicted old.pool new.pool p → ⊥
 
 -- after as many steps as there are frames, all of the hottest pages that the devices have are resident
 abbrev pub StepsLoad : ReferenceSet → NodeView → NodeView → Type 0
-StepsLoad S old new = WarmSteps (length old.pool.frames) old new → (p : PageId) → IsWarm S old.pool p → IsResident new.pool p
+StepsLoad S old new = WarmSteps (length old.pool.frames) old new → (p : PageId) → IsHot S old.pool p → IsResident new.pool p
 
 -- this holds where no page is pinned
-abbrev pub WarmUpLoads : Type 0
-WarmUpLoads = (S : ReferenceSet) (old new : NodeView) → StandsFor old.history S → PagesDiffer old.pool → IsUnfixed old.pool → StepsLoad S old new
+abbrev pub NodeWarmUpLoads : Type 0
+NodeWarmUpLoads = (S : ReferenceSet) (old new : NodeView) → StandsFor old.history S → PagesDiffer old.pool → IsUnfixed old.pool → StepsLoad S old new
 
 -- the same of one node, whatever its history stands for
 abbrev pub NodeWarmsUp : NodeView → Type 0

@@ -1,7 +1,7 @@
 -- The progress of a node's warm-up, which is kept between its steps.
 use Rattle.std.specs.Prelude.{◌≡◌, ◌⊎◌, ℕ, ◌+◌, ◌<◌, List, length, Option, Some, None, IfSome}
 use Rattle.warm_stamps.specs.declared.PageId.{PageId}
-use Rattle.warm_history.specs.Histories.{HistoryView, refs}
+use Rattle.warm_history.specs.Histories.{HistoryView, references_of}
 use Rattle.warm_rank.specs.Ranking.{IsBefore}
 use Rattle.warm_rank.specs.WarmUp.{IsWarmUp}
 use Rattle.warm_pool.specs.View.{PoolView, IsResident}
@@ -30,7 +30,7 @@ PassedAtPin v p old new = (new ≡ 0) ⊎ (IsResident v p × (new ≡ old))
 -- the pages before this one in the list
 abbrev pub IsNoneBefore : HistoryView → PoolView → PageId → Option PageId → Type 0
 IsNoneBefore h v p None = Unit {0}
-IsNoneBefore h v p (Some victim) = IsResident v victim ⊎ IsBefore (refs h) victim p
+IsNoneBefore h v p (Some victim) = IsResident v victim ⊎ IsBefore (references_of h) victim p
 
 -- the loaded page is passed too, unless the page that it evicted may be among those before it
 abbrev pub PassedAtLoad : HistoryView → PoolView → PageId → Option PageId → ℕ → ℕ → Type 0

@@ -1,9 +1,9 @@
 //! The answers of a node to digests and to a request.
 ghost use Rattle.std.specs.Prelude.{◌≡◌, ◌==◌, ◌≤◌, ◌++◌, length, IfOk, OnOk};
 ghost use Rattle.std.specs.Int.{bit_at};
-ghost use Rattle.warm_history.specs.Histories.{PagesRise};
-ghost use Rattle.warm_history.specs.Losses.{bucket_since, raised};
-ghost use Rattle.warm_digest.specs.BucketDigests.{digests_since};
+ghost use Rattle.warm_history.specs.Histories.{PagesAscend};
+ghost use Rattle.warm_history.specs.Losses.{bucket_at_horizon, raised};
+ghost use Rattle.warm_digest.specs.BucketDigests.{digests_at_horizon};
 ghost use Rattle.warm_gossip.specs.Answers.{AnswersDigests, entry_messages, requested_messages, refs_in};
 
 use std::alloc::{AllocError, Global};
@@ -19,7 +19,7 @@ fn message_of(
     horizon: u64,
     part: &[Entry],
 ) -> Result<Message, AllocError>
-    requires rise { PagesRise part.now }
+    requires rise { PagesAscend part.now }
     requires few { length part.now ≤ MAX_ENTRIES }
     ensures { IfOk result (λ message. message ≡ Message.Entries id horizon part.now) }
 {
@@ -39,7 +39,7 @@ fn push_messages(
     horizon: u64,
     entries: &[Entry],
 ) -> Result<(), AllocError>
-    requires { PagesRise entries.now }
+    requires { PagesAscend entries.now }
     ensures { OnOk result (messages.new.items
         ≡ messages.old.items ++ entry_messages id horizon entries.now) }
 {
@@ -74,9 +74,9 @@ fn listed(
     horizon: u64,
     bucket: Bucket,
 ) -> Result<Vec<Entry>, AllocError>
-    ensures { IfOk result (λ es. es.items ≡ bucket_since horizon bucket history.now) }
+    ensures { IfOk result (λ es. es.items ≡ bucket_at_horizon horizon bucket history.now) }
 {
-    history.bucket_since(bucket, horizon).collect(alloc)
+    history.bucket_at_horizon(bucket, horizon).collect(alloc)
 }
 
 /// The entries of the buckets whose bit is set in the request, at the greater of the horizon and
@@ -119,7 +119,7 @@ fn answer_given(
     own: &DigestTable,
     digests: &DigestTable,
 ) -> Result<Vec<Message>, AllocError>
-    requires { own.now ≡ digests_since horizon history.now }
+    requires { own.now ≡ digests_at_horizon horizon history.now }
     ensures { IfOk result (λ messages.
         AnswersDigests id (raised horizon history.now) digests.now messages.items) }
 {
@@ -153,7 +153,7 @@ pub(crate) fn answer_to_digests(
         AnswersDigests id (raised horizon history.old.history) digests.now messages.items) }
     ensures same { history.new.history ≡ history.old.history }
 {
-    let own = history.digests_since(horizon)?;
+    let own = history.digests_at_horizon(horizon)?;
     answer_given(alloc, id, history.history(), horizon, &own, digests)
 }
 

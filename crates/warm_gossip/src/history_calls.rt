@@ -5,7 +5,7 @@ ghost use Rattle.warm_gossip.specs.declared.call.Reply.TheVariants.{Sent, Answer
 ghost use Rattle.warm_gossip.specs.declared.fault.NodeFault.TheVariants.{Memory};
 ghost use Rattle.warm_gossip.specs.Answers.{IsAnswer};
 ghost use Rattle.warm_pool.specs.Keeping.{KeepsBytes};
-ghost use Rattle.warm_gossip.specs.Clauses.{Answered, DevicesAfter, DevicesAnswered, Goes, Joins, Learns, SameView, done};
+ghost use Rattle.warm_gossip.specs.Clauses.{Answered, DevicesAfter, DevicesAnswered, Goes, Joins, JoinsEntries, SameView, done};
 
 use crate::answers::{answer_to_digests, horizon_of, requested_messages};
 use crate::fault::NodeFault;
@@ -42,7 +42,7 @@ impl<D: PageDevice> Node<D> {
     /// Takes entries into the history. Where no entry changes, digests and the warm-up list stay
     /// cached, and no page is ranked again.
     pub(crate) fn learn(&mut self, horizon: u64, entries: &[Entry]) -> Result<(), NodeFault>
-        ensures learnt { OnOk result (Learns self.old horizon entries.now self.new) }
+        ensures learnt { OnOk result (JoinsEntries self.old horizon entries.now self.new) }
         ensures refused { IfErr result (λ why. (why ≡ Memory) × SameView self.old self.new) }
         ensures devices { KeepsBytes self.old.pool self.new.pool }
     {

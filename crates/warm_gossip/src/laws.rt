@@ -10,11 +10,11 @@ ghost use Rattle.warm_frames.specs.Entries.{IsEntry, IsHist};
 ghost use Rattle.warm_digest.specs.Exchange.{Fits};
 ghost use Rattle.warm_gossip.specs.Batches.{BatchesAreTaken};
 ghost use Rattle.warm_gossip.specs.Pieces.{PiecesInTurn};
-ghost use Rattle.warm_gossip.specs.Round.{EntriesTeach, GossipRoundEnds, GossipRoundJoins, NodesJoin, OwnDigestsUnanswered};
+ghost use Rattle.warm_gossip.specs.Round.{EntriesBringAll, GossipRoundEnds, HistoryRoundJoins, NodesJoin, OwnDigestsUnanswered};
 ghost use Rattle.warm_gossip.specs.State.{node_view};
-ghost use Rattle.warm_gossip.specs.Told.{ToldIsHistory};
+ghost use Rattle.warm_gossip.specs.Given.{HistoryIsOfGiven};
 ghost use Rattle.warm_gossip.specs.Victims.{RepliesAreOverReferences, VictimsAreFarthest};
-ghost use Rattle.warm_gossip.specs.WarmUps.{NodeWarmsUp, PagesDiffer, WarmStepKeepsHottest, WarmUpLoads};
+ghost use Rattle.warm_gossip.specs.WarmUps.{NodeWarmsUp, PagesDiffer, WarmStepKeepsHottest, NodeWarmUpLoads};
 
 use crate::node::Node;
 use warm_devices::PageDevice;
@@ -35,7 +35,7 @@ pub fn pieces_in_turn()
 /// the second answered the offer. Or two different texts of one bucket, one of each replica, have
 /// the same SHA-256 digest: that of the second replica at the later horizon.
 pub fn gossip_round_joins()
-    ensures { GossipRoundJoins }
+    ensures { HistoryRoundJoins }
 {}
 
 /// A round of gossip ends after both have answered: the last messages get no answer.
@@ -51,8 +51,8 @@ pub fn own_digests_unanswered()
 
 /// A replica that receives a message of a history's entries has then received all references for
 /// which that history stands.
-pub fn entries_teach()
-    ensures { EntriesTeach }
+pub fn entries_bring_all()
+    ensures { EntriesBringAll }
 {}
 
 /// The victim that a node names, and the hottest pages that it lists, are those over all references for which its
@@ -78,14 +78,14 @@ pub fn warm_step_keeps_hottest()
 /// page of the warm-up list, cut to the number of frames, that a device has: no page of the list is
 /// evicted for another.
 pub fn warm_up_loads()
-    ensures { WarmUpLoads }
+    ensures { NodeWarmUpLoads }
 {}
 
 /// Each state that a legal list of calls reaches has the history of the references that the node
 /// was given: those of each `Absorb` and of each message of entries that it received, since its
 /// last restart. The references of its opening state count too.
 pub fn told_is_history()
-    ensures { ToldIsHistory }
+    ensures { HistoryIsOfGiven }
 {}
 
 /// A node absorbs a batch of references, or refuses it because of an allocation failure, and gives

@@ -12,11 +12,11 @@ pub struct ViewOfNode {
 }
 
 impl Model for ViewOfNode {
-    ghost use Rattle.warm_gossip.specs.State.{NodeView, nobody};
+    ghost use Rattle.warm_gossip.specs.State.{NodeView, empty_node};
 
     ghost Value = { NodeView };
 
-    ghost view = { λ _. nobody };
+    ghost view = { λ _. empty_node };
 }
 
 /// Every call is a step, so the replies of a turn are those of one legal history of steps.

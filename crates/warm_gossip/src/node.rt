@@ -1,7 +1,7 @@
 //! The node.
 ghost use Rattle.std.specs.Prelude.{◌≡◌};
 ghost use Rattle.warm_pool.specs.State.{IsRankedByAll};
-ghost use Rattle.warm_gossip.specs.State.{opened};
+ghost use Rattle.warm_gossip.specs.State.{opened_node};
 ghost use Rattle.warm_gossip.specs.Clauses.{Answered, DevicesAfter, DevicesAnswered, Goes};
 
 use crate::call::{Call, Reply};
@@ -69,7 +69,7 @@ impl<D: PageDevice> Node<D> {
     /// A node without references, over a pool without pages. Allocation-free.
     pub fn new(alloc: Global, id: ReplicaId, pool: Pool<D>) -> Node<D>
         requires { IsRankedByAll pool }
-        ensures { result ≡ opened id pool }
+        ensures { result ≡ opened_node id pool }
     {
         Node {
             alloc,

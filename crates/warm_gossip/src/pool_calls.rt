@@ -3,9 +3,9 @@ ghost use Rattle.std.specs.Prelude.{◌≡◌, ◌↔◌, length, IfErr, IfOk, I
 ghost use Rattle.warm_pool.specs.State.{IsSettled};
 ghost use Rattle.warm_gossip.specs.declared.call.Call.TheVariants.{Pin, Unpin, Read, Write, Victim, Restart};
 ghost use Rattle.warm_gossip.specs.declared.call.Reply.TheVariants.{Pinned, Bytes, Page};
-ghost use Rattle.warm_gossip.specs.Clauses.{Answered, DevicesAnswered, Goes, ReadIntoFails, SameView, WriteBackFails, done};
+ghost use Rattle.warm_gossip.specs.Clauses.{Answered, DevicesAnswered, Goes, ReadIntoFails, SameView, NodeWriteBackFails, done};
 ghost use Rattle.warm_gossip.specs.State.{node_view};
-ghost use Rattle.warm_gossip.specs.Step.{IsWithin};
+ghost use Rattle.warm_gossip.specs.Step.{IsWithinPage};
 
 use crate::fault::NodeFault;
 use crate::node::Node;
@@ -85,7 +85,7 @@ impl<D: PageDevice> Node<D> {
 
     // Whether `len` bytes from `at` on are within a page.
     fn is_within(&self, at: usize, len: usize) -> bool
-        ensures { IsTrue result ↔ IsWithin (node_view self.now) at len }
+        ensures { IsTrue result ↔ IsWithinPage (node_view self.now) at len }
     {
         let size = self.pool.page_size();
         at <= size && len <= size - at
@@ -141,7 +141,7 @@ impl<D: PageDevice> Node<D> {
     pub fn write_back(&mut self) -> Result<(), NodeFault>
         ensures same { OnOk result (SameView self.old self.new) }
         ensures settled { OnOk result (IsSettled self.new.pool) }
-        ensures refused { IfErr result (λ why. WriteBackFails self.old why self.new) }
+        ensures refused { IfErr result (λ why. NodeWriteBackFails self.old why self.new) }
     {
         self.pool.write_back_all()?;
         Ok(())

@@ -15,7 +15,7 @@ use warm_devices::PageDevice;
 use warm_history::History;
 use warm_history::laws::is_history;
 use warm_pool::Pool;
-use warm_rank::{leaving_order, warm_list};
+use warm_rank::{eviction_order, warm_list};
 use warm_stamps::PageId;
 
 /// The progress of a warm-up: the hottest pages, hottest first, as many as the pool has frames,
@@ -146,7 +146,7 @@ fn passed_at_load<D: PageDevice>(
     }
     // The order is over the references that the history holds: their history is this history.
     is_history(history);
-    match leaving_order(history, victim, page) {
+    match eviction_order(history, victim, page) {
         Ordering::Less => at + 1,
         Ordering::Equal | Ordering::Greater => 0,
     }

@@ -15,15 +15,15 @@ use Rattle.warm_stamps.proofs.StampLemmas.{page_order}
 use Rattle.warm_history.specs.declared.hist.PageHist.{PageHist}
 use Rattle.warm_history.specs.declared.hist.Entry.{Entry}
 use Rattle.warm_history.specs.Carried.{bucket_entries}
-use Rattle.warm_history.specs.Changes.{StaysIn, MarksChanged}
-use Rattle.warm_history.specs.Histories.{holding_since, NoneOlder, entries_of}
+use Rattle.warm_history.specs.Changes.{SameInBucket, MarksChanged}
+use Rattle.warm_history.specs.Histories.{history_of_entries_at, NoneOlder, entries_of}
 use Rattle.warm_history.specs.Histories as view
 use Rattle.warm_history.specs.KeptEntries.{kept_entries}
-use Rattle.warm_history.specs.ListHistories.{hist, history, entry_refs, refs, held, IsHistory, PagesRise}
+use Rattle.warm_history.specs.ListHistories.{list_hist, list_history, references_of_entry, list_references_of, known_stamps, IsListHistory, PagesAscend}
 use Rattle.warm_history.specs.Losses.{raised, MarksLosing}
-use Rattle.warm_history.specs.Places.{first_place, page_at, IsPlace}
-use Rattle.warm_history.specs.ReferenceSets.{recent}
-use Rattle.warm_history.specs.Tree.{Pairs, kept, AreKept, told_at, TakesRecent, TakesStamps}
+use Rattle.warm_history.specs.Places.{first_key, page_of_key, IsMapKey}
+use Rattle.warm_history.specs.ReferenceSets.{references_from}
+use Rattle.warm_history.specs.Tree.{MapPairs, kept, AreKept, told_at, TakesRecent, TakesStamps}
 use Rattle.warm_history.specs.BucketMaps.{found}
 use Rattle.warm_history.proofs.KeptLemmas.{entries_recent, history-kept, kept-append, kept_within}
 use Rattle.warm_history.proofs.ListHistoryLemmas.{get, joined, same_gets, get-history, hist-append, hist-refs, IsHistory-history}
@@ -42,7 +42,7 @@ get-bucket bucket es p is =
     ∙ ap (λ b. cond b (get es p) None) (eq-eqb (page_bucket p) bucket is)
 
 -- lists that agree on each page of a bucket have the same entries in it
-pub same_bucket : (bucket : ℕ) (h g : List Entry) → PagesRise h → PagesRise g → ((p : PageId) → page_bucket p ≡ bucket → get h p ≡ get g p) → bucket_entries bucket h ≡ bucket_entries bucket g
+pub same_bucket : (bucket : ℕ) (h g : List Entry) → PagesAscend h → PagesAscend g → ((p : PageId) → page_bucket p ≡ bucket → get h p ≡ get g p) → bucket_entries bucket h ≡ bucket_entries bucket g
 same_bucket bucket h g rise_h rise_g alike =
     let by_page = on (λ (e : Entry). e.page) page_cmp in
     let is_in : Entry → Bool = λ e. page_bucket e.page == bucket in
@@ -61,40 +61,40 @@ same_bucket bucket h g rise_h rise_g alike =
 abbrev pub Grows : List Entry → List Entry → Type 0
 Grows old new = (p : PageId) → joined (get old p) (get new p) ≡ get new p
 
-pub grows_same : (h : List Entry) → IsHistory h → Grows h h
+pub grows_same : (h : List Entry) → IsListHistory h → Grows h h
 grows_same h whole p =
     let own = hist-refs h whole p in
     ap (λ x. joined x (get h p)) (sym own)
-    ∙ ap (joined (hist (refs h) p)) (sym own)
-    ∙ sym (hist-append (refs h) (refs h) p)
-    ∙ hist_repeat (refs h) p
+    ∙ ap (joined (list_hist (list_references_of h) p)) (sym own)
+    ∙ sym (hist-append (list_references_of h) (list_references_of h) p)
+    ∙ hist_repeat (list_references_of h) p
     ∙ own
 
 -- a history that has grown grows on as references are taken in
-pub grows_more : (h mid new : List Entry) (S : List Reference) → IsHistory h → IsHistory mid → Grows h mid → new ≡ history (refs mid ++ S) → Grows h new
+pub grows_more : (h mid new : List Entry) (S : List Reference) → IsListHistory h → IsListHistory mid → Grows h mid → new ≡ list_history (list_references_of mid ++ S) → Grows h new
 grows_more h mid new S whole_h whole_mid grows is p =
-    let said : get new p ≡ hist (refs mid ++ S) p = ap (λ es. get es p) is ∙ get-history (refs mid ++ S) p in
-    let both : hist (refs h ++ refs mid) p ≡ hist (refs mid) p =
-    hist-append (refs h) (refs mid) p
-    ∙ ap (λ x. joined x (hist (refs mid) p)) (hist-refs h whole_h p)
+    let said : get new p ≡ list_hist (list_references_of mid ++ S) p = ap (λ es. get es p) is ∙ get-history (list_references_of mid ++ S) p in
+    let both : list_hist (list_references_of h ++ list_references_of mid) p ≡ list_hist (list_references_of mid) p =
+    hist-append (list_references_of h) (list_references_of mid) p
+    ∙ ap (λ x. joined x (list_hist (list_references_of mid) p)) (hist-refs h whole_h p)
     ∙ ap (joined (get h p)) (hist-refs mid whole_mid p)
     ∙ grows p
     ∙ sym (hist-refs mid whole_mid p) in
     ap (λ x. joined x (get new p)) (sym (hist-refs h whole_h p))
-    ∙ ap (joined (hist (refs h) p)) said
-    ∙ sym (hist-append (refs h) (refs mid ++ S) p)
-    ∙ ap (λ T. hist T p) (sym (append_assoc (refs h) (refs mid) S))
-    ∙ hist-append (refs h ++ refs mid) S p
-    ∙ ap (λ x. joined x (hist S p)) both
-    ∙ sym (hist-append (refs mid) S p)
+    ∙ ap (joined (list_hist (list_references_of h) p)) said
+    ∙ sym (hist-append (list_references_of h) (list_references_of mid ++ S) p)
+    ∙ ap (λ T. list_hist T p) (sym (append_assoc (list_references_of h) (list_references_of mid) S))
+    ∙ hist-append (list_references_of h ++ list_references_of mid) S p
+    ∙ ap (λ x. joined x (list_hist S p)) both
+    ∙ sym (hist-append (list_references_of mid) S p)
     ∙ sym said
 
 -- what lies between two that are equal is equal to them
 between : (x y : Option PageHist) → joined x y ≡ y → joined y x ≡ x → y ≡ x
-between x y up down = sym up ∙ latest_of_swap (held x) (held y) ∙ down
+between x y up down = sym up ∙ latest_of_swap (known_stamps x) (known_stamps y) ∙ down
 
 -- where a bucket is unchanged in the end, it was unchanged at each step
-stays_between : (bucket : ℕ) (h mid new : List Entry) → PagesRise h → PagesRise mid → Grows h mid → Grows mid new → StaysIn bucket h new → StaysIn bucket h mid
+stays_between : (bucket : ℕ) (h mid new : List Entry) → PagesAscend h → PagesAscend mid → Grows h mid → Grows mid new → SameInBucket bucket h new → SameInBucket bucket h mid
 stays_between bucket h mid new rise_h rise_mid up down same = same_bucket bucket mid h rise_mid rise_h (λ p there.
     let ends : get new p ≡ get h p = sym (get-bucket bucket new p there) ∙ ap (λ es. get es p) same ∙ get-bucket bucket h p there in
     between (get h p) (get mid p) (up p) (ap (joined (get mid p)) (sym ends) ∙ down p ∙ ends))
@@ -105,7 +105,7 @@ pub marks_none : (es : List Entry) → MarksChanged es es 0
 marks_none es bucket low = let clear = bit_at-zero bucket in ((λ one. absurd (omega (arith, one, clear))), λ none. refl)
 
 -- those that change in a first step, and those that change in the next
-pub marks_more : (h mid new : List Entry) (first next : ℕ) → PagesRise h → PagesRise mid → Grows h mid → Grows mid new → MarksChanged h mid first → MarksChanged mid new next → MarksChanged h new (bit_or first next)
+pub marks_more : (h mid new : List Entry) (first next : ℕ) → PagesAscend h → PagesAscend mid → Grows h mid → Grows mid new → MarksChanged h mid first → MarksChanged mid new next → MarksChanged h new (bit_or first next)
 marks_more h mid new first next rise_h rise_mid up down marks_first marks_next bucket low =
     let is = bit_at_or first next bucket in
     let first_lt = bit_at-lt first bucket in
@@ -120,7 +120,7 @@ marks_more h mid new first next rise_h rise_mid up down marks_first marks_next b
     )
 
 -- a set that has no bucket is that of a history that says what it said
-pub nothing_changed : (h g : List Entry) (changed : ℕ) → PagesRise h → PagesRise g → MarksChanged h g changed → changed ≡ 0 → g ≡ h
+pub nothing_changed : (h g : List Entry) (changed : ℕ) → PagesAscend h → PagesAscend g → MarksChanged h g changed → changed ≡ 0 → g ≡ h
 nothing_changed h g changed rise_h rise_g marks none = same_gets g h rise_g rise_h (λ p.
     let bucket = page_bucket p in
     let low : page_bucket p < 64 = omega arith in
@@ -138,19 +138,19 @@ apart q p buckets = cases (is_eq (page_cmp q p)) refl
     cases false other = refl
 
 -- an entry that is taken in changes no other bucket than that of its page
-pub others_stay : (old new : List Entry) (e : Entry) (bucket : ℕ) → IsHistory old → PagesRise new → new ≡ history (refs old ++ entry_refs e) → page_bucket e.page ≢ bucket → StaysIn bucket old new
-others_stay old new e bucket whole rise is away = same_bucket bucket new old rise whole.pages_rise (λ p there.
+pub others_stay : (old new : List Entry) (e : Entry) (bucket : ℕ) → IsListHistory old → PagesAscend new → new ≡ list_history (list_references_of old ++ references_of_entry e) → page_bucket e.page ≢ bucket → SameInBucket bucket old new
+others_stay old new e bucket whole rise is away = same_bucket bucket new old rise whole.pages_ascend (λ p there.
     ap (λ es. get es p) is
-    ∙ get-history (refs old ++ entry_refs e) p
-    ∙ hist_entry (refs old) e p
+    ∙ get-history (list_references_of old ++ references_of_entry e) p
+    ∙ hist_entry (list_references_of old) e p
     ∙ rw (apart e.page p (λ same. away (same ∙ there))) (hist-refs old whole p))
 
 -- a place lies in the bucket of its page
-pub lies_in : (bucket place : ℕ) → first_place bucket ≤ place → place < first_place (bucket + 1) → bucket ≡ place / 1208925819614629174706176
+pub lies_in : (bucket place : ℕ) → first_key bucket ≤ place → place < first_key (bucket + 1) → bucket ≡ place / 1208925819614629174706176
 lies_in bucket place from to = omega arith
 
-pub own_bucket : (place : ℕ) → IsPlace place → page_bucket (page_at place) ≡ place / 1208925819614629174706176
-own_bucket place is = lies_in (page_bucket (page_at place)) place (from_first place is) (below_next place is)
+pub own_bucket : (place : ℕ) → IsMapKey place → page_bucket (page_of_key place) ≡ place / 1208925819614629174706176
+own_bucket place is = lies_in (page_bucket (page_of_key place)) place (from_first place is) (below_next place is)
 
 -- a single bucket, as code makes its set
 alone : (n b : ℕ) → bit_at (bit_or 0 n) b ≡ bit_at n b
@@ -163,9 +163,9 @@ pub not_in_it : (i b : ℕ) → i < 64 → b ≢ i → bit_at (1 * 2 ^ i % 2 ^ 6
 not_in_it i b low other = sym (alone (1 * 2 ^ i % 2 ^ 64) b) ∙ bit_at_set_other w64 0 i low b other ∙ bit_at-zero b
 
 -- where something else is found at a place, the bucket changes in which it lies
-pub changes_at : (old new : Pairs) (place : ℕ) → IsPlace place → AreKept old → AreKept new → found place new ≢ found place old → bucket_entries (page_bucket (page_at place)) (kept new) ≢ bucket_entries (page_bucket (page_at place)) (kept old)
+pub changes_at : (old new : MapPairs) (place : ℕ) → IsMapKey place → AreKept old → AreKept new → found place new ≢ found place old → bucket_entries (page_bucket (page_of_key place)) (kept new) ≢ bucket_entries (page_bucket (page_of_key place)) (kept old)
 changes_at old new place is are_old are_new differs same =
-    let p = page_at place in
+    let p = page_of_key place in
     differs (
     find-kept place new is are_new
     ∙ sym (get-bucket (page_bucket p) (kept new) p refl)
@@ -174,13 +174,13 @@ changes_at old new place is are_old are_new differs same =
     ∙ sym (find-kept place old is are_old))
 
 -- and no other does
-pub marks_at : (old new : Pairs) (place : ℕ) (more : PageHist) → IsPlace place → AreKept old → AreKept new → TakesStamps old place more new → found place new ≢ found place old
+pub marks_at : (old new : MapPairs) (place : ℕ) (more : PageHist) → IsMapKey place → AreKept old → AreKept new → TakesStamps old place more new → found place new ≢ found place old
     → MarksChanged (kept old) (kept new) (1 * 2 ^ (place / 1208925819614629174706176) % 2 ^ 64)
 marks_at old new place more is are_old are_new takes differs bucket low =
     let i = place / 1208925819614629174706176 in
     let set = 1 * 2 ^ i % 2 ^ 64 in
     let inside : i < 64 = below_all_places place is in
-    let own : page_bucket (page_at place) ≡ i = own_bucket place is in
+    let own : page_bucket (page_of_key place) ≡ i = own_bucket place is in
     elim (cases_eq bucket i) [
       | inl here ↦ (
           let bit : bit_at set bucket ≡ 1 = ap (λ (b : ℕ). bit_at set b) here ∙ in_it i inside in (
@@ -191,63 +191,63 @@ marks_at old new place more is are_old are_new takes differs bucket low =
       | inr away ↦ (
           let bit : bit_at set bucket ≡ 0 = not_in_it i bucket inside away in (
             (λ one. absurd (omega (arith, bit, one))),
-            λ none. others_stay (kept old) (kept new) (record { page = page_at place; hist = more }) bucket (IsHistory-kept old are_old) (IsHistory-kept new are_new).pages_rise takes (λ same. away (sym same ∙ own)),
+            λ none. others_stay (kept old) (kept new) (record { page = page_of_key place; hist = more }) bucket (IsHistory-kept old are_old) (IsHistory-kept new are_new).pages_ascend takes (λ same. away (sym same ∙ own)),
           )
           )
     ]
 
 -- one page more of those that are taken in one after the other
-pub takes_more : (m p : ℕ) (more : PageHist) (first old new : Pairs) (before next : ℕ) → AreKept first → AreKept old → TakesRecent m old p more new → Grows (kept first) (kept old) → MarksChanged (kept first) (kept old) before → MarksChanged (kept old) (kept new) next
+pub takes_more : (m p : ℕ) (more : PageHist) (first old new : MapPairs) (before next : ℕ) → AreKept first → AreKept old → TakesRecent m old p more new → Grows (kept first) (kept old) → MarksChanged (kept first) (kept old) before → MarksChanged (kept old) (kept new) next
     → Grows (kept first) (kept new) × MarksChanged (kept first) (kept new) (bit_or before next)
 takes_more m p more first old new before next are_first are_old takes grows marks_before marks_next =
-    let S = recent m (told_at p more) in
+    let S = references_from m (told_at p more) in
     let whole_first = IsHistory-kept first are_first in
     let whole_old = IsHistory-kept old are_old in
     let step = grows_more (kept old) (kept old) (kept new) S whole_old whole_old (grows_same (kept old) whole_old) takes in (
       grows_more (kept first) (kept old) (kept new) S whole_first whole_old grows takes,
-      marks_more (kept first) (kept old) (kept new) before next whole_first.pages_rise whole_old.pages_rise grows step marks_before marks_next,
+      marks_more (kept first) (kept old) (kept new) before next whole_first.pages_ascend whole_old.pages_ascend grows step marks_before marks_next,
     )
 
 -- ---- what is taken in, and then cut
 
 -- where a cut leaves a bucket as it is, nothing in it says less of its pages
-hist_left : (m bucket : ℕ) (es : List Entry) (p : PageId) → IsHistory es → page_bucket p ≡ bucket → kept_entries m (bucket_entries bucket es) ≡ bucket_entries bucket es → hist (recent m (refs es)) p ≡ hist (refs es) p
+hist_left : (m bucket : ℕ) (es : List Entry) (p : PageId) → IsListHistory es → page_bucket p ≡ bucket → kept_entries m (bucket_entries bucket es) ≡ bucket_entries bucket es → list_hist (references_from m (list_references_of es)) p ≡ list_hist (list_references_of es) p
 hist_left m bucket es p whole there left =
-    sym (get-history (recent m (refs es)) p)
-    ∙ ap (λ t. get t p) (sym (history-kept m (refs es)) ∙ ap (kept_entries m) (history_of_own_references es whole))
+    sym (get-history (references_from m (list_references_of es)) p)
+    ∙ ap (λ t. get t p) (sym (history-kept m (list_references_of es)) ∙ ap (kept_entries m) (history_of_own_references es whole))
     ∙ sym (get-bucket bucket (kept_entries m es) p there)
     ∙ ap (λ t. get t p) (sym (bucket_left m bucket es) ∙ left)
     ∙ get-bucket bucket es p there
     ∙ sym (hist-refs es whole p)
 
 -- and it leaves it unchanged after more is taken in that isn't older
-left_with_more : (m bucket : ℕ) (es mid : List Entry) (rs : List Reference) → IsHistory es → mid ≡ history (refs es ++ recent m rs) → kept_entries m (bucket_entries bucket es) ≡ bucket_entries bucket es
+left_with_more : (m bucket : ℕ) (es mid : List Entry) (rs : List Reference) → IsListHistory es → mid ≡ list_history (list_references_of es ++ references_from m rs) → kept_entries m (bucket_entries bucket es) ≡ bucket_entries bucket es
     → bucket_entries bucket (kept_entries m mid) ≡ bucket_entries bucket mid
 left_with_more m bucket es mid rs whole is left =
-    let S = refs es ++ recent m rs in
-    let cut : kept_entries m mid ≡ history (recent m S) = ap (kept_entries m) is ∙ history-kept m S in
-    same_bucket bucket (kept_entries m mid) mid (subst PagesRise (sym cut) (IsHistory-history (recent m S)).pages_rise) (subst PagesRise (sym is) (IsHistory-history S).pages_rise) (λ p there.
+    let S = list_references_of es ++ references_from m rs in
+    let cut : kept_entries m mid ≡ list_history (references_from m S) = ap (kept_entries m) is ∙ history-kept m S in
+    same_bucket bucket (kept_entries m mid) mid (subst PagesAscend (sym cut) (IsHistory-history (references_from m S)).pages_ascend) (subst PagesAscend (sym is) (IsHistory-history S).pages_ascend) (λ p there.
     ap (λ t. get t p) cut
-    ∙ get-history (recent m S) p
-    ∙ ap (λ T. hist T p) (kept-append m (refs es) (recent m rs) ∙ ap (λ T. recent m (refs es) ++ T) (kept_within m m (le_refl m) rs))
-    ∙ hist-append (recent m (refs es)) (recent m rs) p
-    ∙ ap (λ x. joined x (hist (recent m rs) p)) (hist_left m bucket es p whole there left)
-    ∙ sym (hist-append (refs es) (recent m rs) p)
+    ∙ get-history (references_from m S) p
+    ∙ ap (λ T. list_hist T p) (kept-append m (list_references_of es) (references_from m rs) ∙ ap (λ T. references_from m (list_references_of es) ++ T) (kept_within m m (le_refl m) rs))
+    ∙ hist-append (references_from m (list_references_of es)) (references_from m rs) p
+    ∙ ap (λ x. joined x (list_hist (references_from m rs) p)) (hist_left m bucket es p whole there left)
+    ∙ sym (hist-append (list_references_of es) (references_from m rs) p)
     ∙ sym (get-history S p)
     ∙ ap (λ t. get t p) (sym is))
 
 -- the buckets that change as what isn't older than a time is taken in, and those that lose something at it, change as both is done
-pub marks_cut : (a b m k : ℕ) (es mid new : List Entry) (rs : List Reference) (changed lost : ℕ) → view.IsHistory (holding_since a es) → m ≡ max a b → k ≡ max a m → mid ≡ history (refs es ++ recent m rs) → new ≡ kept_entries k mid
-    → MarksChanged es mid changed → MarksLosing b (holding_since a es) lost → MarksChanged es new (bit_or changed lost)
+pub marks_cut : (a b m k : ℕ) (es mid new : List Entry) (rs : List Reference) (changed lost : ℕ) → view.IsHistory (history_of_entries_at a es) → m ≡ max a b → k ≡ max a m → mid ≡ list_history (list_references_of es ++ references_from m rs) → new ≡ kept_entries k mid
+    → MarksChanged es mid changed → MarksLosing b (history_of_entries_at a es) lost → MarksChanged es new (bit_or changed lost)
 marks_cut a b m k es mid new rs changed lost whole later latest is cut marks loses bucket low =
     let own = bucket_entries bucket es in
     let or_is = bit_at_or changed lost bucket in
     let changed_lt = bit_at-lt changed bucket in
     let lost_lt = bit_at-lt lost bucket in
     let same_time : k ≡ m = omega arith in
-    let listed : IsHistory es = record { pages_rise = whole.pages_rise; stamps_fall = whole.stamps_fall } in
+    let listed : IsListHistory es = record { pages_ascend = whole.pages_ascend; stamps_descend = whole.stamps_descend } in
     let now : bucket_entries bucket new ≡ kept_entries m (bucket_entries bucket mid) = ap (bucket_entries bucket) (cut ∙ ap (λ j. kept_entries j mid) same_time) ∙ sym (bucket_left m bucket mid) in
-    let raised_to : kept_entries m own ≡ bucket_entries bucket (entries_of (raised b (holding_since a es))) = ap (λ j. kept_entries j own) later ∙ raised_bucket (holding_since a es) b bucket whole in (
+    let raised_to : kept_entries m own ≡ bucket_entries bucket (entries_of (raised b (history_of_entries_at a es))) = ap (λ j. kept_entries j own) later ∙ raised_bucket (history_of_entries_at a es) b bucket whole in (
       (λ one same.
           let left : kept_entries m own ≡ own = entries_recent m own (subst (NoneOlder m) (sym now ∙ same) (none_left_older m (bucket_entries bucket mid))) in
           elim (cases_eq (bit_at changed bucket) 1) [

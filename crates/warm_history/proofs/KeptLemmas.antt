@@ -10,71 +10,71 @@ use Rattle.warm_stamps.specs.declared.Stamp.{Stamp}
 use Rattle.warm_stamps.specs.declared.PageId.{PageId}
 use Rattle.warm_stamps.specs.declared.Reference.{Reference}
 use Rattle.warm_stamps.specs.Stamps.{stamp_cmp, page_cmp}
-use Rattle.warm_stamps.specs.Distinct.{distinct, IsRising}
+use Rattle.warm_stamps.specs.Distinct.{distinct, IsAscending}
 use Rattle.warm_stamps.proofs.DistinctLemmas.{Has, IsStrictOrder, by_cases, distinct_same, distinct_rising, distinct_rises, has_distinct, has_from_distinct, rising_filter}
 use Rattle.warm_stamps.proofs.StampLemmas.{stamp_order, page_order, IsStrictOrder-flip}
 use Rattle.warm_history.specs.declared.hist.PageHist.{PageHist}
 use Rattle.warm_history.specs.declared.hist.PageHist.TheVariants.{Once, Twice}
 use Rattle.warm_history.specs.declared.hist.Entry.{Entry}
-use Rattle.warm_history.specs.ReferenceSets.{is_kept, recent}
+use Rattle.warm_history.specs.ReferenceSets.{is_kept, references_from}
 use Rattle.warm_history.specs.KeptEntries.{is_recent, shortened, shortened_entry, kept_hist, kept_entries}
-use Rattle.warm_history.specs.ListHistories.{first_two, hist, stamps, pages, history, entry_refs, stamps_held, refs}
+use Rattle.warm_history.specs.ListHistories.{first_two, list_hist, list_stamps, list_pages, list_history, references_of_entry, hist_stamps, list_references_of}
 use Rattle.std.proofs.lemmas.List.Elements.{filter-append}
 use Rattle.warm_history.proofs.ListHistoryLemmas.{told, entries, get_entries, rising_entries, named-distinct, named-some, get-history, IsHistory-history, same_gets}
 
 -- ---- cuts of lists
 
-pub kept-append : (m : ℕ) (S T : List Reference) → recent m (S ++ T) ≡ recent m S ++ recent m T
+pub kept-append : (m : ℕ) (S T : List Reference) → references_from m (S ++ T) ≡ references_from m S ++ references_from m T
 kept-append m S T = filter-append (λ r. is_kept m r.stamp) S T
 
 within : (a m : ℕ) (s : Stamp) → a ≤ m → is_kept a s ≡ false → is_kept m s ≡ false
 within a m s le old = grind (arith, nat_tests)
 
 -- a lesser cut before a greater one changes nothing
-pub kept_within : (a m : ℕ) → a ≤ m → (S : List Reference) → recent m (recent a S) ≡ recent m S
+pub kept_within : (a m : ℕ) → a ≤ m → (S : List Reference) → references_from m (references_from a S) ≡ references_from m S
 kept_within a m le [] = refl
 kept_within a m le (r ∷ S) = cases (is_kept a r.stamp) refl (is_kept m r.stamp) refl (kept_within a m le S)
   where
-    cases : (b : Bool) → is_kept a r.stamp ≡ b → (c : Bool) → is_kept m r.stamp ≡ c → recent m (recent a S) ≡ recent m S → recent m (recent a (r ∷ S)) ≡ recent m (r ∷ S)
+    cases : (b : Bool) → is_kept a r.stamp ≡ b → (c : Bool) → is_kept m r.stamp ≡ c → references_from m (references_from a S) ≡ references_from m S → references_from m (references_from a (r ∷ S)) ≡ references_from m (r ∷ S)
     cases true ra true rm rest = rw (ra, rm) (ap (λ t. r ∷ t) rest)
     cases true ra false rm rest = rw (ra, rm) rest
     cases false ra true rm rest = let no : true ≡ false = sym rm ∙ within a m r.stamp le ra in absurd (cc)
     cases false ra false rm rest = rw (ra, rm) rest
 
 -- a lesser cut after a greater one changes nothing
-pub kept_after : (a m : ℕ) → a ≤ m → (S : List Reference) → recent a (recent m S) ≡ recent m S
+pub kept_after : (a m : ℕ) → a ≤ m → (S : List Reference) → references_from a (references_from m S) ≡ references_from m S
 kept_after a m le [] = refl
 kept_after a m le (r ∷ S) = cases (is_kept m r.stamp) refl (is_kept a r.stamp) refl (kept_after a m le S)
   where
-    cases : (b : Bool) → is_kept m r.stamp ≡ b → (c : Bool) → is_kept a r.stamp ≡ c → recent a (recent m S) ≡ recent m S → recent a (recent m (r ∷ S)) ≡ recent m (r ∷ S)
+    cases : (b : Bool) → is_kept m r.stamp ≡ b → (c : Bool) → is_kept a r.stamp ≡ c → references_from a (references_from m S) ≡ references_from m S → references_from a (references_from m (r ∷ S)) ≡ references_from m (r ∷ S)
     cases true rm true ra rest = rw (rm) (rw ra (ap (λ t. r ∷ t) rest))
     cases true rm false ra rest = let no : true ≡ false = sym rm ∙ within a m r.stamp le ra in absurd (cc)
     cases false rm c ra rest = rw rm rest
 
 -- what is cut at two horizons together is cut at the greater one
-pub kept_both : (a b m : ℕ) → a ≤ m → b ≤ m → (S T : List Reference) → recent m (recent a S ++ recent b T) ≡ recent m (S ++ T)
+pub kept_both : (a b m : ℕ) → a ≤ m → b ≤ m → (S T : List Reference) → references_from m (references_from a S ++ references_from b T) ≡ references_from m (S ++ T)
 kept_both a b m le_a le_b S T =
-    kept-append m (recent a S) (recent b T)
-    ∙ ap (λ t. t ++ recent m (recent b T)) (kept_within a m le_a S)
-    ∙ ap (λ t. recent m S ++ t) (kept_within b m le_b T)
+    kept-append m (references_from a S) (references_from b T)
+    ∙ ap (λ t. t ++ references_from m (references_from b T)) (kept_within a m le_a S)
+    ∙ ap (λ t. references_from m S ++ t) (kept_within b m le_b T)
     ∙ sym (kept-append m S T)
 
 -- nothing is older than time 0
-pub kept_all : (S : List Reference) → recent 0 S ≡ S
+pub kept_all : (S : List Reference) → references_from 0 S ≡ S
 kept_all [] = refl
 kept_all (r ∷ S) = let here : is_kept 0 r.stamp ≡ true = grind (arith, nat_tests) in rw here (ap (λ t. r ∷ t) (kept_all S))
 
 -- a list of which the last items are the distinct ones, rising
-distinct_is : {A : Type 0} (cmp : A → A → Ordering) (order : IsStrictOrder cmp) (xs ys : List A) → IsRising cmp ys → ((x : A) → Has xs x → Has ys x) → ((x : A) → Has ys x → Has xs x) → distinct cmp xs ≡ ys
+distinct_is : {A : Type 0} (cmp : A → A → Ordering) (order : IsStrictOrder cmp) (xs ys : List A) → IsAscending cmp ys → ((x : A) → Has xs x → Has ys x) → ((x : A) → Has ys x → Has xs x) → distinct cmp xs ≡ ys
 distinct_is cmp order xs ys rising there back = distinct_same cmp order xs ys there back ∙ distinct_rising cmp order ys rising
 
 -- ---- the stamps of a page
 
-told_kept : (m : ℕ) (S : List Reference) (p : PageId) → told (recent m S) p ≡ filter (is_kept m) (told S p)
+told_kept : (m : ℕ) (S : List Reference) (p : PageId) → told (references_from m S) p ≡ filter (is_kept m) (told S p)
 told_kept m [] p = refl
 told_kept m (r ∷ S) p = cases (is_kept m r.stamp) refl (is_eq (page_cmp r.page p)) refl (told_kept m S p)
   where
-    cases : (b : Bool) → is_kept m r.stamp ≡ b → (c : Bool) → is_eq (page_cmp r.page p) ≡ c → told (recent m S) p ≡ filter (is_kept m) (told S p) → told (recent m (r ∷ S)) p ≡ filter (is_kept m) (told (r ∷ S) p)
+    cases : (b : Bool) → is_kept m r.stamp ≡ b → (c : Bool) → is_eq (page_cmp r.page p) ≡ c → told (references_from m S) p ≡ filter (is_kept m) (told S p) → told (references_from m (r ∷ S)) p ≡ filter (is_kept m) (told (r ∷ S) p)
     cases true is true here rest = rw (is, here) (rw is (ap (λ t. r.stamp ∷ t) rest))
     cases true is false other rest = rw (is, other) rest
     cases false is true here rest = rw (is, here) (rw is rest)
@@ -114,7 +114,7 @@ all_forgotten : (m : ℕ) (a : Stamp) (ss : List Stamp) → AllByRecursion (λ b
 all_forgotten m a [] below old = refl
 all_forgotten m a (b ∷ ss) below old = let gone : is_kept m b ≡ false = older_forgotten m a b below.0 old in rw gone (all_forgotten m a ss below.1 old)
 
-first_two_kept : (m : ℕ) (ss : List Stamp) → IsRising (flip_args stamp_cmp) ss → first_two (filter (is_kept m) ss) ≡ option_and_then (kept_hist m) (first_two ss)
+first_two_kept : (m : ℕ) (ss : List Stamp) → IsAscending (flip_args stamp_cmp) ss → first_two (filter (is_kept m) ss) ≡ option_and_then (kept_hist m) (first_two ss)
 first_two_kept m [] falls = refl
 first_two_kept m (a ∷ []) falls = elim (is_kept m a) as (λ b. first_two (cond b (a ∷ []) []) ≡ cond b (Some (Once a)) None) [ true ↦ refl | false ↦ refl ]
 first_two_kept m (a ∷ b ∷ ss) falls = cases (is_kept m a) refl (is_kept m b) refl
@@ -126,40 +126,40 @@ first_two_kept m (a ∷ b ∷ ss) falls = cases (is_kept m a) refl (is_kept m b)
     cases false ka false kb = let none : filter (is_kept m) ss ≡ [] = all_forgotten m b ss falls.1.0 kb in rw (ka, kb, none) refl
 
 -- what a list keeps of a page
-pub hist-kept : (m : ℕ) (S : List Reference) (p : PageId) → hist (recent m S) p ≡ option_and_then (kept_hist m) (hist S p)
+pub hist-kept : (m : ℕ) (S : List Reference) (p : PageId) → list_hist (references_from m S) p ≡ option_and_then (kept_hist m) (list_hist S p)
 hist-kept m S p =
     let falls = flip_args stamp_cmp in
     let order = IsStrictOrder-flip stamp_cmp stamp_order in
     ap (λ ss. first_two (distinct falls ss)) (told_kept m S p)
     ∙ ap first_two (distinct-filter falls order (is_kept m) (told S p))
-    ∙ first_two_kept m (stamps S p) (distinct_rises falls order (told S p))
+    ∙ first_two_kept m (list_stamps S p) (distinct_rises falls order (told S p))
 
 -- lists that agree on each page keep the same
-pub kept_alike : (m : ℕ) (S T : List Reference) → ((p : PageId) → hist S p ≡ hist T p) → (p : PageId) → hist (recent m S) p ≡ hist (recent m T) p
+pub kept_alike : (m : ℕ) (S T : List Reference) → ((p : PageId) → list_hist S p ≡ list_hist T p) → (p : PageId) → list_hist (references_from m S) p ≡ list_hist (references_from m T) p
 kept_alike m S T alike p = hist-kept m S p ∙ ap (option_and_then (kept_hist m)) (alike p) ∙ sym (hist-kept m T p)
 
 -- ---- the references of entries that aren't older than the horizon
 
-entry_kept : (m : ℕ) (p : PageId) (h : PageHist) → AllByRecursion (λ s. is_kept m s ≡ true) (stamps_held h) → recent m (entry_refs (record { page = p; hist = h })) ≡ entry_refs (record { page = p; hist = h })
+entry_kept : (m : ℕ) (p : PageId) (h : PageHist) → AllByRecursion (λ s. is_kept m s ≡ true) (hist_stamps h) → references_from m (references_of_entry (record { page = p; hist = h })) ≡ references_of_entry (record { page = p; hist = h })
 entry_kept m p (Once last) all = let here : is_kept m last ≡ true = all.0 in rw here refl
 entry_kept m p (Twice two) all = let here : is_kept m two.last ≡ true = all.0 in let there : is_kept m two.prev ≡ true = all.1.0 in rw (here, there) refl
 
-pub kept_refs : (m : ℕ) (es : List Entry) → AllByRecursion (λ e. AllByRecursion (λ s. is_kept m s ≡ true) (stamps_held e.hist)) es → recent m (refs es) ≡ refs es
+pub kept_refs : (m : ℕ) (es : List Entry) → AllByRecursion (λ e. AllByRecursion (λ s. is_kept m s ≡ true) (hist_stamps e.hist)) es → references_from m (list_references_of es) ≡ list_references_of es
 kept_refs m [] all = refl
 kept_refs m (e ∷ es) all =
-    kept-append m (entry_refs e) (refs es)
-    ∙ ap (λ t. t ++ recent m (refs es)) (entry_kept m e.page e.hist all.0)
-    ∙ ap (λ t. entry_refs e ++ t) (kept_refs m es all.1)
+    kept-append m (references_of_entry e) (list_references_of es)
+    ∙ ap (λ t. t ++ references_from m (list_references_of es)) (entry_kept m e.page e.hist all.0)
+    ∙ ap (λ t. references_of_entry e ++ t) (kept_refs m es all.1)
 
 some_same : {A : Type 0} (x y : A) → Some x ≡ Some y → x ≡ y
 some_same x y e = cc
 
 -- entries of which no stamp is older than the horizon are all left, as they are
-pub entries_recent : (m : ℕ) (es : List Entry) → AllByRecursion (λ e. AllByRecursion (λ s. is_kept m s ≡ true) (stamps_held e.hist)) es → kept_entries m es ≡ es
+pub entries_recent : (m : ℕ) (es : List Entry) → AllByRecursion (λ e. AllByRecursion (λ s. is_kept m s ≡ true) (hist_stamps e.hist)) es → kept_entries m es ≡ es
 entries_recent m [] all = refl
 entries_recent m (e ∷ es) all = cases e.page e.hist all.0 (entries_recent m es all.1)
   where
-    cases : (p : PageId) (h : PageHist) → AllByRecursion (λ s. is_kept m s ≡ true) (stamps_held h) → kept_entries m es ≡ es → kept_entries m (record { page = p; hist = h } ∷ es) ≡ record { page = p; hist = h } ∷ es
+    cases : (p : PageId) (h : PageHist) → AllByRecursion (λ s. is_kept m s ≡ true) (hist_stamps h) → kept_entries m es ≡ es → kept_entries m (record { page = p; hist = h } ∷ es) ≡ record { page = p; hist = h } ∷ es
     cases p (Once s) is rest = let here : is_kept m s ≡ true = is.0 in rw here (ap (λ t. record { page = p; hist = Once s } ∷ t) rest)
     cases p (Twice t) is rest =
         let here : is_kept m t.last ≡ true = is.0 in
@@ -167,27 +167,27 @@ entries_recent m (e ∷ es) all = cases e.page e.hist all.0 (entries_recent m es
         rw (here, there) (ap (λ x. record { page = p; hist = Twice t } ∷ x) rest)
 
 -- the references of a page's stamps that aren't older than the horizon are those of the stamps that aren't
-pub recent_entry : (m : ℕ) (p : PageId) (ss : List Stamp) → recent m (map (λ s. record { page = p; stamp = s }) ss) ≡ map (λ s. record { page = p; stamp = s }) (filter (is_kept m) ss)
+pub recent_entry : (m : ℕ) (p : PageId) (ss : List Stamp) → references_from m (map (λ s. record { page = p; stamp = s }) ss) ≡ map (λ s. record { page = p; stamp = s }) (filter (is_kept m) ss)
 recent_entry m p [] = refl
 recent_entry m p (s ∷ ss) = cases (is_kept m s) (recent_entry m p ss)
   where
-    cases : (b : Bool) → recent m (map (λ s. record { page = p; stamp = s }) ss) ≡ map (λ s. record { page = p; stamp = s }) (filter (is_kept m) ss) → cond b (record { page = p; stamp = s } ∷ recent m (map (λ s. record { page = p; stamp = s }) ss)) (recent m (map (λ s. record { page = p; stamp = s }) ss)) ≡ map (λ s. record { page = p; stamp = s }) (cond b (s ∷ filter (is_kept m) ss) (filter (is_kept m) ss))
+    cases : (b : Bool) → references_from m (map (λ s. record { page = p; stamp = s }) ss) ≡ map (λ s. record { page = p; stamp = s }) (filter (is_kept m) ss) → cond b (record { page = p; stamp = s } ∷ references_from m (map (λ s. record { page = p; stamp = s }) ss)) (references_from m (map (λ s. record { page = p; stamp = s }) ss)) ≡ map (λ s. record { page = p; stamp = s }) (cond b (s ∷ filter (is_kept m) ss) (filter (is_kept m) ss))
     cases true rest = ap (λ t. record { page = p; stamp = s } ∷ t) rest
     cases false rest = rest
 
 -- what is kept of a page's history is not older than the horizon
-pub none_older : (m : ℕ) (h : PageHist) (x : Option PageHist) → option_and_then (kept_hist m) x ≡ Some h → AllByRecursion (λ s. is_kept m s ≡ true) (stamps_held h)
+pub none_older : (m : ℕ) (h : PageHist) (x : Option PageHist) → option_and_then (kept_hist m) x ≡ Some h → AllByRecursion (λ s. is_kept m s ≡ true) (hist_stamps h)
 none_older m h None is = let no : None ≡ Some h = is in absurd (cc)
 none_older m h (Some (Once s)) is = cases (is_kept m s) refl
   where
-    cases : (b : Bool) → is_kept m s ≡ b → AllByRecursion (λ s. is_kept m s ≡ true) (stamps_held h)
-    cases true k = let same : Once s ≡ h = some_same _ _ (rw k at is) in subst (λ g. AllByRecursion (λ s. is_kept m s ≡ true) (stamps_held g)) same (k, tt)
+    cases : (b : Bool) → is_kept m s ≡ b → AllByRecursion (λ s. is_kept m s ≡ true) (hist_stamps h)
+    cases true k = let same : Once s ≡ h = some_same _ _ (rw k at is) in subst (λ g. AllByRecursion (λ s. is_kept m s ≡ true) (hist_stamps g)) same (k, tt)
     cases false k = let no : None ≡ Some h = rw k at is in absurd (cc)
 none_older m h (Some (Twice t)) is = cases (is_kept m t.last) refl (is_kept m t.prev) refl
   where
-    cases : (b : Bool) → is_kept m t.last ≡ b → (c : Bool) → is_kept m t.prev ≡ c → AllByRecursion (λ s. is_kept m s ≡ true) (stamps_held h)
-    cases true kl true kp = let same : Twice t ≡ h = some_same _ _ (rw (kl, kp) at is) in subst (λ g. AllByRecursion (λ s. is_kept m s ≡ true) (stamps_held g)) same (kl, (kp, tt))
-    cases true kl false kp = let same : Once t.last ≡ h = some_same _ _ (rw (kl, kp) at is) in subst (λ g. AllByRecursion (λ s. is_kept m s ≡ true) (stamps_held g)) same (kl, tt)
+    cases : (b : Bool) → is_kept m t.last ≡ b → (c : Bool) → is_kept m t.prev ≡ c → AllByRecursion (λ s. is_kept m s ≡ true) (hist_stamps h)
+    cases true kl true kp = let same : Twice t ≡ h = some_same _ _ (rw (kl, kp) at is) in subst (λ g. AllByRecursion (λ s. is_kept m s ≡ true) (hist_stamps g)) same (kl, (kp, tt))
+    cases true kl false kp = let same : Once t.last ≡ h = some_same _ _ (rw (kl, kp) at is) in subst (λ g. AllByRecursion (λ s. is_kept m s ≡ true) (hist_stamps g)) same (kl, tt)
     cases false kl c kp = let no : None ≡ Some h = rw kl at is in absurd (cc)
 
 -- what is true of each page's history is true of those of all entries
@@ -214,17 +214,17 @@ entries-kept m f (q ∷ qs) = cases (f q) (entries-kept m f qs)
     cases (Some h) rest = some h (is_recent m h) rest
 
 -- what is left of the history of a list is the history of what the list keeps
-pub history-kept : (m : ℕ) (S : List Reference) → kept_entries m (history S) ≡ history (recent m S)
-unfolding history
+pub history-kept : (m : ℕ) (S : List Reference) → kept_entries m (list_history S) ≡ list_history (references_from m S)
+unfolding list_history
 history-kept m S =
-    let f : PageId → Option PageHist = λ p. option_and_then (kept_hist m) (hist S p) in
-    entries-kept m (hist S) (pages S)
-    ∙ same_gets (entries f (pages S)) (history (recent m S)) (rising_entries f (pages S) (distinct_rises page_cmp page_order (map (λ r. r.page) S))) (IsHistory-history (recent m S)).pages_rise (λ p.
-    get_entries f (pages S) p
+    let f : PageId → Option PageHist = λ p. option_and_then (kept_hist m) (list_hist S p) in
+    entries-kept m (list_hist S) (list_pages S)
+    ∙ same_gets (entries f (list_pages S)) (list_history (references_from m S)) (rising_entries f (list_pages S) (distinct_rises page_cmp page_order (map (λ r. r.page) S))) (IsHistory-history (references_from m S)).pages_ascend (λ p.
+    get_entries f (list_pages S) p
     ∙ ap (λ b. cond b (f p) None) (named-distinct (map (λ (r : Reference). r.page) S) p ∙ named-some S p)
-    ∙ nothing_more (hist S p)
+    ∙ nothing_more (list_hist S p)
     ∙ sym (hist-kept m S p)
-    ∙ sym (get-history (recent m S) p))
+    ∙ sym (get-history (references_from m S) p))
   where
     nothing_more : (x : Option PageHist) → cond (is_some x) (option_and_then (kept_hist m) x) None ≡ option_and_then (kept_hist m) x
     nothing_more None = refl

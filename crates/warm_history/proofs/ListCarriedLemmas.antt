@@ -6,13 +6,13 @@ use Rattle.std.specs.Ordering.{is_eq, flip_args}
 use Rattle.warm_stamps.specs.declared.PageId.{PageId}
 use Rattle.warm_stamps.specs.declared.Reference.{Reference}
 use Rattle.warm_stamps.specs.Stamps.{stamp_cmp, page_cmp}
-use Rattle.warm_stamps.specs.Distinct.{distinct, IsRising}
+use Rattle.warm_stamps.specs.Distinct.{distinct, IsAscending}
 use Rattle.warm_stamps.proofs.DistinctLemmas.{is_equal, distinct_rises, rising_filter, rising_take, all_filter, all_of_has}
 use Rattle.warm_stamps.proofs.StampLemmas.{page_order}
 use Rattle.warm_history.specs.declared.hist.PageHist.{PageHist}
 use Rattle.warm_history.specs.declared.hist.Entry.{Entry}
-use Rattle.warm_history.specs.ListHistories.{references_to, first_two, hist, pages, history}
-use Rattle.warm_history.specs.Carried.{is_chosen}
+use Rattle.warm_history.specs.ListHistories.{list_references_to, first_two, list_hist, list_pages, list_history}
+use Rattle.warm_history.specs.Carried.{is_next_in_bucket}
 use Rattle.warm_history.proofs.ListHistoryLemmas.{named, entries, get_entries, rising_entries, has_named, named-some, named-distinct, get-history, IsHistory-history, same_gets}
 
 -- ---- entries of chosen pages
@@ -41,9 +41,9 @@ take-entries f (suc n) (q ∷ qs) all = cases (f q) all.0 (take-entries f n qs a
     cases (Some h) is rest = ap (λ t. record { page = q; hist = h } ∷ t) rest
 
 -- of each page that it names, a list says something
-all_said : (S : List Reference) → AllByRecursion (λ p. is_some (hist S p) ≡ true) (pages S)
-all_said S = all_of_has (λ p. is_some (hist S p) ≡ true) (pages S) (λ p has.
-    sym (named-some S p) ∙ sym (named-distinct (map (λ (r : Reference). r.page) S) p) ∙ has_named (pages S) p has)
+all_said : (S : List Reference) → AllByRecursion (λ p. is_some (list_hist S p) ≡ true) (list_pages S)
+all_said S = all_of_has (λ p. is_some (list_hist S p) ≡ true) (list_pages S) (λ p has.
+    sym (named-some S p) ∙ sym (named-distinct (map (λ (r : Reference). r.page) S) p) ∙ has_named (list_pages S) p has)
 
 -- ---- the references to chosen pages
 
@@ -60,11 +60,11 @@ nothing : (b : Bool) (none : List Reference) → none ≡ [] → none ≡ cond b
 nothing true none is = refl
 nothing false none is = is
 
-references_to-among : (S : List Reference) (ps : List PageId) (p : PageId) → references_to (among S ps) p ≡ cond (named ps p) (references_to S p) []
+references_to-among : (S : List Reference) (ps : List PageId) (p : PageId) → list_references_to (among S ps) p ≡ cond (named ps p) (list_references_to S p) []
 references_to-among [] ps p = nothing (named ps p) [] refl
 references_to-among (r ∷ S) ps p = cases (list_any (λ q. is_eq (page_cmp q r.page)) ps) refl (is_eq (page_cmp r.page p)) refl (references_to-among S ps p)
   where
-    cases : (t : Bool) → list_any (λ q. is_eq (page_cmp q r.page)) ps ≡ t → (b : Bool) → is_eq (page_cmp r.page p) ≡ b → references_to (among S ps) p ≡ cond (named ps p) (references_to S p) [] → references_to (cond (list_any (λ q. is_eq (page_cmp q r.page)) ps) (r ∷ among S ps) (among S ps)) p ≡ cond (named ps p) (cond (is_eq (page_cmp r.page p)) (r ∷ references_to S p) (references_to S p)) []
+    cases : (t : Bool) → list_any (λ q. is_eq (page_cmp q r.page)) ps ≡ t → (b : Bool) → is_eq (page_cmp r.page p) ≡ b → list_references_to (among S ps) p ≡ cond (named ps p) (list_references_to S p) [] → list_references_to (cond (list_any (λ q. is_eq (page_cmp q r.page)) ps) (r ∷ among S ps) (among S ps)) p ≡ cond (named ps p) (cond (is_eq (page_cmp r.page p)) (r ∷ list_references_to S p) (list_references_to S p)) []
     cases true is true here rest =
         let same : r.page ≡ p = page_order.same r.page p (is_equal (page_cmp r.page p) here) in
         let there : named ps p ≡ true = ap (named ps) (sym same) ∙ sym (any-named ps r.page) ∙ is in
@@ -76,28 +76,28 @@ references_to-among (r ∷ S) ps p = cases (list_any (λ q. is_eq (page_cmp q r.
         rw is (rest ∙ rw away refl)
     cases false is false other rest = rw (is, other) rest
 
-hist-among : (S : List Reference) (ps : List PageId) (p : PageId) → hist (among S ps) p ≡ cond (named ps p) (hist S p) None
+hist-among : (S : List Reference) (ps : List PageId) (p : PageId) → list_hist (among S ps) p ≡ cond (named ps p) (list_hist S p) None
 hist-among S ps p =
     ap (λ rs. first_two (distinct (flip_args stamp_cmp) (map (λ (r : Reference). r.stamp) rs))) (references_to-among S ps p)
-    ∙ elim (named ps p) as (λ b. first_two (distinct (flip_args stamp_cmp) (map (λ (r : Reference). r.stamp) (cond b (references_to S p) []))) ≡ cond b (hist S p) None) [ true ↦ refl | false ↦ refl ]
+    ∙ elim (named ps p) as (λ b. first_two (distinct (flip_args stamp_cmp) (map (λ (r : Reference). r.stamp) (cond b (list_references_to S p) []))) ≡ cond b (list_hist S p) None) [ true ↦ refl | false ↦ refl ]
 
 -- the history of the references to rising pages has an entry for each of these pages
-history-among : (S : List Reference) (ps : List PageId) → IsRising page_cmp ps → history (among S ps) ≡ entries (hist S) ps
+history-among : (S : List Reference) (ps : List PageId) → IsAscending page_cmp ps → list_history (among S ps) ≡ entries (list_hist S) ps
 history-among S ps rising =
     let whole = IsHistory-history (among S ps) in
-    same_gets (history (among S ps)) (entries (hist S) ps) whole.pages_rise (rising_entries (hist S) ps rising) (λ p.
-    get-history (among S ps) p ∙ hist-among S ps p ∙ sym (get_entries (hist S) ps p))
+    same_gets (list_history (among S ps)) (entries (list_hist S) ps) whole.pages_ascend (rising_entries (list_hist S) ps rising) (λ p.
+    get-history (among S ps) p ∙ hist-among S ps p ∙ sym (get_entries (list_hist S) ps p))
 
 -- the first pages of S that are in the bucket and after the page
 abbrev pub pages_carried : List Reference → ℕ → Option PageId → ℕ → List PageId
-pages_carried S bucket after limit = take limit (filter (is_chosen bucket after) (pages S))
+pages_carried S bucket after limit = take limit (filter (is_next_in_bucket bucket after) (list_pages S))
 
 -- the first entries of a history that are in the bucket and after the page are the history of what is carried
-pub history-carried : (S : List Reference) (bucket : ℕ) (after : Option PageId) (limit : ℕ) → take limit (filter (λ e. is_chosen bucket after e.page) (history S)) ≡ history (among S (pages_carried S bucket after limit))
-unfolding history
+pub history-carried : (S : List Reference) (bucket : ℕ) (after : Option PageId) (limit : ℕ) → take limit (filter (λ e. is_next_in_bucket bucket after e.page) (list_history S)) ≡ list_history (among S (pages_carried S bucket after limit))
+unfolding list_history
 history-carried S bucket after limit =
-    let chosen = is_chosen bucket after in
-    ap (take limit) (filter-entries (hist S) chosen (pages S))
-    ∙ take-entries (hist S) limit (filter chosen (pages S)) (all_filter (λ p. is_some (hist S p) ≡ true) chosen (pages S) (all_said S))
+    let chosen = is_next_in_bucket bucket after in
+    ap (take limit) (filter-entries (list_hist S) chosen (list_pages S))
+    ∙ take-entries (list_hist S) limit (filter chosen (list_pages S)) (all_filter (λ p. is_some (list_hist S p) ≡ true) chosen (list_pages S) (all_said S))
     ∙ sym (history-among S (pages_carried S bucket after limit)
-    (rising_take page_cmp limit (filter chosen (pages S)) (rising_filter page_cmp chosen (pages S) (distinct_rises page_cmp page_order (map (λ (r : Reference). r.page) S)))))
+    (rising_take page_cmp limit (filter chosen (list_pages S)) (rising_filter page_cmp chosen (list_pages S) (distinct_rises page_cmp page_order (map (λ (r : Reference). r.page) S)))))

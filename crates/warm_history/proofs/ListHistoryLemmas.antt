@@ -13,13 +13,13 @@ use Rattle.warm_stamps.specs.declared.Stamp.{Stamp}
 use Rattle.warm_stamps.specs.declared.PageId.{PageId}
 use Rattle.warm_stamps.specs.declared.Reference.{Reference}
 use Rattle.warm_stamps.specs.Stamps.{stamp_cmp, page_cmp}
-use Rattle.warm_stamps.specs.Distinct.{insert_distinct, distinct, IsRising}
+use Rattle.warm_stamps.specs.Distinct.{insert_distinct, distinct, IsAscending}
 use Rattle.warm_stamps.proofs.DistinctLemmas.{is_equal, Has, by_cases, flipped, distinct_same, distinct_swap, distinct_rises}
 use Rattle.warm_stamps.proofs.StampLemmas.{stamp_order, page_order, IsStrictOrder-flip}
 use Rattle.warm_history.specs.declared.hist.PageHist.{PageHist}
 use Rattle.warm_history.specs.declared.hist.PageHist.TheVariants.{Once, Twice}
 use Rattle.warm_history.specs.declared.hist.Entry.{Entry}
-use Rattle.warm_history.specs.ListHistories.{references_to, stamps, first_two, hist, pages, history, stamps_held, held, entry_refs, refs, IsFalling, IsHistory}
+use Rattle.warm_history.specs.ListHistories.{list_references_to, list_stamps, first_two, list_hist, list_pages, list_history, hist_stamps, known_stamps, references_of_entry, list_references_of, IsDescending, IsListHistory}
 use Rattle.warm_history.proofs.Lists.{front_two, front_two-both}
 
 -- the latest stamps that a list of entries holds of the page p
@@ -34,7 +34,7 @@ named (q ∷ qs) p = cond (is_eq (page_cmp q p)) true (named qs p)
 
 -- the stamps that the references of S have at the page p
 abbrev pub told : List Reference → PageId → List Stamp
-told S p = map (λ r. r.stamp) (references_to S p)
+told S p = map (λ r. r.stamp) (list_references_to S p)
 
 -- an entry for each page at which f has a value
 abbrev pub entries : (PageId → Option PageHist) → List PageId → List Entry
@@ -85,23 +85,23 @@ pub named-distinct : (ps : List PageId) (p : PageId) → named (distinct page_cm
 named-distinct [] p = refl
 named-distinct (q ∷ qs) p = named-insert q (distinct page_cmp qs) p ∙ ap (cond (is_eq (page_cmp q p)) true) (named-distinct qs p)
 
-references_to-unnamed : (S : List Reference) (p : PageId) → named (map (λ r. r.page) S) p ≡ false → references_to S p ≡ []
+references_to-unnamed : (S : List Reference) (p : PageId) → named (map (λ r. r.page) S) p ≡ false → list_references_to S p ≡ []
 references_to-unnamed [] p absent = refl
 references_to-unnamed (r ∷ S) p absent = cases (references_to-unnamed S p) (is_eq (page_cmp r.page p)) refl
   where
-    cases : (named (map (λ r. r.page) S) p ≡ false → references_to S p ≡ []) → (b : Bool) → is_eq (page_cmp r.page p) ≡ b → references_to (r ∷ S) p ≡ []
+    cases : (named (map (λ r. r.page) S) p ≡ false → list_references_to S p ≡ []) → (b : Bool) → is_eq (page_cmp r.page p) ≡ b → list_references_to (r ∷ S) p ≡ []
     cases rest true here = let no : true ≡ false = rw here at absent in cc
     cases rest false other = rw other (rest (rw other at absent))
 
 -- what a history says of a page
-pub get-history : (S : List Reference) (p : PageId) → get (history S) p ≡ hist S p
-unfolding history
-get-history S p = get_entries (hist S) (pages S) p ∙ cases (named (pages S) p) refl
+pub get-history : (S : List Reference) (p : PageId) → get (list_history S) p ≡ list_hist S p
+unfolding list_history
+get-history S p = get_entries (list_hist S) (list_pages S) p ∙ cases (named (list_pages S) p) refl
   where
-    cases : (b : Bool) → named (pages S) p ≡ b → cond (named (pages S) p) (hist S p) None ≡ hist S p
+    cases : (b : Bool) → named (list_pages S) p ≡ b → cond (named (list_pages S) p) (list_hist S p) None ≡ list_hist S p
     cases true present = rw present refl
     cases false absent =
-        let none : references_to S p ≡ [] = references_to-unnamed S p (sym (named-distinct (map (λ r. r.page) S) p) ∙ absent) in
+        let none : list_references_to S p ≡ [] = references_to-unnamed S p (sym (named-distinct (map (λ r. r.page) S) p) ∙ absent) in
         rw absent (ap (λ rs. first_two (distinct (flip_args stamp_cmp) (map (λ r. r.stamp) rs))) (sym none))
 
 -- ---- the order of a history
@@ -113,9 +113,9 @@ below_entries f b (q ∷ qs) all = elim (f q) as (λ x. AllByRecursion (λ e. pa
   | Some h ↦ (all.0, below_entries f b qs all.1)
 ]
 
-pub rising_entries : (f : PageId → Option PageHist) (ps : List PageId) → IsRising page_cmp ps → IsRising (on (λ e. e.page) page_cmp) (entries f ps)
+pub rising_entries : (f : PageId → Option PageHist) (ps : List PageId) → IsAscending page_cmp ps → IsAscending (on (λ e. e.page) page_cmp) (entries f ps)
 rising_entries f [] rising = tt
-rising_entries f (q ∷ qs) rising = elim (f q) as (λ x. IsRising (on (λ e. e.page) page_cmp) (cons_option (option_map (λ h. record { page = q; hist = h }) x) (entries f qs))) [
+rising_entries f (q ∷ qs) rising = elim (f q) as (λ x. IsAscending (on (λ e. e.page) page_cmp) (cons_option (option_map (λ h. record { page = q; hist = h }) x) (entries f qs))) [
   | None ↦ rising_entries f qs rising.1
   | Some h ↦ (below_entries f q qs rising.0, rising_entries f qs rising.1)
 ]
@@ -123,26 +123,26 @@ rising_entries f (q ∷ qs) rising = elim (f q) as (λ x. IsRising (on (λ e. e.
 -- the stamps of a page's history fall, if it has one
 abbrev pub IsFallingIfAny : Option PageHist → Type 0
 IsFallingIfAny None = Unit {0}
-IsFallingIfAny (Some h) = IsFalling h
+IsFallingIfAny (Some h) = IsDescending h
 
-pub falling_first_two : (ss : List Stamp) → IsRising (flip_args stamp_cmp) ss → IsFallingIfAny (first_two ss)
+pub falling_first_two : (ss : List Stamp) → IsAscending (flip_args stamp_cmp) ss → IsFallingIfAny (first_two ss)
 falling_first_two [] rising = tt
 falling_first_two (a ∷ []) rising = tt
 falling_first_two (a ∷ b ∷ ss) rising = rising.0.0
 
-falling_entries : (f : PageId → Option PageHist) → ((p : PageId) → IsFallingIfAny (f p)) → (ps : List PageId) → AllByRecursion (λ e. IsFalling e.hist) (entries f ps)
+falling_entries : (f : PageId → Option PageHist) → ((p : PageId) → IsFallingIfAny (f p)) → (ps : List PageId) → AllByRecursion (λ e. IsDescending e.hist) (entries f ps)
 falling_entries f falls [] = tt
-falling_entries f falls (q ∷ qs) = elim (f q) as (λ x. IsFallingIfAny x → AllByRecursion (λ e. IsFalling e.hist) (cons_option (option_map (λ h. record { page = q; hist = h }) x) (entries f qs))) [
+falling_entries f falls (q ∷ qs) = elim (f q) as (λ x. IsFallingIfAny x → AllByRecursion (λ e. IsDescending e.hist) (cons_option (option_map (λ h. record { page = q; hist = h }) x) (entries f qs))) [
   | None ↦ λ _. falling_entries f falls qs
   | Some h ↦ λ fall. (fall, falling_entries f falls qs)
 ] (falls q)
 
 -- what is true of every history is true of the history of any list
-pub IsHistory-history : (S : List Reference) → IsHistory (history S)
-unfolding history
+pub IsHistory-history : (S : List Reference) → IsListHistory (list_history S)
+unfolding list_history
 IsHistory-history S = record {
-  pages_rise = rising_entries (hist S) (pages S) (distinct_rises page_cmp page_order (map (λ r. r.page) S));
-  stamps_fall = falling_entries (hist S) (λ p. falling_first_two (stamps S p) (distinct_rises (flip_args stamp_cmp) (IsStrictOrder-flip stamp_cmp stamp_order) (told S p))) (pages S);
+  pages_ascend = rising_entries (list_hist S) (list_pages S) (distinct_rises page_cmp page_order (map (λ r. r.page) S));
+  stamps_descend = falling_entries (list_hist S) (λ p. falling_first_two (list_stamps S p) (distinct_rises (flip_args stamp_cmp) (IsStrictOrder-flip stamp_cmp stamp_order) (told S p))) (list_pages S);
 }
 
 -- ---- two histories that agree on each page are equal
@@ -174,7 +174,7 @@ get_later d e h g same above_d above_e alike p = cases (is_eq (page_cmp d.page p
         let both = alike p in
         rw (other, other_e) at both
 
-pub same_gets : (h g : List Entry) → IsRising (on (λ e. e.page) page_cmp) h → IsRising (on (λ e. e.page) page_cmp) g → ((p : PageId) → get h p ≡ get g p) → h ≡ g
+pub same_gets : (h g : List Entry) → IsAscending (on (λ e. e.page) page_cmp) h → IsAscending (on (λ e. e.page) page_cmp) g → ((p : PageId) → get h p ≡ get g p) → h ≡ g
 same_gets [] [] rise_h rise_g alike = refl
 same_gets [] (e ∷ g) rise_h rise_g alike = let no : None ≡ Some e.hist = alike e.page ∙ get_first e g e.page refl in absurd (cc)
 same_gets (d ∷ h) [] rise_h rise_g alike = let no : Some d.hist ≡ None = sym (get_first d h d.page refl) ∙ alike d.page in absurd (cc)
@@ -189,18 +189,18 @@ same_gets (d ∷ h) (e ∷ g) rise_h rise_g alike = by_cases (page_cmp d.page e.
     (λ more. let less : page_cmp e.page d.page ≡ Less = flipped page_cmp page_order d.page e.page Greater more in let no : None ≡ Some e.hist = sym (get_above e.page (d ∷ h) (less, above_less e.page d.page h less rise_h.0)) ∙ alike e.page ∙ get_first e g e.page refl in absurd (cc))
 
 -- lists that agree on each page have one history
-pub same_hists : (S T : List Reference) → ((p : PageId) → hist S p ≡ hist T p) → history S ≡ history T
+pub same_hists : (S T : List Reference) → ((p : PageId) → list_hist S p ≡ list_hist T p) → list_history S ≡ list_history T
 same_hists S T alike =
     let whole_S = IsHistory-history S in
     let whole_T = IsHistory-history T in
-    same_gets _ _ whole_S.pages_rise whole_T.pages_rise (λ p. get-history S p ∙ alike p ∙ sym (get-history T p))
+    same_gets _ _ whole_S.pages_ascend whole_T.pages_ascend (λ p. get-history S p ∙ alike p ∙ sym (get-history T p))
 
 -- ---- the references that a history holds
 
 pub told-append : (S T : List Reference) (p : PageId) → told (S ++ T) p ≡ told S p ++ told T p
-told-append S T p = ap (map (λ r. r.stamp)) (filter-append (λ r. is_eq (page_cmp r.page p)) S T) ∙ map-append (λ r. r.stamp) (references_to S p) (references_to T p)
+told-append S T p = ap (map (λ r. r.stamp)) (filter-append (λ r. is_eq (page_cmp r.page p)) S T) ∙ map-append (λ r. r.stamp) (list_references_to S p) (list_references_to T p)
 
-pub told_entry : (page : PageId) (h : PageHist) (p : PageId) → told (entry_refs (record { page = page; hist = h })) p ≡ cond (is_eq (page_cmp page p)) (stamps_held h) []
+pub told_entry : (page : PageId) (h : PageHist) (p : PageId) → told (references_of_entry (record { page = page; hist = h })) p ≡ cond (is_eq (page_cmp page p)) (hist_stamps h) []
 told_entry page (Once s) p =
     let r : Reference = record { page = page; stamp = s } in
     elim (is_eq (page_cmp page p)) as (λ b. map (λ (r : Reference). r.stamp) (cond b (r ∷ []) []) ≡ cond b (s ∷ []) []) [ true ↦ refl | false ↦ refl ]
@@ -209,40 +209,40 @@ told_entry page (Twice t) p =
     let older : Reference = record { page = page; stamp = t.prev } in
     elim (is_eq (page_cmp page p)) as (λ b. map (λ (r : Reference). r.stamp) (cond b (r ∷ cond b (older ∷ []) []) (cond b (older ∷ []) [])) ≡ cond b (t.last ∷ t.prev ∷ []) []) [ true ↦ refl | false ↦ refl ]
 
-pub told_refs : (h : List Entry) → IsRising (on (λ e. e.page) page_cmp) h → (p : PageId) → told (refs h) p ≡ held (get h p)
+pub told_refs : (h : List Entry) → IsAscending (on (λ e. e.page) page_cmp) h → (p : PageId) → told (list_references_of h) p ≡ known_stamps (get h p)
 told_refs [] rising p = refl
 told_refs (e ∷ h) rising p =
-    told-append (entry_refs e) (refs h) p
-    ∙ ap (λ ss. ss ++ told (refs h) p) (told_entry e.page e.hist p)
-    ∙ ap (λ ss. cond (is_eq (page_cmp e.page p)) (stamps_held e.hist) [] ++ ss) (told_refs h rising.1 p)
+    told-append (references_of_entry e) (list_references_of h) p
+    ∙ ap (λ ss. ss ++ told (list_references_of h) p) (told_entry e.page e.hist p)
+    ∙ ap (λ ss. cond (is_eq (page_cmp e.page p)) (hist_stamps e.hist) [] ++ ss) (told_refs h rising.1 p)
     ∙ cases (is_eq (page_cmp e.page p)) refl
   where
-    cases : (b : Bool) → is_eq (page_cmp e.page p) ≡ b → cond (is_eq (page_cmp e.page p)) (stamps_held e.hist) [] ++ held (get h p) ≡ held (cond (is_eq (page_cmp e.page p)) (Some e.hist) (get h p))
+    cases : (b : Bool) → is_eq (page_cmp e.page p) ≡ b → cond (is_eq (page_cmp e.page p)) (hist_stamps e.hist) [] ++ known_stamps (get h p) ≡ known_stamps (cond (is_eq (page_cmp e.page p)) (Some e.hist) (get h p))
     cases true here =
         let tied : e.page ≡ p = page_order.same e.page p (is_equal (page_cmp e.page p) here) in
-        rw here (ap (λ x. stamps_held e.hist ++ held x) (ap (get h) (sym tied) ∙ get_above e.page h rising.0) ∙ append-nil (stamps_held e.hist))
+        rw here (ap (λ x. hist_stamps e.hist ++ known_stamps x) (ap (get h) (sym tied) ∙ get_above e.page h rising.0) ∙ append-nil (hist_stamps e.hist))
     cases false other = rw other refl
 
-pub first_two-held : (x : Option PageHist) → IsFallingIfAny x → first_two (distinct (flip_args stamp_cmp) (held x)) ≡ x
+pub first_two-held : (x : Option PageHist) → IsFallingIfAny x → first_two (distinct (flip_args stamp_cmp) (known_stamps x)) ≡ x
 first_two-held None falls = refl
 first_two-held (Some (Once s)) falls = refl
 first_two-held (Some (Twice t)) falls = let older : stamp_cmp t.prev t.last ≡ Less = falls in rw older refl
 
-falling_get : (h : List Entry) → AllByRecursion (λ e. IsFalling e.hist) h → (p : PageId) → IsFallingIfAny (get h p)
+falling_get : (h : List Entry) → AllByRecursion (λ e. IsDescending e.hist) h → (p : PageId) → IsFallingIfAny (get h p)
 falling_get [] falls p = tt
 falling_get (e ∷ h) falls p = elim (is_eq (page_cmp e.page p)) as (λ b. IsFallingIfAny (cond b (Some e.hist) (get h p))) [ true ↦ falls.0 | false ↦ falling_get h falls.1 p ]
 
 -- the references of a history say of each page what the history says
-pub hist-refs : (h : List Entry) → IsHistory h → (p : PageId) → hist (refs h) p ≡ get h p
+pub hist-refs : (h : List Entry) → IsListHistory h → (p : PageId) → list_hist (list_references_of h) p ≡ get h p
 hist-refs h whole p =
-    ap (λ ss. first_two (distinct (flip_args stamp_cmp) ss)) (told_refs h whole.pages_rise p)
-    ∙ first_two-held (get h p) (falling_get h whole.stamps_fall p)
+    ap (λ ss. first_two (distinct (flip_args stamp_cmp) ss)) (told_refs h whole.pages_ascend p)
+    ∙ first_two-held (get h p) (falling_get h whole.stamps_descend p)
 
 -- what two lists say of a page together follows from what each says
 abbrev pub joined : Option PageHist → Option PageHist → Option PageHist
-joined a b = first_two (distinct (flip_args stamp_cmp) (held a ++ held b))
+joined a b = first_two (distinct (flip_args stamp_cmp) (known_stamps a ++ known_stamps b))
 
-pub held-first_two : (ss : List Stamp) → held (first_two ss) ≡ front_two ss
+pub held-first_two : (ss : List Stamp) → known_stamps (first_two ss) ≡ front_two ss
 held-first_two [] = refl
 held-first_two (a ∷ []) = refl
 held-first_two (a ∷ b ∷ ss) = refl
@@ -252,25 +252,25 @@ first_two-front_two [] = refl
 first_two-front_two (a ∷ []) = refl
 first_two-front_two (a ∷ b ∷ ss) = refl
 
-pub hist-append : (S T : List Reference) (p : PageId) → hist (S ++ T) p ≡ joined (hist S p) (hist T p)
+pub hist-append : (S T : List Reference) (p : PageId) → list_hist (S ++ T) p ≡ joined (list_hist S p) (list_hist T p)
 hist-append S T p =
     let falls = flip_args stamp_cmp in
     ap (λ ss. first_two (distinct falls ss)) (told-append S T p)
     ∙ sym (first_two-front_two (distinct falls (told S p ++ told T p)))
     ∙ ap first_two (front_two-both falls (IsStrictOrder-flip stamp_cmp stamp_order) (told S p) (told T p))
-    ∙ first_two-front_two (distinct falls (front_two (stamps S p) ++ front_two (stamps T p)))
-    ∙ ap (λ ss. first_two (distinct falls (ss ++ front_two (stamps T p)))) (sym (held-first_two (stamps S p)))
-    ∙ ap (λ ss. first_two (distinct falls (held (hist S p) ++ ss))) (sym (held-first_two (stamps T p)))
+    ∙ first_two-front_two (distinct falls (front_two (list_stamps S p) ++ front_two (list_stamps T p)))
+    ∙ ap (λ ss. first_two (distinct falls (ss ++ front_two (list_stamps T p)))) (sym (held-first_two (list_stamps S p)))
+    ∙ ap (λ ss. first_two (distinct falls (known_stamps (list_hist S p) ++ ss))) (sym (held-first_two (list_stamps T p)))
 
-pub hist_swap : (S T : List Reference) (p : PageId) → hist (S ++ T) p ≡ hist (T ++ S) p
+pub hist_swap : (S T : List Reference) (p : PageId) → list_hist (S ++ T) p ≡ list_hist (T ++ S) p
 hist_swap S T p =
     let falls = flip_args stamp_cmp in
     ap (λ ss. first_two (distinct falls ss)) (told-append S T p)
     ∙ ap first_two (distinct_swap falls (IsStrictOrder-flip stamp_cmp stamp_order) (told S p) (told T p))
     ∙ ap (λ ss. first_two (distinct falls ss)) (sym (told-append T S p))
 
-pub hist_refs-history : (S : List Reference) (p : PageId) → hist (refs (history S)) p ≡ hist S p
-hist_refs-history S p = hist-refs (history S) (IsHistory-history S) p ∙ get-history S p
+pub hist_refs-history : (S : List Reference) (p : PageId) → list_hist (list_references_of (list_history S)) p ≡ list_hist S p
+hist_refs-history S p = hist-refs (list_history S) (IsHistory-history S) p ∙ get-history S p
 
 -- ---- the pages that a list names
 
@@ -302,20 +302,20 @@ some_inserted s (t ∷ ss) = by_cases (flip_args stamp_cmp s t) _
     (λ more. rw more (some_first t (insert_distinct (flip_args stamp_cmp) s ss)))
 
 -- a list names the pages of which it says something
-pub named-some : (S : List Reference) (p : PageId) → named (map (λ r. r.page) S) p ≡ is_some (hist S p)
+pub named-some : (S : List Reference) (p : PageId) → named (map (λ r. r.page) S) p ≡ is_some (list_hist S p)
 named-some [] p = refl
-named-some (r ∷ S) p = elim (is_eq (page_cmp r.page p)) as (λ b. cond b true (named (map (λ (x : Reference). x.page) S) p) ≡ is_some (first_two (distinct (flip_args stamp_cmp) (map (λ (x : Reference). x.stamp) (cond b (r ∷ references_to S p) (references_to S p)))))) [
-  | true ↦ sym (some_inserted r.stamp (stamps S p))
+named-some (r ∷ S) p = elim (is_eq (page_cmp r.page p)) as (λ b. cond b true (named (map (λ (x : Reference). x.page) S) p) ≡ is_some (first_two (distinct (flip_args stamp_cmp) (map (λ (x : Reference). x.stamp) (cond b (r ∷ list_references_to S p) (list_references_to S p)))))) [
+  | true ↦ sym (some_inserted r.stamp (list_stamps S p))
   | false ↦ named-some S p
 ]
 
 -- lists that agree on each page name the same pages
-pub pages_alike : (S T : List Reference) → ((p : PageId) → hist S p ≡ hist T p) → pages S ≡ pages T
+pub pages_alike : (S T : List Reference) → ((p : PageId) → list_hist S p ≡ list_hist T p) → list_pages S ≡ list_pages T
 pages_alike S T alike = distinct_same page_cmp page_order _ _ (within S T alike) (within T S (λ p. sym (alike p)))
   where
-    within : (S T : List Reference) → ((p : PageId) → hist S p ≡ hist T p) → (p : PageId) → Has (map (λ (r : Reference). r.page) S) p → Has (map (λ (r : Reference). r.page) T) p
+    within : (S T : List Reference) → ((p : PageId) → list_hist S p ≡ list_hist T p) → (p : PageId) → Has (map (λ (r : Reference). r.page) S) p → Has (map (λ (r : Reference). r.page) T) p
     within S T alike p has = named_has (map (λ (r : Reference). r.page) T) p (named-some T p ∙ ap is_some (sym (alike p)) ∙ sym (named-some S p) ∙ has_named (map (λ (r : Reference). r.page) S) p has)
 
 -- of a page that it names a list says something
-pub some_named : (S : List Reference) (p : PageId) → Has (map (λ r. r.page) S) p → is_some (hist S p) ≡ true
+pub some_named : (S : List Reference) (p : PageId) → Has (map (λ r. r.page) S) p → is_some (list_hist S p) ≡ true
 some_named S p has = sym (named-some S p) ∙ has_named (map (λ (r : Reference). r.page) S) p has

@@ -8,7 +8,7 @@ use Rattle.warm_stamps.specs.declared.Reference.{Reference}
 use Rattle.warm_stamps.specs.Stamps.{stamp_cmp, page_cmp}
 use Rattle.warm_stamps.proofs.DistinctLemmas.{is_equal, Has, distinct_same}
 use Rattle.warm_stamps.proofs.StampLemmas.{stamp_order, page_order, IsStrictOrder-flip}
-use Rattle.warm_history.specs.ListHistories.{first_two, hist, history}
+use Rattle.warm_history.specs.ListHistories.{first_two, list_hist, list_history}
 use Rattle.warm_history.specs.References.{IsIn}
 use Rattle.warm_history.proofs.ListHistoryLemmas.{told, same_hists}
 
@@ -38,10 +38,10 @@ told_has (r ∷ S) p s is_in = elim is_in [
     cases rest false other = rw other rest
 
 -- lists of the same references agree on each page
-pub hist_of_set : (S T : List Reference) → ((r : Reference) → IsIn r S → IsIn r T) → ((r : Reference) → IsIn r T → IsIn r S) → (p : PageId) → hist S p ≡ hist T p
+pub hist_of_set : (S T : List Reference) → ((r : Reference) → IsIn r S → IsIn r T) → ((r : Reference) → IsIn r T → IsIn r S) → (p : PageId) → list_hist S p ≡ list_hist T p
 hist_of_set S T there back p = ap first_two (distinct_same (flip_args stamp_cmp) (IsStrictOrder-flip stamp_cmp stamp_order) (told S p) (told T p)
     (λ s has. told_has T p s (there (record { page = p; stamp = s }) (told_is_in S p s has)))
     (λ s has. told_has S p s (back (record { page = p; stamp = s }) (told_is_in T p s has))))
 
-pub history_of_set : (S T : List Reference) → ((r : Reference) → IsIn r S → IsIn r T) → ((r : Reference) → IsIn r T → IsIn r S) → history S ≡ history T
+pub history_of_set : (S T : List Reference) → ((r : Reference) → IsIn r S → IsIn r T) → ((r : Reference) → IsIn r T → IsIn r S) → list_history S ≡ list_history T
 history_of_set S T there back = same_hists S T (hist_of_set S T there back)

@@ -1,7 +1,7 @@
 -- Facts on `distinct`, and on the first two of its items.
 use Rattle.std.proofs.Common.{◌≡◌, List, [], ◌∷◌, ◌++◌, sym, ap, refl, ◌∙◌}
 use Rattle.std.specs.declared.cmp.Ordering.{Ordering}
-use Rattle.warm_stamps.specs.Distinct.{insert_distinct, distinct, IsRising}
+use Rattle.warm_stamps.specs.Distinct.{insert_distinct, distinct, IsAscending}
 use Rattle.warm_stamps.proofs.DistinctLemmas.{IsStrictOrder, by_cases, distinct_swap, distinct_rises, distinct_rising}
 
 -- the first two items
@@ -25,7 +25,7 @@ module _ {A : Type 0} (cmp : A → A → Ordering) (order : IsStrictOrder cmp) w
   front_two_again (a ∷ []) = refl
   front_two_again (a ∷ b ∷ ys) = refl
 
-  front_rises : (ys : List A) → IsRising cmp ys → IsRising cmp (front_two ys)
+  front_rises : (ys : List A) → IsAscending cmp ys → IsAscending cmp (front_two ys)
   front_rises [] rising = tt
   front_rises (a ∷ []) rising = rising
   front_rises (a ∷ b ∷ ys) rising = ((rising.0.0, tt), ((tt, tt)))

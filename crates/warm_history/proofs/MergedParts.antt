@@ -9,10 +9,10 @@ use Rattle.warm_stamps.specs.Stamps.{page_cmp}
 use Rattle.warm_stamps.proofs.DistinctLemmas.{flipped, all_filter}
 use Rattle.warm_stamps.proofs.StampLemmas.{page_order}
 use Rattle.warm_history.specs.declared.hist.Entry.{Entry}
-use Rattle.warm_history.specs.ListHistories.{PagesRise}
+use Rattle.warm_history.specs.ListHistories.{PagesAscend}
 use Rattle.warm_history.specs.Carried.{bucket_entries}
 use Rattle.warm_history.specs.Merges.{later_of_bucket, is_between, of_buckets, first_of, rest_of, is_later, merge}
-use Rattle.warm_history.specs.Tree.{Pairs, as_entries, kept}
+use Rattle.warm_history.specs.Tree.{MapPairs, as_entries, kept}
 use Rattle.warm_history.proofs.ListHistoryLemmas.{AllAbove}
 use Rattle.warm_history.proofs.OrderLemmas.{in_order_rises}
 
@@ -53,7 +53,7 @@ AreParts p q r = (e : Entry) → ((p e ≡ true) × (q e ≡ false) × (r e ≡ 
 
 module _ (p q r : Entry → Bool) (parts : AreParts p q r) where
   -- entries that pass the one test or the other, merged, are those that pass the third
-  pub merge_filters : (h : List Entry) → PagesRise h → merge (filter p h) (filter q h) ≡ filter r h
+  pub merge_filters : (h : List Entry) → PagesAscend h → merge (filter p h) (filter q h) ≡ filter r h
   merge_filters [] rising = refl
   merge_filters (e ∷ h) rising = elim (parts e) [
     | inl is ↦ rw is.0 (rw is.1 (rw is.2 (
@@ -94,7 +94,7 @@ between_parts from middle to first second e = cases (nat_lt (page_bucket e.page)
         inr (rw above is_lt, rw there (rw above refl))
 
 -- the entries of some buckets that the pairs keep, and those of as many that follow
-pub two_halves : (pairs : Pairs) (from half to : ℕ) (xs ys : List Entry) → from + half + half ≡ to → xs ≡ of_buckets from (from + half) (kept pairs) → ys ≡ of_buckets (from + half) (from + half + half) (kept pairs) → merge xs ys ≡ of_buckets from to (kept pairs)
+pub two_halves : (pairs : MapPairs) (from half to : ℕ) (xs ys : List Entry) → from + half + half ≡ to → xs ≡ of_buckets from (from + half) (kept pairs) → ys ≡ of_buckets (from + half) (from + half + half) (kept pairs) → merge xs ys ≡ of_buckets from to (kept pairs)
 two_halves pairs from half to xs ys size one other =
     ap (λ t. merge t ys) one
     ∙ ap (merge (of_buckets from (from + half) (kept pairs))) (other ∙ ap (λ n. of_buckets (from + half) n (kept pairs)) size)

@@ -11,7 +11,7 @@ use Rattle.warm_stamps.specs.Stamps.{page_cmp}
 use Rattle.warm_stamps.proofs.DistinctLemmas.{is_equal, by_cases, flipped}
 use Rattle.warm_stamps.proofs.StampLemmas.{page_order}
 use Rattle.warm_history.specs.declared.hist.Entry.{Entry}
-use Rattle.warm_history.specs.ListHistories.{IsFalling, PagesRise, IsHistory}
+use Rattle.warm_history.specs.ListHistories.{IsDescending, PagesAscend, IsListHistory}
 use Rattle.warm_history.specs.Tree.{put_in, in_page_order}
 use Rattle.warm_history.proofs.ListHistoryLemmas.{get, either_way, AllAbove, above_less}
 
@@ -59,31 +59,31 @@ above_put_in p e (x ∷ h) less all = by_cases (page_cmp e.page x.page) _
     (λ ex. rw ex (less, all.1))
     (λ ex. rw ex (all.0, above_put_in p e h less all.1))
 
-rising_put_in : (e : Entry) (h : List Entry) → PagesRise h → PagesRise (put_in e h)
+rising_put_in : (e : Entry) (h : List Entry) → PagesAscend h → PagesAscend (put_in e h)
 rising_put_in e [] rising = (tt, tt)
 rising_put_in e (x ∷ h) rising = by_cases (page_cmp e.page x.page) _
     (λ ex. rw ex ((ex, above_less e.page x.page h ex rising.0), rising))
     (λ ex. let same : x.page ≡ e.page = sym (page_order.same e.page x.page ex) in rw ex (subst (λ p. AllAbove p h) same rising.0, rising.1))
     (λ ex. rw ex (above_put_in x.page e h (flipped page_cmp page_order e.page x.page Greater ex) rising.0, rising_put_in e h rising.1))
 
-pub in_order_rises : (es : List Entry) → PagesRise (in_page_order es)
+pub in_order_rises : (es : List Entry) → PagesAscend (in_page_order es)
 in_order_rises [] = tt
 in_order_rises (e ∷ es) = rising_put_in e (in_page_order es) (in_order_rises es)
 
-falling_put_in : (e : Entry) (h : List Entry) → IsFalling e.hist → AllByRecursion (λ (x : Entry). IsFalling x.hist) h → AllByRecursion (λ (x : Entry). IsFalling x.hist) (put_in e h)
+falling_put_in : (e : Entry) (h : List Entry) → IsDescending e.hist → AllByRecursion (λ (x : Entry). IsDescending x.hist) h → AllByRecursion (λ (x : Entry). IsDescending x.hist) (put_in e h)
 falling_put_in e [] fall all = (fall, tt)
 falling_put_in e (x ∷ h) fall all = by_cases (page_cmp e.page x.page) _
     (λ ex. rw ex (fall, all))
     (λ ex. rw ex (fall, all.1))
     (λ ex. rw ex (all.0, falling_put_in e h fall all.1))
 
-falling_in_order : (es : List Entry) → AllByRecursion (λ (x : Entry). IsFalling x.hist) es → AllByRecursion (λ (x : Entry). IsFalling x.hist) (in_page_order es)
+falling_in_order : (es : List Entry) → AllByRecursion (λ (x : Entry). IsDescending x.hist) es → AllByRecursion (λ (x : Entry). IsDescending x.hist) (in_page_order es)
 falling_in_order [] all = tt
 falling_in_order (e ∷ es) all = falling_put_in e (in_page_order es) all.0 (falling_in_order es all.1)
 
 -- entries whose stamps fall are a history once they are in page order
-pub IsHistory-in_order : (es : List Entry) → AllByRecursion (λ (x : Entry). IsFalling x.hist) es → IsHistory (in_page_order es)
-IsHistory-in_order es all = record { pages_rise = in_order_rises es; stamps_fall = falling_in_order es all }
+pub IsHistory-in_order : (es : List Entry) → AllByRecursion (λ (x : Entry). IsDescending x.hist) es → IsListHistory (in_page_order es)
+IsHistory-in_order es all = record { pages_ascend = in_order_rises es; stamps_descend = falling_in_order es all }
 
 -- ---- the same entries
 

@@ -15,13 +15,13 @@ use Rattle.warm_history.specs.declared.hist.PageHist.{PageHist}
 use Rattle.warm_history.specs.declared.hist.PageHist.TheVariants.{Once, Twice}
 use Rattle.warm_history.specs.declared.hist.Entry.{Entry}
 use Rattle.warm_history.specs.Carried.{bucket_entries}
-use Rattle.warm_history.specs.Changes.{StaysIn, MarksChanged}
-use Rattle.warm_history.specs.ListHistories.{first_two, latest_of, stamps_held, held, entry_refs, refs, history}
-use Rattle.warm_history.specs.ReferenceSets.{is_kept, recent}
-use Rattle.warm_history.specs.Places.{first_place, place_of, page_at, IsPlace}
-use Rattle.warm_history.specs.Tree.{Pairs, kept, AreKept, told_at, TakesEntries, TakesRecent, TakesStamps}
+use Rattle.warm_history.specs.Changes.{SameInBucket, MarksChanged}
+use Rattle.warm_history.specs.ListHistories.{first_two, latest_of, hist_stamps, known_stamps, references_of_entry, list_references_of, list_history}
+use Rattle.warm_history.specs.ReferenceSets.{is_kept, references_from}
+use Rattle.warm_history.specs.Places.{first_key, key_of_page, page_of_key, IsMapKey}
+use Rattle.warm_history.specs.Tree.{MapPairs, kept, AreKept, told_at, TakesEntries, TakesRecent, TakesStamps}
 use Rattle.warm_history.specs.BucketMaps.{LiesIn, HoldsBucket, found}
-use Rattle.warm_history.specs.Runs.{RiseWithin, IsRun, at_place, run_pairs, filled}
+use Rattle.warm_history.specs.Runs.{RiseWithin, IsRun, at_place, run_pairs, with_pairs}
 use Rattle.warm_history.proofs.ListHistoryLemmas.{hist_swap}
 use Rattle.warm_history.proofs.ListJoinLemmas.{history_alike, history_first, history_of_own_references}
 use Rattle.warm_history.proofs.PlaceOrder.{nat_order}
@@ -32,22 +32,22 @@ use Rattle.warm_history.proofs.RunPairs.{AreAbove, run_above, found_free}
 
 -- ---- the stamps that a horizon leaves
 
-two_left : (a b : Bool) (x y : Stamp) → held (first_two (cond a (x ∷ cond b (y ∷ []) []) (cond b (y ∷ []) []))) ≡ cond a (x ∷ cond b (y ∷ []) []) (cond b (y ∷ []) [])
+two_left : (a b : Bool) (x y : Stamp) → known_stamps (first_two (cond a (x ∷ cond b (y ∷ []) []) (cond b (y ∷ []) []))) ≡ cond a (x ∷ cond b (y ∷ []) []) (cond b (y ∷ []) [])
 two_left true true x y = refl
 two_left true false x y = refl
 two_left false true x y = refl
 two_left false false x y = refl
 
-one_left : (a : Bool) (x : Stamp) → held (first_two (cond a (x ∷ []) [])) ≡ cond a (x ∷ []) []
+one_left : (a : Bool) (x : Stamp) → known_stamps (first_two (cond a (x ∷ []) [])) ≡ cond a (x ∷ []) []
 one_left true x = refl
 one_left false x = refl
 
 -- they are those of a page's history, if any is left
-held_left : (m : ℕ) (h : PageHist) → held (first_two (filter (is_kept m) (stamps_held h))) ≡ filter (is_kept m) (stamps_held h)
+held_left : (m : ℕ) (h : PageHist) → known_stamps (first_two (filter (is_kept m) (hist_stamps h))) ≡ filter (is_kept m) (hist_stamps h)
 held_left m (Once last) = one_left (is_kept m last) last
 held_left m (Twice two) = two_left (is_kept m two.last) (is_kept m two.prev) two.last two.prev
 
-some_latest : (h : PageHist) → (k : PageHist) × (Some k ≡ latest_of (stamps_held h))
+some_latest : (h : PageHist) → (k : PageHist) × (Some k ≡ latest_of (hist_stamps h))
 some_latest (Once last) = (Once last, refl)
 some_latest (Twice two) = by_cases (stamp_cmp two.prev two.last) _
     (λ less. (Twice (record { last = two.last; prev = two.prev }), rw less refl))
@@ -57,7 +57,7 @@ some_latest (Twice two) = by_cases (stamp_cmp two.prev two.last) _
 -- ---- one entry more
 
 -- what is found at a place below is found still
-found_below : (p q : ℕ) (h : PageHist) (pairs : Pairs) → nat_cmp p q ≡ Less → found p (insert_entry nat_cmp pairs q h) ≡ found p pairs
+found_below : (p q : ℕ) (h : PageHist) (pairs : MapPairs) → nat_cmp p q ≡ Less → found p (insert_entry nat_cmp pairs q h) ≡ found p pairs
 found_below p q h [] less = rw less refl
 found_below p q h (e ∷ pairs) less = by_cases (nat_cmp q e.0) _
     (λ qe. rw qe (rw less refl))
@@ -67,112 +67,112 @@ found_below p q h (e ∷ pairs) less = by_cases (nat_cmp q e.0) _
     rw qe (rw under refl))
     (λ qe. rw qe (ap (cond (is_eq (nat_cmp p e.0)) (Some e.1)) (found_below p q h pairs less)))
 
-none_filled : (p : ℕ) (old run : Pairs) → AreAbove p run → found p old ≡ None → found p (filled old run) ≡ None
+none_filled : (p : ℕ) (old run : MapPairs) → AreAbove p run → found p old ≡ None → found p (with_pairs old run) ≡ None
 none_filled p old [] all none = none
-none_filled p old (e ∷ run) all none = found_below p e.0 e.1 (filled old run) all.0 ∙ none_filled p old run all.1 none
+none_filled p old (e ∷ run) all none = found_below p e.0 e.1 (with_pairs old run) all.0 ∙ none_filled p old run all.1 none
 
-takes_first : (m : ℕ) (old mid new : Pairs) (e : Entry) (es : List Entry) → page_at (place_of e.page) ≡ e.page → TakesEntries m old es mid → TakesRecent m mid (place_of e.page) e.hist new → TakesEntries m old (e ∷ es) new
+takes_first : (m : ℕ) (old mid new : MapPairs) (e : Entry) (es : List Entry) → page_of_key (key_of_page e.page) ≡ e.page → TakesEntries m old es mid → TakesRecent m mid (key_of_page e.page) e.hist new → TakesEntries m old (e ∷ es) new
 takes_first m old mid new e es back exact takes =
-    let S = refs (kept old) in
-    let A = recent m (entry_refs e) in
-    let B = recent m (refs es) in
-    let own : recent m (told_at (place_of e.page) e.hist) ≡ A = ap (λ p. recent m (entry_refs (record { page = p; hist = e.hist }))) back in
+    let S = list_references_of (kept old) in
+    let A = references_from m (references_of_entry e) in
+    let B = references_from m (list_references_of es) in
+    let own : references_from m (told_at (key_of_page e.page) e.hist) ≡ A = ap (λ p. references_from m (references_of_entry (record { page = p; hist = e.hist }))) back in
     takes
-    ∙ ap (λ T. history (refs (kept mid) ++ T)) own
-    ∙ ap (λ h. history (refs h ++ A)) exact
+    ∙ ap (λ T. list_history (list_references_of (kept mid) ++ T)) own
+    ∙ ap (λ h. list_history (list_references_of h ++ A)) exact
     ∙ history_first (S ++ B) A
-    ∙ ap history (append_assoc S B A)
+    ∙ ap list_history (append_assoc S B A)
     ∙ history_alike S S (B ++ A) (A ++ B) (λ p. refl) (λ p. hist_swap B A p)
-    ∙ ap (λ T. history (S ++ T)) (sym (recent_more m (entry_refs e) (refs es) (refs (e ∷ es)) refl))
+    ∙ ap (λ T. list_history (S ++ T)) (sym (recent_more m (references_of_entry e) (list_references_of es) (list_references_of (e ∷ es)) refl))
 
 -- ---- a run
 
 -- what is taken in of entries of one bucket
-pub record TakesRun (m number : ℕ) (old : Pairs) (es : List Entry) (new : Pairs) : Type 0 where
+pub record TakesRun (m number : ℕ) (old : MapPairs) (es : List Entry) (new : MapPairs) : Type 0 where
   pub whole : AreKept new
   pub exact : TakesEntries m old es new
-  pub others : (bucket : ℕ) → bucket ≢ number → StaysIn bucket (kept old) (kept new)
+  pub others : (bucket : ℕ) → bucket ≢ number → SameInBucket bucket (kept old) (kept new)
 
-bucket_is : (number p : ℕ) → IsPlace p → LiesIn number p → page_bucket (page_at p) ≡ number
+bucket_is : (number p : ℕ) → IsMapKey p → LiesIn number p → page_bucket (page_of_key p) ≡ number
 bucket_is number p is lies = own_bucket p is ∙ sym (lies_in number p lies.0 lies.1)
 
-adds : (m number : ℕ) (old mid : Pairs) (e : Entry) (es : List Entry) (more h : PageHist) → page_at (place_of e.page) ≡ e.page → LiesIn number (place_of e.page) → stamps_held more ≡ filter (is_kept m) (stamps_held e.hist) → Some h ≡ latest_of (stamps_held more) → found (place_of e.page) mid ≡ None → TakesRun m number old es mid
-    → TakesRun m number old (e ∷ es) (insert_entry nat_cmp mid (place_of e.page) h)
+adds : (m number : ℕ) (old mid : MapPairs) (e : Entry) (es : List Entry) (more h : PageHist) → page_of_key (key_of_page e.page) ≡ e.page → LiesIn number (key_of_page e.page) → hist_stamps more ≡ filter (is_kept m) (hist_stamps e.hist) → Some h ≡ latest_of (hist_stamps more) → found (key_of_page e.page) mid ≡ None → TakesRun m number old es mid
+    → TakesRun m number old (e ∷ es) (insert_entry nat_cmp mid (key_of_page e.page) h)
 adds m number old mid e es more h back lies stamps latest none run =
-    let p = place_of e.page in
+    let p = key_of_page e.page in
     let new = insert_entry nat_cmp mid p h in
-    let is : IsPlace p = ap place_of back in
-    let both : Some h ≡ latest_of (stamps_held more ++ held None) = latest ∙ ap latest_of (sym (append-nil (stamps_held more))) in
-    let whole = kept_more mid new p h (stamps_held more ++ held None) is run.whole both refl in
+    let is : IsMapKey p = ap key_of_page back in
+    let both : Some h ≡ latest_of (hist_stamps more ++ known_stamps None) = latest ∙ ap latest_of (sym (append-nil (hist_stamps more))) in
+    let whole = kept_more mid new p h (hist_stamps more ++ known_stamps None) is run.whole both refl in
     let exact : TakesStamps mid p more new = exact_pair mid new p more h None is run.whole (sym none) both refl in
     record {
       whole = whole;
       exact = takes_first m old mid new e es back run.exact (takes_some m mid new p e.hist more stamps exact);
-      others = λ bucket other. others_stay (kept mid) (kept new) (record { page = page_at p; hist = more }) bucket (IsHistory-kept mid run.whole) (IsHistory-kept new whole).pages_rise exact (λ same. other (sym same ∙ bucket_is number p is lies)) ∙ run.others bucket other;
+      others = λ bucket other. others_stay (kept mid) (kept new) (record { page = page_of_key p; hist = more }) bucket (IsHistory-kept mid run.whole) (IsHistory-kept new whole).pages_ascend exact (λ same. other (sym same ∙ bucket_is number p is lies)) ∙ run.others bucket other;
     }
 
-passes : (m number : ℕ) (old mid : Pairs) (e : Entry) (es : List Entry) → page_at (place_of e.page) ≡ e.page → [] ≡ filter (is_kept m) (stamps_held e.hist) → TakesRun m number old es mid → TakesRun m number old (e ∷ es) mid
+passes : (m number : ℕ) (old mid : MapPairs) (e : Entry) (es : List Entry) → page_of_key (key_of_page e.page) ≡ e.page → [] ≡ filter (is_kept m) (hist_stamps e.hist) → TakesRun m number old es mid → TakesRun m number old (e ∷ es) mid
 passes m number old mid e es back none run = record {
   whole = run.whole;
-  exact = takes_first m old mid mid e es back run.exact (takes_none m mid (place_of e.page) e.hist run.whole none);
+  exact = takes_first m old mid mid e es back run.exact (takes_none m mid (key_of_page e.page) e.hist run.whole none);
   others = run.others;
 }
 
-pub takes_run : (m number from : ℕ) (old : Pairs) (es : List Entry) → AreKept old → HoldsBucket number [] old → first_place number ≤ from → RiseWithin from (first_place (number + 1)) es → TakesRun m number old es (filled old (run_pairs m es))
+pub takes_run : (m number from : ℕ) (old : MapPairs) (es : List Entry) → AreKept old → HoldsBucket number [] old → first_key number ≤ from → RiseWithin from (first_key (number + 1)) es → TakesRun m number old es (with_pairs old (run_pairs m es))
 takes_run m number from old [] are free begins rise = record {
   whole = are;
-  exact = sym (history_of_own_references (kept old) (IsHistory-kept old are)) ∙ ap history (sym (append-nil (refs (kept old))));
+  exact = sym (history_of_own_references (kept old) (IsHistory-kept old are)) ∙ ap list_history (sym (append-nil (list_references_of (kept old))));
   others = λ bucket other. refl;
 }
 takes_run m number from old (e ∷ es) are free begins rise =
-    let p = place_of e.page in
-    let starts : from ≤ place_of e.page = rise.0 in
-    let later : first_place number ≤ place_of e.page + 1 = omega arith in
-    let low : first_place number ≤ place_of e.page = omega arith in
+    let p = key_of_page e.page in
+    let starts : from ≤ key_of_page e.page = rise.0 in
+    let later : first_key number ≤ key_of_page e.page + 1 = omega arith in
+    let low : first_key number ≤ key_of_page e.page = omega arith in
     let run = takes_run m number (p + 1) old es are free later rise.3 in
-    let none = none_filled p old (run_pairs m es) (run_above m p (first_place (number + 1)) es rise.3) (found_free number p old (low, rise.1) free) in
-    cases (first_two (filter (is_kept m) (stamps_held e.hist))) (held_left m e.hist) low none run
+    let none = none_filled p old (run_pairs m es) (run_above m p (first_key (number + 1)) es rise.3) (found_free number p old (low, rise.1) free) in
+    cases (first_two (filter (is_kept m) (hist_stamps e.hist))) (held_left m e.hist) low none run
   where
-    mid : Pairs
-    mid = filled old (run_pairs m es)
+    mid : MapPairs
+    mid = with_pairs old (run_pairs m es)
 
-    cases : (r : Option PageHist) → held r ≡ filter (is_kept m) (stamps_held e.hist) → first_place number ≤ place_of e.page → found (place_of e.page) mid ≡ None → TakesRun m number old es mid → TakesRun m number old (e ∷ es) (filled old (at_place (place_of e.page) (latest_of (filter (is_kept m) (stamps_held e.hist))) ++ run_pairs m es))
-    cases None stamps low none run = subst (λ ss. TakesRun m number old (e ∷ es) (filled old (at_place (place_of e.page) (latest_of ss) ++ run_pairs m es))) stamps (passes m number old mid e es rise.2 stamps run)
+    cases : (r : Option PageHist) → known_stamps r ≡ filter (is_kept m) (hist_stamps e.hist) → first_key number ≤ key_of_page e.page → found (key_of_page e.page) mid ≡ None → TakesRun m number old es mid → TakesRun m number old (e ∷ es) (with_pairs old (at_place (key_of_page e.page) (latest_of (filter (is_kept m) (hist_stamps e.hist))) ++ run_pairs m es))
+    cases None stamps low none run = subst (λ ss. TakesRun m number old (e ∷ es) (with_pairs old (at_place (key_of_page e.page) (latest_of ss) ++ run_pairs m es))) stamps (passes m number old mid e es rise.2 stamps run)
     cases (Some more) stamps low none run =
         let latest = some_latest more in
-        subst (λ o. TakesRun m number old (e ∷ es) (filled old (at_place (place_of e.page) o ++ run_pairs m es))) (latest.1 ∙ ap latest_of stamps)
+        subst (λ o. TakesRun m number old (e ∷ es) (with_pairs old (at_place (key_of_page e.page) o ++ run_pairs m es))) (latest.1 ∙ ap latest_of stamps)
         (adds m number old mid e es more latest.0 rise.2 (low, rise.1) stamps latest.1 none run)
 
 -- ---- the bucket that changes
 
 pub are_places : (m from to : ℕ) (es : List Entry) → RiseWithin from to es → ArePlaces (run_pairs m es)
 are_places m from to [] rise = tt
-are_places m from to (e ∷ es) rise = cases (latest_of (filter (is_kept m) (stamps_held e.hist))) (are_places m (place_of e.page + 1) to es rise.3)
+are_places m from to (e ∷ es) rise = cases (latest_of (filter (is_kept m) (hist_stamps e.hist))) (are_places m (key_of_page e.page + 1) to es rise.3)
   where
-    cases : (o : Option PageHist) → ArePlaces (run_pairs m es) → ArePlaces (at_place (place_of e.page) o ++ run_pairs m es)
+    cases : (o : Option PageHist) → ArePlaces (run_pairs m es) → ArePlaces (at_place (key_of_page e.page) o ++ run_pairs m es)
     cases None all = all
-    cases (Some h) all = (ap place_of rise.2, all)
+    cases (Some h) all = (ap key_of_page rise.2, all)
 
 -- a bucket that had no entries has one where a pair is put in
-changes_in : (number : ℕ) (old run : Pairs) → AreKept old → AreKept (filled old run) → HoldsBucket number [] old → AllByRecursion (λ (e : ℕ × PageHist). LiesIn number e.0) run → ArePlaces run → run ≢ [] → bucket_entries number (kept (filled old run)) ≢ bucket_entries number (kept old)
+changes_in : (number : ℕ) (old run : MapPairs) → AreKept old → AreKept (with_pairs old run) → HoldsBucket number [] old → AllByRecursion (λ (e : ℕ × PageHist). LiesIn number e.0) run → ArePlaces run → run ≢ [] → bucket_entries number (kept (with_pairs old run)) ≢ bucket_entries number (kept old)
 changes_in number old [] are whole free inside places some = absurd (some refl)
 changes_in number old (e ∷ run) are whole free inside places some =
-    let new = filled old (e ∷ run) in
+    let new = with_pairs old (e ∷ run) in
     let differs : found e.0 new ≢ found e.0 old = λ same.
-    let is : found e.0 new ≡ Some e.1 = found_inserted e.0 e.1 (filled old run) in
+    let is : found e.0 new ≡ Some e.1 = found_inserted e.0 e.1 (with_pairs old run) in
     let none : found e.0 old ≡ None = found_free number e.0 old inside.0 free in
     let no : Some e.1 ≡ None = sym is ∙ same ∙ none in
     absurd (cc) in
     subst (λ b. bucket_entries b (kept new) ≢ bucket_entries b (kept old)) (bucket_is number e.0 places.0 inside.0) (changes_at old new e.0 places.0 are whole differs)
 
-pub marks_run : (number : ℕ) (old run : Pairs) → number < 64 → AreKept old → AreKept (filled old run) → HoldsBucket number [] old → AllByRecursion (λ (e : ℕ × PageHist). LiesIn number e.0) run → ArePlaces run → run ≢ [] → ((bucket : ℕ) → bucket ≢ number → StaysIn bucket (kept old) (kept (filled old run)))
-    → MarksChanged (kept old) (kept (filled old run)) (1 * 2 ^ number % 2 ^ 64)
+pub marks_run : (number : ℕ) (old run : MapPairs) → number < 64 → AreKept old → AreKept (with_pairs old run) → HoldsBucket number [] old → AllByRecursion (λ (e : ℕ × PageHist). LiesIn number e.0) run → ArePlaces run → run ≢ [] → ((bucket : ℕ) → bucket ≢ number → SameInBucket bucket (kept old) (kept (with_pairs old run)))
+    → MarksChanged (kept old) (kept (with_pairs old run)) (1 * 2 ^ number % 2 ^ 64)
 marks_run number old run below are whole free inside places some others bucket low =
     let set = 1 * 2 ^ number % 2 ^ 64 in
     elim (cases_eq bucket number) [
       | inl here ↦ (
           let bit : bit_at set bucket ≡ 1 = ap (λ (b : ℕ). bit_at set b) here ∙ in_it number below in (
-            (λ one. subst (λ b. bucket_entries b (kept (filled old run)) ≢ bucket_entries b (kept old)) (sym here) (changes_in number old run are whole free inside places some)),
+            (λ one. subst (λ b. bucket_entries b (kept (with_pairs old run)) ≢ bucket_entries b (kept old)) (sym here) (changes_in number old run are whole free inside places some)),
             λ none. absurd (omega (arith, bit, none)),
           )
           )

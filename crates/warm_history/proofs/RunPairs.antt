@@ -13,22 +13,22 @@ use Rattle.std.proofs.lemmas.Cmp.{nat_cmp_total, tied_itself}
 use Rattle.warm_stamps.proofs.DistinctLemmas.{by_cases, flipped, is_equal}
 use Rattle.warm_history.specs.declared.hist.PageHist.{PageHist}
 use Rattle.warm_history.specs.declared.hist.Entry.{Entry}
-use Rattle.warm_history.specs.ListHistories.{latest_of, stamps_held}
+use Rattle.warm_history.specs.ListHistories.{latest_of, hist_stamps}
 use Rattle.warm_history.specs.ReferenceSets.{is_kept}
-use Rattle.warm_history.specs.Places.{first_place, place_of, page_at, IsPlace}
-use Rattle.warm_history.specs.Tree.{Pairs}
-use Rattle.warm_history.specs.BucketMaps.{pairs_of, joined, LiesIn, AreBuckets, map_at, with_map, PassesIn, HoldsBucket, PlacesRise, found}
-use Rattle.warm_history.specs.Runs.{RiseWithin, IsRun, at_place, run_pairs, filled}
+use Rattle.warm_history.specs.Places.{first_key, key_of_page, page_of_key, IsMapKey}
+use Rattle.warm_history.specs.Tree.{MapPairs}
+use Rattle.warm_history.specs.BucketMaps.{pairs_of_maps, all_pairs, LiesIn, AreBuckets, map_at, with_map, PassesIn, HoldsBucket, PlacesRise, found}
+use Rattle.warm_history.specs.Runs.{RiseWithin, IsRun, at_place, run_pairs, with_pairs}
 use Rattle.warm_history.proofs.PlaceOrder.{nat_order}
 use Rattle.warm_history.proofs.TreeLemmas.{below_all, no_later}
 use Rattle.warm_history.proofs.BucketLemmas.{insert_joined}
 use Rattle.warm_history.proofs.BucketParts.{chosen_joined}
 use Rattle.warm_history.proofs.BucketSteps.{AllIn, in_insert, buckets_with, with_same}
 
-abbrev pub AreAbove : ℕ → Pairs → Type 0
+abbrev pub AreAbove : ℕ → MapPairs → Type 0
 AreAbove p pairs = AllByRecursion (λ e. nat_cmp p e.0 ≡ Less) pairs
 
-pub none_of : (pairs : Pairs) → length pairs ≡ 0 → pairs ≡ []
+pub none_of : (pairs : MapPairs) → length pairs ≡ 0 → pairs ≡ []
 none_of [] none = refl
 none_of (e ∷ pairs) none = absurd (omega arith)
 
@@ -37,16 +37,16 @@ none_of (e ∷ pairs) none = absurd (omega arith)
 pub within : (m low from to : ℕ) (es : List Entry) → low ≤ from → RiseWithin from to es → AllByRecursion (λ (e : ℕ × PageHist). (low ≤ e.0) × (e.0 < to)) (run_pairs m es)
 within m low from to [] le rise = tt
 within m low from to (e ∷ es) le rise =
-    let p = place_of e.page in
+    let p = key_of_page e.page in
     let starts : from ≤ p = rise.0 in
     let later : low ≤ p + 1 = omega arith in
-    cases (latest_of (filter (is_kept m) (stamps_held e.hist))) (omega arith) rise.1 (within m low (p + 1) to es later rise.3)
+    cases (latest_of (filter (is_kept m) (hist_stamps e.hist))) (omega arith) rise.1 (within m low (p + 1) to es later rise.3)
   where
-    cases : (o : Option PageHist) → low ≤ place_of e.page → place_of e.page < to → AllByRecursion (λ (e : ℕ × PageHist). (low ≤ e.0) × (e.0 < to)) (run_pairs m es) → AllByRecursion (λ (e : ℕ × PageHist). (low ≤ e.0) × (e.0 < to)) (at_place (place_of e.page) o ++ run_pairs m es)
+    cases : (o : Option PageHist) → low ≤ key_of_page e.page → key_of_page e.page < to → AllByRecursion (λ (e : ℕ × PageHist). (low ≤ e.0) × (e.0 < to)) (run_pairs m es) → AllByRecursion (λ (e : ℕ × PageHist). (low ≤ e.0) × (e.0 < to)) (at_place (key_of_page e.page) o ++ run_pairs m es)
     cases None begins ends all = all
     cases (Some h) begins ends all = ((begins, ends), all)
 
-above_all : (p to : ℕ) (pairs : Pairs) → AllByRecursion (λ (e : ℕ × PageHist). (p + 1 ≤ e.0) × (e.0 < to)) pairs → AreAbove p pairs
+above_all : (p to : ℕ) (pairs : MapPairs) → AllByRecursion (λ (e : ℕ × PageHist). (p + 1 ≤ e.0) × (e.0 < to)) pairs → AreAbove p pairs
 above_all p to [] all = tt
 above_all p to (e ∷ pairs) all =
     let next : p + 1 ≤ e.0 = all.0.0 in
@@ -59,58 +59,58 @@ run_above m p to es rise = above_all p to (run_pairs m es) (within m (p + 1) (p 
 
 pub pairs_rise : (m from to : ℕ) (es : List Entry) → RiseWithin from to es → PlacesRise (run_pairs m es)
 pairs_rise m from to [] rise = tt
-pairs_rise m from to (e ∷ es) rise = cases (latest_of (filter (is_kept m) (stamps_held e.hist))) (run_above m (place_of e.page) to es rise.3) (pairs_rise m (place_of e.page + 1) to es rise.3)
+pairs_rise m from to (e ∷ es) rise = cases (latest_of (filter (is_kept m) (hist_stamps e.hist))) (run_above m (key_of_page e.page) to es rise.3) (pairs_rise m (key_of_page e.page + 1) to es rise.3)
   where
-    cases : (o : Option PageHist) → AreAbove (place_of e.page) (run_pairs m es) → PlacesRise (run_pairs m es) → PlacesRise (at_place (place_of e.page) o ++ run_pairs m es)
+    cases : (o : Option PageHist) → AreAbove (key_of_page e.page) (run_pairs m es) → PlacesRise (run_pairs m es) → PlacesRise (at_place (key_of_page e.page) o ++ run_pairs m es)
     cases None above later = later
     cases (Some h) above later = (above, later)
 
 pub pairs_inside : (m number : ℕ) (es : List Entry) → IsRun number es → AllIn number (run_pairs m es)
-pairs_inside m number es run = within m (first_place number) (first_place number) (first_place (number + 1)) es (omega arith) run
+pairs_inside m number es run = within m (first_key number) (first_key number) (first_key (number + 1)) es (omega arith) run
 
 -- ---- pairs that are put into an empty map
 
-put_first : (p : ℕ) (h : PageHist) (pairs : Pairs) → AreAbove p pairs → insert_entry nat_cmp pairs p h ≡ (p, h) ∷ pairs
+put_first : (p : ℕ) (h : PageHist) (pairs : MapPairs) → AreAbove p pairs → insert_entry nat_cmp pairs p h ≡ (p, h) ∷ pairs
 put_first p h [] all = refl
 put_first p h (e ∷ pairs) all = let less : nat_cmp p e.0 ≡ Less = all.0 in rw less refl
 
-pub filled_none : (run : Pairs) → PlacesRise run → filled [] run ≡ run
+pub filled_none : (run : MapPairs) → PlacesRise run → with_pairs [] run ≡ run
 filled_none [] rise = refl
 filled_none (e ∷ run) rise = ap (λ t. insert_entry nat_cmp t e.0 e.1) (filled_none run rise.1) ∙ put_first e.0 e.1 run rise.0
 
-pub in_filled : (b : ℕ) (m run : Pairs) → AllIn b m → AllIn b run → AllIn b (filled m run)
+pub in_filled : (b : ℕ) (m run : MapPairs) → AllIn b m → AllIn b run → AllIn b (with_pairs m run)
 in_filled b m [] all more = all
-in_filled b m (e ∷ run) all more = in_insert b e.0 e.1 (filled m run) more.0 (in_filled b m run all more.1)
+in_filled b m (e ∷ run) all more = in_insert b e.0 e.1 (with_pairs m run) more.0 (in_filled b m run all more.1)
 
-map_at-with : (ms : List Pairs) (i : ℕ) (n : Pairs) → i < length ms → map_at (with_map ms i n) i ≡ n
+map_at-with : (ms : List MapPairs) (i : ℕ) (n : MapPairs) → i < length ms → map_at (with_map ms i n) i ≡ n
 map_at-with [] i n there = absurd (omega arith)
 map_at-with (m ∷ ms) zero n there = refl
 map_at-with (m ∷ ms) (suc i) n there = let left : i < length ms = omega arith in map_at-with ms i n left
 
-with_twice : (ms : List Pairs) (i : ℕ) (n k : Pairs) → with_map (with_map ms i n) i k ≡ with_map ms i k
+with_twice : (ms : List MapPairs) (i : ℕ) (n k : MapPairs) → with_map (with_map ms i n) i k ≡ with_map ms i k
 with_twice [] i n k = refl
 with_twice (m ∷ ms) zero n k = refl
 with_twice (m ∷ ms) (suc i) n k = ap (λ t. m ∷ t) (with_twice ms i n k)
 
-length-with : (ms : List Pairs) (i : ℕ) (n : Pairs) → length (with_map ms i n) ≡ length ms
+length-with : (ms : List MapPairs) (i : ℕ) (n : MapPairs) → length (with_map ms i n) ≡ length ms
 length-with [] i n = refl
 length-with (m ∷ ms) zero n = refl
 length-with (m ∷ ms) (suc i) n = ap suc (length-with ms i n)
 
 -- what is put into the map of its bucket is put into all
-filled_joined : (b i : ℕ) (ms : List Pairs) (run : Pairs) → AreBuckets b ms → i < length ms → AllIn (b + i) run → AllIn (b + i) (map_at ms i) → filled (joined ms) run ≡ joined (with_map ms i (filled (map_at ms i) run))
-filled_joined b i ms [] are there all own = ap joined (sym (with_same ms i))
+filled_joined : (b i : ℕ) (ms : List MapPairs) (run : MapPairs) → AreBuckets b ms → i < length ms → AllIn (b + i) run → AllIn (b + i) (map_at ms i) → with_pairs (all_pairs ms) run ≡ all_pairs (with_map ms i (with_pairs (map_at ms i) run))
+filled_joined b i ms [] are there all own = ap all_pairs (sym (with_same ms i))
 filled_joined b i ms (e ∷ run) are there all own =
-    let n = filled (map_at ms i) run in
+    let n = with_pairs (map_at ms i) run in
     let inside : i < length (with_map ms i n) = subst (λ k. i < k) (sym (length-with ms i n)) there in
     ap (λ t. insert_entry nat_cmp t e.0 e.1) (filled_joined b i ms run are there all.1 own)
     ∙ insert_joined b i e.0 e.1 (with_map ms i n) (buckets_with b i n ms are (in_filled (b + i) (map_at ms i) run own all.1)) all.0 inside
-    ∙ ap (λ t. joined (with_map (with_map ms i n) i (insert_entry nat_cmp t e.0 e.1))) (map_at-with ms i n there)
-    ∙ ap joined (with_twice ms i n (insert_entry nat_cmp n e.0 e.1))
+    ∙ ap (λ t. all_pairs (with_map (with_map ms i n) i (insert_entry nat_cmp t e.0 e.1))) (map_at-with ms i n there)
+    ∙ ap all_pairs (with_twice ms i n (insert_entry nat_cmp n e.0 e.1))
 
-pub fills : (i : ℕ) (ms : List Pairs) (run : Pairs) → AreBuckets 0 ms → i < length ms → AllIn (0 + i) run → PlacesRise run → map_at ms i ≡ [] → joined (with_map ms i run) ≡ filled (joined ms) run
+pub fills : (i : ℕ) (ms : List MapPairs) (run : MapPairs) → AreBuckets 0 ms → i < length ms → AllIn (0 + i) run → PlacesRise run → map_at ms i ≡ [] → all_pairs (with_map ms i run) ≡ with_pairs (all_pairs ms) run
 fills i ms run are there all rise free =
-    ap (λ t. joined (with_map ms i t)) (sym (ap (λ t. filled t run) free ∙ filled_none run rise))
+    ap (λ t. all_pairs (with_map ms i t)) (sym (ap (λ t. with_pairs t run) free ∙ filled_none run rise))
     ∙ sym (filled_joined 0 i ms run are there all (subst (AllIn (0 + i)) (sym free) tt))
 
 -- ---- a bucket without entries
@@ -118,7 +118,7 @@ fills i ms run are there all rise free =
 own_test : (number p : ℕ) → LiesIn number p → PassesIn number (λ k. k == p)
 own_test number p lies k is = let same : k ≡ p = eqb-true k p is in subst (LiesIn number) (sym same) lies
 
-map_free : (number : ℕ) (m pairs : Pairs) → AllIn number m → HoldsBucket number m pairs → HoldsBucket number [] pairs → m ≡ []
+map_free : (number : ℕ) (m pairs : MapPairs) → AllIn number m → HoldsBucket number m pairs → HoldsBucket number [] pairs → m ≡ []
 map_free number [] pairs all holds free = refl
 map_free number (e ∷ m) pairs all holds free =
     let same : (e.0 == e.0) ≡ true = eq-eqb e.0 e.0 refl in
@@ -128,12 +128,12 @@ map_free number (e ∷ m) pairs all holds free =
     let no : e ∷ chosen m ≡ [] = sym some ∙ none in
     absurd (cc)
 
-pub own_map_free : (number : ℕ) (ms : List Pairs) → AreBuckets 0 ms → AllIn (0 + number) (map_at ms number) → HoldsBucket number [] (joined ms) → map_at ms number ≡ []
+pub own_map_free : (number : ℕ) (ms : List MapPairs) → AreBuckets 0 ms → AllIn (0 + number) (map_at ms number) → HoldsBucket number [] (all_pairs ms) → map_at ms number ≡ []
 own_map_free number ms are own free =
     let same : 0 + number ≡ number = omega arith in
-    map_free number (map_at ms number) (joined ms) (subst (λ k. AllIn k (map_at ms number)) same own) (λ test passes. chosen_joined number 0 number test ms (omega arith) passes are) free
+    map_free number (map_at ms number) (all_pairs ms) (subst (λ k. AllIn k (map_at ms number)) same own) (λ test passes. chosen_joined number 0 number test ms (omega arith) passes are) free
 
-none_chosen : (p : ℕ) (pairs : Pairs) → filter (λ e. e.0 == p) pairs ≡ [] → found p pairs ≡ None
+none_chosen : (p : ℕ) (pairs : MapPairs) → filter (λ e. e.0 == p) pairs ≡ [] → found p pairs ≡ None
 none_chosen p [] none = refl
 none_chosen p (e ∷ pairs) none = cases (e.0 == p) refl (none_chosen p pairs)
   where
@@ -155,22 +155,22 @@ none_chosen p (e ∷ pairs) none = cases (e.0 == p) refl (none_chosen p pairs)
         other false here away = refl
 
 -- nothing is found at its places
-pub found_free : (number p : ℕ) (pairs : Pairs) → LiesIn number p → HoldsBucket number [] pairs → found p pairs ≡ None
+pub found_free : (number p : ℕ) (pairs : MapPairs) → LiesIn number p → HoldsBucket number [] pairs → found p pairs ≡ None
 found_free number p pairs lies free = none_chosen p pairs (sym (free (λ k. k == p) (own_test number p lies)))
 
 -- ---- a map that is made of pairs at rising places has these
 
-keys_above : (p : ℕ) (es : Pairs) → AllByRecursion (λ k. nat_cmp p k ≡ Less) (keys_of es) → AreAbove p es
+keys_above : (p : ℕ) (es : MapPairs) → AllByRecursion (λ k. nat_cmp p k ≡ Less) (keys_of es) → AreAbove p es
 keys_above p [] all = tt
 keys_above p (e ∷ es) all = (all.0, keys_above p es all.1)
 
-keys_rise : (es : Pairs) → IsStrictlySortedBy nat_cmp (keys_of es) → PlacesRise es
+keys_rise : (es : MapPairs) → IsStrictlySortedBy nat_cmp (keys_of es) → PlacesRise es
 unfolding IsStrictlySortedBy
 keys_rise [] sorted = tt
 keys_rise (e ∷ es) sorted = (keys_above e.0 es sorted.0, keys_rise es sorted.1)
 
 -- rising pairs in which the same is found are the same
-same_found : (m n : Pairs) → PlacesRise m → PlacesRise n → ((q : ℕ) → found q m ≡ found q n) → m ≡ n
+same_found : (m n : MapPairs) → PlacesRise m → PlacesRise n → ((q : ℕ) → found q m ≡ found q n) → m ≡ n
 same_found [] [] rise_m rise_n alike = refl
 same_found [] (y ∷ n) rise_m rise_n alike =
     let own : nat_cmp y.0 y.0 ≡ Equal = tied_itself nat_cmp_total y.0 in
@@ -199,10 +199,10 @@ same_found (x ∷ m) (y ∷ n) rise_m rise_n alike = by_cases (nat_cmp x.0 y.0) 
     let no : None ≡ Some y.1 = sym none ∙ alike y.0 ∙ first_found y n in
     absurd (cc))
   where
-    first_found : (e : ℕ × PageHist) (es : Pairs) → found e.0 (e ∷ es) ≡ Some e.1
+    first_found : (e : ℕ × PageHist) (es : MapPairs) → found e.0 (e ∷ es) ≡ Some e.1
     first_found e es = let own : nat_cmp e.0 e.0 ≡ Equal = tied_itself nat_cmp_total e.0 in rw own refl
 
-    past : (q : ℕ) (e : ℕ × PageHist) (es : Pairs) → is_eq (nat_cmp q e.0) ≡ false → found q (e ∷ es) ≡ found q es
+    past : (q : ℕ) (e : ℕ × PageHist) (es : MapPairs) → is_eq (nat_cmp q e.0) ≡ false → found q (e ∷ es) ≡ found q es
     past q e es away = rw away refl
 
     later : x.0 ≡ y.0 → x.1 ≡ y.1 → (q : ℕ) → found q m ≡ found q n
@@ -224,7 +224,7 @@ or_else None y = y
 or_else (Some x) y = Some x
 
 -- a pair that is put in first is read after those put in later
-all_updated : (f : ℕ → Option PageHist) (run : Pairs) (q : ℕ) → PlacesRise run → update_all (eq_by_cmp nat_cmp) f run q ≡ or_else (found q run) (f q)
+all_updated : (f : ℕ → Option PageHist) (run : MapPairs) (q : ℕ) → PlacesRise run → update_all (eq_by_cmp nat_cmp) f run q ≡ or_else (found q run) (f q)
 all_updated f [] q rise = refl
 all_updated f (e ∷ run) q rise = all_updated (update (eq_by_cmp nat_cmp) f e.0 (Some e.1)) run q rise.1 ∙ by_cases (nat_cmp e.0 q) _
     (λ less. let back : nat_cmp q e.0 ≡ Greater = flipped nat_cmp nat_order e.0 q Less less in rw (less, back) refl)
@@ -239,5 +239,5 @@ or_none : (x : Option PageHist) → or_else x None ≡ x
 or_none None = refl
 or_none (Some x) = refl
 
-pub made_of : (run : Pairs) (n : BTreeMap ℕ PageHist) → PlacesRise run → IsFromIterResult nat_cmp run n → n.entries ≡ run
+pub made_of : (run : MapPairs) (n : BTreeMap ℕ PageHist) → PlacesRise run → IsFromIterResult nat_cmp run n → n.entries ≡ run
 made_of run n rise made = same_found n.entries run (keys_rise n.entries made.1) rise (λ q. made.0 q ∙ all_updated (λ k. None) run q rise ∙ or_none (found q run))

@@ -3,12 +3,12 @@ use Rattle.std.proofs.Common.{◌≡◌, sym, ◌∙◌}
 use Rattle.warm_stamps.specs.declared.PageId.{PageId}
 use Rattle.warm_history.specs.ReferenceSets.{ReferenceSet, references}
 use Rattle.warm_history.specs.Histories.{hist}
-use Rattle.warm_history.specs.References.{HoldSame, HistoryOfSet}
+use Rattle.warm_history.specs.References.{SameReferences, HistoryOfSet}
 use Rattle.warm_history.proofs.HistoryLemmas.{entries-history}
 use Rattle.warm_history.proofs.ListSetLemmas as of_list
 
 -- sets of the same references agree on each page
-pub hist_of_set : (S T : ReferenceSet) → HoldSame S T → (p : PageId) → hist S p ≡ hist T p
+pub hist_of_set : (S T : ReferenceSet) → SameReferences S T → (p : PageId) → hist S p ≡ hist T p
 hist_of_set S T same p = of_list.hist_of_set (references S) (references T) same.there same.back p
 
 pub history_of_set : HistoryOfSet

@@ -4,10 +4,10 @@ use Rattle.std.specs.Prelude.{◌==◌}
 use Rattle.warm_stamps.specs.Buckets.{page_bucket}
 use Rattle.warm_history.specs.declared.hist.Entry.{Entry}
 use Rattle.warm_history.specs.Carried.{bucket_entries}
-use Rattle.warm_history.specs.Histories.{HistoryView, IsHistory, IsKept, NoneOlder, entries_of, history, refs}
+use Rattle.warm_history.specs.Histories.{HistoryView, IsHistory, IsKept, NoneOlder, entries_of, history, references_of}
 use Rattle.warm_history.specs.KeptEntries.{is_recent, shortened, shortened_entry, kept_entries}
-use Rattle.warm_history.specs.Losses.{KeepsIn, LosesIn, bucket_since}
-use Rattle.warm_history.specs.ReferenceSets.{since}
+use Rattle.warm_history.specs.Losses.{KeepsIn, LosesIn, bucket_at_horizon}
+use Rattle.warm_history.specs.ReferenceSets.{with_horizon}
 use Rattle.warm_history.proofs.KeptLemmas.{none_older, entries_recent}
 use Rattle.warm_history.proofs.RaiseLemmas.{raised_to}
 
@@ -26,10 +26,10 @@ bucket_left m bucket (e ∷ es) = cases (is_recent m e.hist) refl (page_bucket e
     cases false older false away rest = rw (away, older) rest
 
 -- the entries of a history that is raised are those that are left at the greater horizon
-raised_entries : (h : HistoryView) (time : ℕ) → IsHistory h → kept_entries (max h.horizon time) (entries_of h) ≡ entries_of (history (since time (refs h)))
+raised_entries : (h : HistoryView) (time : ℕ) → IsHistory h → kept_entries (max h.horizon time) (entries_of h) ≡ entries_of (history (with_horizon time (references_of h)))
 raised_entries h time whole = ap entries_of (raised_to h.horizon time (max h.horizon time) (entries_of h) _ whole refl refl)
 
-pub raised_bucket : (h : HistoryView) (time bucket : ℕ) → IsHistory h → kept_entries (max h.horizon time) (bucket_entries bucket (entries_of h)) ≡ bucket_entries bucket (entries_of (history (since time (refs h))))
+pub raised_bucket : (h : HistoryView) (time bucket : ℕ) → IsHistory h → kept_entries (max h.horizon time) (bucket_entries bucket (entries_of h)) ≡ bucket_entries bucket (entries_of (history (with_horizon time (references_of h))))
 raised_bucket h time bucket whole = bucket_left (max h.horizon time) bucket (entries_of h) ∙ ap (bucket_entries bucket) (raised_entries h time whole)
 
 -- ---- whether something is lost
@@ -68,7 +68,7 @@ keeps_all h time bucket whole le =
     ∙ entries_recent h.horizon _ (none_in_bucket h.horizon bucket (entries_of h) whole.none_older)
 
 -- past it a bucket is what is left of it
-left_past : (h : HistoryView) (time bucket : ℕ) → IsHistory h → h.horizon ≤ time → kept_entries time (bucket_entries bucket (entries_of h)) ≡ bucket_since time bucket h
+left_past : (h : HistoryView) (time bucket : ℕ) → IsHistory h → h.horizon ≤ time → kept_entries time (bucket_entries bucket (entries_of h)) ≡ bucket_at_horizon time bucket h
 left_past h time bucket whole le =
     let past : max h.horizon time ≡ time = omega arith in
     ap (λ m. kept_entries m (bucket_entries bucket (entries_of h))) (sym past) ∙ raised_bucket h time bucket whole

@@ -22,35 +22,35 @@ use Rattle.warm_stamps.proofs.DistinctLemmas.{is_equal, by_cases, flipped, disti
 use Rattle.warm_stamps.proofs.StampLemmas.{stamp_order, page_order, IsStrictOrder-flip}
 use Rattle.warm_history.specs.declared.hist.PageHist.{PageHist}
 use Rattle.warm_history.specs.declared.hist.Entry.{Entry}
-use Rattle.warm_history.specs.ListHistories.{first_two, hist, latest_of, stamps_held, held, entry_refs, refs, history, IsHistory, IsFalling, PagesRise}
+use Rattle.warm_history.specs.ListHistories.{first_two, list_hist, latest_of, hist_stamps, known_stamps, references_of_entry, list_references_of, list_history, IsListHistory, IsDescending, PagesAscend}
 use Rattle.warm_history.proofs.ListHistoryLemmas.{get, told, told-append, told_entry, told_refs, same_gets, falling_first_two, IsFallingIfAny}
 use Rattle.warm_history.proofs.ListJoinLemmas.{history_of_own_references, history_first, history_alike}
 use Rattle.warm_history.proofs.PlaceLemmas.{takes_in}
 use Rattle.warm_history.proofs.PlaceOrder.{nat_order, same_place, rising_pages}
 use Rattle.warm_history.proofs.OrderLemmas.{both_same, either_first, get-in_order, in_order_rises, IsHistory-in_order, PagesDiffer, permuted_in_order, get-filter}
 use Rattle.warm_stamps.specs.declared.Reference.{Reference}
-use Rattle.warm_history.specs.Places.{page_at, IsPlace}
-use Rattle.warm_history.specs.Tree.{Pairs, as_entries, kept, AreKept}
+use Rattle.warm_history.specs.Places.{page_of_key, IsMapKey}
+use Rattle.warm_history.specs.Tree.{MapPairs, as_entries, kept, AreKept}
 use Rattle.warm_history.specs.BucketMaps.{PlacesRise, found}
 use Rattle.warm_history.specs.Undo.{put_back, undone, noted}
 use Rattle.warm_history.specs.declared.bucket_maps.Known.{Known}
 
-abbrev pub ArePlaces : Pairs → Type 0
-ArePlaces pairs = AllByRecursion (λ e. IsPlace e.0) pairs
+abbrev pub ArePlaces : MapPairs → Type 0
+ArePlaces pairs = AllByRecursion (λ e. IsMapKey e.0) pairs
 
-abbrev AreAbove : ℕ → Pairs → Type 0
+abbrev AreAbove : ℕ → MapPairs → Type 0
 AreAbove p pairs = AllByRecursion (λ e. nat_cmp p e.0 ≡ Less) pairs
 
 -- what is found at a place is what the entries say of its page
-pub find-get : (place : ℕ) (pairs : Pairs) → IsPlace place → ArePlaces pairs → found place pairs ≡ get (as_entries pairs) (page_at place)
+pub find-get : (place : ℕ) (pairs : MapPairs) → IsMapKey place → ArePlaces pairs → found place pairs ≡ get (as_entries pairs) (page_of_key place)
 find-get place [] is all = refl
 find-get place (e ∷ pairs) is all =
     ap (λ t. cond t (Some e.1) (found place pairs)) (same_place place e.0 is all.0)
-    ∙ ap (cond (is_eq (page_cmp (page_at e.0) (page_at place))) (Some e.1)) (find-get place pairs is all.1)
+    ∙ ap (cond (is_eq (page_cmp (page_of_key e.0) (page_of_key place))) (Some e.1)) (find-get place pairs is all.1)
 
 -- ---- one change undone
 
-removed : (p : ℕ) (h : PageHist) (pairs : Pairs) → found p pairs ≡ None → remove_entry (is_at (nat_cmp p)) (insert_entry nat_cmp pairs p h) ≡ pairs
+removed : (p : ℕ) (h : PageHist) (pairs : MapPairs) → found p pairs ≡ None → remove_entry (is_at (nat_cmp p)) (insert_entry nat_cmp pairs p h) ≡ pairs
 removed p h [] none = let own : nat_cmp p p ≡ Equal = tied_itself nat_order.total p in rw own refl
 removed p h (e ∷ pairs) none = cases (removed p h pairs) (nat_cmp p e.0) refl
   where
@@ -64,15 +64,15 @@ removed p h (e ∷ pairs) none = cases (removed p h pairs) (nat_cmp p e.0) refl
         let rest : found p pairs ≡ None = sym (ap (λ o. cond (is_eq o) (Some e.1) (found p pairs)) pe) ∙ none in
         rw pe (rw pe (ap (λ t. e ∷ t) (later rest)))
 
-pub no_later : (p : ℕ) (pairs : Pairs) → AreAbove p pairs → found p pairs ≡ None
+pub no_later : (p : ℕ) (pairs : MapPairs) → AreAbove p pairs → found p pairs ≡ None
 no_later p [] all = refl
 no_later p (e ∷ pairs) all = let less : nat_cmp p e.0 ≡ Less = all.0 in rw less (no_later p pairs all.1)
 
-pub below_all : (p q : ℕ) (pairs : Pairs) → nat_cmp p q ≡ Less → AreAbove q pairs → AreAbove p pairs
+pub below_all : (p q : ℕ) (pairs : MapPairs) → nat_cmp p q ≡ Less → AreAbove q pairs → AreAbove p pairs
 below_all p q [] less all = tt
 below_all p q (e ∷ pairs) less all = (nat_order.total.trans p q e.0 less all.0, below_all p q pairs less all.1)
 
-same_value : (p : ℕ) (h g : PageHist) (pairs : Pairs) → PlacesRise pairs → found p pairs ≡ Some g → set_value (is_at (nat_cmp p)) (insert_entry nat_cmp pairs p h) g ≡ pairs
+same_value : (p : ℕ) (h g : PageHist) (pairs : MapPairs) → PlacesRise pairs → found p pairs ≡ Some g → set_value (is_at (nat_cmp p)) (insert_entry nat_cmp pairs p h) g ≡ pairs
 same_value p h g [] rising is = let no : None ≡ Some g = is in absurd (cc)
 same_value p h g (e ∷ pairs) rising is = cases (same_value p h g pairs rising.1) (nat_cmp p e.0) refl
   where
@@ -89,34 +89,34 @@ same_value p h g (e ∷ pairs) rising is = cases (same_value p h g pairs rising.
         let rest : found p pairs ≡ Some g = sym (ap (λ o. cond (is_eq o) (Some e.1) (found p pairs)) pe) ∙ is in
         rw pe (rw pe (ap (λ t. e ∷ t) (later rest)))
 
-pub put_back-insert : (p : ℕ) (h : PageHist) (pairs : Pairs) → PlacesRise pairs → (known : Option PageHist) → known ≡ found p pairs → put_back p known (insert_entry nat_cmp pairs p h) ≡ pairs
+pub put_back-insert : (p : ℕ) (h : PageHist) (pairs : MapPairs) → PlacesRise pairs → (known : Option PageHist) → known ≡ found p pairs → put_back p known (insert_entry nat_cmp pairs p h) ≡ pairs
 put_back-insert p h pairs rising None is = removed p h pairs (sym is)
 put_back-insert p h pairs rising (Some g) is = same_value p h g pairs rising (sym is)
 
 -- ---- an entry more
 
-above_insert : (q p : ℕ) (h : PageHist) (pairs : Pairs) → nat_cmp q p ≡ Less → AreAbove q pairs → AreAbove q (insert_entry nat_cmp pairs p h)
+above_insert : (q p : ℕ) (h : PageHist) (pairs : MapPairs) → nat_cmp q p ≡ Less → AreAbove q pairs → AreAbove q (insert_entry nat_cmp pairs p h)
 above_insert q p h [] less all = (less, tt)
 above_insert q p h (e ∷ pairs) less all = by_cases (nat_cmp p e.0) _
     (λ pe. rw pe (less, all))
     (λ pe. rw pe all)
     (λ pe. rw pe (all.0, above_insert q p h pairs less all.1))
 
-rising_insert : (p : ℕ) (h : PageHist) (pairs : Pairs) → PlacesRise pairs → PlacesRise (insert_entry nat_cmp pairs p h)
+rising_insert : (p : ℕ) (h : PageHist) (pairs : MapPairs) → PlacesRise pairs → PlacesRise (insert_entry nat_cmp pairs p h)
 rising_insert p h [] rising = (tt, tt)
 rising_insert p h (e ∷ pairs) rising = by_cases (nat_cmp p e.0) _
     (λ pe. rw pe ((pe, below_all p e.0 pairs pe rising.0), rising))
     (λ pe. rw pe rising)
     (λ pe. rw pe (above_insert e.0 p h pairs (flipped nat_cmp nat_order p e.0 Greater pe) rising.0, rising_insert p h pairs rising.1))
 
-places_insert : (p : ℕ) (h : PageHist) (pairs : Pairs) → IsPlace p → ArePlaces pairs → ArePlaces (insert_entry nat_cmp pairs p h)
+places_insert : (p : ℕ) (h : PageHist) (pairs : MapPairs) → IsMapKey p → ArePlaces pairs → ArePlaces (insert_entry nat_cmp pairs p h)
 places_insert p h [] is all = (is, tt)
 places_insert p h (e ∷ pairs) is all = by_cases (nat_cmp p e.0) _
     (λ pe. rw pe (is, all))
     (λ pe. rw pe all)
     (λ pe. rw pe (all.0, places_insert p h pairs is all.1))
 
-falling_insert : (p : ℕ) (h : PageHist) (pairs : Pairs) → IsFalling h → AllByRecursion (λ (e : ℕ × PageHist). IsFalling e.1) pairs → AllByRecursion (λ (e : ℕ × PageHist). IsFalling e.1) (insert_entry nat_cmp pairs p h)
+falling_insert : (p : ℕ) (h : PageHist) (pairs : MapPairs) → IsDescending h → AllByRecursion (λ (e : ℕ × PageHist). IsDescending e.1) pairs → AllByRecursion (λ (e : ℕ × PageHist). IsDescending e.1) (insert_entry nat_cmp pairs p h)
 falling_insert p h [] fall all = (fall, tt)
 falling_insert p h (e ∷ pairs) fall all = by_cases (nat_cmp p e.0) _
     (λ pe. rw pe (fall, all))
@@ -124,7 +124,7 @@ falling_insert p h (e ∷ pairs) fall all = by_cases (nat_cmp p e.0) _
     (λ pe. rw pe (all.0, falling_insert p h pairs fall all.1))
 
 -- the two latest of stamps fall
-falling_latest : (h : PageHist) (ss : List Stamp) → Some h ≡ latest_of ss → IsFalling h
+falling_latest : (h : PageHist) (ss : List Stamp) → Some h ≡ latest_of ss → IsDescending h
 falling_latest h ss is =
     let falls = flip_args stamp_cmp in
     subst IsFallingIfAny (sym is) (falling_first_two (distinct falls ss) (distinct_rises falls (IsStrictOrder-flip stamp_cmp stamp_order) ss))
@@ -134,114 +134,114 @@ again true x y z = refl
 again false x y z = refl
 
 -- what the entries say with one more among them
-get-insert : (p : ℕ) (h : PageHist) (pairs : Pairs) → IsPlace p → ArePlaces pairs → (q : PageId) → get (as_entries (insert_entry nat_cmp pairs p h)) q ≡ cond (is_eq (page_cmp (page_at p) q)) (Some h) (get (as_entries pairs) q)
+get-insert : (p : ℕ) (h : PageHist) (pairs : MapPairs) → IsMapKey p → ArePlaces pairs → (q : PageId) → get (as_entries (insert_entry nat_cmp pairs p h)) q ≡ cond (is_eq (page_cmp (page_of_key p) q)) (Some h) (get (as_entries pairs) q)
 get-insert p h [] is all q = refl
 get-insert p h (e ∷ pairs) is all q = by_cases (nat_cmp p e.0) _
     (λ pe. rw pe refl)
     (λ pe. let same : p ≡ e.0 = nat_order.same p e.0 pe in
     rw pe (
-    sym (again (is_eq (page_cmp (page_at e.0) q)) (Some h) (Some e.1) (get (as_entries pairs) q))
-    ∙ ap (λ k. cond (is_eq (page_cmp (page_at k) q)) (Some h) (cond (is_eq (page_cmp (page_at e.0) q)) (Some e.1) (get (as_entries pairs) q))) (sym same)))
+    sym (again (is_eq (page_cmp (page_of_key e.0) q)) (Some h) (Some e.1) (get (as_entries pairs) q))
+    ∙ ap (λ k. cond (is_eq (page_cmp (page_of_key k) q)) (Some h) (cond (is_eq (page_cmp (page_of_key e.0) q)) (Some e.1) (get (as_entries pairs) q))) (sym same)))
     (λ pe. rw pe (
-    ap (cond (is_eq (page_cmp (page_at e.0) q)) (Some e.1)) (get-insert p h pairs is all.1 q)
-    ∙ either_first (is_eq (page_cmp (page_at e.0) q)) (is_eq (page_cmp (page_at p) q)) (Some e.1) (Some h) (get (as_entries pairs) q)
+    ap (cond (is_eq (page_cmp (page_of_key e.0) q)) (Some e.1)) (get-insert p h pairs is all.1 q)
+    ∙ either_first (is_eq (page_cmp (page_of_key e.0) q)) (is_eq (page_cmp (page_of_key p) q)) (Some e.1) (Some h) (get (as_entries pairs) q)
     (λ there here.
-    let tied : is_eq (page_cmp (page_at e.0) (page_at p)) ≡ true = ap is_eq (both_same (page_at e.0) (page_at p) q there here) in
+    let tied : is_eq (page_cmp (page_of_key e.0) (page_of_key p)) ≡ true = ap is_eq (both_same (page_of_key e.0) (page_of_key p) q there here) in
     let equal : is_eq (nat_cmp p e.0) ≡ true = same_place p e.0 is all.0 ∙ tied in
     let no : false ≡ true = sym (ap is_eq pe) ∙ equal in
     absurd (cc))))
 
 -- ---- the history that pairs keep
 
-falling_entries : (pairs : Pairs) → AllByRecursion (λ (e : ℕ × PageHist). IsFalling e.1) pairs → AllByRecursion (λ (x : Entry). IsFalling x.hist) (as_entries pairs)
+falling_entries : (pairs : MapPairs) → AllByRecursion (λ (e : ℕ × PageHist). IsDescending e.1) pairs → AllByRecursion (λ (x : Entry). IsDescending x.hist) (as_entries pairs)
 falling_entries [] all = tt
 falling_entries (e ∷ pairs) all = (all.0, falling_entries pairs all.1)
 
-pub IsHistory-kept : (pairs : Pairs) → AreKept pairs → IsHistory (kept pairs)
-IsHistory-kept pairs are = IsHistory-in_order (as_entries pairs) (falling_entries pairs are.stamps_fall)
+pub IsHistory-kept : (pairs : MapPairs) → AreKept pairs → IsListHistory (kept pairs)
+IsHistory-kept pairs are = IsHistory-in_order (as_entries pairs) (falling_entries pairs are.stamps_descend)
 
-pub get-kept : (pairs : Pairs) (q : PageId) → get (kept pairs) q ≡ get (as_entries pairs) q
+pub get-kept : (pairs : MapPairs) (q : PageId) → get (kept pairs) q ≡ get (as_entries pairs) q
 get-kept pairs q = get-in_order (as_entries pairs) q
 
 -- what is found at a place is what the history says of its page
-pub find-kept : (place : ℕ) (pairs : Pairs) → IsPlace place → AreKept pairs → found place pairs ≡ get (kept pairs) (page_at place)
-find-kept place pairs is are = find-get place pairs is are.are_places ∙ sym (get-kept pairs (page_at place))
+pub find-kept : (place : ℕ) (pairs : MapPairs) → IsMapKey place → AreKept pairs → found place pairs ≡ get (kept pairs) (page_of_key place)
+find-kept place pairs is are = find-get place pairs is are.are_places ∙ sym (get-kept pairs (page_of_key place))
 
-pub differing : (pairs : Pairs) → PlacesRise pairs → ArePlaces pairs → PagesDiffer (as_entries pairs)
+pub differing : (pairs : MapPairs) → PlacesRise pairs → ArePlaces pairs → PagesDiffer (as_entries pairs)
 differing [] rising all = tt
 differing (e ∷ pairs) rising all = (sym (find-get e.0 pairs all.0 all.1) ∙ no_later e.0 pairs rising.0, differing pairs rising.1 all.1)
 
-pub permuted_kept : (pairs : Pairs) → AreKept pairs → IsPermutation (as_entries pairs) (kept pairs)
+pub permuted_kept : (pairs : MapPairs) → AreKept pairs → IsPermutation (as_entries pairs) (kept pairs)
 permuted_kept pairs are = permuted_in_order (as_entries pairs) (differing pairs are.places_rise are.are_places)
 
-length_entries : (pairs : Pairs) → length (as_entries pairs) ≡ length pairs
+length_entries : (pairs : MapPairs) → length (as_entries pairs) ≡ length pairs
 length_entries [] = refl
 length_entries (e ∷ pairs) = ap suc (length_entries pairs)
 
-pub length_kept : (pairs : Pairs) → AreKept pairs → length pairs ≡ length (kept pairs)
+pub length_kept : (pairs : MapPairs) → AreKept pairs → length pairs ≡ length (kept pairs)
 length_kept pairs are = sym (length_permutation (as_entries pairs) (kept pairs) (permuted_kept pairs are) ∙ length_entries pairs)
 
 -- the pairs hold the references of their history
-told_differing : (es : List Entry) → PagesDiffer es → (p : PageId) → told (refs es) p ≡ held (get es p)
+told_differing : (es : List Entry) → PagesDiffer es → (p : PageId) → told (list_references_of es) p ≡ known_stamps (get es p)
 told_differing [] differ p = refl
 told_differing (e ∷ es) differ p =
-    told-append (entry_refs e) (refs es) p
-    ∙ ap (λ ss. ss ++ told (refs es) p) (told_entry e.page e.hist p)
-    ∙ ap (λ ss. cond (is_eq (page_cmp e.page p)) (stamps_held e.hist) [] ++ ss) (told_differing es differ.1 p)
+    told-append (references_of_entry e) (list_references_of es) p
+    ∙ ap (λ ss. ss ++ told (list_references_of es) p) (told_entry e.page e.hist p)
+    ∙ ap (λ ss. cond (is_eq (page_cmp e.page p)) (hist_stamps e.hist) [] ++ ss) (told_differing es differ.1 p)
     ∙ cases (is_eq (page_cmp e.page p)) refl
   where
-    cases : (b : Bool) → is_eq (page_cmp e.page p) ≡ b → cond (is_eq (page_cmp e.page p)) (stamps_held e.hist) [] ++ held (get es p) ≡ held (cond (is_eq (page_cmp e.page p)) (Some e.hist) (get es p))
+    cases : (b : Bool) → is_eq (page_cmp e.page p) ≡ b → cond (is_eq (page_cmp e.page p)) (hist_stamps e.hist) [] ++ known_stamps (get es p) ≡ known_stamps (cond (is_eq (page_cmp e.page p)) (Some e.hist) (get es p))
     cases true here =
         let tied : e.page ≡ p = page_order.same e.page p (is_equal (page_cmp e.page p) here) in
-        rw here (ap (λ x. stamps_held e.hist ++ held x) (ap (get es) (sym tied) ∙ differ.0) ∙ append-nil (stamps_held e.hist))
+        rw here (ap (λ x. hist_stamps e.hist ++ known_stamps x) (ap (get es) (sym tied) ∙ differ.0) ∙ append-nil (hist_stamps e.hist))
     cases false other = rw other refl
 
-pub hist-pairs : (pairs : Pairs) → AreKept pairs → (p : PageId) → hist (refs (as_entries pairs)) p ≡ hist (refs (kept pairs)) p
+pub hist-pairs : (pairs : MapPairs) → AreKept pairs → (p : PageId) → list_hist (list_references_of (as_entries pairs)) p ≡ list_hist (list_references_of (kept pairs)) p
 hist-pairs pairs are p =
     ap (λ ss. first_two (distinct (flip_args stamp_cmp) ss)) (
     told_differing (as_entries pairs) (differing pairs are.places_rise are.are_places) p
-    ∙ ap held (sym (get-kept pairs p))
+    ∙ ap known_stamps (sym (get-kept pairs p))
     ∙ sym (told_refs (kept pairs) (in_order_rises (as_entries pairs)) p))
 
 -- so either may be taken in
-pub told_by_pairs : (S : List Reference) (pairs : Pairs) → AreKept pairs → history (S ++ refs (as_entries pairs)) ≡ history (S ++ refs (kept pairs))
-told_by_pairs S pairs are = history_alike S S (refs (as_entries pairs)) (refs (kept pairs)) (λ p. refl) (hist-pairs pairs are)
+pub told_by_pairs : (S : List Reference) (pairs : MapPairs) → AreKept pairs → list_history (S ++ list_references_of (as_entries pairs)) ≡ list_history (S ++ list_references_of (kept pairs))
+told_by_pairs S pairs are = history_alike S S (list_references_of (as_entries pairs)) (list_references_of (kept pairs)) (λ p. refl) (hist-pairs pairs are)
 
 -- ---- an entry more is kept
 
 -- what is put at a place keeps the pairs as those of a history are
-pub kept_more : (old new : Pairs) (p : ℕ) (h : PageHist) (ss : List Stamp) → IsPlace p → AreKept old → Some h ≡ latest_of ss → new ≡ insert_entry nat_cmp old p h → AreKept new
+pub kept_more : (old new : MapPairs) (p : ℕ) (h : PageHist) (ss : List Stamp) → IsMapKey p → AreKept old → Some h ≡ latest_of ss → new ≡ insert_entry nat_cmp old p h → AreKept new
 kept_more old new p h ss is are latest is_new = subst AreKept (sym is_new) (record {
   places_rise = rising_insert p h old are.places_rise;
   are_places = places_insert p h old is are.are_places;
-  stamps_fall = falling_insert p h old (falling_latest h ss latest) are.stamps_fall;
+  stamps_descend = falling_insert p h old (falling_latest h ss latest) are.stamps_descend;
 })
 
 -- new is the history of what old holds, with an entry more
-pub exact_pair : (old new : Pairs) (p : ℕ) (more h : PageHist) (known : Option PageHist) → IsPlace p → AreKept old → known ≡ found p old → Some h ≡ latest_of (stamps_held more ++ held known) → new ≡ insert_entry nat_cmp old p h → kept new ≡ history (refs (kept old) ++ entry_refs (record { page = page_at p; hist = more }))
+pub exact_pair : (old new : MapPairs) (p : ℕ) (more h : PageHist) (known : Option PageHist) → IsMapKey p → AreKept old → known ≡ found p old → Some h ≡ latest_of (hist_stamps more ++ known_stamps known) → new ≡ insert_entry nat_cmp old p h → kept new ≡ list_history (list_references_of (kept old) ++ references_of_entry (record { page = page_of_key p; hist = more }))
 exact_pair old new p more h known is are is_known latest is_new =
-    let e : Entry = record { page = page_at p; hist = more } in
+    let e : Entry = record { page = page_of_key p; hist = more } in
     let whole = IsHistory-kept old are in
     (takes_in (kept old) (kept new) e whole (in_order_rises (as_entries new))
     (λ q.
     get-kept new q
     ∙ ap (λ t. get (as_entries t) q) is_new
     ∙ get-insert p h old is are.are_places q
-    ∙ ap (λ t. cond (is_eq (page_cmp (page_at p) q)) t (get (as_entries old) q)) (latest ∙ ap (λ k. latest_of (stamps_held more ++ held k)) (is_known ∙ find-kept p old is are))
-    ∙ ap (cond (is_eq (page_cmp (page_at p) q)) (latest_of (stamps_held more ++ held (get (kept old) (page_at p))))) (sym (get-kept old q)))).told
-    (refs (kept old)) (sym (history_of_own_references (kept old) whole))
+    ∙ ap (λ t. cond (is_eq (page_cmp (page_of_key p) q)) t (get (as_entries old) q)) (latest ∙ ap (λ k. latest_of (hist_stamps more ++ known_stamps k)) (is_known ∙ find-kept p old is are))
+    ∙ ap (cond (is_eq (page_cmp (page_of_key p) q)) (latest_of (hist_stamps more ++ known_stamps (get (kept old) (page_of_key p))))) (sym (get-kept old q)))).given
+    (list_references_of (kept old)) (sym (history_of_own_references (kept old) whole))
 
 -- ---- a list of changes undone
 
-pub undone_last : (ks : List Known) (k : Known) (pairs : Pairs) → undone (ks ++ k ∷ []) pairs ≡ undone ks (put_back k.place k.hist pairs)
+pub undone_last : (ks : List Known) (k : Known) (pairs : MapPairs) → undone (ks ++ k ∷ []) pairs ≡ undone ks (put_back k.place k.hist pairs)
 undone_last [] k pairs = refl
 undone_last (x ∷ ks) k pairs = ap (put_back x.place x.hist) (undone_last ks k pairs)
 
 -- a change is undone before those that were noted earlier
-pub undone_more : (ks : List Known) (change : Option Known) (k : Known) (old new : Pairs) → change ≡ Some k → undone (noted change) new ≡ old → undone (ks ++ k ∷ []) new ≡ undone ks old
+pub undone_more : (ks : List Known) (change : Option Known) (k : Known) (old new : MapPairs) → change ≡ Some k → undone (noted change) new ≡ old → undone (ks ++ k ∷ []) new ≡ undone ks old
 undone_more ks change k old new is back = undone_last ks k new ∙ ap (undone ks) (ap (λ x. undone (noted x) new) (sym is) ∙ back)
 
-pub absent_value : (p : ℕ) (g : PageHist) (pairs : Pairs) → found p pairs ≡ None → set_value (is_at (nat_cmp p)) pairs g ≡ pairs
+pub absent_value : (p : ℕ) (g : PageHist) (pairs : MapPairs) → found p pairs ≡ None → set_value (is_at (nat_cmp p)) pairs g ≡ pairs
 absent_value p g [] none = refl
 absent_value p g (e ∷ pairs) none = cases (absent_value p g pairs) (is_eq (nat_cmp p e.0)) refl
   where
@@ -251,31 +251,31 @@ absent_value p g (e ∷ pairs) none = cases (absent_value p g pairs) (is_eq (nat
         let rest : found p pairs ≡ None = sym (ap (λ b. cond b (Some e.1) (found p pairs)) is) ∙ none in
         rw is (ap (λ t. e ∷ t) (later rest))
 
-pub put_back_absent : (p : ℕ) (known : Option PageHist) (g : PageHist) (pairs : Pairs) → known ≡ Some g → found p pairs ≡ None → pairs ≡ put_back p known pairs
+pub put_back_absent : (p : ℕ) (known : Option PageHist) (g : PageHist) (pairs : MapPairs) → known ≡ Some g → found p pairs ≡ None → pairs ≡ put_back p known pairs
 put_back_absent p known g pairs is none = sym (absent_value p g pairs none) ∙ ap (λ k. put_back p k pairs) (sym is)
 
 -- ---- going on
 
 -- what is left to take in says beside the new history what it said with the first of it beside the old one
-pub goes_on : (old new : List Entry) (first rest left : List Reference) (all : List Entry) → new ≡ history (refs old ++ first) → left ≡ first ++ rest → history (refs old ++ left) ≡ all → history (refs new ++ rest) ≡ all
+pub goes_on : (old new : List Entry) (first rest left : List Reference) (all : List Entry) → new ≡ list_history (list_references_of old ++ first) → left ≡ first ++ rest → list_history (list_references_of old ++ left) ≡ all → list_history (list_references_of new ++ rest) ≡ all
 goes_on old new first rest left all is_new is_left so =
-    ap (λ h. history (refs h ++ rest)) is_new
-    ∙ history_first (refs old ++ first) rest
-    ∙ ap history (append_assoc (refs old) first rest)
-    ∙ ap (λ t. history (refs old ++ t)) (sym is_left)
+    ap (λ h. list_history (list_references_of h ++ rest)) is_new
+    ∙ history_first (list_references_of old ++ first) rest
+    ∙ ap list_history (append_assoc (list_references_of old) first rest)
+    ∙ ap (λ t. list_history (list_references_of old ++ t)) (sym is_left)
     ∙ so
 
 -- where nothing is left
-pub all_taken : (new all : List Entry) (left : List Reference) → IsHistory new → left ≡ [] → history (refs new ++ left) ≡ all → new ≡ all
+pub all_taken : (new all : List Entry) (left : List Reference) → IsListHistory new → left ≡ [] → list_history (list_references_of new ++ left) ≡ all → new ≡ all
 all_taken new all left whole none so =
     sym (history_of_own_references new whole)
-    ∙ ap history (sym (append-nil (refs new)))
-    ∙ ap (λ t. history (refs new ++ t)) (sym none)
+    ∙ ap list_history (sym (append-nil (list_references_of new)))
+    ∙ ap (λ t. list_history (list_references_of new ++ t)) (sym none)
     ∙ so
 
 -- ---- a value written at a page that is there
 
-pub set-insert : (p : ℕ) (h g : PageHist) (pairs : Pairs) → PlacesRise pairs → found p pairs ≡ Some g → set_value (is_at (nat_cmp p)) pairs h ≡ insert_entry nat_cmp pairs p h
+pub set-insert : (p : ℕ) (h g : PageHist) (pairs : MapPairs) → PlacesRise pairs → found p pairs ≡ Some g → set_value (is_at (nat_cmp p)) pairs h ≡ insert_entry nat_cmp pairs p h
 set-insert p h g [] rising is = let no : None ≡ Some g = is in absurd (cc)
 set-insert p h g (e ∷ pairs) rising is = cases (set-insert p h g pairs rising.1) (nat_cmp p e.0) refl
   where
@@ -290,7 +290,7 @@ set-insert p h g (e ∷ pairs) rising is = cases (set-insert p h g pairs rising.
         rw pe (ap (λ t. e ∷ t) (later rest))
 
 -- what was put in at a place is found there
-pub found_inserted : (p : ℕ) (h : PageHist) (pairs : Pairs) → found p (insert_entry nat_cmp pairs p h) ≡ Some h
+pub found_inserted : (p : ℕ) (h : PageHist) (pairs : MapPairs) → found p (insert_entry nat_cmp pairs p h) ≡ Some h
 found_inserted p h [] = let own : nat_cmp p p ≡ Equal = tied_itself nat_order.total p in rw own refl
 found_inserted p h (e ∷ pairs) = by_cases (nat_cmp p e.0) _
     (λ pe. let own : nat_cmp p p ≡ Equal = tied_itself nat_order.total p in rw pe (rw own refl))
@@ -298,7 +298,7 @@ found_inserted p h (e ∷ pairs) = by_cases (nat_cmp p e.0) _
     (λ pe. rw pe (rw pe (found_inserted p h pairs)))
 
 -- and is written over there
-pub set_inserted : (p : ℕ) (g h : PageHist) (pairs : Pairs) → set_value (is_at (nat_cmp p)) (insert_entry nat_cmp pairs p g) h ≡ insert_entry nat_cmp pairs p h
+pub set_inserted : (p : ℕ) (g h : PageHist) (pairs : MapPairs) → set_value (is_at (nat_cmp p)) (insert_entry nat_cmp pairs p g) h ≡ insert_entry nat_cmp pairs p h
 set_inserted p g h [] = let own : nat_cmp p p ≡ Equal = tied_itself nat_order.total p in rw own refl
 set_inserted p g h (e ∷ pairs) = by_cases (nat_cmp p e.0) _
     (λ pe. let own : nat_cmp p p ≡ Equal = tied_itself nat_order.total p in rw pe (rw own refl))
@@ -320,38 +320,38 @@ as_it_is (Some x) = refl
 -- ---- the entries of a bucket
 
 -- pairs of which those between two places are the ones of chosen pages
-pub between : (lo hi : Bound ℕ) (test : PageId → Bool) (pairs : Pairs) → ((k : ℕ) → IsPlace k → range_contains nat_cmp lo hi k ≡ test (page_at k)) → ArePlaces pairs → as_entries (entries_between nat_cmp lo hi pairs) ≡ filter (λ x. test x.page) (as_entries pairs)
+pub between : (lo hi : Bound ℕ) (test : PageId → Bool) (pairs : MapPairs) → ((k : ℕ) → IsMapKey k → range_contains nat_cmp lo hi k ≡ test (page_of_key k)) → ArePlaces pairs → as_entries (entries_between nat_cmp lo hi pairs) ≡ filter (λ x. test x.page) (as_entries pairs)
 between lo hi test [] alike all = refl
-between lo hi test (e ∷ pairs) alike all = cases (test (page_at e.0)) refl (between lo hi test pairs alike all.1)
+between lo hi test (e ∷ pairs) alike all = cases (test (page_of_key e.0)) refl (between lo hi test pairs alike all.1)
   where
-    cases : (b : Bool) → test (page_at e.0) ≡ b → as_entries (entries_between nat_cmp lo hi pairs) ≡ filter (λ x. test x.page) (as_entries pairs) → as_entries (entries_between nat_cmp lo hi (e ∷ pairs)) ≡ filter (λ x. test x.page) (as_entries (e ∷ pairs))
+    cases : (b : Bool) → test (page_of_key e.0) ≡ b → as_entries (entries_between nat_cmp lo hi pairs) ≡ filter (λ x. test x.page) (as_entries pairs) → as_entries (entries_between nat_cmp lo hi (e ∷ pairs)) ≡ filter (λ x. test x.page) (as_entries (e ∷ pairs))
     cases true is later =
         let in_range : range_contains nat_cmp lo hi e.0 ≡ true = alike e.0 all.0 ∙ is in
-        rw (in_range, is) (ap (λ t. record { page = page_at e.0; hist = e.1 } ∷ t) later)
+        rw (in_range, is) (ap (λ t. record { page = page_of_key e.0; hist = e.1 } ∷ t) later)
     cases false is later =
         let out : range_contains nat_cmp lo hi e.0 ≡ false = alike e.0 all.0 ∙ is in
         rw (out, is) later
 
 -- chosen pages of one bucket rise as their places do
 module _ (bucket : ℕ) (test : PageId → Bool) (of_bucket : (p : PageId) → test p ≡ true → page_bucket p ≡ bucket) where
-  chosen_above : (k : ℕ) (pairs : Pairs) → IsPlace k → page_bucket (page_at k) ≡ bucket → AreAbove k pairs → ArePlaces pairs → AllByRecursion (λ (x : Entry). page_cmp (page_at k) x.page ≡ Less) (filter (λ x. test x.page) (as_entries pairs))
+  chosen_above : (k : ℕ) (pairs : MapPairs) → IsMapKey k → page_bucket (page_of_key k) ≡ bucket → AreAbove k pairs → ArePlaces pairs → AllByRecursion (λ (x : Entry). page_cmp (page_of_key k) x.page ≡ Less) (filter (λ x. test x.page) (as_entries pairs))
   chosen_above k [] is here above all = tt
-  chosen_above k (e ∷ pairs) is here above all = cases (test (page_at e.0)) refl (chosen_above k pairs is here above.1 all.1)
+  chosen_above k (e ∷ pairs) is here above all = cases (test (page_of_key e.0)) refl (chosen_above k pairs is here above.1 all.1)
     where
-      cases : (b : Bool) → test (page_at e.0) ≡ b → AllByRecursion (λ (x : Entry). page_cmp (page_at k) x.page ≡ Less) (filter (λ x. test x.page) (as_entries pairs)) → AllByRecursion (λ (x : Entry). page_cmp (page_at k) x.page ≡ Less) (filter (λ x. test x.page) (as_entries (e ∷ pairs)))
-      cases true passed later = rw passed (rising_pages k e.0 is all.0 (here ∙ sym (of_bucket (page_at e.0) passed)) above.0, later)
+      cases : (b : Bool) → test (page_of_key e.0) ≡ b → AllByRecursion (λ (x : Entry). page_cmp (page_of_key k) x.page ≡ Less) (filter (λ x. test x.page) (as_entries pairs)) → AllByRecursion (λ (x : Entry). page_cmp (page_of_key k) x.page ≡ Less) (filter (λ x. test x.page) (as_entries (e ∷ pairs)))
+      cases true passed later = rw passed (rising_pages k e.0 is all.0 (here ∙ sym (of_bucket (page_of_key e.0) passed)) above.0, later)
       cases false failed later = rw failed later
 
-  chosen_rise : (pairs : Pairs) → PlacesRise pairs → ArePlaces pairs → PagesRise (filter (λ x. test x.page) (as_entries pairs))
+  chosen_rise : (pairs : MapPairs) → PlacesRise pairs → ArePlaces pairs → PagesAscend (filter (λ x. test x.page) (as_entries pairs))
   chosen_rise [] rising all = tt
-  chosen_rise (e ∷ pairs) rising all = cases (test (page_at e.0)) refl (chosen_rise pairs rising.1 all.1)
+  chosen_rise (e ∷ pairs) rising all = cases (test (page_of_key e.0)) refl (chosen_rise pairs rising.1 all.1)
     where
-      cases : (b : Bool) → test (page_at e.0) ≡ b → PagesRise (filter (λ x. test x.page) (as_entries pairs)) → PagesRise (filter (λ x. test x.page) (as_entries (e ∷ pairs)))
-      cases true passed later = rw passed (chosen_above e.0 pairs all.0 (of_bucket (page_at e.0) passed) rising.0 all.1, later)
+      cases : (b : Bool) → test (page_of_key e.0) ≡ b → PagesAscend (filter (λ x. test x.page) (as_entries pairs)) → PagesAscend (filter (λ x. test x.page) (as_entries (e ∷ pairs)))
+      cases true passed later = rw passed (chosen_above e.0 pairs all.0 (of_bucket (page_of_key e.0) passed) rising.0 all.1, later)
       cases false failed later = rw failed later
 
   -- so the map has them as the history does
-  pub chosen_kept : (pairs : Pairs) → AreKept pairs → filter (λ x. test x.page) (as_entries pairs) ≡ filter (λ x. test x.page) (kept pairs)
+  pub chosen_kept : (pairs : MapPairs) → AreKept pairs → filter (λ x. test x.page) (as_entries pairs) ≡ filter (λ x. test x.page) (kept pairs)
   chosen_kept pairs are =
       same_gets (filter (λ (x : Entry). test x.page) (as_entries pairs)) (filter (λ (x : Entry). test x.page) (kept pairs))
       (chosen_rise pairs are.places_rise are.are_places)

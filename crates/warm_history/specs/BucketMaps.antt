@@ -4,44 +4,44 @@ use Rattle.std.specs.List.{AllByRecursion}
 use Rattle.std.specs.Map.{lookup}
 use Rattle.std.specs.BTreeMap.{BTreeMap, is_at, insert_entry}
 use Rattle.std.specs.Ordering.{nat_cmp, on}
-use Rattle.warm_stamps.specs.Distinct.{IsRising}
+use Rattle.warm_stamps.specs.Distinct.{IsAscending}
 use Rattle.warm_history.specs.declared.hist.PageHist.{PageHist}
 use Rattle.warm_history.specs.declared.bucket_maps.Known.{Known}
 use Rattle.warm_history.specs.declared.bucket_maps.TheConstants.{MOST}
-use Rattle.warm_history.specs.ListHistories.{latest_of, stamps_held, held}
-use Rattle.warm_history.specs.Places.{first_place}
-use Rattle.warm_history.specs.Tree.{Pairs}
+use Rattle.warm_history.specs.ListHistories.{latest_of, hist_stamps, known_stamps}
+use Rattle.warm_history.specs.Places.{first_key}
+use Rattle.warm_history.specs.Tree.{MapPairs}
 
 -- the pairs of all maps, one map after another
-abbrev pub joined : List Pairs → Pairs
-joined [] = []
-joined (m ∷ ms) = m ++ joined ms
+abbrev pub all_pairs : List MapPairs → MapPairs
+all_pairs [] = []
+all_pairs (m ∷ ms) = m ++ all_pairs ms
 
 -- the pairs of each map
-abbrev pub pairs_of : List (BTreeMap ℕ PageHist) → List Pairs
-pairs_of ms = map (λ m. m.entries) ms
+abbrev pub pairs_of_maps : List (BTreeMap ℕ PageHist) → List MapPairs
+pairs_of_maps ms = map (λ m. m.entries) ms
 
 -- the place lies in the bucket of this number
 abbrev pub LiesIn : ℕ → ℕ → Type 0
-LiesIn bucket place = (first_place bucket ≤ place) × (place < first_place (bucket + 1))
+LiesIn bucket place = (first_key bucket ≤ place) × (place < first_key (bucket + 1))
 
 -- each map has only places of its own bucket; the first map is that of the bucket of this number
-abbrev pub AreBuckets : ℕ → List Pairs → Type 0
+abbrev pub AreBuckets : ℕ → List MapPairs → Type 0
 AreBuckets bucket [] = ⊤
 AreBuckets bucket (m ∷ ms) = AllByRecursion (λ e. LiesIn bucket e.0) m × AreBuckets (bucket + 1) ms
 
 -- each map has so few pairs that the count of all 64 maps does not overflow
-abbrev pub AreSmall : List Pairs → Type 0
+abbrev pub AreSmall : List MapPairs → Type 0
 AreSmall ms = AllByRecursion (λ m. length m < MOST) ms
 
 -- the map of number i, or no pairs where there is none
-abbrev pub map_at : List Pairs → ℕ → Pairs
+abbrev pub map_at : List MapPairs → ℕ → MapPairs
 map_at [] i = []
 map_at (m ∷ ms) zero = m
 map_at (m ∷ ms) (suc i) = map_at ms i
 
 -- the maps, with the map of number i replaced
-abbrev pub with_map : List Pairs → ℕ → Pairs → List Pairs
+abbrev pub with_map : List MapPairs → ℕ → MapPairs → List MapPairs
 with_map [] i n = []
 with_map (m ∷ ms) zero n = n ∷ ms
 with_map (m ∷ ms) (suc i) n = m ∷ with_map ms i n
@@ -52,32 +52,32 @@ PassesIn bucket test = (place : ℕ) → test place ≡ true → LiesIn bucket p
 
 -- the map has what the pairs have at places of this bucket: a test that only such places pass
 -- selects the same pairs of both
-abbrev pub HoldsBucket : ℕ → Pairs → Pairs → Type 0
+abbrev pub HoldsBucket : ℕ → MapPairs → MapPairs → Type 0
 HoldsBucket bucket m pairs = (test : ℕ → Bool) → PassesIn bucket test → filter (λ e. test e.0) m ≡ filter (λ e. test e.0) pairs
 
 -- the pairs left to visit: these of the current map, then those of the maps that follow
-abbrev pub pairs_left : Pairs → List (BTreeMap ℕ PageHist) → Pairs
-pairs_left here rest = here ++ joined (pairs_of rest)
+abbrev pub pairs_left : MapPairs → List (BTreeMap ℕ PageHist) → MapPairs
+pairs_left here rest = here ++ all_pairs (pairs_of_maps rest)
 
 -- the pairs lie at rising places
-abbrev pub PlacesRise : Pairs → Type 0
-PlacesRise pairs = IsRising (on (λ e. e.0) nat_cmp) pairs
+abbrev pub PlacesRise : MapPairs → Type 0
+PlacesRise pairs = IsAscending (on (λ e. e.0) nat_cmp) pairs
 
 -- the value that the pairs have at the place
-abbrev pub found : ℕ → Pairs → Option PageHist
+abbrev pub found : ℕ → MapPairs → Option PageHist
 found place pairs = lookup (is_at (nat_cmp place)) pairs
 
 -- the note gives the pairs' old value at the place, where h is the new one and differs; without a
 -- note the pairs are unchanged
-abbrev pub IsNote : Option Known → ℕ → PageHist → Pairs → Pairs → Type 0
+abbrev pub IsNote : Option Known → ℕ → PageHist → MapPairs → MapPairs → Type 0
 IsNote None place h old new = new ≡ old
 IsNote (Some k) place h old new = (k.place ≡ place) × (k.hist ≡ found place old) × (k.hist ≢ Some h)
 
 -- new are the pairs old, with the two latest of the stamps there and those of `more` at the place
-abbrev pub Records : Pairs → ℕ → PageHist → Option Known → Pairs → Type 0
-Records old place more note new = (h : PageHist) × (Some h ≡ latest_of (stamps_held more ++ held (found place old))) × (new ≡ insert_entry nat_cmp old place h) × IsNote note place h old new
+abbrev pub Records : MapPairs → ℕ → PageHist → Option Known → MapPairs → Type 0
+Records old place more note new = (h : PageHist) × (Some h ≡ latest_of (hist_stamps more ++ known_stamps (found place old))) × (new ≡ insert_entry nat_cmp old place h) × IsNote note place h old new
 
 -- the value at the place has changed, if there is a note; without a note the pairs are unchanged
-abbrev pub TellsNote : Option Known → ℕ → Pairs → Pairs → Type 0
-TellsNote None place old new = new ≡ old
-TellsNote (Some k) place old new = found place new ≢ found place old
+abbrev pub SaysNote : Option Known → ℕ → MapPairs → MapPairs → Type 0
+SaysNote None place old new = new ≡ old
+SaysNote (Some k) place old new = found place new ≢ found place old

@@ -5,7 +5,7 @@ use Rattle.std.specs.Ordering.{is_eq, is_lt}
 use Rattle.warm_stamps.specs.declared.PageId.{PageId}
 use Rattle.warm_stamps.specs.Buckets.{page_bucket}
 use Rattle.warm_stamps.specs.Stamps.{page_cmp}
-use Rattle.warm_history.specs.ReferenceSets.{ReferenceSet, those}
+use Rattle.warm_history.specs.ReferenceSets.{ReferenceSet, filter_references}
 use Rattle.warm_history.specs.declared.hist.Entry.{Entry}
 use Rattle.warm_history.specs.Histories.{HistoryView, entries_of, history, pages, StandsFor}
 
@@ -15,16 +15,16 @@ comes_after None p = true
 comes_after (Some last) p = is_lt (page_cmp last p)
 
 -- the page is in the bucket, and after the given one
-abbrev pub is_chosen : ℕ → Option PageId → PageId → Bool
-is_chosen bucket after p = (page_bucket p == bucket) && comes_after after p
+abbrev pub is_next_in_bucket : ℕ → Option PageId → PageId → Bool
+is_next_in_bucket bucket after p = (page_bucket p == bucket) && comes_after after p
 
 -- the first pages of S, at most limit, of those in the bucket that come after the given one
 abbrev pub pages_carried : ReferenceSet → ℕ → Option PageId → ℕ → List PageId
-pages_carried S bucket after limit = take limit (filter (is_chosen bucket after) (pages S))
+pages_carried S bucket after limit = take limit (filter (is_next_in_bucket bucket after) (pages S))
 
 -- the references of S to these pages
 abbrev pub carried : ReferenceSet → ℕ → Option PageId → ℕ → ReferenceSet
-carried S bucket after limit = those (λ r. list_any (λ p. is_eq (page_cmp p r.page)) (pages_carried S bucket after limit)) S
+carried S bucket after limit = filter_references (λ r. list_any (λ p. is_eq (page_cmp p r.page)) (pages_carried S bucket after limit)) S
 
 -- these are the entries of the carried references, whichever references the history stands for
 abbrev pub AreCarried : HistoryView → ℕ → Option PageId → ℕ → List Entry → Type 0

@@ -11,13 +11,13 @@ abbrev pub ChangesIn : ℕ → List Entry → List Entry → Type 0
 ChangesIn bucket old new = bucket_entries bucket new ≢ bucket_entries bucket old
 
 -- the new list has the same entries of the bucket
-abbrev pub StaysIn : ℕ → List Entry → List Entry → Type 0
-StaysIn bucket old new = bucket_entries bucket new ≡ bucket_entries bucket old
+abbrev pub SameInBucket : ℕ → List Entry → List Entry → Type 0
+SameInBucket bucket old new = bucket_entries bucket new ≡ bucket_entries bucket old
 
 -- the bit of a bucket says which of the two holds
-abbrev pub TellsChange : List Entry → List Entry → ℕ → ℕ → Type 0
-TellsChange old new bucket bit = (bit ≡ 1 → ChangesIn bucket old new) × (bit ≡ 0 → StaysIn bucket old new)
+abbrev pub SaysChange : List Entry → List Entry → ℕ → ℕ → Type 0
+SaysChange old new bucket bit = (bit ≡ 1 → ChangesIn bucket old new) × (bit ≡ 0 → SameInBucket bucket old new)
 
 -- a bucket is in the set exactly where its entries change
 abbrev pub MarksChanged : List Entry → List Entry → ℕ → Type 0
-MarksChanged old new buckets = (bucket : ℕ) → bucket < BUCKETS → TellsChange old new bucket (bit_at buckets bucket)
+MarksChanged old new buckets = (bucket : ℕ) → bucket < BUCKETS → SaysChange old new bucket (bit_at buckets bucket)

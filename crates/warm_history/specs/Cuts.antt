@@ -4,12 +4,12 @@ use Rattle.std.specs.List.{filter_map}
 use Rattle.std.specs.Option.{option_map}
 use Rattle.warm_history.specs.declared.hist.PageHist.{PageHist}
 use Rattle.warm_history.specs.KeptEntries.{kept_hist}
-use Rattle.warm_history.specs.Tree.{Pairs}
+use Rattle.warm_history.specs.Tree.{MapPairs}
 
 -- the rest of a pair after the cut, if any
-abbrev pub pair_left : ℕ → ℕ × PageHist → Option (ℕ × PageHist)
-pair_left horizon e = option_map (λ h. (e.0, h)) (kept_hist horizon e.1)
+abbrev pub cut_pair : ℕ → ℕ × PageHist → Option (ℕ × PageHist)
+cut_pair horizon e = option_map (λ h. (e.0, h)) (kept_hist horizon e.1)
 
 -- the pairs after the cut
-abbrev pub cut_at : ℕ → Pairs → Pairs
-cut_at horizon pairs = filter_map (pair_left horizon) pairs
+abbrev pub cut_at : ℕ → MapPairs → MapPairs
+cut_at horizon pairs = filter_map (cut_pair horizon) pairs

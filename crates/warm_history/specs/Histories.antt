@@ -11,8 +11,8 @@ use Rattle.warm_stamps.specs.Distinct.{distinct}
 use Rattle.warm_history.specs.declared.hist.PageHist.{PageHist}
 use Rattle.warm_history.specs.declared.hist.Entry.{Entry}
 use Rattle.warm_history.specs.ReferenceSets.{ReferenceSet, is_kept, references, ◌∪◌}
-use Rattle.warm_history.specs.ListHistories as list
-pub use Rattle.warm_history.specs.ListHistories.{first_two, latest_of, stamps_held, held, entry_refs, IsFalling, PagesRise}
+use Rattle.warm_history.specs.ListHistories.{list_references_of}
+pub use Rattle.warm_history.specs.ListHistories.{first_two, latest_of, hist_stamps, known_stamps, references_of_entry, IsDescending, PagesAscend}
 
 -- what contracts see of a history: its horizon and its entries
 pub record HistoryView : Type 0 where
@@ -24,12 +24,12 @@ abbrev pub entries_of : HistoryView → List Entry
 entries_of h = h.entries
 
 -- the history of these entries, with horizon 0
-abbrev pub holding : List Entry → HistoryView
-holding es = record { horizon = 0; entries = es }
+abbrev pub history_of_entries : List Entry → HistoryView
+history_of_entries es = record { horizon = 0; entries = es }
 
 -- the history of these entries at a horizon
-abbrev pub holding_since : ℕ → List Entry → HistoryView
-holding_since horizon es = record { horizon = horizon; entries = es }
+abbrev pub history_of_entries_at : ℕ → List Entry → HistoryView
+history_of_entries_at horizon es = record { horizon = horizon; entries = es }
 
 -- the references of S to the page p
 abbrev pub references_to : ReferenceSet → PageId → List Reference
@@ -56,16 +56,16 @@ unfoldable pub history : ReferenceSet → HistoryView
 history S = record { horizon = S.horizon; entries = filter_map (entry_of S) (pages S) }
 
 -- the references that entries hold
-abbrev pub held_by : List Entry → List Reference
-held_by es = list.refs es
+abbrev pub references_of_entries : List Entry → List Reference
+references_of_entries es = list_references_of es
 
 -- the references that a history holds
-abbrev pub refs : HistoryView → ReferenceSet
-refs h = record { horizon = h.horizon; told = list.refs (entries_of h) }
+abbrev pub references_of : HistoryView → ReferenceSet
+references_of h = record { horizon = h.horizon; given = list_references_of (entries_of h) }
 
 -- the stamps of a page's history aren't older than the horizon
 abbrev pub IsKept : ℕ → PageHist → Type 0
-IsKept horizon h = AllByRecursion (λ s. is_kept horizon s ≡ true) (stamps_held h)
+IsKept horizon h = AllByRecursion (λ s. is_kept horizon s ≡ true) (hist_stamps h)
 
 -- no stamp of the entries is older than the horizon
 abbrev pub NoneOlder : ℕ → List Entry → Type 0
@@ -74,8 +74,8 @@ NoneOlder horizon es = AllByRecursion (λ e. IsKept horizon e.hist) es
 -- the invariant of histories: pages rise, the stamps of each page fall, and no stamp is older than
 -- the horizon
 pub record IsHistory (h : HistoryView) : Type 0 where
-  pub pages_rise : PagesRise (entries_of h)
-  pub stamps_fall : AllByRecursion (λ e. IsFalling e.hist) (entries_of h)
+  pub pages_ascend : PagesAscend (entries_of h)
+  pub stamps_descend : AllByRecursion (λ e. IsDescending e.hist) (entries_of h)
   pub none_older : NoneOlder h.horizon (entries_of h)
 
 -- the history h stands for the kept references S
@@ -88,7 +88,7 @@ TakesIn old rs new = (S : ReferenceSet) → StandsFor old S → StandsFor new (S
 
 -- the join of two histories, and the order whose least upper bound it is
 abbrev pub join : HistoryView → HistoryView → HistoryView
-join h g = history (refs h ∪ refs g)
+join h g = history (references_of h ∪ references_of g)
 
 abbrev pub IsBelow : HistoryView → HistoryView → Type 0
 IsBelow h g = join h g ≡ g

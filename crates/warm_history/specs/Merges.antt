@@ -7,12 +7,12 @@ use Rattle.warm_stamps.specs.Buckets.{page_bucket}
 use Rattle.warm_history.specs.declared.hist.Entry.{Entry}
 use Rattle.warm_history.specs.declared.merges.Part.{Part}
 use Rattle.warm_history.specs.declared.merges.Merged.{Merged}
-use Rattle.warm_history.specs.Carried.{is_chosen}
+use Rattle.warm_history.specs.Carried.{is_next_in_bucket}
 use Rattle.warm_history.specs.Tree.{as_entries}
 
 -- the entries of a bucket whose page is greater than the given one, if one is given
 abbrev pub later_of_bucket : ℕ → Option PageId → List Entry → List Entry
-later_of_bucket bucket after es = filter (λ e. is_chosen bucket after e.page) es
+later_of_bucket bucket after es = filter (λ e. is_next_in_bucket bucket after e.page) es
 
 -- the number of the page's bucket is at least from, and less than to
 abbrev pub is_between : ℕ → ℕ → PageId → Bool

@@ -8,32 +8,32 @@ infixr 60 ◌∪◌
 -- the references that were given, and the time before which they are forgotten
 pub record ReferenceSet : Type 0 where
   pub horizon : ℕ
-  pub told : List Reference
+  pub given : List Reference
 
 -- the stamp isn't older than the horizon
 abbrev pub is_kept : ℕ → Stamp → Bool
 is_kept horizon s = nat_le horizon s.time
 
 -- the references of a list that aren't older than the horizon
-abbrev pub recent : ℕ → List Reference → List Reference
-recent horizon rs = filter (λ r. is_kept horizon r.stamp) rs
+abbrev pub references_from : ℕ → List Reference → List Reference
+references_from horizon rs = filter (λ r. is_kept horizon r.stamp) rs
 
 -- the references of a set: those not older than its horizon
 abbrev pub references : ReferenceSet → List Reference
-references S = recent S.horizon S.told
+references S = references_from S.horizon S.given
 
 -- the set of the references of a list, with horizon 0
-abbrev pub these : List Reference → ReferenceSet
-these rs = record { horizon = 0; told = rs }
+abbrev pub set_of_list : List Reference → ReferenceSet
+set_of_list rs = record { horizon = 0; given = rs }
 
 -- the references of both sets, cut at the greater horizon
 abbrev pub ◌∪◌ : ReferenceSet → ReferenceSet → ReferenceSet
-S ∪ T = record { horizon = max S.horizon T.horizon; told = S.told ++ T.told }
+S ∪ T = record { horizon = max S.horizon T.horizon; given = S.given ++ T.given }
 
 -- the references that pass the test
-abbrev pub those : (Reference → Bool) → ReferenceSet → ReferenceSet
-those test S = record { horizon = S.horizon; told = filter test S.told }
+abbrev pub filter_references : (Reference → Bool) → ReferenceSet → ReferenceSet
+filter_references test S = record { horizon = S.horizon; given = filter test S.given }
 
 -- the references from this time on
-abbrev pub since : ℕ → ReferenceSet → ReferenceSet
-since time S = S ∪ record { horizon = time; told = [] }
+abbrev pub with_horizon : ℕ → ReferenceSet → ReferenceSet
+with_horizon time S = S ∪ record { horizon = time; given = [] }

@@ -4,35 +4,35 @@ use Rattle.std.specs.BTreeMap.{insert_entry}
 use Rattle.std.specs.Ordering.{nat_cmp}
 use Rattle.warm_history.specs.declared.hist.PageHist.{PageHist}
 use Rattle.warm_history.specs.declared.hist.Entry.{Entry}
-use Rattle.warm_history.specs.ListHistories.{latest_of, stamps_held}
-use Rattle.warm_history.specs.Places.{first_place, place_of, page_at}
+use Rattle.warm_history.specs.ListHistories.{latest_of, hist_stamps}
+use Rattle.warm_history.specs.Places.{first_key, key_of_page, page_of_key}
 use Rattle.warm_history.specs.ReferenceSets.{is_kept}
-use Rattle.warm_history.specs.Tree.{Pairs}
+use Rattle.warm_history.specs.Tree.{MapPairs}
 
 -- the entries are at rising places, all from the first of these on and before the other
 abbrev pub RiseWithin : ℕ → ℕ → List Entry → Type 0
 RiseWithin from to [] = ⊤
-RiseWithin from to (e ∷ es) = (from ≤ place_of e.page) × (place_of e.page < to) × (page_at (place_of e.page) ≡ e.page) × RiseWithin (place_of e.page + 1) to es
+RiseWithin from to (e ∷ es) = (from ≤ key_of_page e.page) × (key_of_page e.page < to) × (page_of_key (key_of_page e.page) ≡ e.page) × RiseWithin (key_of_page e.page + 1) to es
 
 -- the entries are a run of the bucket of this number
 abbrev pub IsRun : ℕ → List Entry → Type 0
-IsRun number es = RiseWithin (first_place number) (first_place (number + 1)) es
+IsRun number es = RiseWithin (first_key number) (first_key (number + 1)) es
 
 -- the pair of a place, if there is a value
-abbrev pub at_place : ℕ → Option PageHist → Pairs
+abbrev pub at_place : ℕ → Option PageHist → MapPairs
 at_place place None = []
 at_place place (Some h) = (place, h) ∷ []
 
 -- the pair of an entry without the stamps older than the horizon, if any is left
-abbrev pub pair_left : ℕ → Entry → Pairs
-pair_left horizon e = at_place (place_of e.page) (latest_of (filter (is_kept horizon) (stamps_held e.hist)))
+abbrev pub pair_of_entry : ℕ → Entry → MapPairs
+pair_of_entry horizon e = at_place (key_of_page e.page) (latest_of (filter (is_kept horizon) (hist_stamps e.hist)))
 
 -- the pairs of entries
-abbrev pub run_pairs : ℕ → List Entry → Pairs
+abbrev pub run_pairs : ℕ → List Entry → MapPairs
 run_pairs horizon [] = []
-run_pairs horizon (e ∷ es) = pair_left horizon e ++ run_pairs horizon es
+run_pairs horizon (e ∷ es) = pair_of_entry horizon e ++ run_pairs horizon es
 
 -- pairs with others put in
-abbrev pub filled : Pairs → Pairs → Pairs
-filled pairs [] = pairs
-filled pairs (e ∷ run) = insert_entry nat_cmp (filled pairs run) e.0 e.1
+abbrev pub with_pairs : MapPairs → MapPairs → MapPairs
+with_pairs pairs [] = pairs
+with_pairs pairs (e ∷ run) = insert_entry nat_cmp (with_pairs pairs run) e.0 e.1

@@ -4,20 +4,20 @@ use Rattle.std.specs.List.{AllByRecursion}
 use Rattle.std.specs.Ordering.{match_ordering, nat_cmp, on}
 use Rattle.warm_stamps.specs.declared.Reference.{Reference}
 use Rattle.warm_stamps.specs.Stamps.{page_cmp}
-use Rattle.warm_stamps.specs.Distinct.{IsRising}
+use Rattle.warm_stamps.specs.Distinct.{IsAscending}
 use Rattle.warm_history.specs.declared.hist.PageHist.{PageHist}
 use Rattle.warm_history.specs.declared.hist.Entry.{Entry}
-use Rattle.warm_history.specs.ReferenceSets.{recent}
-use Rattle.warm_history.specs.ListHistories.{entry_refs, refs, history, IsFalling}
-use Rattle.warm_history.specs.Places.{page_at, IsPlace}
+use Rattle.warm_history.specs.ReferenceSets.{references_from}
+use Rattle.warm_history.specs.ListHistories.{references_of_entry, list_references_of, list_history, IsDescending}
+use Rattle.warm_history.specs.Places.{page_of_key, IsMapKey}
 
 -- the contents of such maps, by place
-abbrev pub Pairs : Type 0
-Pairs = List (ℕ × PageHist)
+abbrev pub MapPairs : Type 0
+MapPairs = List (ℕ × PageHist)
 
 -- the pairs as entries
-abbrev pub as_entries : Pairs → List Entry
-as_entries pairs = map (λ e. record { page = page_at e.0; hist = e.1 }) pairs
+abbrev pub as_entries : MapPairs → List Entry
+as_entries pairs = map (λ e. record { page = page_of_key e.0; hist = e.1 }) pairs
 
 -- rising entries with one inserted; it replaces the entry of the same page, if there is one
 abbrev pub put_in : Entry → List Entry → List Entry
@@ -30,38 +30,38 @@ in_page_order [] = []
 in_page_order (e ∷ es) = put_in e (in_page_order es)
 
 -- the entries of the pairs, in page order
-abbrev pub kept : Pairs → List Entry
+abbrev pub kept : MapPairs → List Entry
 kept pairs = in_page_order (as_entries pairs)
 
 -- the invariant of the pairs of a history: they lie at rising valid places, and the stamps of each
 -- fall
-pub record AreKept (pairs : Pairs) : Type 0 where
-  pub places_rise : IsRising (on (λ e. e.0) nat_cmp) pairs
-  pub are_places : AllByRecursion (λ e. IsPlace e.0) pairs
-  pub stamps_fall : AllByRecursion (λ e. IsFalling e.1) pairs
+pub record AreKept (pairs : MapPairs) : Type 0 where
+  pub places_rise : IsAscending (on (λ e. e.0) nat_cmp) pairs
+  pub are_places : AllByRecursion (λ e. IsMapKey e.0) pairs
+  pub stamps_descend : AllByRecursion (λ e. IsDescending e.1) pairs
 
 -- the references of a page's stamps
 abbrev pub told_at : ℕ → PageHist → List Reference
-told_at place h = entry_refs (record { page = page_at place; hist = h })
+told_at place h = references_of_entry (record { page = page_of_key place; hist = h })
 
 -- the pairs new hold the entries of old, with these references taken in
-abbrev pub PairsTakeIn : Pairs → List Reference → Pairs → Type 0
-PairsTakeIn old rs new = kept new ≡ history (refs (kept old) ++ rs)
+abbrev pub PairsTakeIn : MapPairs → List Reference → MapPairs → Type 0
+PairsTakeIn old rs new = kept new ≡ list_history (list_references_of (kept old) ++ rs)
 
 -- the same, for the stamps of the page at a place
-abbrev pub TakesStamps : Pairs → ℕ → PageHist → Pairs → Type 0
+abbrev pub TakesStamps : MapPairs → ℕ → PageHist → MapPairs → Type 0
 TakesStamps old place h new = PairsTakeIn old (told_at place h) new
 
 -- the same, for what isn't older than the horizon: of the stamps of the page at a place, of the
 -- references of a list, of the entries of a list, or of the entries of other pairs
-abbrev pub TakesRecent : ℕ → Pairs → ℕ → PageHist → Pairs → Type 0
-TakesRecent horizon old place h new = PairsTakeIn old (recent horizon (told_at place h)) new
+abbrev pub TakesRecent : ℕ → MapPairs → ℕ → PageHist → MapPairs → Type 0
+TakesRecent horizon old place h new = PairsTakeIn old (references_from horizon (told_at place h)) new
 
-abbrev pub TakesReferences : ℕ → Pairs → List Reference → Pairs → Type 0
-TakesReferences horizon old rs new = PairsTakeIn old (recent horizon rs) new
+abbrev pub TakesReferences : ℕ → MapPairs → List Reference → MapPairs → Type 0
+TakesReferences horizon old rs new = PairsTakeIn old (references_from horizon rs) new
 
-abbrev pub TakesEntries : ℕ → Pairs → List Entry → Pairs → Type 0
-TakesEntries horizon old es new = PairsTakeIn old (recent horizon (refs es)) new
+abbrev pub TakesEntries : ℕ → MapPairs → List Entry → MapPairs → Type 0
+TakesEntries horizon old es new = PairsTakeIn old (references_from horizon (list_references_of es)) new
 
-abbrev pub TakesPairs : ℕ → Pairs → Pairs → Pairs → Type 0
-TakesPairs horizon old more new = PairsTakeIn old (recent horizon (refs (kept more))) new
+abbrev pub TakesPairs : ℕ → MapPairs → MapPairs → MapPairs → Type 0
+TakesPairs horizon old more new = PairsTakeIn old (references_from horizon (list_references_of (kept more))) new

@@ -2,13 +2,13 @@
 ghost use Rattle.std.specs.Iterator.{YieldsFirst};
 ghost use Rattle.std.specs.Prelude.{◌≡◌, ◌≢◌, ◌+◌, ◌<◌, ◌≤◌, ◌^◌, [], length, map, OnOk, OnErr, IfOk, IfSome, IfNone, IsTrue, None, Some, ◌++◌};
 ghost use Rattle.std.specs.List.{AllByRecursion};
-ghost use Rattle.warm_history.specs.ListHistories.{held, latest_of, stamps_held};
-ghost use Rattle.warm_history.specs.Places.{IsPlace};
+ghost use Rattle.warm_history.specs.ListHistories.{known_stamps, latest_of, hist_stamps};
+ghost use Rattle.warm_history.specs.Places.{IsMapKey};
 ghost use Rattle.warm_history.specs.Cuts.{cut_at};
 ghost use Rattle.warm_stamps.specs.declared.TheConstants.{BUCKETS};
 ghost use Rattle.warm_history.specs.Tree.{AreKept, TakesStamps};
-ghost use Rattle.warm_history.specs.BucketMaps.{joined, pairs_of, pairs_left, HoldsBucket, LiesIn, PlacesRise, Records, TellsNote, found};
-ghost use Rattle.warm_history.specs.Runs.{filled};
+ghost use Rattle.warm_history.specs.BucketMaps.{all_pairs, pairs_of_maps, pairs_left, HoldsBucket, LiesIn, PlacesRise, Records, SaysNote, found};
+ghost use Rattle.warm_history.specs.Runs.{with_pairs};
 ghost use Rattle.warm_history.specs.Undo.{put_back, noted, Undoes};
 
 use crate::hist::{PageHist, join_hist, join_known, keep_since};
@@ -44,15 +44,15 @@ pub(crate) struct BucketMaps {
 impl Model for BucketMaps {
     ghost use Rattle.std.specs.Prelude.{◌≡◌, length};
     ghost use Rattle.warm_stamps.specs.declared.TheConstants.{BUCKETS};
-    ghost use Rattle.warm_history.specs.Tree.{Pairs};
-    ghost use Rattle.warm_history.specs.BucketMaps.{joined, AreBuckets, AreSmall, pairs_of};
+    ghost use Rattle.warm_history.specs.Tree.{MapPairs};
+    ghost use Rattle.warm_history.specs.BucketMaps.{all_pairs, AreBuckets, AreSmall, pairs_of_maps};
 
-    ghost Value = { Pairs };
+    ghost Value = { MapPairs };
 
-    ghost view = { λ b. joined (pairs_of b.maps) };
+    ghost view = { λ b. all_pairs (pairs_of_maps b.maps) };
 
     ghost invariant = { λ b. (length b.maps ≡ BUCKETS)
-        × AreBuckets 0 (pairs_of b.maps) × AreSmall (pairs_of b.maps) };
+        × AreBuckets 0 (pairs_of_maps b.maps) × AreSmall (pairs_of_maps b.maps) };
 }
 
 impl BucketMaps {
@@ -103,7 +103,7 @@ impl BucketMaps {
 
     // The value at a place.
     pub(crate) fn get(&self, place: u128) -> Option<PageHist>
-        requires { IsPlace place }
+        requires { IsMapKey place }
         ensures { result ≡ found place self.now }
     {
         self.maps[bucket_at(place)].get(&place).copied()
@@ -120,12 +120,12 @@ impl BucketMaps {
         more: PageHist,
         likely_new: bool,
     ) -> Result<Option<Known>, AllocError>
-        requires place { IsPlace place }
+        requires place { IsMapKey place }
         requires kept { AreKept self.old }
         ensures exact { OnOk result (TakesStamps self.old place more self.new) }
         ensures whole { AreKept self.new }
         ensures undo { IfOk result (λ note. Undoes (noted note) self.new self.old) }
-        ensures tells { IfOk result (λ note. TellsNote note place self.old self.new) }
+        ensures tells { IfOk result (λ note. SaysNote note place self.old self.new) }
         ensures err { OnErr result (self.new ≡ self.old) }
     {
         record_in(&mut self.maps[bucket_at(place)], place, more, likely_new)
@@ -151,7 +151,7 @@ impl BucketMaps {
         requires free { HoldsBucket number [] self.old }
         requires rise { PlacesRise pairs.items }
         requires inside { AllByRecursion (λ e. LiesIn number e.0) pairs.items }
-        ensures ok { OnOk result (self.new ≡ filled self.old pairs.items) }
+        ensures ok { OnOk result (self.new ≡ with_pairs self.old pairs.items) }
         ensures err { OnErr result (self.new ≡ self.old) }
     {
         let map = map_from(alloc, pairs)?;
@@ -185,10 +185,10 @@ pub(crate) struct EachPair<'a> {
 }
 
 impl<'a> Model for EachPair<'a> {
-    ghost use Rattle.warm_history.specs.Tree.{Pairs};
+    ghost use Rattle.warm_history.specs.Tree.{MapPairs};
     ghost use Rattle.warm_history.specs.BucketMaps.{pairs_left};
 
-    ghost Value = { Pairs };
+    ghost Value = { MapPairs };
 
     ghost view = { λ pairs. pairs_left pairs.here pairs.rest.now };
 }
@@ -227,8 +227,8 @@ fn next_pair<'a>(
 
 // The number of pairs in the maps, where the count does not overflow.
 fn count_all(maps: &[BTreeMap<u128, PageHist>]) -> usize
-    requires { length (joined (pairs_of maps.now)) < 2 ^ 64 }
-    ensures { result ≡ length (joined (pairs_of maps.now)) }
+    requires { length (all_pairs (pairs_of_maps maps.now)) < 2 ^ 64 }
+    ensures { result ≡ length (all_pairs (pairs_of_maps maps.now)) }
 {
     let mut count = 0;
     for map in maps {
@@ -327,14 +327,14 @@ fn record_likely_known(
 
 // The two latest of these stamps, of a page that has no entry yet.
 pub(crate) fn alone(more: &PageHist) -> PageHist
-    ensures { Some result ≡ latest_of (stamps_held more.now ++ held None) }
+    ensures { Some result ≡ latest_of (hist_stamps more.now ++ known_stamps None) }
 {
     join_known(None, *more)
 }
 
 // Merges more stamps into the value of a page, and returns the old value where it changes.
 fn raise(known: &mut PageHist, more: PageHist) -> Option<PageHist>
-    ensures now { Some known.new ≡ latest_of (stamps_held more ++ stamps_held known.old) }
+    ensures now { Some known.new ≡ latest_of (hist_stamps more ++ hist_stamps known.old) }
     ensures before { IfSome result (λ h. h ≡ known.old) }
     ensures differs { IfSome result (λ h. h ≢ known.new) }
     ensures same { IfNone result (known.new ≡ known.old) }
@@ -349,7 +349,7 @@ fn raise(known: &mut PageHist, more: PageHist) -> Option<PageHist>
 }
 
 fn forget_all(maps: &mut [BTreeMap<u128, PageHist>], horizon: u64)
-    ensures { pairs_of maps.new ≡ map (cut_at horizon) (pairs_of maps.old) }
+    ensures { pairs_of_maps maps.new ≡ map (cut_at horizon) (pairs_of_maps maps.old) }
 {
     for map in maps.iter_mut() {
         forget_in(map, horizon);

@@ -1,6 +1,6 @@
 //! The history of one page: its latest stamp, or its two latest.
 ghost use Rattle.std.specs.Prelude.{◌≡◌, ◌↔◌, [], ◌∷◌, ◌++◌, filter, cond, IsTrue};
-ghost use Rattle.warm_history.specs.ListHistories.{latest_of, stamps_held, held};
+ghost use Rattle.warm_history.specs.ListHistories.{latest_of, hist_stamps, known_stamps};
 ghost use Rattle.warm_history.specs.ReferenceSets.{is_kept};
 ghost use Rattle.warm_history.specs.Histories.{IsKept};
 ghost use Rattle.warm_history.specs.KeptEntries.{kept_hist};
@@ -94,7 +94,7 @@ pub struct Entry {
 impl PageHist {
     // The two latest of these stamps and one more.
     pub(crate) fn with(self, stamp: Stamp) -> PageHist
-        ensures { Some result ≡ latest_of (stamp ∷ stamps_held self) }
+        ensures { Some result ≡ latest_of (stamp ∷ hist_stamps self) }
     {
         match self {
             PageHist::Once(last) => match stamp.cmp(&last) {
@@ -109,7 +109,7 @@ impl PageHist {
     // The two latest of these stamps and two more.
     #[tactic(auto, using(crate::proofs::PlaceLemmas::latest_of_more))]
     fn with_both(self, two: Two) -> PageHist
-        ensures { Some result ≡ latest_of (two.last ∷ two.prev ∷ stamps_held self) }
+        ensures { Some result ≡ latest_of (two.last ∷ two.prev ∷ hist_stamps self) }
     {
         self.with(two.prev()).with(two.last())
     }
@@ -117,7 +117,7 @@ impl PageHist {
     // These stamps without those older than the horizon, if any is left.
     pub(crate) fn since(self, horizon: u64) -> Option<PageHist>
         ensures left { result ≡ kept_hist horizon self }
-        ensures stamps { held result ≡ filter (is_kept horizon) (stamps_held self) }
+        ensures stamps { known_stamps result ≡ filter (is_kept horizon) (hist_stamps self) }
     {
         match self {
             PageHist::Once(last) => {
@@ -145,7 +145,7 @@ impl PageHist {
 /// The history of a page that two histories contain: the two latest distinct stamps of both
 /// together. Allocation-free.
 pub fn join_hist(a: PageHist, b: PageHist) -> PageHist
-    ensures { Some result ≡ latest_of (stamps_held a ++ stamps_held b) }
+    ensures { Some result ≡ latest_of (hist_stamps a ++ hist_stamps b) }
 {
     match a {
         PageHist::Once(last) => b.with(last),
@@ -156,7 +156,7 @@ pub fn join_hist(a: PageHist, b: PageHist) -> PageHist
 // Both stamps without those older than the horizon, if any is left.
 fn since_both(two: Two, horizon: u64) -> Option<PageHist>
     ensures left { result ≡ kept_hist horizon (PageHist.Twice two) }
-    ensures stamps { held result ≡ filter (is_kept horizon) (two.last ∷ two.prev ∷ []) }
+    ensures stamps { known_stamps result ≡ filter (is_kept horizon) (two.last ∷ two.prev ∷ []) }
 {
     let last = two.last();
     let prev = two.prev();
@@ -182,7 +182,7 @@ pub(crate) fn keep_since(hist: &mut PageHist, horizon: u64) -> bool
 
 // The two latest stamps of a page's known stamps, if there are any, and more.
 pub(crate) fn join_known(known: Option<PageHist>, more: PageHist) -> PageHist
-    ensures { Some result ≡ latest_of (stamps_held more ++ held known) }
+    ensures { Some result ≡ latest_of (hist_stamps more ++ known_stamps known) }
 {
     match known {
         None => match more {

@@ -1,9 +1,9 @@
 //! Histories, stored as maps from places: the entries of a bucket lie together.
 ghost use Rattle.std.specs.Prelude.{◌≡◌, ◌≤◌, [], false, length, max, OnOk, OnErr, IfOk, IsPermutation, IsTrue, slice_get, take};
-ghost use Rattle.warm_history.specs.ReferenceSets.{ReferenceSet, these, since, ◌∪◌};
-ghost use Rattle.warm_history.specs.Histories.{entries_of, holding, holding_since, hist, refs, history, join, StandsFor, TakesIn, IsHistory};
+ghost use Rattle.warm_history.specs.ReferenceSets.{ReferenceSet, set_of_list, with_horizon, ◌∪◌};
+ghost use Rattle.warm_history.specs.Histories.{entries_of, history_of_entries, history_of_entries_at, hist, references_of, history, join, StandsFor, TakesIn, IsHistory};
 ghost use Rattle.warm_history.specs.Carried.{AreCarried, bucket_entries};
-ghost use Rattle.warm_history.specs.Losses.{KeepsIn, LosesIn, MarksLosing, bucket_since, raised};
+ghost use Rattle.warm_history.specs.Losses.{KeepsIn, LosesIn, MarksLosing, bucket_at_horizon, raised};
 ghost use Rattle.warm_history.specs.Changes.{MarksChanged};
 ghost use Rattle.warm_history.specs.Merges.{later_of_bucket};
 
@@ -13,7 +13,7 @@ use crate::losses::losing;
 use crate::merges::{AllParts, Source, all_parts};
 use crate::parts::{later_pairs, next_entry};
 use crate::place::page_at;
-use crate::since::{EntriesSince, none_older};
+use crate::since::{CutEntries, none_older};
 use crate::tree::{known_of, raise, take_entries, take_pairs, take_references};
 use std::alloc::{AllocError, Global};
 use std::collections::btree_map::Range;
@@ -53,12 +53,12 @@ impl Drop for History {
 }
 
 impl Model for History {
-    ghost use Rattle.warm_history.specs.Histories.{HistoryView, holding_since, NoneOlder};
+    ghost use Rattle.warm_history.specs.Histories.{HistoryView, history_of_entries_at, NoneOlder};
     ghost use Rattle.warm_history.specs.Tree.{kept, AreKept};
 
     ghost Value = { HistoryView };
 
-    ghost view = { λ h. holding_since h.horizon (kept h.maps) };
+    ghost view = { λ h. history_of_entries_at h.horizon (kept h.maps) };
 
     ghost invariant = { λ h. AreKept h.maps × NoneOlder h.horizon (kept h.maps) };
 }
@@ -66,8 +66,8 @@ impl Model for History {
 impl History {
     /// The history of no references. Allocation-free.
     pub fn new(alloc: Global) -> History
-        ensures empty { result ≡ holding [] }
-        ensures stands { StandsFor result (these []) }
+        ensures empty { result ≡ history_of_entries [] }
+        ensures stands { StandsFor result (set_of_list []) }
     {
         History {
             alloc,
@@ -90,8 +90,8 @@ impl History {
     /// Where the time is later than the horizon, all entries are scanned once.
     pub fn raise(&mut self, time: u64)
         ensures raised { (S : ReferenceSet) → StandsFor self.old S
-            → StandsFor self.new (since time S) }
-        ensures exact { self.new ≡ history (since time (refs self.old)) }
+            → StandsFor self.new (with_horizon time S) }
+        ensures exact { self.new ≡ history (with_horizon time (references_of self.old)) }
     {
         self.horizon = raise(&mut self.maps, self.horizon, time);
     }
@@ -142,10 +142,10 @@ impl History {
     ///
     /// Starting costs a look-up, and each entry of the bucket a step: older stamps are skipped as
     /// they are read.
-    pub fn bucket_since(&self, bucket: Bucket, horizon: u64) -> EntriesSince<'_>
-        ensures { result ≡ bucket_since horizon bucket self.now }
+    pub fn bucket_at_horizon(&self, bucket: Bucket, horizon: u64) -> CutEntries<'_>
+        ensures { result ≡ bucket_at_horizon horizon bucket self.now }
     {
-        EntriesSince::new(self.bucket(bucket), later(self.horizon, horizon))
+        CutEntries::new(self.bucket(bucket), later(self.horizon, horizon))
     }
 
     /// Whether the entries of a bucket would change at a horizon: one of them has an older stamp.
@@ -199,8 +199,8 @@ impl History {
     /// occurs where the allocation of the undo list (the old values of the batch's pages) or of a
     /// new page fails, and changes nothing.
     pub fn absorb(&mut self, batch: &[Reference]) -> Result<u64, AllocError>
-        ensures ok { OnOk result (TakesIn self.old (these batch.now) self.new) }
-        ensures exact { OnOk result (self.new ≡ history (refs self.old ∪ these batch.now)) }
+        ensures ok { OnOk result (TakesIn self.old (set_of_list batch.now) self.new) }
+        ensures exact { OnOk result (self.new ≡ history (references_of self.old ∪ set_of_list batch.now)) }
         ensures changed { IfOk result (MarksChanged (entries_of self.old) (entries_of self.new)) }
         ensures none { IfOk result (λ changed. changed ≡ 0 → self.new ≡ self.old) }
         ensures err { OnErr result (self.new ≡ self.old) }
@@ -216,7 +216,7 @@ impl History {
     /// `AllocError` occurs where the allocation of the undo list (the old values of these pages) or
     /// of a new page fails, and changes nothing.
     pub fn join(&mut self, other: &History) -> Result<u64, AllocError>
-        ensures ok { OnOk result (TakesIn self.old (refs other.now) self.new) }
+        ensures ok { OnOk result (TakesIn self.old (references_of other.now) self.new) }
         ensures exact { OnOk result (self.new ≡ join self.old other.now) }
         ensures changed { IfOk result (MarksChanged (entries_of self.old) (entries_of self.new)) }
         ensures none { IfOk result
@@ -241,8 +241,8 @@ impl History {
     /// nothing.
     pub fn join_entries(&mut self, horizon: u64, more: &[Entry]) -> Result<u64, AllocError>
         ensures ok { OnOk result
-            (TakesIn self.old (refs (holding_since horizon more.now)) self.new) }
-        ensures exact { OnOk result (self.new ≡ join self.old (holding_since horizon more.now)) }
+            (TakesIn self.old (references_of (history_of_entries_at horizon more.now)) self.new) }
+        ensures exact { OnOk result (self.new ≡ join self.old (history_of_entries_at horizon more.now)) }
         ensures changed { IfOk result (MarksChanged (entries_of self.old) (entries_of self.new)) }
         ensures none { IfOk result
             (λ changed. changed ≡ 0 → entries_of self.new ≡ entries_of self.old) }
@@ -280,7 +280,7 @@ impl History {
         limit: usize,
     ) -> Result<Vec<Entry>, AllocError>
         ensures carried { IfOk result (λ es. AreCarried self.now bucket after limit es.items) }
-        ensures whole { IfOk result (λ es. IsHistory (holding es.items)) }
+        ensures whole { IfOk result (λ es. IsHistory (history_of_entries es.items)) }
         ensures limited { IfOk result (λ es. length es.items ≤ limit) }
     {
         first_entries(self.alloc, self.later(bucket, after), limit)

@@ -25,5 +25,5 @@ mod tree;
 
 pub use hist::{Entry, PageHist, Two, join_hist};
 pub use history::{BucketEntries, Entries, History, Unordered};
-pub use order::pages_rise;
-pub use since::EntriesSince;
+pub use order::pages_ascend;
+pub use since::CutEntries;

@@ -1,13 +1,13 @@
 //! Whether entries are in page order.
 ghost use Rattle.std.specs.Prelude.{◌↔◌, IsTrue};
-ghost use Rattle.warm_history.specs.Histories.{PagesRise};
+ghost use Rattle.warm_history.specs.Histories.{PagesAscend};
 
 use crate::hist::Entry;
 use std::cmp::Ordering;
 
 /// Whether the pages of the entries rise, each above the one before it. Allocation-free.
-pub fn pages_rise(entries: &[Entry]) -> bool
-    ensures { IsTrue result ↔ PagesRise entries.now }
+pub fn pages_ascend(entries: &[Entry]) -> bool
+    ensures { IsTrue result ↔ PagesAscend entries.now }
 {
     let Some((mut last, mut rest)) = entries.split_first() else {
         return true;

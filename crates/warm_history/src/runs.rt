@@ -5,7 +5,7 @@
 ghost use Rattle.std.specs.Prelude.{◌≡◌, [], ◌++◌, ◌<◌, IfOk, IfSome, IsTrue, OnErr, OnOk};
 ghost use Rattle.warm_history.specs.BucketMaps.{HoldsBucket};
 ghost use Rattle.warm_history.specs.Changes.{MarksChanged};
-ghost use Rattle.warm_history.specs.Runs.{IsRun, pair_left, run_pairs};
+ghost use Rattle.warm_history.specs.Runs.{IsRun, pair_of_entry, run_pairs};
 ghost use Rattle.warm_history.specs.Tree.{AreKept, kept, TakesEntries};
 ghost use Rattle.warm_stamps.specs.declared.TheConstants.{BUCKETS};
 
@@ -100,7 +100,7 @@ fn push_recent(
     horizon: u64,
     entry: &Entry,
 ) -> Result<(), AllocError>
-    ensures { OnOk result (pairs.new.items ≡ pairs.old.items ++ pair_left horizon entry.now) }
+    ensures { OnOk result (pairs.new.items ≡ pairs.old.items ++ pair_of_entry horizon entry.now) }
 {
     let Some(recent) = entry.hist.since(horizon) else {
         return Ok(());

@@ -15,12 +15,12 @@ use std::marker::Model;
 ///
 /// Contracts see it as the list of the entries ahead, after the cut.
 #[derive(Debug, Drop)]
-pub struct EntriesSince<'a> {
+pub struct CutEntries<'a> {
     ahead: BucketEntries<'a>,
     horizon: u64,
 }
 
-impl<'a> Model for EntriesSince<'a> {
+impl<'a> Model for CutEntries<'a> {
     ghost use Rattle.std.specs.Prelude.{List};
     ghost use Rattle.warm_history.specs.declared.hist.Entry.{Entry};
     ghost use Rattle.warm_history.specs.KeptEntries.{kept_entries};
@@ -30,19 +30,19 @@ impl<'a> Model for EntriesSince<'a> {
     ghost view = { λ entries. kept_entries entries.horizon entries.ahead };
 }
 
-impl<'a> EntriesSince<'a> {
+impl<'a> CutEntries<'a> {
     // These entries, cut at the horizon.
-    pub(crate) fn new(entries: BucketEntries<'a>, horizon: u64) -> EntriesSince<'a>
+    pub(crate) fn new(entries: BucketEntries<'a>, horizon: u64) -> CutEntries<'a>
         ensures { result ≡ kept_entries horizon entries.entry }
     {
-        EntriesSince {
+        CutEntries {
             ahead: entries,
             horizon,
         }
     }
 }
 
-impl<'a> Iterator for EntriesSince<'a> {
+impl<'a> Iterator for CutEntries<'a> {
     ghost use Rattle.std.specs.Iterator.{YieldsFirst, item_count};
 
     type Item = Entry;

@@ -5,7 +5,7 @@
 //! restored, the last one first, which is allocation-free.
 ghost use Rattle.std.specs.Prelude.{◌≡◌, IfOk, OnOk, OnErr, max};
 ghost use Rattle.warm_history.specs.Changes.{MarksChanged};
-ghost use Rattle.warm_history.specs.Places.{place_of, page_at, IsPlace};
+ghost use Rattle.warm_history.specs.Places.{key_of_page, page_of_key, IsMapKey};
 ghost use Rattle.warm_history.specs.Tree.{
   AreKept,
   kept,
@@ -39,8 +39,8 @@ struct Taken {
 
 // The value of a page, if it has one.
 pub(crate) fn known_of(maps: &BucketMaps, page: PageId) -> Option<PageHist>
-    ensures known { result ≡ found (place_of page) maps.now }
-    ensures back { page_at (place_of page) ≡ page }
+    ensures known { result ≡ found (key_of_page page) maps.now }
+    ensures back { page_of_key (key_of_page page) ≡ page }
 {
     let place = place_of(page);
     maps.get(place)
@@ -129,7 +129,7 @@ fn take(
     more: PageHist,
     likely_new: bool,
 ) -> Result<Taken, AllocError>
-    requires place { IsPlace place }
+    requires place { IsMapKey place }
     requires kept { AreKept maps.old }
     ensures exact { OnOk result (TakesStamps maps.old place more maps.new) }
     ensures changed { IfOk result
@@ -161,7 +161,7 @@ fn take_recent(
     more: PageHist,
     likely_new: bool,
 ) -> Result<Taken, AllocError>
-    requires place { IsPlace place }
+    requires place { IsMapKey place }
     requires kept { AreKept maps.old }
     ensures exact { OnOk result (TakesRecent horizon maps.old place more maps.new) }
     ensures changed { IfOk result

@@ -4,10 +4,10 @@ use Rattle.std.specs.Option.{option_map}
 use Rattle.std.proofs.lemmas.List.{length-map}
 use Rattle.std.proofs.Math.ListN.{get_or-map as mapped}
 use Rattle.warm_stamps.specs.declared.PageId.{PageId}
-use Rattle.warm_history.specs.Histories.{HistoryView, hist, refs}
+use Rattle.warm_history.specs.Histories.{HistoryView, hist, references_of}
 use Rattle.warm_rank.specs.Keys.{rank_key}
 use Rattle.warm_devices.specs.Device.{DeviceState}
-use Rattle.warm_rank.specs.declared.TheConstants.{MAX_SLOTS}
+use Rattle.warm_rank.specs.declared.TheConstants.{MAX_FRAMES}
 use Rattle.warm_pool.specs.Frames.{FrameState, FramesState, nth_frame, fresh_frame, vacated}
 use Rattle.warm_pool.specs.State.{PoolState, IsPool, IsNowhere, IsSettled, nth_device}
 use Rattle.warm_pool.specs.View.{stored, view_of, frame_view, bytes_of, PoolView, HasPage, contents_at, device_at}
@@ -51,7 +51,7 @@ vacate_bare which f = elim (is_chosen which f.page) as (λ t. (IsTrue t → f.fi
 ]
 
 abbrev IsRanked : HistoryView → FrameState → Type 0
-IsRanked h f = f.key ≡ option_map (λ p. rank_key p (hist (refs h) p)) f.page
+IsRanked h f = f.key ≡ option_map (λ p. rank_key p (hist (references_of h) p)) f.page
 
 vacate_ranked : (which : Option ℕ) (f : FrameState) (h : HistoryView) → IsRanked h f → IsRanked h (vacate_if which f)
 vacate_ranked which f h is = elim (is_chosen which f.page) as (λ t. IsRanked h (cond t (vacated f) f)) [ true ↦ refl | false ↦ is ]
@@ -76,7 +76,7 @@ vacated_pool which s unfixed w =
     let count = length-map s.frames (vacate_if which) in
     record {
       some_frames = subst (λ n. 0 < n) (sym count) w.some_frames;
-      few_frames = subst (λ n. n ≤ MAX_SLOTS) (sym count) w.few_frames;
+      few_frames = subst (λ n. n ≤ MAX_FRAMES) (sym count) w.few_frames;
       some_bytes = w.some_bytes;
       few_bytes = w.few_bytes;
       few_devices = w.few_devices;

@@ -3,14 +3,14 @@
 use Rattle.std.proofs.Common.{◌≡◌, ◌≢◌, ◌<◌, ℕ, zero, suc, Bool, true, false, List, [], ◌∷◌, refl, sym, Some, None, inl, inr, arith}
 use Rattle.std.specs.List.{Contains}
 use Rattle.warm_stamps.specs.declared.PageId.{PageId}
-use Rattle.warm_history.specs.Histories.{holding as alone, refs}
+use Rattle.warm_history.specs.Histories.{history_of_entries as alone, references_of}
 use Rattle.warm_rank.specs.Ranking.{IsBefore}
 use Rattle.warm_devices.specs.Device.{DeviceState}
 use Rattle.warm_pool.specs.Frames.{FrameState, fresh_frame}
 use Rattle.warm_pool.specs.State.{PoolState}
 use Rattle.warm_pool.specs.View.{view_of, PoolView, contents_at, frame_at, unfixed_pages}
 use Rattle.warm_pool.specs.WritingBack.{cleaned_to}
-use Rattle.warm_pool.specs.Pinning.{IsFull, IsPlace, unpinned}
+use Rattle.warm_pool.specs.Pinning.{HasNoFreeFrame, IsFrameToLoad, unpinned}
 use Rattle.warm_pool.specs.PageBytes.{patched}
 use Rattle.warm_pool.specs.Retiring.{emptied}
 
@@ -31,8 +31,8 @@ device honest = record {
 }
 
 -- a frame into which one page was loaded, the page 0:n, which is dirty and has this pin count
-abbrev holding : ℕ → ℕ → List ℕ → FrameState
-holding n fixes bytes = record { page = Some (page n); key = None; generation = 1; fixes = fixes; dirty = true; bytes = bytes }
+abbrev history_of_entries : ℕ → ℕ → List ℕ → FrameState
+history_of_entries n fixes bytes = record { page = Some (page n); key = None; generation = 1; fixes = fixes; dirty = true; bytes = bytes }
 
 -- a pool of two frames over such a device
 abbrev two_frames : Bool → FrameState → FrameState → PoolState
@@ -40,7 +40,7 @@ two_frames honest first second = record { page_size = 2; spare = 2; frames = fir
 
 -- 0:1 is pinned, and was filled with 7 and 8; 0:2 is not pinned, and was filled with 9
 abbrev seen : Bool → PoolView
-seen honest = view_of (two_frames honest (holding 1 1 (7 ∷ 8 ∷ [])) (holding 2 0 (9 ∷ 9 ∷ [])))
+seen honest = view_of (two_frames honest (history_of_entries 1 1 (7 ∷ 8 ∷ [])) (history_of_entries 2 0 (9 ∷ 9 ∷ [])))
 
 -- ---- contents
 
@@ -80,31 +80,31 @@ generation_stays : (emptied (frame_at (seen true) 1)).generation ≡ 1
 generation_stays = refl
 
 -- where the second of two writes fails, the first frame is clean and the second is not
-first_is_clean : cleaned_to 1 (holding 1 0 [] ∷ holding 2 0 [] ∷ []) ≡ (let f : FrameState = record (holding 1 0 []) { dirty = false } in f) ∷ holding 2 0 [] ∷ []
+first_is_clean : cleaned_to 1 (history_of_entries 1 0 [] ∷ history_of_entries 2 0 [] ∷ []) ≡ (let f : FrameState = record (history_of_entries 1 0 []) { dirty = false } in f) ∷ history_of_entries 2 0 [] ∷ []
 first_is_clean = refl
 
 -- ---- the frame into which a page is loaded
 
 -- into the first frame without a page, also where another page could leave
-first_free_place : IsPlace (alone []) (view_of (two_frames true (holding 1 0 []) (fresh_frame []))) (Some 1)
+first_free_place : IsFrameToLoad (alone []) (view_of (two_frames true (history_of_entries 1 0 []) (fresh_frame []))) (Some 1)
 first_free_place = inl (record { there = omega arith; free = refl; least = first_is_held })
   where
-    first_is_held : (j : ℕ) → j < 1 → (frame_at (view_of (two_frames true (holding 1 0 []) (fresh_frame []))) j).page ≢ None
+    first_is_held : (j : ℕ) → j < 1 → (frame_at (view_of (two_frames true (history_of_entries 1 0 []) (fresh_frame []))) j).page ≢ None
     first_is_held zero lt is = let no : Some (page 1) ≡ None = is in absurd (cc)
     first_is_held (suc j) lt is = absurd (omega arith)
 
 -- both frames have a page
-both_held : (honest : Bool) (m n : ℕ) (a b : List ℕ) → IsFull (view_of (two_frames honest (holding 1 m a) (holding 2 n b)))
+both_held : (honest : Bool) (m n : ℕ) (a b : List ℕ) → HasNoFreeFrame (view_of (two_frames honest (history_of_entries 1 m a) (history_of_entries 2 n b)))
 both_held honest m n a b zero lt is = let no : Some (page 1) ≡ None = is in absurd (cc)
 both_held honest m n a b (suc zero) lt is = let no : Some (page 2) ≡ None = is in absurd (cc)
 both_held honest m n a b (suc (suc i)) lt is = absurd (omega arith)
 
 -- nowhere where both pages are pinned
-no_place : IsPlace (alone []) (view_of (two_frames true (holding 1 1 []) (holding 2 3 []))) None
+no_place : IsFrameToLoad (alone []) (view_of (two_frames true (history_of_entries 1 1 []) (history_of_entries 2 3 []))) None
 no_place = (both_held true 1 3 [] [], refl)
 
 -- else into the frame of the victim, here the only unpinned page
-victims_place : IsPlace (alone []) (seen true) (Some 1)
+victims_place : IsFrameToLoad (alone []) (seen true) (Some 1)
 victims_place = inr (record {
   there = omega arith;
   full = both_held true 1 0 (7 ∷ 8 ∷ []) (9 ∷ 9 ∷ []);
@@ -114,6 +114,6 @@ victims_place = inr (record {
   victim = ((0, omega arith, refl), others);
 })
   where
-    others : (q : PageId) → Contains (page 2 ∷ []) q → q ≢ page 2 → IsBefore (refs (alone [])) (page 2) q
+    others : (q : PageId) → Contains (page 2 ∷ []) q → q ≢ page 2 → IsBefore (references_of (alone [])) (page 2) q
     others q (zero, lt, is) differ = absurd (differ (sym is))
     others q (suc k, lt, is) differ = absurd (omega arith)

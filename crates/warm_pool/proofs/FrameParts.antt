@@ -4,7 +4,7 @@ use Rattle.std.proofs.lemmas.List.{map-set, set-get_or, length-map, length-set, 
 use Rattle.warm_stamps.specs.declared.PageId.{PageId}
 use Rattle.warm_rank.specs.declared.RankKey.{RankKey}
 use Rattle.warm_pool.specs.declared.frame.Status.{Status}
-use Rattle.warm_pool.specs.Frames.{FrameState, FrameBody, FramesState, AreTied, nth_frame, fresh_frame, fresh_body, unused_status, rank_in, frame_of, frames_of, leaving_key}
+use Rattle.warm_pool.specs.Frames.{FrameState, FrameBody, FramesState, AreTied, nth_frame, fresh_frame, fresh_body, unused_status, rank_in, frame_of, frames_of, eviction_key}
 use Rattle.warm_pool.specs.FrameSteps.{changed_at, pages_held}
 
 -- the frames of a pool whose pages have this size
@@ -49,7 +49,7 @@ changed (q ∷ ps) (r ∷ ss) (c ∷ bs) (suc i) p s b = ap (λ fs. frame_of q r
 
 -- as many compete as there are frames
 pub contest_count : {ps : List (Option PageId)} {ss : List Status} {bs : List FrameBody} {contest : _} → AreTied ps ss bs contest → length contest ≡ length ps
-contest_count {ps} {ss} {bs} t = ap length t.contest_is ∙ length-map (frames_of ps ss bs) leaving_key ∙ count ps ss bs t.status_each t.body_each
+contest_count {ps} {ss} {bs} t = ap length t.contest_is ∙ length-map (frames_of ps ss bs) eviction_key ∙ count ps ss bs t.status_each t.body_each
 
 -- What is seen of them
 
@@ -125,25 +125,25 @@ becomes {ps} {ps'} {ss} {ss'} {bs} {bs'} {size = size} t e i h c change is =
 -- they stay tied, where the contest was given the rank with which the page of the changed frame
 -- competes
 pub stay_tied : {ps ps' : List (Option PageId)} {ss ss' : List Status} {bs bs' : List FrameBody} {contest contest' : _} {i : ℕ} {p : Option PageId} {s : Status} {b : FrameBody}
-    → AreTied ps ss bs contest → Changes ps ss bs i p s b ps' ss' bs' → contest' ≡ set contest i (leaving_key (frame_of p s b)) → AreTied ps' ss' bs' contest'
+    → AreTied ps ss bs contest → Changes ps ss bs i p s b ps' ss' bs' → contest' ≡ set contest i (eviction_key (frame_of p s b)) → AreTied ps' ss' bs' contest'
 stay_tied {ps} {ps'} {ss} {ss'} {bs} {bs'} {contest} {contest'} {i} {p} {s} {b} t c told =
     let room = ap length c.pages ∙ length-set ps i p in
     record {
       status_each = ap length c.statuses ∙ length-set ss i s ∙ t.status_each ∙ sym room;
       body_each = ap length c.bodies ∙ length-set bs i b ∙ t.body_each ∙ sym room;
-      contest_is = told ∙ ap (λ xs. set xs i (leaving_key (frame_of p s b))) t.contest_is ∙ sym (map-set leaving_key (frames_of ps ss bs) i (frame_of p s b))
-          ∙ ap (map leaving_key) (sym (become c));
+      contest_is = told ∙ ap (λ xs. set xs i (eviction_key (frame_of p s b))) t.contest_is ∙ sym (map-set eviction_key (frames_of ps ss bs) i (frame_of p s b))
+          ∙ ap (map eviction_key) (sym (become c));
     }
 
 -- a rank that stays need not be set
 pub rank_stays : {ps : List (Option PageId)} {ss : List Status} {bs : List FrameBody} {contest : _} {size : ℕ} {v : FramesState}
     → AreTied ps ss bs contest → kept size ps ss bs ≡ v → (i : ℕ) → i < length v.frames
-    → (key : Option RankKey) → key ≡ leaving_key (frame_kept ps ss bs i) → contest ≡ set contest i key
+    → (key : Option RankKey) → key ≡ eviction_key (frame_kept ps ss bs i) → contest ≡ set contest i key
 rank_stays {ps} {ss} {bs} {contest} t e i h key is =
     let frames = frames_of ps ss bs in
     let here = nth ps ss bs i (has_page t e i h) t.status_each t.body_each in
-    t.contest_is ∙ ap (map leaving_key) (sym (set-get_or frames i (fresh_frame []))) ∙ map-set leaving_key frames i (nth_frame frames i)
-    ∙ ap (set (map leaving_key frames) i) (ap leaving_key here ∙ sym is) ∙ ap (λ xs. set xs i key) (sym t.contest_is)
+    t.contest_is ∙ ap (map eviction_key) (sym (set-get_or frames i (fresh_frame []))) ∙ map-set eviction_key frames i (nth_frame frames i)
+    ∙ ap (set (map eviction_key frames) i) (ap eviction_key here ∙ sym is) ∙ ap (λ xs. set xs i key) (sym t.contest_is)
 
 -- Frames into which no page was put
 
@@ -151,7 +151,7 @@ frames_fresh : (n : ℕ) (bytes : List ℕ) → frames_of (replicate n None) (re
 frames_fresh zero bytes = refl
 frames_fresh (suc n) bytes = ap (λ fs. fresh_frame bytes ∷ fs) (frames_fresh n bytes)
 
-none_compete : (n : ℕ) (bytes : List ℕ) → map leaving_key (replicate n (fresh_frame bytes)) ≡ replicate n None
+none_compete : (n : ℕ) (bytes : List ℕ) → map eviction_key (replicate n (fresh_frame bytes)) ≡ replicate n None
 none_compete zero bytes = refl
 none_compete (suc n) bytes = ap (λ ks. None ∷ ks) (none_compete n bytes)
 
@@ -168,5 +168,5 @@ pub fresh_tied : (n size : ℕ) {ps : List (Option PageId)} {ss : List Status} {
 fresh_tied n size p s b c = record {
   status_each = ap length s ∙ length-replicate n unused_status ∙ sym (ap length p ∙ length-replicate n None);
   body_each = ap length b ∙ length-replicate n (fresh_body (replicate size 0)) ∙ sym (ap length p ∙ length-replicate n None);
-  contest_is = c ∙ sym (none_compete n (replicate size 0)) ∙ sym (ap (map leaving_key) (fresh_become n size p s b));
+  contest_is = c ∙ sym (none_compete n (replicate size 0)) ∙ sym (ap (map eviction_key) (fresh_become n size p s b));
 }

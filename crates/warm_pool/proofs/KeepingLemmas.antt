@@ -12,7 +12,7 @@ use Rattle.warm_pool.specs.State.{PoolState, IsNowhere}
 use Rattle.warm_pool.specs.View.{view_of, HasPage}
 use Rattle.warm_pool.specs.Keeping.{KeepsOthers, KeepsBytes}
 use Rattle.warm_pool.specs.WritingBack.{WaitsFor}
-use Rattle.warm_pool.specs.Pinning.{IsPlace, LoadRefused, FixRefused, LoadsInto, LoadFails, TakesFrame, LeavesDevices}
+use Rattle.warm_pool.specs.Pinning.{IsFrameToLoad, LoadRefused, FixRefused, LoadsInto, LoadFails, TakesFrame, LeavesDevices}
 use Rattle.warm_pool.proofs.Bytes.{absent_seen, frame_seen}
 use Rattle.warm_pool.proofs.FlushLemmas.{if_err}
 
@@ -54,7 +54,7 @@ pub full_leaves : (h : HistoryView) (s t : PoolState) (i : ℕ) (p : PageId) (r 
 full_leaves h s t i p r x = if_err _ _ r x (λ why full. subst (λ y. LeavesDevices h s p y t) (sym full.0) (ap (λ u. u.devices) full.2))
 
 -- what a failed read, or a failed write of the page that would leave, leaves of the devices
-pub failed_leaves : (h : HistoryView) (s t : PoolState) (i : ℕ) (p : PageId) → IsPlace h (view_of s) (Some i)
+pub failed_leaves : (h : HistoryView) (s t : PoolState) (i : ℕ) (p : PageId) → IsFrameToLoad h (view_of s) (Some i)
     → (why : PoolFault) → LoadFails s i p why t → LeavesDevices h s p why t
 failed_leaves h s t i p place ReadFault l = l.devices
 failed_leaves h s t i p place WriteBack l =

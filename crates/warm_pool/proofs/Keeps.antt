@@ -4,10 +4,10 @@ use Rattle.std.proofs.Math.Path.{ap₂}
 use Rattle.std.specs.Option.{option_map}
 use Rattle.std.proofs.lemmas.List.{length-set, length-map, map-set, get_or-set_same}
 use Rattle.warm_stamps.specs.declared.PageId.{PageId}
-use Rattle.warm_history.specs.Histories.{HistoryView, hist, refs}
+use Rattle.warm_history.specs.Histories.{HistoryView, hist, references_of}
 use Rattle.warm_rank.specs.Keys.{rank_key}
 use Rattle.warm_devices.specs.Device.{DeviceState, page_at}
-use Rattle.warm_rank.specs.declared.TheConstants.{MAX_SLOTS}
+use Rattle.warm_rank.specs.declared.TheConstants.{MAX_FRAMES}
 use Rattle.warm_pool.specs.declared.slot.Slot.{Slot}
 use Rattle.warm_pool.specs.Frames.{FrameState, FramesState, nth_frame, fresh_frame}
 use Rattle.warm_pool.specs.State.{PoolState, IsPool, RankedBy, no_device, nth_device}
@@ -31,7 +31,7 @@ pub record Fits (s : PoolState) (i : ℕ) (g : FrameState) : Type 0 where
 pub set_keeps_pool : (s : PoolState) (i : ℕ) (g : FrameState) → Fits s i g → IsPool s → IsPool (record s { frames = set s.frames i g })
 set_keeps_pool s i g f w = record {
   some_frames = subst (λ n. 0 < n) (sym (length-set s.frames i g)) w.some_frames;
-  few_frames = subst (λ n. n ≤ MAX_SLOTS) (sym (length-set s.frames i g)) w.few_frames;
+  few_frames = subst (λ n. n ≤ MAX_FRAMES) (sym (length-set s.frames i g)) w.few_frames;
   some_bytes = w.some_bytes;
   few_bytes = w.few_bytes;
   few_devices = w.few_devices;
@@ -76,9 +76,9 @@ alike_fits s i g h a w = record {
 
 -- the ranks, where a frame changed to another that the history ranks as it says
 pub ranked_set : (s : PoolState) (i : ℕ) (g : FrameState) (h : HistoryView) → i < length s.frames
-    → g.key ≡ option_map (λ p. rank_key p (hist (refs h) p)) g.page → RankedBy s h → RankedBy (record s { frames = set s.frames i g }) h
+    → g.key ≡ option_map (λ p. rank_key p (hist (references_of h) p)) g.page → RankedBy s h → RankedBy (record s { frames = set s.frames i g }) h
 ranked_set s i g h there e r =
-    at_set (fresh_frame []) (λ k x. x.key ≡ option_map (λ p. rank_key p (hist (refs h) p)) x.page) s.frames i g there e (λ k ne. r k)
+    at_set (fresh_frame []) (λ k x. x.key ≡ option_map (λ p. rank_key p (hist (references_of h) p)) x.page) s.frames i g there e (λ k ne. r k)
 
 -- what a caller sees, where a frame changed, but neither its page nor its bytes
 pub view-set : (s : PoolState) (i : ℕ) (g : FrameState) → g.page ≡ (nth_frame s.frames i).page → g.bytes ≡ (nth_frame s.frames i).bytes
@@ -134,7 +134,7 @@ module _ (old new : FramesState) {spare : ℕ} {devices : List DeviceState} (w :
 
   pub step_ranked : g.key ≡ (nth_frame old.frames i).key → (h : HistoryView) → RankedBy (pool_from old spare devices) h → RankedBy (pool_from new spare devices) h
   step_ranked key h r = subst (λ x. RankedBy (pool_from x spare devices) h) (sym is)
-      (ranked_set (pool_from old spare devices) i g h there (key ∙ r i ∙ ap (option_map (λ p. rank_key p (hist (refs h) p))) (sym alike.page)) r)
+      (ranked_set (pool_from old spare devices) i g h there (key ∙ r i ∙ ap (option_map (λ p. rank_key p (hist (references_of h) p))) (sym alike.page)) r)
 
   pub step_view : view_of (pool_from new spare devices) ≡ record (view_of (pool_from old spare devices)) { frames = set (view_of (pool_from old spare devices)).frames i (frame_view g) }
   step_view = ap (λ x. view_of (pool_from x spare devices)) is ∙ view-set (pool_from old spare devices) i g alike.page alike.bytes

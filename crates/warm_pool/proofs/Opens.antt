@@ -4,12 +4,12 @@ use Rattle.std.proofs.Math.Path.{ap₂}
 use Rattle.std.specs.Option.{option_map}
 use Rattle.std.proofs.lemmas.List.{length-replicate, get_or-replicate}
 use Rattle.warm_stamps.specs.declared.PageId.{PageId}
-use Rattle.warm_history.specs.Histories.{HistoryView, hist, refs}
+use Rattle.warm_history.specs.Histories.{HistoryView, hist, references_of}
 use Rattle.warm_rank.specs.Keys.{rank_key}
 use Rattle.warm_devices.specs.Device.{DeviceState}
-use Rattle.warm_rank.specs.declared.TheConstants.{MAX_SLOTS}
+use Rattle.warm_rank.specs.declared.TheConstants.{MAX_FRAMES}
 use Rattle.warm_pool.specs.Frames.{FrameState, FramesState, nth_frame, fresh_frame}
-use Rattle.warm_pool.specs.State.{IsPool, RankedBy, opened}
+use Rattle.warm_pool.specs.State.{IsPool, RankedBy, fresh_pool}
 use Rattle.warm_pool.specs.Opening.{IsUpTo, IsSize}
 use Rattle.warm_pool.proofs.Keeps.{pool_from}
 
@@ -30,10 +30,10 @@ nth_unused (suc n) bytes (suc i) = nth_unused n bytes i
 no_page : (n : ℕ) (bytes : List ℕ) (i : ℕ) (p : PageId) → (nth_frame (replicate n (fresh_frame bytes)) i).page ≡ Some p → ⊥
 no_page n bytes i p e = let none : None ≡ Some p = sym (nth_unused n bytes i).page ∙ e in absurd (cc)
 
-opened_is_pool : (n size : ℕ) (ds : List DeviceState) → IsUpTo MAX_SLOTS n → IsSize size ds → length ds ≤ 65536 → IsPool (opened n size ds)
+opened_is_pool : (n size : ℕ) (ds : List DeviceState) → IsUpTo MAX_FRAMES n → IsSize size ds → length ds ≤ 65536 → IsPool (fresh_pool n size ds)
 opened_is_pool n size ds up sized few = record {
   some_frames = subst (λ k. 0 < k) (sym (length-replicate n (fresh_frame (replicate size 0)))) up.0;
-  few_frames = subst (λ k. k ≤ MAX_SLOTS) (sym (length-replicate n (fresh_frame (replicate size 0)))) up.1;
+  few_frames = subst (λ k. k ≤ MAX_FRAMES) (sym (length-replicate n (fresh_frame (replicate size 0)))) up.1;
   some_bytes = sized.range.0;
   few_bytes = sized.range.1;
   few_devices = few;
@@ -51,12 +51,12 @@ opened_is_pool n size ds up sized few = record {
 -- the parts of a new pool
 module _ (frames : FramesState) (spare n size : ℕ) (ds : List DeviceState)
     (is : frames ≡ record { page_size = size; frames = replicate n (fresh_frame (replicate size 0)) }) (room : spare ≡ size) where
-  pub opened_state : pool_from frames spare ds ≡ opened n size ds
+  pub opened_state : pool_from frames spare ds ≡ fresh_pool n size ds
   opened_state = ap₂ (λ (f : FramesState) (k : ℕ). pool_from f k ds) is room
 
-  pub opened_pool : IsUpTo MAX_SLOTS n → IsSize size ds → length ds ≤ 65536 → IsPool (pool_from frames spare ds)
+  pub opened_pool : IsUpTo MAX_FRAMES n → IsSize size ds → length ds ≤ 65536 → IsPool (pool_from frames spare ds)
   opened_pool up sized few = subst IsPool (sym opened_state) (opened_is_pool n size ds up sized few)
 
   pub opened_ranked : (h : HistoryView) → RankedBy (pool_from frames spare ds) h
   opened_ranked h = subst (λ s. RankedBy s h) (sym opened_state)
-      (λ i. let b = nth_unused n (replicate size 0) i in b.key ∙ ap (option_map (λ p. rank_key p (hist (refs h) p))) (sym b.page))
+      (λ i. let b = nth_unused n (replicate size 0) i in b.key ∙ ap (option_map (λ p. rank_key p (hist (references_of h) p))) (sym b.page))

@@ -3,7 +3,7 @@ use Rattle.std.proofs.Common.{◌≡◌, ℕ, ◌+◌, ◌-◌, ◌^◌, ◌<◌
 use Rattle.std.specs.Option.{option_map}
 use Rattle.std.proofs.lemmas.List.{map-set, get_or-set_same, length-set, length-map}
 use Rattle.warm_stamps.specs.declared.PageId.{PageId}
-use Rattle.warm_history.specs.Histories.{HistoryView, hist, refs}
+use Rattle.warm_history.specs.Histories.{HistoryView, hist, references_of}
 use Rattle.warm_rank.specs.declared.RankKey.{RankKey}
 use Rattle.warm_rank.specs.Keys.{rank_key}
 use Rattle.warm_pool.specs.declared.slot.Slot.{Slot}
@@ -13,7 +13,7 @@ use Rattle.warm_pool.specs.Frames.{nth_frame}
 use Rattle.warm_pool.specs.State.{PoolState, RankedBy, IsNowhere}
 use Rattle.warm_pool.specs.View.{frame_view, view_of, PoolView, FrameView, frame_at, HasPage, IsAbsent, Holds}
 use Rattle.warm_pool.specs.Keeping.{SameButFailures}
-use Rattle.warm_pool.specs.Pinning.{IsPlace, PutsIn, PutRefused, LoadRefused, PinRefused, LoadsInto, LoadFails}
+use Rattle.warm_pool.specs.Pinning.{IsFrameToLoad, PutsIn, PutRefused, LoadRefused, PinRefused, LoadsInto, LoadFails}
 use Rattle.warm_pool.proofs.Bytes.{frame_seen, absent_seen}
 use Rattle.warm_pool.proofs.Keeps.{ranked_set}
 use Rattle.warm_pool.proofs.FlushLemmas.{if_err}
@@ -23,7 +23,7 @@ pub stays_by : (old new : PoolView) (failures : List ℕ) → new ≡ record old
 stays_by old new failures e = e ∙ ap (λ (f : List ℕ). let v : PoolView = record old { failures = f } in v) (sym (ap (λ v. v.failures) e))
 
 -- a page that was not put into a frame
-pub put_refused : (s t : PoolState) (h : HistoryView) (i : ℕ) (p : PageId) → IsPlace h (view_of s) (Some i) → (nth_frame s.frames i).generation < 2 ^ 64 - 1
+pub put_refused : (s t : PoolState) (h : HistoryView) (i : ℕ) (p : PageId) → IsFrameToLoad h (view_of s) (Some i) → (nth_frame s.frames i).generation < 2 ^ 64 - 1
     → (why : PoolFault) → LoadFails s i p why t → PutRefused h (view_of s) p why (view_of t)
 put_refused s t h i p place room ReadFault l =
     ((i, record { place = place; below = subst (λ f. f.generation < 2 ^ 64 - 1) (sym (frame_seen s i)) room }), l.fails)
@@ -38,17 +38,17 @@ same_frames s t i p why l = absurd l
 
 pub failed_ranked : (s t : PoolState) (i : ℕ) (p : PageId) (why : PoolFault) → LoadFails s i p why t → (h : HistoryView) → RankedBy s h → RankedBy t h
 failed_ranked s t i p why l h r =
-    subst (λ fs. (j : ℕ) → (nth_frame fs j).key ≡ option_map (λ q. rank_key q (hist (refs h) q)) (nth_frame fs j).page) (sym (same_frames s t i p why l)) r
+    subst (λ fs. (j : ℕ) → (nth_frame fs j).key ≡ option_map (λ q. rank_key q (hist (references_of h) q)) (nth_frame fs j).page) (sym (same_frames s t i p why l)) r
 
 -- a page that was put into a frame
 pub loaded_ranked : (s t : PoolState) (i : ℕ) (p : PageId) (key : RankKey) (n : ℕ) → LoadsInto s i p key n t → i < length s.frames
-    → (h : HistoryView) → key ≡ rank_key p (hist (refs h) p) → RankedBy s h → RankedBy t h
+    → (h : HistoryView) → key ≡ rank_key p (hist (references_of h) p) → RankedBy s h → RankedBy t h
 loaded_ranked s t i p key n l there h is r =
-    subst (λ fs. (j : ℕ) → (nth_frame fs j).key ≡ option_map (λ q. rank_key q (hist (refs h) q)) (nth_frame fs j).page) (sym l.frames)
+    subst (λ fs. (j : ℕ) → (nth_frame fs j).key ≡ option_map (λ q. rank_key q (hist (references_of h) q)) (nth_frame fs j).page) (sym l.frames)
     (ranked_set s i (record { page = Some p; key = Some key; generation = (nth_frame s.frames i).generation + 1; fixes = n; dirty = false; bytes = l.bytes }) h there (ap Some is) r)
 
 pub loaded_puts : (s t : PoolState) (i : ℕ) (p : PageId) (key : RankKey) (n : ℕ) → LoadsInto s i p key n t → (h : HistoryView)
-    → IsNowhere s.frames p → IsPlace h (view_of s) (Some i) → (gen : ℕ) → gen ≡ (nth_frame s.frames i).generation → gen < 2 ^ 64 - 1
+    → IsNowhere s.frames p → IsFrameToLoad h (view_of s) (Some i) → (gen : ℕ) → gen ≡ (nth_frame s.frames i).generation → gen < 2 ^ 64 - 1
     → PutsIn h (view_of s) p n (record { index = i; generation = gen + 1 }) (view_of t)
 loaded_puts s t i p key n l h away place gen is room = record {
   absent = absent_seen s p away;
@@ -63,7 +63,7 @@ loaded_puts s t i p key n l h away place gen is room = record {
 }
 
 -- a page that was loaded with a pin is held
-placed_there : (h : HistoryView) (v : PoolView) (i : ℕ) → IsPlace h v (Some i) → i < length v.frames
+placed_there : (h : HistoryView) (v : PoolView) (i : ℕ) → IsFrameToLoad h v (Some i) → i < length v.frames
 placed_there h v i (inl free) = free.there
 placed_there h v i (inr left) = left.there
 

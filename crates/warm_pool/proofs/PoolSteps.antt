@@ -5,18 +5,18 @@ use Rattle.std.proofs.Math.ListN.{get_or-map as mapped}
 use Rattle.std.proofs.lemmas.Bool.{cases_eq, cases_lt, ne_eqb, eq-eqb}
 use Rattle.std.proofs.lemmas.List.{length-map, ext_get_or, get_or_past}
 use Rattle.warm_stamps.specs.declared.PageId.{PageId}
-use Rattle.warm_history.specs.Histories.{HistoryView, hist, refs}
+use Rattle.warm_history.specs.Histories.{HistoryView, hist, references_of}
 use Rattle.warm_rank.specs.declared.RankKey.{RankKey}
 use Rattle.warm_rank.specs.Keys.{rank_key, key_cmp}
 use Rattle.warm_rank.specs.Ranking.{IsVictim}
 use Rattle.warm_rank.specs.Laws.{keys_over}
 use Rattle.warm_rank.specs.Slots.{IsLeast}
 use Rattle.warm_rank.proofs.SlotLemmas.{least_key_is_victim}
-use Rattle.warm_pool.specs.Frames.{FrameState, nth_frame, fresh_frame, leaving_key}
+use Rattle.warm_pool.specs.Frames.{FrameState, nth_frame, fresh_frame, eviction_key}
 use Rattle.warm_pool.specs.Residents.{IsPlaceOf, IsFirstFree}
 use Rattle.warm_pool.specs.State.{PoolState, IsPool, RankedBy, IsNowhere, nth_device}
 use Rattle.warm_pool.specs.View.{frame_view, device_view, view_of, device_at, frame_at, HasPage, IsResident, unfixed_page, unfixed_pages}
-use Rattle.warm_pool.specs.Pinning.{IsFull, IsLeastFree, IsPlace}
+use Rattle.warm_pool.specs.Pinning.{HasNoFreeFrame, IsLeastFree, IsFrameToLoad}
 use Rattle.warm_pool.proofs.Bytes.{frame_seen, device_seen}
 
 -- the same of a pool that is seen as v
@@ -79,46 +79,46 @@ competing_nth : (frames : List FrameState) (i : ℕ) → get_or (competing frame
 competing_nth frames i =
     mapped unfixed_page (map frame_view frames) i (frame_view (fresh_frame [])) ∙ ap unfixed_page (mapped frame_view frames i (fresh_frame []))
 
-pub ranked_keys : {s : PoolState} → IsPool s → (h : HistoryView) → RankedBy s h → map leaving_key s.frames ≡ keys_over (refs h) (competing s.frames)
+pub ranked_keys : {s : PoolState} → IsPool s → (h : HistoryView) → RankedBy s h → map eviction_key s.frames ≡ keys_over (references_of h) (competing s.frames)
 ranked_keys {s} w h r =
-    let rank : Option PageId → Option RankKey = option_map (λ p. rank_key p (hist (refs h) p)) in
-    ext_get_or None (map leaving_key s.frames) (map rank (competing s.frames))
-    (length-map s.frames leaving_key ∙ sym (length-map (competing s.frames) rank ∙ length-map (map frame_view s.frames) unfixed_page ∙ length-map s.frames frame_view))
-    (λ i _. mapped leaving_key s.frames i (fresh_frame [])
+    let rank : Option PageId → Option RankKey = option_map (λ p. rank_key p (hist (references_of h) p)) in
+    ext_get_or None (map eviction_key s.frames) (map rank (competing s.frames))
+    (length-map s.frames eviction_key ∙ sym (length-map (competing s.frames) rank ∙ length-map (map frame_view s.frames) unfixed_page ∙ length-map s.frames frame_view))
+    (λ i _. mapped eviction_key s.frames i (fresh_frame [])
     ∙ at i
     ∙ sym (mapped rank (competing s.frames) i None ∙ ap rank (competing_nth s.frames i)))
   where
-    at : (i : ℕ) → leaving_key (nth_frame s.frames i) ≡ option_map (λ p. rank_key p (hist (refs h) p)) (unfixed_page (frame_view (nth_frame s.frames i)))
+    at : (i : ℕ) → eviction_key (nth_frame s.frames i) ≡ option_map (λ p. rank_key p (hist (references_of h) p)) (unfixed_page (frame_view (nth_frame s.frames i)))
     at i = elim ((nth_frame s.frames i).fixes == 0)
-        as (λ t. cond t (nth_frame s.frames i).key None ≡ option_map (λ p. rank_key p (hist (refs h) p)) (cond t (nth_frame s.frames i).page None))
+        as (λ t. cond t (nth_frame s.frames i).key None ≡ option_map (λ p. rank_key p (hist (references_of h) p)) (cond t (nth_frame s.frames i).page None))
         [ true ↦ r i | false ↦ refl ]
 
 none_set : IsSome {T = RankKey} None → ⊥
 none_set h = absurd (cc)
 
 -- the frame of the least rank is unpinned
-pub least_there : {s : PoolState} → IsPool s → (i : ℕ) → IsLeast key_cmp (map leaving_key s.frames) (Some i) → i < length s.frames
-least_there {s} w i l = subst (λ m. i < m) (length-map s.frames leaving_key) l.in_range
+pub least_there : {s : PoolState} → IsPool s → (i : ℕ) → IsLeast key_cmp (map eviction_key s.frames) (Some i) → i < length s.frames
+least_there {s} w i l = subst (λ m. i < m) (length-map s.frames eviction_key) l.in_range
 
-pub least_unfixed : {s : PoolState} → IsPool s → (i : ℕ) → IsLeast key_cmp (map leaving_key s.frames) (Some i) → (nth_frame s.frames i).fixes ≡ 0
+pub least_unfixed : {s : PoolState} → IsPool s → (i : ℕ) → IsLeast key_cmp (map eviction_key s.frames) (Some i) → (nth_frame s.frames i).fixes ≡ 0
 least_unfixed {s} w i l = elim (cases_eq (nth_frame s.frames i).fixes 0) [
   | inl e ↦ e
   | inr ne ↦ absurd (none_set (subst IsSome
-      (mapped leaving_key s.frames i (fresh_frame []) ∙ ap (λ t. cond t (nth_frame s.frames i).key None) (ne_eqb (nth_frame s.frames i).fixes 0 ne))
+      (mapped eviction_key s.frames i (fresh_frame []) ∙ ap (λ t. cond t (nth_frame s.frames i).key None) (ne_eqb (nth_frame s.frames i).fixes 0 ne))
       l.is_set))
 ]
 
 -- the evicted page is the victim over what the history holds
-pub none_leaves : {s : PoolState} → IsPool s → (h : HistoryView) → RankedBy s h → IsLeast key_cmp (map leaving_key s.frames) None
-    → IsVictim (refs h) (unfixed_pages (view_of s)) None
-none_leaves {s} w h r l = least_key_is_victim (refs h) (competing s.frames) None (subst (λ keys. IsLeast key_cmp keys None) (ranked_keys w h r) l)
+pub none_leaves : {s : PoolState} → IsPool s → (h : HistoryView) → RankedBy s h → IsLeast key_cmp (map eviction_key s.frames) None
+    → IsVictim (references_of h) (unfixed_pages (view_of s)) None
+none_leaves {s} w h r l = least_key_is_victim (references_of h) (competing s.frames) None (subst (λ keys. IsLeast key_cmp keys None) (ranked_keys w h r) l)
 
-pub one_leaves : {s : PoolState} → IsPool s → (h : HistoryView) → RankedBy s h → (i : ℕ) → IsLeast key_cmp (map leaving_key s.frames) (Some i)
-    → IsVictim (refs h) (unfixed_pages (view_of s)) (nth_frame s.frames i).page
+pub one_leaves : {s : PoolState} → IsPool s → (h : HistoryView) → RankedBy s h → (i : ℕ) → IsLeast key_cmp (map eviction_key s.frames) (Some i)
+    → IsVictim (references_of h) (unfixed_pages (view_of s)) (nth_frame s.frames i).page
 one_leaves {s} w h r i l =
-    subst (IsVictim (refs h) (unfixed_pages (view_of s)))
+    subst (IsVictim (references_of h) (unfixed_pages (view_of s)))
     (competing_nth s.frames i ∙ ap (λ t. cond t (nth_frame s.frames i).page None) (eq-eqb (nth_frame s.frames i).fixes 0 (least_unfixed w i l)))
-    (least_key_is_victim (refs h) (competing s.frames) (Some i) (subst (λ keys. IsLeast key_cmp keys (Some i)) (ranked_keys w h r) l))
+    (least_key_is_victim (references_of h) (competing s.frames) (Some i) (subst (λ keys. IsLeast key_cmp keys (Some i)) (ranked_keys w h r) l))
 
 -- the frame into which a page is loaded
 pub seen_free : {s : PoolState} → IsPool s → (i : ℕ) → IsFirstFree (map (λ f. f.page) s.frames) (Some i) → IsLeastFree (view_of s) i
@@ -134,7 +134,7 @@ free_there {s} w i h = subst (λ m. i < m) (length-map s.frames (λ (f : FrameSt
 pub free_unfixed : {s : PoolState} → IsPool s → (i : ℕ) → IsFirstFree (map (λ f. f.page) s.frames) (Some i) → (nth_frame s.frames i).fixes ≡ 0
 free_unfixed {s} w i h = (w.bare i (sym (page_of_nth s.frames i) ∙ h.1)).1
 
-pub seen_full : {s : PoolState} → IsPool s → IsFirstFree (map (λ f. f.page) s.frames) None → IsFull (view_of s)
+pub seen_full : {s : PoolState} → IsPool s → IsFirstFree (map (λ f. f.page) s.frames) None → HasNoFreeFrame (view_of s)
 seen_full {s} w h i lt e =
     h i (subst (λ m. i < m) (length-map s.frames frame_view ∙ sym (length-map s.frames (λ (f : FrameState). f.page))) lt)
     (page_of_nth s.frames i ∙ sym (ap (λ f. f.page) (frame_seen s i)) ∙ e)
@@ -143,8 +143,8 @@ pub some_page : (o : Option PageId) → o ≢ None → (p : PageId) × (o ≡ So
 some_page None n = absurd (n refl)
 some_page (Some p) n = (p, refl)
 
-pub seen_place : {s : PoolState} → IsPool s → IsFull (view_of s) → (least : Option ℕ) → IsLeast key_cmp (map leaving_key s.frames) least
-    → (h : HistoryView) → RankedBy s h → IsPlace h (view_of s) least
+pub seen_place : {s : PoolState} → IsPool s → HasNoFreeFrame (view_of s) → (least : Option ℕ) → IsLeast key_cmp (map eviction_key s.frames) least
+    → (h : HistoryView) → RankedBy s h → IsFrameToLoad h (view_of s) least
 seen_place {s} w full None l h r = (full, none_leaves w h r l)
 seen_place {s} w full (Some i) l h r =
     let there : i < length (view_of s).frames = subst (λ m. i < m) (sym (length-map s.frames frame_view)) (least_there w i l) in
@@ -155,7 +155,7 @@ seen_place {s} w full (Some i) l h r =
       page = page.0;
       holds = ap (λ f. f.page) (frame_seen s i) ∙ page.1;
       unfixed = ap (λ f. f.fixes) (frame_seen s i) ∙ least_unfixed w i l;
-      victim = subst (IsVictim (refs h) (unfixed_pages (view_of s))) page.1 (one_leaves w h r i l);
+      victim = subst (IsVictim (references_of h) (unfixed_pages (view_of s))) page.1 (one_leaves w h r i l);
     })
 
 pub least_if : (keys : List (Option RankKey)) (P : ℕ → Type 0) → ((i : ℕ) → IsLeast key_cmp keys (Some i) → P i) → (least : Option ℕ) → IsLeast key_cmp keys least → IfSome least P

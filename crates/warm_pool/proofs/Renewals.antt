@@ -6,7 +6,7 @@ use Rattle.std.proofs.lemmas.Bool.{cases_eq, cases_lt, cases_Bool}
 use Rattle.std.proofs.lemmas.Option.{same_Some}
 use Rattle.std.proofs.lemmas.List.{get_or-map, set-get_or, get_or_past, length-map}
 use Rattle.warm_stamps.specs.declared.PageId.{PageId}
-use Rattle.warm_history.specs.Histories.{HistoryView, hist, refs}
+use Rattle.warm_history.specs.Histories.{HistoryView, hist, references_of}
 use Rattle.warm_rank.specs.declared.RankKey.{RankKey}
 use Rattle.warm_rank.specs.Keys.{rank_key}
 use Rattle.warm_devices.specs.Device.{DeviceState}
@@ -55,7 +55,7 @@ pub record Renewed (s t : PoolState) (h : HistoryView) (pages : List PageId) (k 
   pub held : (i : ℕ) → (nth_frame t.frames i).page ≡ (nth_frame s.frames i).page
   pub others : (i : ℕ) → ((p : PageId) → (nth_frame s.frames i).page ≡ Some p → Contains pages p → ⊥) → (nth_frame t.frames i).key ≡ (nth_frame s.frames i).key
   pub keys : (i : ℕ) (p : PageId) → (nth_frame s.frames i).page ≡ Some p
-      → ((nth_frame t.frames i).key ≡ Some (rank_key p (hist (refs h) p)))
+      → ((nth_frame t.frames i).key ≡ Some (rank_key p (hist (references_of h) p)))
       ⊎ (((nth_frame t.frames i).key ≡ (nth_frame s.frames i).key) × ((j : ℕ) → j < k → get_or pages j p ≢ p))
 
 pub none_renewed : (s : PoolState) (h : HistoryView) (pages : List PageId) → Renewed s s h pages 0
@@ -68,14 +68,14 @@ page_cases p q = elim (cases_Bool (is_page q (Some p))) [
 ]
 
 pub one_renewed : {s t u : PoolState} (h : HistoryView) (pages : List PageId) (k : ℕ) (q : PageId) → Renewed s t h pages k → k < length pages → ((d : PageId) → get_or pages k d ≡ q)
-    → view_of u ≡ view_of t → KeepsBytes t u → Renews t q (rank_key q (hist (refs h) q)) u → Renewed s u h pages (k + 1)
+    → view_of u ≡ view_of t → KeepsBytes t u → Renews t q (rank_key q (hist (references_of h) q)) u → Renewed s u h pages (k + 1)
 one_renewed {s} {t} {u} h pages k q r low at same kept n = record {
   same = same ∙ r.same;
   kept = more_bytes s t u r.kept kept;
   held = λ i. n.pages i ∙ r.held i;
   others = λ i not. n.others i (λ o. not q (sym (r.held i) ∙ o) (k, low, at q)) ∙ r.others i not;
   keys = λ i p e. elim (page_cases p q) [
-    | inl is ↦ inl (n.here i (r.held i ∙ e ∙ ap Some is) ∙ ap (λ x. Some (rank_key x (hist (refs h) x))) (sym is))
+    | inl is ↦ inl (n.here i (r.held i ∙ e ∙ ap Some is) ∙ ap (λ x. Some (rank_key x (hist (references_of h) x))) (sym is))
     | inr ne ↦
         let stays : (nth_frame u.frames i).key ≡ (nth_frame t.frames i).key = n.others i (λ o. ne (same_Some p q (sym (r.held i ∙ e) ∙ o))) in
         elim (r.keys i p e) [
@@ -96,17 +96,17 @@ pub all_renewed : {s t : PoolState} (h : HistoryView) (pages : List PageId) (k :
     → (g : HistoryView) → RankedBy s g → AgreeOutside pages g h → RankedBy t h
 all_renewed {s} {t} h pages k r all g ranked agree i = of_page (nth_frame s.frames i).page refl
   where
-    of_page : (o : Option PageId) → (nth_frame s.frames i).page ≡ o → (nth_frame t.frames i).key ≡ option_map (λ p. rank_key p (hist (refs h) p)) (nth_frame t.frames i).page
+    of_page : (o : Option PageId) → (nth_frame s.frames i).page ≡ o → (nth_frame t.frames i).key ≡ option_map (λ p. rank_key p (hist (references_of h) p)) (nth_frame t.frames i).page
     of_page None e =
-        r.others i (λ p is _. let never : None ≡ Some p = sym e ∙ is in absurd (cc)) ∙ ranked i ∙ ap (option_map (λ p. rank_key p (hist (refs g) p))) e ∙ ap (option_map (λ p. rank_key p (hist (refs h) p))) (sym (r.held i ∙ e))
+        r.others i (λ p is _. let never : None ≡ Some p = sym e ∙ is in absurd (cc)) ∙ ranked i ∙ ap (option_map (λ p. rank_key p (hist (references_of g) p))) e ∙ ap (option_map (λ p. rank_key p (hist (references_of h) p))) (sym (r.held i ∙ e))
     of_page (Some p) e =
         let some : (nth_frame t.frames i).page ≡ Some p = r.held i ∙ e in
         elim (r.keys i p e) [
-          | inl new ↦ new ∙ ap (option_map (λ q. rank_key q (hist (refs h) q))) (sym some)
+          | inl new ↦ new ∙ ap (option_map (λ q. rank_key q (hist (references_of h) q))) (sym some)
           | inr old ↦
-              old.0 ∙ ranked i ∙ ap (option_map (λ q. rank_key q (hist (refs g) q))) e
+              old.0 ∙ ranked i ∙ ap (option_map (λ q. rank_key q (hist (references_of g) q))) e
               ∙ ap (λ x. Some (rank_key p x)) (agree p (λ c. old.1 c.0 (below c.0 c.1) c.2))
-              ∙ ap (option_map (λ q. rank_key q (hist (refs h) q))) (sym some)
+              ∙ ap (option_map (λ q. rank_key q (hist (references_of h) q))) (sym some)
         ]
       where
         below : (j : ℕ) → j < length pages → j < k
@@ -124,7 +124,7 @@ each_renewed {s} {t} h pages k r all i p holds named = elim (r.keys i p (sym (r.
 
 -- the same where items name the pages
 pub named_renewed : {A : Type 0} {s t u : PoolState} (h : HistoryView) (named : A → PageId) (items : List A) (k : ℕ) (item : A) {q : PageId} → Renewed s t h (map named items) k → k < length items
-    → item ≡ get_or items k item → q ≡ named item → view_of u ≡ view_of t → KeepsBytes t u → Renews t q (rank_key q (hist (refs h) q)) u → Renewed s u h (map named items) (k + 1)
+    → item ≡ get_or items k item → q ≡ named item → view_of u ≡ view_of t → KeepsBytes t u → Renews t q (rank_key q (hist (references_of h) q)) u → Renewed s u h (map named items) (k + 1)
 named_renewed h named items k item {q} r low is names =
     one_renewed h (map named items) k q r (omega (arith, low, length-map items named)) (λ d. get_or-map named items k item d low ∙ ap named (sym is) ∙ sym names)
 
@@ -140,23 +140,23 @@ pub record RenewedFirst (s t : PoolState) (h : HistoryView) (k : ℕ) : Type 0 w
   pub same : view_of t ≡ view_of s
   pub kept : KeepsBytes s t
   pub count : length t.frames ≡ length s.frames
-  pub keys : (i : ℕ) → i < k → (nth_frame t.frames i).key ≡ option_map (λ p. rank_key p (hist (refs h) p)) (nth_frame t.frames i).page
+  pub keys : (i : ℕ) → i < k → (nth_frame t.frames i).key ≡ option_map (λ p. rank_key p (hist (references_of h) p)) (nth_frame t.frames i).page
 
 pub none_first : (s : PoolState) (h : HistoryView) → RenewedFirst s s h 0
 none_first s h = record { same = refl; kept = same_bytes s; count = refl; keys = λ i lt. absurd (omega (arith, lt)) }
 
 -- the page in a frame is renewed, or there is none
-pub frame_renewed : {s u : PoolState} (at : ℕ) (h : HistoryView) (q : PageId) → IsPool s → (nth_frame s.frames at).page ≡ Some q → Renews s q (rank_key q (hist (refs h) q)) u → RenewsFrame s at h u
+pub frame_renewed : {s u : PoolState} (at : ℕ) (h : HistoryView) (q : PageId) → IsPool s → (nth_frame s.frames at).page ≡ Some q → Renews s q (rank_key q (hist (references_of h) q)) u → RenewsFrame s at h u
 frame_renewed {s} {u} at h q w there n = record {
   pages = n.pages;
-  here = n.here at there ∙ sym (ap (option_map (λ p. rank_key p (hist (refs h) p))) (n.pages at ∙ there));
+  here = n.here at there ∙ sym (ap (option_map (λ p. rank_key p (hist (references_of h) p))) (n.pages at ∙ there));
   others = λ i apart. n.others i (λ o. apart (w.once i at q o there));
 }
 
 pub frame_bare : {s : PoolState} (at : ℕ) (h : HistoryView) → IsPool s → (nth_frame s.frames at).page ≡ None → RenewsFrame s at h s
 frame_bare {s} at h w none = record {
   pages = λ i. refl;
-  here = (w.bare at none).0 ∙ sym (ap (option_map (λ p. rank_key p (hist (refs h) p))) none);
+  here = (w.bare at none).0 ∙ sym (ap (option_map (λ p. rank_key p (hist (references_of h) p))) none);
   others = λ i apart. refl;
 }
 
@@ -167,8 +167,8 @@ next_first {s} {t} {u} h k r same kept n = record {
   kept = more_bytes s t u r.kept kept;
   count = sym (length-map u.frames frame_view) ∙ ap (λ (v : PoolView). length v.frames) same ∙ length-map t.frames frame_view ∙ r.count;
   keys = λ i lt. elim (cases_eq i k) [
-    | inl here ↦ subst (λ j. (nth_frame u.frames j).key ≡ option_map (λ p. rank_key p (hist (refs h) p)) (nth_frame u.frames j).page) (sym here) n.here
-    | inr apart ↦ n.others i apart ∙ r.keys i (omega (arith, lt, apart)) ∙ sym (ap (option_map (λ p. rank_key p (hist (refs h) p))) (n.pages i))
+    | inl here ↦ subst (λ j. (nth_frame u.frames j).key ≡ option_map (λ p. rank_key p (hist (references_of h) p)) (nth_frame u.frames j).page) (sym here) n.here
+    | inr apart ↦ n.others i apart ∙ r.keys i (omega (arith, lt, apart)) ∙ sym (ap (option_map (λ p. rank_key p (hist (references_of h) p))) (n.pages i))
   ];
 }
 
@@ -176,5 +176,5 @@ next_first {s} {t} {u} h k r same kept n = record {
 pub all_first : {s t : PoolState} (h : HistoryView) (k : ℕ) → RenewedFirst s t h k → length t.frames ≤ k → RankedBy t h
 all_first {s} {t} h k r all i = elim (cases_lt i (length t.frames)) [
   | inl lt ↦ r.keys i (omega (arith, lt, all))
-  | inr le ↦ subst (λ (f : FrameState). f.key ≡ option_map (λ p. rank_key p (hist (refs h) p)) f.page) (sym (get_or_past t.frames i (fresh_frame []) le)) refl
+  | inr le ↦ subst (λ (f : FrameState). f.key ≡ option_map (λ p. rank_key p (hist (references_of h) p)) f.page) (sym (get_or_past t.frames i (fresh_frame []) le)) refl
 ]

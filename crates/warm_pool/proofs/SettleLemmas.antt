@@ -6,7 +6,7 @@ use Rattle.std.proofs.lemmas.Bool.{cases_eq, cases_lt}
 use Rattle.std.proofs.lemmas.List.{length-set, length-map, map-set, get_or_past}
 use Rattle.std.proofs.Math.ListN.{get_or-map as mapped}
 use Rattle.warm_stamps.specs.declared.PageId.{PageId}
-use Rattle.warm_history.specs.Histories.{HistoryView, hist, refs}
+use Rattle.warm_history.specs.Histories.{HistoryView, hist, references_of}
 use Rattle.warm_rank.specs.Keys.{rank_key}
 use Rattle.warm_devices.specs.Device.{DeviceState, SameShape, one_more, page_at}
 use Rattle.warm_pool.specs.Frames.{FrameState, nth_frame, cleaned}
@@ -62,11 +62,11 @@ down_view which n s t down =
     frames ∙ clean_view which n (record s { devices = t.devices }) ∙ view_of_kept s t.devices down.devices ∙ failures
 
 pub ranked_to : (which : Option ℕ) (n : ℕ) (old new : List FrameState) (h : HistoryView) → new ≡ cleaned_chosen which n old
-    → ((i : ℕ) → (nth_frame old i).key ≡ option_map (λ p. rank_key p (hist (refs h) p)) (nth_frame old i).page)
-    → (i : ℕ) → (nth_frame new i).key ≡ option_map (λ p. rank_key p (hist (refs h) p)) (nth_frame new i).page
+    → ((i : ℕ) → (nth_frame old i).key ≡ option_map (λ p. rank_key p (hist (references_of h) p)) (nth_frame old i).page)
+    → (i : ℕ) → (nth_frame new i).key ≡ option_map (λ p. rank_key p (hist (references_of h) p)) (nth_frame new i).page
 ranked_to which n old new h becomes ranked i =
-    subst (λ frames. (nth_frame frames i).key ≡ option_map (λ p. rank_key p (hist (refs h) p)) (nth_frame frames i).page) (sym becomes)
-    (clean_each (λ f. f.key ≡ (nth_frame old i).key) which n old i refl refl ∙ ranked i ∙ ap (option_map (λ p. rank_key p (hist (refs h) p))) (sym (nth_page which n old i)))
+    subst (λ frames. (nth_frame frames i).key ≡ option_map (λ p. rank_key p (hist (references_of h) p)) (nth_frame frames i).page) (sym becomes)
+    (clean_each (λ f. f.key ≡ (nth_frame old i).key) which n old i refl refl ∙ ranked i ∙ ap (option_map (λ p. rank_key p (hist (references_of h) p))) (sym (nth_page which n old i)))
 
 -- Devices that were flushed
 

@@ -7,7 +7,7 @@ use Rattle.warm_rank.specs.declared.RankKey.{RankKey}
 use Rattle.warm_rank.specs.Slots.{key_while, keys_while}
 use Rattle.warm_pool.specs.Chains.{page_in}
 use Rattle.warm_pool.specs.declared.frame.Status.{Status}
-use Rattle.warm_pool.specs.Frames.{FrameState, FrameBody, FramesState, AreTied, nth_frame, cleaned, vacated, frame_of, frames_of, leaving_key}
+use Rattle.warm_pool.specs.Frames.{FrameState, FrameBody, FramesState, AreTied, nth_frame, cleaned, vacated, frame_of, frames_of, eviction_key}
 use Rattle.warm_pool.specs.WritingBack.{is_chosen, cleaned_chosen}
 use Rattle.warm_pool.specs.Retiring.{AreClean, clear_if, vacate_if, vacated_chosen}
 use Rattle.warm_pool.proofs.Slots.{bare_key}
@@ -53,18 +53,18 @@ all_cleared which (p ∷ ps) (s ∷ ss) (b ∷ bs) h k clean =
     ap₂ (λ (f : FrameState) (rest : List FrameState). f ∷ rest) (one_cleared which p s b (clean 0)) (all_cleared which ps ss bs (omega arith) (omega arith) (λ i. clean (suc i)))
 
 -- what competes among them
-one_competes : (which : Option ℕ) (page : Option PageId) (status : Status) (body : FrameBody) → key_while (clear_if which page) (leaving_key (frame_of page status body)) ≡ leaving_key (frame_of (clear_if which page) status body)
-one_competes which None status body = elim (is_chosen which None) as (λ t. key_while (let left : Option PageId = cond t None None in left) (leaving_key (frame_of None status body)) ≡ leaving_key (frame_of (cond t None None) status body)) [
+one_competes : (which : Option ℕ) (page : Option PageId) (status : Status) (body : FrameBody) → key_while (clear_if which page) (eviction_key (frame_of page status body)) ≡ eviction_key (frame_of (clear_if which page) status body)
+one_competes which None status body = elim (is_chosen which None) as (λ t. key_while (let left : Option PageId = cond t None None in left) (eviction_key (frame_of None status body)) ≡ eviction_key (frame_of (cond t None None) status body)) [
   | true ↦ sym (bare_key status.fixes None)
   | false ↦ sym (bare_key status.fixes None)
 ]
-one_competes which (Some page) status body = elim (is_chosen which (Some page)) as (λ t. key_while (cond t None (Some page)) (leaving_key (frame_of (Some page) status body)) ≡ leaving_key (frame_of (cond t None (Some page)) status body)) [
+one_competes which (Some page) status body = elim (is_chosen which (Some page)) as (λ t. key_while (cond t None (Some page)) (eviction_key (frame_of (Some page) status body)) ≡ eviction_key (frame_of (cond t None (Some page)) status body)) [
   | true ↦ sym (bare_key status.fixes None)
   | false ↦ refl
 ]
 
 all_compete : (which : Option ℕ) (ps : List (Option PageId)) (ss : List Status) (bs : List FrameBody) → length ss ≡ length ps → length bs ≡ length ps
-    → keys_while (map (clear_if which) ps) (map leaving_key (frames_of ps ss bs)) ≡ map leaving_key (frames_of (map (clear_if which) ps) ss bs)
+    → keys_while (map (clear_if which) ps) (map eviction_key (frames_of ps ss bs)) ≡ map eviction_key (frames_of (map (clear_if which) ps) ss bs)
 all_compete which [] ss bs h k = refl
 all_compete which (p ∷ ps) [] bs h k = absurd (omega arith)
 all_compete which (p ∷ ps) (s ∷ ss) [] h k = absurd (omega arith)
@@ -85,7 +85,7 @@ module _ {ps ps' : List (Option PageId)} {ss : List Status} {bs : List FrameBody
         status_each = tied.status_each ∙ sym count;
         body_each = tied.body_each ∙ sym count;
         contest_is = told ∙ ap₂ (λ (held : List (Option PageId)) (keys : List (Option RankKey)). keys_while held keys) clear tied.contest_is
-            ∙ all_compete which ps ss bs tied.status_each tied.body_each ∙ ap (λ pages. map leaving_key (frames_of pages ss bs)) (sym clear);
+            ∙ all_compete which ps ss bs tied.status_each tied.body_each ∙ ap (λ pages. map eviction_key (frames_of pages ss bs)) (sym clear);
       }
 
 -- Frames whose pages were written back

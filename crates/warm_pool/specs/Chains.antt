@@ -2,7 +2,7 @@
 -- equal to the number of frames ends a chain.
 use Rattle.std.specs.Prelude.{◌≡◌, ◌≢◌, ℕ, suc, ◌+◌, ◌*◌, ◌/◌, ◌%◌, ◌<◌, ◌≤◌, List, length, map, set, Option, Some, None, slice_index, slice_index_or}
 use Rattle.warm_stamps.specs.declared.PageId.{PageId}
-use Rattle.warm_rank.specs.declared.TheConstants.{MAX_SLOTS}
+use Rattle.warm_rank.specs.declared.TheConstants.{MAX_FRAMES}
 
 -- the page in a frame, if any
 abbrev pub page_in : List (Option PageId) → ℕ → Option PageId
@@ -81,7 +81,7 @@ loose frames frame heads = set frames frame (length heads)
 
 -- the pages of frames and the chains over them
 pub record AreLinked (pages : List (Option PageId)) (heads next : List ℕ) : Type 0 where
-  pub few : length pages ≤ MAX_SLOTS
+  pub few : length pages ≤ MAX_FRAMES
   pub size : length heads ≡ length pages + 1
   pub chains : AreChains (chains_of pages) heads next
 

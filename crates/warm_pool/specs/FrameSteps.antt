@@ -31,8 +31,8 @@ abbrev pub ranked : RankKey → FrameState → FrameState
 ranked key f = record f { key = Some key }
 
 -- the frame after a page with these bytes was loaded into it, with this rank and this pin count
-abbrev pub filled : PageId → RankKey → ℕ → List ℕ → FrameState → FrameState
-filled page key fixes bytes f =
+abbrev pub loaded_frame : PageId → RankKey → ℕ → List ℕ → FrameState → FrameState
+loaded_frame page key fixes bytes f =
     record { page = Some page; key = Some key; generation = f.generation + 1; fixes = fixes; dirty = false; bytes = bytes }
 
 -- the rest of such a frame, beside the page and its status

@@ -28,8 +28,8 @@ abbrev pub key_unless_fixed : ℕ → Option RankKey → Option RankKey
 key_unless_fixed fixes key = if fixes == 0 then key else None
 
 -- the rank with which the frame's page competes for eviction
-abbrev pub leaving_key : FrameState → Option RankKey
-leaving_key f = key_unless_fixed f.fixes f.key
+abbrev pub eviction_key : FrameState → Option RankKey
+eviction_key f = key_unless_fixed f.fixes f.key
 
 -- the frame after its page was written back
 abbrev pub cleaned : FrameState → FrameState
@@ -84,4 +84,4 @@ frames_of pages statuses bodies = []
 pub record AreTied (pages : List (Option PageId)) (statuses : List Status) (bodies : List FrameBody) (contest : List (Option RankKey)) : Type 0 where
   pub status_each : length statuses ≡ length pages
   pub body_each : length bodies ≡ length pages
-  pub contest_is : contest ≡ map leaving_key (frames_of pages statuses bodies)
+  pub contest_is : contest ≡ map eviction_key (frames_of pages statuses bodies)

@@ -1,6 +1,6 @@
 -- Making a pool.
 use Rattle.std.specs.Prelude.{ℕ, ◌≡◌, ◌<◌, ◌≤◌, List, length}
-use Rattle.warm_rank.specs.declared.TheConstants.{MAX_SLOTS}
+use Rattle.warm_rank.specs.declared.TheConstants.{MAX_FRAMES}
 use Rattle.warm_devices.specs.declared.TheConstants.{MAX_PAGE_SIZE}
 use Rattle.warm_devices.specs.Device.{DeviceState}
 use Rattle.warm_pool.specs.declared.fault.NewPoolFault.{NewPoolFault}
@@ -18,7 +18,7 @@ pub record IsSize (size : ℕ) (devices : List DeviceState) : Type 0 where
 
 -- Why a pool of this many frames, with pages of this size, over these devices is refused. Memory
 -- occurs only on an allocation failure.
-abbrev pub NewRefused : ℕ → ℕ → List DeviceState → NewPoolFault → Type 0
-NewRefused frames size devices BadFrames = IsUpTo MAX_SLOTS frames → ⊥
-NewRefused frames size devices SizeDiffers = IsUpTo MAX_SLOTS frames × (IsSize size devices → ⊥)
-NewRefused frames size devices Memory = IsUpTo MAX_SLOTS frames × IsSize size devices
+abbrev pub NewPoolRefused : ℕ → ℕ → List DeviceState → NewPoolFault → Type 0
+NewPoolRefused frames size devices BadFrames = IsUpTo MAX_FRAMES frames → ⊥
+NewPoolRefused frames size devices SizeDiffers = IsUpTo MAX_FRAMES frames × (IsSize size devices → ⊥)
+NewPoolRefused frames size devices Memory = IsUpTo MAX_FRAMES frames × IsSize size devices

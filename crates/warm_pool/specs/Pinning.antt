@@ -2,7 +2,7 @@
 -- refused, and the steps of both.
 use Rattle.std.specs.Prelude.{ℕ, ◌≡◌, ◌≢◌, ◌<◌, ◌≤◌, false, List, [], length, Option, Some, None, ◌⊎◌, ◌+◌, ◌-◌, ◌^◌, true, set, Result, IfOk}
 use Rattle.warm_stamps.specs.declared.PageId.{PageId}
-use Rattle.warm_history.specs.Histories.{HistoryView, refs}
+use Rattle.warm_history.specs.Histories.{HistoryView, references_of}
 use Rattle.warm_pool.specs.Frames.{nth_frame}
 use Rattle.warm_rank.specs.Ranking.{IsVictim}
 use Rattle.warm_pool.specs.declared.slot.Slot.{Slot}
@@ -23,28 +23,28 @@ pub record IsLeastFree (v : PoolView) (i : ℕ) : Type 0 where
   pub free : (frame_at v i).page ≡ None
   pub least : (j : ℕ) → j < i → (frame_at v j).page ≢ None
 
-abbrev pub IsFull : PoolView → Type 0
-IsFull v = (i : ℕ) → i < length v.frames → (frame_at v i).page ≢ None
+abbrev pub HasNoFreeFrame : PoolView → Type 0
+HasNoFreeFrame v = (i : ℕ) → i < length v.frames → (frame_at v i).page ≢ None
 
 -- every frame has a page, and that of this one is the victim, over what the history holds, among
 -- the unpinned pages
 pub record IsVictimFrame (h : HistoryView) (v : PoolView) (i : ℕ) : Type 0 where
   pub there : i < length v.frames
-  pub full : IsFull v
+  pub full : HasNoFreeFrame v
   pub page : PageId
   pub holds : (frame_at v i).page ≡ Some page
   pub unfixed : (frame_at v i).fixes ≡ 0
-  pub victim : IsVictim (refs h) (unfixed_pages v) (Some page)
+  pub victim : IsVictim (references_of h) (unfixed_pages v) (Some page)
 
 -- the frame into which a page is loaded: the first free frame, else that of the victim; none where
 -- all pages are pinned
-abbrev pub IsPlace : HistoryView → PoolView → Option ℕ → Type 0
-IsPlace h v None = IsFull v × (unfixed_pages v ≡ [])
-IsPlace h v (Some i) = IsLeastFree v i ⊎ IsVictimFrame h v i
+abbrev pub IsFrameToLoad : HistoryView → PoolView → Option ℕ → Type 0
+IsFrameToLoad h v None = HasNoFreeFrame v × (unfixed_pages v ≡ [])
+IsFrameToLoad h v (Some i) = IsLeastFree v i ⊎ IsVictimFrame h v i
 
 -- the next victim, according to every history that ranks the pool
 abbrev pub IsNextVictim : PoolState → Option PageId → Type 0
-IsNextVictim s page = (h : HistoryView) → RankedBy s h → IsVictim (refs h) (unfixed_pages (view_of s)) page
+IsNextVictim s page = (h : HistoryView) → RankedBy s h → IsVictim (references_of h) (unfixed_pages (view_of s)) page
 
 -- The effect of a successful call
 
@@ -66,7 +66,7 @@ pub record StaysIn (old : PoolView) (p : PageId) (slot : Slot) (new : PoolView) 
 -- the page was in no frame, and was loaded into the slot's frame with this pin count
 pub record PutsIn (h : HistoryView) (old : PoolView) (p : PageId) (fixes : ℕ) (slot : Slot) (new : PoolView) : Type 0 where
   pub absent : IsAbsent old p
-  pub place : IsPlace h old (Some slot.index)
+  pub place : IsFrameToLoad h old (Some slot.index)
   pub below : (frame_at old slot.index).generation < 2 ^ 64 - 1
   pub current : slot.generation ≡ (frame_at old slot.index).generation + 1
   pub becomes : new ≡ record old { frames = set old.frames slot.index (record { page = Some p; generation = slot.generation; fixes = fixes }); contents = new.contents }
@@ -96,14 +96,14 @@ pub record TakesFrame (old : PoolState) (p : PageId) (slot : Slot) (new : PoolSt
 
 -- there is a frame into which a page can be loaded, whose generation can increase by one
 pub record CanComeIn (h : HistoryView) (old : PoolView) (i : ℕ) : Type 0 where
-  pub place : IsPlace h old (Some i)
+  pub place : IsFrameToLoad h old (Some i)
   pub below : (frame_at old i).generation < 2 ^ 64 - 1
 
 -- a page that is in no frame isn't loaded: all pages are pinned, the frame's generation is the
 -- greatest, the read failed, or the write-back of the victim failed
 abbrev pub PutRefused : HistoryView → PoolView → PageId → PoolFault → PoolView → Type 0
-PutRefused h old p AllFixed new = IsPlace h old None × (new ≡ old)
-PutRefused h old p FixesFull new = ((i : ℕ) × IsPlace h old (Some i) × ((frame_at old i).generation ≡ 2 ^ 64 - 1)) × (new ≡ old)
+PutRefused h old p AllFixed new = IsFrameToLoad h old None × (new ≡ old)
+PutRefused h old p FixesFull new = ((i : ℕ) × IsFrameToLoad h old (Some i) × ((frame_at old i).generation ≡ 2 ^ 64 - 1)) × (new ≡ old)
 PutRefused h old p ReadFault new = ((i : ℕ) × CanComeIn h old i) × FailsAt old p.dev new
 PutRefused h old p WriteBack new = (i : ℕ) × (q : PageId) × CanComeIn h old i × ((frame_at old i).page ≡ Some q) × FailsAt old q.dev new
 PutRefused h old p why new = ⊥
@@ -129,7 +129,7 @@ PinRefused h old p why new = LoadRefused h old p why new
 pub record IsUnwritten (h : HistoryView) (old new : PoolState) : Type 0 where
   pub frame : ℕ
   pub page : PageId
-  pub place : IsPlace h (view_of old) (Some frame)
+  pub place : IsFrameToLoad h (view_of old) (Some frame)
   pub holds : (nth_frame old.frames frame).page ≡ Some page
   pub dirty : (nth_frame old.frames frame).dirty ≡ true
   pub waits : (nth_device new.devices page.dev).waiting ≡ true
@@ -153,8 +153,8 @@ abbrev pub FixRefused : PoolState → ℕ → PoolFault → PoolState → Type 0
 FixRefused old i fault new = (fault ≡ FixesFull) × ((nth_frame old.frames i).fixes ≡ 2 ^ 32 - 1) × (new ≡ old)
 
 -- the frame into which a page is loaded, according to every history that ranks the pool
-abbrev pub IsNextPlace : PoolState → Option ℕ → Type 0
-IsNextPlace s place = (h : HistoryView) → RankedBy s h → IsPlace h (view_of s) place
+abbrev pub IsNextFrameToLoad : PoolState → Option ℕ → Type 0
+IsNextFrameToLoad s place = (h : HistoryView) → RankedBy s h → IsFrameToLoad h (view_of s) place
 
 -- the page is in the frame, with its device's bytes, this rank and this pin count
 pub record LoadsInto (old : PoolState) (i : ℕ) (p : PageId) (key : RankKey) (n : ℕ) (new : PoolState) : Type 0 where

@@ -2,8 +2,8 @@
 use Rattle.std.specs.Prelude.{ℕ, ◌≡◌, ◌≢◌, ◌<◌, ◌≤◌, false, IsTrue, List, [], map, length, replicate, Some, None, slice_index_or}
 use Rattle.std.specs.Option.{option_map}
 use Rattle.warm_stamps.specs.declared.PageId.{PageId}
-use Rattle.warm_history.specs.Histories.{HistoryView, hist, refs}
-use Rattle.warm_rank.specs.declared.TheConstants.{MAX_SLOTS}
+use Rattle.warm_history.specs.Histories.{HistoryView, hist, references_of}
+use Rattle.warm_rank.specs.declared.TheConstants.{MAX_FRAMES}
 use Rattle.warm_pool.specs.declared.TheConstants.{MAX_DEVICES}
 use Rattle.warm_rank.specs.Keys.{rank_key}
 use Rattle.warm_devices.specs.declared.TheConstants.{MAX_PAGE_SIZE}
@@ -19,12 +19,12 @@ pub record PoolState : Type 0 where
   pub devices : List DeviceState
 
 -- a pool over devices with these states
-abbrev pub pool_of : {B : Type 0} → (B → DeviceState) → FramesState → ℕ → List B → PoolState
-pool_of shown frames spare devices = record { page_size = frames.page_size; spare = spare; frames = frames.frames; devices = map shown devices }
+abbrev pub pool_over : {B : Type 0} → (B → DeviceState) → FramesState → ℕ → List B → PoolState
+pool_over shown frames spare devices = record { page_size = frames.page_size; spare = spare; frames = frames.frames; devices = map shown devices }
 
 -- a pool without a page
-abbrev pub opened : ℕ → ℕ → List DeviceState → PoolState
-opened frames size devices = record { page_size = size; spare = size; frames = replicate frames (fresh_frame (replicate size 0)); devices = devices }
+abbrev pub fresh_pool : ℕ → ℕ → List DeviceState → PoolState
+fresh_pool frames size devices = record { page_size = size; spare = size; frames = replicate frames (fresh_frame (replicate size 0)); devices = devices }
 
 -- a device without a page
 abbrev pub no_device : DeviceState
@@ -43,7 +43,7 @@ IsNowhere frames p = (i : ℕ) → (nth_frame frames i).page ≢ Some p
 -- rank.
 pub record IsPool (s : PoolState) : Type 0 where
   pub some_frames : 0 < length s.frames
-  pub few_frames : length s.frames ≤ MAX_SLOTS
+  pub few_frames : length s.frames ≤ MAX_FRAMES
   pub some_bytes : 0 < s.page_size
   pub few_bytes : s.page_size ≤ MAX_PAGE_SIZE
   pub few_devices : length s.devices ≤ MAX_DEVICES
@@ -60,7 +60,7 @@ pub record IsPool (s : PoolState) : Type 0 where
 
 -- the rank of each resident page is the one that the history gives it
 abbrev pub RankedBy : PoolState → HistoryView → Type 0
-RankedBy s h = (i : ℕ) → (nth_frame s.frames i).key ≡ option_map (λ p. rank_key p (hist (refs h) p)) (nth_frame s.frames i).page
+RankedBy s h = (i : ℕ) → (nth_frame s.frames i).key ≡ option_map (λ p. rank_key p (hist (references_of h) p)) (nth_frame s.frames i).page
 
 -- every history ranks the pool
 abbrev pub IsRankedByAll : PoolState → Type 0

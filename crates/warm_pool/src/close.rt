@@ -9,7 +9,7 @@ ghost use Rattle.warm_pool.specs.Retiring.{EmptyRefused, Emptied, RetireRefused,
 ghost use Rattle.warm_pool.specs.Flushes.{NoneWaits};
 ghost use Rattle.warm_pool.specs.declared.fault.PoolFault.TheVariants.{Fault};
 
-use crate::fault::{PoolFault, Unretired};
+use crate::fault::{PoolFault, RetireError};
 use crate::flush::{exchange, flush_all, flush_device, let_all_go};
 use crate::frames::Frames;
 use crate::pool::{Pool, write_back};
@@ -21,16 +21,16 @@ use warm_devices::{DeviceFault, PageDevice};
 /// Why a pool was not closed, and the pool. As an error it displays the fault.
 #[derive(Drop, Error)]
 #[error("{fault}")]
-pub struct Unclosed<D: PageDevice> {
+pub struct CloseError<D: PageDevice> {
     /// The reason: `Fixed` or `Fault`.
     pub fault: PoolFault,
     /// The pool; its pages, pin counts and contents are unchanged.
     pub pool: Pool<D>,
 }
 
-impl<D: PageDevice> fmt::Debug for Unclosed<D> {
+impl<D: PageDevice> fmt::Debug for CloseError<D> {
     fn fmt<W: fmt::Write>(&self, f: &mut fmt::Formatter<W>) -> fmt::Result {
-        f.debug_struct("Unclosed")
+        f.debug_struct("CloseError")
             .field("fault", &self.fault)
             .finish_non_exhaustive()
     }
@@ -79,7 +79,7 @@ impl<D: PageDevice> Pool<D> {
     ///
     /// # Errors
     /// As [`Pool::empty`]; the pool is returned.
-    pub fn close(mut self) -> Result<(), Unclosed<D>>
+    pub fn close(mut self) -> Result<(), CloseError<D>>
         ensures unfixed { OnOk result (IsUnfixed (view_of self)) }
         ensures refused { IfErr result (λ unclosed. EmptyRefused
             self unclosed.fault
@@ -92,7 +92,7 @@ impl<D: PageDevice> Pool<D> {
                 let_all_go(self.into_devices());
                 Ok(())
             }
-            Err(fault) => Err(Unclosed { fault, pool: self }),
+            Err(fault) => Err(CloseError { fault, pool: self }),
         }
     }
 
@@ -108,7 +108,7 @@ impl<D: PageDevice> Pool<D> {
     /// - `Fixed`: a page of the device is pinned.
     /// - `Fault`: a write or the flush of the device failed, and its count of failures has
     ///   increased.
-    pub fn retire(&mut self, dev: u16, device: D) -> Result<(), Unretired<D>>
+    pub fn retire(&mut self, dev: u16, device: D) -> Result<(), RetireError<D>>
         ensures retired { OnOk result (Retired (view_of self.old) dev
             (D.state device) (view_of self.new)) }
         ensures refused { IfErr result (λ unretired. RetireRefused
@@ -123,7 +123,7 @@ impl<D: PageDevice> Pool<D> {
                 self.take_in(dev, device);
                 Ok(())
             }
-            Err(fault) => Err(Unretired { fault, device }),
+            Err(fault) => Err(RetireError { fault, device }),
         }
     }
 

@@ -135,16 +135,16 @@ impl PoolFault {
 /// fault.
 #[derive(Drop, Error)]
 #[error("{fault}")]
-pub struct Unmade<D: PageDevice> {
+pub struct NewPoolError<D: PageDevice> {
     /// The reason.
     pub fault: NewPoolFault,
     /// The devices, unchanged.
     pub devices: Vec<D>,
 }
 
-impl<D: PageDevice> fmt::Debug for Unmade<D> {
+impl<D: PageDevice> fmt::Debug for NewPoolError<D> {
     fn fmt<W: fmt::Write>(&self, f: &mut fmt::Formatter<W>) -> fmt::Result {
-        f.debug_struct("Unmade")
+        f.debug_struct("NewPoolError")
             .field("fault", &self.fault)
             .finish_non_exhaustive()
     }
@@ -154,16 +154,16 @@ impl<D: PageDevice> fmt::Debug for Unmade<D> {
 /// fault.
 #[derive(Drop, Error)]
 #[error("{fault}")]
-pub struct Unretired<D: PageDevice> {
+pub struct RetireError<D: PageDevice> {
     /// The reason: `NoDevice`, `SizeDiffers`, `Fixed` or `Fault`.
     pub fault: PoolFault,
     /// The new device, unchanged.
     pub device: D,
 }
 
-impl<D: PageDevice> fmt::Debug for Unretired<D> {
+impl<D: PageDevice> fmt::Debug for RetireError<D> {
     fn fmt<W: fmt::Write>(&self, f: &mut fmt::Formatter<W>) -> fmt::Result {
-        f.debug_struct("Unretired")
+        f.debug_struct("RetireError")
             .field("fault", &self.fault)
             .finish_non_exhaustive()
     }

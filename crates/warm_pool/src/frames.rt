@@ -2,8 +2,8 @@
 ghost use Rattle.std.specs.Prelude.{◌≡◌, ◌≢◌, None, ◌+◌, ◌-◌, ◌^◌, ◌<◌, ◌≤◌, map, length, replicate, IfOk};
 ghost use Rattle.warm_rank.specs.Keys.{key_cmp};
 ghost use Rattle.warm_rank.specs.Slots.{IsLeast};
-ghost use Rattle.warm_pool.specs.Frames.{nth_frame, fresh_body, unused_status, leaving_key, key_unless_fixed, cleaned};
-ghost use Rattle.warm_pool.specs.FrameSteps.{fresh_frames, fresh_bodies, pages_held, changed_at, fixed, unfixed, ranked, filled, filled_body, written};
+ghost use Rattle.warm_pool.specs.Frames.{nth_frame, fresh_body, unused_status, eviction_key, key_unless_fixed, cleaned};
+ghost use Rattle.warm_pool.specs.FrameSteps.{fresh_frames, fresh_bodies, pages_held, changed_at, fixed, unfixed, ranked, loaded_frame, filled_body, written};
 ghost use Rattle.warm_pool.specs.PageBytes.{patched};
 ghost use Rattle.warm_pool.specs.Residents.{IsPlaceOf, IsFirstFree};
 ghost use Rattle.warm_pool.specs.Retiring.{AreClean, vacated_chosen};
@@ -13,7 +13,7 @@ use crate::residents::Residents;
 use std::alloc::{AllocError, Global};
 use std::marker::Model;
 use std::mem;
-use warm_rank::{Contest, MAX_SLOTS, RankKey};
+use warm_rank::{Contest, MAX_FRAMES, RankKey};
 use warm_stamps::PageId;
 
 /// The frames of a pool, the frame of each page, and the rank of each page that may be evicted.
@@ -46,7 +46,7 @@ impl Frames {
     /// Frames without a page. Their memory is allocated here.
     pub(crate) fn new(alloc: Global, frames: usize, page_size: usize) -> Result<Frames, AllocError>
         requires some { 0 < frames }
-        requires few { frames ≤ MAX_SLOTS }
+        requires few { frames ≤ MAX_FRAMES }
         ensures { IfOk result (λ made. made ≡ fresh_frames frames page_size) }
     {
         let residents = Residents::new(alloc, frames)?;
@@ -133,7 +133,7 @@ impl Frames {
 
     /// The frame of the least rank among those of unpinned pages.
     pub(crate) fn least(&self) -> Option<usize>
-        ensures { IsLeast key_cmp (map leaving_key self.now.frames) result }
+        ensures { IsLeast key_cmp (map eviction_key self.now.frames) result }
     {
         self.contest.least()
     }
@@ -185,7 +185,7 @@ impl Frames {
     )
         requires there { at < length self.old.frames }
         requires below { (nth_frame self.old.frames at).generation < 2 ^ 64 - 1 }
-        ensures frames { self.new ≡ changed_at self.old at (filled page key fixes bytes.old.items) }
+        ensures frames { self.new ≡ changed_at self.old at (loaded_frame page key fixes bytes.old.items) }
         ensures given { bytes.new.items ≡ (nth_frame self.old.frames at).bytes }
     {
         let frame = &mut self.frames[at];

@@ -31,9 +31,9 @@ mod pool;
 mod residents;
 mod slot;
 
-pub use close::Unclosed;
+pub use close::CloseError;
 pub use device_list::all_sized;
-pub use fault::{NewPoolFault, PoolFault, Unmade, Unretired};
+pub use fault::{NewPoolFault, PoolFault, NewPoolError, RetireError};
 pub use named::NamesPage;
 pub use pool::Pool;
 pub use slot::Slot;

@@ -1,23 +1,23 @@
 //! The pool.
 ghost use Rattle.std.specs.Prelude.{◌≡◌, ◌≢◌, ◌↔◌, ◌+◌, ◌-◌, ◌^◌, ◌<◌, ◌≤◌, map, length, true, false, Some, None, MatchResult, OnOk, OnErr, IfOk, IfErr, IfSome, IsTrue};
 ghost use Rattle.warm_stamps.specs.declared.PageId.{PageId};
-ghost use Rattle.warm_history.specs.Histories.{HistoryView, hist, refs};
+ghost use Rattle.warm_history.specs.Histories.{HistoryView, hist, references_of};
 ghost use Rattle.warm_rank.specs.Keys.{rank_key};
 ghost use Rattle.warm_pool.specs.Frames.{nth_frame};
 ghost use Rattle.warm_pool.specs.FrameSteps.{fresh_frames};
-ghost use Rattle.warm_pool.specs.State.{PoolState, IsPool, pool_of, RankedBy, IsRankedByAll, IsNowhere, opened, nth_device};
+ghost use Rattle.warm_pool.specs.State.{PoolState, IsPool, pool_over, RankedBy, IsRankedByAll, IsNowhere, fresh_pool, nth_device};
 ghost use Rattle.warm_pool.specs.View.{view_of, HasPage, IsResident, Holds};
 ghost use Rattle.warm_pool.specs.Keeping.{SameButFailures, KeepsRanks, KeepsBytes, KeepsFrames, KeepsOthers};
-ghost use Rattle.warm_pool.specs.Opening.{IsUpTo, IsSize, NewRefused};
+ghost use Rattle.warm_pool.specs.Opening.{IsUpTo, IsSize, NewPoolRefused};
 ghost use Rattle.warm_pool.specs.WritingBack.{Cleans, CleanFails};
-ghost use Rattle.warm_pool.specs.Pinning.{Pinned, PinRefused, Loaded, LoadRefused, PutsIn, PutRefused, unpinned, IsNextVictim, LoadsInto, LoadFails, FixesPage, FixRefused, IsNextPlace, TakesFrame, LeavesDevices};
+ghost use Rattle.warm_pool.specs.Pinning.{Pinned, PinRefused, Loaded, LoadRefused, PutsIn, PutRefused, unpinned, IsNextVictim, LoadsInto, LoadFails, FixesPage, FixRefused, IsNextFrameToLoad, TakesFrame, LeavesDevices};
 ghost use Rattle.warm_pool.specs.PageBytes.{IsRead, ReadRefused, Written, WriteRefused, MakesDirty};
 ghost use Rattle.warm_pool.specs.Refreshing.{Renews, RenewsFrame, RenewsNamed, RefreshesRanks, KeepsOtherRanks};
 ghost use Rattle.warm_pool.specs.declared.fault.PoolFault.TheVariants.{OutOfPage, FixesFull};
 
 use crate::MAX_DEVICES;
 use crate::device_list::{all_sized, pages_of, read_page, write_page};
-use crate::fault::{NewPoolFault, PoolFault, Unmade};
+use crate::fault::{NewPoolFault, PoolFault, NewPoolError};
 use crate::frames::Frames;
 use crate::named::NamesPage;
 use crate::slot::Slot;
@@ -26,7 +26,7 @@ use std::marker::Model;
 use warm_devices::{DeviceFault, MAX_PAGE_SIZE, PageDevice};
 use warm_history::History;
 use warm_history::laws::is_history;
-use warm_rank::{MAX_SLOTS, RankKey, key_of};
+use warm_rank::{MAX_FRAMES, RankKey, key_of};
 use warm_stamps::PageId;
 
 /// A buffer pool: frames that hold pages of devices.
@@ -61,14 +61,14 @@ impl<D: PageDevice> Drop for Pool<D> {
 
 impl<D: PageDevice> Model for Pool<D> {
     ghost use Rattle.std.specs.Prelude.{length};
-    ghost use Rattle.warm_pool.specs.State.{IsPool, PoolState, pool_of};
+    ghost use Rattle.warm_pool.specs.State.{IsPool, PoolState, pool_over};
 
     ghost Value = { PoolState };
 
-    ghost view = { λ p. pool_of D.state p.frames (length p.spare.items) p.devices.items };
+    ghost view = { λ p. pool_over D.state p.frames (length p.spare.items) p.devices.items };
 
     ghost invariant = { λ p.
-        IsPool (pool_of D.state p.frames (length p.spare.items) p.devices.items) };
+        IsPool (pool_over D.state p.frames (length p.spare.items) p.devices.items) };
 }
 
 impl<D: PageDevice> Pool<D> {
@@ -93,7 +93,7 @@ impl<D: PageDevice> Pool<D> {
     /// There may be at most [`MAX_DEVICES`] devices.
     ///
     /// # Errors
-    /// `BadFrames` where `frames` is outside 1 to [`warm_rank::MAX_SLOTS`]; else `SizeDiffers`
+    /// `BadFrames` where `frames` is outside 1 to [`warm_rank::MAX_FRAMES`]; else `SizeDiffers`
     /// where `page_size` is outside 1 to [`MAX_PAGE_SIZE`], or is not that of each device; else
     /// `Memory` where an allocation fails. Each gives the devices back.
     pub fn new(
@@ -101,12 +101,12 @@ impl<D: PageDevice> Pool<D> {
         frames: usize,
         page_size: usize,
         devices: Vec<D>,
-    ) -> Result<Pool<D>, Unmade<D>>
+    ) -> Result<Pool<D>, NewPoolError<D>>
         requires few { length devices.items ≤ MAX_DEVICES }
-        ensures opened { IfOk result (λ pool. pool
-            ≡ opened frames page_size (map D.state devices.items)) }
+        ensures fresh_pool { IfOk result (λ pool. pool
+            ≡ fresh_pool frames page_size (map D.state devices.items)) }
         ensures ranked { IfOk result (λ pool. IsRankedByAll (pool)) }
-        ensures refused { IfErr result (λ unmade. NewRefused frames page_size
+        ensures refused { IfErr result (λ unmade. NewPoolRefused frames page_size
             (map D.state devices.items) unmade.fault
             × (unmade.devices.items ≡ devices.items)) }
     {
@@ -116,7 +116,7 @@ impl<D: PageDevice> Pool<D> {
                 devices,
                 spare,
             }),
-            Err(fault) => Err(Unmade { fault, devices }),
+            Err(fault) => Err(NewPoolError { fault, devices }),
         }
     }
 
@@ -357,7 +357,7 @@ impl<D: PageDevice> Pool<D> {
         ensures same { view_of self.new ≡ view_of self.old }
         ensures kept { KeepsBytes self.old self.new }
         ensures keys { Renews self.old page
-            (rank_key page (hist (refs history.now) page)) self.new }
+            (rank_key page (hist (references_of history.now) page)) self.new }
     {
         if let Some(at) = self.frames.find(page) {
             let key = known_key(history, page);
@@ -419,7 +419,7 @@ impl<D: PageDevice> Pool<D> {
 
     // The frame into which a page is loaded.
     fn place(&self) -> Option<usize>
-        ensures place { IsNextPlace self.now result }
+        ensures place { IsNextFrameToLoad self.now result }
         ensures there { IfSome result (λ at. at < length self.now.frames) }
         ensures unfixed { IfSome result (λ at. (nth_frame
             self.now.frames at).fixes ≡ 0) }
@@ -503,15 +503,15 @@ pub(crate) fn write_back<D: PageDevice>(
     devices: &mut Vec<D>,
     at: usize,
 ) -> Result<(), DeviceFault>
-    requires fit { IsPool (pool_of D.state frames.old frames.old.page_size devices.old.items) }
+    requires fit { IsPool (pool_over D.state frames.old frames.old.page_size devices.old.items) }
     requires there { at < length frames.old.frames }
-    ensures fit { IsPool (pool_of D.state frames.new frames.old.page_size devices.new.items) }
+    ensures fit { IsPool (pool_over D.state frames.new frames.old.page_size devices.new.items) }
     ensures done { OnOk result (Cleans
-        (pool_of D.state frames.old frames.old.page_size devices.old.items) at
-        (pool_of D.state frames.new frames.old.page_size devices.new.items)) }
+        (pool_over D.state frames.old frames.old.page_size devices.old.items) at
+        (pool_over D.state frames.new frames.old.page_size devices.new.items)) }
     ensures failed { OnErr result (CleanFails
-        (pool_of D.state frames.old frames.old.page_size devices.old.items) at
-        (pool_of D.state frames.new frames.old.page_size devices.new.items)) }
+        (pool_over D.state frames.old frames.old.page_size devices.old.items) at
+        (pool_over D.state frames.new frames.old.page_size devices.new.items)) }
 {
     let Some(page) = frames.page(at) else {
         return Ok(());
@@ -535,9 +535,9 @@ fn parts<D: PageDevice>(
 ) -> Result<(Frames, Vec<u8>), NewPoolFault>
     ensures made { IfOk result (λ made. (made.0 ≡ fresh_frames frames page_size)
         × (length made.1.items ≡ page_size)) }
-    ensures shape { OnOk result (IsUpTo MAX_SLOTS frames
+    ensures shape { OnOk result (IsUpTo MAX_FRAMES frames
         × IsSize page_size (map D.state devices.now)) }
-    ensures refused { IfErr result (NewRefused frames page_size (map D.state devices.now)) }
+    ensures refused { IfErr result (NewPoolRefused frames page_size (map D.state devices.now)) }
 {
     check_shape(frames, page_size, devices)?;
     let spare = Vec::from_elem(alloc, 0, page_size)?;
@@ -551,11 +551,11 @@ fn check_shape<D: PageDevice>(
     page_size: usize,
     devices: &[D],
 ) -> Result<(), NewPoolFault>
-    ensures { MatchResult result (λ _. IsUpTo MAX_SLOTS frames
+    ensures { MatchResult result (λ _. IsUpTo MAX_FRAMES frames
         × IsSize page_size (map D.state devices.now))
-        (NewRefused frames page_size (map D.state devices.now)) }
+        (NewPoolRefused frames page_size (map D.state devices.now)) }
 {
-    if frames < 1 || frames > MAX_SLOTS {
+    if frames < 1 || frames > MAX_FRAMES {
         return Err(NewPoolFault::BadFrames);
     }
     if page_size < 1 || page_size > MAX_PAGE_SIZE || !all_sized(devices, page_size) {
@@ -566,7 +566,7 @@ fn check_shape<D: PageDevice>(
 
 // The rank that the history gives a page.
 fn known_key(history: &History, page: PageId) -> RankKey
-    ensures { result ≡ rank_key page (hist (refs history.now) page) }
+    ensures { result ≡ rank_key page (hist (references_of history.now) page) }
 {
     // The rank is over the references that the history holds: their history is this history.
     is_history(history);

@@ -12,7 +12,7 @@ ghost use Rattle.warm_pool.specs.Retiring.{clear_if};
 
 use std::alloc::{AllocError, Global};
 use std::marker::Model;
-use warm_rank::MAX_SLOTS;
+use warm_rank::MAX_FRAMES;
 use warm_stamps::PageId;
 
 /// The page of each frame, if any. Contracts see the list of them.
@@ -36,12 +36,12 @@ impl Model for Residents {
 }
 
 impl Residents {
-    /// Frames without a page, up to [`MAX_SLOTS`] of them.
+    /// Frames without a page, up to [`MAX_FRAMES`] of them.
     ///
     /// # Errors
     /// `AllocError` where the allocation fails of them.
     pub(crate) fn new(alloc: Global, frames: usize) -> Result<Residents, AllocError>
-        requires few { frames ≤ MAX_SLOTS }
+        requires few { frames ≤ MAX_FRAMES }
         ensures { IfOk result (λ residents. residents ≡ replicate frames None) }
     {
         let pages = no_pages(alloc, frames)?;
@@ -135,7 +135,7 @@ fn no_pages(alloc: Global, frames: usize) -> Result<Vec<Option<PageId>>, AllocEr
 
 // The heads of the chains where no frame holds a page: only the last chain has frames, from the first on.
 fn heads_of_none(alloc: Global, frames: usize) -> Result<Vec<u32>, AllocError>
-    requires { frames ≤ MAX_SLOTS }
+    requires { frames ≤ MAX_FRAMES }
     ensures { IfOk result (λ heads. heads.items ≡ set (replicate (frames + 1) frames) frames 0) }
 {
     let mut heads = Vec::new(alloc);
@@ -146,7 +146,7 @@ fn heads_of_none(alloc: Global, frames: usize) -> Result<Vec<u32>, AllocError>
 
 // Links from each frame to the next.
 fn links_in_turn(alloc: Global, frames: usize) -> Result<Vec<u32>, AllocError>
-    requires { frames ≤ MAX_SLOTS }
+    requires { frames ≤ MAX_FRAMES }
     ensures { IfOk result (λ next. AreInTurn frames next.items) }
 {
     let mut next = Vec::with_capacity(alloc, frames)?;
@@ -197,7 +197,7 @@ fn hash_of(page: PageId) -> u64
 // The chain of a frame with this content.
 #[tactic(auto, unfolding(crate::specs::Chains::chain_of))]
 fn chain_of(frames: usize, page: Option<PageId>) -> usize
-    requires { frames ≤ MAX_SLOTS }
+    requires { frames ≤ MAX_FRAMES }
     ensures is { result ≡ chain_of frames page }
     ensures low { result ≤ frames }
 {
@@ -308,7 +308,7 @@ fn move_frame(
 
 // Empties all chains.
 fn clear_heads(heads: &mut Vec<u32>, frames: usize)
-    requires { frames ≤ MAX_SLOTS }
+    requires { frames ≤ MAX_FRAMES }
     ensures { heads.new.items ≡ replicate (length heads.old.items) frames }
 {
     heads.fill(frames as u32);
@@ -319,7 +319,7 @@ fn clear_heads(heads: &mut Vec<u32>, frames: usize)
 fn link_all(pages: &[Option<PageId>], heads: &mut Vec<u32>, next: &mut Vec<u32>)
     ghost frames: { List ℕ }
     requires frames { frames ≡ chains_of pages.now }
-    requires few { length pages.now ≤ MAX_SLOTS }
+    requires few { length pages.now ≤ MAX_FRAMES }
     requires heads { length heads.old.items ≡ length pages.now + 1 }
     requires next { length next.old.items ≡ length pages.now }
     ensures { AreLinked pages.now heads.new.items next.new.items }

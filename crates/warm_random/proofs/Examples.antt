@@ -3,7 +3,7 @@ use Rattle.std.proofs.Common.{◌≡◌, [], ◌∷◌, codes, refl}
 use Rattle.std.specs.Fmt.{digits}
 use Rattle.rand_pcg.specs.Lcg.{started, increment_of}
 use Rattle.rand_pcg.specs.Pcg.{multiplier_64, pcg32}
-use Rattle.warm_random.specs.Drawing.{lines, schedule_text, seeded}
+use Rattle.warm_random.specs.Drawing.{random_lines, schedule_text, seeded}
 use Rattle.warm_random.specs.declared.Line.TheVariants.{Ref, Deliver}
 
 -- the first word of the state 42 in the stream 54
@@ -11,13 +11,13 @@ published_word : (pcg32 (started 64 multiplier_64 42 (increment_of 64 54))).0 �
 published_word = refl
 
 no_lines : schedule_text 7 0 3 2 ≡ []
-unfolding lines
+unfolding random_lines
 no_lines = refl
 
-two_lines : (lines 3 2 2 (seeded 1)).0 ≡ Ref 3 2 211 1 ∷ Deliver 1 1 ∷ []
-unfolding lines
+two_lines : (random_lines 3 2 2 (seeded 1)).0 ≡ Ref 3 2 211 1 ∷ Deliver 1 1 ∷ []
+unfolding random_lines
 two_lines = refl
 
 two_lines_of_text : schedule_text 1 2 3 2 ≡ codes "ref 3 2 0:211 1\ndeliver 1 1\n"
-unfolding lines digits
+unfolding random_lines digits
 two_lines_of_text = refl

@@ -32,8 +32,8 @@ abbrev pub below : ℕ → Draw ℕ
 below n = word >>= λ r. always (r % n)
 
 -- a number from 1 to n
-abbrev pub up_to : ℕ → Draw ℕ
-up_to n = word >>= λ r. always (1 + r % n)
+abbrev pub draw_up_to : ℕ → Draw ℕ
+draw_up_to n = word >>= λ r. always (1 + r % n)
 
 -- ---- lines
 
@@ -41,11 +41,11 @@ up_to n = word >>= λ r. always (1 + r % n)
 -- line's number, `sends` is the number of sends among the lines before it.
 abbrev pub fields : ℕ → ℕ → ℕ → ℕ → ℕ → Draw Line
 fields replicas workers time sends kind =
-    if nat_le kind 3 then (up_to replicas >>= λ i. up_to workers >>= λ w. below 256 >>= λ p. always (Ref i w p time))
-    else (if kind == 4 then (up_to replicas >>= λ i. up_to workers >>= λ w. always (Flush i w))
-    else (if kind == 5 then (up_to replicas >>= λ i. below BUCKETS >>= λ b. always (Send i b))
-    else (if kind == 6 then (up_to replicas >>= λ i. up_to (sends + 1) >>= λ k. always (Deliver i k))
-    else (up_to replicas >>= λ i. always (Show i)))))
+    if nat_le kind 3 then (draw_up_to replicas >>= λ i. draw_up_to workers >>= λ w. below 256 >>= λ p. always (Ref i w p time))
+    else (if kind == 4 then (draw_up_to replicas >>= λ i. draw_up_to workers >>= λ w. always (Flush i w))
+    else (if kind == 5 then (draw_up_to replicas >>= λ i. below BUCKETS >>= λ b. always (Send i b))
+    else (if kind == 6 then (draw_up_to replicas >>= λ i. draw_up_to (sends + 1) >>= λ k. always (Deliver i k))
+    else (draw_up_to replicas >>= λ i. always (Show i)))))
 
 -- a word chooses the kind of the line
 abbrev pub line : ℕ → ℕ → ℕ → ℕ → Draw Line
@@ -56,10 +56,10 @@ is_send (Send i b) = true
 is_send _ = false
 
 -- the first n lines
-unfoldable pub lines : ℕ → ℕ → ℕ → Draw (List Line)
-lines replicas workers zero = always []
-lines replicas workers (suc n) =
-    lines replicas workers n >>= λ before. line replicas workers (n + 1) (count_by is_send before) >>= λ next. always (before ++ next ∷ [])
+unfoldable pub random_lines : ℕ → ℕ → ℕ → Draw (List Line)
+random_lines replicas workers zero = always []
+random_lines replicas workers (suc n) =
+    random_lines replicas workers n >>= λ before. line replicas workers (n + 1) (count_by is_send before) >>= λ next. always (before ++ next ∷ [])
 
 -- ---- text
 
@@ -72,4 +72,4 @@ line_text (Show i) = codes "show " ++ decimal i ++ codes "\n"
 
 -- the schedule of a seed, of this many lines
 abbrev pub schedule_text : ℕ → ℕ → ℕ → ℕ → List ℕ
-schedule_text seed events replicas workers = flat_map line_text (lines replicas workers events (seeded seed)).0
+schedule_text seed events replicas workers = flat_map line_text (random_lines replicas workers events (seeded seed)).0

@@ -6,7 +6,7 @@
 
 ghost use Rattle.std.specs.Prelude.{◌≡◌, ◌≤◌, ◌<◌, ◌+◌, ◌^◌, OnOk};
 ghost use Rattle.std.specs.Io.KnownBytes.{Appends};
-ghost use Rattle.warm_random.specs.Drawing.{below, up_to, line, is_send, line_text, schedule_text};
+ghost use Rattle.warm_random.specs.Drawing.{below, draw_up_to, line, is_send, line_text, schedule_text};
 
 use rand_core::utils::NextWord;
 use rand_pcg::Lcg64Xsh32;
@@ -84,7 +84,7 @@ fn below(words: &mut Lcg64Xsh32, bound: u64) -> u64
 
 fn up_to(words: &mut Lcg64Xsh32, most: u64) -> u64
     requires { 0 < most }
-    ensures { (result, words.new) ≡ up_to most words.old }
+    ensures { (result, words.new) ≡ draw_up_to most words.old }
 {
     1 + below(words, most)
 }

@@ -16,7 +16,7 @@ use Rattle.warm_stamps.proofs.DistinctLemmas.{Has, by_cases, flipped, has_distin
 use Rattle.warm_stamps.proofs.StampLemmas.{stamp_order, reference_order, IsStrictOrder-flip}
 use Rattle.warm_history.specs.ReferenceSets.{ReferenceSet, references}
 use Rattle.warm_history.specs.Histories.{stamps}
-use Rattle.warm_history.specs.ListHistories as list
+use Rattle.warm_history.specs.ListHistories.{list_stamps}
 use Rattle.warm_history.proofs.ListHistoryLemmas.{told}
 use Rattle.warm_rank.specs.Ranking.{count_later}
 
@@ -103,7 +103,7 @@ told_of (r ∷ rs) p s has = cases (told_of rs p s) (is_eq (page_cmp r.page p)) 
     cases rest false other = of_tail (rest (rw other at has))
 
 -- the stamps of a page in a list are stamps of its references
-pub stamps_in : (rs : List Reference) (p : PageId) (s : Stamp) → Has (list.stamps rs p) s → (r : Reference) × Has rs r × (r.stamp ≡ s)
+pub stamps_in : (rs : List Reference) (p : PageId) (s : Stamp) → Has (list_stamps rs p) s → (r : Reference) × Has rs r × (r.stamp ≡ s)
 stamps_in rs p s has = told_of rs p s (has_from_distinct (flip_args stamp_cmp) (IsStrictOrder-flip stamp_cmp stamp_order) (told rs p) s has)
 
 -- the stamps of a page are stamps of S

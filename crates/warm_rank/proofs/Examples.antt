@@ -4,9 +4,9 @@ use Rattle.std.specs.List.{Contains}
 use Rattle.std.specs.declared.cmp.Ordering.TheVariants.{Less}
 use Rattle.warm_stamps.specs.declared.PageId.{PageId}
 use Rattle.warm_stamps.specs.declared.Reference.{Reference}
-use Rattle.warm_history.specs.ReferenceSets.{ReferenceSet, references, these, ◌∪◌}
-use Rattle.warm_rank.specs.Backward.{StampsRise, places_back}
-use Rattle.warm_rank.specs.Ranking.{dist, leaving_cmp, IsBefore, IsVictim, warm}
+use Rattle.warm_history.specs.ReferenceSets.{ReferenceSet, references, set_of_list, ◌∪◌}
+use Rattle.warm_rank.specs.Backward.{StampsAscend, places_back}
+use Rattle.warm_rank.specs.Ranking.{dist, eviction_cmp, IsBefore, IsVictim, hottest_pages}
 
 -- the page 0:n
 abbrev page : ℕ → PageId
@@ -19,7 +19,7 @@ seen n time = record { page = page n; stamp = record { time = time; replica = 1 
 -- ---- a page that was referenced twice, and then a scan of two pages
 
 abbrev scan : ReferenceSet
-scan = these (seen 1 1 ∷ seen 1 2 ∷ seen 5 10 ∷ seen 6 11 ∷ [])
+scan = set_of_list (seen 1 1 ∷ seen 1 2 ∷ seen 5 10 ∷ seen 6 11 ∷ [])
 
 scan_distance : dist scan (page 1) ≡ Some 3
 scan_distance = refl
@@ -31,7 +31,7 @@ scan_second_infinite : dist scan (page 6) ≡ None
 scan_second_infinite = refl
 
 -- the scan is given in the order of its stamps: three places from its end to the last but one reference to the page
-scan_rises : StampsRise (references scan)
+scan_rises : StampsAscend (references scan)
 scan_rises = ((refl, (refl, (refl, tt))), ((refl, (refl, tt)), ((refl, tt), (tt, tt))))
 
 scan_places : places_back (references scan) (page 1) ≡ Some 3
@@ -45,29 +45,29 @@ three_times : places_back (seen 4 1 ∷ seen 4 2 ∷ seen 5 3 ∷ seen 4 4 ∷ s
 three_times = refl
 
 -- a reference that is given twice counts once
-told_twice : dist (these (seen 5 10 ∷ seen 1 2 ∷ []) ∪ scan) (page 1) ≡ Some 3
+told_twice : dist (set_of_list (seen 5 10 ∷ seen 1 2 ∷ []) ∪ scan) (page 1) ≡ Some 3
 told_twice = refl
 
 -- the scan leaves first, its older page before the other
-scan_leaves : leaving_cmp scan (page 6) (page 1) ≡ Less
-unfolding leaving_cmp
+scan_leaves : eviction_cmp scan (page 6) (page 1) ≡ Less
+unfolding eviction_cmp
 scan_leaves = refl
 
-older_leaves : leaving_cmp scan (page 5) (page 6) ≡ Less
-unfolding leaving_cmp
+older_leaves : eviction_cmp scan (page 5) (page 6) ≡ Less
+unfolding eviction_cmp
 older_leaves = refl
 
 -- a page without a reference leaves before them, and of two such pages the lesser
-unknown_leaves : leaving_cmp scan (page 7) (page 5) ≡ Less
-unfolding leaving_cmp
+unknown_leaves : eviction_cmp scan (page 7) (page 5) ≡ Less
+unfolding eviction_cmp
 unknown_leaves = refl
 
-lesser_unknown_leaves : leaving_cmp scan (page 7) (page 8) ≡ Less
-unfolding leaving_cmp
+lesser_unknown_leaves : eviction_cmp scan (page 7) (page 8) ≡ Less
+unfolding eviction_cmp
 lesser_unknown_leaves = refl
 
 scan_victim : IsVictim scan (page 1 ∷ page 5 ∷ page 6 ∷ []) (Some (page 5))
-unfolding leaving_cmp
+unfolding eviction_cmp
 scan_victim = ((1, omega arith, refl), before)
   where
     before : (q : PageId) → Contains (page 1 ∷ page 5 ∷ page 6 ∷ []) q → q ≢ page 5 → IsBefore scan (page 5) q
@@ -79,7 +79,7 @@ scan_victim = ((1, omega arith, refl), before)
 -- ---- two pages that were referenced twice: the one whose references lie farther apart leaves, though it was referenced last
 
 abbrev apart : ReferenceSet
-apart = these (seen 1 1 ∷ seen 1 100 ∷ seen 2 50 ∷ seen 2 60 ∷ [])
+apart = set_of_list (seen 1 1 ∷ seen 1 100 ∷ seen 2 50 ∷ seen 2 60 ∷ [])
 
 apart_distance_1 : dist apart (page 1) ≡ Some 3
 apart_distance_1 = refl
@@ -87,12 +87,12 @@ apart_distance_1 = refl
 apart_distance_2 : dist apart (page 2) ≡ Some 2
 apart_distance_2 = refl
 
-farther_leaves : leaving_cmp apart (page 1) (page 2) ≡ Less
-unfolding leaving_cmp
+farther_leaves : eviction_cmp apart (page 1) (page 2) ≡ Less
+unfolding eviction_cmp
 farther_leaves = refl
 
 apart_victim : IsVictim apart (page 1 ∷ page 2 ∷ []) (Some (page 1))
-unfolding leaving_cmp
+unfolding eviction_cmp
 apart_victim = ((0, omega arith, refl), before)
   where
     before : (q : PageId) → Contains (page 1 ∷ page 2 ∷ []) q → q ≢ page 1 → IsBefore apart (page 1) q
@@ -103,7 +103,7 @@ apart_victim = ((0, omega arith, refl), before)
 -- ---- the hottest pages, the hottest first
 
 abbrev heated : ReferenceSet
-heated = these (seen 5 1 ∷ seen 2 2 ∷ seen 2 3 ∷ seen 9 4 ∷ seen 9 5 ∷ [])
+heated = set_of_list (seen 5 1 ∷ seen 2 2 ∷ seen 2 3 ∷ seen 9 4 ∷ seen 9 5 ∷ [])
 
 heated_distance_5 : dist heated (page 5) ≡ None
 heated_distance_5 = refl
@@ -114,21 +114,21 @@ heated_distance_2 = refl
 heated_distance_9 : dist heated (page 9) ≡ Some 1
 heated_distance_9 = refl
 
-heated_first : leaving_cmp heated (page 5) (page 2) ≡ Less
-unfolding leaving_cmp
+heated_first : eviction_cmp heated (page 5) (page 2) ≡ Less
+unfolding eviction_cmp
 heated_first = refl
 
-heated_second : leaving_cmp heated (page 2) (page 9) ≡ Less
-unfolding leaving_cmp
+heated_second : eviction_cmp heated (page 2) (page 9) ≡ Less
+unfolding eviction_cmp
 heated_second = refl
 
-warm_three : warm heated 3 ≡ page 9 ∷ page 2 ∷ page 5 ∷ []
-unfolding leaving_cmp
+warm_three : hottest_pages heated 3 ≡ page 9 ∷ page 2 ∷ page 5 ∷ []
+unfolding eviction_cmp
 warm_three = refl
 
-warm_two : warm heated 2 ≡ page 9 ∷ page 2 ∷ []
-unfolding leaving_cmp
+warm_two : hottest_pages heated 2 ≡ page 9 ∷ page 2 ∷ []
+unfolding eviction_cmp
 warm_two = refl
 
-warm_none : warm heated 0 ≡ []
+warm_none : hottest_pages heated 0 ≡ []
 warm_none = refl

@@ -19,8 +19,8 @@ use Rattle.warm_history.specs.Histories.{first_two, stamps, hist}
 use Rattle.warm_rank.specs.declared.RankKey.{RankKey}
 use Rattle.warm_rank.specs.declared.RankKey.TheVariants.{Never, Once, Twice}
 use Rattle.warm_rank.specs.contracts.RankKeyOrd.TheImpl as derived
-use Rattle.warm_rank.specs.Keys.{rank_key, key_cmp, page_of}
-use Rattle.warm_rank.specs.Ranking.{distance_from, first, farther_cmp, older_cmp, leaving_cmp}
+use Rattle.warm_rank.specs.Keys.{rank_key, key_cmp, ranked_page}
+use Rattle.warm_rank.specs.Ranking.{distance_from, first, farther_cmp, older_cmp, eviction_cmp}
 use Rattle.warm_rank.specs.Laws.{KeysRank}
 use Rattle.warm_rank.proofs.Counting.{IsStampOf, counts_rank, stamps_of}
 
@@ -38,15 +38,15 @@ ranks S p q (a ∷ a' ∷ xs) [] of_x of_y = refl
 ranks S p q (a ∷ a' ∷ xs) (b ∷ []) of_x of_y = refl
 ranks S p q (a ∷ a' ∷ xs) (b ∷ b' ∷ ys) of_x of_y = ap (λ o. ordering_then o (ordering_then (stamp_cmp a b) (page_cmp p q))) (sym (counts_rank S a' b' (of_x a' (inr (inl refl))) (of_y b' (inr (inl refl)))))
 
-pub keys_rank : KeysRank
-unfolding leaving_cmp
-keys_rank S p q = ranks S p q (stamps S p) (stamps S q) (stamps_of S p) (stamps_of S q)
+pub keys_order_pages : KeysRank
+unfolding eviction_cmp
+keys_order_pages S p q = ranks S p q (stamps S p) (stamps S q) (stamps_of S p) (stamps_of S q)
 
 -- keys that were made from what is known of two pages
-pub known_keys_rank : (S : ReferenceSet) (p q : PageId) (x y : Option PageHist) → x ≡ hist S p → y ≡ hist S q → key_cmp (rank_key p x) (rank_key q y) ≡ leaving_cmp S p q
-known_keys_rank S p q x y is_x is_y = ap (λ h. key_cmp (rank_key p h) (rank_key q y)) is_x ∙ ap (λ h. key_cmp (rank_key p (hist S p)) (rank_key q h)) is_y ∙ keys_rank S p q
+pub known_keys_rank : (S : ReferenceSet) (p q : PageId) (x y : Option PageHist) → x ≡ hist S p → y ≡ hist S q → key_cmp (rank_key p x) (rank_key q y) ≡ eviction_cmp S p q
+known_keys_rank S p q x y is_x is_y = ap (λ h. key_cmp (rank_key p h) (rank_key q y)) is_x ∙ ap (λ h. key_cmp (rank_key p (hist S p)) (rank_key q h)) is_y ∙ keys_order_pages S p q
 
-pub page_of-rank_key : (p : PageId) (x : Option PageHist) → page_of (rank_key p x) ≡ p
+pub page_of-rank_key : (p : PageId) (x : Option PageHist) → ranked_page (rank_key p x) ≡ p
 page_of-rank_key p None = refl
 page_of-rank_key p (Some (page.Once last)) = refl
 page_of-rank_key p (Some (page.Twice two)) = refl
@@ -92,7 +92,7 @@ last_of (Twice a' a p) = Some a
 
 -- keys are ordered by what they hold, one after the other
 by_parts : RankKey → RankKey → Ordering
-by_parts = then_cmp (on how_many nat_cmp) (then_cmp (on prev_of (option_cmp stamp_cmp)) (then_cmp (on last_of (option_cmp stamp_cmp)) (on page_of page_cmp)))
+by_parts = then_cmp (on how_many nat_cmp) (then_cmp (on prev_of (option_cmp stamp_cmp)) (then_cmp (on last_of (option_cmp stamp_cmp)) (on ranked_page page_cmp)))
 
 parts_are_key : (j k : RankKey) → by_parts j k ≡ key_cmp j k
 unfolding how_many prev_of last_of by_parts
@@ -108,7 +108,7 @@ parts_are_key (Twice a' a p) (Twice b' b q) = refl
 
 parts_total : IsTotalOrder by_parts
 unfolding by_parts
-parts_total = then_total (on_total how_many nat_cmp_total) (then_total (on_total prev_of (options_total stamp_order.total)) (then_total (on_total last_of (options_total stamp_order.total)) (on_total page_of page_order.total)))
+parts_total = then_total (on_total how_many nat_cmp_total) (then_total (on_total prev_of (options_total stamp_order.total)) (then_total (on_total last_of (options_total stamp_order.total)) (on_total ranked_page page_order.total)))
 
 pub key_order : IsStrictOrder key_cmp
 key_order = record { total = subst IsTotalOrder (λ i j k. parts_are_key j k i) parts_total; same = same_keys }

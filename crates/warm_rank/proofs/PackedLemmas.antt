@@ -9,7 +9,7 @@ use Rattle.warm_stamps.proofs.StampLemmas.{both_tie}
 use Rattle.warm_rank.specs.declared.RankKey.{RankKey}
 use Rattle.warm_rank.specs.declared.RankKey.TheVariants.{Never, Once, Twice}
 use Rattle.warm_rank.specs.contracts.packed.PackedKeyOrd.TheImpl as derived
-use Rattle.warm_rank.specs.Keys.{key_cmp, page_of}
+use Rattle.warm_rank.specs.Keys.{key_cmp, ranked_page}
 use Rattle.warm_rank.specs.Packed.{packed_key, packed_page, packed_cmp}
 
 -- three orders, one after the other
@@ -32,7 +32,7 @@ packed_compares (Twice a' a p) (Twice b' b q) =
     ap (λ o. ordering_then (nat_cmp a'.time b'.time) (ordering_then (nat_cmp a'.replica b'.replica) o)) (sym (then_assoc (nat_cmp a.time b.time) (nat_cmp a.replica b.replica) _))
     ∙ sym (then_assoc (nat_cmp a'.time b'.time) (nat_cmp a'.replica b'.replica) _)
 
-pub packed_keeps_page : (k : RankKey) → packed_page (packed_key k) ≡ page_of k
+pub packed_keeps_page : (k : RankKey) → packed_page (packed_key k) ≡ ranked_page k
 packed_keeps_page (Never p) = refl
 packed_keeps_page (Once a p) = refl
 packed_keeps_page (Twice a' a p) = refl

@@ -15,8 +15,8 @@ use Rattle.warm_stamps.specs.Distinct.{insert_distinct, distinct}
 use Rattle.warm_stamps.proofs.DistinctLemmas.{IsStrictOrder, Has, by_cases, flipped, has_from_distinct}
 use Rattle.warm_stamps.proofs.StampLemmas.{stamp_order, reference_order}
 use Rattle.warm_history.specs.ReferenceSets.{ReferenceSet, references}
-use Rattle.warm_history.specs.ListHistories.{stamps}
-use Rattle.warm_rank.specs.Backward.{StampsRise, count_to, places_back}
+use Rattle.warm_history.specs.ListHistories.{list_stamps}
+use Rattle.warm_rank.specs.Backward.{StampsAscend, count_to, places_back}
 use Rattle.warm_rank.specs.Laws.{DistanceIsPlacesBack}
 use Rattle.warm_rank.specs.Ranking.{distance_from}
 use Rattle.warm_rank.proofs.Counting.{later, counted, passed, stamps_in}
@@ -46,7 +46,7 @@ absent r rs above has =
     let no : Less ≡ Equal = sym less ∙ tied_itself stamp_order.total r.stamp in
     cc
 
-count_by-distinct : (test : Reference → Bool) (rs : List Reference) → StampsRise rs → count_by test (distinct reference_cmp rs) ≡ count_by test rs
+count_by-distinct : (test : Reference → Bool) (rs : List Reference) → StampsAscend rs → count_by test (distinct reference_cmp rs) ≡ count_by test rs
 count_by-distinct test [] rise = refl
 count_by-distinct test (r ∷ rs) rise =
     let rest = count_by-distinct test rs rise.1 in
@@ -99,48 +99,48 @@ distance_in-last r rs (a ∷ b ∷ ss) above below =
     ∙ sym (ap (λ t. cond t (Some (length rs)) (distance_in rs (a ∷ b ∷ ss))) (not_one (length ss)))
 
 -- the stamps of a page in references that rise are all later than an older reference
-below_stamps : (r : Reference) (rs : List Reference) (p : PageId) → AllByRecursion (λ s. stamp_cmp r.stamp s.stamp ≡ Less) rs → (t : Stamp) → Has (stamps rs p) t → stamp_cmp r.stamp t ≡ Less
+below_stamps : (r : Reference) (rs : List Reference) (p : PageId) → AllByRecursion (λ s. stamp_cmp r.stamp s.stamp ≡ Less) rs → (t : Stamp) → Has (list_stamps rs p) t → stamp_cmp r.stamp t ≡ Less
 below_stamps r rs p above t has =
     let of = stamps_in rs p t has in
     subst (λ u. stamp_cmp r.stamp u ≡ Less) of.2 (each (λ (s : Reference). stamp_cmp r.stamp s.stamp ≡ Less) rs above of.0 of.1)
 
-stamps-here : (r : Reference) (rs : List Reference) (p : PageId) → AllByRecursion (λ s. stamp_cmp r.stamp s.stamp ≡ Less) rs → is_eq (page_cmp r.page p) ≡ true → stamps (r ∷ rs) p ≡ stamps rs p ++ r.stamp ∷ []
-stamps-here r rs p above here = rw here (insert_last r.stamp (stamps rs p) (below_stamps r rs p above))
+stamps-here : (r : Reference) (rs : List Reference) (p : PageId) → AllByRecursion (λ s. stamp_cmp r.stamp s.stamp ≡ Less) rs → is_eq (page_cmp r.page p) ≡ true → list_stamps (r ∷ rs) p ≡ list_stamps rs p ++ r.stamp ∷ []
+stamps-here r rs p above here = rw here (insert_last r.stamp (list_stamps rs p) (below_stamps r rs p above))
 
-stamps-other : (r : Reference) (rs : List Reference) (p : PageId) → is_eq (page_cmp r.page p) ≡ false → stamps (r ∷ rs) p ≡ stamps rs p
+stamps-other : (r : Reference) (rs : List Reference) (p : PageId) → is_eq (page_cmp r.page p) ≡ false → list_stamps (r ∷ rs) p ≡ list_stamps rs p
 stamps-other r rs p other = rw other refl
 
 -- a page has as many stamps as there are references to it
-length-stamps : (rs : List Reference) (p : PageId) → StampsRise rs → length (stamps rs p) ≡ count_to rs p
+length-stamps : (rs : List Reference) (p : PageId) → StampsAscend rs → length (list_stamps rs p) ≡ count_to rs p
 length-stamps [] p rise = refl
 length-stamps (r ∷ rs) p rise = cases (is_eq (page_cmp r.page p)) refl (length-stamps rs p rise.1)
   where
-    cases : (b : Bool) → is_eq (page_cmp r.page p) ≡ b → length (stamps rs p) ≡ count_to rs p → length (stamps (r ∷ rs) p) ≡ count_to (r ∷ rs) p
-    cases true here rest = omega (arith, ap length (stamps-here r rs p rise.0 here), length-append (stamps rs p) (r.stamp ∷ []), counted (λ x. is_eq (page_cmp x.page p)) r rs here)
+    cases : (b : Bool) → is_eq (page_cmp r.page p) ≡ b → length (list_stamps rs p) ≡ count_to rs p → length (list_stamps (r ∷ rs) p) ≡ count_to (r ∷ rs) p
+    cases true here rest = omega (arith, ap length (stamps-here r rs p rise.0 here), length-append (list_stamps rs p) (r.stamp ∷ []), counted (λ x. is_eq (page_cmp x.page p)) r rs here)
     cases false other rest = omega (arith, ap length (stamps-other r rs p other), passed (λ x. is_eq (page_cmp x.page p)) r rs other)
 
 -- the distance is counted in places
-places : (rs : List Reference) (p : PageId) → StampsRise rs → distance_in rs (stamps rs p) ≡ places_back rs p
+places : (rs : List Reference) (p : PageId) → StampsAscend rs → distance_in rs (list_stamps rs p) ≡ places_back rs p
 places [] p rise = refl
 places (r ∷ rs) p rise = cases (is_eq (page_cmp r.page p)) refl (places rs p rise.1)
   where
-    cases : (b : Bool) → is_eq (page_cmp r.page p) ≡ b → distance_in rs (stamps rs p) ≡ places_back rs p → distance_in (r ∷ rs) (stamps (r ∷ rs) p) ≡ places_back (r ∷ rs) p
+    cases : (b : Bool) → is_eq (page_cmp r.page p) ≡ b → distance_in rs (list_stamps rs p) ≡ places_back rs p → distance_in (r ∷ rs) (list_stamps (r ∷ rs) p) ≡ places_back (r ∷ rs) p
     cases true here rest =
         ap (distance_in (r ∷ rs)) (stamps-here r rs p rise.0 here)
-        ∙ distance_in-last r rs (stamps rs p) rise.0 (below_stamps r rs p rise.0)
-        ∙ ap (λ n. cond (n == 1) (Some (length rs)) (distance_in rs (stamps rs p))) (length-stamps rs p rise.1)
+        ∙ distance_in-last r rs (list_stamps rs p) rise.0 (below_stamps r rs p rise.0)
+        ∙ ap (λ n. cond (n == 1) (Some (length rs)) (distance_in rs (list_stamps rs p))) (length-stamps rs p rise.1)
         ∙ ap (cond (count_to rs p == 1) (Some (length rs))) rest
         ∙ rw here refl
     cases false other rest =
         ap (distance_in (r ∷ rs)) (stamps-other r rs p other)
-        ∙ distance_in-older r rs (stamps rs p) (below_stamps r rs p rise.0)
+        ∙ distance_in-older r rs (list_stamps rs p) (below_stamps r rs p rise.0)
         ∙ rest
         ∙ rw other refl
 
-distance_from-in : (S : ReferenceSet) (ss : List Stamp) → StampsRise (references S) → distance_from S ss ≡ distance_in (references S) ss
+distance_from-in : (S : ReferenceSet) (ss : List Stamp) → StampsAscend (references S) → distance_from S ss ≡ distance_in (references S) ss
 distance_from-in S [] rise = refl
 distance_from-in S (last ∷ []) rise = refl
 distance_from-in S (last ∷ prev ∷ older) rise = ap Some (count_by-distinct (later prev) (references S) rise)
 
 pub distance_is_places_back : DistanceIsPlacesBack
-distance_is_places_back S p rise = distance_from-in S (stamps (references S) p) rise ∙ places (references S) p rise
+distance_is_places_back S p rise = distance_from-in S (list_stamps (references S) p) rise ∙ places (references S) p rise

@@ -11,11 +11,11 @@ use Rattle.warm_history.specs.ReferenceSets.{ReferenceSet}
 use Rattle.warm_history.specs.Histories.{hist}
 use Rattle.warm_rank.specs.declared.RankKey.{RankKey}
 use Rattle.warm_rank.specs.Keys.{rank_key, key_cmp}
-use Rattle.warm_rank.specs.Ranking.{leaving_cmp, IsBefore, IsVictim}
+use Rattle.warm_rank.specs.Ranking.{eviction_cmp, IsBefore, IsVictim}
 use Rattle.warm_rank.specs.Slots.{key_at, set_first_cmp, slot_cmp, ComesFirst}
 use Rattle.warm_rank.specs.Laws.{keys_over, pages_in, LeastKeyIsVictim}
-use Rattle.warm_rank.proofs.KeyLemmas.{keys_rank}
-use Rattle.warm_rank.proofs.LeavingLemmas.{leaving_order}
+use Rattle.warm_rank.proofs.KeyLemmas.{keys_order_pages}
+use Rattle.warm_rank.proofs.LeavingLemmas.{eviction_order}
 
 -- the key over S of the page p
 abbrev key_over : ReferenceSet → PageId → RankKey
@@ -69,10 +69,10 @@ before S slots s t p q is_p is_q differ less =
     let by_key : ordering_then (key_cmp (key_over S p) (key_over S q)) (nat_cmp s t) ≡ Less =
     ap (λ k. ordering_then (set_first_cmp key_cmp (Some (key_over S p)) k) (nat_cmp s t)) (sym key_q) ∙ ap (λ k. ordering_then (set_first_cmp key_cmp k (key_at (keys_over S slots) t)) (nat_cmp s t)) (sym key_p) ∙ less
     in
-    let by_page : ordering_then (leaving_cmp S p q) (nat_cmp s t) ≡ Less = ap (λ o. ordering_then o (nat_cmp s t)) (sym (keys_rank S p q)) ∙ by_key in
-    by_cases (leaving_cmp S p q) _
+    let by_page : ordering_then (eviction_cmp S p q) (nat_cmp s t) ≡ Less = ap (λ o. ordering_then o (nat_cmp s t)) (sym (keys_order_pages S p q)) ∙ by_key in
+    by_cases (eviction_cmp S p q) _
     (λ is_less. is_less)
-    (λ tied. absurd (differ (sym ((leaving_order S).same p q tied))))
+    (λ tied. absurd (differ (sym ((eviction_order S).same p q tied))))
     (λ more. let no : Greater ≡ Less = sym (ap (λ o. ordering_then o (nat_cmp s t)) more) ∙ by_page in absurd (cc))
 
 victim_at : (S : ReferenceSet) (slots : List (Option PageId)) (s : ℕ) → ComesFirst key_cmp (keys_over S slots) (length (keys_over S slots)) s → (page : Option PageId) → key_at slots s ≡ page → IsVictim S (pages_in slots) page

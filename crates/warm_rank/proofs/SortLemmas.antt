@@ -9,7 +9,7 @@ use Rattle.std.proofs.lemmas.Cmp.{tied_itself}
 use Rattle.std.proofs.lemmas.List.{reverse-append}
 use Rattle.std.proofs.lemmas.List.Sorted.{sum_by-IsPermutation, IsPermutation-reverse, ranks_by, sorted_far}
 use Rattle.std.proofs.lemmas.List.Sums.{sum_by-cons, sum_by-append}
-use Rattle.warm_stamps.specs.Distinct.{insert_distinct, distinct, IsRising}
+use Rattle.warm_stamps.specs.Distinct.{insert_distinct, distinct, IsAscending}
 use Rattle.warm_stamps.proofs.DistinctLemmas.{IsStrictOrder, Has, by_cases, flipped, distinct_same, insert_below, below_distinct, all_of_has, all_append}
 use Rattle.warm_stamps.proofs.StampLemmas.{IsStrictOrder-flip}
 
@@ -78,7 +78,7 @@ module _ {A : Type 0} (cmp : A → A → Ordering) (order : IsStrictOrder cmp) w
   no_ties_tail : (x : A) (xs : List A) → HasNoTies cmp (x ∷ xs) → HasNoTies cmp xs
   no_ties_tail x xs once y = let step = ties-append y (x ∷ []) xs in omega (arith, once y)
 
-  pub rising_from_sorted : (xs : List A) → HasNoTies cmp xs → IsSorted cmp xs → IsRising cmp xs
+  pub rising_from_sorted : (xs : List A) → HasNoTies cmp xs → IsSorted cmp xs → IsAscending cmp xs
   rising_from_sorted [] once sorted = tt
   rising_from_sorted (x ∷ xs) once sorted =
       (above_first x xs (λ j lt. sorted_far (λ a b. is_lt (cmp a b)) (ranks_by order.total (λ a. a)) (x ∷ xs) sorted 0 (suc j) x (omega arith) (omega arith)) none, rising_from_sorted xs (no_ties_tail x xs once) (λ k d low lt. tail k d (sorted (suc k) d (omega arith) (omega arith))))
@@ -89,24 +89,24 @@ module _ {A : Type 0} (cmp : A → A → Ordering) (order : IsStrictOrder cmp) w
       tail : (k : ℕ) (d : A) → is_lt (cmp (get_or (x ∷ xs) (suc k + 1) d) (get_or (x ∷ xs) (suc k) d)) ≡ false → is_lt (cmp (get_or xs (k + 1) d) (get_or xs k d)) ≡ false
       tail k d is = rw add-one (rw add-one at is)
 
-  rising_last : (xs : List A) (y : A) → IsRising cmp xs → AllByRecursion (λ x. cmp x y ≡ Less) xs → IsRising cmp (xs ++ y ∷ [])
+  rising_last : (xs : List A) (y : A) → IsAscending cmp xs → AllByRecursion (λ x. cmp x y ≡ Less) xs → IsAscending cmp (xs ++ y ∷ [])
   rising_last [] y rising below = (tt, tt)
   rising_last (x ∷ xs) y rising below = (all_append (λ z. cmp x z ≡ Less) xs (y ∷ []) rising.0 (below.0, tt), rising_last xs y rising.1 below.1)
 
   -- ---- the distinct items of lesser and of greater ones
 
   -- rising items that are all below the others come first
-  pub distinct-append : (xs ys : List A) → IsRising cmp xs → AllByRecursion (λ x. AllByRecursion (λ y. cmp x y ≡ Less) ys) xs → distinct cmp (xs ++ ys) ≡ xs ++ distinct cmp ys
+  pub distinct-append : (xs ys : List A) → IsAscending cmp xs → AllByRecursion (λ x. AllByRecursion (λ y. cmp x y ≡ Less) ys) xs → distinct cmp (xs ++ ys) ≡ xs ++ distinct cmp ys
   distinct-append [] ys rising below = refl
   distinct-append (x ∷ xs) ys rising below =
       ap (insert_distinct cmp x) (distinct-append xs ys rising.1 below.1)
       ∙ insert_below cmp order x (xs ++ distinct cmp ys) (all_append (λ z. cmp x z ≡ Less) xs (distinct cmp ys) rising.0 (below_distinct cmp order x ys below.0))
 
 module _ {A : Type 0} (cmp : A → A → Ordering) (order : IsStrictOrder cmp) where
-  rising_reverse : (xs : List A) → IsRising cmp xs → IsRising (flip_args cmp) (reverse xs)
+  rising_reverse : (xs : List A) → IsAscending cmp xs → IsAscending (flip_args cmp) (reverse xs)
   rising_reverse [] rising = tt
   rising_reverse (x ∷ xs) rising =
-      subst (IsRising (flip_args cmp)) (sym (reverse-append (x ∷ []) xs))
+      subst (IsAscending (flip_args cmp)) (sym (reverse-append (x ∷ []) xs))
       (rising_last (flip_args cmp) (IsStrictOrder-flip cmp order) (reverse xs) x (rising_reverse xs rising.1) (all_reverse (λ y. cmp x y ≡ Less) xs rising.0))
 
   same_items : (x : A) (xs ys : List A) → ties cmp x xs ≡ ties cmp x ys → Has xs x → Has ys x
@@ -141,7 +141,7 @@ module _ {A : Type 0} (cmp : A → A → Ordering) (order : IsStrictOrder cmp) w
       once_sorted : HasNoTies cmp sorted
       once_sorted x = omega (arith, once x, ties-permutation cmp order x top sorted moved, ties-append cmp order x rest top, ties-permutation cmp order x xs (rest ++ top) parted)
 
-      falls : IsRising (flip_args cmp) (reverse sorted)
+      falls : IsAscending (flip_args cmp) (reverse sorted)
       falls = rising_reverse sorted (rising_from_sorted cmp order sorted once_sorted in_order)
 
       below : AllByRecursion (λ t. AllByRecursion (λ r. cmp r t ≡ Less) rest) (reverse sorted)

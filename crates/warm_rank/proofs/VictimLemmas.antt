@@ -11,9 +11,9 @@ use Rattle.warm_stamps.specs.Stamps.{page_cmp}
 use Rattle.warm_stamps.proofs.DistinctLemmas.{by_cases}
 use Rattle.warm_stamps.proofs.StampLemmas.{page_order}
 use Rattle.warm_history.specs.ReferenceSets.{ReferenceSet}
-use Rattle.warm_rank.specs.Ranking.{dist, latest, leaving_cmp, farther_cmp, older_cmp, IsBefore}
+use Rattle.warm_rank.specs.Ranking.{dist, latest, eviction_cmp, farther_cmp, older_cmp, IsBefore}
 use Rattle.warm_rank.specs.Laws.{IsNotFarther, VictimIsFarthest}
-use Rattle.warm_rank.proofs.LeavingLemmas.{order_kept}
+use Rattle.warm_rank.proofs.LeavingLemmas.{truncation_keeps_order}
 
 -- what does not come after the other in the order of distances is not less far
 not_farther : (x y : Option ℕ) → (farther_cmp x y ≡ Greater → ⊥) → IsNotFarther y x
@@ -28,7 +28,7 @@ never_greater Greater later less is = absurd (cc)
 
 -- a page that leaves before another is not less far
 before_is_farther : (S : ReferenceSet) (p q : PageId) → IsBefore S p q → IsNotFarther (dist S q) (dist S p)
-unfolding leaving_cmp
+unfolding eviction_cmp
 before_is_farther S p q before =
     not_farther (dist S p) (dist S q) (never_greater (farther_cmp (dist S p) (dist S q)) (ordering_then (older_cmp (latest S p) (latest S q)) (page_cmp p q)) before)
 
@@ -45,7 +45,7 @@ same_or_not p q =
 
 pub victim_is_farthest : VictimIsFarthest
 victim_is_farthest h S stands U v victim =
-    let alike = order_kept h S stands in record {
+    let alike = truncation_keeps_order h S stands in record {
       one_of = victim.0;
       farthest = λ p has. elim (same_or_not p v) [
         | inl is ↦ subst (λ x. IsNotFarther (dist S x) (dist S v)) (sym is) (itself (dist S v))

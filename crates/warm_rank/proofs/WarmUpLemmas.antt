@@ -12,7 +12,7 @@ use Rattle.std.proofs.lemmas.List.Sorted.{IsPermutation-trans, length_permutatio
 use Rattle.warm_stamps.specs.declared.PageId.{PageId}
 use Rattle.warm_stamps.specs.declared.Reference.{Reference}
 use Rattle.warm_stamps.specs.Stamps.{page_cmp}
-use Rattle.warm_stamps.specs.Distinct.{insert_distinct, distinct, IsRising}
+use Rattle.warm_stamps.specs.Distinct.{insert_distinct, distinct, IsAscending}
 use Rattle.warm_stamps.proofs.DistinctLemmas.{Has, by_cases, distinct_rises, has_from_distinct}
 use Rattle.warm_stamps.proofs.StampLemmas.{page_order}
 use Rattle.warm_history.specs.ReferenceSets.{ReferenceSet, references}
@@ -23,8 +23,8 @@ use Rattle.warm_rank.specs.declared.packed.PackedKey.{PackedKey}
 use Rattle.warm_rank.specs.Greatest.{AreGreatest}
 use Rattle.warm_rank.specs.Keys.{rank_key, entry_key}
 use Rattle.warm_rank.specs.Packed.{packed_key, packed_keys, packed_page, packed_cmp}
-use Rattle.warm_rank.specs.Ranking.{leaving_cmp, warm}
-use Rattle.warm_rank.proofs.KeyLemmas.{keys_rank, page_of-rank_key}
+use Rattle.warm_rank.specs.Ranking.{eviction_cmp, hottest_pages}
+use Rattle.warm_rank.proofs.KeyLemmas.{keys_order_pages, page_of-rank_key}
 use Rattle.warm_rank.proofs.PackedLemmas.{packed_compares, packed_keeps_page, packed_order}
 use Rattle.warm_rank.proofs.SortLemmas.{ties, ties-here, ties-other, HasNoTies, IsAbove, distinct-falling, above_from_split}
 
@@ -71,13 +71,13 @@ map_inverse f g back [] = refl
 map_inverse f g back (x ∷ xs) = ap (λ y. y ∷ map g (map f xs)) (back x) ∙ ap (λ t. x ∷ t) (map_inverse f g back xs)
 
 -- the pages of the greatest keys are the warm-up list
-pub warm_from_keys : (S : ReferenceSet) (n : ℕ) → map packed_page (take n (distinct (flip_args packed_cmp) (packed_keys (history S)))) ≡ warm S n
+pub warm_from_keys : (S : ReferenceSet) (n : ℕ) → map packed_page (take n (distinct (flip_args packed_cmp) (packed_keys (history S)))) ≡ hottest_pages S n
 warm_from_keys S n =
     let key = packed_of (hist S) in
     ap (λ ks. map packed_page (take n (distinct (flip_args packed_cmp) ks))) (packed_of_pages S)
-    ∙ ap (λ ks. map packed_page (take n ks)) (distinct-map key (flip_args (leaving_cmp S)) (flip_args packed_cmp) (λ p q. packed_compares (rank_key q (hist S q)) (rank_key p (hist S p)) ∙ keys_rank S q p) (pages S))
-    ∙ ap (map packed_page) (take-map key n (distinct (flip_args (leaving_cmp S)) (pages S)))
-    ∙ map_inverse key packed_page (page_of-packed (hist S)) (warm S n)
+    ∙ ap (λ ks. map packed_page (take n ks)) (distinct-map key (flip_args (eviction_cmp S)) (flip_args packed_cmp) (λ p q. packed_compares (rank_key q (hist S q)) (rank_key p (hist S p)) ∙ keys_order_pages S q p) (pages S))
+    ∙ ap (map packed_page) (take-map key n (distinct (flip_args (eviction_cmp S)) (pages S)))
+    ∙ map_inverse key packed_page (page_of-packed (hist S)) (hottest_pages S n)
 
 -- ---- no two keys of a history's entries tie
 
@@ -94,7 +94,7 @@ none_tied f p (q ∷ ps) above =
     in
     ties-other packed_cmp packed_order (packed_of f p) (packed_of f q) (map (packed_of f) ps) apart ∙ none_tied f p ps above.1
 
-no_ties : (f : PageId → Option PageHist) (ps : List PageId) → IsRising page_cmp ps → HasNoTies packed_cmp (map (packed_of f) ps)
+no_ties : (f : PageId → Option PageHist) (ps : List PageId) → IsAscending page_cmp ps → HasNoTies packed_cmp (map (packed_of f) ps)
 no_ties f [] rising x = omega arith
 no_ties f (p ∷ ps) rising x =
     let key : PackedKey = packed_of f p in
@@ -126,19 +126,19 @@ all_of (x ∷ xs) (suc n) short = ap (λ t. x ∷ t) (all_of xs n (omega arith))
 
 -- a part of a history's keys of which no item is below one of the rest
 warm_from_parts : (S : ReferenceSet) (n : ℕ) (rest top sorted : List PackedKey) → IsPermutation (packed_keys (history S)) (rest ++ top) → IsAbove packed_cmp rest top → IsPermutation top sorted → IsSorted packed_cmp sorted
-    → take n (reverse sorted ++ distinct (flip_args packed_cmp) rest) ≡ reverse sorted → map packed_page (reverse sorted) ≡ warm S n
+    → take n (reverse sorted ++ distinct (flip_args packed_cmp) rest) ≡ reverse sorted → map packed_page (reverse sorted) ≡ hottest_pages S n
 warm_from_parts S n rest top sorted parted above moved in_order first =
     ap (map packed_page) (sym first ∙ ap (take n) (sym (distinct-falling packed_cmp packed_order (packed_keys (history S)) rest top sorted (history_has_no_ties S) parted above moved in_order)))
     ∙ warm_from_keys S n
 
 -- the n greatest of a history's keys in any order
-pub warm_from_greatest : (S : ReferenceSet) (n : ℕ) (keys top sorted : List PackedKey) → IsPermutation (packed_keys (history S)) keys → AreGreatest packed_cmp keys n top → IsPermutation top sorted → IsSorted packed_cmp sorted → map packed_page (reverse sorted) ≡ warm S n
+pub warm_from_greatest : (S : ReferenceSet) (n : ℕ) (keys top sorted : List PackedKey) → IsPermutation (packed_keys (history S)) keys → AreGreatest packed_cmp keys n top → IsPermutation top sorted → IsSorted packed_cmp sorted → map packed_page (reverse sorted) ≡ hottest_pages S n
 warm_from_greatest S n keys top sorted given great moved in_order =
     warm_from_parts S n (great.others ++ great.next ∷ []) top sorted (IsPermutation-trans (packed_keys (history S)) keys ((great.others ++ great.next ∷ []) ++ top) given (subst (IsPermutation keys) (sym (append_assoc great.others (great.next ∷ []) top)) great.parts)) (above_from_split packed_cmp packed_order great.others great.next top great.split) moved in_order
     (first_of (reverse sorted) _ n (length-reverse sorted ∙ length_permutation top sorted moved ∙ great.count))
 
 -- all of a history's keys in any order
-pub warm_from_all : (S : ReferenceSet) (n : ℕ) (keys sorted : List PackedKey) → IsPermutation (packed_keys (history S)) keys → length keys ≤ n → IsPermutation keys sorted → IsSorted packed_cmp sorted → map packed_page (reverse sorted) ≡ warm S n
+pub warm_from_all : (S : ReferenceSet) (n : ℕ) (keys sorted : List PackedKey) → IsPermutation (packed_keys (history S)) keys → length keys ≤ n → IsPermutation keys sorted → IsSorted packed_cmp sorted → map packed_page (reverse sorted) ≡ hottest_pages S n
 warm_from_all S n keys sorted given short moved in_order =
     warm_from_parts S n [] keys sorted given (λ r t none has. absurd none) moved in_order
     (all_of (reverse sorted) n (omega (arith, length-reverse sorted, length_permutation keys sorted moved)))

@@ -5,11 +5,11 @@ use Rattle.std.specs.Ordering.{is_eq, on}
 use Rattle.warm_stamps.specs.declared.PageId.{PageId}
 use Rattle.warm_stamps.specs.declared.Reference.{Reference}
 use Rattle.warm_stamps.specs.Stamps.{stamp_cmp, page_cmp}
-use Rattle.warm_stamps.specs.Distinct.{IsRising}
+use Rattle.warm_stamps.specs.Distinct.{IsAscending}
 
 -- references in the order of their stamps, all of which differ
-abbrev pub StampsRise : List Reference → Type 0
-StampsRise rs = IsRising (on (λ r. r.stamp) stamp_cmp) rs
+abbrev pub StampsAscend : List Reference → Type 0
+StampsAscend rs = IsAscending (on (λ r. r.stamp) stamp_cmp) rs
 
 -- the number of references to the page p
 abbrev pub count_to : List Reference → PageId → ℕ

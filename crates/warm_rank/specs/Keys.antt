@@ -22,10 +22,10 @@ abbrev pub entry_key : Entry → RankKey
 entry_key e = rank_key e.page (Some e.hist)
 
 -- the page of a key
-abbrev pub page_of : RankKey → PageId
-page_of (Never p) = p
-page_of (Once last p) = p
-page_of (Twice prev last p) = p
+abbrev pub ranked_page : RankKey → PageId
+ranked_page (Never p) = p
+ranked_page (Once last p) = p
+ranked_page (Twice prev last p) = p
 
 -- keys without a stamp first, by page; then with one stamp, by it and the page; then with two, by
 -- the older, the later and the page

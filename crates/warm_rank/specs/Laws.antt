@@ -4,22 +4,22 @@ use Rattle.std.specs.List.{filter_map}
 use Rattle.std.specs.Option.{option_and_then, option_map}
 use Rattle.warm_stamps.specs.declared.PageId.{PageId}
 use Rattle.warm_history.specs.ReferenceSets.{ReferenceSet, references}
-use Rattle.warm_history.specs.Histories.{HistoryView, hist, refs, StandsFor}
-use Rattle.warm_history.specs.References.{HoldSame}
+use Rattle.warm_history.specs.Histories.{HistoryView, hist, references_of, StandsFor}
+use Rattle.warm_history.specs.References.{SameReferences}
 use Rattle.warm_rank.specs.declared.RankKey.{RankKey}
 use Rattle.warm_rank.specs.Keys.{rank_key, key_cmp}
-use Rattle.warm_rank.specs.Backward.{StampsRise, places_back}
-use Rattle.warm_rank.specs.Ranking.{dist, leaving_cmp, IsBefore, IsVictim, warm}
+use Rattle.warm_rank.specs.Backward.{StampsAscend, places_back}
+use Rattle.warm_rank.specs.Ranking.{dist, eviction_cmp, IsBefore, IsVictim, hottest_pages}
 use Rattle.warm_rank.specs.Slots.{key_at, IsLeast}
 
 -- over references in the order of their stamps, all of which differ, the distance is counted in
 -- places
 abbrev pub DistanceIsPlacesBack : Type 0
-DistanceIsPlacesBack = (S : ReferenceSet) (p : PageId) → StampsRise (references S) → dist S p ≡ places_back (references S) p
+DistanceIsPlacesBack = (S : ReferenceSet) (p : PageId) → StampsAscend (references S) → dist S p ≡ places_back (references S) p
 
 -- of two pages, the one with the lesser key leaves first: keys compare as their pages do
 abbrev pub KeysRank : Type 0
-KeysRank = (S : ReferenceSet) (p q : PageId) → key_cmp (rank_key p (hist S p)) (rank_key q (hist S q)) ≡ leaving_cmp S p q
+KeysRank = (S : ReferenceSet) (p q : PageId) → key_cmp (rank_key p (hist S p)) (rank_key q (hist S q)) ≡ eviction_cmp S p q
 
 -- of two different pages exactly one leaves before the other: the order is total, transitive and
 -- irreflexive
@@ -33,16 +33,16 @@ LeavingIsOrder = (S : ReferenceSet) → OrdersPages S
 
 -- over both sets any two pages leave in the same order, and the warm-up lists are the same
 pub record RankAlike (S T : ReferenceSet) : Type 0 where
-  pub leave_alike : (p q : PageId) → leaving_cmp S p q ≡ leaving_cmp T p q
-  pub warm_alike : (n : ℕ) → warm S n ≡ warm T n
+  pub leave_alike : (p q : PageId) → eviction_cmp S p q ≡ eviction_cmp T p q
+  pub warm_alike : (n : ℕ) → hottest_pages S n ≡ hottest_pages T n
 
 -- the references that a history holds rank pages as those for which it stands do
 abbrev pub OrderKept : Type 0
-OrderKept = (h : HistoryView) (S : ReferenceSet) → StandsFor h S → RankAlike (refs h) S
+OrderKept = (h : HistoryView) (S : ReferenceSet) → StandsFor h S → RankAlike (references_of h) S
 
 -- lists of the same references rank pages alike
 abbrev pub SameReferencesRankAlike : Type 0
-SameReferencesRankAlike = (S T : ReferenceSet) → HoldSame S T → RankAlike S T
+SameReferencesRankAlike = (S T : ReferenceSet) → SameReferences S T → RankAlike S T
 
 -- the keys over S of the pages in slots, each of which may have a page
 abbrev pub keys_over : ReferenceSet → List (Option PageId) → List (Option RankKey)
@@ -53,12 +53,12 @@ abbrev pub pages_in : List (Option PageId) → List PageId
 pages_in slots = filter_map (λ page. page) slots
 
 -- the page of a slot, if there is a slot and it has a page
-abbrev pub page_at : List (Option PageId) → Option ℕ → Option PageId
-page_at slots slot = option_and_then (key_at slots) slot
+abbrev pub page_of_slot : List (Option PageId) → Option ℕ → Option PageId
+page_of_slot slots slot = option_and_then (key_at slots) slot
 
 -- the page in the slot of the least key is the victim among the pages in the slots
 abbrev pub LeastKeyIsVictim : Type 0
-LeastKeyIsVictim = (S : ReferenceSet) (slots : List (Option PageId)) (least : Option ℕ) → IsLeast key_cmp (keys_over S slots) least → IsVictim S (pages_in slots) (page_at slots least)
+LeastKeyIsVictim = (S : ReferenceSet) (slots : List (Option PageId)) (least : Option ℕ) → IsLeast key_cmp (keys_over S slots) least → IsVictim S (pages_in slots) (page_of_slot slots least)
 
 -- the first distance is at most the second; none is infinite
 abbrev pub IsNotFarther : Option ℕ → Option ℕ → Type 0
@@ -73,4 +73,4 @@ pub record IsFarthest (S : ReferenceSet) (U : List PageId) (v : PageId) : Type 0
 
 -- the victim over what a history holds is one of the pages farthest back over all references for which it stands
 abbrev pub VictimIsFarthest : Type 0
-VictimIsFarthest = (h : HistoryView) (S : ReferenceSet) → StandsFor h S → (U : List PageId) (v : PageId) → IsVictim (refs h) U (Some v) → IsFarthest S U v
+VictimIsFarthest = (h : HistoryView) (S : ReferenceSet) → StandsFor h S → (U : List PageId) (v : PageId) → IsVictim (references_of h) U (Some v) → IsFarthest S U v

@@ -44,17 +44,17 @@ abbrev pub older_cmp : Option Stamp → Option Stamp → Ordering
 older_cmp = option_cmp stamp_cmp
 
 -- the order in which pages leave: the greatest distance first, of equal ones the oldest latest stamp, then the least page
-unfoldable pub leaving_cmp : ReferenceSet → PageId → PageId → Ordering
-leaving_cmp S = then_cmp (on (dist S) farther_cmp) (then_cmp (on (latest S) older_cmp) page_cmp)
+unfoldable pub eviction_cmp : ReferenceSet → PageId → PageId → Ordering
+eviction_cmp S = then_cmp (on (dist S) farther_cmp) (then_cmp (on (latest S) older_cmp) page_cmp)
 
 -- the page p leaves before the page q
 abbrev pub IsBefore : ReferenceSet → PageId → PageId → Type 0
-IsBefore S p q = leaving_cmp S p q ≡ Less
+IsBefore S p q = eviction_cmp S p q ≡ Less
 
 -- the page of U that leaves before every other page of U; none where U is empty
 abbrev pub IsVictim : ReferenceSet → List PageId → Option PageId → Type 0
 IsVictim S U victim = MatchOption victim (U ≡ []) (λ p. Contains U p × ((q : PageId) → Contains U q → q ≢ p → IsBefore S p q))
 
 -- the n pages named in S that leave last, the last of all first
-abbrev pub warm : ReferenceSet → ℕ → List PageId
-warm S n = take n (distinct (flip_args (leaving_cmp S)) (pages S))
+abbrev pub hottest_pages : ReferenceSet → ℕ → List PageId
+hottest_pages S n = take n (distinct (flip_args (eviction_cmp S)) (pages S))

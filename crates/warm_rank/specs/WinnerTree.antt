@@ -3,7 +3,7 @@
 use Rattle.std.specs.Prelude.{◌≡◌, ◌⊎◌, ℕ, suc, zero, ◌+◌, ◌*◌, ◌/◌, ◌<◌, ◌≤◌, List, length, Option, set, slice_index, cond}
 use Rattle.std.specs.Ordering.{is_gt}
 use Rattle.std.specs.declared.cmp.Ordering.{Ordering}
-use Rattle.warm_rank.specs.declared.TheConstants.{MAX_SLOTS}
+use Rattle.warm_rank.specs.declared.TheConstants.{MAX_FRAMES}
 use Rattle.warm_rank.specs.Slots.{slot_cmp}
 
 -- of the slots a and b the one that comes first
@@ -17,7 +17,7 @@ IsPlayed cmp keys nodes j = slice_index nodes j ≡ winner cmp keys (slice_index
 -- two nodes per slot, with the slots last
 pub record HasLeaves (n : ℕ) (nodes : List ℕ) : Type 0 where
   pub some : 0 < n
-  pub few : n ≤ MAX_SLOTS
+  pub few : n ≤ MAX_FRAMES
   pub size : length nodes ≡ 2 * n
   pub leaves : (slot : ℕ) → slot < n → slice_index nodes (n + slot) ≡ slot
   pub in_range : (j : ℕ) → j < 2 * n → slice_index nodes j < n

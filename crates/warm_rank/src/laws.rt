@@ -8,7 +8,7 @@ ghost use Rattle.warm_rank.specs.Laws.{DistanceIsPlacesBack, KeysRank, LeavingIs
 use crate::RankKey;
 
 /// The order of `RankKey` in Rust is the order of keys in the other laws.
-pub fn keys_compare()
+pub fn ord_is_key_cmp()
     ensures { (j k : RankKey) → ⟦<RankKey as Ord>⟧.cmp j k ≡ key_cmp j k }
 {}
 
@@ -19,12 +19,12 @@ pub fn distance_is_places_back()
 {}
 
 /// Keys compare as their pages leave: of two pages, the one with the lesser key leaves first.
-pub fn keys_rank()
+pub fn keys_order_pages()
     ensures { KeysRank }
 {}
 
 /// The order in which pages leave is total on pages that differ.
-pub fn leaving_is_order()
+pub fn eviction_is_order()
     ensures { LeavingIsOrder }
 {}
 
@@ -34,7 +34,7 @@ pub fn least_key_is_victim()
 {}
 
 /// The two stamps of each page that a history keeps rank pages, and list them for a warm-up, as all references do.
-pub fn order_kept()
+pub fn truncation_keeps_order()
     ensures { OrderKept }
 {}
 

@@ -6,7 +6,7 @@
 //! definitions count that distance over a list of references; the code compares a [`RankKey`] made
 //! of the two stamps that a history keeps, and the laws show that the two orders are the same.
 //!
-//! - [`key_of`] gives the key of a page, [`leaving_order`] compares two pages.
+//! - [`key_of`] gives the key of a page, [`eviction_order`] compares two pages.
 //! - [`Contest`] keeps a key for each slot of a pool and finds the slot of the least key.
 //! - [`warm_list`] lists the pages that leave last, the hottest first.
 #![tactic(auto)]
@@ -14,8 +14,8 @@
 ghost use Rattle.std.specs.Prelude.{◌≡◌, Some};
 ghost use Rattle.warm_history.specs.ReferenceSets.{ReferenceSet};
 ghost use Rattle.warm_history.specs.Histories.{StandsFor};
-ghost use Rattle.warm_rank.specs.Keys.{rank_key, page_of};
-ghost use Rattle.warm_rank.specs.Ranking.{leaving_cmp};
+ghost use Rattle.warm_rank.specs.Keys.{rank_key, ranked_page};
+ghost use Rattle.warm_rank.specs.Ranking.{eviction_cmp};
 
 pub mod laws;
 mod packed;
@@ -31,7 +31,7 @@ use warm_stamps::{PageId, Stamp};
 pub use warm_up::warm_list;
 
 /// The maximum number of slots of a contest, and so of frames of a pool.
-pub const MAX_SLOTS: usize = 65_536;
+pub const MAX_FRAMES: usize = 65_536;
 
 /// The rank of a page, by its two latest stamps. Of two pages, the one with the lesser key leaves first.
 ///
@@ -60,7 +60,7 @@ pub enum RankKey {
 impl RankKey {
     /// The page whose rank this is.
     pub fn page(self) -> PageId
-        ensures { result ≡ page_of self }
+        ensures { result ≡ ranked_page self }
     {
         match self {
             RankKey::Never { page } => page,
@@ -99,8 +99,8 @@ fn key_of_referenced(page: PageId, hist: PageHist) -> RankKey
 
 /// Which of two pages leaves first: `Less` where `page` does, `Greater` where `other` does, `Equal`
 /// where they are the same page. Allocation-free.
-pub fn leaving_order(history: &History, page: PageId, other: PageId) -> Ordering
-    ensures { (S : ReferenceSet) → StandsFor history.now S → result ≡ leaving_cmp S page other }
+pub fn eviction_order(history: &History, page: PageId, other: PageId) -> Ordering
+    ensures { (S : ReferenceSet) → StandsFor history.now S → result ≡ eviction_cmp S page other }
 {
     let key = key_of(page, history.get(page));
     let other_key = key_of(other, history.get(other));

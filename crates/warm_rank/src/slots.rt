@@ -5,7 +5,7 @@ ghost use Rattle.warm_rank.specs.Slots.{IsLeast, keys_while};
 
 use crate::slot_keys::SlotKeys;
 use crate::winners::{number_leaves, play_above, play_all};
-use crate::{MAX_SLOTS, RankKey};
+use crate::{MAX_FRAMES, RankKey};
 use std::alloc::{AllocError, Global};
 use std::marker::Model;
 use warm_stamps::PageId;
@@ -36,13 +36,13 @@ impl Model for Contest {
 }
 
 impl Contest {
-    /// A contest of 1 to [`MAX_SLOTS`] slots, none of which has a key.
+    /// A contest of 1 to [`MAX_FRAMES`] slots, none of which has a key.
     ///
     /// # Errors
     /// `AllocError` where the allocation of the slots fails.
     pub fn new(alloc: Global, slots: usize) -> Result<Contest, AllocError>
         requires some { 0 < slots }
-        requires few { slots ≤ MAX_SLOTS }
+        requires few { slots ≤ MAX_FRAMES }
         ensures { IfOk result (λ contest. contest ≡ replicate slots None) }
     {
         let keys = SlotKeys::new(alloc, slots, unused_key())?;

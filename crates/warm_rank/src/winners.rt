@@ -5,14 +5,14 @@
 ghost use Rattle.std.specs.Prelude.{◌≡◌, ◌≢◌, ◌*◌, ◌<◌, ◌≤◌, length, replicate, IsTrue};
 ghost use Rattle.warm_rank.specs.WinnerTree.{winner, HasLeaves, IsTree, HasChanged};
 
-use crate::MAX_SLOTS;
+use crate::MAX_FRAMES;
 use crate::slot_keys::SlotKeys;
 use std::cmp::Ordering;
 
 // Stores the slots in the leaves.
 pub(crate) fn number_leaves(slots: usize, nodes: &mut Vec<u32>)
     requires some { 0 < slots }
-    requires few { slots ≤ MAX_SLOTS }
+    requires few { slots ≤ MAX_FRAMES }
     requires zeros { nodes.old.items ≡ replicate (2 * slots) 0 }
     ensures { HasLeaves slots nodes.new.items }
 {

@@ -5,9 +5,9 @@ use Rattle.std.specs.Prelude.{codes}
 use Rattle.warm_stamps.specs.declared.PageId.{PageId}
 use Rattle.warm_stamps.specs.declared.Stamp.{Stamp}
 use Rattle.warm_stamps.specs.declared.Reference.{Reference}
-use Rattle.warm_history.specs.Histories.{holding, history}
+use Rattle.warm_history.specs.Histories.{history_of_entries, history}
 use Rattle.warm_world.specs.Lists.{IsNumber}
-use Rattle.warm_history.specs.ReferenceSets.{these}
+use Rattle.warm_history.specs.ReferenceSets.{set_of_list}
 use Rattle.warm_pool.specs.declared.slot.Slot.{Slot}
 use Rattle.warm_pool.specs.declared.fault.PoolFault.TheVariants.{NoDevice, NoPage, AllFixed, ReadFault, WriteBack, FixesFull, OutOfPage, Fixed, Fault}
 use Rattle.warm_gossip.specs.declared.fault.NodeFault.TheVariants.{Memory, Pool, StaleSlot}
@@ -19,7 +19,7 @@ use Rattle.warm_world.specs.declared.event.Answer.TheVariants.{Done, Shown, Fram
 use Rattle.warm_world.specs.declared.event.WorldFault.TheVariants.{Node, NoSuchReplica, NoSuchWorker, NoSuchFrame}
 use Rattle.warm_schedule.specs.declared.parse.Line.TheVariants.{Nothing, Act}
 use Rattle.warm_schedule.specs.Text.{lines, words}
-use Rattle.warm_schedule.specs.Fields.{number_up_to, page_of, slot_of, bytes_of, number_field, page_field, after_field, slot_field, bytes_field}
+use Rattle.warm_schedule.specs.Fields.{number_up_to, page_of_word, slot_of_word, bytes_of_hex, number_field, page_field, after_field, slot_field, bytes_field}
 use Rattle.warm_schedule.specs.Grammar.{line_of, meaning, commands, refer_of, flush_of, send_of, offer_of, deliver_of, pin_of, unpin_of, put_of, get_of, victim_of, warm_of, warmstep_of, restart_of, horizon_of, show_of}
 use Rattle.warm_schedule.specs.Workers.{worker_line_in}
 use Rattle.warm_schedule.specs.Answers.{answer_text}
@@ -36,7 +36,7 @@ slot s g = record { index = s; generation = g }
 -- ---- lines
 
 ref_line : line_of (codes "ref 1 2 0:1 10") ≡ Some (Act (Refer 1 2 (page 0 1) 10))
-unfolding line_of commands words number_up_to page_of number_field page_field refer_of
+unfolding line_of commands words number_up_to page_of_word number_field page_field refer_of
 ref_line = refl
 
 spaces_and_zeros : line_of (codes "  flush  001   2 ") ≡ Some (Act (Flush 1 2))
@@ -48,7 +48,7 @@ unfolding line_of commands words number_up_to number_field after_field send_of
 send_line = refl
 
 send_after : line_of (codes "send 1 0 0:63936") ≡ Some (Act (Send 1 0 (Some (page 0 63936))))
-unfolding line_of commands words number_up_to page_of number_field after_field send_of
+unfolding line_of commands words number_up_to page_of_word number_field after_field send_of
 send_after = refl
 
 no_such_bucket : line_of (codes "send 1 64") ≡ None
@@ -98,38 +98,38 @@ unfolding line_of commands words number_up_to number_field offer_of
 offer_line = refl
 
 pin_line : line_of (codes "pin 1 0:255") ≡ Some (Act (Pin 1 (page 0 255)))
-unfolding line_of commands words number_up_to page_of number_field page_field pin_of
+unfolding line_of commands words number_up_to page_of_word number_field page_field pin_of
 pin_line = refl
 
 greatest_page : line_of (codes "pin 1 65535:18446744073709551615") ≡ Some (Act (Pin 1 (page 65535 18446744073709551615)))
-unfolding line_of commands words number_up_to page_of number_field page_field pin_of
+unfolding line_of commands words number_up_to page_of_word number_field page_field pin_of
 greatest_page = refl
 
 -- a page number and a device out of range
 no_such_pages : (line_of (codes "pin 1 0:18446744073709551616") ≡ None) × (line_of (codes "pin 1 65536:0") ≡ None)
-unfolding line_of commands words number_up_to page_of number_field page_field pin_of
+unfolding line_of commands words number_up_to page_of_word number_field page_field pin_of
 no_such_pages = (refl, refl)
 
 unpin_line : line_of (codes "unpin 1 4294967295.18446744073709551615") ≡ Some (Act (Unpin 1 (slot 4294967295 18446744073709551615)))
-unfolding line_of commands words number_up_to slot_of number_field slot_field unpin_of
+unfolding line_of commands words number_up_to slot_of_word number_field slot_field unpin_of
 unpin_line = refl
 
 -- no dot, two dots, and a frame out of range
 no_slots : (line_of (codes "unpin 1 0") ≡ None) × (line_of (codes "unpin 1 0.1.2") ≡ None) × (line_of (codes "unpin 1 4294967296.1") ≡ None)
-unfolding line_of commands words number_up_to slot_of number_field slot_field unpin_of
+unfolding line_of commands words number_up_to slot_of_word number_field slot_field unpin_of
 no_slots = (refl, refl, refl)
 
 put_line : line_of (codes "put 1 0.1 15 CAfe09") ≡ Some (Act (Put 1 (slot 0 1) 15 (202 ∷ 254 ∷ 9 ∷ [])))
-unfolding line_of commands words number_up_to slot_of bytes_of number_field slot_field bytes_field put_of
+unfolding line_of commands words number_up_to slot_of_word bytes_of_hex number_field slot_field bytes_field put_of
 put_line = refl
 
 -- an odd number of digits, none, another letter, and a word too many
 no_bytes : (line_of (codes "put 1 0.1 0 CAF") ≡ None) × (line_of (codes "put 1 0.1 0 ") ≡ None) × (line_of (codes "put 1 0.1 0 CG") ≡ None) × (line_of (codes "put 1 0.1 0 CA FE") ≡ None)
-unfolding line_of commands words number_up_to slot_of bytes_of number_field slot_field bytes_field put_of
+unfolding line_of commands words number_up_to slot_of_word bytes_of_hex number_field slot_field bytes_field put_of
 no_bytes = (refl, refl, refl, refl)
 
 get_line : line_of (codes "get 1 0.1 16 4294967295") ≡ Some (Act (Get 1 (slot 0 1) 16 4294967295))
-unfolding line_of commands words number_up_to slot_of number_field slot_field get_of
+unfolding line_of commands words number_up_to slot_of_word number_field slot_field get_of
 get_line = refl
 
 victim_line : line_of (codes "victim 3") ≡ Some (Act (Victim 3))
@@ -166,11 +166,11 @@ two_lines = refl
 
 -- ---- answers
 
-shown : answer_text (Shown (holding (record { page = page 0 1; hist = Twice (record { last = stamp 30 1; prev = stamp 20 1 }) } ∷ record { page = page 9 1; hist = Once (stamp 7 2) } ∷ []))) ≡ codes "0:1 last 30@1 prev 20@1\n9:1 last 7@2\nend 2\n"
+shown : answer_text (Shown (history_of_entries (record { page = page 0 1; hist = Twice (record { last = stamp 30 1; prev = stamp 20 1 }) } ∷ record { page = page 9 1; hist = Once (stamp 7 2) } ∷ []))) ≡ codes "0:1 last 30@1 prev 20@1\n9:1 last 7@2\nend 2\n"
 unfolding digits
 shown = refl
 
-shown_nothing : answer_text (Shown (holding [])) ≡ codes "end 0\n"
+shown_nothing : answer_text (Shown (history_of_entries [])) ≡ codes "end 0\n"
 unfolding digits
 shown_nothing = refl
 
@@ -254,11 +254,11 @@ seen = record { page = page 0 1; stamp = stamp 10 1 }
 
 -- a replica of two workers, with what reached it and what waits for its first worker
 abbrev told : List Reference → List Reference → ModelState
-told reach waiting = record { capacity = 64; replicas = record { reach = these reach; pending = waiting ∷ [] ∷ []; pool = no_pool } ∷ []; records = [] }
+told reach waiting = record { capacity = 64; replicas = record { reach = set_of_list reach; pending = waiting ∷ [] ∷ []; pool = no_pool } ∷ []; records = [] }
 
 -- one replica with two workers: refusals, a comment and a bad line
 refusals : Printed (told [] []) (codes "ref 2 1 0:1 5\nflush 1 3\n# x\nbad\n") (codes "refused 14 NoSuchReplica\nrefused 15 NoSuchWorker\nbad line 4\n") (told [] [])
-unfolding meaning line_of commands words number_up_to page_of number_field page_field refer_of flush_of digits
+unfolding meaning line_of commands words number_up_to page_of_word number_field page_field refer_of flush_of digits
 refusals =
     let start : ModelState = told [] [] in (
       codes "refused 14 NoSuchReplica\n",
@@ -292,7 +292,7 @@ refusals =
 
 -- a reference waits, reaches the history, and is shown
 reference : Printed (told [] []) (codes "ref 1 1 0:1 10\nshow 1\nflush 1 1\nshow 1\n") (codes "ok\nend 0\nok\n0:1 last 10@1\nend 1\n") (told (seen ∷ []) [])
-unfolding meaning line_of commands words number_up_to page_of number_field page_field refer_of flush_of show_of history digits
+unfolding meaning line_of commands words number_up_to page_of_word number_field page_field refer_of flush_of show_of history digits
 reference = (
   codes "ok\n",
   codes "end 0\nok\n0:1 last 10@1\nend 1\n",
@@ -302,7 +302,7 @@ reference = (
     codes "end 0\n",
     codes "ok\n0:1 last 10@1\nend 1\n",
     told [] (seen ∷ []),
-    inl (Shown (holding []), (record { replica_there = first _ (omega arith); worker_there = tt; message_there = tt }, (refl, refl)), refl),
+    inl (Shown (history_of_entries []), (record { replica_there = first _ (omega arith); worker_there = tt; message_there = tt }, (refl, refl)), refl),
     (
       codes "ok\n",
       codes "0:1 last 10@1\nend 1\n",
@@ -312,7 +312,7 @@ reference = (
         codes "0:1 last 10@1\nend 1\n",
         [],
         told (seen ∷ []) [],
-        inl (Shown (holding (record { page = page 0 1; hist = Once (stamp 10 1) } ∷ [])), (record { replica_there = first _ (omega arith); worker_there = tt; message_there = tt }, (refl, refl)), refl),
+        inl (Shown (history_of_entries (record { page = page 0 1; hist = Once (stamp 10 1) } ∷ [])), (record { replica_there = first _ (omega arith); worker_there = tt; message_there = tt }, (refl, refl)), refl),
         ([], [], told (seen ∷ []) [], (refl, refl), (refl, refl), refl),
         refl,
       ),

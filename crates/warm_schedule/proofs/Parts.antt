@@ -2,7 +2,7 @@
 use Rattle.std.proofs.Common.{◌≡◌, ◌⊎◌, inl, inr, ℕ, ◌+◌, ◌*◌, List, [], ◌∷◌, Option, Some, None, refl, sym, ap, ◌∙◌}
 use Rattle.std.proofs.lemmas.Bool.{cases_eq, eq-eqb, ne_eqb}
 use Rattle.warm_schedule.specs.Text.{split}
-use Rattle.warm_schedule.specs.Fields.{◌>>=◌, digit_of, digits_after, number_up_to, page_of, page_of_parts, slot_of, slot_of_parts, up_to}
+use Rattle.warm_schedule.specs.Fields.{◌>>=◌, digit_of, digits_after, number_up_to, page_of_word, page_of_parts, slot_of_word, slot_of_parts, up_to}
 use Rattle.warm_schedule.proofs.Numbers.{stop}
 use Rattle.warm_schedule.proofs.Split.{first_of_split}
 
@@ -41,16 +41,16 @@ none_of_two None second make none = refl
 none_of_two (Some d) second make none = sym (ap (λ (o : Option ℕ). o >>= λ n. make d n) none)
 
 -- a page is a device and a number, whatever follows its first colon
-pub page_parts : (word device number : List ℕ) → split 58 word ≡ device ∷ split 58 number → page_of word ≡ page_of_parts (device ∷ number ∷ [])
-unfolding page_of
+pub page_parts : (word device number : List ℕ) → split 58 word ≡ device ∷ split 58 number → page_of_word word ≡ page_of_parts (device ∷ number ∷ [])
+unfolding page_of_word
 page_parts word device number e = elim (whole_or_parted 58 number refl) [
   | inl whole ↦ rw (e, whole) refl
   | inr p ↦ rw (e, p.pieces) (none_of_two (number_up_to 65535 device) (number_up_to 18446744073709551615 number) _ (none_up_to _ number p.no_number))
 ]
 
 -- a slot is a frame and a generation, whatever follows its first dot
-pub slot_parts : (word frame generation : List ℕ) → split 46 word ≡ frame ∷ split 46 generation → slot_of word ≡ slot_of_parts (frame ∷ generation ∷ [])
-unfolding slot_of
+pub slot_parts : (word frame generation : List ℕ) → split 46 word ≡ frame ∷ split 46 generation → slot_of_word word ≡ slot_of_parts (frame ∷ generation ∷ [])
+unfolding slot_of_word
 slot_parts word frame generation e = elim (whole_or_parted 46 generation refl) [
   | inl whole ↦ rw (e, whole) refl
   | inr p ↦ rw (e, p.pieces) (none_of_two (number_up_to 4294967295 frame) (number_up_to 18446744073709551615 generation) _ (none_up_to _ generation p.no_number))

@@ -5,7 +5,7 @@ use Rattle.std.specs.Prelude.{codes}
 use Rattle.warm_stamps.specs.declared.PageId.{PageId}
 use Rattle.warm_stamps.specs.declared.Stamp.{Stamp}
 use Rattle.warm_stamps.specs.declared.Reference.{Reference}
-use Rattle.warm_history.specs.Histories.{history, holding_since}
+use Rattle.warm_history.specs.Histories.{history, history_of_entries_at}
 use Rattle.warm_history.specs.ReferenceSets.{ReferenceSet}
 use Rattle.warm_history.specs.declared.hist.Entry.{Entry}
 use Rattle.warm_history.specs.declared.hist.PageHist.{PageHist}
@@ -20,9 +20,9 @@ use Rattle.warm_world.specs.States.{ModelState, ReplicaState, MessageRecord, Ref
 use Rattle.warm_world.specs.declared.event.Answer.TheVariants.{Done, Shown, FrameNo, Took, Kept, Refused}
 use Rattle.warm_world.specs.declared.event.WorldFault.TheVariants.{Node}
 use Rattle.warm_schedule.specs.Text.{words}
-use Rattle.warm_schedule.specs.Fields.{number_up_to, page_of, number_field, page_field, after_field}
+use Rattle.warm_schedule.specs.Fields.{number_up_to, page_of_word, number_field, page_field, after_field}
 use Rattle.warm_schedule.specs.Grammar.{line_of, meaning, commands, refer_of, flush_of, send_of, deliver_of, pin_of, restart_of, horizon_of, show_of}
-use Rattle.warm_schedule.specs.Printed.{Answered, Printed, PrintedFrom}
+use Rattle.warm_schedule.specs.Printed.{LineAnswered, Printed, PrintedFrom}
 
 -- ---- a table of lines, each with what it prints
 
@@ -38,7 +38,7 @@ answers (row ∷ rest) = row.1 ++ answers rest
 abbrev Rows : ModelState → ℕ → List (List ℕ × List ℕ) → ModelState → Type 0
 Rows state number [] last = last ≡ state
 Rows state number (row ∷ rest) last =
-    (next : ModelState) × Answered state number (meaning row.0) row.1 next × Rows next (number + 1) rest last
+    (next : ModelState) × LineAnswered state number (meaning row.0) row.1 next × Rows next (number + 1) rest last
 
 printed : (state last : ModelState) (number : ℕ) (table : List (List ℕ × List ℕ)) → Rows state number table last → PrintedFrom state number (said table) (answers table) last
 printed state last number [] rows = (refl, rows)
@@ -60,7 +60,7 @@ entry n hist = record { page = page n; hist = hist }
 
 -- the references given to a replica, and its horizon
 abbrev kept : ℕ → List Reference → ReferenceSet
-kept horizon given = record { horizon = horizon; told = given }
+kept horizon given = record { horizon = horizon; given = given }
 
 -- a replica of one worker, in whose buffer these wait
 abbrev one : PoolView → ReferenceSet → List Reference → ReplicaState
@@ -106,7 +106,7 @@ forgotten_table =
     ∷ []
 
 forgotten : Printed (alone (kept 0 []) []) (codes "ref 1 1 0:1 10\nref 1 1 0:1 20\nref 1 1 0:2 5\nflush 1 1\nhorizon 1 15\nshow 1\nref 1 1 0:1 12\nflush 1 1\nshow 1\nhorizon 1 3\nrestart 1\nhorizon 1 0") (codes "ok\nok\nok\nok\nhorizon 15\n0:1 last 20@1\nend 1\nok\nok\n0:1 last 20@1\nend 1\nhorizon 15\nok\nhorizon 0\n") (alone (kept 0 []) [])
-unfolding meaning line_of commands words number_up_to page_of number_field page_field refer_of flush_of restart_of horizon_of show_of history digits
+unfolding meaning line_of commands words number_up_to page_of_word number_field page_field refer_of flush_of restart_of horizon_of show_of history digits
 forgotten = printed (alone (kept 0 []) []) (alone (kept 0 []) []) 1 forgotten_table (
   alone (kept 0 []) (at 1 10 1 ∷ []),
   inl (Done, (record { replica_there = number 1 _ (omega arith) (omega arith); worker_there = number 1 _ (omega arith) (omega arith); message_there = tt }, refl), refl),
@@ -124,7 +124,7 @@ forgotten = printed (alone (kept 0 []) []) (alone (kept 0 []) []) 1 forgotten_ta
           inl (Kept 15, (record { replica_there = number 1 _ (omega arith) (omega arith); worker_there = tt; message_there = tt }, (refl, refl)), refl),
           (
             alone (kept 15 (at 1 10 1 ∷ at 1 20 1 ∷ at 2 5 1 ∷ [])) [],
-            inl (Shown (holding_since 15 (entry 1 (Once (stamp 20 1)) ∷ [])), (record { replica_there = number 1 _ (omega arith) (omega arith); worker_there = tt; message_there = tt }, (refl, refl)), refl),
+            inl (Shown (history_of_entries_at 15 (entry 1 (Once (stamp 20 1)) ∷ [])), (record { replica_there = number 1 _ (omega arith) (omega arith); worker_there = tt; message_there = tt }, (refl, refl)), refl),
             (
               alone (kept 15 (at 1 10 1 ∷ at 1 20 1 ∷ at 2 5 1 ∷ [])) (at 1 12 1 ∷ []),
               inl (Done, (record { replica_there = number 1 _ (omega arith) (omega arith); worker_there = number 1 _ (omega arith) (omega arith); message_there = tt }, refl), refl),
@@ -133,7 +133,7 @@ forgotten = printed (alone (kept 0 []) []) (alone (kept 0 []) []) 1 forgotten_ta
                 inl (Done, (record { replica_there = number 1 _ (omega arith) (omega arith); worker_there = number 1 _ (omega arith) (omega arith); message_there = tt }, refl), refl),
                 (
                   alone (kept 15 (at 1 10 1 ∷ at 1 20 1 ∷ at 2 5 1 ∷ at 1 12 1 ∷ [])) [],
-                  inl (Shown (holding_since 15 (entry 1 (Once (stamp 20 1)) ∷ [])), (record { replica_there = number 1 _ (omega arith) (omega arith); worker_there = tt; message_there = tt }, (refl, refl)), refl),
+                  inl (Shown (history_of_entries_at 15 (entry 1 (Once (stamp 20 1)) ∷ [])), (record { replica_there = number 1 _ (omega arith) (omega arith); worker_there = tt; message_there = tt }, (refl, refl)), refl),
                   (
                     alone (kept 15 (at 1 10 1 ∷ at 1 20 1 ∷ at 2 5 1 ∷ at 1 12 1 ∷ [])) [],
                     inl (Kept 15, (record { replica_there = number 1 _ (omega arith) (omega arith); worker_there = tt; message_there = tt }, (refl, refl)), refl),
@@ -184,7 +184,7 @@ brought = printed (both (has 0 (at 1 20 1 ∷ [])) (has 0 (at 1 8 2 ∷ at 1 9 2
       inl (Took 0 0, (record { replica_there = number 2 _ (omega arith) (omega arith); worker_there = tt; message_there = number 1 _ (omega arith) (omega arith) }, record { added = []; answers = refl; many = refl; from = refl; becomes = refl }), refl),
       (
         both (has 9 (at 1 20 1 ∷ [])) (has 9 (at 1 8 2 ∷ at 1 9 2 ∷ at 1 20 1 ∷ [])) (newer_frame ∷ []),
-        inl (Shown (holding_since 9 (entry 1 (Twice (record { last = stamp 20 1; prev = stamp 9 2 })) ∷ [])), (record { replica_there = number 2 _ (omega arith) (omega arith); worker_there = tt; message_there = tt }, (refl, refl)), refl),
+        inl (Shown (history_of_entries_at 9 (entry 1 (Twice (record { last = stamp 20 1; prev = stamp 9 2 })) ∷ [])), (record { replica_there = number 2 _ (omega arith) (omega arith); worker_there = tt; message_there = tt }, (refl, refl)), refl),
         (
           both (has 9 (at 1 20 1 ∷ [])) (has 9 (at 1 8 2 ∷ at 1 9 2 ∷ at 1 20 1 ∷ [])) (newer_frame ∷ []),
           inl (Kept 9, (record { replica_there = number 2 _ (omega arith) (omega arith); worker_there = tt; message_there = tt }, (refl, refl)), refl),
@@ -211,7 +211,7 @@ sent_then_forgotten_table =
     ∷ []
 
 sent_then_forgotten : Printed (both (has 0 []) (has 0 []) []) (codes "ref 1 1 0:1 10\nflush 1 1\nsend 1 1\ndeliver 2 1\nhorizon 2 50\nshow 2") (codes "ok\nok\nframe 1\ntook 0\nhorizon 50\nend 0\n") (both (has 0 (at 1 10 1 ∷ [])) (has 50 (at 1 10 1 ∷ [])) (entry_frame ∷ []))
-unfolding meaning line_of commands words number_up_to page_of number_field page_field after_field refer_of flush_of send_of deliver_of horizon_of show_of history digits
+unfolding meaning line_of commands words number_up_to page_of_word number_field page_field after_field refer_of flush_of send_of deliver_of horizon_of show_of history digits
 sent_then_forgotten = printed (both (has 0 []) (has 0 []) []) (both (has 0 (at 1 10 1 ∷ [])) (has 50 (at 1 10 1 ∷ [])) (entry_frame ∷ [])) 1 sent_then_forgotten_table (
   both (one no_pool (kept 0 []) (at 1 10 1 ∷ [])) (has 0 []) [],
   inl (Done, (record { replica_there = number 1 _ (omega arith) (omega arith); worker_there = number 1 _ (omega arith) (omega arith); message_there = tt }, refl), refl),
@@ -229,7 +229,7 @@ sent_then_forgotten = printed (both (has 0 []) (has 0 []) []) (both (has 0 (at 1
           inl (Kept 50, (record { replica_there = number 2 _ (omega arith) (omega arith); worker_there = tt; message_there = tt }, (refl, refl)), refl),
           (
             both (has 0 (at 1 10 1 ∷ [])) (has 50 (at 1 10 1 ∷ [])) (entry_frame ∷ []),
-            inl (Shown (holding_since 50 []), (record { replica_there = number 2 _ (omega arith) (omega arith); worker_there = tt; message_there = tt }, (refl, refl)), refl),
+            inl (Shown (history_of_entries_at 50 []), (record { replica_there = number 2 _ (omega arith) (omega arith); worker_there = tt; message_there = tt }, (refl, refl)), refl),
             refl,
           ),
         ),
@@ -253,7 +253,7 @@ requested_table =
     ∷ (codes "horizon 1 0", codes "horizon 50\n")
     ∷ []
 
-requested : (digests : List (List ℕ)) → IsDiffering digests (holding_since 50 []) 2 → Printed (both (has 0 (at 1 10 1 ∷ [])) (has 50 (at 1 10 1 ∷ [])) (entry_frame ∷ Digests 1 0 digests ∷ [])) (codes "deliver 2 2\ndeliver 1 3\nshow 1\nhorizon 1 0") (codes "took 1 from 3\ntook 0\nend 0\nhorizon 50\n") (both (has 50 (at 1 10 1 ∷ [])) (has 50 (at 1 10 1 ∷ [])) (entry_frame ∷ Digests 1 0 digests ∷ request_frame ∷ []))
+requested : (digests : List (List ℕ)) → IsDiffering digests (history_of_entries_at 50 []) 2 → Printed (both (has 0 (at 1 10 1 ∷ [])) (has 50 (at 1 10 1 ∷ [])) (entry_frame ∷ Digests 1 0 digests ∷ [])) (codes "deliver 2 2\ndeliver 1 3\nshow 1\nhorizon 1 0") (codes "took 1 from 3\ntook 0\nend 0\nhorizon 50\n") (both (has 50 (at 1 10 1 ∷ [])) (has 50 (at 1 10 1 ∷ [])) (entry_frame ∷ Digests 1 0 digests ∷ request_frame ∷ []))
 unfolding meaning line_of commands words number_up_to number_field deliver_of horizon_of show_of history buckets_in digits
 requested digests differ = printed (both (has 0 (at 1 10 1 ∷ [])) (has 50 (at 1 10 1 ∷ [])) (entry_frame ∷ Digests 1 0 digests ∷ [])) (both (has 50 (at 1 10 1 ∷ [])) (has 50 (at 1 10 1 ∷ [])) (entry_frame ∷ Digests 1 0 digests ∷ request_frame ∷ [])) 1 requested_table (
   both (has 0 (at 1 10 1 ∷ [])) (has 50 (at 1 10 1 ∷ [])) (entry_frame ∷ Digests 1 0 digests ∷ request_frame ∷ []),
@@ -263,7 +263,7 @@ requested digests differ = printed (both (has 0 (at 1 10 1 ∷ [])) (has 50 (at 
     inl (Took 0 0, (record { replica_there = number 1 _ (omega arith) (omega arith); worker_there = tt; message_there = number 3 _ (omega arith) (omega arith) }, record { added = []; answers = refl; many = refl; from = refl; becomes = refl }), refl),
     (
       both (has 50 (at 1 10 1 ∷ [])) (has 50 (at 1 10 1 ∷ [])) (entry_frame ∷ Digests 1 0 digests ∷ request_frame ∷ []),
-      inl (Shown (holding_since 50 []), (record { replica_there = number 1 _ (omega arith) (omega arith); worker_there = tt; message_there = tt }, (refl, refl)), refl),
+      inl (Shown (history_of_entries_at 50 []), (record { replica_there = number 1 _ (omega arith) (omega arith); worker_there = tt; message_there = tt }, (refl, refl)), refl),
       (
         both (has 50 (at 1 10 1 ∷ [])) (has 50 (at 1 10 1 ∷ [])) (entry_frame ∷ Digests 1 0 digests ∷ request_frame ∷ []),
         inl (Kept 50, (record { replica_there = number 1 _ (omega arith) (omega arith); worker_there = tt; message_there = tt }, (refl, refl)), refl),
@@ -299,7 +299,7 @@ wide_table =
     ∷ []
 
 wide : Printed (both (knows []) (knows []) []) (codes "ref 1 1 0:4294967296 5\nflush 1 1\nsend 1 0\ndeliver 2 1\nshow 2\npin 1 0:4294967296") (codes "ok\nok\nframe 1\ntook 0\n0:4294967296 last 5@1\nend 1\nrefused 5 NoPage\n") (both (knows (wide_reference ∷ [])) (knows (wide_reference ∷ [])) (wide_frame ∷ []))
-unfolding meaning line_of commands words number_up_to page_of number_field page_field after_field refer_of flush_of send_of deliver_of pin_of show_of history digits
+unfolding meaning line_of commands words number_up_to page_of_word number_field page_field after_field refer_of flush_of send_of deliver_of pin_of show_of history digits
 wide = printed (both (knows []) (knows []) []) (both (knows (wide_reference ∷ [])) (knows (wide_reference ∷ [])) (wide_frame ∷ [])) 1 wide_table (
   both (one small (kept 0 []) (wide_reference ∷ [])) (knows []) [],
   inl (Done, (record { replica_there = number 1 _ (omega arith) (omega arith); worker_there = number 1 _ (omega arith) (omega arith); message_there = tt }, refl), refl),
@@ -314,7 +314,7 @@ wide = printed (both (knows []) (knows []) []) (both (knows (wide_reference ∷ 
         inl (Took 0 0, (record { replica_there = number 2 _ (omega arith) (omega arith); worker_there = tt; message_there = number 1 _ (omega arith) (omega arith) }, record { added = []; answers = refl; many = refl; from = refl; becomes = refl }), refl),
         (
           both (knows (wide_reference ∷ [])) (knows (wide_reference ∷ [])) (wide_frame ∷ []),
-          inl (Shown (holding_since 0 (entry 4294967296 (Once (stamp 5 1)) ∷ [])), (record { replica_there = number 2 _ (omega arith) (omega arith); worker_there = tt; message_there = tt }, (refl, refl)), refl),
+          inl (Shown (history_of_entries_at 0 (entry 4294967296 (Once (stamp 5 1)) ∷ [])), (record { replica_there = number 2 _ (omega arith) (omega arith); worker_there = tt; message_there = tt }, (refl, refl)), refl),
           (
             both (knows (wide_reference ∷ [])) (knows (wide_reference ∷ [])) (wide_frame ∷ []),
             inl (Refused (Node (Pool NoPage)), (record { replica_there = number 1 _ (omega arith) (omega arith); worker_there = tt; message_there = tt }, (small, (refl, (omega arith, omega arith, refl)), refl)), refl),

@@ -7,7 +7,7 @@ use Rattle.warm_world.specs.Next.{Run}
 use Rattle.warm_schedule.specs.declared.parse.Line.{Line}
 use Rattle.warm_schedule.specs.declared.parse.Line.TheVariants.{Nothing, Act}
 use Rattle.warm_schedule.specs.Grammar.{meaning}
-use Rattle.warm_schedule.specs.Printed.{Answered, PrintedFrom}
+use Rattle.warm_schedule.specs.Printed.{LineAnswered, PrintedFrom}
 use Rattle.warm_schedule.specs.Laws.{LineIs, LinesAre}
 
 -- the events of lines, answered so, and the run by them
@@ -23,7 +23,7 @@ run_from a b events answers last same run = subst (λ (m : ModelState). Run m ev
 
 -- one line before others
 line_first : (state next last : ModelState) (number : ℕ) (said : Option Line) (line : List ℕ) (rest : List (List ℕ)) (front back : List ℕ) → said ≡ meaning line
-    → Answered state number said front next → RunOfLines next (number + 1) rest back last → RunOfLines state number (line ∷ rest) (front ++ back) last
+    → LineAnswered state number said front next → RunOfLines next (number + 1) rest back last → RunOfLines state number (line ∷ rest) (front ++ back) last
 line_first state next last number None line rest front back is answered r = record {
   events = r.events;
   answers = r.answers;

@@ -11,23 +11,23 @@ use Rattle.std.proofs.lemmas.List.{append-nil, take_all, take-append-le, length-
 use Rattle.warm_random.proofs.Written.{Appends-then}
 use Rattle.warm_schedule.specs.Text.{IsLine, split, lines}
 use Rattle.warm_schedule.specs.Grammar.{meaning}
-use Rattle.warm_schedule.specs.Printed.{Answered, PrintedFrom, Played, EndsIn}
+use Rattle.warm_schedule.specs.Printed.{LineAnswered, PrintedFrom, Played, EndsIn}
 use Rattle.warm_schedule.specs.Reading.{Reads, PutsBytes, IsPut}
-use Rattle.warm_schedule.specs.Stream.{SessionView, HoldsLine, Holds, AddsBytes, AnswersLine, Goes, Settles, Ends}
+use Rattle.warm_schedule.specs.Stream.{SessionView, HoldsLine, SessionStands, AddsBytes, AnswersLine, ReadsOn, PrintsEnding, Ends}
 use Rattle.warm_schedule.specs.Refusals.{StopsPlay, PlayRefused}
 use Rattle.warm_schedule.specs.declared.parse.TheConstants.{MAX_LINE}
 use Rattle.warm_devices.specs.Device.{DeviceState}
 use Rattle.warm_play_fault.specs.declared.PlayFault.{PlayFault}
 use Rattle.warm_play_fault.specs.declared.PlayFault.TheVariants as play_fault
 use Rattle.warm_world.specs.Sizes.{Sizes}
-use Rattle.warm_world.specs.States.{ModelState, nobody, no_pool, pool_of, replica}
+use Rattle.warm_world.specs.States.{ModelState, no_replica, no_pool, pool_of, replica}
 use Rattle.warm_pool.specs.View.{PoolView}
 use Rattle.warm_gossip.specs.State.{NodeView}
-use Rattle.warm_world.specs.Lists.{place}
+use Rattle.warm_world.specs.Lists.{index_of_number}
 use Rattle.warm_world.specs.Opening.{AreFitting, FinishFails}
 use Rattle.warm_gossip.specs.Step.{IsFailed}
 use Rattle.warm_gossip.specs.declared.fault.NodeFault.{NodeFault}
-use Rattle.warm_history.specs.Histories.{holding}
+use Rattle.warm_history.specs.Histories.{history_of_entries}
 use Rattle.warm_world.specs.Stands.{StandsFor, Steps, ReplicaStands}
 use Rattle.warm_world.specs.Views.{ReplicaView, WorldView}
 use Rattle.warm_gossip.specs.declared.fault.NodeFault.TheVariants as node_fault
@@ -169,12 +169,12 @@ line_last (c ∷ cs) h =
 
 -- ---- the session
 
-pub Goes-none : (s : SessionView) → Goes s [] [] s
-unfolding Goes
+pub Goes-none : (s : SessionView) → ReadsOn s [] [] s
+unfolding ReadsOn
 Goes-none s = λ state begun h. (state, begun, h, λ tail rest last printed. printed)
 
-pub Goes-then : (a b c : SessionView) (x y o q : List ℕ) → Goes a x o b → Goes b y q c → Goes a (x ++ y) (o ++ q) c
-unfolding Goes
+pub Goes-then : (a b c : SessionView) (x y o q : List ℕ) → ReadsOn a x o b → ReadsOn b y q c → ReadsOn a (x ++ y) (o ++ q) c
+unfolding ReadsOn
 Goes-then a b c x y o q ab bc = λ state begun h.
     let first = ab state begun h in
     let second = bc first.0 first.1 first.2 in (
@@ -191,8 +191,8 @@ stands_too : (a b : WorldView) (state : ModelState) → b ≡ a → StandsFor a 
 stands_too a b state same stands = subst (λ (w : WorldView). StandsFor w state) (sym same) stands
 
 -- bytes that belong to the line
-pub Goes-add : (a b : SessionView) (bytes : List ℕ) → AddsBytes a bytes b → Goes a bytes [] b
-unfolding Goes
+pub Goes-add : (a b : SessionView) (bytes : List ℕ) → AddsBytes a bytes b → ReadsOn a bytes [] b
+unfolding ReadsOn
 Goes-add a b bytes adds = λ state begun h. (
   state,
   begun ++ bytes,
@@ -207,13 +207,13 @@ pub no_line : (held : List ℕ) → held ≡ [] → HoldsLine held []
 no_line held none = record { held_is = none; is_line = tt }
 
 -- the same line answers the same
-said_so : (old : ModelState) (number : ℕ) (read said : Option Line) (out : List ℕ) (new : ModelState) → read ≡ said → Answered old number read out new → Answered old number said out new
-said_so old number read said out new e answered = subst (λ (o : Option Line). Answered old number o out new) e answered
+said_so : (old : ModelState) (number : ℕ) (read said : Option Line) (out : List ℕ) (new : ModelState) → read ≡ said → LineAnswered old number read out new → LineAnswered old number said out new
+said_so old number read said out new e answered = subst (λ (o : Option Line). LineAnswered old number o out new) e answered
 
 -- the line that has begun and ends with these bytes was answered by this
 abbrev pub AnswersBegun : SessionView → List ℕ → List ℕ → WorldView → Type 0
-AnswersBegun old piece out world = (state : ModelState) (begun : List ℕ) → Holds old state begun
-    → (next : ModelState) × StandsFor world next × Answered state old.number (meaning (begun ++ piece)) out next
+AnswersBegun old piece out world = (state : ModelState) (begun : List ℕ) → SessionStands old state begun
+    → (next : ModelState) × StandsFor world next × LineAnswered state old.number (meaning (begun ++ piece)) out next
 
 -- a line that stands whole in its last bytes
 pub answers_whole : (a : SessionView) (piece out : List ℕ) (w : WorldView) → length a.held ≡ 0 → AnswersLine a.world a.number piece out w → AnswersBegun a piece out w
@@ -226,12 +226,12 @@ pub answers_held : (a b : SessionView) (piece out : List ℕ) (w : WorldView) �
 answers_held a b piece out w adds answered = λ state begun h.
     let next = answered state (stands_too a.world b.world state adds.world h.stands) in
     let means : meaning b.held ≡ meaning (begun ++ piece) = says b.held (begun ++ piece) (adds.begun begun h.begun) in
-    let numbered : Answered state a.number (meaning b.held) out next.0 = subst (λ (n : ℕ). Answered state n (meaning b.held) out next.0) adds.number next.2 in
+    let numbered : LineAnswered state a.number (meaning b.held) out next.0 = subst (λ (n : ℕ). LineAnswered state n (meaning b.held) out next.0) adds.number next.2 in
     (next.0, next.1, said_so state a.number (meaning b.held) (meaning (begun ++ piece)) out next.0 means numbered)
 
 -- the end of a line
-pub Goes-end : (a b : SessionView) (piece out : List ℕ) → IsLine piece → AnswersBegun a piece out b.world → b.number ≡ a.number + 1 → b.held ≡ [] → Goes a (piece ++ 10 ∷ []) out b
-unfolding Goes
+pub Goes-end : (a b : SessionView) (piece out : List ℕ) → IsLine piece → AnswersBegun a piece out b.world → b.number ≡ a.number + 1 → b.held ≡ [] → ReadsOn a (piece ++ 10 ∷ []) out b
+unfolding ReadsOn
 Goes-end a b piece out line answered number none = λ state begun h.
     let next = answered state begun h in
     let all : IsLine (begun ++ piece) = is_line_more begun piece h.begun.is_line line in (
@@ -280,7 +280,7 @@ module _ (world : WorldView) (number : ℕ) (line : List ℕ) where
   answers_no_memory put = λ state stands. (state, stands, said_so state number (Some (Act put.0)) _ _ state put.1 (inr (put.2, refl, refl)))
 
 -- the last line is answered, and then it is the end
-pub Ends-answer : (a : SessionView) (out more : List ℕ) (w : WorldView) → AnswersLine a.world a.number a.held out w → Settles w more → Ends a out more
+pub Ends-answer : (a : SessionView) (out more : List ℕ) (w : WorldView) → AnswersLine a.world a.number a.held out w → PrintsEnding w more → Ends a out more
 unfolding Ends
 Ends-answer a out more w answered settles = λ state begun h.
     let next = answered state h.stands in
@@ -289,13 +289,13 @@ Ends-answer a out more w answered settles = λ state begun h.
     (next.0, printed, settles next.0 out next.1)
 
 -- the devices did not take what waited for them
-pub settles_ill : (old new : WorldView) (why : NodeFault) → FinishFails old why new → Settles old end_refused
+pub settles_ill : (old new : WorldView) (why : NodeFault) → FinishFails old why new → PrintsEnding old end_refused
 settles_ill old new why fails = λ m answers stands.
     let k : ℕ = fails.1.replica in
-    let none : ReplicaView = record { node = record { id = 0; history = holding []; pool = no_pool }; buffers = [] } in
+    let none : ReplicaView = record { node = record { id = 0; history = history_of_entries []; pool = no_pool }; buffers = [] } in
     let there : k < length m.replicas = omega (arith, fails.1.there, stands.replicas.same_length) in
-    let here : ReplicaStands m.capacity k (get_or old.replicas k none) (replica m k) = stands.replicas.each k none nobody fails.1.there in
-    let at : place (k + 1) ≡ k = omega arith in
+    let here : ReplicaStands m.capacity k (get_or old.replicas k none) (replica m k) = stands.replicas.each k none no_replica fails.1.there in
+    let at : index_of_number (k + 1) ≡ k = omega arith in
     let pool : (get_or old.replicas k none).node.pool ≡ pool_of m (k + 1) = ap (λ (v : NodeView). v.pool) here.node_is ∙ ap (λ (n : ℕ). (replica m n).pool) (sym at) in
     let failed : IsFailed (pool_of m (k + 1)) fails.1.pool = subst (λ (p : PoolView). IsFailed p fails.1.pool) pool (fails.1.failed none) in
     inr (
@@ -310,8 +310,8 @@ settles_ill old new why fails = λ m answers stands.
     )
 
 -- the same bytes
-pub Goes-bytes : (a b : SessionView) (x y out : List ℕ) → x ≡ y → Goes a x out b → Goes a y out b
-Goes-bytes a b x y out same goes = subst (λ (bytes : List ℕ). Goes a bytes out b) same goes
+pub Goes-bytes : (a b : SessionView) (x y out : List ℕ) → x ≡ y → ReadsOn a x out b → ReadsOn a y out b
+Goes-bytes a b x y out same goes = subst (λ (bytes : List ℕ). ReadsOn a bytes out b) same goes
 
 -- what was printed before is printed first
 ends_after : (m : ModelState) (first answers out : List ℕ) → EndsIn m answers out → EndsIn m (first ++ answers) (first ++ out)
@@ -319,8 +319,8 @@ ends_after m first answers out (inl same) = inl (ap (λ (xs : List ℕ). first +
 ends_after m first answers out (inr refused) = inr (refused.0, ap (λ (xs : List ℕ). first ++ xs) refused.1 ∙ sym (append_assoc first answers end_refused))
 
 -- a session that was fresh and reached the end of the input
-pub Goes-whole : (a b : SessionView) (state : ModelState) (bytes out answers closing : List ℕ) → Goes a bytes out b → Ends b answers closing → Holds a state [] → a.number ≡ 1 → Played state bytes (out ++ (answers ++ closing))
-unfolding Goes Ends
+pub Goes-whole : (a b : SessionView) (state : ModelState) (bytes out answers closing : List ℕ) → ReadsOn a bytes out b → Ends b answers closing → SessionStands a state [] → a.number ≡ 1 → Played state bytes (out ++ (answers ++ closing))
+unfolding ReadsOn Ends
 Goes-whole a b state bytes out answers closing goes ends fresh first =
     let g = goes state [] fresh in
     let end = ends g.0 g.1 g.2 in

@@ -39,8 +39,8 @@ page_of_parts (device ∷ number ∷ []) = do
   Some (record { dev = d; no = n })
 page_of_parts parts = None
 
-unfoldable pub page_of : List ℕ → Option PageId
-page_of word = page_of_parts (split 58 word)
+unfoldable pub page_of_word : List ℕ → Option PageId
+page_of_word word = page_of_parts (split 58 word)
 
 -- ---- slots and bytes
 
@@ -52,8 +52,8 @@ slot_of_parts (frame ∷ generation ∷ []) = do
   Some (record { index = s; generation = g })
 slot_of_parts parts = None
 
-unfoldable pub slot_of : List ℕ → Option Slot
-slot_of word = slot_of_parts (split 46 word)
+unfoldable pub slot_of_word : List ℕ → Option Slot
+slot_of_word word = slot_of_parts (split 46 word)
 
 abbrev pub is_from : ℕ → ℕ → ℕ → Bool
 is_from least most c = nat_le least c && nat_le c most
@@ -65,19 +65,19 @@ hex_digit_of c = if is_from 48 57 c then Some (c - 48)
     else (if is_from 65 70 c then Some (c - 55) else None))
 
 -- two digits for each byte
-abbrev pub pairs_of : List ℕ → Option (List ℕ)
-pairs_of [] = Some []
-pairs_of (c ∷ []) = None
-pairs_of (high ∷ low ∷ rest) = do
+abbrev pub hex_pairs : List ℕ → Option (List ℕ)
+hex_pairs [] = Some []
+hex_pairs (c ∷ []) = None
+hex_pairs (high ∷ low ∷ rest) = do
   h ← hex_digit_of high
   l ← hex_digit_of low
-  bytes ← pairs_of rest
+  bytes ← hex_pairs rest
   Some ((16 * h + l) ∷ bytes)
 
 -- one or more bytes
-unfoldable pub bytes_of : List ℕ → Option (List ℕ)
-bytes_of [] = None
-bytes_of (c ∷ cs) = pairs_of (c ∷ cs)
+unfoldable pub bytes_of_hex : List ℕ → Option (List ℕ)
+bytes_of_hex [] = None
+bytes_of_hex (c ∷ cs) = hex_pairs (c ∷ cs)
 
 -- ---- a field, and the words after it
 
@@ -90,26 +90,26 @@ number_field limit (word ∷ rest) = do
 unfoldable pub page_field : List (List ℕ) → Option (PageId × List (List ℕ))
 page_field [] = None
 page_field (word ∷ rest) = do
-  page ← page_of word
+  page ← page_of_word word
   Some (page, rest)
 
 -- a page, or nothing where the line ends before it
 unfoldable pub after_field : List (List ℕ) → Option (Option PageId × List (List ℕ))
 after_field [] = Some (None, [])
 after_field (word ∷ rest) = do
-  page ← page_of word
+  page ← page_of_word word
   Some (Some page, rest)
 
 unfoldable pub slot_field : List (List ℕ) → Option (Slot × List (List ℕ))
 slot_field [] = None
 slot_field (word ∷ rest) = do
-  slot ← slot_of word
+  slot ← slot_of_word word
   Some (slot, rest)
 
 unfoldable pub bytes_field : List (List ℕ) → Option (List ℕ × List (List ℕ))
 bytes_field [] = None
 bytes_field (word ∷ rest) = do
-  bytes ← bytes_of word
+  bytes ← bytes_of_hex word
   Some (bytes, rest)
 
 -- a replica's number, and the words after it

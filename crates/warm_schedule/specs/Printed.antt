@@ -26,16 +26,16 @@ abbrev pub FindsNoMemory : ModelState → Event → List ℕ → ModelState → 
 FindsNoMemory old event out new = IsPut event × (out ≡ refused_text (Node Memory)) × (new ≡ old)
 
 -- A line of this meaning and number may print `out` and lead from `old` to `new`.
-abbrev pub Answered : ModelState → ℕ → Option Line → List ℕ → ModelState → Type 0
-Answered old number None out new = (out ≡ bad_line number) × (new ≡ old)
-Answered old number (Some Nothing) out new = (out ≡ []) × (new ≡ old)
-Answered old number (Some (Act event)) out new = Happens old event out new ⊎ FindsNoMemory old event out new
+abbrev pub LineAnswered : ModelState → ℕ → Option Line → List ℕ → ModelState → Type 0
+LineAnswered old number None out new = (out ≡ bad_line number) × (new ≡ old)
+LineAnswered old number (Some Nothing) out new = (out ≡ []) × (new ≡ old)
+LineAnswered old number (Some (Act event)) out new = Happens old event out new ⊎ FindsNoMemory old event out new
 
 -- lines, of which the first has this number, may print `out` and lead from `state` to `last`
 abbrev pub PrintedFrom : ModelState → ℕ → List (List ℕ) → List ℕ → ModelState → Type 0
 PrintedFrom state number [] out last = (out ≡ []) × (last ≡ state)
 PrintedFrom state number (line ∷ rest) out last =
-    (front back : List ℕ) × (next : ModelState) × Answered state number (meaning line) front next
+    (front back : List ℕ) × (next : ModelState) × LineAnswered state number (meaning line) front next
     × PrintedFrom next (number + 1) rest back last × (out ≡ front ++ back)
 
 -- a schedule may print `out` and lead from `state` to `last`

@@ -18,10 +18,10 @@ StopsPlay ReadFault = Unit {0}
 StopsPlay why = StopsAnswers why
 
 -- why a play does not begin: the devices do not fit the setup; or they do, and an allocation failed
-abbrev pub OpenRefused : Sizes → List (List DeviceState) → PlayFault → Type 0
-OpenRefused setup devices BadDevices = AreFitting setup devices → ⊥
-OpenRefused setup devices Memory = AreFitting setup devices
-OpenRefused setup devices why = ⊥
+abbrev pub OpeningRefused : Sizes → List (List DeviceState) → PlayFault → Type 0
+OpeningRefused setup devices BadDevices = AreFitting setup devices → ⊥
+OpeningRefused setup devices Memory = AreFitting setup devices
+OpeningRefused setup devices why = ⊥
 
 -- why a play does not reach its end: the devices do not fit the setup; or they do, and it was
 -- stopped

@@ -5,7 +5,7 @@ use Rattle.warm_world.specs.Views.{WorldView, world_view}
 use Rattle.warm_world.specs.Stands.{StandsFor}
 use Rattle.warm_schedule.specs.Text.{IsLine, lines}
 use Rattle.warm_schedule.specs.Grammar.{meaning}
-use Rattle.warm_schedule.specs.Printed.{Answered, PrintedFrom, EndsIn}
+use Rattle.warm_schedule.specs.Printed.{LineAnswered, PrintedFrom, EndsIn}
 use Rattle.warm_schedule.specs.declared.parse.TheConstants.{MAX_LINE}
 use Rattle.warm_schedule.specs.declared.player.Session.{Session}
 
@@ -26,13 +26,13 @@ pub record HoldsLine (held line : List ℕ) : Type 0 where
   pub is_line : IsLine line
 
 -- the session's world stands for this state, and this is the current line so far
-pub record Holds (s : SessionView) (state : ModelState) (line : List ℕ) : Type 0 where
+pub record SessionStands (s : SessionView) (state : ModelState) (line : List ℕ) : Type 0 where
   pub stands : StandsFor s.world state
   pub begun : HoldsLine s.held line
 
 -- a world in this state, before the first line
 pub record IsFresh (s : SessionView) (state : ModelState) : Type 0 where
-  pub holds : Holds s state []
+  pub holds : SessionStands s state []
   pub first : s.number ≡ 1
 
 -- these bytes are added to the current line
@@ -44,22 +44,22 @@ pub record AddsBytes (old : SessionView) (bytes : List ℕ) (new : SessionView) 
 -- the answer to the line of this number was printed, and the world stands for the next state
 abbrev pub AnswersLine : WorldView → ℕ → List ℕ → List ℕ → WorldView → Type 0
 AnswersLine old number line out new = (state : ModelState) → StandsFor old state
-    → (next : ModelState) × StandsFor new next × Answered state number (meaning line) out next
+    → (next : ModelState) × StandsFor new next × LineAnswered state number (meaning line) out next
 
 -- The session read these bytes and printed this: with any possible output for the rest, it is a
 -- possible output for the whole.
-unfoldable pub Goes : SessionView → List ℕ → List ℕ → SessionView → Type 0
-Goes old bytes out new = (state : ModelState) (begun : List ℕ) → Holds old state begun
-    → (next : ModelState) × (line : List ℕ) × Holds new next line
+unfoldable pub ReadsOn : SessionView → List ℕ → List ℕ → SessionView → Type 0
+ReadsOn old bytes out new = (state : ModelState) (begun : List ℕ) → SessionStands old state begun
+    → (next : ModelState) × (line : List ℕ) × SessionStands new next line
     × ((tail rest : List ℕ) (last : ModelState) → PrintedFrom next new.number (lines (line ++ tail)) rest last
     → PrintedFrom state old.number (lines (begun ++ (bytes ++ tail))) (out ++ rest) last)
 
 -- the end of a play with this world prints this after the answers
-abbrev pub Settles : WorldView → List ℕ → Type 0
-Settles world out = (state : ModelState) (answers : List ℕ) → StandsFor world state → EndsIn state answers (answers ++ out)
+abbrev pub PrintsEnding : WorldView → List ℕ → Type 0
+PrintsEnding world out = (state : ModelState) (answers : List ℕ) → StandsFor world state → EndsIn state answers (answers ++ out)
 
 -- The input has ended, and the session printed the answer to the last line, and then this for the
 -- end.
 unfoldable pub Ends : SessionView → List ℕ → List ℕ → Type 0
-Ends s answers closing = (state : ModelState) (begun : List ℕ) → Holds s state begun
+Ends s answers closing = (state : ModelState) (begun : List ℕ) → SessionStands s state begun
     → (last : ModelState) × PrintedFrom state s.number (lines begun) answers last × EndsIn last answers (answers ++ closing)

@@ -3,7 +3,7 @@
 ghost use Rattle.std.specs.Prelude.{◌≡◌, ◌<◌, ◌≤◌, ◌+◌, ◌*◌, ◌^◌, ◌∷◌, None, length, IfSome, MatchOption, option_map, is_some};
 ghost use Rattle.warm_stamps.specs.declared.TheConstants.{BUCKETS};
 ghost use Rattle.warm_schedule.specs.Text.{words};
-ghost use Rattle.warm_schedule.specs.Fields.{digit_of, number_up_to, page_of, slot_of, hex_digit_of, pairs_of, bytes_of};
+ghost use Rattle.warm_schedule.specs.Fields.{digit_of, number_up_to, page_of_word, slot_of_word, hex_digit_of, hex_pairs, bytes_of_hex};
 ghost use Rattle.warm_schedule.specs.Fields.{number_field, replica_field, worker_field, bucket_field, count_field, long_field, page_field, after_field, slot_field};
 ghost use Rattle.warm_schedule.specs.Reading.{Reads, TakesMemory};
 
@@ -60,9 +60,9 @@ fn number(word: &[u8], limit: u64) -> Option<u64>
 }
 
 // A second colon is not a digit of the number, so it is refused.
-#[tactic(auto, using(crate::proofs::Parts::page_parts), unfolding(crate::specs::Fields::page_of))]
+#[tactic(auto, using(crate::proofs::Parts::page_parts), unfolding(crate::specs::Fields::page_of_word))]
 fn page(word: &[u8]) -> Option<PageId>
-    ensures { result ≡ page_of word.now }
+    ensures { result ≡ page_of_word word.now }
 {
     let (dev, no) = cut(word, b':')?;
     let dev = number(dev, MOST_DEVICE)? as u16;
@@ -71,9 +71,9 @@ fn page(word: &[u8]) -> Option<PageId>
 }
 
 // A second dot is not a digit of the generation, so it is refused.
-#[tactic(auto, using(crate::proofs::Parts::slot_parts), unfolding(crate::specs::Fields::slot_of))]
+#[tactic(auto, using(crate::proofs::Parts::slot_parts), unfolding(crate::specs::Fields::slot_of_word))]
 fn slot(word: &[u8]) -> Option<Slot>
-    ensures { result ≡ slot_of word.now }
+    ensures { result ≡ slot_of_word word.now }
 {
     let (index, generation) = cut(word, b'.')?;
     let index = number(index, MOST_FRAME)? as u32;
@@ -97,8 +97,8 @@ fn hex_digit(c: u8) -> Option<u8>
 
 // The byte that the first two digits spell, and what follows them. `None` where there is none.
 fn first_byte(digits: &[u8]) -> Option<(u8, &[u8])>
-    ensures spelled { MatchOption result (0 < length digits.now → pairs_of digits.now ≡ None)
-        (λ x. pairs_of digits.now ≡ option_map (λ more. x.0 ∷ more) (pairs_of x.1.now)) }
+    ensures spelled { MatchOption result (0 < length digits.now → hex_pairs digits.now ≡ None)
+        (λ x. hex_pairs digits.now ≡ option_map (λ more. x.0 ∷ more) (hex_pairs x.1.now)) }
     ensures shorter { IfSome result (λ x. length x.1.now + 2 ≡ length digits.now) }
 {
     let [high, low, rest @ ..] = digits else {
@@ -110,7 +110,7 @@ fn first_byte(digits: &[u8]) -> Option<(u8, &[u8])>
 }
 
 fn spells_bytes(word: &[u8]) -> bool
-    ensures { result ≡ is_some (bytes_of word.now) }
+    ensures { result ≡ is_some (bytes_of_hex word.now) }
 {
     if word.is_empty() {
         return false;
@@ -124,7 +124,7 @@ fn spells_bytes(word: &[u8]) -> bool
 
 // The bytes that a word spells. It allocates only where the word spells bytes.
 pub(crate) fn bytes(alloc: Global, word: &[u8]) -> Result<ByteList, LineFault>
-    ensures { Reads TakesMemory (bytes_of word.now) result }
+    ensures { Reads TakesMemory (bytes_of_hex word.now) result }
 {
     if !spells_bytes(word) {
         return Err(LineFault::Bad);

@@ -8,8 +8,8 @@ ghost use Rattle.warm_world.specs.Views.{IsAtRest, listed, world_view};
 ghost use Rattle.warm_world.specs.Stands.{StandsFor};
 ghost use Rattle.warm_schedule.specs.Text.{IsLine};
 ghost use Rattle.warm_schedule.specs.Printed.{Played};
-ghost use Rattle.warm_schedule.specs.Refusals.{OpenRefused, PlayRefused, StopsAnswers, StopsPlay};
-ghost use Rattle.warm_schedule.specs.Stream.{session, IsFresh, AddsBytes, AnswersLine, Settles, Goes, Ends};
+ghost use Rattle.warm_schedule.specs.Refusals.{OpeningRefused, PlayRefused, StopsAnswers, StopsPlay};
+ghost use Rattle.warm_schedule.specs.Stream.{session, IsFresh, AddsBytes, AnswersLine, PrintsEnding, ReadsOn, Ends};
 
 use crate::parse::{Line, LineFault, MAX_LINE, parse_line};
 use crate::printer::{print_answer, print_bad_line, print_end_refused, print_refusal};
@@ -39,7 +39,7 @@ impl<D: PageDevice> Session<D> {
             (opening setup (listed D.state devices.items))) }
         ensures fitting { OnOk result (AreFitting setup (listed D.state devices.items)) }
         ensures refused { IfErr result (λ why.
-            OpenRefused setup (listed D.state devices.items) why) }
+            OpeningRefused setup (listed D.state devices.items) why) }
     {
         let world = match World::new(alloc, setup, devices) {
             Ok(world) => world,
@@ -121,7 +121,7 @@ impl<D: PageDevice> Session<D> {
         requires line { IsLine piece.now }
         ensures goes { OnOk result ((out : List ℕ)
             × Appends (W.contents writer.old) (W.contents writer.new) out
-            × Goes (session self.old) (piece.now ++ 10 ∷ []) out
+            × ReadsOn (session self.old) (piece.now ++ 10 ∷ []) out
             (session self.new)) }
         ensures number { OnOk result (self.new.number ≡ self.old.number + 1) }
         ensures stopped { IfErr result StopsAnswers }
@@ -142,7 +142,7 @@ impl<D: PageDevice> Session<D> {
         requires { self.old.number + length bytes.now < 2 ^ 64 }
         ensures goes { OnOk result ((out : List ℕ)
             × Appends (W.contents writer.old) (W.contents writer.new) out
-            × Goes (session self.old) bytes.now out (session self.new)) }
+            × ReadsOn (session self.old) bytes.now out (session self.new)) }
         ensures number { OnOk result (self.new.number ≤ self.old.number + length bytes.now) }
         ensures stopped { IfErr result StopsAnswers }
     {
@@ -159,7 +159,7 @@ impl<D: PageDevice> Session<D> {
     fn settle<W: Write>(&mut self, writer: &mut W) -> Result<(), PlayFault>
         ensures settled { OnOk result ((out : List ℕ)
             × Appends (W.contents writer.old) (W.contents writer.new) out
-            × Settles (world_view self.old.world) out
+            × PrintsEnding (world_view self.old.world) out
             × (out ≡ [] → IsAtRest self.new.world)) }
         ensures stopped { IfErr result (λ why. why ≡ WriteFault) }
     {
@@ -202,7 +202,7 @@ impl<D: PageDevice> Session<D> {
         ensures goes { OnOk result ((bytes out : List ℕ)
             × Consumes (R.remaining reader.old) (R.remaining reader.new) bytes
             × Appends (W.contents writer.old) (W.contents writer.new) out
-            × Goes (session self.old) bytes out (session self.new)) }
+            × ReadsOn (session self.old) bytes out (session self.new)) }
         ensures end { IfOk result (λ more. more ≡ false → IsAtEnd (R.remaining reader.new)) }
         ensures number { OnOk result (self.new.number ≤ self.old.number + length buffer.old) }
         ensures stopped { IfErr result StopsPlay }

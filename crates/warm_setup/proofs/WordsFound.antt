@@ -8,7 +8,7 @@ use Rattle.clap.specs.declared.builder.value_parser.ValueParser.TheVariants.{Uns
 use Rattle.clap.specs.Matches.{ReadsOne}
 use Rattle.clap.specs.Words.{Row, Text, first_of}
 use Rattle.warm_setup.specs.declared.command.Cmd.TheVariants.{Play, Random, Threads}
-use Rattle.warm_setup.specs.Words.{command_by, number_in, number_of, random_by, threads_by}
+use Rattle.warm_setup.specs.Words.{command_by, number_in, argument_number, random_by, threads_by}
 use Rattle.warm_setup.specs.declared.command.Cmd.{Cmd}
 
 pub found_is : (found : Option (Text × List Row)) (name : Text) (rows : List Row) → Some name ≡ option_map (λ p. p.0) found → Some rows ≡ option_map (λ p. p.1) found → found ≡ Some (name, rows)
@@ -33,7 +33,7 @@ asks_threads found name rows asked is other also eq by = rw (is, ← other, ← 
 pub threads_asked : (rows : List Row) (file : Text) (setup : Option Text) → Some file ≡ first_of (codes "file") rows → setup ≡ first_of (codes "setup") rows → Some (Threads file setup) ≡ threads_by rows
 threads_asked rows file setup f s = rw (← f, s) refl
 
-pub random_asked : (rows : List Row) (seed events : ℕ) (setup : Option Text) → Some seed ≡ number_of (2 ^ 64 - 1) (codes "seed") rows → Some events ≡ number_of (2 ^ 32 - 1) (codes "events") rows → setup ≡ first_of (codes "setup") rows
+pub random_asked : (rows : List Row) (seed events : ℕ) (setup : Option Text) → Some seed ≡ argument_number (2 ^ 64 - 1) (codes "seed") rows → Some events ≡ argument_number (2 ^ 32 - 1) (codes "events") rows → setup ≡ first_of (codes "setup") rows
     → Some (Random seed events setup) ≡ random_by rows
 random_asked rows seed events setup s e f = rw (← s, ← e, f) refl
 

@@ -22,12 +22,12 @@ abbrev pub status_of_command : CmdFault → ℕ
 status_of_command command.Memory = 1
 status_of_command (command.Refused error) = status_of_kind (kind_of error)
 
-abbrev pub status_of : Result (Unit {0}) ProgramFault → ℕ
-status_of (Ok _) = 0
-status_of (Err (Command fault)) = status_of_command fault
-status_of (Err (CannotOpen name)) = 1
-status_of (Err (Setup fault)) = 2
-status_of (Err (Play fault)) = 1
+abbrev pub exit_status : Result (Unit {0}) ProgramFault → ℕ
+exit_status (Ok _) = 0
+exit_status (Err (Command fault)) = status_of_command fault
+exit_status (Err (CannotOpen name)) = 1
+exit_status (Err (Setup fault)) = 2
+exit_status (Err (Play fault)) = 1
 
 abbrev pub line_end : List ℕ
 line_end = 10 ∷ []
@@ -47,12 +47,12 @@ abbrev pub number_named : PlayFault → Option ℕ
 number_named (BadLine number) = Some number
 number_named _ = None
 
-abbrev pub line_of : Result (Unit {0}) ProgramFault → List ℕ
-line_of (Ok _) = []
-line_of (Err (Command fault)) = line_of_command fault
-line_of (Err (CannotOpen name)) = codes "warmplay: cannot open " ++ name ++ line_end
-line_of (Err (Setup fault)) = codes "warmplay: setup: " ++ name_of fault ++ line_end
-line_of (Err (Play fault)) = codes "warmplay: " ++ play_fault_name fault ++ number_text (number_named fault) ++ line_end
+abbrev pub error_line : Result (Unit {0}) ProgramFault → List ℕ
+error_line (Ok _) = []
+error_line (Err (Command fault)) = line_of_command fault
+error_line (Err (CannotOpen name)) = codes "warmplay: cannot open " ++ name ++ line_end
+error_line (Err (Setup fault)) = codes "warmplay: setup: " ++ name_of fault ++ line_end
+error_line (Err (Play fault)) = codes "warmplay: " ++ play_fault_name fault ++ number_text (number_named fault) ++ line_end
 
 -- ---- the faults of a command line, by number and name
 

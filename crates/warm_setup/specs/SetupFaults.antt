@@ -18,11 +18,11 @@ name_of BadKey = codes "BadKey"
 name_of BadValue = codes "BadValue"
 
 -- an allocation failure of TOML is the setup's `Memory`
-abbrev pub IsFaultOf : Error → SetupFault → Type 0
-IsFaultOf error fault = ((fault ≡ Memory) × IsMemory error) ⊎ ((fault ≡ NotToml) × ¬ IsMemory error)
+abbrev pub IsTomlFault : Error → SetupFault → Type 0
+IsTomlFault error fault = ((fault ≡ Memory) × IsMemory error) ⊎ ((fault ≡ NotToml) × ¬ IsMemory error)
 
 -- a reader returns the meaning, seen through `seen`; an allocation failure may be returned in place
 -- of any result
-abbrev pub Gives : {A B : Type 0} → (A → B) → Result B SetupFault → Result A SetupFault → Type 0
-Gives seen meant (Ok value) = meant ≡ Ok (seen value)
-Gives seen meant (Err fault) = (fault ≡ Memory) ⊎ (meant ≡ Err fault)
+abbrev pub GivesMeaning : {A B : Type 0} → (A → B) → Result B SetupFault → Result A SetupFault → Type 0
+GivesMeaning seen meant (Ok value) = meant ≡ Ok (seen value)
+GivesMeaning seen meant (Err fault) = (fault ≡ Memory) ⊎ (meant ≡ Err fault)

@@ -4,7 +4,7 @@ use Rattle.std.specs.Option.{ok_or}
 use Rattle.std.specs.List.{list_all}
 use Rattle.toml.specs.Data.{Data, Items, no_items, item, Members, no_members, member, as_integer, as_str, as_array, as_table}
 use Rattle.warm_stamps.specs.declared.TheConstants.{MAX_REPLICAS}
-use Rattle.warm_rank.specs.declared.TheConstants.{MAX_SLOTS}
+use Rattle.warm_rank.specs.declared.TheConstants.{MAX_FRAMES}
 use Rattle.warm_refbuffer.specs.declared.TheConstants.{MAX_CAPACITY}
 use Rattle.warm_devices.specs.declared.TheConstants.{MAX_PAGE_SIZE}
 use Rattle.warm_world.specs.declared.TheConstants.{MAX_WORKERS}
@@ -111,7 +111,7 @@ with_key s key found =
     else (if bytes_eq key (codes "device")
     then (devices_in found >>= λ ds. Ok (record s { devices = ds }))
     else (if bytes_eq key (codes "frames")
-    then (number_to MAX_SLOTS found >>= λ n. Ok (record s { sizes = record s.sizes { frames = n } }))
+    then (number_to MAX_FRAMES found >>= λ n. Ok (record s { sizes = record s.sizes { frames = n } }))
     else (if bytes_eq key (codes "page_size")
     then (number_to MAX_PAGE_SIZE found >>= λ n. Ok (record s { sizes = record s.sizes { page_size = n } }))
     else (if bytes_eq key (codes "replicas")

@@ -74,13 +74,13 @@ number_in most text =
     if is_unsigned_in 0 most text then Some (digits_value 10 (without_leading_plus text)) else None
 
 -- the number of an argument
-abbrev pub number_of : ℕ → Text → List Row → Option ℕ
-number_of most id rows = option_and_then (number_in most) (one_of id rows)
+abbrev pub argument_number : ℕ → Text → List Row → Option ℕ
+argument_number most id rows = option_and_then (number_in most) (one_of id rows)
 
 abbrev pub random_by : List Row → Option Cmd
 random_by rows = do
-  seed ← number_of (2 ^ 64 - 1) (codes "seed") rows
-  events ← number_of (2 ^ 32 - 1) (codes "events") rows
+  seed ← argument_number (2 ^ 64 - 1) (codes "seed") rows
+  events ← argument_number (2 ^ 32 - 1) (codes "events") rows
   Some (Random seed events (first_of (codes "setup") rows))
 
 abbrev pub threads_by : List Row → Option Cmd

@@ -18,6 +18,6 @@ command_for (asked.Random seed events setup) =
 command_for (asked.Threads file setup) = Threads file.now (option_map (λ text. text.now) setup)
 
 -- an allocation failure of clap is the program's `Memory`
-abbrev pub IsFaultOf : Error → CmdFault → Type 0
-IsFaultOf error Memory = kind_of error ≡ OutOfMemory
-IsFaultOf error (Refused kept) = (kept ≡ error) × (kind_of error ≢ OutOfMemory)
+abbrev pub IsClapFault : Error → CmdFault → Type 0
+IsClapFault error Memory = kind_of error ≡ OutOfMemory
+IsClapFault error (Refused kept) = (kept ≡ error) × (kind_of error ≢ OutOfMemory)

@@ -6,7 +6,7 @@ ghost use Rattle.clap.specs.Words.{app_of, found_of, rows_of, rule_of, subcomman
 ghost use Rattle.clap.specs.Faults.{fault_of};
 ghost use Rattle.clap.specs.declared.builder.Command.TheViews.{out-Command};
 ghost use Rattle.warm_setup.specs.Endings.{command_fault_code, command_fault_name};
-ghost use Rattle.warm_setup.specs.Words.{with_play, line_by_line, setup, number, number_of, play, random, random_by, threads, threads_by, warmplay, command_by, Answers, IsRefusal};
+ghost use Rattle.warm_setup.specs.Words.{with_play, line_by_line, setup, number, argument_number, play, random, random_by, threads, threads_by, warmplay, command_by, Answers, IsRefusal};
 ghost use Rattle.warm_setup.specs.WordsView.{command_for};
 
 use crate::path::PathText;
@@ -88,9 +88,9 @@ impl From<AllocError> for CmdFault {
 
 // An allocation failure of clap is the program's `Memory`.
 impl From<clap::Error> for CmdFault {
-    ghost use Rattle.warm_setup.specs.WordsView.{IsFaultOf};
+    ghost use Rattle.warm_setup.specs.WordsView.{IsClapFault};
 
-    ghost from_gives = { IsFaultOf };
+    ghost from_gives = { IsClapFault };
 
     fn from(error: clap::Error) -> CmdFault {
         match error.kind() {
@@ -213,13 +213,13 @@ fn matches_of<'a, S: AsStr>(alloc: Global, words: &'a [S]) -> Result<ArgMatches<
 }
 
 fn seed_in(found: &ArgMatches<'_>) -> Option<u64>
-    ensures { result ≡ number_of (2 ^ 64 - 1) (codes "seed") (rows_of (found_of found.now)) }
+    ensures { result ≡ argument_number (2 ^ 64 - 1) (codes "seed") (rows_of (found_of found.now)) }
 {
     found.get_one("seed")
 }
 
 fn events_in(found: &ArgMatches<'_>) -> Option<u32>
-    ensures { result ≡ number_of (2 ^ 32 - 1) (codes "events") (rows_of (found_of found.now)) }
+    ensures { result ≡ argument_number (2 ^ 32 - 1) (codes "events") (rows_of (found_of found.now)) }
 {
     found.get_one("events")
 }
@@ -297,7 +297,7 @@ fn copied(alloc: Global, text: Option<&str>) -> Result<Option<PathText>, AllocEr
 
 /// The fault of a command line with a word that is not UTF-8, which no command takes:
 /// [`CmdFault::Refused`], or [`CmdFault::Memory`] where the allocation of its text fails.
-pub fn not_text(alloc: Global) -> CmdFault
+pub fn non_utf8_argument(alloc: Global) -> CmdFault
     ensures { IsRefusal ErrorKind.InvalidValue result }
 {
     refused(

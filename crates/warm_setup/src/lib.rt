@@ -10,7 +10,7 @@ mod outcome;
 mod path;
 mod setup;
 
-pub use command::{Cmd, CmdFault, MAX_EVENTS, command_of, not_text};
+pub use command::{Cmd, CmdFault, MAX_EVENTS, command_of, non_utf8_argument};
 pub use outcome::{ErrorLine, Outcome, ProgramFault, outcome_of};
 pub use path::PathText;
 pub use setup::{

@@ -2,7 +2,7 @@
 
 ghost use Rattle.std.specs.Prelude.{◌≡◌, OnOk};
 ghost use Rattle.std.specs.Io.KnownBytes.{Appends};
-ghost use Rattle.warm_setup.specs.Endings.{status_of, status_of_command, line_of, line_of_command, number_named};
+ghost use Rattle.warm_setup.specs.Endings.{exit_status, status_of_command, error_line, line_of_command, number_named};
 
 use crate::command::CmdFault;
 use crate::path::PathText;
@@ -187,8 +187,8 @@ fn number_of(fault: PlayFault) -> Option<u64>
 /// | the setup was refused | 2 | `warmplay: setup: ` and the fault's name |
 /// | the play stopped, or an allocation for the arguments failed | 1 | `warmplay: ` and the fault's name; for a bad line its number follows |
 pub fn outcome_of<'a>(ended: &'a Result<(), ProgramFault>) -> Outcome<'a>
-    ensures status { result.status ≡ status_of ended.entry.now }
-    ensures line { result.line ≡ line_of ended.entry.now }
+    ensures status { result.status ≡ exit_status ended.entry.now }
+    ensures line { result.line ≡ error_line ended.entry.now }
 {
     match ended {
         Ok(()) => Outcome {

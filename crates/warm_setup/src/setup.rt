@@ -10,7 +10,7 @@ ghost use Rattle.std.specs.Str.{IsUtf8};
 ghost use Rattle.toml.specs.Parse.{parse_document};
 ghost use Rattle.toml.specs.View.{view, table_view};
 ghost use Rattle.warm_world.specs.Limits.{IsWithin};
-ghost use Rattle.warm_setup.specs.SetupFaults.{Gives, code_of, name_of};
+ghost use Rattle.warm_setup.specs.SetupFaults.{GivesMeaning, code_of, name_of};
 ghost use Rattle.warm_setup.specs.Setups.{number_to, text_in, with_device_key, device_in, devices_of, devices_in, with_key, setup_of, setup_in, key_by_key, no_fields, each, is_table, defaults};
 ghost use Rattle.warm_setup.specs.SetupView.{fields_of, settings_of, setup_and_devices, AreWithin};
 
@@ -19,7 +19,7 @@ use std::alloc::{AllocError, AllocFailed, Global};
 use thiserror::Error;
 use toml::{Table, Value};
 use warm_devices::MAX_PAGE_SIZE;
-use warm_rank::MAX_SLOTS;
+use warm_rank::MAX_FRAMES;
 use warm_refbuffer::MAX_CAPACITY;
 use warm_stamps::MAX_REPLICAS;
 use warm_world::{MAX_WORKERS, Setup};
@@ -98,9 +98,9 @@ impl<T: Drop> From<AllocFailed<T>> for SetupFault {
 }
 
 impl From<toml::de::Error> for SetupFault {
-    ghost use Rattle.warm_setup.specs.SetupFaults.{IsFaultOf};
+    ghost use Rattle.warm_setup.specs.SetupFaults.{IsTomlFault};
 
-    ghost from_gives = { IsFaultOf };
+    ghost from_gives = { IsTomlFault };
 
     fn from(error: toml::de::Error) -> SetupFault {
         if error.is_memory() {
@@ -134,7 +134,7 @@ fn number(value: &Value, limit: u32) -> Result<u32, SetupFault>
 // A text of at least one byte.
 #[tactic(auto, unfolding(crate::specs::Setups::text_in))]
 fn path_in(alloc: Global, value: &Value) -> Result<PathText, SetupFault>
-    ensures { Gives (λ p. p) (text_in (view value.now)) result }
+    ensures { GivesMeaning (λ p. p) (text_in (view value.now)) result }
 {
     let Some(text) = value.as_str() else {
         return Err(SetupFault::BadKey);
@@ -160,7 +160,7 @@ fn set_device_key(
     key: &str,
     value: &Value,
 ) -> Result<DeviceKeys, SetupFault>
-    ensures { Gives fields_of (with_device_key (fields_of keys) key.now (view value.now)) result }
+    ensures { GivesMeaning fields_of (with_device_key (fields_of keys) key.now (view value.now)) result }
 {
     if key == "pages" {
         let pages = number(value, MAX_PAGES)?;
@@ -180,7 +180,7 @@ fn set_device_key(
 }
 
 fn device_keys(alloc: Global, table: &Table) -> Result<DeviceKeys, SetupFault>
-    ensures { Gives fields_of (key_by_key with_device_key no_fields (table_view table.now)) result }
+    ensures { GivesMeaning fields_of (key_by_key with_device_key no_fields (table_view table.now)) result }
 {
     let mut keys = DeviceKeys {
         pages: None,
@@ -197,7 +197,7 @@ fn device_keys(alloc: Global, table: &Table) -> Result<DeviceKeys, SetupFault>
 
 #[tactic(auto, unfolding(crate::specs::Setups::device_in))]
 fn device(alloc: Global, value: &Value) -> Result<DeviceSpec, SetupFault>
-    ensures { Gives (λ d. d) (device_in (view value.now)) result }
+    ensures { GivesMeaning (λ d. d) (device_in (view value.now)) result }
 {
     let Some(table) = value.as_table() else {
         return Err(SetupFault::BadKey);
@@ -214,7 +214,7 @@ fn device(alloc: Global, value: &Value) -> Result<DeviceSpec, SetupFault>
 
 // Each device in turn, up to the first fault.
 fn each_device(alloc: Global, values: &[Value]) -> Result<Vec<DeviceSpec>, SetupFault>
-    ensures { Gives (λ devices. devices.items) (each device_in (map view values.now)) result }
+    ensures { GivesMeaning (λ devices. devices.items) (each device_in (map view values.now)) result }
 {
     let mut devices = Vec::new(alloc);
     for value in values {
@@ -235,7 +235,7 @@ fn are_tables(values: &[Value]) -> bool
 
 // The types are checked first, then the number of devices, then each device.
 fn devices_of(alloc: Global, values: &[Value]) -> Result<Vec<DeviceSpec>, SetupFault>
-    ensures { Gives (λ devices. devices.items) (devices_of (map view values.now)) result }
+    ensures { GivesMeaning (λ devices. devices.items) (devices_of (map view values.now)) result }
 {
     if !are_tables(values) {
         return Err(SetupFault::BadKey);
@@ -251,7 +251,7 @@ fn devices_of(alloc: Global, values: &[Value]) -> Result<Vec<DeviceSpec>, SetupF
 
 #[tactic(auto, unfolding(crate::specs::Setups::devices_in))]
 fn devices(alloc: Global, value: &Value) -> Result<Vec<DeviceSpec>, SetupFault>
-    ensures { Gives (λ devices. devices.items) (devices_in (view value.now)) result }
+    ensures { GivesMeaning (λ devices. devices.items) (devices_in (view value.now)) result }
 {
     let Some(values) = value.as_array() else {
         return Err(SetupFault::BadKey);
@@ -278,7 +278,7 @@ fn set_key(
     key: &str,
     value: &Value,
 ) -> Result<SetupKeys, SetupFault>
-    ensures value { Gives settings_of (with_key (settings_of keys) key.now (view value.now))
+    ensures value { GivesMeaning settings_of (with_key (settings_of keys) key.now (view value.now))
         result }
     ensures within { AreWithin keys → IfOk result AreWithin }
 {
@@ -291,7 +291,7 @@ fn set_key(
         return Ok(SetupKeys { devices, ..keys });
     }
     if key == "frames" {
-        let frames = number(value, MAX_SLOTS as u32)?;
+        let frames = number(value, MAX_FRAMES as u32)?;
         return Ok(SetupKeys { frames, ..keys });
     }
     if key == "page_size" {
@@ -311,7 +311,7 @@ fn set_key(
 
 // The settings of a table: the defaults, and then its keys in their order.
 fn setup_keys(alloc: Global, table: &Table) -> Result<SetupKeys, SetupFault>
-    ensures value { Gives settings_of (setup_of (table_view table.now)) result }
+    ensures value { GivesMeaning settings_of (setup_of (table_view table.now)) result }
     ensures within { IfOk result AreWithin }
 {
     let mut keys = SetupKeys {
@@ -372,7 +372,7 @@ fn made_from(keys: SetupKeys) -> (Setup, Vec<DeviceSpec>)
 /// at most 80 deep), and [`SetupFault::Memory`] only where an allocation failed, which can be
 /// before any fault of the text is found.
 pub fn read_setup(alloc: Global, text: &str) -> Result<(Setup, Vec<DeviceSpec>), SetupFault>
-    ensures { Gives setup_and_devices (setup_in (parse_document text.now)) result }
+    ensures { GivesMeaning setup_and_devices (setup_in (parse_document text.now)) result }
 {
     let table = toml::table_from_str(alloc, text)?;
     let keys = setup_keys(alloc, &table)?;
@@ -382,7 +382,7 @@ pub fn read_setup(alloc: Global, text: &str) -> Result<(Setup, Vec<DeviceSpec>),
 /// The setup that a file's bytes hold: [`read_setup`] of the text where they are UTF-8, else [`SetupFault::NotToml`].
 pub fn read_setup_file(alloc: Global, bytes: &[u8]) -> Result<(Setup, Vec<DeviceSpec>), SetupFault>
     ensures text { IsUtf8 bytes.now
-        → Gives setup_and_devices (setup_in (parse_document bytes.now)) result }
+        → GivesMeaning setup_and_devices (setup_in (parse_document bytes.now)) result }
     ensures no_text { ¬ IsUtf8 bytes.now → result ≡ Err SetupFault.NotToml }
 {
     match std::str::from_utf8(bytes) {

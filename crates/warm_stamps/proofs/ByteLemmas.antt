@@ -6,7 +6,7 @@ use Rattle.std.proofs.lemmas.List.{take-append-drop, length-take, length-drop, g
 use Rattle.std.proofs.lemmas.Nat.{be_bytes_2, be_bytes_4, be_bytes_8, from_be_bytes-to_be_bytes_2, from_be_bytes-to_be_bytes_4, from_be_bytes-to_be_bytes_8}
 use Rattle.warm_stamps.specs.declared.Stamp.{Stamp}
 use Rattle.warm_stamps.specs.declared.PageId.{PageId}
-use Rattle.warm_stamps.specs.Bytes.{bytes_of_stamp, stamp_of, bytes_of_page, page_of, narrow_bytes_of_page, page_of_narrow, IsReplica, IsStamp, IsPage}
+use Rattle.warm_stamps.specs.Bytes.{bytes_of_stamp, stamp_of, bytes_of_page, page_from_bytes, narrow_bytes_of_page, page_of_narrow, IsReplica, IsStamp, IsPage}
 
 -- numbers below 256
 abbrev pub IsBytes : List ℕ → Type 0
@@ -45,20 +45,20 @@ IsStamp-of ten fits replica = record {
 
 -- ---- pages
 
-pub page_again : (p : PageId) → IsPage p → page_of (bytes_of_page p) ≡ p
+pub page_again : (p : PageId) → IsPage p → page_from_bytes (bytes_of_page p) ≡ p
 page_again p fits =
     let devs : from_be_bytes w16 (to_be_bytes w16 p.dev) ≡ p.dev = from_be_bytes-to_be_bytes_2 p.dev fits.dev in
     let nos : from_be_bytes w64 (to_be_bytes w64 p.no) ≡ p.no = from_be_bytes-to_be_bytes_8 p.no fits.no in
     λ i. record { dev = devs i; no = nos i }
 
-pub page_spelled : (ten : List ℕ) → length ten ≡ 10 → IsBytes ten → bytes_of_page (page_of ten) ≡ ten
+pub page_spelled : (ten : List ℕ) → length ten ≡ 10 → IsBytes ten → bytes_of_page (page_from_bytes ten) ≡ ten
 page_spelled ten len fits =
     let dev : to_be_bytes w16 (from_be_bytes w16 (take 2 ten)) ≡ take 2 ten = be_bytes_2 (take 2 ten) _ (omega (arith, length-take 2 ten)) (IsBytes-take 2 ten fits) refl in
     let no : to_be_bytes w64 (from_be_bytes w64 (drop 2 ten)) ≡ drop 2 ten = be_bytes_8 (drop 2 ten) _ (omega (arith, length-drop 2 ten)) (IsBytes-drop 2 ten fits) refl in
-    let both : bytes_of_page (page_of ten) ≡ take 2 ten ++ drop 2 ten = λ i. dev i ++ no i in
+    let both : bytes_of_page (page_from_bytes ten) ≡ take 2 ten ++ drop 2 ten = λ i. dev i ++ no i in
     both ∙ take-append-drop 2 ten
 
-pub IsPage-of : (ten : List ℕ) → IsBytes ten → IsPage (page_of ten)
+pub IsPage-of : (ten : List ℕ) → IsBytes ten → IsPage (page_from_bytes ten)
 IsPage-of ten fits = record {
   dev = let front = IsBytes-take 2 ten fits in omega (arith, front 0, front 1);
   no = let back = IsBytes-drop 2 ten fits in omega (arith, back 0, back 1, back 2, back 3, back 4, back 5, back 6, back 7);

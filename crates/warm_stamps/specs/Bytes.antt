@@ -18,8 +18,8 @@ abbrev pub bytes_of_page : PageId → List ℕ
 bytes_of_page p = to_be_bytes w16 p.dev ++ to_be_bytes w64 p.no
 
 -- the page that ten bytes encode
-abbrev pub page_of : List ℕ → PageId
-page_of bytes = record { dev = from_be_bytes w16 (take 2 bytes); no = from_be_bytes w64 (drop 2 bytes) }
+abbrev pub page_from_bytes : List ℕ → PageId
+page_from_bytes bytes = record { dev = from_be_bytes w16 (take 2 bytes); no = from_be_bytes w64 (drop 2 bytes) }
 
 -- two bytes of the device's number, then four of the page's, where its number fits in 32 bits
 abbrev pub narrow_bytes_of_page : PageId → List ℕ

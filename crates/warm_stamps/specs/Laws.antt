@@ -11,11 +11,11 @@ pub record OrdersTotally {A : Type 0} (cmp : A → A → Ordering) : Type 0 wher
   pub turns : (x y : A) → cmp y x ≡ ordering_reverse (cmp x y)
   pub transitive : (x y z : A) → cmp x y ≡ Less → cmp y z ≡ Less → cmp x z ≡ Less
 
-abbrev pub StampsAreOrdered : Type 0
-StampsAreOrdered = OrdersTotally stamp_cmp
+abbrev pub StampOrderIsTotal : Type 0
+StampOrderIsTotal = OrdersTotally stamp_cmp
 
-abbrev pub PagesAreOrdered : Type 0
-PagesAreOrdered = OrdersTotally page_cmp
+abbrev pub PageOrderIsTotal : Type 0
+PageOrderIsTotal = OrdersTotally page_cmp
 
-abbrev pub ReferencesAreOrdered : Type 0
-ReferencesAreOrdered = OrdersTotally reference_cmp
+abbrev pub ReferenceOrderIsTotal : Type 0
+ReferenceOrderIsTotal = OrdersTotally reference_cmp

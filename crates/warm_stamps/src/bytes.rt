@@ -1,6 +1,6 @@
 //! Stamps and pages as bytes, the highest byte of each number first.
 ghost use Rattle.std.specs.Prelude.{◌≡◌, ◌↔◌, IfOk, IsOk};
-ghost use Rattle.warm_stamps.specs.Bytes.{bytes_of_stamp, stamp_of, bytes_of_page, page_of, narrow_bytes_of_page, page_of_narrow, IsReplica};
+ghost use Rattle.warm_stamps.specs.Bytes.{bytes_of_stamp, stamp_of, bytes_of_page, page_from_bytes, narrow_bytes_of_page, page_of_narrow, IsReplica};
 
 use crate::{BadReplica, PageId, ReplicaId, Stamp};
 
@@ -32,7 +32,7 @@ pub fn stamp_from(bytes: &[u8; 10]) -> Result<Stamp, BadReplica>
 /// The ten bytes of a page: two of its device's number, then eight of its page number.
 pub fn page_bytes(page: PageId) -> [u8; 10]
     ensures spelled { result ≡ bytes_of_page page }
-    ensures back { page_of result ≡ page }
+    ensures back { page_from_bytes result ≡ page }
 {
     let [high, low] = page.dev.to_be_bytes();
     let [a, b, c, d, e, f, g, h] = page.no.to_be_bytes();
@@ -41,7 +41,7 @@ pub fn page_bytes(page: PageId) -> [u8; 10]
 
 /// The page of these ten bytes.
 pub fn page_from(bytes: &[u8; 10]) -> PageId
-    ensures value { result ≡ page_of bytes.now }
+    ensures value { result ≡ page_from_bytes bytes.now }
     ensures spelled { bytes_of_page result ≡ bytes.now }
 {
     let [high, low, a, b, c, d, e, f, g, h] = *bytes;

@@ -7,36 +7,36 @@ ghost use Rattle.warm_stamps.specs.declared.Stamp.{Stamp};
 ghost use Rattle.warm_stamps.specs.declared.PageId.{PageId};
 ghost use Rattle.warm_stamps.specs.declared.Reference.{Reference};
 ghost use Rattle.warm_stamps.specs.Stamps.{stamp_cmp, page_cmp, reference_cmp};
-ghost use Rattle.warm_stamps.specs.Laws.{StampsAreOrdered, PagesAreOrdered, ReferencesAreOrdered};
+ghost use Rattle.warm_stamps.specs.Laws.{StampOrderIsTotal, PageOrderIsTotal, ReferenceOrderIsTotal};
 
 use crate::{PageId, Reference, Stamp};
 
 /// The order of `Stamp` in Rust is by time, then replica.
-pub fn stamps_compare()
+pub fn ord_is_stamp_cmp()
     ensures { (s t : Stamp) → ⟦<Stamp as Ord>⟧.cmp s t ≡ stamp_cmp s t }
 {}
 
 /// The order of `PageId` in Rust is by device, then number.
-pub fn pages_compare()
+pub fn ord_is_page_cmp()
     ensures { (p q : PageId) → ⟦<PageId as Ord>⟧.cmp p q ≡ page_cmp p q }
 {}
 
 /// The order of `Reference` in Rust is by page, then stamp.
-pub fn references_compare()
+pub fn ord_is_reference_cmp()
     ensures { (r s : Reference) → ⟦<Reference as Ord>⟧.cmp r s ≡ reference_cmp r s }
 {}
 
 /// The order of stamps is total, and only equal stamps tie.
-pub fn stamps_are_ordered()
-    ensures { StampsAreOrdered }
+pub fn stamp_order_is_total()
+    ensures { StampOrderIsTotal }
 {}
 
 /// The order of pages is total, and only equal pages tie.
-pub fn pages_are_ordered()
-    ensures { PagesAreOrdered }
+pub fn page_order_is_total()
+    ensures { PageOrderIsTotal }
 {}
 
 /// The order of references is total, and only equal references tie.
-pub fn references_are_ordered()
-    ensures { ReferencesAreOrdered }
+pub fn reference_order_is_total()
+    ensures { ReferenceOrderIsTotal }
 {}

@@ -6,13 +6,13 @@ use Rattle.warm_play_fault.specs.declared.PlayFault.{PlayFault}
 use Rattle.warm_play_fault.specs.declared.PlayFault.TheVariants.{Memory}
 use Rattle.warm_world.specs.Sizes.{Sizes}
 use Rattle.warm_threads.specs.Opened.{AreUsable}
-use Rattle.warm_threads.specs.Refusals.{OpenRefused}
+use Rattle.warm_threads.specs.Refusals.{ThreadsPlayRefused}
 
 pub usable_then : {A E : Type 0} (r : Result A E) (Q : Type 0) → Q → OnOk r Q
 usable_then (Ok x) Q usable = usable
 usable_then (Err e) Q usable = tt
 
 -- usable devices are refused only because of an allocation failure
-pub memory_refuses : {A : Type 0} (s : Sizes) (devices : List (List DeviceState)) (r : Result A PlayFault) → AreUsable s devices → IfErr r (λ why. why ≡ Memory) → IfErr r (λ why. OpenRefused s devices why)
+pub memory_refuses : {A : Type 0} (s : Sizes) (devices : List (List DeviceState)) (r : Result A PlayFault) → AreUsable s devices → IfErr r (λ why. why ≡ Memory) → IfErr r (λ why. ThreadsPlayRefused s devices why)
 memory_refuses s devices (Ok x) usable h = tt
-memory_refuses s devices (Err why) usable h = subst (λ (w : PlayFault). OpenRefused s devices w) (sym h) usable
+memory_refuses s devices (Err why) usable h = subst (λ (w : PlayFault). ThreadsPlayRefused s devices w) (sym h) usable

@@ -21,10 +21,10 @@ StopsThreads (BadLine number) = Unit {0}
 StopsThreads why = StopsCrews why
 
 -- why a play does not begin: the devices can't be used; or they can, and an allocation failed
-abbrev pub OpenRefused : Sizes → List (List DeviceState) → PlayFault → Type 0
-OpenRefused s devices BadDevices = AreUsable s devices → ⊥
-OpenRefused s devices Memory = AreUsable s devices
-OpenRefused s devices why = ⊥
+abbrev pub ThreadsPlayRefused : Sizes → List (List DeviceState) → PlayFault → Type 0
+ThreadsPlayRefused s devices BadDevices = AreUsable s devices → ⊥
+ThreadsPlayRefused s devices Memory = AreUsable s devices
+ThreadsPlayRefused s devices why = ⊥
 
 -- why a play does not reach its end: the devices can't be used; or they can, and it was stopped
 abbrev pub ThreadsRefused : Sizes → List (List DeviceState) → PlayFault → Type 0

@@ -3,7 +3,7 @@ ghost use Rattle.std.specs.Prelude.{◌≡◌, ◌<◌, ◌≤◌, List, length,
 ghost use Rattle.std.specs.List.{All};
 ghost use Rattle.warm_frames.specs.declared.layout.TheConstants.{MAX_ENTRIES};
 ghost use Rattle.warm_frames.specs.declared.message.Message.{Message};
-ghost use Rattle.warm_frames.specs.Spelling.{Spells};
+ghost use Rattle.warm_frames.specs.Spelling.{Encodes};
 ghost use Rattle.warm_gossip.specs.declared.call.Call.TheVariants.{Send, Receive};
 ghost use Rattle.warm_gossip.specs.declared.call.Reply.TheVariants.{Sent, Answers};
 ghost use Rattle.warm_gossip.specs.Pieces.{last_page};
@@ -144,7 +144,7 @@ fn receive<M: Machine<Call = Call, Reply = Reply>>(
     bytes: &[u8],
 ) -> Result<(), CrewFault>
     ensures { OnOk result ((message : Message) × (answers : List Message)
-        × Spells bytes.now message
+        × Encodes bytes.now message
         × M.goes (M.view machine.old) (Receive message) (Answers answers) (M.view machine.new)) }
 {
     let Ok(message) = decode(alloc, bytes) else {

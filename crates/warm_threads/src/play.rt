@@ -17,7 +17,7 @@ ghost use Rattle.warm_threads.specs.Opened.{opened_node, opened_nodes, AreUsable
 ghost use Rattle.warm_threads.specs.Plans.{AreJobsOf};
 ghost use Rattle.warm_threads.specs.Shown.{replica_text, replicas_text};
 ghost use Rattle.warm_threads.specs.Played.{Played};
-ghost use Rattle.warm_threads.specs.Refusals.{OpenRefused, StopsThreads, ThreadsRefused};
+ghost use Rattle.warm_threads.specs.Refusals.{ThreadsPlayRefused, StopsThreads, ThreadsRefused};
 ghost use Rattle.warm_threads.specs.Works.{Went};
 
 use crate::crews::run_all;
@@ -130,7 +130,7 @@ fn nodes_over<D: PageDevice>(
         → result ≡ Err BadDevices }
     ensures usable { OnOk result (AreUsable setup (listed D.state devices.items)) }
     ensures refused { IfErr result (λ why.
-        OpenRefused setup (listed D.state devices.items) why) }
+        ThreadsPlayRefused setup (listed D.state devices.items) why) }
 {
     if !are_usable(setup, &devices) {
         return Err(PlayFault::BadDevices);

@@ -1,14 +1,14 @@
 -- Replicas that the same references reached agree.
 use Rattle.std.proofs.Common.{◌≡◌, ℕ, ◌<◌, [], length, map, ap, sym, ◌∙◌, arith}
 use Rattle.std.proofs.lemmas.List.{get_or-map}
-use Rattle.warm_history.specs.Histories.{entries_of, holding, history}
-use Rattle.warm_history.specs.References.{HoldSame}
+use Rattle.warm_history.specs.Histories.{entries_of, history_of_entries, history}
+use Rattle.warm_history.specs.References.{SameReferences}
 use Rattle.warm_history.proofs.SetLemmas.{history_of_set}
 use Rattle.warm_rank.proofs.LeavingLemmas.{same_references_rank_alike}
 use Rattle.warm_gossip.specs.State.{NodeView}
 use Rattle.warm_world.specs.Views.{ReplicaView, WorldView}
-use Rattle.warm_world.specs.Lists.{place}
-use Rattle.warm_world.specs.States.{ModelState, ReplicaState, reach_of, nobody}
+use Rattle.warm_world.specs.Lists.{index_of_number}
+use Rattle.warm_world.specs.States.{ModelState, ReplicaState, reach_of, no_replica}
 use Rattle.warm_world.specs.Stands.{Alike, StandsFor, ReplicaStands, HistoriesAreExact, ReplicasAgree}
 use Rattle.warm_world.proofs.Pairs.{Pairwise-map}
 
@@ -16,10 +16,10 @@ pub histories_are_exact : (w : WorldView) (m : ModelState) → StandsFor w m →
 histories_are_exact w m st i number =
     let same : map (λ (r : ReplicaView). r.node.history) w.replicas ≡ map (λ (r : ReplicaState). history r.reach) m.replicas =
     Pairwise-map (ReplicaStands m.capacity) (λ r. r.node.history) (λ r. history r.reach) w.replicas m.replicas (λ k a b here. ap (λ (n : NodeView). n.history) here.node_is) st.replicas in
-    let lt : place i < length m.replicas = omega (arith, number.from_one, number.in_range) in
-    rw same (get_or-map (λ (r : ReplicaState). history r.reach) m.replicas (place i) nobody (holding []) lt)
+    let lt : index_of_number i < length m.replicas = omega (arith, number.from_one, number.in_range) in
+    rw same (get_or-map (λ (r : ReplicaState). history r.reach) m.replicas (index_of_number i) no_replica (history_of_entries []) lt)
 
-pub models_agree : (m : ModelState) (i j : ℕ) → HoldSame (reach_of m i) (reach_of m j) → Alike m i j
+pub models_agree : (m : ModelState) (i j : ℕ) → SameReferences (reach_of m i) (reach_of m j) → Alike m i j
 models_agree m i j same = record { histories = history_of_set (reach_of m i) (reach_of m j) same; ranking = same_references_rank_alike (reach_of m i) (reach_of m j) same }
 
 pub replicas_agree : (w : WorldView) (m : ModelState) → StandsFor w m → ReplicasAgree w m

@@ -10,14 +10,14 @@ use Rattle.warm_stamps.specs.declared.PageId.{PageId}
 use Rattle.warm_frames.specs.declared.message.Message.{Message}
 use Rattle.warm_gossip.specs.State.{NodeView}
 use Rattle.warm_gossip.specs.Step.{Refuses}
-use Rattle.warm_gossip.proofs.Told.{refused_keeps, same_alone}
+use Rattle.warm_gossip.proofs.Given.{refused_keeps, same_alone}
 use Rattle.warm_world.specs.declared.event.Event.{Event}
 use Rattle.warm_world.specs.declared.event.Event.TheVariants.{Pin, Unpin, Put, Get, Victim, Warm, WarmStep}
 use Rattle.warm_world.specs.declared.event.Answer.{Answer}
 use Rattle.warm_world.specs.declared.event.Answer.TheVariants.{Done, Pinned, Bytes, Page, Pages, Loaded, Refused}
 use Rattle.warm_world.specs.declared.event.WorldFault.TheVariants.{Node}
 use Rattle.warm_world.specs.Next.{call_of, reply_of}
-use Rattle.warm_world.specs.Replicas.{Replies}
+use Rattle.warm_world.specs.Replicas.{SomeReply}
 
 -- nothing but the pool is changed
 abbrev pub IsAlone : NodeView → NodeView → Type 0
@@ -26,12 +26,12 @@ IsAlone old new = new ≡ record old { pool = new.pool }
 pool_alone : (old new : NodeView) (pool : PoolView) → (let n : NodeView = record old { pool = pool } in new ≡ n) → IsAlone old new
 pool_alone old new pool is = is ∙ ap (λ (p : PoolView). let n : NodeView = record old { pool = p } in n) (ap (λ (n : NodeView). n.pool) (sym is))
 
-refused_alone : (old new : NodeView) (asked : Option Call) (why : NodeFault) → Replies old asked (Some (reply.Refused why)) new → IsAlone old new
+refused_alone : (old new : NodeView) (asked : Option Call) (why : NodeFault) → SomeReply old asked (Some (reply.Refused why)) new → IsAlone old new
 refused_alone old new (Some asked) why r = refused_keeps old asked why new r
 refused_alone old new None why r = absurd r
 
 -- so does the call that an event makes
-pub replies_alone : (old new : NodeView) (event : Event) (answer : Answer) → Replies old (call_of event) (reply_of answer) new → IsAlone old new
+pub replies_alone : (old new : NodeView) (event : Event) (answer : Answer) → SomeReply old (call_of event) (reply_of answer) new → IsAlone old new
 replies_alone old new (Pin i p) (Pinned slot) step = step.0
 replies_alone old new (Unpin i slot) Done step = pool_alone old new _ step.1
 replies_alone old new (Put i slot at bytes) Done step = step.1.0

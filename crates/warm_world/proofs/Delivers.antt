@@ -2,22 +2,22 @@
 use Rattle.std.proofs.Common.{◌≡◌, ℕ, ◌+◌, ◌-◌, List, [], Some, None, length, get_or, set, refl, sym, ◌∙◌, ap, subst, arith}
 use Rattle.std.specs.Prelude.{◌==◌, if◌then◌else◌}
 use Rattle.std.proofs.lemmas.List.{length-append, length-map, set-set}
-use Rattle.warm_history.specs.Histories.{HistoryView, history, refs}
-use Rattle.warm_history.specs.ReferenceSets.{since}
+use Rattle.warm_history.specs.Histories.{HistoryView, history, references_of}
+use Rattle.warm_history.specs.ReferenceSets.{with_horizon}
 use Rattle.warm_frames.specs.declared.message.Message.{Message}
 use Rattle.warm_frames.specs.declared.message.Message.TheVariants.{Entries, Digest, Want}
-use Rattle.warm_gossip.specs.Answers.{IsAnswer, taught}
+use Rattle.warm_gossip.specs.Answers.{IsAnswer, history_after}
 use Rattle.warm_gossip.specs.State.{NodeView}
 use Rattle.warm_world.specs.declared.event.Event.TheVariants.{Deliver}
 use Rattle.warm_world.specs.declared.event.Answer.{Answer}
 use Rattle.warm_world.specs.declared.event.Answer.TheVariants.{Took, Refused}
 use Rattle.warm_world.specs.declared.event.WorldFault.TheVariants.{Node}
 use Rattle.warm_gossip.specs.declared.fault.NodeFault.TheVariants.{Memory}
-use Rattle.warm_world.specs.Lists.{Pairwise, place}
-use Rattle.warm_world.specs.Replicas.{Encodes, KeepsAll, Takes, raised_to}
+use Rattle.warm_world.specs.Lists.{Pairwise, index_of_number}
+use Rattle.warm_world.specs.Replicas.{EncodesMessage, KeepsAll, StoresAnswers, raised_to}
 use Rattle.warm_world.specs.Views.{ReplicaView}
 use Rattle.warm_world.specs.States.{ModelState, ReplicaState, add_records, reach_of, record_at, replica, set_replica}
-use Rattle.warm_world.specs.Answered.{heard}
+use Rattle.warm_world.specs.Answered.{reach_after}
 use Rattle.warm_world.specs.Next.{IsNamed}
 use Rattle.warm_world.specs.Stands.{ReplicaStands, SpellsRecord, StandsFor, Stepped, message_kept, view_shape}
 use Rattle.warm_world.proofs.Messages.{messages_join, spells_kept}
@@ -32,21 +32,21 @@ unanswered id h (Digest sender horizon digests) answers none answer = absurd (cc
 unanswered id h (Want sender horizon request) answers none answer = absurd (cc)
 
 -- digests and a request teach their horizon alone
-pub taught_horizon : (h : HistoryView) (message : Message) (horizon : ℕ) → raised_to message ≡ Some horizon → taught h message ≡ history (since horizon (refs h))
+pub taught_horizon : (h : HistoryView) (message : Message) (horizon : ℕ) → raised_to message ≡ Some horizon → history_after h message ≡ history (with_horizon horizon (references_of h))
 taught_horizon h (Entries sender time es) horizon is = absurd (cc)
-taught_horizon h (Digest sender time digests) horizon is = let same : time ≡ horizon = cc in ap (λ t. history (since t (refs h))) same
-taught_horizon h (Want sender time request) horizon is = let same : time ≡ horizon = cc in ap (λ t. history (since t (refs h))) same
+taught_horizon h (Digest sender time digests) horizon is = let same : time ≡ horizon = cc in ap (λ t. history (with_horizon t (references_of h))) same
+taught_horizon h (Want sender time request) horizon is = let same : time ≡ horizon = cc in ap (λ t. history (with_horizon t (references_of h))) same
 
 module _ {A : Type 0} (f : A → ReplicaView) (xs : List A) (messages : List (List ℕ)) where
   pub delivered : (m : ModelState) (j k count first : ℕ) (x y : A) (message : Message) (answers : List Message) (n : NodeView) (messages' : List (List ℕ))
-      → StandsFor (world f xs messages xs) m → IsNamed (view_shape (world f xs messages xs)) (Deliver j k) → x ≡ get_or xs (place j) x
-      → message ≡ message_kept (record_at m (place k)) → IsAnswer (f x).node.id (f x).node.history message answers → n ≡ record (f x).node { history = taught (f x).node.history message }
+      → StandsFor (world f xs messages xs) m → IsNamed (view_shape (world f xs messages xs)) (Deliver j k) → x ≡ get_or xs (index_of_number j) x
+      → message ≡ message_kept (record_at m (index_of_number k)) → IsAnswer (f x).node.id (f x).node.history message answers → n ≡ record (f x).node { history = history_after (f x).node.history message }
       → f y ≡ record (f x) { node = n } → KeepsAll messages answers messages'
       → count ≡ length answers → first ≡ if count == 0 then 0 else length messages' - count + 1
-      → Stepped m (Deliver j k) (Took count first) (record (world f xs messages (set xs (place j) y)) { messages = messages' })
+      → Stepped m (Deliver j k) (Took count first) (record (world f xs messages (set xs (index_of_number j) y)) { messages = messages' })
   delivered m j k count first x y message answers n messages' st named is spelled answer learns becomes keeps many from =
-      let p = place j in
-      let kept = record_at m (place k) in
+      let p = index_of_number j in
+      let kept = record_at m (index_of_number k) in
       let lt = place_in f xs messages (Deliver j k) named in
       let here = stands_at f xs messages m p x st lt is in
       let S = reach_of m j in
@@ -54,17 +54,17 @@ module _ {A : Type 0} (f : A → ReplicaView) (xs : List A) (messages : List (Li
       let asked : IsAnswer j (history S) (message_kept kept) answers =
       subst (λ g. IsAnswer j (history S) g answers) spelled (subst (λ (n : NodeView). IsAnswer n.id n.history message answers) node answer) in
       let rs = answer_records j S kept answers asked in
-      let r : ReplicaState = record (replica m p) { reach = heard S kept } in
-      let learned : taught (f x).node.history message ≡ history (heard S kept) = ap (λ (n : NodeView). taught n.history message) node ∙ ap (taught (history S)) spelled ∙ taught_heard S kept in
+      let r : ReplicaState = record (replica m p) { reach = reach_after S kept } in
+      let learned : history_after (f x).node.history message ≡ history (reach_after S kept) = ap (λ (n : NodeView). history_after n.history message) node ∙ ap (history_after (history S)) spelled ∙ taught_heard S kept in
       let stands : ReplicaStands m.capacity p (f y) r = record {
         has_capacity = here.has_capacity;
         node_is = ap (λ (s : ReplicaView). s.node) becomes ∙ learns ∙ ap (λ (h : HistoryView). let v : NodeView = record (f x).node { history = h } in v) learned
-            ∙ ap (λ (u : NodeView). let v : NodeView = record u { history = history (heard S kept) } in v) here.node_is;
+            ∙ ap (λ (u : NodeView). let v : NodeView = record u { history = history (reach_after S kept) } in v) here.node_is;
         buffers_are = ap (λ (s : ReplicaView). s.buffers) becomes ∙ here.buffers_are;
       } in
       let changed = replica_changes f xs messages m p y r st lt stands in
-      let spell = Pairwise-of Encodes SpellsRecord message_kept keeps.0 rs.added (λ bytes one codes. spells_kept bytes (message_kept one) one refl codes)
-      (subst (Pairwise (λ _ bytes g. Encodes bytes g) keeps.0) rs.are keeps.1) in
+      let spell = Pairwise-of EncodesMessage SpellsRecord message_kept keeps.0 rs.added (λ bytes one codes. spells_kept bytes (message_kept one) one refl codes)
+      (subst (Pairwise (λ _ bytes g. EncodesMessage bytes g) keeps.0) rs.are keeps.1) in
       let all : length answers ≡ length rs.added = ap length rs.are ∙ length-map rs.added message_kept in
       let counted : length messages' - count ≡ length m.records =
       omega (arith, ap length keeps.2, length-append messages keeps.0, spell.same_length, st.messages.same_length, all, many) in
@@ -85,11 +85,11 @@ module _ {A : Type 0} (f : A → ReplicaView) (xs : List A) (messages : List (Li
 
   -- entries come: their answer is none, which is kept without memory
   pub taken : (m : ModelState) (j k : ℕ) (x y : A) (message : Message) (answers : List Message) (n : NodeView) (messages' : List (List ℕ)) (answer : Answer)
-      → StandsFor (world f xs messages xs) m → IsNamed (view_shape (world f xs messages xs)) (Deliver j k) → x ≡ get_or xs (place j) x
-      → message ≡ message_kept (record_at m (place k)) → raised_to message ≡ None → IsAnswer (f x).node.id (f x).node.history message answers
-      → n ≡ record (f x).node { history = taught (f x).node.history message }
-      → f y ≡ record (f x) { node = n } → Takes messages answers answer messages'
-      → Stepped m (Deliver j k) answer (record (world f xs messages (set xs (place j) y)) { messages = messages' })
+      → StandsFor (world f xs messages xs) m → IsNamed (view_shape (world f xs messages xs)) (Deliver j k) → x ≡ get_or xs (index_of_number j) x
+      → message ≡ message_kept (record_at m (index_of_number k)) → raised_to message ≡ None → IsAnswer (f x).node.id (f x).node.history message answers
+      → n ≡ record (f x).node { history = history_after (f x).node.history message }
+      → f y ≡ record (f x) { node = n } → StoresAnswers messages answers answer messages'
+      → Stepped m (Deliver j k) answer (record (world f xs messages (set xs (index_of_number j) y)) { messages = messages' })
   taken m j k x y message answers n messages' (Took count first) st named is spelled none answered learns becomes takes =
       delivered m j k count first x y message answers n messages' st named is spelled answered learns becomes takes.0 takes.1 takes.2
   taken m j k x y message answers n messages' (Refused (Node Memory)) st named is spelled none answered learns becomes takes =
@@ -98,25 +98,25 @@ module _ {A : Type 0} (f : A → ReplicaView) (xs : List A) (messages : List (Li
 
   -- digests or a request come, and their answers are kept: then the horizon rises
   pub raised_after : (m : ModelState) (j k horizon : ℕ) (x y z : A) (message : Message) (answers : List Message) (messages' : List (List ℕ)) (answer : Answer) (count first : ℕ)
-      → StandsFor (world f xs messages xs) m → IsNamed (view_shape (world f xs messages xs)) (Deliver j k) → x ≡ get_or xs (place j) x
-      → message ≡ message_kept (record_at m (place k)) → raised_to message ≡ Some horizon → IsAnswer (f x).node.id (f x).node.history message answers
-      → f y ≡ f x → f z ≡ record (f y) { node = record (f y).node { history = history (since horizon (refs (f y).node.history)) } }
-      → answer ≡ Took count first → Takes messages answers answer messages'
-      → Stepped m (Deliver j k) answer (record (world f xs messages (set (set xs (place j) y) (place j) z)) { messages = messages' })
+      → StandsFor (world f xs messages xs) m → IsNamed (view_shape (world f xs messages xs)) (Deliver j k) → x ≡ get_or xs (index_of_number j) x
+      → message ≡ message_kept (record_at m (index_of_number k)) → raised_to message ≡ Some horizon → IsAnswer (f x).node.id (f x).node.history message answers
+      → f y ≡ f x → f z ≡ record (f y) { node = record (f y).node { history = history (with_horizon horizon (references_of (f y).node.history)) } }
+      → answer ≡ Took count first → StoresAnswers messages answers answer messages'
+      → Stepped m (Deliver j k) answer (record (world f xs messages (set (set xs (index_of_number j) y) (index_of_number j) z)) { messages = messages' })
   raised_after m j k horizon x y z message answers messages' answer count first st named is spelled rises answered same becomes took takes =
-      let n : NodeView = record (f x).node { history = taught (f x).node.history message } in
+      let n : NodeView = record (f x).node { history = history_after (f x).node.history message } in
       let shows : f z ≡ record (f x) { node = n } =
       becomes
-      ∙ ap (λ (r : ReplicaView). let s : ReplicaView = record r { node = record r.node { history = history (since horizon (refs r.node.history)) } } in s) same
+      ∙ ap (λ (r : ReplicaView). let s : ReplicaView = record r { node = record r.node { history = history (with_horizon horizon (references_of r.node.history)) } } in s) same
       ∙ ap (λ (h : HistoryView). let s : ReplicaView = record (f x) { node = record (f x).node { history = h } } in s) (sym (taught_horizon (f x).node.history message horizon rises)) in
-      let kept : Takes messages answers (Took count first) messages' = subst (λ a. Takes messages answers a messages') took takes in
-      rw (set-set xs (place j) y z, took) (delivered m j k count first x z message answers n messages' st named is spelled answered refl shows kept.0 kept.1 kept.2)
+      let kept : StoresAnswers messages answers (Took count first) messages' = subst (λ a. StoresAnswers messages answers a messages') took takes in
+      rw (set-set xs (index_of_number j) y z, took) (delivered m j k count first x z message answers n messages' st named is spelled answered refl shows kept.0 kept.1 kept.2)
 
   -- the allocation of the answers failed, and nothing has changed
   pub unkept : (m : ModelState) (j k : ℕ) (x y : A) (messages' : List (List ℕ)) (answers : List Message) (answer : Answer)
-      → StandsFor (world f xs messages xs) m → IsNamed (view_shape (world f xs messages xs)) (Deliver j k) → x ≡ get_or xs (place j) x → f y ≡ f x
-      → ((count first : ℕ) → answer ≡ Took count first → ⊥) → Takes messages answers answer messages'
-      → Stepped m (Deliver j k) answer (record (world f xs messages (set xs (place j) y)) { messages = messages' })
+      → StandsFor (world f xs messages xs) m → IsNamed (view_shape (world f xs messages xs)) (Deliver j k) → x ≡ get_or xs (index_of_number j) x → f y ≡ f x
+      → ((count first : ℕ) → answer ≡ Took count first → ⊥) → StoresAnswers messages answers answer messages'
+      → Stepped m (Deliver j k) answer (record (world f xs messages (set xs (index_of_number j) y)) { messages = messages' })
   unkept m j k x y messages' answers (Took count first) st named is same other takes = absurd (other count first refl)
   unkept m j k x y messages' answers (Refused (Node Memory)) st named is same other takes =
       rw takes.1 (no_memory f xs messages m (Deliver j k) x y Memory st named is same refl (λ there here. (there, refl)))

@@ -6,7 +6,7 @@ use Rattle.std.proofs.lemmas.List.{map-append}
 use Rattle.warm_stamps.specs.declared.PageId.{PageId}
 use Rattle.warm_history.specs.declared.hist.Entry.{Entry}
 use Rattle.warm_history.specs.ReferenceSets.{ReferenceSet}
-use Rattle.warm_history.specs.Histories.{entries_of, history, refs}
+use Rattle.warm_history.specs.Histories.{entries_of, history, references_of}
 use Rattle.warm_history.specs.Carried.{bucket_entries, carried}
 use Rattle.warm_history.proofs.CarriedLemmas.{history-carried}
 use Rattle.warm_history.proofs.HistoryLemmas.{hist_refs-history, horizon-history, same_hists}
@@ -15,29 +15,29 @@ use Rattle.warm_frames.specs.declared.layout.TheConstants.{MAX_ENTRIES}
 use Rattle.warm_frames.specs.declared.message.Message.{Message}
 use Rattle.warm_frames.specs.declared.message.Message.TheVariants.{Digest, Entries, Want}
 use Rattle.warm_digest.specs.BucketDigests.{digests_of}
-use Rattle.warm_gossip.specs.Answers.{AnswersDigests, IsAnswer, bucket_messages, buckets_in, pieces, sent, taught, requested_messages}
+use Rattle.warm_gossip.specs.Answers.{AnswersDigests, IsAnswer, bucket_messages, buckets_in, pieces, sent, history_after, requested_messages}
 use Rattle.warm_gossip.specs.Pieces.{AreInTurn, last_page}
 use Rattle.warm_gossip.specs.Round.{offer}
 use Rattle.warm_gossip.specs.State.{NodeView}
 use Rattle.warm_gossip.proofs.PieceLemmas.{pieces_in_turn}
-use Rattle.warm_gossip.proofs.RoundLemmas.{entries_teach}
+use Rattle.warm_gossip.proofs.RoundLemmas.{entries_bring_all}
 use Rattle.warm_world.specs.States.{MessageRecord, ModelState, References, Digests, Request, node_of, reach_of}
-use Rattle.warm_world.specs.Answered.{AreAnswers, bucket_records, heard, records_of, requested_records}
+use Rattle.warm_world.specs.Answered.{AreAnswers, bucket_records, reach_after, records_of, requested_records}
 use Rattle.warm_world.specs.Stands.{message_kept}
 
-own_history : (S : ReferenceSet) → history (refs (history S)) ≡ history S
-own_history S = same_hists (refs (history S)) S (horizon-history S) (hist_refs-history S)
+own_history : (S : ReferenceSet) → history (references_of (history S)) ≡ history S
+own_history S = same_hists (references_of (history S)) S (horizon-history S) (hist_refs-history S)
 
 -- what is carried of a history is what is carried of the references for which it stands
-carried_alike : (S : ReferenceSet) (bucket : ℕ) (after : Option PageId) (limit : ℕ) → entries_of (history (carried (refs (history S)) bucket after limit)) ≡ entries_of (history (carried S bucket after limit))
-carried_alike S bucket after limit = sym (history-carried (refs (history S)) bucket after limit) ∙ rw (own_history S) (history-carried S bucket after limit)
+carried_alike : (S : ReferenceSet) (bucket : ℕ) (after : Option PageId) (limit : ℕ) → entries_of (history (carried (references_of (history S)) bucket after limit)) ≡ entries_of (history (carried S bucket after limit))
+carried_alike S bucket after limit = sym (history-carried (references_of (history S)) bucket after limit) ∙ rw (own_history S) (history-carried S bucket after limit)
 
 -- what a node sends, and the digests that it offers, are those of the references for which its history stands
 pub sent_kept : (m : ModelState) (n : NodeView) (message : Message) (i bucket : ℕ) (after : Option PageId) → message ≡ sent n.id n.history bucket after → n ≡ node_of m i → message ≡ message_kept (References i (carried (reach_of m i) bucket after MAX_ENTRIES))
 sent_kept m n message i bucket after is node =
     let S = reach_of m i in
     is ∙ ap (λ (v : NodeView). sent v.id v.history bucket after) node
-    ∙ ap (λ time. Entries i time (entries_of (history (carried (refs (history S)) bucket after MAX_ENTRIES)))) (horizon-history S) ∙ ap (Entries i S.horizon) (carried_alike S bucket after MAX_ENTRIES)
+    ∙ ap (λ time. Entries i time (entries_of (history (carried (references_of (history S)) bucket after MAX_ENTRIES)))) (horizon-history S) ∙ ap (Entries i S.horizon) (carried_alike S bucket after MAX_ENTRIES)
 
 abbrev pub offer_record : ℕ → ReferenceSet → MessageRecord
 offer_record i S = Digests i S.horizon (digests_of (entries_of (history S)))
@@ -70,15 +70,15 @@ pub wanted_kept : (i : ℕ) (S : ReferenceSet) (request : ℕ) → requested_mes
 wanted_kept i S request = buckets_kept i S (buckets_in request)
 
 -- the history of a replica after it received a record's message
-pub taught_heard : (S : ReferenceSet) (kept : MessageRecord) → taught (history S) (message_kept kept) ≡ history (heard S kept)
-taught_heard S (References sender rs) = entries_teach sender S rs
-taught_heard S (Digests sender horizon digests) = history_first S (record { horizon = horizon; told = [] })
-taught_heard S (Request sender horizon request) = history_first S (record { horizon = horizon; told = [] })
+pub taught_heard : (S : ReferenceSet) (kept : MessageRecord) → history_after (history S) (message_kept kept) ≡ history (reach_after S kept)
+taught_heard S (References sender rs) = entries_bring_all sender S rs
+taught_heard S (Digests sender horizon digests) = history_first S (record { horizon = horizon; given = [] })
+taught_heard S (Request sender horizon request) = history_first S (record { horizon = horizon; given = [] })
 
 -- The records of what a replica answers to a record's message.
 pub record RecordsOf (i : ℕ) (S : ReferenceSet) (kept : MessageRecord) (messages : List Message) : Type 0 where
   pub added : List MessageRecord
-  pub answers : AreAnswers i (heard S kept) kept added
+  pub answers : AreAnswers i (reach_after S kept) kept added
   pub are : messages ≡ map message_kept added
 
 pub asking_or_none : (i : ℕ) (S : ReferenceSet) (request : ℕ) (none : Bool)
@@ -91,7 +91,7 @@ asking_or_none i S request false =
 pub answer_records : (i : ℕ) (S : ReferenceSet) (kept : MessageRecord) (messages : List Message) → IsAnswer i (history S) (message_kept kept) messages → RecordsOf i S kept messages
 answer_records i S (References sender rs) messages none = record { added = []; answers = refl; are = none }
 answer_records i S (Request sender horizon request) messages are =
-    let T = heard S (Request sender horizon request) in
+    let T = reach_after S (Request sender horizon request) in
     record {
       added = requested_records i T request;
       answers = refl;
@@ -99,7 +99,7 @@ answer_records i S (Request sender horizon request) messages are =
     }
 answer_records i S (Digests sender horizon digests) messages answer =
     let kept = Digests sender horizon digests in
-    let T = heard S kept in
+    let T = reach_after S kept in
     let here : AnswersDigests i (history T) digests messages = subst (λ h. AnswersDigests i h digests messages) (taught_heard S kept) answer in
     let request = here.0 in
     record {

@@ -5,33 +5,33 @@ use Rattle.std.specs.Global.{Vec}
 use Rattle.warm_frames.specs.declared.message.Message.{Message}
 use Rattle.warm_frames.specs.declared.fault.FrameFault.{FrameFault}
 use Rattle.warm_frames.specs.declared.fault.FrameFault.TheVariants.{Memory as FrameMemory}
-use Rattle.warm_frames.specs.Spelling.{spelling, Spells}
+use Rattle.warm_frames.specs.Spelling.{encoding, Encodes}
 use Rattle.warm_frames.specs.Reading.{FindsSpelled}
 use Rattle.warm_gossip.specs.declared.fault.NodeFault.TheVariants.{Memory}
 use Rattle.warm_world.specs.declared.event.Event.{Event}
 use Rattle.warm_world.specs.declared.event.Answer.{Answer}
 use Rattle.warm_world.specs.declared.event.Answer.TheVariants.{FrameNo, Refused}
 use Rattle.warm_world.specs.declared.event.WorldFault.TheVariants.{Node}
-use Rattle.warm_world.specs.Lists.{IsNumber, Pairwise, place}
-use Rattle.warm_world.specs.Replicas.{Encodes, Keeps}
+use Rattle.warm_world.specs.Lists.{IsNumber, Pairwise, index_of_number}
+use Rattle.warm_world.specs.Replicas.{EncodesMessage, Keeps}
 use Rattle.warm_world.specs.Views.{WorldView}
 use Rattle.warm_world.specs.States.{ModelState, MessageRecord, add_records, record_at, References}
-use Rattle.warm_history.specs.ReferenceSets.{these}
+use Rattle.warm_history.specs.ReferenceSets.{set_of_list}
 use Rattle.warm_world.specs.Next.{Next}
 use Rattle.warm_world.specs.Stands.{SpellsRecord, StandsFor, Stepped, message_kept}
 use Rattle.warm_world.proofs.Pairs.{Pairwise-append, Pairwise-push}
 
 -- one message more is encoded
-pub encoded_more : (all all' : List (Vec ℕ)) (v : Vec ℕ) (fs : List Message) (i : ℕ) (f : Message) → Pairwise (λ _ bytes message. Encodes bytes message) (map (λ b. b.items) all) (take i fs)
-    → i < length fs → f ≡ get_or fs i f → all' ≡ all ++ v ∷ [] → Encodes v.items f → Pairwise (λ _ bytes message. Encodes bytes message) (map (λ b. b.items) all') (take (i + 1) fs)
+pub encoded_more : (all all' : List (Vec ℕ)) (v : Vec ℕ) (fs : List Message) (i : ℕ) (f : Message) → Pairwise (λ _ bytes message. EncodesMessage bytes message) (map (λ b. b.items) all) (take i fs)
+    → i < length fs → f ≡ get_or fs i f → all' ≡ all ++ v ∷ [] → EncodesMessage v.items f → Pairwise (λ _ bytes message. EncodesMessage bytes message) (map (λ b. b.items) all') (take (i + 1) fs)
 encoded_more all all' v fs i f so_far lt is more here =
     let items : Vec ℕ → List ℕ = λ b. b.items in
     rw (more, map-append items all (v ∷ []), take_more fs i f lt)
-    (Pairwise-push (λ _ bytes message. Encodes bytes message) (map items all) (take i fs) v.items (get_or fs i f) so_far (subst (Encodes v.items) is here))
+    (Pairwise-push (λ _ bytes message. EncodesMessage bytes message) (map items all) (take i fs) v.items (get_or fs i f) so_far (subst (EncodesMessage v.items) is here))
 
 -- the bytes of a record's message spell the record
-pub spells_kept : (bytes : List ℕ) (message : Message) (kept : MessageRecord) → message ≡ message_kept kept → Encodes bytes message → SpellsRecord bytes kept
-spells_kept bytes message kept is codes = record { spells = subst (Spells bytes) is codes.spells; exact = codes.exact ∙ ap spelling is }
+pub spells_kept : (bytes : List ℕ) (message : Message) (kept : MessageRecord) → message ≡ message_kept kept → EncodesMessage bytes message → SpellsRecord bytes kept
+spells_kept bytes message kept is codes = record { spells = subst (Encodes bytes) is codes.spells; exact = codes.exact ∙ ap encoding is }
 
 -- messages are kept after the others
 pub messages_join : (w : WorldView) (m : ModelState) (added : List (List ℕ)) (rs : List MessageRecord) → StandsFor w m → Pairwise (λ _ bytes kept. SpellsRecord bytes kept) added rs → StandsFor (record w { messages = w.messages ++ added }) (add_records m rs)
@@ -39,14 +39,14 @@ messages_join w m added rs st spell = record { replicas = st.replicas; messages 
 
 -- what is decoded of the bytes of a number is the message of the record of that number
 pub decoded_is : (w : WorldView) (m : ModelState) (k : ℕ) (vs : List (Vec ℕ)) (v : Vec ℕ) (bytes : List ℕ) (result : Result Message FrameFault) (message : Message) → StandsFor w m
-    → w.messages ≡ map (λ b. b.items) vs → IsNumber k (length w.messages) → v ≡ get_or vs (place k) v → bytes ≡ v.items → FindsSpelled bytes result → result ≡ Ok message → message ≡ message_kept (record_at m (place k))
+    → w.messages ≡ map (λ b. b.items) vs → IsNumber k (length w.messages) → v ≡ get_or vs (index_of_number k) v → bytes ≡ v.items → FindsSpelled bytes result → result ≡ Ok message → message ≡ message_kept (record_at m (index_of_number k))
 decoded_is w m k vs v bytes result message st are number is same finds found =
-    let kept = record_at m (place k) in
-    let lt : place k < length w.messages = omega (arith, number.from_one, number.in_range) in
-    let lt_vs : place k < length vs = omega (arith, lt, ap length are, length-map vs (λ (b : Vec ℕ). b.items)) in
-    let at : get_or w.messages (place k) v.items ≡ bytes =
-    ap (λ fs. get_or fs (place k) v.items) are ∙ get_or-map (λ (b : Vec ℕ). b.items) vs (place k) v v.items lt_vs ∙ ap (λ (b : Vec ℕ). b.items) (sym is) ∙ sym same in
-    let spells : Spells bytes (message_kept kept) = subst (λ b. Spells b (message_kept kept)) at (st.messages.each (place k) v.items (References 0 (these [])) lt).spells in
+    let kept = record_at m (index_of_number k) in
+    let lt : index_of_number k < length w.messages = omega (arith, number.from_one, number.in_range) in
+    let lt_vs : index_of_number k < length vs = omega (arith, lt, ap length are, length-map vs (λ (b : Vec ℕ). b.items)) in
+    let at : get_or w.messages (index_of_number k) v.items ≡ bytes =
+    ap (λ fs. get_or fs (index_of_number k) v.items) are ∙ get_or-map (λ (b : Vec ℕ). b.items) vs (index_of_number k) v v.items lt_vs ∙ ap (λ (b : Vec ℕ). b.items) (sym is) ∙ sym same in
+    let spells : Encodes bytes (message_kept kept) = subst (λ b. Encodes b (message_kept kept)) at (st.messages.each (index_of_number k) v.items (References 0 (set_of_list [])) lt).spells in
     elim (finds (message_kept kept) spells) [
       | inl read ↦ let both : Ok message ≡ Ok (message_kept kept) = sym found ∙ read in cc
       | inr refused ↦ let never : Ok message ≡ Err FrameMemory = sym found ∙ refused.0 in absurd (cc)

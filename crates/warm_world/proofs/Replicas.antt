@@ -7,16 +7,16 @@ use Rattle.std.proofs.lemmas.Bool.{cases_lt}
 use Rattle.std.proofs.lemmas.Bool.Decides.{nat_tests}
 use Rattle.std.specs.Prelude.{IsOk}
 use Rattle.std.specs.Result.{IfErr, IsErrAnd, is_ok}
-use Rattle.warm_world.specs.States.{ReplicaState, pending, flushed, opened_over, put_last, raised, referred, restarted}
-use Rattle.warm_history.specs.ReferenceSets.{these, since, ◌∪◌}
-use Rattle.warm_history.specs.Histories.{HistoryView, history, holding, refs}
+use Rattle.warm_world.specs.States.{ReplicaState, pending, flushed, opened_over, put_last, raised_replica, referred, restarted}
+use Rattle.warm_history.specs.ReferenceSets.{set_of_list, with_horizon, ◌∪◌}
+use Rattle.warm_history.specs.Histories.{HistoryView, history, history_of_entries, references_of}
 use Rattle.warm_history.proofs.HistoryLemmas.{horizon-history}
 use Rattle.warm_history.proofs.JoinLemmas.{history_first}
 use Rattle.warm_devices.specs.Device.{DeviceState}
 use Rattle.warm_pool.specs.State.{PoolState}
 use Rattle.warm_pool.specs.State as pools
 use Rattle.warm_pool.specs.View.{PoolView, view_of}
-use Rattle.warm_gossip.specs.State.{NodeState, NodeView, node_view, opened}
+use Rattle.warm_gossip.specs.State.{NodeState, NodeView, node_view, opened_node}
 use Rattle.warm_world.specs.Sizes.{Sizes}
 use Rattle.warm_world.specs.Views.{ReplicaView}
 use Rattle.warm_refbuffer.specs.declared.Full.{Full}
@@ -90,43 +90,43 @@ empty_buffers_are capacity (suc n) = ap (λ bs. buffered capacity [] ∷ bs) (em
 
 -- what waits in a buffer reaches the replica
 pub flushes : (capacity place k : ℕ) (old new : ReplicaView) (m : ReplicaState) (batch : List Reference) → ReplicaStands capacity place old m
-    → k < length old.buffers → batch ≡ get_or m.pending k [] → new.node ≡ record old.node { history = history (refs old.node.history ∪ these batch) }
+    → k < length old.buffers → batch ≡ get_or m.pending k [] → new.node ≡ record old.node { history = history (references_of old.node.history ∪ set_of_list batch) }
     → new.buffers ≡ set old.buffers k (buffered capacity []) → ReplicaStands capacity place new (flushed k m)
 flushes capacity place k old new m batch st lt is absorbed emptied = record {
   has_capacity = st.has_capacity;
   node_is = absorbed
-      ∙ ap (λ (n : NodeView). let v : NodeView = record n { history = history (refs n.history ∪ these batch) } in v) st.node_is
-      ∙ ap (λ (h : HistoryView). let v : NodeView = record { id = place + 1; history = h; pool = m.pool } in v) (history_first m.reach (these batch) ∙ ap (λ b. history (m.reach ∪ these b)) is);
+      ∙ ap (λ (n : NodeView). let v : NodeView = record n { history = history (references_of n.history ∪ set_of_list batch) } in v) st.node_is
+      ∙ ap (λ (h : HistoryView). let v : NodeView = record { id = place + 1; history = h; pool = m.pool } in v) (history_first m.reach (set_of_list batch) ∙ ap (λ b. history (m.reach ∪ set_of_list b)) is);
   buffers_are = emptied ∙ buffer_set capacity old.buffers m.pending k (buffered capacity []) [] st.buffers_are refl;
 }
 
-history_of_nothing : history (these []) ≡ holding []
+history_of_nothing : history (set_of_list []) ≡ history_of_entries []
 unfolding history
 history_of_nothing = refl
 
 -- a replica that no reference has reached, over a pool that was made so
 pub opened_stands : (s : Sizes) (devices : List DeviceState) (place id capacity workers frames size : ℕ) (n : NodeState) (p : PoolState) (bs : List Buffered)
-    → 1 ≤ capacity → capacity ≡ s.buffer → workers ≡ s.workers → frames ≡ s.frames → size ≡ s.page_size → id ≡ place + 1 → n ≡ opened id p → p ≡ pools.opened frames size devices
+    → 1 ≤ capacity → capacity ≡ s.buffer → workers ≡ s.workers → frames ≡ s.frames → size ≡ s.page_size → id ≡ place + 1 → n ≡ opened_node id p → p ≡ pools.opened frames size devices
     → bs ≡ replicate workers (buffered capacity []) → ReplicaStands s.buffer place (record { node = node_view n; buffers = bs }) (opened_over s devices)
 opened_stands s devices place id capacity workers frames size n p bs some of_capacity of_workers of_frames of_size number node made empty = record {
   has_capacity = omega (arith, some, of_capacity);
   node_is = ap node_view node
-      ∙ ap (λ (q : PoolState). let v : NodeView = record { id = id; history = holding []; pool = view_of q } in v)
+      ∙ ap (λ (q : PoolState). let v : NodeView = record { id = id; history = history_of_entries []; pool = view_of q } in v)
       (made ∙ ap (λ k. pools.opened k size devices) of_frames ∙ ap (λ k. pools.opened s.frames k devices) of_size)
-      ∙ ap (λ (i : ℕ). let v : NodeView = record { id = i; history = holding []; pool = view_of (pools.opened s.frames s.page_size devices) } in v) number
+      ∙ ap (λ (i : ℕ). let v : NodeView = record { id = i; history = history_of_entries []; pool = view_of (pools.opened s.frames s.page_size devices) } in v) number
       ∙ ap (λ (h : HistoryView). let v : NodeView = record { id = place + 1; history = h; pool = view_of (pools.opened s.frames s.page_size devices) } in v) (sym history_of_nothing);
   buffers_are = empty ∙ ap (λ k. replicate workers (buffered k [])) of_capacity ∙ ap (λ k. replicate k (buffered s.buffer [])) of_workers ∙ sym (empty_buffers_are s.buffer s.workers);
 }
 
 -- a replica whose horizon has risen, or stayed
 pub raises : (capacity place time : ℕ) (old new : ReplicaView) (m : ReplicaState) → ReplicaStands capacity place old m
-    → (let r : ReplicaView = record old { node = record old.node { history = history (since time (refs old.node.history)) } } in new ≡ r)
-    → ReplicaStands capacity place new (raised time m)
+    → (let r : ReplicaView = record old { node = record old.node { history = history (with_horizon time (references_of old.node.history)) } } in new ≡ r)
+    → ReplicaStands capacity place new (raised_replica time m)
 raises capacity place time old new m st becomes = record {
   has_capacity = st.has_capacity;
   node_is = ap (λ (r : ReplicaView). r.node) becomes
-      ∙ ap (λ (n : NodeView). let v : NodeView = record n { history = history (since time (refs n.history)) } in v) st.node_is
-      ∙ ap (λ (h : HistoryView). let v : NodeView = record { id = place + 1; history = h; pool = m.pool } in v) (history_first m.reach (record { horizon = time; told = [] }));
+      ∙ ap (λ (n : NodeView). let v : NodeView = record n { history = history (with_horizon time (references_of n.history)) } in v) st.node_is
+      ∙ ap (λ (h : HistoryView). let v : NodeView = record { id = place + 1; history = h; pool = m.pool } in v) (history_first m.reach (record { horizon = time; given = [] }));
   buffers_are = ap (λ (r : ReplicaView). r.buffers) becomes ∙ st.buffers_are;
 }
 
@@ -136,12 +136,12 @@ horizon_seen capacity place r m st = ap (λ (n : NodeView). n.history.horizon) s
 
 -- a replica whose node has restarted
 pub restarts : (capacity place : ℕ) (old new : ReplicaView) (m : ReplicaState) (pool : PoolView) → ReplicaStands capacity place old m
-    → (let r : ReplicaView = record { node = record old.node { history = holding []; pool = pool }; buffers = map cleared old.buffers } in new ≡ r)
+    → (let r : ReplicaView = record { node = record old.node { history = history_of_entries []; pool = pool }; buffers = map cleared old.buffers } in new ≡ r)
     → ReplicaStands capacity place new (restarted pool m)
 restarts capacity place old new m pool st becomes = record {
   has_capacity = st.has_capacity;
   node_is = ap (λ (r : ReplicaView). r.node) becomes
-      ∙ ap (λ (n : NodeView). let v : NodeView = record n { history = holding []; pool = pool } in v) st.node_is
+      ∙ ap (λ (n : NodeView). let v : NodeView = record n { history = history_of_entries []; pool = pool } in v) st.node_is
       ∙ ap (λ (h : HistoryView). let v : NodeView = record { id = place + 1; history = h; pool = pool } in v) (sym history_of_nothing);
   buffers_are = ap (λ (r : ReplicaView). r.buffers) becomes ∙ ap (map cleared) st.buffers_are ∙ buffers_emptied capacity m.pending;
 }

@@ -4,43 +4,43 @@ use Rattle.std.specs.Prelude.{◌==◌, slice_index_or}
 use Rattle.std.specs.List.{AllByRecursion}
 use Rattle.std.proofs.lemmas.Bool.{cases_eq}
 use Rattle.std.proofs.lemmas.List.{append-nil, length-append, map-append, get_or-set_other, get_or-append-add}
-use Rattle.warm_history.specs.ReferenceSets.{ReferenceSet, these, since}
+use Rattle.warm_history.specs.ReferenceSets.{ReferenceSet, set_of_list, with_horizon}
 use Rattle.warm_history.specs.Histories.{HistoryView, entries_of, history, join}
 use Rattle.warm_history.proofs.HistoryLemmas.{IsHistory-history}
 use Rattle.warm_history.proofs.JoinLemmas.{join_repeats, raised_to_no_later}
 use Rattle.warm_frames.specs.declared.message.Message.{Message}
 use Rattle.warm_digest.specs.Exchange.{Fits, IsCollision}
-use Rattle.warm_gossip.specs.Answers.{requested_messages, AnswersDigests, IsAnswer, taught}
-use Rattle.warm_gossip.specs.Round.{Hears, offer}
+use Rattle.warm_gossip.specs.Answers.{requested_messages, AnswersDigests, IsAnswer, history_after}
+use Rattle.warm_gossip.specs.Round.{Receives, offer}
 use Rattle.warm_gossip.specs.Round as node
-use Rattle.warm_gossip.proofs.RoundLemmas.{own_digests_unanswered, entries_teach}
+use Rattle.warm_gossip.proofs.RoundLemmas.{own_digests_unanswered, entries_bring_all}
 use Rattle.warm_gossip.proofs.RoundLemmas as node_rounds
 use Rattle.warm_world.specs.declared.event.Event.TheVariants.{Offer, Deliver}
 use Rattle.warm_world.specs.declared.event.Answer.{Answer}
 use Rattle.warm_world.specs.declared.event.Answer.TheVariants.{FrameNo, Took, Refused}
-use Rattle.warm_world.specs.Lists.{place}
-use Rattle.warm_world.specs.States.{ModelState, MessageRecord, References, Digests, Request, ReplicaState, add_records, nobody, replica, reach_of, record_at}
-use Rattle.warm_world.specs.Answered.{AreAnswers, heard}
+use Rattle.warm_world.specs.Lists.{index_of_number}
+use Rattle.warm_world.specs.States.{ModelState, MessageRecord, References, Digests, Request, ReplicaState, add_records, no_replica, replica, reach_of, record_at}
+use Rattle.warm_world.specs.Answered.{AreAnswers, reach_after}
 use Rattle.warm_world.specs.Next.{Next, Run, Delivered, IsNamed, shape}
 use Rattle.warm_world.specs.Stands.{message_kept}
 use Rattle.std.proofs.Math.Nat.{le_refl}
 use Rattle.warm_world.proofs.Histories.{asking_or_none, offer_record, offered_kept, taught_heard, wanted_kept}
 use Rattle.warm_world.proofs.Worlds.{replica_set_at}
 use Rattle.warm_world.proofs.WidthLemmas.{histories_fit}
-use Rattle.warm_world.specs.Rounds.{IsTaken, NoneRefused, deliveries, new_messages_to, GossipRound, known_to, AreJoined, GossipRoundJoins}
+use Rattle.warm_world.specs.Rounds.{IsNotRefused, NoneRefused, deliveries, new_messages_to, GossipRound, known_to, AreJoined, GossipRoundJoins}
 
 -- ---- the records of an answer, as the messages that a node answers
 
 -- the answers of the model are answers of the node
-pub answers_kept : (i : ℕ) (S : ReferenceSet) (kept : MessageRecord) (added : List MessageRecord) → AreAnswers i (heard S kept) kept added → IsAnswer i (history S) (message_kept kept) (map message_kept added)
+pub answers_kept : (i : ℕ) (S : ReferenceSet) (kept : MessageRecord) (added : List MessageRecord) → AreAnswers i (reach_after S kept) kept added → IsAnswer i (history S) (message_kept kept) (map message_kept added)
 answers_kept i S (References sender refs) added is = ap (map message_kept) is
 answers_kept i S (Request sender horizon request) added is =
     let kept = Request sender horizon request in
-    ap (map message_kept) is ∙ sym (wanted_kept i (heard S kept) request) ∙ ap (λ (h : HistoryView). requested_messages i h request) (sym (taught_heard S kept))
+    ap (map message_kept) is ∙ sym (wanted_kept i (reach_after S kept) request) ∙ ap (λ (h : HistoryView). requested_messages i h request) (sym (taught_heard S kept))
 answers_kept i S (Digests sender horizon digests) added is =
     let kept = Digests sender horizon digests in
-    let here : AnswersDigests i (history (heard S kept)) digests (map message_kept added) =
-    (is.0, is.1, is.2, ap (map message_kept) is.3 ∙ sym (asking_or_none i (heard S kept) is.0 (is.0 == 0))) in
+    let here : AnswersDigests i (history (reach_after S kept)) digests (map message_kept added) =
+    (is.0, is.1, is.2, ap (map message_kept) is.3 ∙ sym (asking_or_none i (reach_after S kept) is.0 (is.0 == 0))) in
     subst (λ (h : HistoryView). AnswersDigests i h digests (map message_kept added)) (sym (taught_heard S kept)) here
 
 -- ---- one delivery
@@ -50,39 +50,39 @@ record IsDelivery (old : ModelState) (j k : ℕ) (new : ModelState) : Type 0 whe
   named : IsNamed (shape old) (Deliver j k)
   count : ℕ
   first : ℕ
-  done : Delivered old j (record_at old (place k)) count first new
+  done : Delivered old j (record_at old (index_of_number k)) count first new
 
-delivery : (old : ModelState) (j k : ℕ) (answer : Answer) (new : ModelState) → IsTaken answer → Next old (Deliver j k) answer new → IsDelivery old j k new
+delivery : (old : ModelState) (j k : ℕ) (answer : Answer) (new : ModelState) → IsNotRefused answer → Next old (Deliver j k) answer new → IsDelivery old j k new
 delivery old j k (Took count first) new taken next = record { named = next.0; count = count; first = first; done = next.1 }
 delivery old j k (Refused fault) new taken next = absurd taken
 delivery old j k answer new taken next = absurd next.1
 
 abbrev nth : List MessageRecord → ℕ → MessageRecord
-nth records k = slice_index_or records k (References 0 (these []))
+nth records k = slice_index_or records k (References 0 (set_of_list []))
 
 -- the record after the first ones
-next_record : (records before : List MessageRecord) (kept : MessageRecord) (after : List MessageRecord) → records ≡ before ++ kept ∷ after → nth records (place (length before + 1)) ≡ kept
+next_record : (records before : List MessageRecord) (kept : MessageRecord) (after : List MessageRecord) → records ≡ before ++ kept ∷ after → nth records (index_of_number (length before + 1)) ≡ kept
 next_record records before kept after is =
-    let at : place (length before + 1) ≡ length before + 0 = omega arith in
-    ap (nth records) at ∙ ap (λ (all : List MessageRecord). nth all (length before + 0)) is ∙ get_or-append-add before (kept ∷ after) 0 (References 0 (these []))
+    let at : index_of_number (length before + 1) ≡ length before + 0 = omega arith in
+    ap (nth records) at ∙ ap (λ (all : List MessageRecord). nth all (length before + 0)) is ∙ get_or-append-add before (kept ∷ after) 0 (References 0 (set_of_list []))
 
 -- what a delivery does to what reached the replicas, and to the records
 record IsHeard (j : ℕ) (kept : MessageRecord) (added : List MessageRecord) (old new : ModelState) : Type 0 where
   answers : IsAnswer j (known_to old j) (message_kept kept) (map message_kept added)
-  taught_it : known_to new j ≡ taught (known_to old j) (message_kept kept)
-  others : (i : ℕ) → place i ≢ place j → reach_of new i ≡ reach_of old i
+  taught_it : known_to new j ≡ history_after (known_to old j) (message_kept kept)
+  others : (i : ℕ) → index_of_number i ≢ index_of_number j → reach_of new i ≡ reach_of old i
   records : new.records ≡ old.records ++ added
 
-is_heard : (old : ModelState) (j k : ℕ) (kept : MessageRecord) (new : ModelState) (d : IsDelivery old j k new) → record_at old (place k) ≡ kept → IsHeard j kept d.done.added old new
+is_heard : (old : ModelState) (j k : ℕ) (kept : MessageRecord) (new : ModelState) (d : IsDelivery old j k new) → record_at old (index_of_number k) ≡ kept → IsHeard j kept d.done.added old new
 is_heard old j k kept new d is =
     let S : ReferenceSet = reach_of old j in
-    let next : ReplicaState = record (replica old (place j)) { reach = heard S (record_at old (place k)) } in
-    let own : reach_of new j ≡ heard S (record_at old (place k)) =
+    let next : ReplicaState = record (replica old (index_of_number j)) { reach = reach_after S (record_at old (index_of_number k)) } in
+    let own : reach_of new j ≡ reach_after S (record_at old (index_of_number k)) =
     ap (λ (m : ModelState). reach_of m j) d.done.becomes ∙ ap (λ (r : ReplicaState). r.reach) (replica_set_at old (Deliver j k) next d.named) in
     record {
-      answers = subst (λ (r : MessageRecord). IsAnswer j (known_to old j) (message_kept r) (map message_kept d.done.added)) is (answers_kept j S (record_at old (place k)) d.done.added d.done.answers);
-      taught_it = ap history own ∙ sym (taught_heard S (record_at old (place k))) ∙ ap (λ (r : MessageRecord). taught (known_to old j) (message_kept r)) is;
-      others = λ i other. ap (λ (m : ModelState). reach_of m i) d.done.becomes ∙ ap (λ (r : ReplicaState). r.reach) (get_or-set_other old.replicas (place j) (place i) next nobody other);
+      answers = subst (λ (r : MessageRecord). IsAnswer j (known_to old j) (message_kept r) (map message_kept d.done.added)) is (answers_kept j S (record_at old (index_of_number k)) d.done.added d.done.answers);
+      taught_it = ap history own ∙ sym (taught_heard S (record_at old (index_of_number k))) ∙ ap (λ (r : MessageRecord). history_after (known_to old j) (message_kept r)) is;
+      others = λ i other. ap (λ (m : ModelState). reach_of m i) d.done.becomes ∙ ap (λ (r : ReplicaState). r.reach) (get_or-set_other old.replicas (index_of_number j) (index_of_number i) next no_replica other);
       records = ap (λ (m : ModelState). m.records) d.done.becomes;
     }
 
@@ -93,11 +93,11 @@ is_heard old j k kept new d is =
 record HeardAll (j : ℕ) (heard_ones : List MessageRecord) (old new : ModelState) : Type 0 where
   added : List MessageRecord
   records : new.records ≡ old.records ++ added
-  hears : Hears j (known_to old j) (map message_kept heard_ones) (map message_kept added) (known_to new j)
-  others : (i : ℕ) → place i ≢ place j → reach_of new i ≡ reach_of old i
+  hears : Receives j (known_to old j) (map message_kept heard_ones) (map message_kept added) (known_to new j)
+  others : (i : ℕ) → index_of_number i ≢ index_of_number j → reach_of new i ≡ reach_of old i
 
 hears_run : (j : ℕ) (fs before after : List MessageRecord) (old new : ModelState) (answers : List Answer) → old.records ≡ before ++ (fs ++ after)
-    → Run old (deliveries j (length before) (length fs)) answers new → AllByRecursion IsTaken answers → HeardAll j fs old new
+    → Run old (deliveries j (length before) (length fs)) answers new → AllByRecursion IsNotRefused answers → HeardAll j fs old new
 hears_run j [] before after old new [] is run taken = record {
   added = [];
   records = ap (λ (m : ModelState). m.records) run ∙ sym (append-nil old.records);
@@ -126,7 +126,7 @@ hears_run j (f ∷ fs) before after old new (answer ∷ answers) is run taken =
         map message_kept d.done.added,
         map message_kept rest.added,
         one.answers,
-        subst (λ (h : HistoryView). Hears j h (map message_kept fs) (map message_kept rest.added) (known_to new j)) one.taught_it rest.hears,
+        subst (λ (h : HistoryView). Receives j h (map message_kept fs) (map message_kept rest.added) (known_to new j)) one.taught_it rest.hears,
         map-append message_kept d.done.added rest.added,
       );
       others = λ i other. rest.others i other ∙ one.others i other;
@@ -141,12 +141,12 @@ hears_new j fs before after new is come =
 
 -- ---- the offer
 
-offer_kept : (old : ModelState) (i : ℕ) (answer : Answer) (new : ModelState) → IsTaken answer → Next old (Offer i) answer new → new ≡ add_records old (offer_record i (reach_of old i) ∷ [])
+offer_kept : (old : ModelState) (i : ℕ) (answer : Answer) (new : ModelState) → IsNotRefused answer → Next old (Offer i) answer new → new ≡ add_records old (offer_record i (reach_of old i) ∷ [])
 offer_kept old i (FrameNo k) new taken next = next.1.1
 offer_kept old i (Refused fault) new taken next = absurd taken
 offer_kept old i answer new taken next = absurd next.1
 
-offered_is : (old : ModelState) (i : ℕ) (answers : List Answer) (new : ModelState) → Run old (Offer i ∷ []) answers new → AllByRecursion IsTaken answers → new ≡ add_records old (offer_record i (reach_of old i) ∷ [])
+offered_is : (old : ModelState) (i : ℕ) (answers : List Answer) (new : ModelState) → Run old (Offer i ∷ []) answers new → AllByRecursion IsNotRefused answers → new ≡ add_records old (offer_record i (reach_of old i) ∷ [])
 offered_is old i [] new run taken = absurd run
 offered_is old i (answer ∷ []) new run taken = run.2 ∙ offer_kept old i answer run.0 taken.0 run.1
 offered_is old i (answer ∷ other ∷ answers) new run taken = absurd run.2
@@ -160,16 +160,16 @@ none_mapped (r ∷ rs) is = absurd (cc)
 -- a replica that receives nothing answers nothing, and its history is unchanged
 hears_nothing : (j : ℕ) (fs : List MessageRecord) (old new : ModelState) → fs ≡ [] → (all : HeardAll j fs old new) → (all.added ≡ []) × (known_to new j ≡ known_to old j)
 hears_nothing j fs old new none all =
-    let hears : Hears j (known_to old j) [] (map message_kept all.added) (known_to new j) =
-    subst (λ (rs : List MessageRecord). Hears j (known_to old j) (map message_kept rs) (map message_kept all.added) (known_to new j)) none all.hears in
+    let hears : Receives j (known_to old j) [] (map message_kept all.added) (known_to new j) =
+    subst (λ (rs : List MessageRecord). Receives j (known_to old j) (map message_kept rs) (map message_kept all.added) (known_to new j)) none all.hears in
     (none_mapped all.added hears.0, hears.1)
 
 -- the history of the second replica after it received the offer
 abbrev pub raised_by : ℕ → ℕ → ModelState → HistoryView
-raised_by i j m = history (since (reach_of m i).horizon (reach_of m j))
+raised_by i j m = history (with_horizon (reach_of m i).horizon (reach_of m j))
 
 round_joins : (i j : ℕ) (old new : ModelState) → Fits (known_to old i) → Fits (known_to old j) → (round : GossipRound i j old new) → AreJoined round ⊎ IsCollision (known_to old i) (raised_by i j old)
-round_joins i j old new fits others round = elim (cases_eq (place i) (place j)) [
+round_joins i j old new fits others round = elim (cases_eq (index_of_number i) (index_of_number j)) [
   | inl same ↦ inl (own same)
   | inr other ↦ elim (node_rounds.gossip_round_joins i j h g (known_to new i) (known_to new j) (IsHistory-history (reach_of old i)) (IsHistory-history (reach_of old j)) fits others (between other)) [
     | inl both ↦ inl (record { first = both.0; second = both.1; raised = λ more. both.2 (λ none. more (no_more (none_mapped first.added none))) })
@@ -184,8 +184,8 @@ round_joins i j old new fits others round = elim (cases_eq (place i) (place j)) 
     g = known_to old j
 
     -- the offer teaches its horizon
-    taught_it : taught g (offer i h) ≡ raised_by i j old
-    taught_it = ap (taught g) (offered_kept i (reach_of old i)) ∙ taught_heard (reach_of old j) (offer_record i (reach_of old i))
+    taught_it : history_after g (offer i h) ≡ raised_by i j old
+    taught_it = ap (history_after g) (offered_kept i (reach_of old i)) ∙ taught_heard (reach_of old j) (offer_record i (reach_of old i))
 
     offered_it : round.offered ≡ add_records old (offer_record i (reach_of old i) ∷ [])
     offered_it = offered_is old i round.offers.answers round.offered round.offers.run round.offers.taken
@@ -206,10 +206,10 @@ round_joins i j old new fits others round = elim (cases_eq (place i) (place j)) 
     no_more none = first.records ∙ ap (λ (rs : List MessageRecord). round.offered.records ++ rs) none ∙ append-nil round.offered.records
 
     -- what j receives of the offer
-    offer_heard : Hears j g (offer i h ∷ []) (map message_kept first.added) (known_to round.asked j)
+    offer_heard : Receives j g (offer i h ∷ []) (map message_kept first.added) (known_to round.asked j)
     offer_heard =
-        subst (λ (k : HistoryView). Hears j k (offer i h ∷ []) (map message_kept first.added) (known_to round.asked j)) (knew j)
-        (subst (λ (f : Message). Hears j (known_to round.offered j) (f ∷ []) (map message_kept first.added) (known_to round.asked j)) (sym (offered_kept i (reach_of old i))) first.hears)
+        subst (λ (k : HistoryView). Receives j k (offer i h ∷ []) (map message_kept first.added) (known_to round.asked j)) (knew j)
+        (subst (λ (f : Message). Receives j (known_to round.offered j) (f ∷ []) (map message_kept first.added) (known_to round.asked j)) (sym (offered_kept i (reach_of old i))) first.hears)
 
     -- the answer of j to the digests of h, and that these brought it only their horizon
     answered : IsAnswer j g (offer i h) (map message_kept first.added)
@@ -217,29 +217,29 @@ round_joins i j old new fits others round = elim (cases_eq (place i) (place j)) 
         let whole : offer_heard.0 ≡ map message_kept first.added = sym (offer_heard.4 ∙ ap (λ (fs : List Message). offer_heard.0 ++ fs) offer_heard.3.0 ∙ append-nil offer_heard.0) in
         subst (IsAnswer j g (offer i h)) whole offer_heard.2
 
-    knows : known_to round.asked j ≡ taught g (offer i h)
+    knows : known_to round.asked j ≡ history_after g (offer i h)
     knows = offer_heard.3.1
 
-    between : place i ≢ place j → node.GossipRound i j h g (known_to new i) (known_to new j)
+    between : index_of_number i ≢ index_of_number j → node.GossipRound i j h g (known_to new i) (known_to new j)
     between other =
-        let back : place j ≢ place i = λ same. other (sym same) in
+        let back : index_of_number j ≢ index_of_number i = λ same. other (sym same) in
         let before : known_to round.asked i ≡ h = ap history (first.others i other) ∙ knew i in
         let after : known_to round.given i ≡ known_to new i = sym (ap history (third.others i other)) in
-        let kept : known_to round.given j ≡ taught g (offer i h) = ap history (second.others j back) ∙ knows in
-        let heard_it : Hears i h (map message_kept first.added) (map message_kept second.added) (known_to new i) =
-        subst (Hears i h (map message_kept first.added) (map message_kept second.added)) after
-        (subst (λ (k : HistoryView). Hears i k (map message_kept first.added) (map message_kept second.added) (known_to round.given i)) before second.hears) in
+        let kept : known_to round.given j ≡ history_after g (offer i h) = ap history (second.others j back) ∙ knows in
+        let heard_it : Receives i h (map message_kept first.added) (map message_kept second.added) (known_to new i) =
+        subst (Receives i h (map message_kept first.added) (map message_kept second.added)) after
+        (subst (λ (k : HistoryView). Receives i k (map message_kept first.added) (map message_kept second.added) (known_to round.given i)) before second.hears) in
         record {
           asked = map message_kept first.added;
           given = map message_kept second.added;
           last = map message_kept third.added;
           offered = answered;
           heard = heard_it;
-          back = subst (λ (k : HistoryView). Hears j k (map message_kept second.added) (map message_kept third.added) (known_to new j)) kept third.hears;
+          back = subst (λ (k : HistoryView). Receives j k (map message_kept second.added) (map message_kept third.added) (known_to new j)) kept third.hears;
         }
 
     -- a replica that gossips with itself receives nothing
-    own : place i ≡ place j → AreJoined round
+    own : index_of_number i ≡ index_of_number j → AreJoined round
     own same =
         let one : (m : ModelState) → known_to m i ≡ known_to m j = λ m. ap (λ (k : ℕ). history (replica m k).reach) same in
         let whole = IsHistory-history (reach_of old i) in
@@ -247,7 +247,7 @@ round_joins i j old new fits others round = elim (cases_eq (place i) (place j)) 
         none_mapped first.added (own_digests_unanswered i j h (map message_kept first.added) whole (subst (λ (k : HistoryView). IsAnswer j k (offer i h) (map message_kept first.added)) (sym (one old)) answered)) in
         let then_i = hears_nothing i first.added round.asked round.given none second in
         let then_j = hears_nothing j second.added round.given new then_i.0 third in
-        let still : known_to round.asked j ≡ g = knows ∙ ap (λ (k : HistoryView). taught k (offer i h)) (sym (one old)) ∙ raised_to_no_later h h.horizon whole (le_refl h.horizon) ∙ one old in
+        let still : known_to round.asked j ≡ g = knows ∙ ap (λ (k : HistoryView). history_after k (offer i h)) (sym (one old)) ∙ raised_to_no_later h h.horizon whole (le_refl h.horizon) ∙ one old in
         let unchanged : known_to new j ≡ g = then_j.1 ∙ sym (one round.given) ∙ then_i.1 ∙ one round.asked ∙ still in
         let joins : join h g ≡ g = ap (λ (k : HistoryView). join k g) (one old) ∙ join_repeats g (IsHistory-history (reach_of old j)) in
         let both : known_to new i ≡ join h g = one new ∙ unchanged ∙ sym joins in

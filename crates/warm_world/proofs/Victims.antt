@@ -15,15 +15,15 @@ use Rattle.warm_world.specs.declared.event.Event.TheVariants.{Pin, Victim, WarmS
 use Rattle.warm_world.specs.declared.event.Answer.{Answer}
 use Rattle.warm_world.specs.declared.event.Answer.TheVariants.{Page, Refused}
 use Rattle.warm_world.specs.declared.event.WorldFault.TheVariants.{Node}
-use Rattle.warm_world.specs.Lists.{place}
-use Rattle.warm_world.specs.States.{ModelState, ReplicaState, node_of, nobody, pool_of, reach_of, replica}
-use Rattle.warm_world.specs.Next.{Next, Replied, reply_of}
-use Rattle.warm_world.specs.Stands.{IsRightVictim, Leaves, MayLoad, VictimsAreFarthest}
+use Rattle.warm_world.specs.Lists.{index_of_number}
+use Rattle.warm_world.specs.States.{ModelState, ReplicaState, node_of, no_replica, pool_of, reach_of, replica}
+use Rattle.warm_world.specs.Next.{Next, SomeNodeReplies, reply_of}
+use Rattle.warm_world.specs.Stands.{IsRightVictim, IsEvictedFrom, MayLoad, VictimsAreFarthest}
 use Rattle.warm_world.proofs.Worlds.{replica_there}
 
 -- the node of the replica was asked this call and replied; or nothing has changed
 abbrev WasAsked : ModelState → ℕ → Call → ModelState → Type 0
-WasAsked old i asked new = (new ≡ old) ⊎ ((place i < length old.replicas) × ((given : Option Reply) × Replied old i (Some asked) given new))
+WasAsked old i asked new = (new ≡ old) ⊎ ((index_of_number i < length old.replicas) × ((given : Option Reply) × SomeNodeReplies old i (Some asked) given new))
 
 pinned : (old : ModelState) (i : ℕ) (p : PageId) (answer : Answer) (new : ModelState) → Next old (Pin i p) answer new → WasAsked old i (call.Pin p) new
 pinned old i p (Refused (Node why)) new next = inr (replica_there old (Pin i p) next.0, (Some (reply.Refused why), next.1))
@@ -36,22 +36,22 @@ warmed old i (Refused fault) new next = inl next.1
 warmed old i answer new next = inr (replica_there old (WarmStep i) next.0, (reply_of answer, next.1))
 
 -- what leaves the replica's pool leaves its node's at the call
-left_by : (old : ModelState) (i : ℕ) (asked : Call) (new : ModelState) → asked ≢ call.Restart → WasAsked old i asked new → (page : PageId) → Leaves i old new page → IsRightVictim i old page
+left_by : (old : ModelState) (i : ℕ) (asked : Call) (new : ModelState) → asked ≢ call.Restart → WasAsked old i asked new → (page : PageId) → IsEvictedFrom i old new page → IsRightVictim i old page
 left_by old i asked new other (inl same) page leaves =
     absurd (subst (λ (m : ModelState). IsAbsent (pool_of m i) page) same leaves.after leaves.before.frame leaves.before.holds)
 left_by old i asked new other (inr (low, (Some given, does))) page leaves =
     let pool : PoolView = does.0 in
     let after : pool_of new i ≡ pool =
-    ap (λ (m : ModelState). pool_of m i) does.2 ∙ ap (λ (r : ReplicaState). r.pool) (get_or-set_same old.replicas (place i) (record (replica old (place i)) { pool = pool }) nobody low) in
+    ap (λ (m : ModelState). pool_of m i) does.2 ∙ ap (λ (r : ReplicaState). r.pool) (get_or-set_same old.replicas (index_of_number i) (record (replica old (index_of_number i)) { pool = pool }) no_replica low) in
     let gone : IsAbsent pool page = subst (λ (v : PoolView). IsAbsent v page) after leaves.after in
     (node.victims_are_farthest (reach_of old i) (node_of old i) (record (node_of old i) { pool = pool }) asked given refl does.1).leaves page other (leaves.before, gone)
 left_by old i asked new other (inr (low, (None, never))) page leaves = absurd never
 
-left_of : (old : ModelState) (event : Event) (answer : Answer) (new : ModelState) → Next old event answer new → (i : ℕ) (page : PageId) → MayLoad i event → Leaves i old new page → IsRightVictim i old page
+left_of : (old : ModelState) (event : Event) (answer : Answer) (new : ModelState) → Next old event answer new → (i : ℕ) (page : PageId) → MayLoad i event → IsEvictedFrom i old new page → IsRightVictim i old page
 left_of old (Pin j p) answer new next i page is leaves =
-    subst (λ n. Leaves n old new page → IsRightVictim n old page) is (left_by old j (call.Pin p) new (λ same. absurd (cc)) (pinned old j p answer new next) page) leaves
+    subst (λ n. IsEvictedFrom n old new page → IsRightVictim n old page) is (left_by old j (call.Pin p) new (λ same. absurd (cc)) (pinned old j p answer new next) page) leaves
 left_of old (WarmStep j) answer new next i page is leaves =
-    subst (λ n. Leaves n old new page → IsRightVictim n old page) is (left_by old j call.WarmStep new (λ same. absurd (cc)) (warmed old j answer new next) page) leaves
+    subst (λ n. IsEvictedFrom n old new page → IsRightVictim n old page) is (left_by old j call.WarmStep new (λ same. absurd (cc)) (warmed old j answer new next) page) leaves
 left_of old event answer new next i page is leaves = absurd is
 
 named_of : (old : ModelState) (i : ℕ) (page : PageId) (new : ModelState) → Next old (Victim i) (Page (Some page)) new → IsRightVictim i old page

@@ -5,11 +5,11 @@ use Rattle.std.proofs.Math.ListN.{get_or-map}
 use Rattle.std.proofs.lemmas.Bool.{cases_lt}
 use Rattle.std.proofs.lemmas.List.{get_or_past, length-map}
 use Rattle.warm_stamps.specs.declared.PageId.{PageId}
-use Rattle.warm_pool.specs.State.{opened as opened_pool}
+use Rattle.warm_pool.specs.State.{fresh_pool as opened_pool}
 use Rattle.warm_pool.specs.View.{PoolView, view_of}
 use Rattle.warm_gossip.specs.declared.call.Call.TheVariants as call
 use Rattle.warm_gossip.specs.declared.call.Reply.TheVariants as reply
-use Rattle.warm_gossip.specs.State.{NodeState, NodeView, opened, node_view}
+use Rattle.warm_gossip.specs.State.{NodeState, NodeView, fresh_pool, node_view}
 use Rattle.warm_gossip.specs.Step.{Step}
 use Rattle.warm_gossip.specs.WarmUps.{PagesDiffer, WarmSteps}
 use Rattle.warm_gossip.proofs.WarmUpLemmas.{pages_differ}
@@ -17,12 +17,12 @@ use Rattle.warm_gossip.proofs.WarmUpLemmas as node_warm_ups
 use Rattle.warm_world.specs.declared.event.Event.TheVariants.{WarmStep}
 use Rattle.warm_world.specs.declared.event.Answer.{Answer}
 use Rattle.warm_world.specs.declared.event.Answer.TheVariants.{Done, Pinned, Bytes, Page, Pages, Loaded, Refused}
-use Rattle.warm_world.specs.Lists.{place}
-use Rattle.warm_world.specs.States.{ModelState, ReplicaState, nobody, no_pool, node_of, pool_of, reach_of, replica}
+use Rattle.warm_world.specs.Lists.{index_of_number}
+use Rattle.warm_world.specs.States.{ModelState, ReplicaState, no_replica, no_pool, node_of, pool_of, reach_of, replica}
 use Rattle.warm_world.specs.Views.{ReplicaView, WorldView}
-use Rattle.warm_world.specs.Next.{Asked, IsNamed, Next, Run, shape}
+use Rattle.warm_world.specs.Next.{NodeReplies, IsNamed, Next, Run, shape}
 use Rattle.warm_world.specs.Stands.{ReplicaStands, StandsFor}
-use Rattle.warm_world.specs.Rounds.{IsTaken}
+use Rattle.warm_world.specs.Rounds.{IsNotRefused}
 use Rattle.warm_world.specs.WarmUps.{ArePools, PoolsDiffer, WarmUpLoads}
 use Rattle.warm_world.proofs.Worlds.{replica_set_at}
 
@@ -32,9 +32,9 @@ use Rattle.warm_world.proofs.Worlds.{replica_set_at}
 record IsWarmStep (old : ModelState) (i : ℕ) (new : ModelState) : Type 0 where
   named : IsNamed (shape old) (WarmStep i)
   loaded : Option PageId
-  asked : Asked old i call.WarmStep (reply.Loaded loaded) new
+  asked : NodeReplies old i call.WarmStep (reply.Loaded loaded) new
 
-warm_step : (old : ModelState) (i : ℕ) (answer : Answer) (new : ModelState) → IsTaken answer → Next old (WarmStep i) answer new → IsWarmStep old i new
+warm_step : (old : ModelState) (i : ℕ) (answer : Answer) (new : ModelState) → IsNotRefused answer → Next old (WarmStep i) answer new → IsWarmStep old i new
 warm_step old i (Loaded page) new taken next = record { named = next.0; loaded = page; asked = next.1 }
 warm_step old i (Refused fault) new taken next = absurd taken
 warm_step old i Done new taken next = absurd next.1.1
@@ -48,14 +48,14 @@ warm_step old i answer new taken next = absurd next.1
 node_steps : (old : ModelState) (i : ℕ) (new : ModelState) (w : IsWarmStep old i new) → Step (node_of old i) call.WarmStep (reply.Loaded w.loaded) (node_of new i)
 node_steps old i new w =
     let pool : PoolView = w.asked.0 in
-    let next : ReplicaState = record (replica old (place i)) { pool = pool } in
-    let after : replica new (place i) ≡ next = ap (λ (m : ModelState). replica m (place i)) w.asked.2 ∙ replica_set_at old (WarmStep i) next w.named in
+    let next : ReplicaState = record (replica old (index_of_number i)) { pool = pool } in
+    let after : replica new (index_of_number i) ≡ next = ap (λ (m : ModelState). replica m (index_of_number i)) w.asked.2 ∙ replica_set_at old (WarmStep i) next w.named in
     let node : node_of new i ≡ record (node_of old i) { pool = pool } = cc in
     subst (Step (node_of old i) call.WarmStep (reply.Loaded w.loaded)) (sym node) w.asked.1
 
 -- ---- steps one after the other
 
-steps_run : (i n : ℕ) (old new : ModelState) (answers : List Answer) → Run old (replicate n (WarmStep i)) answers new → AllByRecursion IsTaken answers → WarmSteps n (node_of old i) (node_of new i)
+steps_run : (i n : ℕ) (old new : ModelState) (answers : List Answer) → Run old (replicate n (WarmStep i)) answers new → AllByRecursion IsNotRefused answers → WarmSteps n (node_of old i) (node_of new i)
 steps_run i zero old new [] run taken = ap (λ (m : ModelState). node_of m i) run
 steps_run i zero old new (answer ∷ answers) run taken = absurd run
 steps_run i (suc n) old new [] run taken = absurd run
@@ -77,7 +77,7 @@ bare_differs i j p first second = absurd (let never : None ≡ Some p = first in
 
 -- what a reader beyond the last node or replica gets
 no_node : NodeState
-no_node = opened 0 (opened_pool 0 0 [])
+no_node = fresh_pool 0 (opened_pool 0 0 [])
 
 abbrev unseen : ReplicaView
 unseen = record { node = node_view no_node; buffers = [] }
@@ -96,14 +96,14 @@ module _ {A : Type 0} (g : A → NodeState) (f : A → ReplicaView) (shown : (x 
   -- no page of its pools is in two frames
   pub pools_differ : (xs : List A) (messages : List (List ℕ)) (m : ModelState) → ArePools (map g xs) → (let w : WorldView = record { replicas = map f xs; messages = messages } in StandsFor w m) → PoolsDiffer m
   pools_differ xs messages m fit stands i =
-      let k : ℕ = place i in
+      let k : ℕ = index_of_number i in
       elim (cases_lt k (length xs)) [
         | inl there ↦
             let low : k < length (map f xs) = omega (arith, there, length-map xs f) in
-            let one : ReplicaStands m.capacity k (get_or (map f xs) k unseen) (replica m k) = stands.replicas.each k unseen nobody low in
+            let one : ReplicaStands m.capacity k (get_or (map f xs) k unseen) (replica m k) = stands.replicas.each k unseen no_replica low in
             let pool : view_of (get_or (map g xs) k no_node).pool ≡ pool_of m i = ap (λ (n : NodeView). n.pool) (sym (node_shown xs k) ∙ one.node_is) in
             subst PagesDiffer pool (pages_differ (get_or (map g xs) k no_node).pool (fit k no_node (omega (arith, there, length-map xs g))))
         | inr beyond ↦
-            let none : replica m k ≡ nobody = get_or_past m.replicas k nobody (omega (arith, beyond, stands.replicas.same_length, length-map xs f)) in
+            let none : replica m k ≡ no_replica = get_or_past m.replicas k no_replica (omega (arith, beyond, stands.replicas.same_length, length-map xs f)) in
             subst PagesDiffer (ap (λ (r : ReplicaState). r.pool) (sym none)) bare_differs
       ]

@@ -12,12 +12,12 @@ use Rattle.warm_stamps.specs.declared.Reference.{Reference}
 use Rattle.warm_stamps.specs.declared.TheConstants.{MAX_REPLICAS}
 use Rattle.warm_stamps.specs.Bytes.{IsPage, IsStamp}
 use Rattle.warm_stamps.specs.Stamps.{stamp_cmp, page_cmp}
-use Rattle.warm_stamps.specs.Distinct.{insert_distinct, distinct, IsRising}
+use Rattle.warm_stamps.specs.Distinct.{insert_distinct, distinct, IsAscending}
 use Rattle.warm_stamps.proofs.DistinctLemmas.{by_cases, all_append, all_filter, distinct_rises}
 use Rattle.warm_stamps.proofs.StampLemmas.{stamp_order, IsStrictOrder-flip}
 use Rattle.warm_history.specs.declared.hist.PageHist.{PageHist}
 use Rattle.warm_history.specs.declared.hist.Entry.{Entry}
-use Rattle.warm_history.specs.ReferenceSets.{ReferenceSet, is_kept, references, these, ◌∪◌}
+use Rattle.warm_history.specs.ReferenceSets.{ReferenceSet, is_kept, references, set_of_list, ◌∪◌}
 use Rattle.warm_history.specs.Histories.{references_to, stamps, first_two, hist, pages, history}
 use Rattle.warm_history.specs.Carried.{carried, pages_carried}
 use Rattle.warm_history.proofs.CarriedLemmas.{references-those}
@@ -39,10 +39,10 @@ use Rattle.warm_world.specs.declared.event.Event.TheVariants.{Refer, Flush, Send
 use Rattle.warm_world.specs.declared.event.Answer.{Answer}
 use Rattle.warm_world.specs.declared.event.Answer.TheVariants.{Done, Shown, FrameNo, Took, Pages, Kept, Refused}
 use Rattle.warm_world.specs.declared.event.WorldFault.TheVariants.{Node}
-use Rattle.warm_world.specs.Lists.{place}
-use Rattle.warm_world.specs.States.{ModelState, ReplicaState, MessageRecord, References, Digests, Request, nobody, replica, reach_of, set_replica, set_pool, record_at, add_records, pending, flushed, put_last, raised, referred, restarted, opened_over}
-use Rattle.warm_world.specs.Answered.{records_of, bucket_records, requested_records, AreAnswers, heard, refs_of}
-use Rattle.warm_world.specs.Next.{Next, Delivered, Effect, Refuses, Replied, IsNamed, call_of, replica_of, reply_of, shape, stamped}
+use Rattle.warm_world.specs.Lists.{index_of_number}
+use Rattle.warm_world.specs.States.{ModelState, ReplicaState, MessageRecord, References, Digests, Request, no_replica, replica, reach_of, set_replica, set_pool, record_at, add_records, pending, flushed, put_last, raised_replica, referred, restarted, opened_over}
+use Rattle.warm_world.specs.Answered.{records_of, bucket_records, requested_records, AreAnswers, reach_after, refs_of}
+use Rattle.warm_world.specs.Next.{Next, Delivered, Effect, RefusesEvent, SomeNodeReplies, IsNamed, call_of, replica_of, reply_of, shape, stamped}
 use Rattle.warm_world.specs.Widths.{IsReference, AreReferences, EventFits, ReachFits, ReplicaFits, RecordFits, ModelFits, OpeningFits, RunsFit, HistoriesFit}
 
 -- ---- lists
@@ -87,7 +87,7 @@ abbrev FitsIfAny : Option PageHist → Type 0
 FitsIfAny None = Unit {0}
 FitsIfAny (Some h) = IsHist h
 
-first_two_fit : (ss : List Stamp) → IsRising (flip_args stamp_cmp) ss → AllByRecursion IsStamp ss → FitsIfAny (first_two ss)
+first_two_fit : (ss : List Stamp) → IsAscending (flip_args stamp_cmp) ss → AllByRecursion IsStamp ss → FitsIfAny (first_two ss)
 first_two_fit [] falls all = tt
 first_two_fit (a ∷ []) falls all = all.0
 first_two_fit (a ∷ b ∷ ss) falls all = (all.0, all.1.0, falls.0.0)
@@ -113,7 +113,7 @@ history_fits S all = entries_fit (hist S) (pages S) (λ p. hist_fits S p all) (a
 -- ---- reference sets that fit
 
 -- a list of references that fit, none of them forgotten
-these_fit : (rs : List Reference) → AreReferences rs → ReachFits (these rs)
+these_fit : (rs : List Reference) → AreReferences rs → ReachFits (set_of_list rs)
 these_fit rs all = record { horizon = omega arith; references = all_filter IsReference (λ r. is_kept 0 r.stamp) rs all }
 
 both_fit : (S T : ReferenceSet) → ReachFits S → ReachFits T → ReachFits (S ∪ T)
@@ -123,14 +123,14 @@ both_fit S T first second = record {
       (all_append IsReference (references S) (references T) first.references second.references));
 }
 
-nobody_fits : ReplicaFits nobody
+nobody_fits : ReplicaFits no_replica
 nobody_fits = record { reached = these_fit [] tt; waiting = tt }
 
 replica_fits : (m : ModelState) (k : ℕ) → ModelFits m → ReplicaFits (replica m k)
-replica_fits m k fits = all_get ReplicaFits m.replicas k nobody fits.replicas nobody_fits
+replica_fits m k fits = all_get ReplicaFits m.replicas k no_replica fits.replicas nobody_fits
 
 pub histories_fit : HistoriesFit
-histories_fit m i fits = history_fits (reach_of m i) (replica_fits m (place i) fits).reached.references
+histories_fit m i fits = history_fits (reach_of m i) (replica_fits m (index_of_number i) fits).reached.references
 
 -- ---- what each event makes
 
@@ -150,15 +150,15 @@ records_added m rs fits all = record {
 
 pool_set : (m : ModelState) (i : ℕ) (pool : PoolView) → ModelFits m → ModelFits (set_pool m i pool)
 pool_set m i pool fits =
-    let own : ReplicaFits (replica m (place i)) = replica_fits m (place i) fits in
-    replica_set m (place i) (record (replica m (place i)) { pool = pool }) fits (record { reached = own.reached; waiting = own.waiting })
+    let own : ReplicaFits (replica m (index_of_number i)) = replica_fits m (index_of_number i) fits in
+    replica_set m (index_of_number i) (record (replica m (index_of_number i)) { pool = pool }) fits (record { reached = own.reached; waiting = own.waiting })
 
 pending_fits : (r : ReplicaState) (k : ℕ) → ReplicaFits r → AreReferences (pending r k)
 pending_fits r k fits = all_get AreReferences r.pending k [] fits.waiting tt
 
 flushed_fits : (k : ℕ) (r : ReplicaState) → ReplicaFits r → ReplicaFits (flushed k r)
 flushed_fits k r fits = record {
-  reached = both_fit r.reach (these (pending r k)) fits.reached (these_fit (pending r k) (pending_fits r k fits));
+  reached = both_fit r.reach (set_of_list (pending r k)) fits.reached (these_fit (pending r k) (pending_fits r k fits));
   waiting = all_set AreReferences r.pending k [] fits.waiting tt;
 }
 
@@ -177,9 +177,9 @@ referred_fits capacity k x r own fits = elim (nat_le capacity (length (pending r
 restarted_fits : (pool : PoolView) (r : ReplicaState) → ReplicaFits (restarted pool r)
 restarted_fits pool r = record { reached = these_fit [] tt; waiting = all_map AreReferences (λ _. []) r.pending (λ _. tt) }
 
-raised_fits : (time : ℕ) (r : ReplicaState) → time < 2 ^ 64 → ReplicaFits r → ReplicaFits (raised time r)
+raised_fits : (time : ℕ) (r : ReplicaState) → time < 2 ^ 64 → ReplicaFits r → ReplicaFits (raised_replica time r)
 raised_fits time r low fits = record {
-  reached = both_fit r.reach (record { horizon = time; told = [] }) fits.reached (record { horizon = low; references = tt });
+  reached = both_fit r.reach (record { horizon = time; given = [] }) fits.reached (record { horizon = low; references = tt });
   waiting = fits.waiting;
 }
 
@@ -215,25 +215,25 @@ answers_fit i S (Digests sender horizon digests) added all is = subst (AllByRecu
 
 delivered_fits : (old : ModelState) (j k count first : ℕ) (new : ModelState) → ModelFits old → Delivered old j (record_at old k) count first new → ModelFits new
 delivered_fits old j k count first new fits done =
-    let own : ReplicaFits (replica old (place j)) = replica_fits old (place j) fits in
+    let own : ReplicaFits (replica old (index_of_number j)) = replica_fits old (index_of_number j) fits in
     let kept : MessageRecord = record_at old k in
-    let brings : RecordFits kept = all_get RecordFits old.records k (References 0 (these [])) fits.records (these_fit [] tt) in
-    let next : ReplicaState = record (replica old (place j)) { reach = heard (reach_of old j) kept } in
-    let after : ReachFits (heard (reach_of old j) kept) = both_fit (reach_of old j) (refs_of kept) own.reached brings in
+    let brings : RecordFits kept = all_get RecordFits old.records k (References 0 (set_of_list [])) fits.records (these_fit [] tt) in
+    let next : ReplicaState = record (replica old (index_of_number j)) { reach = reach_after (reach_of old j) kept } in
+    let after : ReachFits (reach_after (reach_of old j) kept) = both_fit (reach_of old j) (refs_of kept) own.reached brings in
     let own_next : ReplicaFits next = record { reached = after; waiting = own.waiting } in
-    subst ModelFits (sym done.becomes) (records_added (set_replica old (place j) next) done.added
-    (replica_set old (place j) next fits own_next) (answers_fit j (heard (reach_of old j) kept) kept done.added after done.answers))
+    subst ModelFits (sym done.becomes) (records_added (set_replica old (index_of_number j) next) done.added
+    (replica_set old (index_of_number j) next fits own_next) (answers_fit j (reach_after (reach_of old j) kept) kept done.added after done.answers))
 
 -- ---- each event, and each run
 
 same_fits : (old new : ModelState) → new ≡ old → ModelFits old → ModelFits new
 same_fits old new is fits = subst ModelFits (sym is) fits
 
-replied_fits : (old : ModelState) (i : ℕ) (asked : Option Call) (replied : Option Reply) (new : ModelState) → ModelFits old → Replied old i asked replied new → ModelFits new
+replied_fits : (old : ModelState) (i : ℕ) (asked : Option Call) (replied : Option Reply) (new : ModelState) → ModelFits old → SomeNodeReplies old i asked replied new → ModelFits new
 replied_fits old i (Some asked) (Some replied) new fits r = same_fits _ new r.2 (pool_set old i r.0 fits)
 replied_fits old i asked replied new fits r = absurd r
 
-refused_fits : (old : ModelState) (event : Event) (why : NodeFault) (new : ModelState) → ModelFits old → Refuses old event why new → ModelFits new
+refused_fits : (old : ModelState) (event : Event) (why : NodeFault) (new : ModelState) → ModelFits old → RefusesEvent old event why new → ModelFits new
 refused_fits old (Restart i) why new fits r = same_fits _ new r.2 (pool_set old i r.0 fits)
 refused_fits old (Refer i w page time) Memory new fits r = same_fits old new r.1 fits
 refused_fits old (Flush i w) Memory new fits r = same_fits old new r fits
@@ -248,16 +248,16 @@ effect_fits : (old : ModelState) (event : Event) (answer : Answer) (new : ModelS
 effect_fits old (Refer i w page time) Done new fits own named done =
     let low : i ≤ MAX_REPLICAS = omega (arith, named.replica_there.in_range, fits.few, length-map old.replicas (λ r. length r.pending)) in
     let made : IsReference (stamped i page time) = record { page = own.0; stamp = record { time = own.1; replica = (named.replica_there.from_one, low) } } in
-    same_fits _ new done (replica_set old (place i) _ fits (referred_fits old.capacity (place w) (stamped i page time) (replica old (place i)) made (replica_fits old (place i) fits)))
-effect_fits old (Flush i w) Done new fits own named done = same_fits _ new done (replica_set old (place i) _ fits (flushed_fits (place w) (replica old (place i)) (replica_fits old (place i) fits)))
+    same_fits _ new done (replica_set old (index_of_number i) _ fits (referred_fits old.capacity (index_of_number w) (stamped i page time) (replica old (index_of_number i)) made (replica_fits old (index_of_number i) fits)))
+effect_fits old (Flush i w) Done new fits own named done = same_fits _ new done (replica_set old (index_of_number i) _ fits (flushed_fits (index_of_number w) (replica old (index_of_number i)) (replica_fits old (index_of_number i) fits)))
 effect_fits old (Send i bucket after) (FrameNo k) new fits own named done =
-    same_fits _ new done.1 (records_added old _ fits (carried_fits (reach_of old i) bucket after (replica_fits old (place i) fits).reached, tt))
-effect_fits old (Offer i) (FrameNo k) new fits own named done = same_fits _ new done.1 (records_added old _ fits (record { horizon = (replica_fits old (place i) fits).reached.horizon; references = tt }, tt))
-effect_fits old (Deliver j k) (Took count first) new fits own named done = delivered_fits old j (place k) count first new fits done
+    same_fits _ new done.1 (records_added old _ fits (carried_fits (reach_of old i) bucket after (replica_fits old (index_of_number i) fits).reached, tt))
+effect_fits old (Offer i) (FrameNo k) new fits own named done = same_fits _ new done.1 (records_added old _ fits (record { horizon = (replica_fits old (index_of_number i) fits).reached.horizon; references = tt }, tt))
+effect_fits old (Deliver j k) (Took count first) new fits own named done = delivered_fits old j (index_of_number k) count first new fits done
 effect_fits old (Warm i n) (Pages pages) new fits own named done = same_fits old new done.1 fits
-effect_fits old (Restart i) Done new fits own named done = same_fits _ new done.2 (replica_set old (place i) _ fits (restarted_fits done.0 (replica old (place i))))
+effect_fits old (Restart i) Done new fits own named done = same_fits _ new done.2 (replica_set old (index_of_number i) _ fits (restarted_fits done.0 (replica old (index_of_number i))))
 effect_fits old (Horizon i time) (Kept horizon) new fits own named done =
-    same_fits _ new done.1 (replica_set old (place i) _ fits (raised_fits time (replica old (place i)) own (replica_fits old (place i) fits)))
+    same_fits _ new done.1 (replica_set old (index_of_number i) _ fits (raised_fits time (replica old (index_of_number i)) own (replica_fits old (index_of_number i) fits)))
 effect_fits old (Show i) (Shown entries) new fits own named done = same_fits old new done.1 fits
 effect_fits old event answer new fits own named done = replied_fits old (replica_of event) (call_of event) (reply_of answer) new fits done
 

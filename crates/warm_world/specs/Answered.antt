@@ -29,12 +29,12 @@ requested_records i S request = flat_map (bucket_records i S) (buckets_in reques
 -- the references that a message brings, with its sender's horizon
 abbrev pub refs_of : MessageRecord → ReferenceSet
 refs_of (References sender refs) = refs
-refs_of (Digests sender horizon digests) = record { horizon = horizon; told = [] }
-refs_of (Request sender horizon request) = record { horizon = horizon; told = [] }
+refs_of (Digests sender horizon digests) = record { horizon = horizon; given = [] }
+refs_of (Request sender horizon request) = record { horizon = horizon; given = [] }
 
 -- what has reached a replica after it received a message: its horizon is then the greater one
-abbrev pub heard : ReferenceSet → MessageRecord → ReferenceSet
-heard S kept = S ∪ refs_of kept
+abbrev pub reach_after : ReferenceSet → MessageRecord → ReferenceSet
+reach_after S kept = S ∪ refs_of kept
 
 -- The answer of replica i to a message, where S has reached it after it received the message:
 -- nothing to references; to a request its references of these buckets; to digests those of the

@@ -7,8 +7,8 @@ pub record IsNumber (number count : ℕ) : Type 0 where
   pub in_range : number ≤ count
 
 -- the index of the item of a number
-abbrev pub place : ℕ → ℕ
-place number = number - 1
+abbrev pub index_of_number : ℕ → ℕ
+index_of_number number = number - 1
 
 -- two lists of one length, related place by place; the relation may depend on the place
 pub record Pairwise {A B : Type 0} (R : ℕ → A → B → Type 0) (xs : List A) (ys : List B) : Type 0 where

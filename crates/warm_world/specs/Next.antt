@@ -5,7 +5,7 @@ use Rattle.warm_stamps.specs.declared.Reference.{Reference}
 use Rattle.warm_history.specs.Histories.{entries_of, history}
 use Rattle.warm_history.specs.Carried.{carried}
 use Rattle.warm_frames.specs.declared.layout.TheConstants.{MAX_ENTRIES}
-use Rattle.warm_rank.specs.Ranking.{warm}
+use Rattle.warm_rank.specs.Ranking.{hottest_pages}
 use Rattle.warm_digest.specs.BucketDigests.{digests_of}
 use Rattle.warm_pool.specs.View.{PoolView}
 use Rattle.warm_pool.specs.Retiring.{Emptied}
@@ -22,9 +22,9 @@ use Rattle.warm_world.specs.declared.event.Answer.{Answer}
 use Rattle.warm_world.specs.declared.event.Answer.TheVariants.{Done, Shown, FrameNo, Took, Pinned, Bytes, Page, Pages, Loaded, Kept, Refused}
 use Rattle.warm_world.specs.declared.event.WorldFault.{WorldFault}
 use Rattle.warm_world.specs.declared.event.WorldFault.TheVariants.{Node, NoSuchReplica, NoSuchWorker, NoSuchFrame}
-use Rattle.warm_world.specs.Lists.{IsNumber, place}
-use Rattle.warm_world.specs.States.{ModelState, MessageRecord, References, Digests, replica, reach_of, pool_of, node_of, set_replica, set_pool, record_at, add_records, pending, flushed, raised, referred, restarted}
-use Rattle.warm_world.specs.Answered.{AreAnswers, heard}
+use Rattle.warm_world.specs.Lists.{IsNumber, index_of_number}
+use Rattle.warm_world.specs.States.{ModelState, MessageRecord, References, Digests, replica, reach_of, pool_of, node_of, set_replica, set_pool, record_at, add_records, pending, flushed, raised_replica, referred, restarted}
+use Rattle.warm_world.specs.Answered.{AreAnswers, reach_after}
 
 -- the replica that an event names
 abbrev pub replica_of : Event → ℕ
@@ -68,7 +68,7 @@ abbrev pub HasReplica : Shape → Event → Type 0
 HasReplica s event = IsNumber (replica_of event) (length s.workers)
 
 abbrev pub IsWorker : Shape → Event → ℕ → Type 0
-IsWorker s event w = IsNumber w (slice_index_or s.workers (place (replica_of event)) 0)
+IsWorker s event w = IsNumber w (slice_index_or s.workers (index_of_number (replica_of event)) 0)
 
 abbrev pub IsMessage : Shape → ℕ → Type 0
 IsMessage s k = IsNumber k s.messages
@@ -88,8 +88,8 @@ IsMissing s event (Node why) = ⊥
 
 -- the node of the replica i gives this reply to the call, and of the world nothing but that
 -- replica's pool may have changed
-abbrev pub Asked : ModelState → ℕ → Call → Reply → ModelState → Type 0
-Asked old i call reply new =
+abbrev pub NodeReplies : ModelState → ℕ → Call → Reply → ModelState → Type 0
+NodeReplies old i call reply new =
     (pool : PoolView) × Step (node_of old i) call reply (record (node_of old i) { pool = pool }) × (new ≡ set_pool old i pool)
 
 -- the call that an event of a pool makes of the node of its replica; the other events make none
@@ -115,37 +115,37 @@ reply_of (Refused (Node why)) = Some (reply.Refused why)
 reply_of answer = None
 
 -- there is a call and a reply, and the node of the replica i gives this reply to the call
-abbrev pub Replied : ModelState → ℕ → Option Call → Option Reply → ModelState → Type 0
-Replied old i (Some call) (Some reply) new = Asked old i call reply new
-Replied old i call reply new = ⊥
+abbrev pub SomeNodeReplies : ModelState → ℕ → Option Call → Option Reply → ModelState → Type 0
+SomeNodeReplies old i (Some call) (Some reply) new = NodeReplies old i call reply new
+SomeNodeReplies old i call reply new = ⊥
 
 -- why an event is refused though everything that it names exists, and what has then changed: an
 -- allocation failed, or the node refuses the call
-abbrev pub Refuses : ModelState → Event → NodeFault → ModelState → Type 0
-Refuses old (Restart i) why new = Asked old i call.Restart (reply.Refused why) new
-Refuses old (Refer i w page time) Memory new = (old.capacity ≤ length (pending (replica old (place i)) (place w))) × (new ≡ old)
-Refuses old (Flush i w) Memory new = new ≡ old
-Refuses old (Send i bucket after) Memory new = new ≡ old
-Refuses old (Offer i) Memory new = new ≡ old
-Refuses old (Deliver j k) Memory new = new ≡ old
-Refuses old (Warm i n) Memory new = new ≡ old
-Refuses old (Show i) Memory new = new ≡ old
-Refuses old event why new = Replied old (replica_of event) (call_of event) (Some (reply.Refused why)) new
+abbrev pub RefusesEvent : ModelState → Event → NodeFault → ModelState → Type 0
+RefusesEvent old (Restart i) why new = NodeReplies old i call.Restart (reply.Refused why) new
+RefusesEvent old (Refer i w page time) Memory new = (old.capacity ≤ length (pending (replica old (index_of_number i)) (index_of_number w))) × (new ≡ old)
+RefusesEvent old (Flush i w) Memory new = new ≡ old
+RefusesEvent old (Send i bucket after) Memory new = new ≡ old
+RefusesEvent old (Offer i) Memory new = new ≡ old
+RefusesEvent old (Deliver j k) Memory new = new ≡ old
+RefusesEvent old (Warm i n) Memory new = new ≡ old
+RefusesEvent old (Show i) Memory new = new ≡ old
+RefusesEvent old event why new = SomeNodeReplies old (replica_of event) (call_of event) (Some (reply.Refused why)) new
 
 -- when an event is refused with this fault, and what has then changed: a missing replica, worker or
 -- message comes before all other faults
 abbrev pub IsRefused : ModelState → Event → WorldFault → ModelState → Type 0
-IsRefused old event (Node why) new = IsNamed (shape old) event × Refuses old event why new
+IsRefused old event (Node why) new = IsNamed (shape old) event × RefusesEvent old event why new
 IsRefused old event fault new = IsMissing (shape old) event fault × (new ≡ old)
 
 -- the replica j receives a message: it takes in the message's references, and its answers are
 -- numbered after the messages so far
 pub record Delivered (old : ModelState) (j : ℕ) (kept : MessageRecord) (count first : ℕ) (new : ModelState) : Type 0 where
   pub added : List MessageRecord
-  pub answers : AreAnswers j (heard (reach_of old j) kept) kept added
+  pub answers : AreAnswers j (reach_after (reach_of old j) kept) kept added
   pub many : count ≡ length added
   pub from : first ≡ if count == 0 then 0 else length old.records + 1
-  pub becomes : new ≡ add_records (set_replica old (place j) (record (replica old (place j)) { reach = heard (reach_of old j) kept })) added
+  pub becomes : new ≡ add_records (set_replica old (index_of_number j) (record (replica old (index_of_number j)) { reach = reach_after (reach_of old j) kept })) added
 
 -- the reference that a worker of replica i makes: the page, stamped with the time and the replica
 abbrev pub stamped : ℕ → PageId → ℕ → Reference
@@ -155,24 +155,24 @@ stamped i page time = record { page = page; stamp = record { time = time; replic
 -- warm-up list is over all references that reached the replica.
 abbrev pub Effect : ModelState → Event → Answer → ModelState → Type 0
 Effect old (Refer i w page time) Done new =
-    new ≡ set_replica old (place i) (referred old.capacity (place w) (stamped i page time) (replica old (place i)))
+    new ≡ set_replica old (index_of_number i) (referred old.capacity (index_of_number w) (stamped i page time) (replica old (index_of_number i)))
 Effect old (Flush i w) Done new =
-    new ≡ set_replica old (place i) (flushed (place w) (replica old (place i)))
+    new ≡ set_replica old (index_of_number i) (flushed (index_of_number w) (replica old (index_of_number i)))
 Effect old (Send i bucket after) (FrameNo k) new =
     (k ≡ length new.records) × (new ≡ add_records old (References i (carried (reach_of old i) bucket after MAX_ENTRIES) ∷ []))
 Effect old (Offer i) (FrameNo k) new =
     (k ≡ length new.records) × (new ≡ add_records old (Digests i (reach_of old i).horizon (digests_of (entries_of (history (reach_of old i)))) ∷ []))
 Effect old (Deliver j k) (Took count first) new =
-    Delivered old j (record_at old (place k)) count first new
+    Delivered old j (record_at old (index_of_number k)) count first new
 Effect old (Warm i n) (Pages pages) new =
-    (pages ≡ warm (reach_of old i) n) × (new ≡ old)
+    (pages ≡ hottest_pages (reach_of old i) n) × (new ≡ old)
 Effect old (Restart i) Done new =
-    (pool : PoolView) × Emptied (pool_of old i) pool × (new ≡ set_replica old (place i) (restarted pool (replica old (place i))))
+    (pool : PoolView) × Emptied (pool_of old i) pool × (new ≡ set_replica old (index_of_number i) (restarted pool (replica old (index_of_number i))))
 Effect old (Horizon i time) (Kept horizon) new =
-    (horizon ≡ (reach_of new i).horizon) × (new ≡ set_replica old (place i) (raised time (replica old (place i))))
+    (horizon ≡ (reach_of new i).horizon) × (new ≡ set_replica old (index_of_number i) (raised_replica time (replica old (index_of_number i))))
 Effect old (Show i) (Shown shown) new =
     (shown ≡ history (reach_of old i)) × (new ≡ old)
-Effect old event answer new = Replied old (replica_of event) (call_of event) (reply_of answer) new
+Effect old event answer new = SomeNodeReplies old (replica_of event) (call_of event) (reply_of answer) new
 
 -- The transition relation: from old, the event may get this answer and lead to new.
 abbrev pub Next : ModelState → Event → Answer → ModelState → Type 0

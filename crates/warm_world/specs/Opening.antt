@@ -31,10 +31,10 @@ abbrev pub AreFitting : Sizes → List (List DeviceState) → Type 0
 AreFitting s devices = (length devices ≡ s.replicas) × AreSized s.page_size devices
 
 -- why a world is not made: an allocation failure comes last
-abbrev pub NewRefused : Sizes → List (List DeviceState) → BadWorld → Type 0
-NewRefused s devices DevicesDiffer = length devices ≢ s.replicas
-NewRefused s devices SizeDiffers = (length devices ≡ s.replicas) × (AreSized s.page_size devices → ⊥)
-NewRefused s devices Memory = AreFitting s devices
+abbrev pub NewWorldRefused : Sizes → List (List DeviceState) → BadWorld → Type 0
+NewWorldRefused s devices DevicesDiffer = length devices ≢ s.replicas
+NewWorldRefused s devices SizeDiffers = (length devices ≡ s.replicas) × (AreSized s.page_size devices → ⊥)
+NewWorldRefused s devices Memory = AreFitting s devices
 
 -- the replica, with this pool
 abbrev pub with_pool : ReplicaView → PoolView → ReplicaView

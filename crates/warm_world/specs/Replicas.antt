@@ -1,10 +1,10 @@
 -- The changes of a replica, and of the stored messages.
 use Rattle.std.specs.Prelude.{◌≡◌, ◌≢◌, ◌==◌, ◌+◌, ◌-◌, if◌then◌else◌, ℕ, List, [], ◌∷◌, ◌++◌, length, map, Option, Some, None, Result, Ok, Err}
-use Rattle.warm_history.specs.Histories.{holding}
+use Rattle.warm_history.specs.Histories.{history_of_entries}
 use Rattle.warm_refbuffer.specs.Buffered.{cleared}
 use Rattle.warm_frames.specs.declared.message.Message.{Message}
 use Rattle.warm_frames.specs.declared.message.Message.TheVariants.{Entries, Digest, Want}
-use Rattle.warm_frames.specs.Spelling.{spelling, Spells}
+use Rattle.warm_frames.specs.Spelling.{encoding, Encodes}
 use Rattle.warm_pool.specs.View.{PoolView}
 use Rattle.warm_pool.specs.Retiring.{Emptied}
 use Rattle.warm_gossip.specs.declared.call.Call.{Call}
@@ -25,7 +25,7 @@ use Rattle.warm_world.specs.Views.{ReplicaView, WorldView}
 abbrev pub Restarts : ReplicaView → Result Unit NodeFault → ReplicaView → Type 0
 Restarts old (Ok done) new =
     (pool : PoolView) × Emptied old.node.pool pool
-    × (new ≡ record { node = record old.node { history = holding []; pool = pool }; buffers = map cleared old.buffers })
+    × (new ≡ record { node = record old.node { history = history_of_entries []; pool = pool }; buffers = map cleared old.buffers })
 Restarts old (Err why) new = Step old.node call.Restart (reply.Refused why) new.node × (new.buffers ≡ old.buffers)
 
 -- the answer for the result of a node's call
@@ -34,9 +34,9 @@ answered (Ok answer) = answer
 answered (Err why) = Refused (Node why)
 
 -- there is a call and a reply, and a node gives this reply to the call
-abbrev pub Replies : NodeView → Option Call → Option Reply → NodeView → Type 0
-Replies old (Some call) (Some reply) new = Step old call reply new
-Replies old call reply new = ⊥
+abbrev pub SomeReply : NodeView → Option Call → Option Reply → NodeView → Type 0
+SomeReply old (Some call) (Some reply) new = Step old call reply new
+SomeReply old call reply new = ⊥
 
 -- the horizon to which digests or a request raise a replica; none for entries, whose horizon is
 -- taken in with them
@@ -46,25 +46,25 @@ raised_to (Digest sender horizon digests) = Some horizon
 raised_to (Want sender horizon request) = Some horizon
 
 -- the bytes spell the message, and decoding them gives it
-pub record Encodes (bytes : List ℕ) (message : Message) : Type 0 where
-  pub spells : Spells bytes message
-  pub exact : bytes ≡ spelling message
+pub record EncodesMessage (bytes : List ℕ) (message : Message) : Type 0 where
+  pub spells : Encodes bytes message
+  pub exact : bytes ≡ encoding message
 
 -- the message is stored after the others, and its number is the answer; or its allocation failed
 abbrev pub Keeps : WorldView → Message → Answer → WorldView → Type 0
 Keeps old message (FrameNo k) new =
-    (bytes : List ℕ) × Encodes bytes message × (k ≡ length new.messages) × (new ≡ record old { messages = old.messages ++ bytes ∷ [] })
+    (bytes : List ℕ) × EncodesMessage bytes message × (k ≡ length new.messages) × (new ≡ record old { messages = old.messages ++ bytes ∷ [] })
 Keeps old message (Refused (Node Memory)) new = new ≡ old
 Keeps old message answer new = ⊥
 
 -- the messages are stored after the others
 abbrev pub KeepsAll : List (List ℕ) → List Message → List (List ℕ) → Type 0
-KeepsAll old messages new = (added : List (List ℕ)) × Pairwise (λ _ bytes message. Encodes bytes message) added messages × (new ≡ old ++ added)
+KeepsAll old messages new = (added : List (List ℕ)) × Pairwise (λ _ bytes message. EncodesMessage bytes message) added messages × (new ≡ old ++ added)
 
 -- The messages that answer a delivered one are stored after the others, and numbered after these;
 -- or their allocation failed.
-abbrev pub Takes : List (List ℕ) → List Message → Answer → List (List ℕ) → Type 0
-Takes old messages (Took count first) new =
+abbrev pub StoresAnswers : List (List ℕ) → List Message → Answer → List (List ℕ) → Type 0
+StoresAnswers old messages (Took count first) new =
     KeepsAll old messages new × (count ≡ length messages) × (first ≡ if count == 0 then 0 else length new - count + 1)
-Takes old messages (Refused (Node Memory)) new = (messages ≢ []) × (new ≡ old)
-Takes old messages answer new = ⊥
+StoresAnswers old messages (Refused (Node Memory)) new = (messages ≢ []) × (new ≡ old)
+StoresAnswers old messages answer new = ⊥

@@ -2,7 +2,7 @@
 use Rattle.std.specs.Prelude.{◌≡◌, ◌≢◌, ◌⊎◌, ℕ, ◌+◌, ◌-◌, List, [], ◌∷◌, length, map}
 use Rattle.std.specs.List.{AllByRecursion, range_with_len}
 use Rattle.warm_history.specs.Histories.{HistoryView, entries_of, history, join}
-use Rattle.warm_history.specs.ReferenceSets.{since}
+use Rattle.warm_history.specs.ReferenceSets.{with_horizon}
 use Rattle.warm_digest.specs.Exchange.{IsCollision}
 use Rattle.warm_world.specs.declared.event.Event.{Event}
 use Rattle.warm_world.specs.declared.event.Event.TheVariants.{Offer, Deliver}
@@ -13,15 +13,15 @@ use Rattle.warm_world.specs.Next.{Run}
 use Rattle.warm_world.specs.Widths.{ModelFits}
 
 -- the event was not refused
-abbrev pub IsTaken : Answer → Type 0
-IsTaken (Refused fault) = ⊥
-IsTaken answer = Unit {0}
+abbrev pub IsNotRefused : Answer → Type 0
+IsNotRefused (Refused fault) = ⊥
+IsNotRefused answer = Unit {0}
 
 -- the events lead there one after another, and none of them is refused
 pub record NoneRefused (old : ModelState) (events : List Event) (new : ModelState) : Type 0 where
   pub answers : List Answer
   pub run : Run old events answers new
-  pub taken : AllByRecursion IsTaken answers
+  pub taken : AllByRecursion IsNotRefused answers
 
 -- the replica j receives messages one after the other: `many` of them, those after the first `from`
 abbrev pub deliveries : ℕ → ℕ → ℕ → List Event
@@ -47,19 +47,19 @@ abbrev pub known_to : ModelState → ℕ → HistoryView
 known_to m i = history (reach_of m i)
 
 -- the join of the histories of both replicas
-abbrev pub joined : ℕ → ℕ → ModelState → HistoryView
-joined i j m = join (known_to m i) (known_to m j)
+abbrev pub joined_history : ℕ → ℕ → ModelState → HistoryView
+joined_history i j m = join (known_to m i) (known_to m j)
 
 -- Both replicas have the entries of the join of their histories before. The second has its horizon too, the greater one, and so has
 -- the first if the second answered a message.
 pub record AreJoined {i j : ℕ} {old new : ModelState} (round : GossipRound i j old new) : Type 0 where
-  pub first : entries_of (known_to new i) ≡ entries_of (joined i j old)
-  pub second : known_to new j ≡ joined i j old
-  pub raised : round.asked.records ≢ round.offered.records → known_to new i ≡ joined i j old
+  pub first : entries_of (known_to new i) ≡ entries_of (joined_history i j old)
+  pub second : known_to new j ≡ joined_history i j old
+  pub raised : round.asked.records ≢ round.offered.records → known_to new i ≡ joined_history i j old
 
 -- After a round both histories have the entries of the join of the two before (AreJoined), or two
 -- different texts of one bucket have the same SHA-256 digest: one text of the first replica, and one
 -- of the second at the greater horizon.
 abbrev pub GossipRoundJoins : Type 0
 GossipRoundJoins = (i j : ℕ) (old new : ModelState) → ModelFits old → (round : GossipRound i j old new)
-    → AreJoined round ⊎ IsCollision (known_to old i) (history (since (reach_of old i).horizon (reach_of old j)))
+    → AreJoined round ⊎ IsCollision (known_to old i) (history (with_horizon (reach_of old i).horizon (reach_of old j)))

@@ -1,7 +1,7 @@
 -- The numbers of a setup, and their limits.
 use Rattle.std.specs.Prelude.{ℕ}
 use Rattle.warm_stamps.specs.declared.TheConstants.{MAX_REPLICAS}
-use Rattle.warm_rank.specs.declared.TheConstants.{MAX_SLOTS}
+use Rattle.warm_rank.specs.declared.TheConstants.{MAX_FRAMES}
 use Rattle.warm_refbuffer.specs.declared.TheConstants.{MAX_CAPACITY}
 use Rattle.warm_devices.specs.declared.TheConstants.{MAX_PAGE_SIZE}
 use Rattle.warm_world.specs.declared.TheConstants.{MAX_WORKERS}
@@ -24,5 +24,5 @@ pub record IsSetup (s : Sizes) : Type 0 where
   pub replicas : IsWithin MAX_REPLICAS s.replicas
   pub workers : IsWithin MAX_WORKERS s.workers
   pub buffer : IsWithin MAX_CAPACITY s.buffer
-  pub frames : IsWithin MAX_SLOTS s.frames
+  pub frames : IsWithin MAX_FRAMES s.frames
   pub page_size : IsWithin MAX_PAGE_SIZE s.page_size

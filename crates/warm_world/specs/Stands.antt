@@ -2,11 +2,11 @@
 use Rattle.std.specs.Prelude.{◌≡◌, ℕ, ◌+◌, ◌<◌, ◌≤◌, List, [], ◌∷◌, length, map, slice_index_or, Some}
 use Rattle.warm_stamps.specs.declared.PageId.{PageId}
 use Rattle.warm_stamps.specs.declared.Reference.{Reference}
-use Rattle.warm_history.specs.Histories.{HistoryView, entries_of, holding, history}
-use Rattle.warm_history.specs.References.{HoldSame}
+use Rattle.warm_history.specs.Histories.{HistoryView, entries_of, history_of_entries, history}
+use Rattle.warm_history.specs.References.{SameReferences}
 use Rattle.warm_frames.specs.declared.message.Message.{Message}
 use Rattle.warm_frames.specs.declared.message.Message.TheVariants.{Entries, Digest, Want}
-use Rattle.warm_frames.specs.Spelling.{spelling, Spells}
+use Rattle.warm_frames.specs.Spelling.{encoding, Encodes}
 use Rattle.warm_rank.specs.Laws.{RankAlike, IsFarthest}
 use Rattle.warm_refbuffer.specs.Buffered.{Buffered}
 use Rattle.warm_pool.specs.View.{PoolView, IsAbsent, IsResident, unfixed_pages}
@@ -15,7 +15,7 @@ use Rattle.warm_world.specs.declared.event.Event.{Event}
 use Rattle.warm_world.specs.declared.event.Event.TheVariants.{Pin, Victim, WarmStep}
 use Rattle.warm_world.specs.declared.event.Answer.{Answer}
 use Rattle.warm_world.specs.declared.event.Answer.TheVariants.{Page}
-use Rattle.warm_world.specs.Lists.{Pairwise, IsNumber, place}
+use Rattle.warm_world.specs.Lists.{Pairwise, IsNumber, index_of_number}
 use Rattle.warm_world.specs.Views.{ReplicaView, WorldView}
 use Rattle.warm_world.specs.States.{ModelState, ReplicaState, MessageRecord, References, Digests, Request, pending, pool_of, reach_of, replica, set_replica}
 use Rattle.warm_world.specs.Next.{Next, Run, Shape}
@@ -26,21 +26,21 @@ buffered capacity refs = record { refs = refs; capacity = capacity }
 
 -- a replica, by its place, has the history of the references that reached it, the pool of the
 -- model, and the pending references in its buffers
-pub record ReplicaStands (capacity place : ℕ) (r : ReplicaView) (m : ReplicaState) : Type 0 where
+pub record ReplicaStands (capacity index_of_number : ℕ) (r : ReplicaView) (m : ReplicaState) : Type 0 where
   pub has_capacity : 0 < capacity
-  pub node_is : r.node ≡ record { id = place + 1; history = history m.reach; pool = m.pool }
+  pub node_is : r.node ≡ record { id = index_of_number + 1; history = history m.reach; pool = m.pool }
   pub buffers_are : r.buffers ≡ map (buffered capacity) m.pending
 
 -- for every model state that a replica with this capacity stood for, it now stands for the changed
 -- state
 abbrev pub Becomes : ℕ → ReplicaView → ReplicaView → (ReplicaState → ReplicaState) → Type 0
 Becomes capacity old new change =
-    (place : ℕ) (m : ReplicaState) → ReplicaStands capacity place old m → ReplicaStands capacity place new (change m)
+    (index_of_number : ℕ) (m : ReplicaState) → ReplicaStands capacity index_of_number old m → ReplicaStands capacity index_of_number new (change m)
 
 -- in every model state that a replica stands for, the buffer of the worker is full
-abbrev pub IsFull : ReplicaView → ℕ → Type 0
-IsFull r worker =
-    (capacity place : ℕ) (m : ReplicaState) → ReplicaStands capacity place r m → capacity ≤ length (pending m worker)
+abbrev pub IsBufferFull : ReplicaView → ℕ → Type 0
+IsBufferFull r worker =
+    (capacity index_of_number : ℕ) (m : ReplicaState) → ReplicaStands capacity index_of_number r m → capacity ≤ length (pending m worker)
 
 -- the message that a record is of: from its sender, with the horizon, the page histories of the references that it brings, or digests, or a
 -- request
@@ -51,8 +51,8 @@ message_kept (Request sender horizon request) = Want sender horizon request
 
 -- the bytes of a stored message spell its record's message, and decoding them gives it
 pub record SpellsRecord (bytes : List ℕ) (kept : MessageRecord) : Type 0 where
-  pub spells : Spells bytes (message_kept kept)
-  pub exact : bytes ≡ spelling (message_kept kept)
+  pub spells : Encodes bytes (message_kept kept)
+  pub exact : bytes ≡ encoding (message_kept kept)
 
 -- the world stands for the model state: replica by replica, and message by message
 pub record StandsFor (w : WorldView) (m : ModelState) : Type 0 where
@@ -85,7 +85,7 @@ CountsFailure old new = (m : ModelState) → StandsFor old m
 
 -- the history of the replica of a number
 abbrev pub history_of : WorldView → ℕ → HistoryView
-history_of w i = slice_index_or (map (λ r. r.node.history) w.replicas) (place i) (holding [])
+history_of w i = slice_index_or (map (λ r. r.node.history) w.replicas) (index_of_number i) (history_of_entries [])
 
 -- each replica's history is exactly the two latest stamps, not older than its horizon, of every page among the references that
 -- reached it
@@ -101,10 +101,10 @@ pub record Agree (w : WorldView) (m : ModelState) (i j : ℕ) : Type 0 where
 -- replicas that keep the same references agree
 abbrev pub ReplicasAgree : WorldView → ModelState → Type 0
 ReplicasAgree w m = (i j : ℕ) → IsNumber i (length m.replicas) → IsNumber j (length m.replicas)
-    → HoldSame (reach_of m i) (reach_of m j) → Agree w m i j
+    → SameReferences (reach_of m i) (reach_of m j) → Agree w m i j
 
 -- the page is in a frame of the replica's pool before, and in none after
-pub record Leaves (i : ℕ) (old new : ModelState) (page : PageId) : Type 0 where
+pub record IsEvictedFrom (i : ℕ) (old new : ModelState) (page : PageId) : Type 0 where
   pub before : IsResident (pool_of old i) page
   pub after : IsAbsent (pool_of new i) page
 
@@ -123,7 +123,7 @@ IsRightVictim i m page = IsFarthest (reach_of m i) (unfixed_pages (pool_of m i))
 -- an unpinned resident page of greatest backward 2-distance.
 pub record VictimsAreFarthest (old : ModelState) (event : Event) (answer : Answer) (new : ModelState) : Type 0 where
   pub named : (i : ℕ) (page : PageId) → event ≡ Victim i → answer ≡ Page (Some page) → IsRightVictim i old page
-  pub left : (i : ℕ) (page : PageId) → MayLoad i event → Leaves i old new page → IsRightVictim i old page
+  pub left : (i : ℕ) (page : PageId) → MayLoad i event → IsEvictedFrom i old new page → IsRightVictim i old page
 
 -- the same, for each event of a run
 abbrev pub EachVictim : (old : ModelState) (events : List Event) (answers : List Answer) (new : ModelState) → Run old events answers new → Type 0
@@ -158,7 +158,7 @@ pub record Alike (m : ModelState) (i j : ℕ) : Type 0 where
 
 -- each victim of the run is right, and in the state that it leads to, replicas that keep the same references agree
 pub record IsRightRun (old : ModelState) (events : List Event) (answers : List Answer) (new : ModelState) (run : Run old events answers new) : Type 0 where
-  pub agree : (i j : ℕ) → HoldSame (reach_of new i) (reach_of new j) → Alike new i j
+  pub agree : (i j : ℕ) → SameReferences (reach_of new i) (reach_of new j) → Alike new i j
   pub victims : EachVictim old events answers new run
 
 -- every run is right

@@ -2,13 +2,13 @@
 -- caller sees of each replica's pool.
 use Rattle.std.specs.Prelude.{ℕ, List, [], ◌∷◌, ◌++◌, length, map, nat_le, replicate, if◌then◌else◌, slice_index_or, slice_set}
 use Rattle.warm_stamps.specs.declared.Reference.{Reference}
-use Rattle.warm_history.specs.ReferenceSets.{ReferenceSet, these, since, ◌∪◌}
+use Rattle.warm_history.specs.ReferenceSets.{ReferenceSet, set_of_list, with_horizon, ◌∪◌}
 use Rattle.warm_history.specs.Histories.{history}
 use Rattle.warm_devices.specs.Device.{DeviceState}
-use Rattle.warm_pool.specs.State.{opened}
+use Rattle.warm_pool.specs.State.{fresh_pool}
 use Rattle.warm_pool.specs.View.{PoolView, view_of}
 use Rattle.warm_gossip.specs.State.{NodeView}
-use Rattle.warm_world.specs.Lists.{place}
+use Rattle.warm_world.specs.Lists.{index_of_number}
 use Rattle.warm_world.specs.Sizes.{Sizes}
 
 -- of one replica: the references that reached it since its restart, and its horizon; for each
@@ -34,20 +34,20 @@ pub record ModelState : Type 0 where
 abbrev pub no_pool : PoolView
 no_pool = record { page_size = 0; devices = []; frames = []; contents = []; failures = [] }
 
-abbrev pub nobody : ReplicaState
-nobody = record { reach = these []; pending = []; pool = no_pool }
+abbrev pub no_replica : ReplicaState
+no_replica = record { reach = set_of_list []; pending = []; pool = no_pool }
 
 -- the replica at a place
 abbrev pub replica : ModelState → ℕ → ReplicaState
-replica m k = slice_index_or m.replicas k nobody
+replica m k = slice_index_or m.replicas k no_replica
 
 -- the references that reached the replica of a number, directly or through others, since its restart
 abbrev pub reach_of : ModelState → ℕ → ReferenceSet
-reach_of m i = (replica m (place i)).reach
+reach_of m i = (replica m (index_of_number i)).reach
 
 -- the view of the pool of the replica of a number
 abbrev pub pool_of : ModelState → ℕ → PoolView
-pool_of m i = (replica m (place i)).pool
+pool_of m i = (replica m (index_of_number i)).pool
 
 -- the node of the replica of a number: its history is that of the references that reached it
 abbrev pub node_of : ModelState → ℕ → NodeView
@@ -59,11 +59,11 @@ set_replica m k r = record m { replicas = slice_set m.replicas k r }
 
 -- only the pool of the replica of a number is changed
 abbrev pub set_pool : ModelState → ℕ → PoolView → ModelState
-set_pool m i pool = set_replica m (place i) (record (replica m (place i)) { pool = pool })
+set_pool m i pool = set_replica m (index_of_number i) (record (replica m (index_of_number i)) { pool = pool })
 
 -- the record at a place
 abbrev pub record_at : ModelState → ℕ → MessageRecord
-record_at m k = slice_index_or m.records k (References 0 (these []))
+record_at m k = slice_index_or m.records k (References 0 (set_of_list []))
 
 -- the records with these appended
 abbrev pub add_records : ModelState → List MessageRecord → ModelState
@@ -75,7 +75,7 @@ pending r k = slice_index_or r.pending k []
 
 -- the replica after that buffer was flushed: its references have reached the replica
 abbrev pub flushed : ℕ → ReplicaState → ReplicaState
-flushed k r = record r { reach = r.reach ∪ these (pending r k); pending = slice_set r.pending k [] }
+flushed k r = record r { reach = r.reach ∪ set_of_list (pending r k); pending = slice_set r.pending k [] }
 
 -- the replica after a reference was appended to that buffer
 abbrev pub put_last : ℕ → Reference → ReplicaState → ReplicaState
@@ -86,20 +86,20 @@ abbrev pub referred : ℕ → ℕ → Reference → ReplicaState → ReplicaStat
 referred capacity k x r = put_last k x (if nat_le capacity (length (pending r k)) then flushed k r else r)
 
 -- the replica with its horizon raised to this time, unless it is later already
-abbrev pub raised : ℕ → ReplicaState → ReplicaState
-raised time r = record r { reach = since time r.reach }
+abbrev pub raised_replica : ℕ → ReplicaState → ReplicaState
+raised_replica time r = record r { reach = with_horizon time r.reach }
 
 -- the replica after a restart: no references, empty buffers, and this pool
 abbrev pub restarted : PoolView → ReplicaState → ReplicaState
-restarted pool r = record { reach = these []; pending = map (λ _. []) r.pending; pool = pool }
+restarted pool r = record { reach = set_of_list []; pending = map (λ _. []) r.pending; pool = pool }
 
 -- a replica that no reference has reached
 abbrev pub fresh : ℕ → PoolView → ReplicaState
-fresh workers pool = record { reach = these []; pending = replicate workers []; pool = pool }
+fresh workers pool = record { reach = set_of_list []; pending = replicate workers []; pool = pool }
 
 -- a replica over these devices, before the first event
 abbrev pub opened_over : Sizes → List DeviceState → ReplicaState
-opened_over s devices = fresh s.workers (view_of (opened s.frames s.page_size devices))
+opened_over s devices = fresh s.workers (view_of (fresh_pool s.frames s.page_size devices))
 
 -- a world with a replica over each list of devices, before the first event
 abbrev pub opening : Sizes → List (List DeviceState) → ModelState

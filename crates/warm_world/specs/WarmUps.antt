@@ -4,7 +4,7 @@ use Rattle.warm_stamps.specs.declared.PageId.{PageId}
 use Rattle.warm_pool.specs.State.{IsPool}
 use Rattle.warm_pool.specs.View.{IsResident, IsUnfixed}
 use Rattle.warm_gossip.specs.State.{NodeState}
-use Rattle.warm_gossip.specs.WarmUps.{IsWarm, PagesDiffer}
+use Rattle.warm_gossip.specs.WarmUps.{IsHot, PagesDiffer}
 use Rattle.warm_world.specs.declared.event.Event.{Event}
 use Rattle.warm_world.specs.declared.event.Event.TheVariants.{WarmStep}
 use Rattle.warm_world.specs.States.{ModelState, pool_of, reach_of}
@@ -32,4 +32,4 @@ ShowsPoolsDiffer w = (m : ModelState) → StandsFor w m → PoolsDiffer m
 -- warm-up list, cut to the frames of the pool, that a device has is resident.
 abbrev pub WarmUpLoads : Type 0
 WarmUpLoads = (i : ℕ) (old new : ModelState) → PoolsDiffer old → IsUnfixed (pool_of old i) → NoneRefused old (warm_up old i) new
-    → (p : PageId) → IsWarm (reach_of old i) (pool_of old i) p → IsResident (pool_of new i) p
+    → (p : PageId) → IsHot (reach_of old i) (pool_of old i) p → IsResident (pool_of new i) p

@@ -2,7 +2,7 @@
 ghost use Rattle.std.specs.Prelude.{◌≡◌, [], map, OnOk, OnErr, IfOk, IsOk};
 ghost use Rattle.warm_world.specs.Next.{IsNamed};
 ghost use Rattle.warm_world.specs.Lists.{Pairwise};
-ghost use Rattle.warm_world.specs.Replicas.{Encodes, Keeps, KeepsAll, Takes, raised_to};
+ghost use Rattle.warm_world.specs.Replicas.{EncodesMessage, Keeps, KeepsAll, StoresAnswers, raised_to};
 ghost use Rattle.warm_world.specs.Views.{world_view};
 ghost use Rattle.warm_world.specs.Stands.{view_shape, Steps};
 
@@ -17,7 +17,7 @@ use warm_stamps::{Bucket, PageId};
 
 // The bytes of each of the messages.
 fn encoded(alloc: Global, messages: &[Message]) -> Result<Vec<Vec<u8>>, AllocError>
-    ensures { IfOk result (λ all. Pairwise (λ _ bytes message. Encodes bytes message)
+    ensures { IfOk result (λ all. Pairwise (λ _ bytes message. EncodesMessage bytes message)
         (map (λ f. f.items) all.items) messages.now) }
 {
     let mut all = Vec::with_capacity(alloc, messages.len())?;
@@ -44,7 +44,7 @@ fn keep_all(alloc: Global, kept: &mut Vec<Vec<u8>>, messages: &[Message]) -> Res
 
 // Stores the messages that answer a delivered one, numbered after the others.
 fn took(alloc: Global, kept: &mut Vec<Vec<u8>>, messages: &[Message]) -> Answer
-    ensures { Takes (map (λ f. f.items) kept.old.items) messages.now result
+    ensures { StoresAnswers (map (λ f. f.items) kept.old.items) messages.now result
         (map (λ f. f.items) kept.new.items) }
 {
     if let Err(error) = keep_all(alloc, kept, messages) {

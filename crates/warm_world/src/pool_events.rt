@@ -2,7 +2,7 @@
 ghost use Rattle.std.specs.Prelude.{IsSome};
 ghost use Rattle.warm_gossip.specs.State.{node_view};
 ghost use Rattle.warm_world.specs.Next.{call_of, reply_of};
-ghost use Rattle.warm_world.specs.Replicas.{Replies, answered};
+ghost use Rattle.warm_world.specs.Replicas.{SomeReply, answered};
 
 use crate::event::{Answer, Event};
 use warm_devices::PageDevice;
@@ -14,7 +14,7 @@ use warm_gossip::{Node, NodeFault};
 /// message's digests, 2 KB, which each function on the path of a pin would clear.
 pub(crate) fn ask<D: PageDevice>(node: &mut Node<D>, event: Event) -> Result<Answer, NodeFault>
     requires calls { IsSome (call_of event) }
-    ensures { Replies (node_view node.old) (call_of event) (reply_of (answered result))
+    ensures { SomeReply (node_view node.old) (call_of event) (reply_of (answered result))
         (node_view node.new) }
 {
     match event {

@@ -8,7 +8,7 @@ ghost use Rattle.warm_gossip.specs.declared.fault.NodeFault.TheVariants.{Memory}
 ghost use Rattle.warm_world.specs.States.{flushed, opened_over, referred};
 ghost use Rattle.warm_world.specs.Next.{stamped};
 ghost use Rattle.warm_world.specs.Views.{replica_view};
-ghost use Rattle.warm_world.specs.Stands.{buffered, ReplicaStands, Becomes, IsFull};
+ghost use Rattle.warm_world.specs.Stands.{buffered, ReplicaStands, Becomes, IsBufferFull};
 ghost use Rattle.warm_refbuffer.specs.Buffered.{cleared};
 ghost use Rattle.warm_world.specs.Replicas.{Restarts};
 
@@ -100,7 +100,7 @@ impl<D: PageDevice> Replica<D> {
             (replica_view self.new) (referred capacity worker made)) }
         ensures err { IfErr result (λ why. (why ≡ Memory)
             × (replica_view self.new ≡ replica_view self.old)) }
-        ensures full { OnErr result (IsFull (replica_view self.old) worker) }
+        ensures full { OnErr result (IsBufferFull (replica_view self.old) worker) }
     {
         let stamp = Stamp {
             time,

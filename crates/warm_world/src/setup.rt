@@ -1,7 +1,7 @@
 //! The sizes of a world.
 ghost use Rattle.std.specs.Prelude.{◌≡◌, ◌↔◌, IsOk, IfOk, IsTrue};
 ghost use Rattle.warm_stamps.specs.declared.TheConstants.{MAX_REPLICAS};
-ghost use Rattle.warm_rank.specs.declared.TheConstants.{MAX_SLOTS};
+ghost use Rattle.warm_rank.specs.declared.TheConstants.{MAX_FRAMES};
 ghost use Rattle.warm_refbuffer.specs.declared.TheConstants.{MAX_CAPACITY};
 ghost use Rattle.warm_devices.specs.declared.TheConstants.{MAX_PAGE_SIZE};
 ghost use Rattle.warm_world.specs.declared.TheConstants.{MAX_WORKERS};
@@ -12,7 +12,7 @@ use crate::MAX_WORKERS;
 use std::marker::Model;
 use thiserror::Error;
 use warm_devices::MAX_PAGE_SIZE;
-use warm_rank::MAX_SLOTS;
+use warm_rank::MAX_FRAMES;
 use warm_refbuffer::MAX_CAPACITY;
 use warm_stamps::MAX_REPLICAS;
 
@@ -70,7 +70,7 @@ fn is_within(most: usize, n: usize) -> bool
 impl Setup {
     /// A setup of the numbers of `replicas` (1 to [`MAX_REPLICAS`]), of `workers` of each (1 to
     /// [`MAX_WORKERS`]), of references that the `buffer` of a worker holds (1 to [`MAX_CAPACITY`]),
-    /// of `frames` of each replica's pool (1 to [`MAX_SLOTS`]), and of bytes of a page
+    /// of `frames` of each replica's pool (1 to [`MAX_FRAMES`]), and of bytes of a page
     /// (`page_size`, 1 to [`MAX_PAGE_SIZE`]). `BadSetup` occurs exactly where one of them is
     /// outside these limits.
     pub fn new(
@@ -98,7 +98,7 @@ impl Setup {
         if is_within(MAX_REPLICAS as usize, replicas as usize)
             && is_within(MAX_WORKERS as usize, workers as usize)
             && is_within(MAX_CAPACITY, buffer as usize)
-            && is_within(MAX_SLOTS, frames as usize)
+            && is_within(MAX_FRAMES, frames as usize)
             && is_within(MAX_PAGE_SIZE, page_size as usize)
         {
             return Ok(Setup {
@@ -136,10 +136,10 @@ impl Setup {
         self.buffer
     }
 
-    /// How many frames the pool of each replica has: 1 to [`MAX_SLOTS`].
+    /// How many frames the pool of each replica has: 1 to [`MAX_FRAMES`].
     pub fn frames(self) -> u32
         ensures value { result ≡ self.frames }
-        ensures limits { IsWithin MAX_SLOTS result }
+        ensures limits { IsWithin MAX_FRAMES result }
     {
         self.frames
     }

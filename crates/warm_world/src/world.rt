@@ -2,11 +2,11 @@
 ghost use Rattle.std.specs.Prelude.{◌≡◌, ◌+◌, ◌<◌, ◌≤◌, length, map, slice_index_or};
 ghost use Rattle.std.specs.Prelude.{OnErr, OnOk, IfOk, IfErr, IsTrue, ◌↔◌};
 ghost use Rattle.warm_stamps.specs.declared.TheConstants.{MAX_REPLICAS};
-ghost use Rattle.warm_world.specs.Lists.{IsNumber, Pairwise, place};
+ghost use Rattle.warm_world.specs.Lists.{IsNumber, Pairwise, index_of_number};
 ghost use Rattle.warm_world.specs.States.{opened_over, opening};
 ghost use Rattle.warm_pool.specs.declared.fault.PoolFault.TheVariants.{Fault};
 ghost use Rattle.warm_gossip.specs.declared.fault.NodeFault.TheVariants.{Pool};
-ghost use Rattle.warm_world.specs.Opening.{AreFew, AreFitting, AreSized, FailsAtPlace, FinishFails, NewRefused, StopsInOrder};
+ghost use Rattle.warm_world.specs.Opening.{AreFew, AreFitting, AreSized, FailsAtPlace, FinishFails, NewWorldRefused, StopsInOrder};
 ghost use Rattle.warm_world.specs.Next.{IsNamed, IsMissing};
 ghost use Rattle.warm_world.specs.Views.{listed, world_view, replica_view};
 ghost use Rattle.warm_world.specs.Views.{AreSameBut, IsAtRest, IsSettledBefore};
@@ -107,7 +107,7 @@ impl<D: PageDevice> World<D> {
             (opening setup (listed D.state devices.items))) }
         ensures fitting { OnOk result (AreFitting setup (listed D.state devices.items)) }
         ensures refused { IfErr result (λ why.
-            NewRefused setup (listed D.state devices.items) why) }
+            NewWorldRefused setup (listed D.state devices.items) why) }
     {
         if devices.len() != setup.replicas() as usize {
             return Err(BadWorld::DevicesDiffer);
@@ -133,7 +133,7 @@ impl<D: PageDevice> World<D> {
     // The number of workers of the replica of a number.
     fn worker_count(&self, i: u16) -> usize
         requires { IsNumber i (length (view_shape (world_view self.now)).workers) }
-        ensures { result ≡ slice_index_or (view_shape (world_view self.now)).workers (place i) 0 }
+        ensures { result ≡ slice_index_or (view_shape (world_view self.now)).workers (index_of_number i) 0 }
     {
         self.replicas[i as usize - 1].buffers.len()
     }

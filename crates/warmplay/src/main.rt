@@ -14,7 +14,7 @@ use warm_devices::{FileDevice, MemDevice, OpenFault, PageDevice};
 use warm_pool::MAX_DEVICES;
 use warm_schedule::{PlayFault, play, random_schedule};
 use warm_setup::{
-    Cmd, CmdFault, DeviceSpec, PathText, ProgramFault, SetupFault, command_of, not_text,
+    Cmd, CmdFault, DeviceSpec, PathText, ProgramFault, SetupFault, command_of, non_utf8_argument,
     outcome_of, read_setup, read_setup_file,
 };
 use warm_threads::play_threads;
@@ -31,7 +31,7 @@ fn asked(rt: &HostRuntime) -> Result<Cmd, ProgramFault> {
             if error.kind() == io::ErrorKind::OutOfMemory {
                 return Err(ProgramFault::Command(CmdFault::Memory));
             }
-            return Err(ProgramFault::Command(not_text(rt.alloc())));
+            return Err(ProgramFault::Command(non_utf8_argument(rt.alloc())));
         }
     };
     let words: Vec<String> = match args.collect(rt.alloc()) {

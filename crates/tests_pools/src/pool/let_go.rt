@@ -9,7 +9,7 @@ use super::{
 use std::alloc::Global;
 use std::process::Abort;
 use std::sync::Arc;
-use test_kit::{Found, Hooked, Note, Noting, both};
+use test_kit::{Found, HookedDevice, Note, Noting, both};
 use warm_devices::{MemDevice, PageDevice};
 use warm_history::History;
 use warm_pool::{Pool, PoolFault, Slot};
@@ -28,7 +28,7 @@ fn witness(rt: &impl Abort, alloc: Global) -> (Noting, Arc<Note, Global>) {
     }
     let _ = device.flush();
     let other = Arc::try_clone(&note).expect(rt, "a second owner");
-    let device = Hooked::new(alloc, device, other).expect(rt, AMPLE);
+    let device = HookedDevice::new(alloc, device, other).expect(rt, AMPLE);
     (device, note)
 }
 

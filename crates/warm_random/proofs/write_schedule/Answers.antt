@@ -2,14 +2,14 @@ use Rattle.std.proofs.Common.{◌≡◌, ◌+◌, ℕ, cond, List, [], ◌∷◌
 use Rattle.std.specs.Io.KnownBytes.{Appends}
 use Rattle.std.specs.Int.{from_bool}
 use Rattle.rand_pcg.specs.Lcg.{Lcg}
-use Rattle.warm_random.specs.Drawing.{is_send, line, line_text, lines, seeded}
+use Rattle.warm_random.specs.Drawing.{is_send, line, line_text, random_lines, seeded}
 use Rattle.warm_random.proofs.Written.{Appends-none, Appends-then}
 use Rattle.warm_random.proofs.Lines.{draws_more, one_if, one_at_most, sends_more, text_more}
 use Rattle.warm_random.specs.declared.Line.{Line}
 use Rattle.warm_random.proofs.write_schedule.Goals as goal
 
 pub loop-before-init : goal.loop-before-init
-unfolding lines
+unfolding random_lines
 loop-before-init g c = record {
   written = Appends-none _;
   words = c.new-words.ensures;
@@ -24,10 +24,10 @@ loop-before-preserved g c =
     let before = c.loop-before.before in
     let start : Lcg = seeded c.args.seed in
     let next = c.draw_line-line.result in
-    let drawn = lines c.args.replicas c.args.workers before start in
+    let drawn = random_lines c.args.replicas c.args.workers before start in
     let line_drawn : (next, c.draw_line-line.new.words) ≡ line c.args.replicas c.args.workers (before + 1) c.loop-before.sends c.loop-before.words =
     rw (← c.from.ensures, ← c.from-in-loop-before.ensures) c.draw_line-line.ensures in
-    let more : (drawn.0 ++ next ∷ [], c.draw_line-line.new.words) ≡ lines c.args.replicas c.args.workers (before + 1) start =
+    let more : (drawn.0 ++ next ∷ [], c.draw_line-line.new.words) ≡ random_lines c.args.replicas c.args.workers (before + 1) start =
     draws_more c.args.replicas c.args.workers before c.loop-before.sends next start c.loop-before.words c.draw_line-line.new.words so_far.words so_far.sends line_drawn in
     let all = ap (λ (x : List Line × Lcg). x.0) more in
     let one : c.from-sends.result ≡ cond (is_send next) 1 0 = one_if (is_send next) c.from-sends.result (c.from-sends.ensures ∙ ap from_bool c.is_send.ensures) in

@@ -2,13 +2,13 @@ use Rattle.std.proofs.Common.{◌≡◌, ◌≤◌, ◌<◌, ◌*◌, ◌^◌, C
 use Rattle.warm_pool.specs.declared.TheConstants.{MAX_DEVICES}
 use Rattle.warm_c.specs.declared.values.WarmDevice.{WarmDevice}
 use Rattle.warm_c.specs.FdParts.{fd_state}
-use Rattle.warm_c.specs.Handles.{devices_of}
+use Rattle.warm_c.specs.Handles.{fd_devices}
 use Rattle.warm_c.proofs.opening.devices_of.Given as goal
 
 -- the devices so far, whose pages fit, and capacity for all
 abbrev pub invariant-loop-device : goal.invariant-loop-device
 invariant-loop-device l = record {
-  made : map fd_state l.made.items ≡ devices_of l.page_size (take l.device-index l.devices);
+  made : map fd_state l.made.items ≡ fd_devices l.page_size (take l.device-index l.devices);
   count : length l.made.items ≡ l.device-index;
   room : length l.devices ≤ vec_capacity l.made;
   few : length l.devices ≤ MAX_DEVICES;

@@ -1,4 +1,4 @@
-use Rattle.warm_files.specs.Reading.{IsDump, IsRefused, EndsWithDigests}
+use Rattle.warm_files.specs.Reading.{IsDump, IsDumpRefused, EndsWithDigests}
 use Rattle.warm_history.specs.Histories.{entries_of}
 use Rattle.warm_digest.specs.BucketDigests.{digests_of}
 use Rattle.warm_files.proofs.EndLemmas.{if_ok_map, if_err_map, on_ok, some_map}
@@ -17,4 +17,4 @@ returns-in-Ok-clause-digests g c =
 
 pub returns-in-Ok-clause-refused : goal.returns-in-Ok-clause-refused
 returns-in-Ok-clause-refused g c =
-    if_err_map c.finish.result _ _ (λ error x. some_map _ _ (λ text. IsRefused text error.at error.fault) (λ text read. x text read) c.in-Ok.ensures.read) c.finish.ensures.cut
+    if_err_map c.finish.result _ _ (λ error x. some_map _ _ (λ text. IsDumpRefused text error.at error.fault) (λ text read. x text read) c.in-Ok.ensures.read) c.finish.ensures.cut

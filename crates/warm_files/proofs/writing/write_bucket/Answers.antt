@@ -2,7 +2,7 @@ use Rattle.std.proofs.Common.{◌<◌, ◌++◌, length, vec_len, sym, ◌∙◌
 use Rattle.std.proofs.KnownBytes.{Appends-trans}
 use Rattle.std.proofs.lemmas.Bool.{eqb-false}
 use Rattle.warm_frames.specs.declared.message.Message.TheVariants.{Entries}
-use Rattle.warm_frames.specs.Spelling.{spelling}
+use Rattle.warm_frames.specs.Spelling.{encoding}
 use Rattle.warm_files.proofs.DumpLemmas.{frame_more, left_shorter, piece_fits, rest_rises}
 use Rattle.warm_files.proofs.writing.write_bucket.Goals as goal
 
@@ -22,8 +22,8 @@ loop-piece-preserved-in_ok-write_frame g c =
     record {
       rise = rest_rises _ _ c.in_ok-piece.ensures.left c.loop-piece.invariant.rise;
       goes = (
-        before.0 ++ spelling (Entries c.args.sender c.args.horizon c.in_ok-piece.piece.items),
-        Appends-trans (g.W.Write.contents c.args.writer.now) (g.W.Write.contents c.loop-piece.writer) (g.W.Write.contents c.write_frame.new.writer) before.0 (spelling (Entries c.args.sender c.args.horizon c.in_ok-piece.piece.items)) before.1 written,
+        before.0 ++ encoding (Entries c.args.sender c.args.horizon c.in_ok-piece.piece.items),
+        Appends-trans (g.W.Write.contents c.args.writer.now) (g.W.Write.contents c.loop-piece.writer) (g.W.Write.contents c.write_frame.new.writer) before.0 (encoding (Entries c.args.sender c.args.horizon c.in_ok-piece.piece.items)) before.1 written,
         frame_more c.args.sender c.args.horizon before.0 _ _ _ _ c.in_ok-piece.ensures.piece c.in_ok-piece.ensures.left some before.2,
       );
     }

@@ -1,12 +1,12 @@
 use Rattle.std.proofs.Common.{◌≡◌, ◌++◌, length}
-use Rattle.warm_history.specs.Histories.{PagesRise}
+use Rattle.warm_history.specs.Histories.{PagesAscend}
 use Rattle.warm_gossip.specs.Answers.{entry_messages}
 use Rattle.warm_gossip.proofs.answers.push_messages.Given as goal
 
 -- the messages of what is left would make it whole
 abbrev pub invariant-loop-rest : goal.invariant-loop-rest
 invariant-loop-rest l = record {
-  rise : PagesRise l.rest;
+  rise : PagesAscend l.rest;
   goes_on : l.messages.items ++ entry_messages l.id l.horizon l.rest ≡ l.fn.messages.items ++ entry_messages l.id l.horizon l.fn.entries;
 }
 

@@ -2,8 +2,8 @@ use Rattle.std.proofs.Common.{◌≡◌, true, false, sym, subst, ◌∙◌, ari
 use Rattle.std.specs.Prelude.{◌==◌}
 use Rattle.std.specs.Int.{bit_at}
 use Rattle.warm_stamps.specs.declared.TheConstants.{BUCKETS}
-use Rattle.warm_history.specs.ReferenceSets.{since}
-use Rattle.warm_history.specs.Histories.{history, refs}
+use Rattle.warm_history.specs.ReferenceSets.{with_horizon}
+use Rattle.warm_history.specs.Histories.{history, references_of}
 use Rattle.warm_history.specs.Losses.{raised}
 use Rattle.warm_history.proofs.HistoryLemmas.{IsHistory-history}
 use Rattle.warm_gossip.proofs.AnswerLemmas.{all_below, bucket_rises, unwanted_more, wanted_more}
@@ -16,7 +16,7 @@ loop-index-preserved-then-not-is_wanted c =
 
 pub push_messages-requires : goal.push_messages-requires
 push_messages-requires c =
-    let S = since c.args.horizon (refs c.args.history.now) in
+    let S = with_horizon c.args.horizon (references_of c.args.history.now) in
     bucket_rises c.in-Some.bucket (history S) c.deref.result.now (c.deref.ensures.value ∙ c.in_ok-entries.ensures) (IsHistory-history S)
 
 pub loop-index-preserved : goal.loop-index-preserved

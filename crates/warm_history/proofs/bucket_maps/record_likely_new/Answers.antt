@@ -2,8 +2,8 @@ use Rattle.std.proofs.Common.{◌≡◌, ◌++◌, Some, ap, sym, ◌∙◌}
 use Rattle.std.specs.Map.{set_value}
 use Rattle.std.specs.BTreeMap.{is_at}
 use Rattle.std.specs.Ordering.{nat_cmp}
-use Rattle.warm_history.specs.ListHistories.{latest_of, stamps_held}
-use Rattle.warm_history.specs.Tree.{Pairs}
+use Rattle.warm_history.specs.ListHistories.{latest_of, hist_stamps}
+use Rattle.warm_history.specs.Tree.{MapPairs}
 use Rattle.warm_history.proofs.RecordLemmas.{put_over, put_back_over}
 use Rattle.warm_history.proofs.bucket_maps.record_likely_new.Goals as goal
 
@@ -14,7 +14,7 @@ returns-in_default-raise-clause-ok c =
     let after = c.raise.new.known in
     let through = c.get_mut.follows.holds after in
     put_back_over c.args.map.now.entries _ p c.args.more c.alone.result c.in-Some.before after c.requires.rise c.raise.ensures.now (sym c.in-Some.is ∙ c.in_ok-before.ensures.old)
-    (through.0 ∙ ap (λ (es : Pairs). set_value (is_at (nat_cmp p)) es after) c.in_ok-before.ensures.entries)
+    (through.0 ∙ ap (λ (es : MapPairs). set_value (is_at (nat_cmp p)) es after) c.in_ok-before.ensures.entries)
     (sym c.in_default-raise.ensures.same)
 
 -- it was known, and changes
@@ -26,7 +26,7 @@ returns-clause-ok c =
     let through = c.get_mut.follows.holds after in
     let same : c.in-Some-raise.before ≡ c.in-Some.before = c.in-Some-raise.ensures.before in
     put_over c.args.map.now.entries _ p more c.alone.result c.in-Some-raise.before after
-    (c.raise.ensures.now ∙ ap (λ h. latest_of (stamps_held more ++ stamps_held h)) (sym same))
+    (c.raise.ensures.now ∙ ap (λ h. latest_of (hist_stamps more ++ hist_stamps h)) (sym same))
     (ap (λ h. Some h) same ∙ sym c.in-Some.is ∙ c.in_ok-before.ensures.old)
-    (through.0 ∙ ap (λ (es : Pairs). set_value (is_at (nat_cmp p)) es after) c.in_ok-before.ensures.entries)
+    (through.0 ∙ ap (λ (es : MapPairs). set_value (is_at (nat_cmp p)) es after) c.in_ok-before.ensures.entries)
     c.in-Some-raise.ensures.differs

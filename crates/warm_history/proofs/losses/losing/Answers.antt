@@ -1,10 +1,10 @@
 use Rattle.std.proofs.Common.{◌≡◌, ◌≤◌, Bool, true, false, IsTrue, ℕ, List, arith, refl, ap, subst, sym}
 use Rattle.std.specs.Int.{from_bool}
 use Rattle.warm_history.specs.declared.hist.Entry.{Entry}
-use Rattle.warm_history.specs.Changes.{ChangesIn, StaysIn, TellsChange, MarksChanged}
-use Rattle.warm_history.specs.Histories.{HistoryView, entries_of, refs}
+use Rattle.warm_history.specs.Changes.{ChangesIn, SameInBucket, SaysChange, MarksChanged}
+use Rattle.warm_history.specs.Histories.{HistoryView, entries_of, references_of}
 use Rattle.warm_history.specs.Losses.{raised}
-use Rattle.warm_history.specs.ReferenceSets.{since}
+use Rattle.warm_history.specs.ReferenceSets.{with_horizon}
 use Rattle.warm_history.proofs.BucketSets.{seen_more, rest_more}
 use Rattle.warm_history.proofs.ChangeLemmas.{marks_none, nothing_changed}
 use Rattle.warm_history.proofs.HistoryLemmas.{IsHistory-history}
@@ -23,7 +23,7 @@ returns-then-horizon c =
     }
 
 -- what a bucket's test says is said by the bit made of it
-tells : (es fs : List Entry) (bucket : ℕ) (d : Bool) → (IsTrue d → ChangesIn bucket es fs) → (d ≡ false → StaysIn bucket es fs) → TellsChange es fs bucket (from_bool d)
+tells : (es fs : List Entry) (bucket : ℕ) (d : Bool) → (IsTrue d → ChangesIn bucket es fs) → (d ≡ false → SameInBucket bucket es fs) → SaysChange es fs bucket (from_bool d)
 tells es fs bucket true loses keeps = ((λ one. loses refl), λ none. absurd (omega (arith, none)))
 tells es fs bucket false loses keeps = ((λ one. absurd (omega (arith, one))), λ none. keeps refl)
 
@@ -34,10 +34,10 @@ loop-index-preserved c =
     let h = c.args.history.now in
     let es = entries_of h in
     let fs = entries_of (raised c.args.horizon h) in
-    let here = subst (λ b. TellsChange es fs b (from_bool c.loses.result)) c.in-Some.ensures.value (tells es fs c.in-Some.bucket c.loses.result c.loses.ensures.loses c.loses.ensures.keeps) in
+    let here = subst (λ b. SaysChange es fs b (from_bool c.loses.result)) c.in-Some.ensures.value (tells es fs c.in-Some.bucket c.loses.result c.loses.ensures.loses c.loses.ensures.keeps) in
     record {
-      seen = seen_more (TellsChange es fs) c.loop-index.buckets index c.from.result c.loses.result c.loop-index-test.true c.from.ensures
-          (so_far.rest index (omega arith)) (subst (TellsChange es fs index) (sym c.from.ensures) here) so_far.seen;
+      seen = seen_more (SaysChange es fs) c.loop-index.buckets index c.from.result c.loses.result c.loop-index-test.true c.from.ensures
+          (so_far.rest index (omega arith)) (subst (SaysChange es fs index) (sym c.from.ensures) here) so_far.seen;
       rest = rest_more c.loop-index.buckets index c.from.result c.loses.result c.loop-index-test.true c.from.ensures so_far.rest;
     }
 
@@ -45,5 +45,5 @@ pub returns-clause-none : goal.returns-clause-none
 returns-clause-none c none =
     let h = c.args.history.now in
     let g = raised c.args.horizon h in
-    nothing_changed (entries_of h) (entries_of g) c.loop-index.buckets c.horizon.ensures.whole.pages_rise (IsHistory-history (since c.args.horizon (refs h))).pages_rise
+    nothing_changed (entries_of h) (entries_of g) c.loop-index.buckets c.horizon.ensures.whole.pages_ascend (IsHistory-history (with_horizon c.args.horizon (references_of h))).pages_ascend
     (λ bucket low. c.loop-index.invariant.seen bucket (omega arith)) none

@@ -2,8 +2,8 @@ use Rattle.std.proofs.Common.{◌+◌, ap, None, Some, ◌∙◌, arith, ◌<◌
 use Rattle.std.specs.Ordering.{nat_cmp}
 use Rattle.std.specs.BTreeMap.Range.{entries_between}
 use Rattle.std.specs.declared.ops.Bound.TheVariants.{Included, Excluded}
-use Rattle.warm_history.specs.Carried.{is_chosen}
-use Rattle.warm_history.specs.Places.{first_place, place_in}
+use Rattle.warm_history.specs.Carried.{is_next_in_bucket}
+use Rattle.warm_history.specs.Places.{first_key, key_in}
 use Rattle.warm_history.specs.Tree.{as_entries}
 use Rattle.warm_history.proofs.PlaceOrder.{in_bucket, after_page, of_bucket}
 use Rattle.warm_history.proofs.BucketParts.{from_first_on, from_page_on}
@@ -20,10 +20,10 @@ returns-in-None c =
     rw c.in-None.is (
     ap as_entries (c.range.ensures.between tt)
     ∙ ap (λ k. as_entries (entries_between nat_cmp (Included k) (Excluded c.first_place-end.result) here)) c.first_place.ensures
-    ∙ ap (λ k. as_entries (entries_between nat_cmp (Included (first_place bucket)) (Excluded k) here)) c.first_place-end.ensures
+    ∙ ap (λ k. as_entries (entries_between nat_cmp (Included (first_key bucket)) (Excluded k) here)) c.first_place-end.ensures
     ∙ ap as_entries (c.map_of-pairs.ensures _ (from_first_on bucket))
-    ∙ between (Included (first_place bucket)) (Excluded (first_place (bucket + 1))) (is_chosen bucket None) pairs (in_bucket bucket) are.are_places
-    ∙ chosen_kept bucket (is_chosen bucket None) (of_bucket bucket None) pairs are)
+    ∙ between (Included (first_key bucket)) (Excluded (first_key (bucket + 1))) (is_next_in_bucket bucket None) pairs (in_bucket bucket) are.are_places
+    ∙ chosen_kept bucket (is_next_in_bucket bucket None) (of_bucket bucket None) pairs are)
 
 -- those after the page
 pub returns-in-Some : goal.returns-in-Some
@@ -37,7 +37,7 @@ returns-in-Some c =
     rw c.in-Some.is (
     ap as_entries (c.range-in-Some.ensures.between tt)
     ∙ ap (λ k. as_entries (entries_between nat_cmp (Excluded k) (Excluded c.first_place-end.result) here)) c.place_in.ensures
-    ∙ ap (λ k. as_entries (entries_between nat_cmp (Excluded (place_in bucket last)) (Excluded k) here)) c.first_place-end.ensures
+    ∙ ap (λ k. as_entries (entries_between nat_cmp (Excluded (key_in bucket last)) (Excluded k) here)) c.first_place-end.ensures
     ∙ ap as_entries (c.map_of-pairs.ensures _ (from_page_on bucket last))
-    ∙ between (Excluded (place_in bucket last)) (Excluded (first_place (bucket + 1))) (is_chosen bucket (Some last)) pairs (λ k. after_page bucket last k fits) are.are_places
-    ∙ chosen_kept bucket (is_chosen bucket (Some last)) (of_bucket bucket (Some last)) pairs are)
+    ∙ between (Excluded (key_in bucket last)) (Excluded (first_key (bucket + 1))) (is_next_in_bucket bucket (Some last)) pairs (λ k. after_page bucket last k fits) are.are_places
+    ∙ chosen_kept bucket (is_next_in_bucket bucket (Some last)) (of_bucket bucket (Some last)) pairs are)

@@ -1,27 +1,27 @@
 use Rattle.std.proofs.Common.{◌≡◌, ◌+◌, ◌≤◌, ◌<◌, List, drop, sym, ap, subst, ◌∙◌, arith}
 use Rattle.warm_history.specs.declared.hist.Entry.{Entry}
-use Rattle.warm_history.specs.Places.{first_place, place_of, page_at}
+use Rattle.warm_history.specs.Places.{first_key, key_of_page, page_of_key}
 use Rattle.warm_history.specs.Runs.{RiseWithin}
 use Rattle.warm_history.proofs.TreeLemmas.{left_more, none_left}
 use Rattle.warm_history.proofs.runs.is_run.Goals as goal
 
 pub loop-entry-init : goal.loop-entry-init
-loop-entry-init c = record { enough = λ rise. subst (λ from. RiseWithin from (first_place (c.args.number + 1)) c.args.entries.now) c.first_place-from.ensures rise }
+loop-entry-init c = record { enough = λ rise. subst (λ from. RiseWithin from (first_key (c.args.number + 1)) c.args.entries.now) c.first_place-from.ensures rise }
 
 pub loop-entry-preserved : goal.loop-entry-preserved
 loop-entry-preserved c =
     let more : List Entry = c.args.entries.now in
     let i : _ = c.loop-entry.entry-index in
     let e : Entry = c.entry-item.result in
-    let to = first_place (c.args.number + 1) in
-    let value : c.place_of-place.result ≡ place_of e.page = c.place_of-place.ensures.value in
-    let starts : c.loop-entry.from ≤ place_of e.page = subst (λ p. c.loop-entry.from ≤ p) value c.if-place-from.false in
+    let to = first_key (c.args.number + 1) in
+    let value : c.place_of-place.result ≡ key_of_page e.page = c.place_of-place.ensures.value in
+    let starts : c.loop-entry.from ≤ key_of_page e.page = subst (λ p. c.loop-entry.from ≤ p) value c.if-place-from.false in
     let below : c.place_of-place.result < to = subst (λ end. c.place_of-place.result < end) c.first_place-end.ensures c.if-end-place.false in
-    let ends : place_of e.page < to = subst (λ p. p < to) value below in
-    let back : page_at (place_of e.page) ≡ e.page = subst (λ p. page_at p ≡ e.page) value c.place_of-place.ensures.back in
+    let ends : key_of_page e.page < to = subst (λ p. p < to) value below in
+    let back : page_of_key (key_of_page e.page) ≡ e.page = subst (λ p. page_of_key p ≡ e.page) value c.place_of-place.ensures.back in
     record {
       enough = λ rise. c.loop-entry.invariant.enough (subst (RiseWithin c.loop-entry.from to) (sym (left_more more i e c.loop-entry-test.true c.entry-item.is)) (starts, ends, back, subst (λ p. RiseWithin (p + 1) to (drop (i + 1) more)) value rise));
     }
 
 pub returns : goal.returns
-returns c = λ yes. c.loop-entry.invariant.enough (subst (RiseWithin c.loop-entry.from (first_place (c.args.number + 1))) (sym (none_left c.args.entries.now c.loop-entry.entry-index c.loop-entry-test.false)) tt)
+returns c = λ yes. c.loop-entry.invariant.enough (subst (RiseWithin c.loop-entry.from (first_key (c.args.number + 1))) (sym (none_left c.args.entries.now c.loop-entry.entry-index c.loop-entry-test.false)) tt)

@@ -1,13 +1,13 @@
 use Rattle.std.proofs.Common.{◌≡◌, ◌++◌, ◌+◌, List, drop, sym, ap, subst, ◌∙◌, append_assoc}
 use Rattle.std.proofs.lemmas.List.{append-nil}
 use Rattle.warm_history.specs.declared.hist.Entry.{Entry}
-use Rattle.warm_history.specs.Runs.{pair_left, run_pairs}
-use Rattle.warm_history.specs.Tree.{Pairs}
+use Rattle.warm_history.specs.Runs.{pair_of_entry, run_pairs}
+use Rattle.warm_history.specs.Tree.{MapPairs}
 use Rattle.warm_history.proofs.TreeLemmas.{left_more, none_left}
 use Rattle.warm_history.proofs.runs.recent_pairs.Goals as goal
 
 pub loop-entry-init : goal.loop-entry-init
-loop-entry-init c = record { goes_on = ap (λ (t : Pairs). t ++ run_pairs c.args.horizon c.args.run.now) c.in_ok-pairs.ensures.items }
+loop-entry-init c = record { goes_on = ap (λ (t : MapPairs). t ++ run_pairs c.args.horizon c.args.run.now) c.in_ok-pairs.ensures.items }
 
 pub loop-entry-preserved : goal.loop-entry-preserved
 loop-entry-preserved c =
@@ -17,8 +17,8 @@ loop-entry-preserved c =
     let m : _ = c.args.horizon in
     let rest = run_pairs m (drop (i + 1) run) in
     record {
-      goes_on = ap (λ (t : Pairs). t ++ rest) c.in_ok-push_recent.ensures
-          ∙ append_assoc c.loop-entry.pairs.items (pair_left m e) rest
+      goes_on = ap (λ (t : MapPairs). t ++ rest) c.in_ok-push_recent.ensures
+          ∙ append_assoc c.loop-entry.pairs.items (pair_of_entry m e) rest
           ∙ ap (λ (es : List Entry). c.loop-entry.pairs.items ++ run_pairs m es) (sym (left_more run i e c.loop-entry-test.true c.entry-item.is))
           ∙ c.loop-entry.invariant.goes_on;
     }

@@ -3,9 +3,9 @@ use Rattle.std.specs.Vec.{vec_len}
 use Rattle.std.proofs.lemmas.Bool.{eq-eqb, eqb-true}
 use Rattle.warm_history.specs.BucketMaps.{PlacesRise}
 use Rattle.warm_history.specs.Changes.{MarksChanged}
-use Rattle.warm_history.specs.Places.{first_place}
-use Rattle.warm_history.specs.Runs.{filled, run_pairs}
-use Rattle.warm_history.specs.Tree.{Pairs, AreKept, kept, TakesEntries}
+use Rattle.warm_history.specs.Places.{first_key}
+use Rattle.warm_history.specs.Runs.{with_pairs, run_pairs}
+use Rattle.warm_history.specs.Tree.{MapPairs, AreKept, kept, TakesEntries}
 use Rattle.warm_history.proofs.BucketSteps.{AllIn}
 use Rattle.warm_history.proofs.RunLemmas.{takes_run, marks_run, are_places}
 use Rattle.warm_history.proofs.RunPairs.{none_of, pairs_rise, pairs_inside}
@@ -17,13 +17,13 @@ returns-then-is_empty-clause-exact c =
     let n = c.args.number in
     let old = c.args.maps.now in
     let es = c.args.run.now in
-    let taken = takes_run m n (first_place n) old es c.requires.kept c.requires.free (omega arith) c.requires.run in
+    let taken = takes_run m n (first_key n) old es c.requires.kept c.requires.free (omega arith) c.requires.run in
     let few : vec_len c.in_ok-pairs.pairs ≡ 0 = eqb-true (vec_len c.in_ok-pairs.pairs) 0 (sym c.if-is_empty.ensures) in
     let none : run_pairs m es ≡ [] = sym c.in_ok-pairs.ensures ∙ none_of c.in_ok-pairs.pairs.items (omega (arith, few, c.in_ok-pairs.pairs.ok.0)) in
-    subst (λ (run : Pairs). TakesEntries m old es (filled old run)) none taken.exact
+    subst (λ (run : MapPairs). TakesEntries m old es (with_pairs old run)) none taken.exact
 
 pub fill-requires-clause-rise : goal.fill-requires-clause-rise
-fill-requires-clause-rise c = subst PlacesRise (sym c.in_ok-pairs.ensures) (pairs_rise c.args.horizon (first_place c.args.number) (first_place (c.args.number + 1)) c.args.run.now c.requires.run)
+fill-requires-clause-rise c = subst PlacesRise (sym c.in_ok-pairs.ensures) (pairs_rise c.args.horizon (first_key c.args.number) (first_key (c.args.number + 1)) c.args.run.now c.requires.run)
 
 pub fill-requires-clause-inside : goal.fill-requires-clause-inside
 fill-requires-clause-inside c = subst (AllIn c.args.number) (sym c.in_ok-pairs.ensures) (pairs_inside c.args.horizon c.args.number c.args.run.now c.requires.run)
@@ -34,8 +34,8 @@ returns-clause-exact c =
     let n = c.args.number in
     let old = c.args.maps.now in
     let es = c.args.run.now in
-    let taken = takes_run m n (first_place n) old es c.requires.kept c.requires.free (omega arith) c.requires.run in
-    let is : c.fill.new.self ≡ filled old (run_pairs m es) = c.in_ok-fill.ensures.ok ∙ ap (filled old) c.in_ok-pairs.ensures in
+    let taken = takes_run m n (first_key n) old es c.requires.kept c.requires.free (omega arith) c.requires.run in
+    let is : c.fill.new.self ≡ with_pairs old (run_pairs m es) = c.in_ok-fill.ensures.ok ∙ ap (with_pairs old) c.in_ok-pairs.ensures in
     subst (TakesEntries m old es) (sym is) taken.exact
 
 pub returns-clause-changed : goal.returns-clause-changed
@@ -45,16 +45,16 @@ returns-clause-changed c =
     let old = c.args.maps.now in
     let es = c.args.run.now in
     let run = run_pairs m es in
-    let taken = takes_run m n (first_place n) old es c.requires.kept c.requires.free (omega arith) c.requires.run in
-    let is : c.fill.new.self ≡ filled old (run_pairs m es) = c.in_ok-fill.ensures.ok ∙ ap (filled old) c.in_ok-pairs.ensures in
+    let taken = takes_run m n (first_key n) old es c.requires.kept c.requires.free (omega arith) c.requires.run in
+    let is : c.fill.new.self ≡ with_pairs old (run_pairs m es) = c.in_ok-fill.ensures.ok ∙ ap (with_pairs old) c.in_ok-pairs.ensures in
     let some : run ≢ [] = λ none.
     let empty : c.in_ok-pairs.pairs.items ≡ [] = c.in_ok-pairs.ensures ∙ none in
     let short : length c.in_ok-pairs.pairs.items ≡ 0 = ap length empty in
     let few : vec_len c.in_ok-pairs.pairs ≡ 0 = omega (arith, short, c.in_ok-pairs.pairs.ok.0) in
     let no : false ≡ true = c.if-is_empty.ensures ∙ eq-eqb (vec_len c.in_ok-pairs.pairs) 0 few in
     absurd (cc) in
-    subst (λ (new : Pairs). MarksChanged (kept old) (kept new) (1 * 2 ^ n % 2 ^ 64)) (sym is)
-    (marks_run n old run c.requires.number c.requires.kept taken.whole c.requires.free (pairs_inside m n es c.requires.run) (are_places m (first_place n) (first_place (n + 1)) es c.requires.run) some taken.others)
+    subst (λ (new : MapPairs). MarksChanged (kept old) (kept new) (1 * 2 ^ n % 2 ^ 64)) (sym is)
+    (marks_run n old run c.requires.number c.requires.kept taken.whole c.requires.free (pairs_inside m n es c.requires.run) (are_places m (first_key n) (first_key (n + 1)) es c.requires.run) some taken.others)
 
 pub returns-clause-whole : goal.returns-clause-whole
 returns-clause-whole c =
@@ -62,6 +62,6 @@ returns-clause-whole c =
     let n = c.args.number in
     let old = c.args.maps.now in
     let es = c.args.run.now in
-    let taken = takes_run m n (first_place n) old es c.requires.kept c.requires.free (omega arith) c.requires.run in
-    let is : c.fill.new.self ≡ filled old (run_pairs m es) = c.in_ok-fill.ensures.ok ∙ ap (filled old) c.in_ok-pairs.ensures in
+    let taken = takes_run m n (first_key n) old es c.requires.kept c.requires.free (omega arith) c.requires.run in
+    let is : c.fill.new.self ≡ with_pairs old (run_pairs m es) = c.in_ok-fill.ensures.ok ∙ ap (with_pairs old) c.in_ok-pairs.ensures in
     subst AreKept (sym is) taken.whole

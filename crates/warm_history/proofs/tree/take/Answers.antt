@@ -1,5 +1,5 @@
 use Rattle.std.proofs.Common.{◌*◌, ◌%◌, ◌^◌, ap, subst, sym, ◌∙◌}
-use Rattle.warm_history.specs.BucketMaps.{TellsNote}
+use Rattle.warm_history.specs.BucketMaps.{SaysNote}
 use Rattle.warm_history.specs.Changes.{MarksChanged}
 use Rattle.warm_history.specs.Tree.{kept}
 use Rattle.warm_history.specs.Undo.{undone}
@@ -21,6 +21,6 @@ returns-clause-changed c =
     let old = c.args.maps.now in
     let new = c.record.new.self in
     let p = c.args.place in
-    let differs = subst (λ note. TellsNote note p old new) c.in-Some.is c.in_ok-known.ensures.tells in
+    let differs = subst (λ note. SaysNote note p old new) c.in-Some.is c.in_ok-known.ensures.tells in
     subst (λ i. MarksChanged (kept old) (kept new) (1 * 2 ^ i % 2 ^ 64)) (sym c.bucket_at.ensures)
     (marks_at old new p c.args.more c.requires.place c.requires.kept c.record.ensures.whole c.in_ok-known.ensures.exact differs)

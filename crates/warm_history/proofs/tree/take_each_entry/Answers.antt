@@ -1,7 +1,7 @@
 use Rattle.std.proofs.Common.{refl, ◌+◌, ◌++◌, List, drop, ap, ◌∙◌}
 use Rattle.warm_history.specs.declared.hist.Entry.{Entry}
-use Rattle.warm_history.specs.ReferenceSets.{recent}
-use Rattle.warm_history.specs.ListHistories.{refs, history, entry_refs}
+use Rattle.warm_history.specs.ReferenceSets.{references_from}
+use Rattle.warm_history.specs.ListHistories.{list_references_of, list_history, references_of_entry}
 use Rattle.warm_history.specs.Tree.{kept}
 use Rattle.warm_history.proofs.TreeLemmas.{IsHistory-kept, goes_on, all_taken, left_more, none_left}
 use Rattle.warm_history.proofs.ChangeLemmas.{grows_same, marks_none, takes_more}
@@ -29,11 +29,11 @@ loop-entry-preserved c =
     let taken = takes_more m c.place_of-place.result (e.hist) c.args.maps.now c.loop-entry.maps c.take_recent.new.maps c.loop-entry.changed c.in_ok-taken.taken.changed c.requires inv.whole c.in_ok-taken.ensures.exact inv.grows inv.changed c.in_ok-taken.ensures.changed in
     record {
       whole = c.take_recent.ensures.whole;
-      goes_on = goes_on _ (kept c.take_recent.new.maps) (recent m (entry_refs e)) (recent m (refs (drop (i + 1) more))) (recent m (refs (drop i more))) _ (c.in_ok-taken.ensures.exact ∙ ap (λ p. history (refs (kept c.loop-entry.maps) ++ recent m (entry_refs (record { page = p; hist = e.hist })))) c.place_of-place.ensures.back) (recent_more m (entry_refs e) (refs (drop (i + 1) more)) (refs (drop i more)) (ap refs (left_more more i e c.loop-entry-test.true c.entry-item.is))) inv.goes_on;
+      goes_on = goes_on _ (kept c.take_recent.new.maps) (references_from m (references_of_entry e)) (references_from m (list_references_of (drop (i + 1) more))) (references_from m (list_references_of (drop i more))) _ (c.in_ok-taken.ensures.exact ∙ ap (λ p. list_history (list_references_of (kept c.loop-entry.maps) ++ references_from m (references_of_entry (record { page = p; hist = e.hist })))) c.place_of-place.ensures.back) (recent_more m (references_of_entry e) (list_references_of (drop (i + 1) more)) (list_references_of (drop i more)) (ap list_references_of (left_more more i e c.loop-entry-test.true c.entry-item.is))) inv.goes_on;
       undo = c.take_recent.ensures.undo ∙ inv.undo;
       grows = taken.0;
       changed = taken.1;
     }
 
 pub returns-clause-exact : goal.returns-clause-exact
-returns-clause-exact c = all_taken _ _ (recent c.args.horizon (refs (drop c.loop-entry.entry-index c.args.more.now))) (IsHistory-kept _ c.loop-entry.invariant.whole) (ap (λ es. recent c.args.horizon (refs es)) (none_left c.args.more.now c.loop-entry.entry-index c.loop-entry-test.false)) c.loop-entry.invariant.goes_on
+returns-clause-exact c = all_taken _ _ (references_from c.args.horizon (list_references_of (drop c.loop-entry.entry-index c.args.more.now))) (IsHistory-kept _ c.loop-entry.invariant.whole) (ap (λ es. references_from c.args.horizon (list_references_of es)) (none_left c.args.more.now c.loop-entry.entry-index c.loop-entry-test.false)) c.loop-entry.invariant.goes_on

@@ -1,9 +1,9 @@
 use Rattle.std.proofs.Common.{◌++◌, refl, ap, sym, subst, ◌∙◌}
 use Rattle.warm_history.specs.declared.hist.Entry.{Entry}
-use Rattle.warm_history.specs.ReferenceSets.{recent}
-use Rattle.warm_history.specs.ListHistories.{history, refs, entry_refs}
-use Rattle.warm_history.specs.Places.{page_at}
-use Rattle.warm_history.specs.Tree.{Pairs, as_entries, kept}
+use Rattle.warm_history.specs.ReferenceSets.{references_from}
+use Rattle.warm_history.specs.ListHistories.{list_history, list_references_of, references_of_entry}
+use Rattle.warm_history.specs.Places.{page_of_key}
+use Rattle.warm_history.specs.Tree.{MapPairs, as_entries, kept}
 use Rattle.warm_history.proofs.TreeLemmas.{ArePlaces, IsHistory-kept, goes_on, all_taken}
 use Rattle.warm_history.proofs.ChangeLemmas.{grows_same, marks_none, takes_more}
 use Rattle.warm_history.proofs.RecentLemmas.{recent_more, told_by_recent}
@@ -19,7 +19,7 @@ loop-place-init c =
     record {
       places = subst ArePlaces (sym all) c.requires.there.are_places;
       whole = c.requires.here;
-      goes_on = ap (λ (pairs : Pairs). history (refs first ++ recent c.args.horizon (refs (as_entries pairs)))) all;
+      goes_on = ap (λ (pairs : MapPairs). list_history (list_references_of first ++ references_from c.args.horizon (list_references_of (as_entries pairs)))) all;
       undo = refl;
       grows = grows_same first (IsHistory-kept c.args.maps.now c.requires.here);
       changed = marks_none first;
@@ -29,12 +29,12 @@ pub loop-place-preserved : goal.loop-place-preserved
 loop-place-preserved c =
     let inv : _ = c.loop-place.invariant in
     let m : _ = c.args.horizon in
-    let e : Entry = record { page = page_at c.in-Some.place; hist = c.in-Some.hist } in
+    let e : Entry = record { page = page_of_key c.in-Some.place; hist = c.in-Some.hist } in
     let taken = takes_more m c.in-Some.place (c.in-Some.hist) c.args.maps.now c.loop-place.maps c.take_recent.new.maps c.loop-place.changed c.in_ok-taken.taken.changed c.requires.here inv.whole c.in_ok-taken.ensures.exact inv.grows inv.changed c.in_ok-taken.ensures.changed in
     record {
       places = (subst ArePlaces c.in-Some.ensures.steps inv.places).1;
       whole = c.take_recent.ensures.whole;
-      goes_on = goes_on _ (kept c.take_recent.new.maps) (recent m (entry_refs e)) (recent m (refs (as_entries c.next.new.self))) (recent m (refs (as_entries c.loop-place.place-iterator))) _ c.in_ok-taken.ensures.exact (recent_more m (entry_refs e) (refs (as_entries c.next.new.self)) (refs (as_entries c.loop-place.place-iterator)) (ap (λ es. refs (as_entries es)) c.in-Some.ensures.steps)) inv.goes_on;
+      goes_on = goes_on _ (kept c.take_recent.new.maps) (references_from m (references_of_entry e)) (references_from m (list_references_of (as_entries c.next.new.self))) (references_from m (list_references_of (as_entries c.loop-place.place-iterator))) _ c.in_ok-taken.ensures.exact (recent_more m (references_of_entry e) (list_references_of (as_entries c.next.new.self)) (list_references_of (as_entries c.loop-place.place-iterator)) (ap (λ es. list_references_of (as_entries es)) c.in-Some.ensures.steps)) inv.goes_on;
       undo = c.take_recent.ensures.undo ∙ inv.undo;
       grows = taken.0;
       changed = taken.1;
@@ -42,5 +42,5 @@ loop-place-preserved c =
 
 pub returns-clause-exact : goal.returns-clause-exact
 returns-clause-exact c =
-    all_taken _ _ (recent c.args.horizon (refs (as_entries c.loop-place.place-iterator))) (IsHistory-kept _ c.loop-place.invariant.whole) (ap (λ es. recent c.args.horizon (refs (as_entries es))) c.in-None.ensures.steps.0) c.loop-place.invariant.goes_on
-    ∙ told_by_recent c.args.horizon (refs (kept c.args.maps.now)) c.args.more.now c.requires.there
+    all_taken _ _ (references_from c.args.horizon (list_references_of (as_entries c.loop-place.place-iterator))) (IsHistory-kept _ c.loop-place.invariant.whole) (ap (λ es. references_from c.args.horizon (list_references_of (as_entries es))) c.in-None.ensures.steps.0) c.loop-place.invariant.goes_on
+    ∙ told_by_recent c.args.horizon (list_references_of (kept c.args.maps.now)) c.args.more.now c.requires.there

@@ -1,6 +1,6 @@
 use Rattle.std.proofs.Common.{◌≡◌, ◌++◌}
-use Rattle.warm_history.specs.ReferenceSets.{recent}
-use Rattle.warm_history.specs.ListHistories.{refs, history}
+use Rattle.warm_history.specs.ReferenceSets.{references_from}
+use Rattle.warm_history.specs.ListHistories.{list_references_of, list_history}
 use Rattle.warm_history.specs.Tree.{as_entries, kept, AreKept}
 use Rattle.warm_history.proofs.TreeLemmas.{ArePlaces}
 use Rattle.warm_history.specs.Changes.{MarksChanged}
@@ -12,7 +12,7 @@ abbrev pub invariant-loop-place : goal.invariant-loop-place
 invariant-loop-place l = record {
   places : ArePlaces l.place-iterator;
   whole : AreKept l.maps;
-  goes_on : history (refs (kept l.maps) ++ recent l.horizon (refs (as_entries l.place-iterator))) ≡ history (refs (kept l.initial.maps) ++ recent l.horizon (refs (as_entries l.more)));
+  goes_on : list_history (list_references_of (kept l.maps) ++ references_from l.horizon (list_references_of (as_entries l.place-iterator))) ≡ list_history (list_references_of (kept l.initial.maps) ++ references_from l.horizon (list_references_of (as_entries l.more)));
   undo : undone l.undo.items l.maps ≡ undone l.initial.undo.items l.initial.maps;
   grows : Grows (kept l.initial.maps) (kept l.maps);
   changed : MarksChanged (kept l.initial.maps) (kept l.maps) l.changed;

@@ -1,8 +1,8 @@
 use Rattle.std.proofs.Common.{refl, ◌+◌, ◌∷◌, ◌++◌, [], List, drop, ap, ◌∙◌}
 use Rattle.warm_stamps.specs.declared.Reference.{Reference}
 use Rattle.warm_history.specs.declared.hist.PageHist.TheVariants.{Once}
-use Rattle.warm_history.specs.ReferenceSets.{recent}
-use Rattle.warm_history.specs.ListHistories.{refs, history}
+use Rattle.warm_history.specs.ReferenceSets.{references_from}
+use Rattle.warm_history.specs.ListHistories.{list_references_of, list_history}
 use Rattle.warm_history.specs.Tree.{kept}
 use Rattle.warm_history.proofs.TreeLemmas.{IsHistory-kept, goes_on, all_taken, left_more, none_left}
 use Rattle.warm_history.proofs.ChangeLemmas.{grows_same, marks_none, takes_more}
@@ -30,11 +30,11 @@ loop-reference-preserved c =
     let taken = takes_more m c.place_of-place.result (Once r.stamp) c.args.maps.now c.loop-reference.maps c.take_recent.new.maps c.loop-reference.changed c.in_ok-taken.taken.changed c.requires inv.whole c.in_ok-taken.ensures.exact inv.grows inv.changed c.in_ok-taken.ensures.changed in
     record {
       whole = c.take_recent.ensures.whole;
-      goes_on = goes_on _ (kept c.take_recent.new.maps) (recent m (r ∷ [])) (recent m (drop (i + 1) batch)) (recent m (drop i batch)) _ (c.in_ok-taken.ensures.exact ∙ ap (λ p. history (refs (kept c.loop-reference.maps) ++ recent m (record { page = p; stamp = r.stamp } ∷ []))) c.place_of-place.ensures.back) (recent_more m (r ∷ []) (drop (i + 1) batch) (drop i batch) (left_more batch i r c.loop-reference-test.true c.reference-item.is)) inv.goes_on;
+      goes_on = goes_on _ (kept c.take_recent.new.maps) (references_from m (r ∷ [])) (references_from m (drop (i + 1) batch)) (references_from m (drop i batch)) _ (c.in_ok-taken.ensures.exact ∙ ap (λ p. list_history (list_references_of (kept c.loop-reference.maps) ++ references_from m (record { page = p; stamp = r.stamp } ∷ []))) c.place_of-place.ensures.back) (recent_more m (r ∷ []) (drop (i + 1) batch) (drop i batch) (left_more batch i r c.loop-reference-test.true c.reference-item.is)) inv.goes_on;
       undo = c.take_recent.ensures.undo ∙ inv.undo;
       grows = taken.0;
       changed = taken.1;
     }
 
 pub returns-clause-exact : goal.returns-clause-exact
-returns-clause-exact c = all_taken _ _ (recent c.args.horizon (drop c.loop-reference.reference-index c.args.batch.now)) (IsHistory-kept _ c.loop-reference.invariant.whole) (ap (recent c.args.horizon) (none_left c.args.batch.now c.loop-reference.reference-index c.loop-reference-test.false)) c.loop-reference.invariant.goes_on
+returns-clause-exact c = all_taken _ _ (references_from c.args.horizon (drop c.loop-reference.reference-index c.args.batch.now)) (IsHistory-kept _ c.loop-reference.invariant.whole) (ap (references_from c.args.horizon) (none_left c.args.batch.now c.loop-reference.reference-index c.loop-reference-test.false)) c.loop-reference.invariant.goes_on

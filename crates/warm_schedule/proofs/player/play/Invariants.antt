@@ -2,7 +2,7 @@ use Rattle.std.proofs.Common.{◌≡◌, ℕ, List, ◌+◌, ◌*◌, ◌≤◌,
 use Rattle.std.specs.Io.KnownBytes.{Appends, Consumes}
 use Rattle.warm_world.specs.States.{opening}
 use Rattle.warm_world.specs.Views.{listed}
-use Rattle.warm_schedule.specs.Stream.{session, Goes, IsFresh}
+use Rattle.warm_schedule.specs.Stream.{session, ReadsOn, IsFresh}
 use Rattle.warm_schedule.proofs.player.play.Given as goal
 
 abbrev pub invariant-loop : goal.invariant-loop
@@ -11,7 +11,7 @@ invariant-loop g l =
     let remaining = g.R.Read.remaining in
     record {
       goes : (seen out : List ℕ) × Consumes (remaining l.fn.reader) (remaining l.reader) seen × Appends (contents l.fn.writer) (contents l.writer) out
-          × Goes (session l.initial.session) seen out (session l.session);
+          × ReadsOn (session l.initial.session) seen out (session l.session);
       number : l.session.number ≤ 1 + l.counter * 65536;
       size : vec_len l.buffer ≡ 65536;
       fresh : IsFresh (session l.initial.session) (opening l.fn.setup (listed g.D.PageDevice.state l.fn.devices.items));

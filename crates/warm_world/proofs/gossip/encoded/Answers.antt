@@ -1,12 +1,12 @@
 use Rattle.std.proofs.Common.{◌≤◌, length, arith}
 use Rattle.std.proofs.lemmas.List.{take_all}
-use Rattle.warm_world.specs.Replicas.{Encodes}
+use Rattle.warm_world.specs.Replicas.{EncodesMessage}
 use Rattle.warm_world.proofs.Messages.{encoded_more}
 use Rattle.warm_world.proofs.Pairs.{Pairwise-nil}
 use Rattle.warm_world.proofs.gossip.encoded.Goals as goal
 
 pub loop-message-init : goal.loop-message-init
-loop-message-init c = rw c.in_ok-all.ensures.items (Pairwise-nil (λ _ bytes message. Encodes bytes message))
+loop-message-init c = rw c.in_ok-all.ensures.items (Pairwise-nil (λ _ bytes message. EncodesMessage bytes message))
 
 pub loop-message-preserved : goal.loop-message-preserved
 loop-message-preserved c =

@@ -2,7 +2,7 @@ use Rattle.std.proofs.Common.{◌≡◌, ℕ, ◌*◌, ◌<◌, List, length, ap
 use Rattle.std.proofs.Math.ListN.{set}
 use Rattle.std.proofs.lemmas.List.{get_or-set_same}
 use Rattle.warm_devices.specs.Device.{page_at, ChangesPage}
-use Rattle.warm_devices.specs.Pieces.{pieces, with_part}
+use Rattle.warm_devices.specs.Pieces.{equal_pieces, with_part}
 use Rattle.warm_devices.proofs.Pages.{changes-set}
 use Rattle.warm_devices.proofs.Pieces.{page-write, pieces-count}
 use Rattle.warm_devices.proofs.memory.MemDevicePageDevice.write.Goals as goal
@@ -12,14 +12,14 @@ is_page c = rw (ap (λ s. s.pages) c.self.view_is) c.requires.known
 
 -- the pages before the write
 before : goal.After-self-1 → List (List ℕ)
-before c = pieces c.self.inside.pages c.self.inside.page_size c.self.inside.bytes.items
+before c = equal_pieces c.self.inside.pages c.self.inside.page_size c.self.inside.bytes.items
 
 -- the pages after it
-written : (c : goal.After-self-1) → pieces c.self.inside.pages c.self.inside.page_size c.write_at.new.all.items ≡ set (before c) c.args.no c.args.bytes.now
+written : (c : goal.After-self-1) → equal_pieces c.self.inside.pages c.self.inside.page_size c.write_at.new.all.items ≡ set (before c) c.args.no c.args.bytes.now
 unfolding before
 written c =
     let size = c.self.inside.page_size in
-    ap (pieces c.self.inside.pages size)
+    ap (equal_pieces c.self.inside.pages size)
     (c.write_at.ensures.part
     ∙ ap (λ start. with_part start c.place_of-place.result.end c.args.bytes.now c.self.inside.bytes.items) c.place_of-place.ensures.start
     ∙ ap (λ end. with_part (c.args.no * size) end c.args.bytes.now c.self.inside.bytes.items) c.place_of-place.ensures.end)

@@ -14,7 +14,7 @@ returns-in_ok-take_frame-in-Some-clause-some c = some_fed c.requires.reads.0 c.a
 pub returns-in_ok-take_frame-in-Some-clause-read : goal.returns-in_ok-take_frame-in-Some-clause-read
 returns-in_ok-take_frame-in-Some-clause-read c = λ seen gathers.
     let mid : Gathered = record { alloc = c.args.self.now.alloc; decoder = c.feed.new.self; history = c.args.self.now.history; horizon = c.args.self.now.horizon; whole = c.args.self.now.whole; seen = c.in_ok-seen-in-Ok.seen; at = c.args.self.now.at } in
-    whole_read seen c.args.piece.now c.in-Ok.fed _ c.args.self.now mid _ gathers c.in-Ok.ensures (c.in-Some.is ∙ ap (λ (f : Message). Some f) (sym c.as_frame.ensures)) refl refl c.take_frame.ensures.decoder (takes_placed c.as_frame.result.now mid c.take_frame.new.self c.in_ok-seen-in-Ok.seen c.in_ok-take_frame-in-Some.ensures.takes) (c.take_frame.ensures.counts.0 ∙ c.in_ok-seen-in-Ok.ensures.count) (sym c.take_frame.ensures.counts.0)
+    whole_read seen c.args.piece.now c.in-Ok.fed _ c.args.self.now mid _ gathers c.in-Ok.ensures (c.in-Some.is ∙ ap (λ (f : Message). Some f) (sym c.as_message.ensures)) refl refl c.take_frame.ensures.decoder (takes_placed c.as_message.result.now mid c.take_frame.new.self c.in_ok-seen-in-Ok.seen c.in_ok-take_frame-in-Some.ensures.takes) (c.take_frame.ensures.counts.0 ∙ c.in_ok-seen-in-Ok.ensures.count) (sym c.take_frame.ensures.counts.0)
 
 pub returns-in-Err-clause-refused : goal.returns-in-Err-clause-refused
 returns-in-Err-clause-refused c = λ seen gathers. fault_refused seen c.args.piece.now c.in-Err.fault c.args.self.now _ gathers c.in-Err.ensures
@@ -24,4 +24,4 @@ returns-in_err-take_frame-in-Some-clause-refused c =
     let mid : Gathered = record { alloc = c.args.self.now.alloc; decoder = c.feed.new.self; history = c.args.self.now.history; horizon = c.args.self.now.horizon; whole = c.args.self.now.whole; seen = c.in_ok-seen-in-Ok.seen; at = c.args.self.now.at } in
     passed_on c.from_residual-in_err-take_frame-in-Some.result c.in_err-take_frame-in-Some.field-0.0 _ c.from_residual-in_err-take_frame-in-Some.ensures.1 (λ seen gathers.
     subst (λ (at : ℕ). IsRefusedForGood (seen ++ c.args.piece.now) at c.in_err-take_frame-in-Some.field-0.0) (sym c.take_frame.ensures.counts.1)
-    (whole_rejected seen c.args.piece.now c.in-Ok.fed _ c.in_err-take_frame-in-Some.field-0.0 c.args.self.now mid _ gathers c.in-Ok.ensures (c.in-Some.is ∙ ap (λ (f : Message). Some f) (sym c.as_frame.ensures)) refl refl c.in_err-take_frame-in-Some.ensures.refused))
+    (whole_rejected seen c.args.piece.now c.in-Ok.fed _ c.in_err-take_frame-in-Some.field-0.0 c.args.self.now mid _ gathers c.in-Ok.ensures (c.in-Some.is ∙ ap (λ (f : Message). Some f) (sym c.as_message.ensures)) refl refl c.in_err-take_frame-in-Some.ensures.refused))

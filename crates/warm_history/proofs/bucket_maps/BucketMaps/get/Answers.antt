@@ -1,5 +1,5 @@
 use Rattle.std.proofs.Common.{◌<◌, sym, ap, ◌∙◌, length}
-use Rattle.warm_history.specs.BucketMaps.{pairs_of, found}
+use Rattle.warm_history.specs.BucketMaps.{pairs_of_maps, found}
 use Rattle.warm_history.proofs.BucketLemmas.{find_joined, map_at-of, lies_in_own}
 use Rattle.warm_history.proofs.BucketSteps.{own_map}
 use Rattle.warm_history.proofs.bucket_maps.BucketMaps.get.Goals as goal
@@ -13,5 +13,5 @@ returns c =
     c.copied.ensures
     ∙ c.get.ensures.value
     ∙ ap (found p) (sym (map_at-of maps i c.index-self-bucket_at.result there))
-    ∙ sym (find_joined 0 i p (pairs_of maps) c.self.invariant.1 (lies_in_own i p c.bucket_at.ensures))
+    ∙ sym (find_joined 0 i p (pairs_of_maps maps) c.self.invariant.1 (lies_in_own i p c.bucket_at.ensures))
     ∙ ap (found p) c.self.view_is

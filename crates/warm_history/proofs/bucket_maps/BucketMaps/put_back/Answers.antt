@@ -1,6 +1,6 @@
 use Rattle.std.proofs.Common.{◌≡◌, ◌<◌, ◌≤◌, ◌+◌, sym, subst, ◌∙◌, arith, length, get_or}
-use Rattle.warm_history.specs.BucketMaps.{pairs_of, map_at, AreBuckets, AreSmall}
-use Rattle.warm_history.specs.Tree.{Pairs}
+use Rattle.warm_history.specs.BucketMaps.{pairs_of_maps, map_at, AreBuckets, AreSmall}
+use Rattle.warm_history.specs.Tree.{MapPairs}
 use Rattle.warm_history.proofs.BucketCounts.{small_at, small_with, few_put_back}
 use Rattle.warm_history.proofs.BucketLemmas.{map_at-of, lies_in_own}
 use Rattle.warm_history.proofs.BucketSteps.{AllIn, pairs_of-set, length-set, bucket_in, buckets_with, in_put_back, put_back_with, put_back_past}
@@ -11,14 +11,14 @@ invariant_of-self c =
     let maps = c.self.inside.maps in
     let i = c.bucket_at-bucket.result in
     let p = c.args.known.place in
-    let ms = pairs_of maps in
+    let ms = pairs_of_maps maps in
     let there : i < length maps = omega arith in
     let own : AllIn (0 + i) (map_at ms i) = bucket_in 0 i ms c.self.invariant.1 in
     let old : AllIn (0 + i) _ = subst (AllIn (0 + i)) (map_at-of maps i c.index-self-bucket.result there) own in
     let new : AllIn (0 + i) (c.put_back_in.new.map).entries = subst (AllIn (0 + i)) (sym c.put_back_in.ensures) (in_put_back (0 + i) p c.args.known.hist _ old) in
     let own_small : length (map_at ms i) < 288230376151711744 = small_at i ms c.self.invariant.2 in
-    let old_small : length (get_or maps i c.index-self-bucket.result).entries < 288230376151711744 = subst (λ (m : Pairs). length m < 288230376151711744) (map_at-of maps i c.index-self-bucket.result there) own_small in
-    let less : length (c.put_back_in.new.map).entries ≤ length (get_or maps i c.index-self-bucket.result).entries = subst (λ (m : Pairs). length m ≤ length (get_or maps i c.index-self-bucket.result).entries) (sym c.put_back_in.ensures) (few_put_back p c.args.known.hist _) in
+    let old_small : length (get_or maps i c.index-self-bucket.result).entries < 288230376151711744 = subst (λ (m : MapPairs). length m < 288230376151711744) (map_at-of maps i c.index-self-bucket.result there) own_small in
+    let less : length (c.put_back_in.new.map).entries ≤ length (get_or maps i c.index-self-bucket.result).entries = subst (λ (m : MapPairs). length m ≤ length (get_or maps i c.index-self-bucket.result).entries) (sym c.put_back_in.ensures) (few_put_back p c.args.known.hist _) in
     let new_small : length (c.put_back_in.new.map).entries < 288230376151711744 = omega arith in (
       length-set maps i _ ∙ c.self.invariant.0,
       subst (AreBuckets 0) (sym (pairs_of-set maps i _)) (buckets_with 0 i _ ms c.self.invariant.1 new),

@@ -1,8 +1,8 @@
 use Rattle.std.proofs.Common.{◌<◌, ◌+◌, sym, subst, ◌∙◌, length, get_or}
 use Rattle.std.proofs.lemmas.Result.{IfOk-weaker}
-use Rattle.warm_history.specs.Tree.{AreKept, Pairs}
+use Rattle.warm_history.specs.Tree.{AreKept, MapPairs}
 use Rattle.warm_history.proofs.BucketCounts.{small_at, small_with}
-use Rattle.warm_history.specs.BucketMaps.{pairs_of, joined, AreBuckets, AreSmall, PlacesRise}
+use Rattle.warm_history.specs.BucketMaps.{pairs_of_maps, all_pairs, AreBuckets, AreSmall, PlacesRise}
 use Rattle.warm_history.proofs.BucketLemmas.{map_at-of, lies_in_own}
 use Rattle.warm_history.proofs.BucketSteps.{AllIn, pairs_of-set, length-set, bucket_in, buckets_with, map_rises, stays_in, own_map, recorded_in_own, unchanged, ok_then, either_way, records_exact, records_whole, records_undo, records_tell}
 use Rattle.warm_history.proofs.bucket_maps.BucketMaps.record.Goals as goal
@@ -12,19 +12,19 @@ record_in-requires c =
     let maps = c.self.inside.maps in
     let i = c.bucket_at.result in
     let there : i < length maps = own_map maps i c.args.place c.self.invariant.0 c.bucket_at.ensures c.requires.place in
-    let rise : PlacesRise (joined (pairs_of maps)) = subst PlacesRise (sym c.self.view_is) c.requires.kept.places_rise in
-    subst PlacesRise (map_at-of maps i c.index-self-bucket_at.result there) (map_rises i (pairs_of maps) rise)
+    let rise : PlacesRise (all_pairs (pairs_of_maps maps)) = subst PlacesRise (sym c.self.view_is) c.requires.kept.places_rise in
+    subst PlacesRise (map_at-of maps i c.index-self-bucket_at.result there) (map_rises i (pairs_of_maps maps) rise)
 
 pub invariant_of-self : goal.invariant_of-self
 invariant_of-self c =
     let maps = c.self.inside.maps in
     let i = c.bucket_at.result in
     let p = c.args.place in
-    let ms = pairs_of maps in
+    let ms = pairs_of_maps maps in
     let there : i < length maps = own_map maps i p c.self.invariant.0 c.bucket_at.ensures c.requires.place in
     let old : AllIn (0 + i) _ = subst (AllIn (0 + i)) (map_at-of maps i c.index-self-bucket_at.result there) (bucket_in 0 i ms c.self.invariant.1) in
     let new : AllIn (0 + i) (c.record_in.new.map).entries = stays_in c.record_in.result (λ note. note) (0 + i) p c.args.more _ _ old (lies_in_own i p c.bucket_at.ensures) c.record_in.ensures.ok c.record_in.ensures.err in
-    let old_small : length (get_or maps i c.index-self-bucket_at.result).entries < 288230376151711744 = subst (λ (m : Pairs). length m < 288230376151711744) (map_at-of maps i c.index-self-bucket_at.result there) (small_at i ms c.self.invariant.2) in (
+    let old_small : length (get_or maps i c.index-self-bucket_at.result).entries < 288230376151711744 = subst (λ (m : MapPairs). length m < 288230376151711744) (map_at-of maps i c.index-self-bucket_at.result there) (small_at i ms c.self.invariant.2) in (
       length-set maps i _ ∙ c.self.invariant.0,
       subst (AreBuckets 0) (sym (pairs_of-set maps i _)) (buckets_with 0 i _ ms c.self.invariant.1 new),
       subst AreSmall (sym (pairs_of-set maps i _)) (small_with i _ ms c.self.invariant.2 (c.record_in.ensures.small old_small)),

@@ -2,7 +2,7 @@ use Rattle.std.proofs.Common.{◌≡◌, List, ap, sym, subst, ◌∙◌, take}
 use Rattle.std.proofs.lemmas.Result.{IfOk-weaker}
 use Rattle.warm_history.specs.declared.hist.Entry.{Entry}
 use Rattle.warm_history.specs.ReferenceSets.{ReferenceSet}
-use Rattle.warm_history.specs.Histories.{HistoryView, entries_of, holding, history, refs, IsHistory}
+use Rattle.warm_history.specs.Histories.{HistoryView, entries_of, history_of_entries, history, references_of, IsHistory}
 use Rattle.warm_history.specs.Carried.{carried}
 use Rattle.warm_history.specs.Merges.{later_of_bucket}
 use Rattle.warm_history.proofs.CarriedLemmas.{history-carried}
@@ -18,15 +18,15 @@ returns-clause-carried c = IfOk-weaker c.first_entries.result _ _ (λ es is S st
     ∙ history-carried S c.args.bucket c.args.after c.args.limit) c.first_entries.ensures
 
 -- entries without a horizon are a history too
-alone : (es : List Entry) (S : ReferenceSet) → es ≡ entries_of (history S) → IsHistory (holding es)
+alone : (es : List Entry) (S : ReferenceSet) → es ≡ entries_of (history S) → IsHistory (history_of_entries es)
 alone es S is =
     let whole = IsHistory-history S in
-    subst (λ fs. IsHistory (holding fs)) (sym is) (record { pages_rise = whole.pages_rise; stamps_fall = whole.stamps_fall; none_older = never_older (entries_of (history S)) })
+    subst (λ fs. IsHistory (history_of_entries fs)) (sym is) (record { pages_ascend = whole.pages_ascend; stamps_descend = whole.stamps_descend; none_older = never_older (entries_of (history S)) })
 
 pub returns-clause-whole : goal.returns-clause-whole
 returns-clause-whole c =
     let whole : IsHistory c.args.self.now = subst IsHistory c.self.view_is (whole_of c.self.inside.horizon c.self.inside.maps c.self.invariant.0 c.self.invariant.1) in
-    let S = refs c.args.self.now in
+    let S = references_of c.args.self.now in
     IfOk-weaker c.first_entries.result _ _
     (λ es are. alone es.items (carried S c.args.bucket c.args.after c.args.limit) (are S (sym (history_of_own_references c.args.self.now whole))))
     (returns-clause-carried c)

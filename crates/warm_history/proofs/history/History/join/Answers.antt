@@ -3,8 +3,8 @@ use Rattle.std.specs.Prelude.{bit_or}
 use Rattle.warm_history.specs.Changes.{MarksChanged}
 use Rattle.warm_history.specs.Losses.{MarksLosing}
 use Rattle.warm_history.specs.ReferenceSets.{◌∪◌}
-use Rattle.warm_history.specs.ListHistories as list
-use Rattle.warm_history.specs.Histories.{HistoryView, entries_of, holding_since, refs, history}
+use Rattle.warm_history.specs.ListHistories.{list_references_of}
+use Rattle.warm_history.specs.Histories.{HistoryView, entries_of, history_of_entries_at, references_of, history}
 use Rattle.warm_history.specs.Tree.{kept}
 use Rattle.warm_history.proofs.JoinLemmas.{history_first}
 use Rattle.warm_history.proofs.ChangeLemmas.{marks_cut, nothing_changed}
@@ -17,28 +17,28 @@ pub raise-self-inside-requires-clause-recent : goal.raise-self-inside-requires-c
 raise-self-inside-requires-clause-recent c =
     let m = c.later-horizon.result in
     let le : c.self.inside.horizon ≤ m = omega (arith, c.later-horizon.ensures) in
-    none_taken c.self.inside.horizon m (kept c.self.inside.maps) (kept c.take_pairs.new.maps) (list.refs (kept c.other.inside.maps)) le c.self.invariant.1 c.in_ok-changed.ensures.exact
+    none_taken c.self.inside.horizon m (kept c.self.inside.maps) (kept c.take_pairs.new.maps) (list_references_of (kept c.other.inside.maps)) le c.self.invariant.1 c.in_ok-changed.ensures.exact
 
 pub returns-clause-exact : goal.returns-clause-exact
 returns-clause-exact c =
-    joined_to c.self.inside.horizon (c.other.inside.horizon) c.later-horizon.result c.raise-self-inside.result (kept c.self.inside.maps) (kept c.take_pairs.new.maps) (kept c.raise-self-inside.new.maps) (list.refs (kept c.other.inside.maps)) c.later-horizon.ensures c.raise-self-inside.ensures.later c.in_ok-changed.ensures.exact c.raise-self-inside.ensures.cut
-    ∙ ap (λ (h : HistoryView). history (refs h ∪ refs (holding_since (c.other.inside.horizon) (kept c.other.inside.maps)))) c.self.view_is
-    ∙ ap (λ (g : HistoryView). history (refs c.args.self.now ∪ refs g)) c.other.view_is
+    joined_to c.self.inside.horizon (c.other.inside.horizon) c.later-horizon.result c.raise-self-inside.result (kept c.self.inside.maps) (kept c.take_pairs.new.maps) (kept c.raise-self-inside.new.maps) (list_references_of (kept c.other.inside.maps)) c.later-horizon.ensures c.raise-self-inside.ensures.later c.in_ok-changed.ensures.exact c.raise-self-inside.ensures.cut
+    ∙ ap (λ (h : HistoryView). history (references_of h ∪ references_of (history_of_entries_at (c.other.inside.horizon) (kept c.other.inside.maps)))) c.self.view_is
+    ∙ ap (λ (g : HistoryView). history (references_of c.args.self.now ∪ references_of g)) c.other.view_is
 
 pub invariant_of-self-2 : goal.invariant_of-self-2
 invariant_of-self-2 c = (c.raise-self-inside.ensures.whole, none_of c.raise-self-inside.result (kept c.raise-self-inside.new.maps) _ (returns-clause-exact c))
 
 pub returns-clause-ok : goal.returns-clause-ok
-returns-clause-ok c S stands = returns-clause-exact c ∙ ap (λ (h : HistoryView). history (refs h ∪ refs c.args.other.now)) stands ∙ history_first S (refs c.args.other.now)
+returns-clause-ok c S stands = returns-clause-exact c ∙ ap (λ (h : HistoryView). history (references_of h ∪ references_of c.args.other.now)) stands ∙ history_first S (references_of c.args.other.now)
 
 pub returns-clause-changed : goal.returns-clause-changed
 returns-clause-changed c =
     let a = c.self.inside.horizon in
     let old = c.self.inside.maps in
     let lost = c.losing-lost.result in
-    let loses : MarksLosing (c.other.inside.horizon) (holding_since a (kept old)) lost = subst (λ (h : HistoryView). MarksLosing (c.other.inside.horizon) h lost) (sym c.self.view_is) c.losing-lost.ensures.lost in
+    let loses : MarksLosing (c.other.inside.horizon) (history_of_entries_at a (kept old)) lost = subst (λ (h : HistoryView). MarksLosing (c.other.inside.horizon) h lost) (sym c.self.view_is) c.losing-lost.ensures.lost in
     subst (λ (h : HistoryView). MarksChanged (entries_of h) (kept c.raise-self-inside.new.maps) (bit_or c.in_ok-changed.changed lost)) c.self.view_is
-    (marks_cut a (c.other.inside.horizon) c.later-horizon.result c.raise-self-inside.result (kept old) (kept c.take_pairs.new.maps) (kept c.raise-self-inside.new.maps) (list.refs (kept c.other.inside.maps)) c.in_ok-changed.changed lost
+    (marks_cut a (c.other.inside.horizon) c.later-horizon.result c.raise-self-inside.result (kept old) (kept c.take_pairs.new.maps) (kept c.raise-self-inside.new.maps) (list_references_of (kept c.other.inside.maps)) c.in_ok-changed.changed lost
     (whole_of a old c.self.invariant.0 c.self.invariant.1) c.later-horizon.ensures c.raise-self-inside.ensures.later c.in_ok-changed.ensures.exact c.raise-self-inside.ensures.cut c.in_ok-changed.ensures.changed loses)
 
 pub returns-clause-none : goal.returns-clause-none
@@ -47,4 +47,4 @@ returns-clause-none c none =
     let new = c.raise-self-inside.new.maps in
     let marks = subst (λ (h : HistoryView). MarksChanged (entries_of h) (kept new) (bit_or c.in_ok-changed.changed c.losing-lost.result)) (sym c.self.view_is) (returns-clause-changed c) in
     subst (λ (h : HistoryView). kept new ≡ entries_of h) c.self.view_is
-    (nothing_changed (kept old) (kept new) _ (IsHistory-kept old c.self.invariant.0).pages_rise (IsHistory-kept new c.raise-self-inside.ensures.whole).pages_rise marks none)
+    (nothing_changed (kept old) (kept new) _ (IsHistory-kept old c.self.invariant.0).pages_ascend (IsHistory-kept new c.raise-self-inside.ensures.whole).pages_ascend marks none)

@@ -1,5 +1,5 @@
 use Rattle.std.proofs.Common.{ap, refl, false, get_or, None, []}
-use Rattle.warm_pool.specs.Frames.{cleaned, frame_of, fresh_body, leaving_key}
+use Rattle.warm_pool.specs.Frames.{cleaned, frame_of, fresh_body, eviction_key}
 use Rattle.warm_pool.proofs.FrameParts.{has_status, status_is, page_stays, body_stays, rank_stays, stay_tied, becomes}
 use Rattle.warm_pool.proofs.frames.Frames.clean.Goals as goal
 
@@ -12,7 +12,7 @@ invariant_of-self c =
     let page = get_or c.self.inside.residents c.args.at None in
     let body = get_or c.self.inside.frames.items c.args.at (fresh_body []) in
     stay_tied c.self.invariant (record { pages = page_stays _ c.args.at; statuses = refl; bodies = body_stays _ c.args.at })
-    (rank_stays c.self.invariant c.self.view_is c.args.at c.requires.there _ (ap (λ s. leaving_key (frame_of page s body)) is))
+    (rank_stays c.self.invariant c.self.view_is c.args.at c.requires.there _ (ap (λ s. eviction_key (frame_of page s body)) is))
 
 pub returns : goal.returns
 returns c =

@@ -1,5 +1,5 @@
 use Rattle.std.proofs.Common.{◌+◌, ◌≤◌, length, None, true, ap, sym, subst, refl, ◌∙◌, get_or}
-use Rattle.warm_pool.specs.Frames.{frame_of, leaving_key, unused_status}
+use Rattle.warm_pool.specs.Frames.{frame_of, eviction_key, unused_status}
 use Rattle.warm_pool.specs.FrameSteps.{written}
 use Rattle.warm_pool.specs.PageBytes.{patched}
 use Rattle.warm_pool.proofs.FrameParts.{has_status, has_body, status_is, body_is, seen, page_stays, rank_stays, stay_tied, becomes}
@@ -26,8 +26,8 @@ invariant_of-self c =
     let body_now = body_is c.self.invariant c.self.view_is c.args.at c.requires.there _ c.index_mut.result.now refl c.index_mut.ensures.value in
     stay_tied c.self.invariant (record { pages = page_stays _ c.args.at; statuses = refl; bodies = refl })
     (rank_stays c.self.invariant c.self.view_is c.args.at c.requires.there _
-    (ap (λ b. leaving_key (frame_of page now b)) c.overwrite.ensures
-    ∙ ap (λ s. leaving_key (frame_of page s c.index_mut.result.now)) status_now ∙ ap (λ b. leaving_key (frame_of page status b)) body_now))
+    (ap (λ b. eviction_key (frame_of page now b)) c.overwrite.ensures
+    ∙ ap (λ s. eviction_key (frame_of page s c.index_mut.result.now)) status_now ∙ ap (λ b. eviction_key (frame_of page status b)) body_now))
 
 pub returns : goal.returns
 returns c =

@@ -1,6 +1,6 @@
 use Rattle.std.proofs.Common.{Some, false, ap, refl, ◌∙◌, set, arith}
 use Rattle.warm_pool.specs.Frames.{frame_of}
-use Rattle.warm_pool.specs.FrameSteps.{filled, filled_body}
+use Rattle.warm_pool.specs.FrameSteps.{loaded_frame, filled_body}
 use Rattle.warm_pool.proofs.FrameParts.{has_page, has_status, has_body, body_is, seen, stay_tied, becomes}
 use Rattle.warm_pool.proofs.frames.Frames.put.Goals as goal
 
@@ -28,7 +28,7 @@ pub returns-clause-frames : goal.returns-clause-frames
 returns-clause-frames c =
     let is = body_is c.self.invariant c.self.view_is c.args.at c.requires.there _ c.index_mut-frame.result.now refl c.index_mut-frame.ensures.value in
     becomes c.self.invariant c.self.view_is c.args.at c.requires.there (record { pages = c.set.ensures; statuses = refl; bodies = refl })
-    (filled c.args.page c.args.key c.args.fixes c.args.bytes.now.items)
+    (loaded_frame c.args.page c.args.key c.args.fixes c.args.bytes.now.items)
     (ap (frame_of (Some c.args.page) (record { fixes = c.args.fixes; dirty = false }))
     (c.fill.ensures.frame ∙ ap (filled_body c.args.key c.args.bytes.now.items) is))
 

@@ -1,6 +1,6 @@
 use Rattle.std.proofs.Common.{◌≡◌, ℕ, List, ◌+◌, ◌≤◌, ◌++◌, length}
 use Rattle.std.specs.Io.KnownBytes.{Appends}
-use Rattle.warm_schedule.specs.Stream.{session, Goes}
+use Rattle.warm_schedule.specs.Stream.{session, ReadsOn}
 use Rattle.warm_schedule.proofs.player.Session.feed.Given as goal
 
 abbrev pub invariant-loop-piece : goal.invariant-loop-piece
@@ -8,7 +8,7 @@ invariant-loop-piece g l =
     let contents = g.W.Write.contents in
     record {
       goes : (taken out : List ℕ) × (l.bytes ≡ taken ++ l.rest) × Appends (contents l.fn.writer) (contents l.writer) out
-          × Goes (session l.fn.self) taken out (session l.self);
+          × ReadsOn (session l.fn.self) taken out (session l.self);
       number : l.self.number + length l.rest ≤ l.fn.self.number + length l.bytes;
     }
 

@@ -1,7 +1,7 @@
 use Rattle.std.proofs.Common.{◌-◌, ap, refl, subst, sym, ◌∙◌}
 use Rattle.std.proofs.lemmas.List.{get_or-set_same}
-use Rattle.warm_history.specs.ReferenceSets.{since}
-use Rattle.warm_history.specs.Histories.{history, refs}
+use Rattle.warm_history.specs.ReferenceSets.{with_horizon}
+use Rattle.warm_history.specs.Histories.{history, references_of}
 use Rattle.warm_gossip.specs.Answers.{IsAnswer}
 use Rattle.warm_gossip.specs.State.{NodeView}
 use Rattle.warm_world.specs.declared.event.Event.TheVariants.{Deliver}
@@ -44,7 +44,7 @@ returns g c = λ m st.
     let found = decoded_is _ m c.args.k c.args.self.now.messages.items c.index.result.now _ c.decode.result c.in-Ok.message st refl c.requires.named.message_there c.index.ensures c.deref.ensures.value c.decode.ensures.only c.in-Ok.is in
     let again = c.index_mut-3.ensures.value ∙ get_or-set_same c.args.self.now.replicas.items k _ c.index_mut-3.result.now (place_in _ _ _ (Deliver c.args.j c.args.k) c.requires.named) in
     let becomes = ap (λ (n : NodeView). let r : ReplicaView = record { node = n; buffers = c.index_mut-3.result.now.buffers.items } in r) c.raise.ensures.step.0
-    ∙ ap (λ (r : ReplicaView). let s : ReplicaView = record r { node = record r.node { history = history (since c.in-Some.horizon (refs r.node.history)) } } in s) (ap replica_view again) in
+    ∙ ap (λ (r : ReplicaView). let s : ReplicaView = record r { node = record r.node { history = history (with_horizon c.in-Some.horizon (references_of r.node.history)) } } in s) (ap replica_view again) in
     raised_after _ _ _ m c.args.j c.args.k c.in-Some.horizon _ _ _ c.in-Ok.message c.as_slice-2.result.now _ c.took-answer.result c.in-Took.count c.in-Took.first
     st c.requires.named c.index_mut-2.ensures.value found (sym c.horizon_raised.ensures ∙ c.in-Some.is)
     (subst (λ fs. IsAnswer c.index_mut-2.result.now.node.id c.index_mut-2.result.now.node.history c.in-Ok.message fs) (sym c.as_slice-2.ensures) c.in-Ok-answers.ensures.answers)

@@ -3,7 +3,7 @@ use Rattle.warm_gossip.specs.State.{NodeView}
 use Rattle.warm_world.specs.declared.event.Event.TheVariants.{Horizon}
 use Rattle.warm_world.specs.declared.event.Answer.TheVariants.{Kept}
 use Rattle.warm_world.specs.Views.{ReplicaView}
-use Rattle.warm_world.specs.States.{ReplicaState, raised, replica}
+use Rattle.warm_world.specs.States.{ReplicaState, raised_replica, replica}
 use Rattle.warm_world.proofs.Replicas.{horizon_seen, raises}
 use Rattle.warm_world.proofs.Worlds.{changes, place_in, replica_set_at, stands_at}
 use Rattle.warm_world.proofs.world.World.horizon.Goals as goal
@@ -12,7 +12,7 @@ pub returns : goal.returns
 returns g c = λ m st.
     let k = c.args.i - 1 in
     let event = Horizon c.args.i c.args.time in
-    let r = raised c.args.time (replica m k) in
+    let r = raised_replica c.args.time (replica m k) in
     let after = raises m.capacity k c.args.time _ _ (replica m k) (stands_at _ _ _ m k c.index_mut.result.now st (place_in _ _ _ event c.requires.named) c.index_mut.ensures.value)
     (ap (λ (n : NodeView). let s : ReplicaView = record { node = n; buffers = c.index_mut.result.now.buffers.items } in s) c.raise.ensures.step.0) in
     changes _ _ _ m event (Kept c.raise.result) c.index_mut.result.now _ r st c.requires.named c.index_mut.ensures.value (λ here. after)

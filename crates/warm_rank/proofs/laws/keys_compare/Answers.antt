@@ -1,5 +1,0 @@
-use Rattle.warm_rank.proofs.KeyLemmas.{derived-key_cmp}
-use Rattle.warm_rank.proofs.laws.keys_compare.Goals as goal
-
-pub returns : goal.returns
-returns c = derived-key_cmp
