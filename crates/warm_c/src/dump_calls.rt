@@ -11,7 +11,7 @@ use crate::status::Refusal;
 use std::alloc::Global;
 use std::io::{Read, Write};
 use warm_files::{read_dump, write_dump};
-use warm_history::laws::is_history;
+use warm_history::laws::prove_is_history;
 
 impl Held {
     // Writes a dump of the node's history to any writer, with the node's replica as the sender.
@@ -32,7 +32,7 @@ impl Held {
             Ok(history) => history,
             Err(error) => return Err(Refusal::Dump(error.fault)),
         };
-        is_history(&history);
+        prove_is_history(&history);
         self.node.join(&history)?;
         Ok(())
     }

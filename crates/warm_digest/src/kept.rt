@@ -14,7 +14,7 @@ use sha2::{Digest, Sha256};
 use std::alloc::{AllocError, Global};
 use std::marker::Model;
 use warm_frames::{DIGEST_SIZE, DigestTable, MAX_ENTRY_SIZE, put_entry};
-use warm_history::laws::is_history;
+use warm_history::laws::prove_is_history;
 use warm_history::{CutEntries, Entry, History};
 use warm_stamps::{BUCKETS, Bucket};
 
@@ -78,7 +78,7 @@ impl Digests {
             return Ok(());
         }
         // Nothing is older than the horizon, so digests since time 0 are digests of all entries.
-        is_history(history);
+        prove_is_history(history);
         self.digests = renewed(self.alloc, self.digests, history, 0, buckets)?;
         Ok(())
     }

@@ -12,7 +12,7 @@ use std::alloc::{AllocError, Global};
 use std::io::Write;
 use warm_digest::digests;
 use warm_frames::{EntryList, MAX_ENTRIES, Message, encode};
-use warm_history::laws::is_history;
+use warm_history::laws::prove_is_history;
 use warm_history::{BucketEntries, Entry, History};
 use warm_stamps::{BUCKETS, Bucket, ReplicaId};
 
@@ -81,7 +81,7 @@ fn write_entries<W: Write>(
         (text_of (entry_frames sender history.now))) }
     ensures stopped { IfErr result StopsWriting }
 {
-    is_history(history);
+    prove_is_history(history);
     let horizon = history.horizon();
     for index in 0..BUCKETS {
         let Some(bucket) = Bucket::new(index) else {

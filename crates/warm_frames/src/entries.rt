@@ -5,7 +5,7 @@ ghost use Rattle.warm_frames.specs.Entries.{IsHist, IsEntry, FitsInFrame, IsEntr
 
 use crate::layout::MAX_ENTRIES;
 use std::marker::Model;
-use warm_history::laws::is_falling;
+use warm_history::laws::prove_stamps_descend;
 use warm_history::{Entry, PageHist, pages_ascend};
 
 /// At most [`MAX_ENTRIES`] entries with rising pages. Contracts see the list of the entries.
@@ -96,6 +96,6 @@ fn is_hist(hist: PageHist)
     ensures { IsHist hist }
 {
     if let PageHist::Twice(two) = hist {
-        is_falling(two);
+        prove_stamps_descend(two);
     }
 }

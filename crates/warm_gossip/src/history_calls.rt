@@ -13,7 +13,7 @@ use crate::node::Node;
 use crate::warm_step::WarmUp;
 use warm_devices::PageDevice;
 use warm_frames::{EntryList, MAX_ENTRIES, Message, MessageList};
-use warm_history::laws::is_history;
+use warm_history::laws::prove_is_history;
 use warm_history::{Entry, History};
 use warm_rank::warm_list;
 use warm_stamps::{Bucket, PageId, PageList, Reference};
@@ -76,7 +76,7 @@ impl<D: PageDevice> Node<D> {
         ensures devices { KeepsBytes self.old.pool self.new.pool }
     {
         // A history ranks pages by its entries alone.
-        is_history(self.history.history());
+        prove_is_history(self.history.history());
         let changed = self.history.join(other)?;
         // The same entries rank pages alike at any horizon.
         if changed == 0 {
@@ -227,7 +227,7 @@ impl<D: PageDevice> Node<D> {
     {
         let history = self.history.history();
         // The list is over the references that the history holds: their history is this history.
-        is_history(history);
+        prove_is_history(history);
         let pages = warm_list(self.alloc, history, n)?;
         Ok(PageList::of(pages))
     }

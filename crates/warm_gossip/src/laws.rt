@@ -18,7 +18,7 @@ ghost use Rattle.warm_gossip.specs.WarmUps.{NodeWarmsUp, PagesDiffer, WarmStepKe
 
 use crate::node::Node;
 use warm_devices::PageDevice;
-use warm_history::laws::{is_falling, is_history};
+use warm_history::laws::{prove_stamps_descend, prove_is_history};
 use warm_history::{Entry, PageHist, Unordered};
 
 /// The pieces in which a bucket of a history is answered to digests or to a request are what
@@ -114,8 +114,8 @@ pub fn node_fits<D: PageDevice>(node: &Node<D>)
 pub fn nodes_join<D: PageDevice, E: PageDevice>(one: &Node<D>, other: &Node<E>)
     ensures { NodesJoin (node_view one.now) (node_view other.now) }
 {
-    is_history(one.history());
-    is_history(other.history());
+    prove_is_history(one.history());
+    prove_is_history(other.history());
     node_fits(one);
     node_fits(other);
 }
@@ -146,6 +146,6 @@ fn is_hist(hist: PageHist)
     ensures { IsHist hist }
 {
     if let PageHist::Twice(two) = hist {
-        is_falling(two);
+        prove_stamps_descend(two);
     }
 }

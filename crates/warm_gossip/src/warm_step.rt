@@ -13,7 +13,7 @@ use std::alloc::{AllocError, Global};
 use std::cmp::Ordering;
 use warm_devices::PageDevice;
 use warm_history::History;
-use warm_history::laws::is_history;
+use warm_history::laws::prove_is_history;
 use warm_pool::Pool;
 use warm_rank::{eviction_order, warm_list};
 use warm_stamps::PageId;
@@ -60,7 +60,7 @@ impl<D: PageDevice> Node<D> {
         ensures devices { DevicesAnswered self.old WarmStep Loaded result self.new }
     {
         // The list is over the references that the history holds: their history is this history.
-        is_history(self.history.history());
+        prove_is_history(self.history.history());
         let history = self.history.history();
         let pages = take_pages(self.alloc, &mut self.warm_up, history, &self.pool)?;
         let at = first_loadable(&self.pool, &pages, self.warm_up.passed);
@@ -145,7 +145,7 @@ fn passed_at_load<D: PageDevice>(
         return at + 1;
     }
     // The order is over the references that the history holds: their history is this history.
-    is_history(history);
+    prove_is_history(history);
     match eviction_order(history, victim, page) {
         Ordering::Less => at + 1,
         Ordering::Equal | Ordering::Greater => 0,

@@ -25,7 +25,7 @@ use std::alloc::Global;
 use std::marker::Model;
 use warm_devices::{DeviceFault, MAX_PAGE_SIZE, PageDevice};
 use warm_history::History;
-use warm_history::laws::is_history;
+use warm_history::laws::prove_is_history;
 use warm_rank::{MAX_FRAMES, RankKey, key_of};
 use warm_stamps::PageId;
 
@@ -569,6 +569,6 @@ fn known_key(history: &History, page: PageId) -> RankKey
     ensures { result ≡ rank_key page (hist (references_of history.now) page) }
 {
     // The rank is over the references that the history holds: their history is this history.
-    is_history(history);
+    prove_is_history(history);
     key_of(page, history.get(page))
 }

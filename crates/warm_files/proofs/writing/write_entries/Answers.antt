@@ -8,7 +8,7 @@ pub loop-index-init : goal.loop-index-init
 loop-index-init g c = Appends-nil _
 
 pub write_bucket-requires : goal.write_bucket-requires
-write_bucket-requires g c = bucket_rises c.in-Some.bucket c.args.history.now _ c.bucket.ensures c.is_history.ensures
+write_bucket-requires g c = bucket_rises c.in-Some.bucket c.args.history.now _ c.bucket.ensures c.prove_is_history.ensures
 
 pub loop-index-preserved : goal.loop-index-preserved
 loop-index-preserved g c =

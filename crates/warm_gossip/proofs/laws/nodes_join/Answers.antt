@@ -6,4 +6,4 @@ use Rattle.warm_gossip.proofs.laws.nodes_join.Goals as goal
 pub returns : goal.returns
 returns g c = λ h' g'.
     gossip_round_joins c.args.one.now.id c.args.other.now.id c.args.one.now.history c.args.other.now.history h' g'
-    (subst IsHistory c.history.ensures c.is_history.ensures) (subst IsHistory c.history-2.ensures c.is_history-2.ensures) c.node_fits.ensures c.node_fits-2.ensures
+    (subst IsHistory c.history.ensures c.prove_is_history.ensures) (subst IsHistory c.history-2.ensures c.prove_is_history-2.ensures) c.node_fits.ensures c.node_fits-2.ensures

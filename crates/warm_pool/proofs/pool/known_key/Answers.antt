@@ -6,5 +6,5 @@ use Rattle.warm_pool.proofs.pool.known_key.Goals as goal
 
 pub returns : goal.returns
 returns c =
-    let own = sym (history_of_own_references c.args.history.now c.is_history.ensures) in
+    let own = sym (history_of_own_references c.args.history.now c.prove_is_history.ensures) in
     c.key_of.ensures ∙ ap (rank_key c.args.page) (c.get.ensures (references_of c.args.history.now) own)

@@ -7,6 +7,6 @@ use Rattle.warm_gossip.proofs.node.Node.join.Goals as goal
 -- no entry changes
 pub invariant_of-self-then-changed-eq0 : goal.invariant_of-self-then-changed-eq0
 invariant_of-self-then-changed-eq0 g c =
-    let whole = subst IsHistory c.history.ensures c.is_history.ensures in
+    let whole = subst IsHistory c.history.ensures c.prove_is_history.ensures in
     let later = subst IsHistory (sym c.in_ok-changed.ensures.exact) (IsHistory-history _) in
     kept_by_entries c.self.inside.pool c.self.inside.history.history _ c.self.inside.warm_up whole later (c.in_ok-changed.ensures.none (omega (arith, c.if-changed-eq0.true))) c.self.invariant

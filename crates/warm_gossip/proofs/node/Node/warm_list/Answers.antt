@@ -6,5 +6,5 @@ use Rattle.warm_gossip.proofs.node.Node.warm_list.Goals as goal
 pub returns : goal.returns
 returns g c =
     let h = c.history-history.result.now in
-    let hottest = c.in_ok-pages.ensures (references_of h) (sym (history_of_own_references h c.is_history.ensures)) in
+    let hottest = c.in_ok-pages.ensures (references_of h) (sym (history_of_own_references h c.prove_is_history.ensures)) in
     rw (← c.self.view_is, c.of.ensures, hottest, c.history-history.ensures) (refl, refl)
