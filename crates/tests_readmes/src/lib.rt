@@ -30,6 +30,8 @@ mod refbuffer;
 #[cfg(test)]
 mod replica;
 #[cfg(test)]
+mod rows;
+#[cfg(test)]
 mod schedule;
 #[cfg(test)]
 mod setup;
