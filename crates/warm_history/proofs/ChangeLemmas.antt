@@ -1,15 +1,16 @@
 -- Which buckets change as a history grows.
-use Rattle.std.proofs.Common.{◌≡◌, ◌≢◌, inl, inr, ℕ, ◌<◌, ◌≤◌, ◌+◌, ◌/◌, ◌*◌, ◌%◌, ◌^◌, Bool, true, false, cond, List, ◌++◌, max, Option, None, refl, sym, ap, subst, ◌∙◌, arith, append_assoc}
+use Rattle.std.proofs.Common.{◌≡◌, ◌≢◌, inl, inr, ℕ, ◌<◌, ◌≤◌, ◌+◌, ◌/◌, ◌^◌, Bool, true, false, cond, List, ◌++◌, max, Option, None, refl, sym, ap, subst, ◌∙◌, arith, append_assoc}
 use Rattle.std.specs.Prelude.{◌==◌, bit_or}
-use Rattle.std.specs.Int.{bit_at, w64}
+use Rattle.std.specs.Int.{bit_at}
 use Rattle.std.specs.Ordering.{is_eq, on}
 use Rattle.std.proofs.lemmas.Bool.{cases_eq, eq-eqb, eqb-true}
-use Rattle.std.proofs.lemmas.Nat.Bits.{bit_at-lt, bit_at-zero, bit_at_or, bit_at_set_same, bit_at_set_other}
+use Rattle.std.proofs.lemmas.Nat.Bits.{bit_at-lt, bit_at-zero, bit_at_or}
 use Rattle.std.proofs.Math.Nat.{le_refl}
 use Rattle.warm_stamps.specs.declared.PageId.{PageId}
 use Rattle.warm_stamps.specs.declared.Reference.{Reference}
 use Rattle.warm_stamps.specs.Buckets.{page_bucket}
 use Rattle.warm_stamps.specs.Stamps.{page_cmp}
+use Rattle.warm_stamps.proofs.BucketLemmas.{with_same, with_other}
 use Rattle.warm_stamps.proofs.DistinctLemmas.{is_equal, rising_filter}
 use Rattle.warm_stamps.proofs.StampLemmas.{page_order}
 use Rattle.warm_history.specs.declared.hist.PageHist.{PageHist}
@@ -30,7 +31,7 @@ use Rattle.warm_history.proofs.ListHistoryLemmas.{get, joined, same_gets, get-hi
 use Rattle.warm_history.proofs.ListJoinLemmas.{hist_repeat, history_of_own_references}
 use Rattle.warm_history.proofs.OrderLemmas.{get-filter}
 use Rattle.warm_history.proofs.PlaceLemmas.{hist_entry, latest_of_swap}
-use Rattle.warm_history.proofs.PlaceOrder.{from_first, below_next, below_all_places}
+use Rattle.warm_history.proofs.PlaceOrder.{from_first, below_next}
 use Rattle.warm_history.proofs.SinceLemmas.{bucket_left, none_left_older, raised_bucket}
 use Rattle.warm_history.proofs.TreeLemmas.{IsHistory-kept, find-kept}
 
@@ -104,6 +105,10 @@ stays_between bucket h mid new rise_h rise_mid up down same = same_bucket bucket
 pub marks_none : (es : List Entry) → MarksChanged es es 0
 marks_none es bucket low = let clear = bit_at-zero bucket in ((λ one. absurd (omega (arith, one, clear))), λ none. refl)
 
+-- the set that a function makes for what is unchanged
+pub marks_empty : (es : List Entry) (buckets : ℕ) → buckets ≡ 0 → MarksChanged es es buckets
+marks_empty es buckets none = subst (MarksChanged es es) (sym none) (marks_none es)
+
 -- those that change in a first step, and those that change in the next
 pub marks_more : (h mid new : List Entry) (first next : ℕ) → PagesAscend h → PagesAscend mid → Grows h mid → Grows mid new → MarksChanged h mid first → MarksChanged mid new next → MarksChanged h new (bit_or first next)
 marks_more h mid new first next rise_h rise_mid up down marks_first marks_next bucket low =
@@ -153,14 +158,11 @@ pub own_bucket : (place : ℕ) → IsMapKey place → page_bucket (page_of_key p
 own_bucket place is = lies_in (page_bucket (page_of_key place)) place (from_first place is) (below_next place is)
 
 -- a single bucket, as code makes its set
-alone : (n b : ℕ) → bit_at (bit_or 0 n) b ≡ bit_at n b
-alone n b = omega (arith, bit_at_or 0 n b, bit_at-zero b)
+pub in_it : (i : ℕ) → bit_at (bit_or 0 (2 ^ i)) i ≡ 1
+in_it i = with_same 0 i
 
-pub in_it : (i : ℕ) → i < 64 → bit_at (1 * 2 ^ i % 2 ^ 64) i ≡ 1
-in_it i low = sym (alone (1 * 2 ^ i % 2 ^ 64) i) ∙ bit_at_set_same w64 0 i low
-
-pub not_in_it : (i b : ℕ) → i < 64 → b ≢ i → bit_at (1 * 2 ^ i % 2 ^ 64) b ≡ 0
-not_in_it i b low other = sym (alone (1 * 2 ^ i % 2 ^ 64) b) ∙ bit_at_set_other w64 0 i low b other ∙ bit_at-zero b
+pub not_in_it : (i b : ℕ) → b ≢ i → bit_at (bit_or 0 (2 ^ i)) b ≡ 0
+not_in_it i b other = with_other 0 i b other ∙ bit_at-zero b
 
 -- where something else is found at a place, the bucket changes in which it lies
 pub changes_at : (old new : MapPairs) (place : ℕ) → IsMapKey place → AreKept old → AreKept new → found place new ≢ found place old → bucket_entries (page_bucket (page_of_key place)) (kept new) ≢ bucket_entries (page_bucket (page_of_key place)) (kept old)
@@ -175,23 +177,21 @@ changes_at old new place is are_old are_new differs same =
 
 -- and no other does
 pub marks_at : (old new : MapPairs) (place : ℕ) (more : PageHist) → IsMapKey place → AreKept old → AreKept new → TakesStamps old place more new → found place new ≢ found place old
-    → MarksChanged (kept old) (kept new) (1 * 2 ^ (place / 1208925819614629174706176) % 2 ^ 64)
+    → MarksChanged (kept old) (kept new) (bit_or 0 (2 ^ page_bucket (page_of_key place)))
 marks_at old new place more is are_old are_new takes differs bucket low =
-    let i = place / 1208925819614629174706176 in
-    let set = 1 * 2 ^ i % 2 ^ 64 in
-    let inside : i < 64 = below_all_places place is in
-    let own : page_bucket (page_of_key place) ≡ i = own_bucket place is in
+    let i = page_bucket (page_of_key place) in
+    let set = bit_or 0 (2 ^ i) in
     elim (cases_eq bucket i) [
       | inl here ↦ (
-          let bit : bit_at set bucket ≡ 1 = ap (λ (b : ℕ). bit_at set b) here ∙ in_it i inside in (
-            (λ one. subst (λ b. bucket_entries b (kept new) ≢ bucket_entries b (kept old)) (own ∙ sym here) (changes_at old new place is are_old are_new differs)),
+          let bit : bit_at set bucket ≡ 1 = ap (λ (b : ℕ). bit_at set b) here ∙ in_it i in (
+            (λ one. subst (λ b. bucket_entries b (kept new) ≢ bucket_entries b (kept old)) (sym here) (changes_at old new place is are_old are_new differs)),
             λ none. absurd (omega (arith, bit, none)),
           )
           )
       | inr away ↦ (
-          let bit : bit_at set bucket ≡ 0 = not_in_it i bucket inside away in (
+          let bit : bit_at set bucket ≡ 0 = not_in_it i bucket away in (
             (λ one. absurd (omega (arith, bit, one))),
-            λ none. others_stay (kept old) (kept new) (record { page = page_of_key place; hist = more }) bucket (IsHistory-kept old are_old) (IsHistory-kept new are_new).pages_ascend takes (λ same. away (sym same ∙ own)),
+            λ none. others_stay (kept old) (kept new) (record { page = page_of_key place; hist = more }) bucket (IsHistory-kept old are_old) (IsHistory-kept new are_new).pages_ascend takes (λ same. away (sym same)),
           )
           )
     ]

@@ -18,7 +18,6 @@ pub mod PlaceOrder
 pub mod OrderLemmas
 pub mod TreeLemmas
 pub mod BucketLemmas
-pub mod BucketSets
 pub mod ChangeLemmas
 pub mod RecordLemmas
 pub mod BucketSteps

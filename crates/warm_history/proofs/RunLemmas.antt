@@ -1,10 +1,11 @@
 -- What a history takes in with a run.
-use Rattle.std.proofs.Common.{◌≡◌, ◌≢◌, inl, inr, ℕ, Bool, true, false, cond, List, [], ◌∷◌, ◌++◌, sym, ap, refl, ◌∙◌, subst, arith, append_assoc, Option, Some, None, filter, ◌+◌, ◌*◌, ◌/◌, ◌%◌, ◌^◌, ◌<◌, ◌≤◌}
+use Rattle.std.proofs.Common.{◌≡◌, ◌≢◌, inl, inr, ℕ, Bool, true, false, cond, List, [], ◌∷◌, ◌++◌, sym, ap, refl, ◌∙◌, subst, arith, append_assoc, Option, Some, None, filter, ◌+◌, ◌^◌, ◌≤◌}
 use Rattle.std.specs.Int.{bit_at}
+use Rattle.std.specs.Prelude.{bit_or}
 use Rattle.std.specs.List.{AllByRecursion}
-use Rattle.std.specs.BTreeMap.{is_at, insert_entry}
+use Rattle.std.specs.BTreeMap.{insert_entry}
 use Rattle.std.specs.Ordering.{is_eq, nat_cmp}
-use Rattle.std.specs.declared.cmp.Ordering.TheVariants.{Less, Equal, Greater}
+use Rattle.std.specs.declared.cmp.Ordering.TheVariants.{Less}
 use Rattle.std.proofs.lemmas.Bool.{cases_eq}
 use Rattle.std.proofs.lemmas.List.{append-nil}
 use Rattle.warm_stamps.specs.Buckets.{page_bucket}
@@ -21,7 +22,7 @@ use Rattle.warm_history.specs.ReferenceSets.{is_kept, references_from}
 use Rattle.warm_history.specs.Places.{first_key, key_of_page, page_of_key, IsMapKey}
 use Rattle.warm_history.specs.Tree.{MapPairs, kept, AreKept, told_at, TakesEntries, TakesRecent, TakesStamps}
 use Rattle.warm_history.specs.BucketMaps.{LiesIn, HoldsBucket, found}
-use Rattle.warm_history.specs.Runs.{RiseWithin, IsRun, at_place, run_pairs, with_pairs}
+use Rattle.warm_history.specs.Runs.{RiseWithin, at_place, run_pairs, with_pairs}
 use Rattle.warm_history.proofs.ListHistoryLemmas.{hist_swap}
 use Rattle.warm_history.proofs.ListJoinLemmas.{history_alike, history_first, history_of_own_references}
 use Rattle.warm_history.proofs.PlaceOrder.{nat_order}
@@ -165,19 +166,19 @@ changes_in number old (e ∷ run) are whole free inside places some =
     absurd (cc) in
     subst (λ b. bucket_entries b (kept new) ≢ bucket_entries b (kept old)) (bucket_is number e.0 places.0 inside.0) (changes_at old new e.0 places.0 are whole differs)
 
-pub marks_run : (number : ℕ) (old run : MapPairs) → number < 64 → AreKept old → AreKept (with_pairs old run) → HoldsBucket number [] old → AllByRecursion (λ (e : ℕ × PageHist). LiesIn number e.0) run → ArePlaces run → run ≢ [] → ((bucket : ℕ) → bucket ≢ number → SameInBucket bucket (kept old) (kept (with_pairs old run)))
-    → MarksChanged (kept old) (kept (with_pairs old run)) (1 * 2 ^ number % 2 ^ 64)
-marks_run number old run below are whole free inside places some others bucket low =
-    let set = 1 * 2 ^ number % 2 ^ 64 in
+pub marks_run : (number : ℕ) (old run : MapPairs) → AreKept old → AreKept (with_pairs old run) → HoldsBucket number [] old → AllByRecursion (λ (e : ℕ × PageHist). LiesIn number e.0) run → ArePlaces run → run ≢ [] → ((bucket : ℕ) → bucket ≢ number → SameInBucket bucket (kept old) (kept (with_pairs old run)))
+    → MarksChanged (kept old) (kept (with_pairs old run)) (bit_or 0 (2 ^ number))
+marks_run number old run are whole free inside places some others bucket low =
+    let set = bit_or 0 (2 ^ number) in
     elim (cases_eq bucket number) [
       | inl here ↦ (
-          let bit : bit_at set bucket ≡ 1 = ap (λ (b : ℕ). bit_at set b) here ∙ in_it number below in (
+          let bit : bit_at set bucket ≡ 1 = ap (λ (b : ℕ). bit_at set b) here ∙ in_it number in (
             (λ one. subst (λ b. bucket_entries b (kept (with_pairs old run)) ≢ bucket_entries b (kept old)) (sym here) (changes_in number old run are whole free inside places some)),
             λ none. absurd (omega (arith, bit, none)),
           )
           )
       | inr away ↦ (
-          let bit : bit_at set bucket ≡ 0 = not_in_it number bucket below away in (
+          let bit : bit_at set bucket ≡ 0 = not_in_it number bucket away in (
             (λ one. absurd (omega (arith, bit, one))),
             λ none. others bucket away,
           )

@@ -1,12 +1,11 @@
 -- The pairs of a run, and the map that they fill.
-use Rattle.std.proofs.Common.{◌≡◌, ◌≢◌, ℕ, Bool, true, false, cond, List, [], ◌∷◌, ◌++◌, sym, ap, refl, ◌∙◌, subst, arith, Option, Some, None, length, zero, suc, filter, slice_set, ◌+◌, ◌/◌, ◌<◌, ◌≤◌, ◌==◌}
+use Rattle.std.proofs.Common.{◌≡◌, ℕ, Bool, true, false, List, [], ◌∷◌, ◌++◌, sym, ap, refl, ◌∙◌, subst, arith, Option, Some, None, length, zero, suc, filter, ◌+◌, ◌<◌, ◌≤◌, ◌==◌}
 use Rattle.std.specs.List.{AllByRecursion}
 use Rattle.std.specs.List.Sorted.{IsStrictlySortedBy}
 use Rattle.std.specs.Map.{keys_of, update, update_all}
-use Rattle.std.specs.BTreeMap.{BTreeMap, is_at, insert_entry, IsFromIterResult}
+use Rattle.std.specs.BTreeMap.{BTreeMap, insert_entry, IsFromIterResult}
 use Rattle.std.specs.Ordering.{is_eq, eq_by_cmp, nat_cmp}
-use Rattle.std.specs.Cmp.{nat_cmp_is, unsigned_tied}
-use Rattle.std.specs.declared.cmp.Ordering.{Ordering}
+use Rattle.std.specs.Cmp.{nat_cmp_is}
 use Rattle.std.specs.declared.cmp.Ordering.TheVariants.{Less, Equal, Greater}
 use Rattle.std.proofs.lemmas.Bool.{eqb-true, eq-eqb}
 use Rattle.std.proofs.lemmas.Cmp.{nat_cmp_total, tied_itself}
@@ -15,9 +14,9 @@ use Rattle.warm_history.specs.declared.hist.PageHist.{PageHist}
 use Rattle.warm_history.specs.declared.hist.Entry.{Entry}
 use Rattle.warm_history.specs.ListHistories.{latest_of, hist_stamps}
 use Rattle.warm_history.specs.ReferenceSets.{is_kept}
-use Rattle.warm_history.specs.Places.{first_key, key_of_page, page_of_key, IsMapKey}
+use Rattle.warm_history.specs.Places.{first_key, key_of_page}
 use Rattle.warm_history.specs.Tree.{MapPairs}
-use Rattle.warm_history.specs.BucketMaps.{pairs_of_maps, all_pairs, LiesIn, AreBuckets, map_at, with_map, PassesIn, HoldsBucket, PlacesRise, found}
+use Rattle.warm_history.specs.BucketMaps.{all_pairs, LiesIn, AreBuckets, map_at, with_map, PassesIn, HoldsBucket, PlacesRise, found}
 use Rattle.warm_history.specs.Runs.{RiseWithin, IsRun, at_place, run_pairs, with_pairs}
 use Rattle.warm_history.proofs.PlaceOrder.{nat_order}
 use Rattle.warm_history.proofs.TreeLemmas.{below_all, no_later}

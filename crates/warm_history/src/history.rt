@@ -19,7 +19,7 @@ use std::alloc::{AllocError, Global};
 use std::collections::btree_map::Range;
 use std::fmt;
 use std::marker::Model;
-use warm_stamps::{Bucket, PageId, Reference};
+use warm_stamps::{Bucket, BucketSet, PageId, Reference};
 
 /// The two latest stamps of every page that was referenced.
 ///
@@ -163,11 +163,10 @@ impl History {
         !none_older(self.bucket(bucket), horizon)
     }
 
-    /// The buckets whose entries would change at a horizon, as a set: bit b, of value 2^b, is set
-    /// for bucket b. Allocation-free.
+    /// The buckets whose entries would change at a horizon. Allocation-free.
     ///
     /// It costs what [`History::loses`] costs for each bucket.
-    pub fn losing(&self, horizon: u64) -> u64
+    pub fn losing(&self, horizon: u64) -> BucketSet
         ensures lost { MarksLosing horizon self.now result }
         ensures none { result ≡ 0 → entries_of (raised horizon self.now) ≡ entries_of self.now }
     {
@@ -192,13 +191,13 @@ impl History {
         known_of(&self.maps, page)
     }
 
-    /// Takes in references, in any order; any of them may be known already. Returns the set of the
-    /// buckets whose entries changed: bit b, of value 2^b, is set for bucket b.
+    /// Takes in references, in any order; any of them may be known already. Returns the
+    /// buckets whose entries changed.
     ///
     /// Time grows with the batch, and with the logarithm of the number of pages. `AllocError`
     /// occurs where the allocation of the undo list (the old values of the batch's pages) or of a
     /// new page fails, and changes nothing.
-    pub fn absorb(&mut self, batch: &[Reference]) -> Result<u64, AllocError>
+    pub fn absorb(&mut self, batch: &[Reference]) -> Result<BucketSet, AllocError>
         ensures ok { OnOk result (TakesIn self.old (set_of_list batch.now) self.new) }
         ensures exact { OnOk result (self.new ≡ history (references_of self.old ∪ set_of_list batch.now)) }
         ensures changed { IfOk result (MarksChanged (entries_of self.old) (entries_of self.new)) }
@@ -209,13 +208,13 @@ impl History {
         Ok(changed)
     }
 
-    /// Takes in all entries of the other history, and returns the set of the buckets whose entries
-    /// changed, as [`History::absorb`] does.
+    /// Takes in all entries of the other history, and returns the buckets whose entries changed, as
+    /// [`History::absorb`] does.
     ///
     /// The other history is scanned once, and each of its pages is looked up in this one.
     /// `AllocError` occurs where the allocation of the undo list (the old values of these pages) or
     /// of a new page fails, and changes nothing.
-    pub fn join(&mut self, other: &History) -> Result<u64, AllocError>
+    pub fn join(&mut self, other: &History) -> Result<BucketSet, AllocError>
         ensures ok { OnOk result (TakesIn self.old (references_of other.now) self.new) }
         ensures exact { OnOk result (self.new ≡ join self.old other.now) }
         ensures changed { IfOk result (MarksChanged (entries_of self.old) (entries_of self.new)) }
@@ -227,19 +226,23 @@ impl History {
         let horizon = later(self.horizon, other.horizon);
         let changed = take_pairs(self.alloc, &mut self.maps, horizon, &other.maps)?;
         self.horizon = raise(&mut self.maps, self.horizon, horizon);
-        Ok(changed | lost)
+        Ok(changed.union(lost))
     }
 
-    /// Takes in these entries, which may be in any order and may repeat a page, and returns the set
-    /// of the buckets whose entries changed, as [`History::absorb`] does: buckets that lost a stamp
-    /// to the horizon are included.
+    /// Takes in these entries, which may be in any order and may repeat a page, and returns the
+    /// buckets whose entries changed, as [`History::absorb`] does: buckets that lost a stamp to the
+    /// horizon are included.
     ///
     /// The entries are scanned once, and each page is looked up in this history. Entries of one
     /// bucket, with rising pages, are not looked up where the bucket has no entries yet: they become
     /// its entries at once. `AllocError` occurs where the allocation of the undo list (the old
     /// values of these pages), of a list of the new entries, or of a new page fails, and changes
     /// nothing.
-    pub fn join_entries(&mut self, horizon: u64, more: &[Entry]) -> Result<u64, AllocError>
+    pub fn join_entries(
+        &mut self,
+        horizon: u64,
+        more: &[Entry],
+    ) -> Result<BucketSet, AllocError>
         ensures ok { OnOk result
             (TakesIn self.old (references_of (history_of_entries_at horizon more.now)) self.new) }
         ensures exact { OnOk result (self.new ≡ join self.old (history_of_entries_at horizon more.now)) }
@@ -252,7 +255,7 @@ impl History {
         let horizon = later(self.horizon, horizon);
         let changed = take_entries(self.alloc, &mut self.maps, horizon, more)?;
         self.horizon = raise(&mut self.maps, self.horizon, horizon);
-        Ok(changed | lost)
+        Ok(changed.union(lost))
     }
 
     /// A second history, equal to this one. `AllocError` occurs where its allocation fails.

@@ -4,24 +4,22 @@ ghost use Rattle.warm_history.specs.Histories.{entries_of};
 ghost use Rattle.warm_history.specs.Losses.{MarksLosing, raised};
 
 use crate::history::History;
-use warm_stamps::{BUCKETS, Bucket};
+use warm_stamps::{Bucket, BucketSet};
 
-// The buckets whose entries would change at the horizon, as a set: bit b, of value 2^b, is set for
-// bucket b.
-pub(crate) fn losing(history: &History, horizon: u64) -> u64
+// The buckets whose entries would change at the horizon.
+pub(crate) fn losing(history: &History, horizon: u64) -> BucketSet
     ensures lost { MarksLosing horizon history.now result }
     ensures none { result ≡ 0
         → entries_of (raised horizon history.now) ≡ entries_of history.now }
 {
     if horizon <= history.horizon() {
-        return 0;
+        return BucketSet::new();
     }
-    let mut buckets: u64 = 0;
-    for index in 0..BUCKETS {
-        let Some(bucket) = Bucket::new(index) else {
-            unreachable!()
-        };
-        buckets |= u64::from(history.loses(bucket, horizon)) << index;
+    let mut buckets = BucketSet::new();
+    for bucket in Bucket::all() {
+        if history.loses(bucket, horizon) {
+            buckets = buckets.with(bucket);
+        }
     }
     buckets
 }

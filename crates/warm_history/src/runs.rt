@@ -13,7 +13,7 @@ use crate::bucket_maps::{BucketMaps, alone};
 use crate::hist::{Entry, PageHist};
 use crate::place::{first_place, place_of};
 use std::alloc::{AllocError, Global};
-use warm_stamps::bucket_of;
+use warm_stamps::{Bucket, BucketSet, bucket_of};
 
 // Whether the entries are a run of the bucket of this number.
 fn is_run(number: u8, entries: &[Entry]) -> bool
@@ -35,22 +35,22 @@ fn is_run(number: u8, entries: &[Entry]) -> bool
     true
 }
 
-// The number of the bucket that these entries fill: they are a run of it, and it has no entries.
+// The bucket that these entries fill: they are a run of it, and it has no entries.
 // The latter is looked at first, since it costs nothing and most messages end there.
-pub(crate) fn bucket_to_fill(maps: &BucketMaps, more: &[Entry]) -> Option<u8>
-    ensures number { IfSome result (λ number. number < BUCKETS) }
-    ensures free { IfSome result (λ number. HoldsBucket number [] maps.now) }
-    ensures run { IfSome result (λ number. IsRun number more.now) }
+pub(crate) fn bucket_to_fill(maps: &BucketMaps, more: &[Entry]) -> Option<Bucket>
+    ensures free { IfSome result (λ bucket. HoldsBucket bucket [] maps.now) }
+    ensures run { IfSome result (λ bucket. IsRun bucket more.now) }
 {
     let first = more.first()?;
-    let number = bucket_of(first.page).get();
+    let bucket = bucket_of(first.page);
+    let number = bucket.get();
     if !maps.is_free(number) {
         return None;
     }
     if !is_run(number, more) {
         return None;
     }
-    Some(number)
+    Some(bucket)
 }
 
 // Takes in a run of a bucket that has no entries: all stamps that are not older than the horizon
@@ -59,13 +59,12 @@ pub(crate) fn take_run(
     alloc: Global,
     maps: &mut BucketMaps,
     horizon: u64,
-    number: u8,
+    bucket: Bucket,
     run: &[Entry],
-) -> Result<u64, AllocError>
+) -> Result<BucketSet, AllocError>
     requires kept { AreKept maps.old }
-    requires number { number < BUCKETS }
-    requires free { HoldsBucket number [] maps.old }
-    requires run { IsRun number run.now }
+    requires free { HoldsBucket bucket [] maps.old }
+    requires run { IsRun bucket run.now }
     ensures exact { OnOk result (TakesEntries horizon maps.old run.now maps.new) }
     ensures changed { IfOk result (MarksChanged (kept maps.old) (kept maps.new)) }
     ensures whole { AreKept maps.new }
@@ -73,10 +72,10 @@ pub(crate) fn take_run(
 {
     let pairs = recent_pairs(alloc, horizon, run)?;
     if pairs.is_empty() {
-        return Ok(0);
+        return Ok(BucketSet::new());
     }
-    maps.fill(alloc, number, pairs)?;
-    Ok(1 << number)
+    maps.fill(alloc, bucket.get(), pairs)?;
+    Ok(BucketSet::new().with(bucket))
 }
 
 // The pairs of entries, without the stamps older than the horizon.

@@ -22,16 +22,16 @@ ghost use Rattle.warm_history.specs.Undo.{undone, LeadsBack};
 
 use crate::bucket_maps::{BucketMaps, Known};
 use crate::hist::{Entry, PageHist};
-use crate::place::{bucket_at, place_of};
+use crate::place::{page_at, place_of};
 use crate::runs::{bucket_to_fill, take_run};
 use std::alloc::{AllocError, Global};
-use warm_stamps::{PageId, Reference};
+use warm_stamps::{BucketSet, PageId, Reference, bucket_of};
 
 // The outcome of taking in the stamps of a page.
 #[derive(Debug, Clone, Copy)]
 struct Taken {
-    // The set of the buckets that changed: bit b, of value 2^b, is set for bucket b.
-    changed: u64,
+    // The bucket of the page, where that changed.
+    changed: BucketSet,
     // Whether the page was new. Pages often come in runs that are all new or all known, so the next
     // page is likely to be as this one was.
     is_new: bool,
@@ -52,7 +52,7 @@ pub(crate) fn take_references(
     maps: &mut BucketMaps,
     horizon: u64,
     batch: &[Reference],
-) -> Result<u64, AllocError>
+) -> Result<BucketSet, AllocError>
     requires { AreKept maps.old }
     ensures exact { OnOk result (TakesReferences horizon maps.old batch.now maps.new) }
     ensures changed { IfOk result (MarksChanged (kept maps.old) (kept maps.new)) }
@@ -76,15 +76,15 @@ pub(crate) fn take_entries(
     maps: &mut BucketMaps,
     horizon: u64,
     more: &[Entry],
-) -> Result<u64, AllocError>
+) -> Result<BucketSet, AllocError>
     requires { AreKept maps.old }
     ensures exact { OnOk result (TakesEntries horizon maps.old more.now maps.new) }
     ensures changed { IfOk result (MarksChanged (kept maps.old) (kept maps.new)) }
     ensures whole { AreKept maps.new }
     ensures err { OnErr result (maps.new ≡ maps.old) }
 {
-    if let Some(number) = bucket_to_fill(maps, more) {
-        return take_run(alloc, maps, horizon, number, more);
+    if let Some(bucket) = bucket_to_fill(maps, more) {
+        return take_run(alloc, maps, horizon, bucket, more);
     }
     let mut undo = Vec::new(alloc);
     match take_each_entry(maps, &mut undo, horizon, more) {
@@ -103,7 +103,7 @@ pub(crate) fn take_pairs(
     maps: &mut BucketMaps,
     horizon: u64,
     more: &BucketMaps,
-) -> Result<u64, AllocError>
+) -> Result<BucketSet, AllocError>
     requires here { AreKept maps.old }
     requires there { AreKept more.now }
     ensures exact { OnOk result (TakesPairs horizon maps.old more.now maps.new) }
@@ -140,14 +140,14 @@ fn take(
     undo.reserve(1)?;
     let Some(known) = maps.record(place, more, likely_new)? else {
         return Ok(Taken {
-            changed: 0,
+            changed: BucketSet::new(),
             is_new: false,
         });
     };
     let before = known.hist;
     undo.push_reserved(known);
     Ok(Taken {
-        changed: 1 << bucket_at(place),
+        changed: BucketSet::new().with(bucket_of(page_at(place))),
         is_new: before.is_none(),
     })
 }
@@ -171,7 +171,7 @@ fn take_recent(
 {
     let Some(recent) = more.since(horizon) else {
         return Ok(Taken {
-            changed: 0,
+            changed: BucketSet::new(),
             is_new: likely_new,
         });
     };
@@ -184,20 +184,20 @@ fn take_each_reference(
     undo: &mut Vec<Known>,
     horizon: u64,
     batch: &[Reference],
-) -> Result<u64, AllocError>
+) -> Result<BucketSet, AllocError>
     requires { AreKept maps.old }
     ensures exact { OnOk result (TakesReferences horizon maps.old batch.now maps.new) }
     ensures changed { IfOk result (MarksChanged (kept maps.old) (kept maps.new)) }
     ensures undo { LeadsBack undo.new.items maps.new undo.old.items maps.old }
     ensures whole { AreKept maps.new }
 {
-    let mut changed: u64 = 0;
+    let mut changed = BucketSet::new();
     let mut is_new = false;
     for reference in batch {
         let place = place_of(reference.page);
         let more = PageHist::Once(reference.stamp);
         let taken = take_recent(maps, undo, horizon, place, more, is_new)?;
-        changed |= taken.changed;
+        changed = changed.union(taken.changed);
         is_new = taken.is_new;
     }
     Ok(changed)
@@ -208,19 +208,19 @@ fn take_each_entry(
     undo: &mut Vec<Known>,
     horizon: u64,
     more: &[Entry],
-) -> Result<u64, AllocError>
+) -> Result<BucketSet, AllocError>
     requires { AreKept maps.old }
     ensures exact { OnOk result (TakesEntries horizon maps.old more.now maps.new) }
     ensures changed { IfOk result (MarksChanged (kept maps.old) (kept maps.new)) }
     ensures undo { LeadsBack undo.new.items maps.new undo.old.items maps.old }
     ensures whole { AreKept maps.new }
 {
-    let mut changed: u64 = 0;
+    let mut changed = BucketSet::new();
     let mut is_new = false;
     for entry in more {
         let place = place_of(entry.page);
         let taken = take_recent(maps, undo, horizon, place, entry.hist, is_new)?;
-        changed |= taken.changed;
+        changed = changed.union(taken.changed);
         is_new = taken.is_new;
     }
     Ok(changed)
@@ -231,7 +231,7 @@ fn take_each_pair(
     undo: &mut Vec<Known>,
     horizon: u64,
     more: &BucketMaps,
-) -> Result<u64, AllocError>
+) -> Result<BucketSet, AllocError>
     requires here { AreKept maps.old }
     requires there { AreKept more.now }
     ensures exact { OnOk result (TakesPairs horizon maps.old more.now maps.new) }
@@ -239,11 +239,11 @@ fn take_each_pair(
     ensures undo { LeadsBack undo.new.items maps.new undo.old.items maps.old }
     ensures whole { AreKept maps.new }
 {
-    let mut changed: u64 = 0;
+    let mut changed = BucketSet::new();
     let mut is_new = false;
     for (place, hist) in more.each_pair() {
         let taken = take_recent(maps, undo, horizon, place, hist, is_new)?;
-        changed |= taken.changed;
+        changed = changed.union(taken.changed);
         is_new = taken.is_new;
     }
     Ok(changed)

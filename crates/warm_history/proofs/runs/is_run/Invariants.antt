@@ -1,4 +1,4 @@
-use Rattle.std.proofs.Common.{◌≡◌, ◌+◌, drop}
+use Rattle.std.proofs.Common.{◌+◌, drop}
 use Rattle.warm_history.specs.Places.{first_key}
 use Rattle.warm_history.specs.Runs.{IsRun, RiseWithin}
 use Rattle.warm_history.proofs.runs.is_run.Given as goal

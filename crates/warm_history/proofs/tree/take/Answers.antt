@@ -1,4 +1,7 @@
-use Rattle.std.proofs.Common.{◌*◌, ◌%◌, ◌^◌, ap, subst, sym, ◌∙◌}
+use Rattle.std.proofs.Common.{ℕ, ◌^◌, ap, subst, sym, ◌∙◌}
+use Rattle.std.specs.Prelude.{bit_or}
+use Rattle.warm_stamps.specs.Buckets.{page_bucket}
+use Rattle.warm_history.specs.Places.{page_of_key}
 use Rattle.warm_history.specs.BucketMaps.{SaysNote}
 use Rattle.warm_history.specs.Changes.{MarksChanged}
 use Rattle.warm_history.specs.Tree.{kept}
@@ -22,5 +25,6 @@ returns-clause-changed c =
     let new = c.record.new.self in
     let p = c.args.place in
     let differs = subst (λ note. SaysNote note p old new) c.in-Some.is c.in_ok-known.ensures.tells in
-    subst (λ i. MarksChanged (kept old) (kept new) (1 * 2 ^ i % 2 ^ 64)) (sym c.bucket_at.ensures)
+    let set = c.with.ensures ∙ ap (λ (b : ℕ). bit_or c.new-2.result (2 ^ b)) (c.bucket_of.ensures ∙ ap page_bucket c.page_at.ensures) ∙ ap (λ (s : ℕ). bit_or s (2 ^ page_bucket (page_of_key p))) c.new-2.ensures in
+    subst (MarksChanged (kept old) (kept new)) (sym set)
     (marks_at old new p c.args.more c.requires.place c.requires.kept c.record.ensures.whole c.in_ok-known.ensures.exact differs)

@@ -1,10 +1,11 @@
-use Rattle.std.proofs.Common.{refl, ◌+◌, ◌++◌, List, drop, ap, ◌∙◌}
+use Rattle.std.proofs.Common.{refl, ◌+◌, ◌++◌, List, drop, ap, ◌∙◌, subst, sym}
 use Rattle.warm_history.specs.declared.hist.Entry.{Entry}
 use Rattle.warm_history.specs.ReferenceSets.{references_from}
+use Rattle.warm_history.specs.Changes.{MarksChanged}
 use Rattle.warm_history.specs.ListHistories.{list_references_of, list_history, references_of_entry}
 use Rattle.warm_history.specs.Tree.{kept}
 use Rattle.warm_history.proofs.TreeLemmas.{IsHistory-kept, goes_on, all_taken, left_more, none_left}
-use Rattle.warm_history.proofs.ChangeLemmas.{grows_same, marks_none, takes_more}
+use Rattle.warm_history.proofs.ChangeLemmas.{grows_same, marks_empty, takes_more}
 use Rattle.warm_history.proofs.RecentLemmas.{recent_more}
 use Rattle.warm_history.proofs.tree.take_each_entry.Goals as goal
 
@@ -16,7 +17,7 @@ loop-entry-init c =
       goes_on = refl;
       undo = refl;
       grows = grows_same first (IsHistory-kept c.args.maps.now c.requires);
-      changed = marks_none first;
+      changed = marks_empty first c.new-changed.result c.new-changed.ensures;
     }
 
 pub loop-entry-preserved : goal.loop-entry-preserved
@@ -32,7 +33,7 @@ loop-entry-preserved c =
       goes_on = goes_on _ (kept c.take_recent.new.maps) (references_from m (references_of_entry e)) (references_from m (list_references_of (drop (i + 1) more))) (references_from m (list_references_of (drop i more))) _ (c.in_ok-taken.ensures.exact ∙ ap (λ p. list_history (list_references_of (kept c.loop-entry.maps) ++ references_from m (references_of_entry (record { page = p; hist = e.hist })))) c.place_of-place.ensures.back) (recent_more m (references_of_entry e) (list_references_of (drop (i + 1) more)) (list_references_of (drop i more)) (ap list_references_of (left_more more i e c.loop-entry-test.true c.entry-item.is))) inv.goes_on;
       undo = c.take_recent.ensures.undo ∙ inv.undo;
       grows = taken.0;
-      changed = taken.1;
+      changed = subst (MarksChanged (kept c.args.maps.now) (kept c.take_recent.new.maps)) (sym c.union-changed.ensures) taken.1;
     }
 
 pub returns-clause-exact : goal.returns-clause-exact

@@ -1,11 +1,12 @@
 use Rattle.std.proofs.Common.{◌++◌, refl, ap, sym, subst, ◌∙◌}
 use Rattle.warm_history.specs.declared.hist.Entry.{Entry}
 use Rattle.warm_history.specs.ReferenceSets.{references_from}
+use Rattle.warm_history.specs.Changes.{MarksChanged}
 use Rattle.warm_history.specs.ListHistories.{list_history, list_references_of, references_of_entry}
 use Rattle.warm_history.specs.Places.{page_of_key}
 use Rattle.warm_history.specs.Tree.{MapPairs, as_entries, kept}
 use Rattle.warm_history.proofs.TreeLemmas.{ArePlaces, IsHistory-kept, goes_on, all_taken}
-use Rattle.warm_history.proofs.ChangeLemmas.{grows_same, marks_none, takes_more}
+use Rattle.warm_history.proofs.ChangeLemmas.{grows_same, marks_empty, takes_more}
 use Rattle.warm_history.proofs.RecentLemmas.{recent_more, told_by_recent}
 use Rattle.warm_history.proofs.tree.take_each_pair.Goals as goal
 
@@ -22,7 +23,7 @@ loop-place-init c =
       goes_on = ap (λ (pairs : MapPairs). list_history (list_references_of first ++ references_from c.args.horizon (list_references_of (as_entries pairs)))) all;
       undo = refl;
       grows = grows_same first (IsHistory-kept c.args.maps.now c.requires.here);
-      changed = marks_none first;
+      changed = marks_empty first c.new-changed.result c.new-changed.ensures;
     }
 
 pub loop-place-preserved : goal.loop-place-preserved
@@ -37,7 +38,7 @@ loop-place-preserved c =
       goes_on = goes_on _ (kept c.take_recent.new.maps) (references_from m (references_of_entry e)) (references_from m (list_references_of (as_entries c.next.new.self))) (references_from m (list_references_of (as_entries c.loop-place.place-iterator))) _ c.in_ok-taken.ensures.exact (recent_more m (references_of_entry e) (list_references_of (as_entries c.next.new.self)) (list_references_of (as_entries c.loop-place.place-iterator)) (ap (λ es. list_references_of (as_entries es)) c.in-Some.ensures.steps)) inv.goes_on;
       undo = c.take_recent.ensures.undo ∙ inv.undo;
       grows = taken.0;
-      changed = taken.1;
+      changed = subst (MarksChanged (kept c.args.maps.now) (kept c.take_recent.new.maps)) (sym c.union-changed.ensures) taken.1;
     }
 
 pub returns-clause-exact : goal.returns-clause-exact

@@ -1,11 +1,12 @@
-use Rattle.std.proofs.Common.{refl, ◌+◌, ◌∷◌, ◌++◌, [], List, drop, ap, ◌∙◌}
+use Rattle.std.proofs.Common.{refl, ◌+◌, ◌∷◌, ◌++◌, [], List, drop, ap, ◌∙◌, subst, sym}
 use Rattle.warm_stamps.specs.declared.Reference.{Reference}
 use Rattle.warm_history.specs.declared.hist.PageHist.TheVariants.{Once}
 use Rattle.warm_history.specs.ReferenceSets.{references_from}
+use Rattle.warm_history.specs.Changes.{MarksChanged}
 use Rattle.warm_history.specs.ListHistories.{list_references_of, list_history}
 use Rattle.warm_history.specs.Tree.{kept}
 use Rattle.warm_history.proofs.TreeLemmas.{IsHistory-kept, goes_on, all_taken, left_more, none_left}
-use Rattle.warm_history.proofs.ChangeLemmas.{grows_same, marks_none, takes_more}
+use Rattle.warm_history.proofs.ChangeLemmas.{grows_same, marks_empty, takes_more}
 use Rattle.warm_history.proofs.RecentLemmas.{recent_more}
 use Rattle.warm_history.proofs.tree.take_each_reference.Goals as goal
 
@@ -17,7 +18,7 @@ loop-reference-init c =
       goes_on = refl;
       undo = refl;
       grows = grows_same first (IsHistory-kept c.args.maps.now c.requires);
-      changed = marks_none first;
+      changed = marks_empty first c.new-changed.result c.new-changed.ensures;
     }
 
 pub loop-reference-preserved : goal.loop-reference-preserved
@@ -33,7 +34,7 @@ loop-reference-preserved c =
       goes_on = goes_on _ (kept c.take_recent.new.maps) (references_from m (r ∷ [])) (references_from m (drop (i + 1) batch)) (references_from m (drop i batch)) _ (c.in_ok-taken.ensures.exact ∙ ap (λ p. list_history (list_references_of (kept c.loop-reference.maps) ++ references_from m (record { page = p; stamp = r.stamp } ∷ []))) c.place_of-place.ensures.back) (recent_more m (r ∷ []) (drop (i + 1) batch) (drop i batch) (left_more batch i r c.loop-reference-test.true c.reference-item.is)) inv.goes_on;
       undo = c.take_recent.ensures.undo ∙ inv.undo;
       grows = taken.0;
-      changed = taken.1;
+      changed = subst (MarksChanged (kept c.args.maps.now) (kept c.take_recent.new.maps)) (sym c.union-changed.ensures) taken.1;
     }
 
 pub returns-clause-exact : goal.returns-clause-exact

@@ -1,5 +1,5 @@
 use Rattle.warm_history.specs.Tree.{kept}
-use Rattle.warm_history.proofs.ChangeLemmas.{marks_none}
+use Rattle.warm_history.proofs.ChangeLemmas.{marks_empty}
 use Rattle.warm_history.proofs.RecentLemmas.{takes_none, takes_some}
 use Rattle.warm_history.proofs.tree.take_recent.Goals as goal
 
@@ -7,7 +7,7 @@ pub returns-in_default-clause-exact : goal.returns-in_default-clause-exact
 returns-in_default-clause-exact c = takes_none c.args.horizon c.args.maps.now c.args.place c.args.more c.requires.kept c.in_default.ensures.stamps
 
 pub returns-in_default-clause-changed : goal.returns-in_default-clause-changed
-returns-in_default-clause-changed c = marks_none (kept c.args.maps.now)
+returns-in_default-clause-changed c = marks_empty (kept c.args.maps.now) c.new.result c.new.ensures
 
 pub returns-clause-exact : goal.returns-clause-exact
 returns-clause-exact c = takes_some c.args.horizon c.args.maps.now c.take.new.maps c.args.place c.args.more c.in-Some.recent c.in-Some.ensures.stamps c.in_ok-taken.ensures.exact
