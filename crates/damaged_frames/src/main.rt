@@ -5,7 +5,7 @@
 //! pieces of that many bytes, and its result at the end. A frame is printed with its fields except
 //! the horizon, and with `same` where `encode` gives the bytes that it was read from, horizon
 //! included: those of a frame of the format `L2G2`. A frame of `L2G1`, which is only read, is
-//! `other`. `examples/damaged-frames/check` compares with a reader of its own.
+//! `other`. `checks/damaged-frames/check` compares with a reader of its own.
 #![tactic(auto)]
 
 use anyhow::{Context, Result, bail};
@@ -97,7 +97,7 @@ struct Reader<'a> {
     begun: usize,
 }
 
-// FeedStep the rest of a piece, once. `false` after a fault.
+// Feeds the rest of a piece, once. `false` after a fault.
 fn put_fed<W: Write>(
     alloc: Global,
     writer: &mut W,
@@ -126,7 +126,7 @@ fn put_fed<W: Write>(
     }
 }
 
-// FeedStep a piece until all of it is consumed. `false` after a fault.
+// Feeds a piece until all of it is consumed. `false` after a fault.
 fn put_piece<W: Write>(
     alloc: Global,
     writer: &mut W,
