@@ -1,4 +1,4 @@
-//! Runs: entries of one bucket at rising places, as a dump has them.
+//! Runs: entries of one bucket at rising keys, as a dump has them.
 //!
 //! Where the bucket has no entries, a run becomes its map at once: an insertion searches the map
 //! from its root for each page, and leaves its nodes half full.
@@ -6,12 +6,12 @@ ghost use Rattle.std.specs.Prelude.{◌≡◌, [], ◌++◌, ◌<◌, IfOk, IfSo
 ghost use Rattle.warm_history.specs.BucketMaps.{HoldsBucket};
 ghost use Rattle.warm_history.specs.Changes.{MarksChanged};
 ghost use Rattle.warm_history.specs.Runs.{IsRun, pair_of_entry, run_pairs};
-ghost use Rattle.warm_history.specs.Tree.{AreKept, kept, TakesEntries};
+ghost use Rattle.warm_history.specs.MapPairs.{AreKept, kept, TakesEntries};
 ghost use Rattle.warm_stamps.specs.declared.TheConstants.{BUCKETS};
 
-use crate::bucket_maps::{BucketMaps, alone};
-use crate::hist::{Entry, PageHist};
-use crate::place::{first_place, place_of};
+use crate::bucket_maps::BucketMaps;
+use crate::hist::{Entry, PageHist, prove_two_latest};
+use crate::map_key::{first_key, key_of_page};
 use std::alloc::{AllocError, Global};
 use warm_stamps::{Bucket, BucketSet, bucket_of};
 
@@ -20,17 +20,17 @@ fn is_run(number: u8, entries: &[Entry]) -> bool
     requires { number < BUCKETS }
     ensures { IsTrue result → IsRun number entries.now }
 {
-    let end = first_place(number + 1);
-    let mut from = first_place(number);
+    let end = first_key(number + 1);
+    let mut from = first_key(number);
     for entry in entries {
-        let place = place_of(entry.page);
-        if place < from {
+        let key = key_of_page(entry.page);
+        if key < from {
             return false;
         }
-        if end <= place {
+        if end <= key {
             return false;
         }
-        from = place + 1;
+        from = key + 1;
     }
     true
 }
@@ -101,9 +101,10 @@ fn push_recent(
 ) -> Result<(), AllocError>
     ensures { OnOk result (pairs.new.items ≡ pairs.old.items ++ pair_of_entry horizon entry.now) }
 {
-    let Some(recent) = entry.hist.since(horizon) else {
+    let Some(recent) = entry.hist.cut_before(horizon) else {
         return Ok(());
     };
-    pairs.push((place_of(entry.page), alone(&recent)))?;
+    prove_two_latest(&recent);
+    pairs.push((key_of_page(entry.page), recent))?;
     Ok(())
 }

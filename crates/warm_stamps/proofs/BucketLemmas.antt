@@ -62,7 +62,7 @@ visited before left after b split steps =
 pub all_visited : (before after : List ℕ) → before ++ after ≡ range_with_len 0 BUCKETS → after ≡ [] → length before ≡ BUCKETS
 all_visited before after is none = sym (ap length (append-nil before)) ∙ ap (λ rest. length (before ++ rest)) (sym none) ∙ ap length is ∙ length-range_with_len 0 BUCKETS
 
--- ---- a set that is made bucket by bucket: what is said of the buckets so far holds of the next one too
+-- ---- a set that is made bucket by bucket: what is said of those so far holds of the next too
 
 pub seen_with : (Says : ℕ → ℕ → Type 0) (set i : ℕ) → Says i 1 → ((b : ℕ) → b < i → Says b (bit_at set b)) → (b : ℕ) → b < i + 1 → Says b (bit_at (bit_or set (2 ^ i)) b)
 seen_with Says set i says seen =

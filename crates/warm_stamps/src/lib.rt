@@ -3,8 +3,8 @@
 //! A *page* is a block of a numbered device. A *stamp* says when and at which replica a page was
 //! referenced, by the clock of the caller that reports it. A *reference* is a page with a stamp;
 //! the same page with the same stamp, reported twice, is one reference. A *bucket* is one of
-//! [`BUCKETS`] classes of pages; replicas exchange their histories bucket by bucket. A [`BucketSet`]
-//! is a set of buckets.
+//! [`BUCKETS`] classes of pages; replicas exchange their histories bucket by bucket. A
+//! [`BucketSet`] is a set of buckets.
 //!
 //! The order of each type is total, and only equal values tie: `specs/Stamps.antt` defines the
 //! orders, and [`laws`] says so. Everything here is allocation-free.
