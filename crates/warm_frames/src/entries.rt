@@ -6,7 +6,7 @@ ghost use Rattle.warm_frames.specs.Entries.{IsHist, IsEntry, FitsInFrame, IsEntr
 use crate::layout::MAX_ENTRIES;
 use std::marker::Model;
 use warm_history::laws::prove_stamps_descend;
-use warm_history::{Entry, PageHist, pages_ascend};
+use warm_history::{Entry, PageHist, is_sorted_by_page};
 
 /// At most [`MAX_ENTRIES`] entries with rising pages. Contracts see the list of the entries.
 #[derive(Debug, Drop)]
@@ -36,7 +36,7 @@ impl EntryList {
         ensures back { IfErr result (λ back. back ≡ entries) }
         ensures taken { IsOk result ↔ FitsInFrame entries.items }
     {
-        if entries.len() > MAX_ENTRIES || !pages_ascend(&entries) {
+        if entries.len() > MAX_ENTRIES || !is_sorted_by_page(&entries) {
             return Err(entries);
         }
         Ok(EntryList::holding(entries))

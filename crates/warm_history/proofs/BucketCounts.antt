@@ -7,7 +7,7 @@ use Rattle.std.specs.BTreeMap.{BTreeMap, is_at, insert_entry}
 use Rattle.std.specs.Ordering.{nat_cmp}
 use Rattle.std.proofs.lemmas.List.Elements.{same_from_all_zip}
 use Rattle.warm_history.specs.declared.hist.PageHist.{PageHist}
-use Rattle.warm_history.specs.Tree.{MapPairs}
+use Rattle.warm_history.specs.MapPairs.{MapPairs}
 use Rattle.warm_history.specs.BucketMaps.{pairs_of_maps, all_pairs, LiesIn, AreBuckets, AreSmall, map_at, with_map}
 use Rattle.warm_history.specs.Undo.{put_back}
 use Rattle.warm_stamps.proofs.DistinctLemmas.{by_cases}

@@ -7,8 +7,8 @@ use Rattle.std.specs.Ordering.{is_eq, nat_cmp}
 use Rattle.std.specs.Cmp.{nat_cmp_is}
 use Rattle.std.specs.declared.cmp.Ordering.TheVariants.{Less, Greater}
 use Rattle.warm_history.specs.declared.hist.PageHist.{PageHist}
-use Rattle.warm_history.specs.Places.{first_key}
-use Rattle.warm_history.specs.Tree.{MapPairs}
+use Rattle.warm_history.specs.MapKeys.{first_key}
+use Rattle.warm_history.specs.MapPairs.{MapPairs}
 use Rattle.warm_history.specs.BucketMaps.{pairs_of_maps, all_pairs, LiesIn, AreBuckets, map_at, with_map, found}
 use Rattle.warm_stamps.proofs.DistinctLemmas.{by_cases}
 
@@ -83,7 +83,7 @@ remove_before_higher p (e ∷ pairs) high all = by_cases (nat_cmp p e.0) _
     (λ is. rw is refl)
     (λ is. rw is (ap (λ t. e ∷ t) (remove_before_higher p pairs high all)))
 
--- ---- the bucket of a place, and those before and after it
+-- ---- the bucket of a key, and those before and after it
 
 lower : (b c p : ℕ) (m : MapPairs) → AllByRecursion (λ (e : ℕ × PageHist). LiesIn b e.0) m → b < c → LiesIn c p → AreBelow p m
 lower b c p [] all less in_it = tt
@@ -172,6 +172,6 @@ map_at-of [] i m there = absurd (omega arith)
 map_at-of (x ∷ ms) zero m there = refl
 map_at-of (x ∷ ms) (suc i) m there = let left : i < length ms = omega arith in map_at-of ms i m left
 
--- a place lies in the bucket that it names
+-- a key lies in the bucket that it names
 pub lies_in_own : (i p : ℕ) → i ≡ p / 1208925819614629174706176 → LiesIn (0 + i) p
 lies_in_own i p is = (omega arith, omega arith)

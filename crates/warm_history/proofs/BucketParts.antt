@@ -1,4 +1,5 @@
--- What a test chooses of all pairs that passes only in one bucket is what it chooses of that bucket's map.
+-- What a test chooses of all pairs that passes only in one bucket is what it chooses of that
+-- bucket's map.
 use Rattle.std.proofs.Common.{◌≡◌, ℕ, Bool, true, false, not, List, [], ◌∷◌, ◌++◌, ◌&&◌, sym, ap, refl, ◌∙◌, arith, zero, suc, filter, ◌+◌, ◌<◌, ◌≤◌}
 use Rattle.std.specs.List.{AllByRecursion}
 use Rattle.std.specs.Ordering.{nat_cmp, is_le, is_lt}
@@ -9,8 +10,8 @@ use Rattle.std.proofs.lemmas.List.{append-nil}
 use Rattle.std.specs.declared.cmp.Ordering.TheVariants.{Less, Equal, Greater}
 use Rattle.warm_stamps.specs.declared.PageId.{PageId}
 use Rattle.warm_stamps.proofs.DistinctLemmas.{by_cases}
-use Rattle.warm_history.specs.Places.{first_key, key_in}
-use Rattle.warm_history.specs.Tree.{MapPairs}
+use Rattle.warm_history.specs.MapKeys.{first_key, key_in}
+use Rattle.warm_history.specs.MapPairs.{MapPairs}
 use Rattle.warm_history.specs.BucketMaps.{all_pairs, LiesIn, AreBuckets, PassesIn, map_at}
 use Rattle.warm_history.proofs.BucketLemmas.{filter-append}
 
@@ -55,7 +56,7 @@ chosen_joined n b (suc i) test (m ∷ ms) is passes are =
     ∙ sym (filter-append test m (all_pairs ms)
     ∙ ap (λ t. t ++ chosen test (all_pairs ms)) (none_of_map n b test m passes (λ same. omega arith) are.0))
 
--- ---- what lies between two places of a bucket lies in it
+-- ---- what lies between two keys of a bucket lies in it
 
 from_start : (x y : ℕ) → is_le (nat_cmp x y) ≡ true → x ≤ y
 from_start x y is = by_cases (nat_cmp x y) _

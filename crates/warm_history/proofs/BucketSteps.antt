@@ -10,14 +10,14 @@ use Rattle.std.specs.declared.result.Result.{Result}
 use Rattle.std.specs.declared.result.Result.TheVariants.{Ok, Err}
 use Rattle.warm_stamps.proofs.DistinctLemmas.{by_cases}
 use Rattle.warm_history.specs.declared.hist.PageHist.{PageHist}
-use Rattle.warm_history.specs.declared.bucket_maps.Known.{Known}
+use Rattle.warm_history.specs.declared.bucket_maps.UndoNote.{UndoNote}
 use Rattle.warm_history.specs.ListHistories.{latest_of, hist_stamps, known_stamps}
-use Rattle.warm_history.specs.Places.{IsMapKey}
-use Rattle.warm_history.specs.Tree.{MapPairs, AreKept, TakesStamps}
-use Rattle.warm_history.specs.Undo.{put_back, noted, Undoes}
-use Rattle.warm_history.specs.BucketMaps.{pairs_of_maps, all_pairs, LiesIn, AreBuckets, map_at, with_map, PlacesRise, found, IsNote, Records, SaysNote}
-use Rattle.warm_history.proofs.TreeLemmas.{exact_pair, kept_more, put_back-insert, found_inserted}
-use Rattle.warm_history.proofs.PlaceOrder.{below_all_places}
+use Rattle.warm_history.specs.MapKeys.{IsMapKey}
+use Rattle.warm_history.specs.MapPairs.{MapPairs, AreKept, TakesStamps}
+use Rattle.warm_history.specs.Undo.{put_back, notes_of, Undoes}
+use Rattle.warm_history.specs.BucketMaps.{pairs_of_maps, all_pairs, LiesIn, AreBuckets, map_at, with_map, KeysAscend, found, IsUndoNote, RecordsStamps, SaysNote}
+use Rattle.warm_history.proofs.MapPairLemmas.{exact_pair, kept_more, put_back-insert, found_inserted}
+use Rattle.warm_history.proofs.MapKeyOrder.{below_all_keys}
 use Rattle.warm_history.proofs.BucketLemmas.{map_at-of, lies_in_own, find_joined, insert_joined, set_joined, remove_joined}
 
 -- ---- the maps with one changed
@@ -104,9 +104,9 @@ pub put_back_joined : (b i p : ℕ) (known : Option PageHist) (ms : List MapPair
 put_back_joined b i p None ms are is = remove_joined b i p ms are is
 put_back_joined b i p (Some h) ms are is = set_joined b i p h ms are is
 
--- ---- places that rise in all maps rise in each
+-- ---- keys that rise in all maps rise in each
 
-rise_later : (m n : MapPairs) → PlacesRise (m ++ n) → PlacesRise n
+rise_later : (m n : MapPairs) → KeysAscend (m ++ n) → KeysAscend n
 rise_later [] n rise = rise
 rise_later (e ∷ m) n rise = rise_later m n rise.1
 
@@ -114,22 +114,22 @@ above_first : (k : ℕ) (m n : MapPairs) → AllByRecursion (λ (e : ℕ × Page
 above_first k [] n all = tt
 above_first k (e ∷ m) n all = (all.0, above_first k m n all.1)
 
-rise_first : (m n : MapPairs) → PlacesRise (m ++ n) → PlacesRise m
+rise_first : (m n : MapPairs) → KeysAscend (m ++ n) → KeysAscend m
 rise_first [] n rise = tt
 rise_first (e ∷ m) n rise = (above_first e.0 m n rise.0, rise_first m n rise.1)
 
-pub map_rises : (i : ℕ) (ms : List MapPairs) → PlacesRise (all_pairs ms) → PlacesRise (map_at ms i)
+pub map_rises : (i : ℕ) (ms : List MapPairs) → KeysAscend (all_pairs ms) → KeysAscend (map_at ms i)
 map_rises i [] rise = tt
 map_rises zero (m ∷ ms) rise = rise_first m (all_pairs ms) rise
 map_rises (suc i) (m ∷ ms) rise = map_rises i ms (rise_later m (all_pairs ms) rise)
 
 -- ---- what a bucket's map records, all maps record
 
-note_joined : (b i p : ℕ) (h : PageHist) (note : Option Known) (ms : List MapPairs) (n : MapPairs) → AreBuckets b ms → LiesIn (b + i) p → IsNote note p h (map_at ms i) n → IsNote note p h (all_pairs ms) (all_pairs (with_map ms i n))
+note_joined : (b i p : ℕ) (h : PageHist) (note : Option UndoNote) (ms : List MapPairs) (n : MapPairs) → AreBuckets b ms → LiesIn (b + i) p → IsUndoNote note p h (map_at ms i) n → IsUndoNote note p h (all_pairs ms) (all_pairs (with_map ms i n))
 note_joined b i p h None ms n are is same = ap (λ t. all_pairs (with_map ms i t)) same ∙ ap all_pairs (with_same ms i)
 note_joined b i p h (Some k) ms n are is known = (known.0, known.1 ∙ sym (find_joined b i p ms are is), known.2)
 
-pub records_joined : (b i p : ℕ) (more : PageHist) (note : Option Known) (ms : List MapPairs) (n : MapPairs) → AreBuckets b ms → LiesIn (b + i) p → i < length ms → Records (map_at ms i) p more note n → Records (all_pairs ms) p more note (all_pairs (with_map ms i n))
+pub records_joined : (b i p : ℕ) (more : PageHist) (note : Option UndoNote) (ms : List MapPairs) (n : MapPairs) → AreBuckets b ms → LiesIn (b + i) p → i < length ms → RecordsStamps (map_at ms i) p more note n → RecordsStamps (all_pairs ms) p more note (all_pairs (with_map ms i n))
 records_joined b i p more note ms n are is there records = (
   records.0,
   records.1 ∙ ap (λ k. latest_of (hist_stamps more ++ known_stamps k)) (sym (find_joined b i p ms are is)),
@@ -137,29 +137,29 @@ records_joined b i p more note ms n are is there records = (
   note_joined b i p records.0 note ms n are is records.3,
 )
 
--- a map that records at a place of its bucket stays with it, and one that records nothing too
-pub stays_in : {A E : Type 0} (r : Result A E) (note : A → Option Known) (b p : ℕ) (more : PageHist) (m n : MapPairs) → AllIn b m → LiesIn b p → IfOk r (λ a. Records m p more (note a) n) → OnErr r (n ≡ m) → AllIn b n
+-- a map that records at a key of its bucket stays with it, and one that records nothing too
+pub stays_in : {A E : Type 0} (r : Result A E) (note : A → Option UndoNote) (b p : ℕ) (more : PageHist) (m n : MapPairs) → AllIn b m → LiesIn b p → IfOk r (λ a. RecordsStamps m p more (note a) n) → OnErr r (n ≡ m) → AllIn b n
 stays_in (Ok a) note b p more m n all is ok err = subst (AllIn b) (sym ok.2) (in_insert b p ok.0 m is all)
 stays_in (Err e) note b p more m n all is ok err = subst (AllIn b) (sym err) all
 
 -- ---- what is recorded
 
-pub records_exact : (old new : MapPairs) (p : ℕ) (more : PageHist) (change : Option Known) → IsMapKey p → AreKept old → Records old p more change new → TakesStamps old p more new
+pub records_exact : (old new : MapPairs) (p : ℕ) (more : PageHist) (change : Option UndoNote) → IsMapKey p → AreKept old → RecordsStamps old p more change new → TakesStamps old p more new
 records_exact old new p more change is are records = exact_pair old new p more records.0 (found p old) is are refl records.1 records.2
 
-pub records_whole : (old new : MapPairs) (p : ℕ) (more : PageHist) (change : Option Known) → IsMapKey p → AreKept old → Records old p more change new → AreKept new
+pub records_whole : (old new : MapPairs) (p : ℕ) (more : PageHist) (change : Option UndoNote) → IsMapKey p → AreKept old → RecordsStamps old p more change new → AreKept new
 records_whole old new p more change is are records = kept_more old new p records.0 (hist_stamps more ++ known_stamps (found p old)) is are records.1 records.2
 
-pub records_undo : (old new : MapPairs) (p : ℕ) (more : PageHist) (note : Option Known) → AreKept old → Records old p more note new → Undoes (noted note) new old
+pub records_undo : (old new : MapPairs) (p : ℕ) (more : PageHist) (note : Option UndoNote) → AreKept old → RecordsStamps old p more note new → Undoes (notes_of note) new old
 records_undo old new p more None are records = records.3
 records_undo old new p more (Some k) are records =
-    let place : k.place ≡ p = records.3.0 in
-    ap (λ q. put_back q k.hist new) place
+    let key : k.key ≡ p = records.3.0 in
+    ap (λ q. put_back q k.hist new) key
     ∙ ap (put_back p k.hist) records.2
-    ∙ put_back-insert p records.0 old are.places_rise k.hist records.3.1
+    ∙ put_back-insert p records.0 old are.keys_ascend k.hist records.3.1
 
 -- a note implies a change
-pub records_tell : (old new : MapPairs) (p : ℕ) (more : PageHist) (note : Option Known) → Records old p more note new → SaysNote note p old new
+pub records_tell : (old new : MapPairs) (p : ℕ) (more : PageHist) (note : Option UndoNote) → RecordsStamps old p more note new → SaysNote note p old new
 records_tell old new p more None records = records.3
 records_tell old new p more (Some k) records = λ same.
     let now : found p new ≡ Some records.0 = ap (found p) records.2 ∙ found_inserted p records.0 old in
@@ -170,23 +170,23 @@ records_tell old new p more (Some k) records = λ same.
 abbrev pub all_with : List (BTreeMap ℕ PageHist) → ℕ → BTreeMap ℕ PageHist → MapPairs
 all_with maps i m = all_pairs (pairs_of_maps (slice_set maps i m))
 
-pub recorded : {E : Type 0} (r : Result (Option Known) E) (maps : List (BTreeMap ℕ PageHist)) (i p : ℕ) (more : PageHist) (m n : BTreeMap ℕ PageHist) (old : MapPairs) → AreBuckets 0 (pairs_of_maps maps) → LiesIn (0 + i) p → i < length maps → all_pairs (pairs_of_maps maps) ≡ old → IfOk r (λ note. Records (get_or maps i m).entries p more note n.entries) → IfOk r (λ note. Records old p more note (all_with maps i n))
+pub recorded : {E : Type 0} (r : Result (Option UndoNote) E) (maps : List (BTreeMap ℕ PageHist)) (i p : ℕ) (more : PageHist) (m n : BTreeMap ℕ PageHist) (old : MapPairs) → AreBuckets 0 (pairs_of_maps maps) → LiesIn (0 + i) p → i < length maps → all_pairs (pairs_of_maps maps) ≡ old → IfOk r (λ note. RecordsStamps (get_or maps i m).entries p more note n.entries) → IfOk r (λ note. RecordsStamps old p more note (all_with maps i n))
 recorded (Ok note) maps i p more m n old are is there view records =
     let few : i < length (pairs_of_maps maps) = subst (λ k. i < k) (sym (length-pairs_of maps)) there in
-    let own : Records (map_at (pairs_of_maps maps) i) p more note n.entries = subst (λ k. Records k p more note n.entries) (sym (map_at-of maps i m there)) records in
-    subst (λ k. Records k p more note (all_with maps i n)) view
-    (subst (λ ms. Records (all_pairs (pairs_of_maps maps)) p more note (all_pairs ms)) (sym (pairs_of-set maps i n))
+    let own : RecordsStamps (map_at (pairs_of_maps maps) i) p more note n.entries = subst (λ k. RecordsStamps k p more note n.entries) (sym (map_at-of maps i m there)) records in
+    subst (λ k. RecordsStamps k p more note (all_with maps i n)) view
+    (subst (λ ms. RecordsStamps (all_pairs (pairs_of_maps maps)) p more note (all_pairs ms)) (sym (pairs_of-set maps i n))
     (records_joined 0 i p more note (pairs_of_maps maps) n.entries are is few own))
 recorded (Err e) maps i p more m n old are is there view records = tt
 
--- the place's own bucket is the number of one of the 64 maps
+-- the key's own bucket is the number of one of the 64 maps
 pub own_map : {A : Type 0} (maps : List A) (i p : ℕ) → length maps ≡ 64 → i ≡ p / 1208925819614629174706176 → IsMapKey p → i < length maps
 own_map maps i p long own is =
-    let below : p / 1208925819614629174706176 < 64 = below_all_places p is in
+    let below : p / 1208925819614629174706176 < 64 = below_all_keys p is in
     omega arith
 
--- what the map of the place's own bucket recorded, all maps recorded
-pub recorded_in_own : {E : Type 0} (r : Result (Option Known) E) (maps : List (BTreeMap ℕ PageHist)) (i p : ℕ) (more : PageHist) (m n : BTreeMap ℕ PageHist) (old : MapPairs) → (length maps ≡ 64) × AreBuckets 0 (pairs_of_maps maps) → i ≡ p / 1208925819614629174706176 → IsMapKey p → all_pairs (pairs_of_maps maps) ≡ old → IfOk r (λ note. Records (get_or maps i m).entries p more note n.entries) → IfOk r (λ note. Records old p more note (all_with maps i n))
+-- what the map of the key's own bucket recorded, all maps recorded
+pub recorded_in_own : {E : Type 0} (r : Result (Option UndoNote) E) (maps : List (BTreeMap ℕ PageHist)) (i p : ℕ) (more : PageHist) (m n : BTreeMap ℕ PageHist) (old : MapPairs) → (length maps ≡ 64) × AreBuckets 0 (pairs_of_maps maps) → i ≡ p / 1208925819614629174706176 → IsMapKey p → all_pairs (pairs_of_maps maps) ≡ old → IfOk r (λ note. RecordsStamps (get_or maps i m).entries p more note n.entries) → IfOk r (λ note. RecordsStamps old p more note (all_with maps i n))
 recorded_in_own r maps i p more m n old are own is view records = recorded r maps i p more m n old are.1 (lies_in_own i p own) (own_map maps i p are.0 own is) view records
 
 pub unchanged : {A E : Type 0} (r : Result A E) (maps : List (BTreeMap ℕ PageHist)) (i : ℕ) (m n : BTreeMap ℕ PageHist) (old : MapPairs) → i < length maps → all_pairs (pairs_of_maps maps) ≡ old → OnErr r (n.entries ≡ (get_or maps i m).entries) → OnErr r (all_with maps i n ≡ old)
@@ -204,7 +204,7 @@ put_back_with maps i p known m n old are is there view back =
     ∙ sym (put_back_joined 0 i p known (pairs_of_maps maps) are is)
     ∙ ap (put_back p known) view
 
--- a place of no map is in none
+-- a key of no map is in none
 pub put_back_past : (maps : List (BTreeMap ℕ PageHist)) (i p : ℕ) (known : Option PageHist) (old : MapPairs) → AreBuckets 0 (pairs_of_maps maps) → LiesIn (0 + i) p → length maps ≤ i → all_pairs (pairs_of_maps maps) ≡ old → old ≡ put_back p known old
 put_back_past maps i p known old are is past view =
     let all : length (pairs_of_maps maps) ≤ i = subst (λ k. k ≤ i) (sym (length-pairs_of maps)) past in

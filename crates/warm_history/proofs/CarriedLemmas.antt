@@ -26,7 +26,8 @@ kept-those test m (r ∷ rs) = cases (test r) refl (is_kept m r.stamp) refl (kep
 pub references-those : (test : Reference → Bool) (S : ReferenceSet) → references (filter_references test S) ≡ filter test (references S)
 references-those test S = kept-those test S.horizon S.given
 
--- the first entries of a history that are in the bucket and after the page are the entries of the history of what is carried
+-- the first entries of a history that are in the bucket and after the page are the entries of the
+-- history of what is carried
 pub history-carried : (S : ReferenceSet) (bucket : ℕ) (after : Option PageId) (limit : ℕ) → take limit (filter (λ e. is_next_in_bucket bucket after e.page) (entries_of (history S))) ≡ entries_of (history (carried S bucket after limit))
 history-carried S bucket after limit =
     let test : Reference → Bool = λ r. list_any (λ p. is_eq (page_cmp p r.page)) (pages_carried S bucket after limit) in

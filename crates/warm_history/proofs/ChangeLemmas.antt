@@ -1,15 +1,16 @@
 -- Which buckets change as a history grows.
-use Rattle.std.proofs.Common.{◌≡◌, ◌≢◌, inl, inr, ℕ, ◌<◌, ◌≤◌, ◌+◌, ◌/◌, ◌*◌, ◌%◌, ◌^◌, Bool, true, false, cond, List, ◌++◌, max, Option, None, refl, sym, ap, subst, ◌∙◌, arith, append_assoc}
+use Rattle.std.proofs.Common.{◌≡◌, ◌≢◌, inl, inr, ℕ, ◌<◌, ◌≤◌, ◌+◌, ◌/◌, ◌^◌, Bool, true, false, cond, List, ◌++◌, max, Option, None, refl, sym, ap, subst, ◌∙◌, arith, append_assoc}
 use Rattle.std.specs.Prelude.{◌==◌, bit_or}
-use Rattle.std.specs.Int.{bit_at, w64}
+use Rattle.std.specs.Int.{bit_at}
 use Rattle.std.specs.Ordering.{is_eq, on}
 use Rattle.std.proofs.lemmas.Bool.{cases_eq, eq-eqb, eqb-true}
-use Rattle.std.proofs.lemmas.Nat.Bits.{bit_at-lt, bit_at-zero, bit_at_or, bit_at_set_same, bit_at_set_other}
+use Rattle.std.proofs.lemmas.Nat.Bits.{bit_at-lt, bit_at-zero, bit_at_or}
 use Rattle.std.proofs.Math.Nat.{le_refl}
 use Rattle.warm_stamps.specs.declared.PageId.{PageId}
 use Rattle.warm_stamps.specs.declared.Reference.{Reference}
 use Rattle.warm_stamps.specs.Buckets.{page_bucket}
 use Rattle.warm_stamps.specs.Stamps.{page_cmp}
+use Rattle.warm_stamps.proofs.BucketLemmas.{with_same, with_other}
 use Rattle.warm_stamps.proofs.DistinctLemmas.{is_equal, rising_filter}
 use Rattle.warm_stamps.proofs.StampLemmas.{page_order}
 use Rattle.warm_history.specs.declared.hist.PageHist.{PageHist}
@@ -21,18 +22,18 @@ use Rattle.warm_history.specs.Histories as view
 use Rattle.warm_history.specs.KeptEntries.{kept_entries}
 use Rattle.warm_history.specs.ListHistories.{list_hist, list_history, references_of_entry, list_references_of, known_stamps, IsListHistory, PagesAscend}
 use Rattle.warm_history.specs.Losses.{raised, MarksLosing}
-use Rattle.warm_history.specs.Places.{first_key, page_of_key, IsMapKey}
+use Rattle.warm_history.specs.MapKeys.{first_key, page_of_key, IsMapKey}
 use Rattle.warm_history.specs.ReferenceSets.{references_from}
-use Rattle.warm_history.specs.Tree.{MapPairs, kept, AreKept, told_at, TakesRecent, TakesStamps}
+use Rattle.warm_history.specs.MapPairs.{MapPairs, kept, AreKept, references_at, TakesRecent, TakesStamps}
 use Rattle.warm_history.specs.BucketMaps.{found}
 use Rattle.warm_history.proofs.KeptLemmas.{entries_recent, history-kept, kept-append, kept_within}
 use Rattle.warm_history.proofs.ListHistoryLemmas.{get, joined, same_gets, get-history, hist-append, hist-refs, IsHistory-history}
 use Rattle.warm_history.proofs.ListJoinLemmas.{hist_repeat, history_of_own_references}
 use Rattle.warm_history.proofs.OrderLemmas.{get-filter}
-use Rattle.warm_history.proofs.PlaceLemmas.{hist_entry, latest_of_swap}
-use Rattle.warm_history.proofs.PlaceOrder.{from_first, below_next, below_all_places}
-use Rattle.warm_history.proofs.SinceLemmas.{bucket_left, none_left_older, raised_bucket}
-use Rattle.warm_history.proofs.TreeLemmas.{IsHistory-kept, find-kept}
+use Rattle.warm_history.proofs.EntryLemmas.{hist_entry, latest_of_swap}
+use Rattle.warm_history.proofs.MapKeyOrder.{from_first, below_next}
+use Rattle.warm_history.proofs.HorizonLemmas.{bucket_left, none_left_older, raised_bucket}
+use Rattle.warm_history.proofs.MapPairLemmas.{IsHistory-kept, find-kept}
 
 -- ---- a bucket says all of its pages
 
@@ -104,6 +105,10 @@ stays_between bucket h mid new rise_h rise_mid up down same = same_bucket bucket
 pub marks_none : (es : List Entry) → MarksChanged es es 0
 marks_none es bucket low = let clear = bit_at-zero bucket in ((λ one. absurd (omega (arith, one, clear))), λ none. refl)
 
+-- the set that a function makes for what is unchanged
+pub marks_empty : (es : List Entry) (buckets : ℕ) → buckets ≡ 0 → MarksChanged es es buckets
+marks_empty es buckets none = subst (MarksChanged es es) (sym none) (marks_none es)
+
 -- those that change in a first step, and those that change in the next
 pub marks_more : (h mid new : List Entry) (first next : ℕ) → PagesAscend h → PagesAscend mid → Grows h mid → Grows mid new → MarksChanged h mid first → MarksChanged mid new next → MarksChanged h new (bit_or first next)
 marks_more h mid new first next rise_h rise_mid up down marks_first marks_next bucket low =
@@ -127,7 +132,7 @@ nothing_changed h g changed rise_h rise_g marks none = same_gets g h rise_g rise
     let clear : bit_at changed bucket ≡ 0 = ap (λ (n : ℕ). bit_at n bucket) none ∙ bit_at-zero bucket in
     sym (get-bucket bucket g p refl) ∙ ap (λ es. get es p) ((marks bucket low).1 clear) ∙ get-bucket bucket h p refl)
 
--- ---- the bucket of a place
+-- ---- the bucket of a key
 
 -- pages of two buckets differ
 apart : (q p : PageId) → page_bucket q ≢ page_bucket p → is_eq (page_cmp q p) ≡ false
@@ -145,53 +150,48 @@ others_stay old new e bucket whole rise is away = same_bucket bucket new old ris
     ∙ hist_entry (list_references_of old) e p
     ∙ rw (apart e.page p (λ same. away (same ∙ there))) (hist-refs old whole p))
 
--- a place lies in the bucket of its page
-pub lies_in : (bucket place : ℕ) → first_key bucket ≤ place → place < first_key (bucket + 1) → bucket ≡ place / 1208925819614629174706176
-lies_in bucket place from to = omega arith
+-- a key lies in the bucket of its page
+pub lies_in : (bucket key : ℕ) → first_key bucket ≤ key → key < first_key (bucket + 1) → bucket ≡ key / 1208925819614629174706176
+lies_in bucket key from to = omega arith
 
-pub own_bucket : (place : ℕ) → IsMapKey place → page_bucket (page_of_key place) ≡ place / 1208925819614629174706176
-own_bucket place is = lies_in (page_bucket (page_of_key place)) place (from_first place is) (below_next place is)
+pub own_bucket : (key : ℕ) → IsMapKey key → page_bucket (page_of_key key) ≡ key / 1208925819614629174706176
+own_bucket key is = lies_in (page_bucket (page_of_key key)) key (from_first key is) (below_next key is)
 
 -- a single bucket, as code makes its set
-alone : (n b : ℕ) → bit_at (bit_or 0 n) b ≡ bit_at n b
-alone n b = omega (arith, bit_at_or 0 n b, bit_at-zero b)
+pub in_it : (i : ℕ) → bit_at (bit_or 0 (2 ^ i)) i ≡ 1
+in_it i = with_same 0 i
 
-pub in_it : (i : ℕ) → i < 64 → bit_at (1 * 2 ^ i % 2 ^ 64) i ≡ 1
-in_it i low = sym (alone (1 * 2 ^ i % 2 ^ 64) i) ∙ bit_at_set_same w64 0 i low
+pub not_in_it : (i b : ℕ) → b ≢ i → bit_at (bit_or 0 (2 ^ i)) b ≡ 0
+not_in_it i b other = with_other 0 i b other ∙ bit_at-zero b
 
-pub not_in_it : (i b : ℕ) → i < 64 → b ≢ i → bit_at (1 * 2 ^ i % 2 ^ 64) b ≡ 0
-not_in_it i b low other = sym (alone (1 * 2 ^ i % 2 ^ 64) b) ∙ bit_at_set_other w64 0 i low b other ∙ bit_at-zero b
-
--- where something else is found at a place, the bucket changes in which it lies
-pub changes_at : (old new : MapPairs) (place : ℕ) → IsMapKey place → AreKept old → AreKept new → found place new ≢ found place old → bucket_entries (page_bucket (page_of_key place)) (kept new) ≢ bucket_entries (page_bucket (page_of_key place)) (kept old)
-changes_at old new place is are_old are_new differs same =
-    let p = page_of_key place in
+-- where something else is found at a key, the bucket changes in which it lies
+pub changes_at : (old new : MapPairs) (key : ℕ) → IsMapKey key → AreKept old → AreKept new → found key new ≢ found key old → bucket_entries (page_bucket (page_of_key key)) (kept new) ≢ bucket_entries (page_bucket (page_of_key key)) (kept old)
+changes_at old new key is are_old are_new differs same =
+    let p = page_of_key key in
     differs (
-    find-kept place new is are_new
+    find-kept key new is are_new
     ∙ sym (get-bucket (page_bucket p) (kept new) p refl)
     ∙ ap (λ es. get es p) same
     ∙ get-bucket (page_bucket p) (kept old) p refl
-    ∙ sym (find-kept place old is are_old))
+    ∙ sym (find-kept key old is are_old))
 
 -- and no other does
-pub marks_at : (old new : MapPairs) (place : ℕ) (more : PageHist) → IsMapKey place → AreKept old → AreKept new → TakesStamps old place more new → found place new ≢ found place old
-    → MarksChanged (kept old) (kept new) (1 * 2 ^ (place / 1208925819614629174706176) % 2 ^ 64)
-marks_at old new place more is are_old are_new takes differs bucket low =
-    let i = place / 1208925819614629174706176 in
-    let set = 1 * 2 ^ i % 2 ^ 64 in
-    let inside : i < 64 = below_all_places place is in
-    let own : page_bucket (page_of_key place) ≡ i = own_bucket place is in
+pub marks_at : (old new : MapPairs) (key : ℕ) (more : PageHist) → IsMapKey key → AreKept old → AreKept new → TakesStamps old key more new → found key new ≢ found key old
+    → MarksChanged (kept old) (kept new) (bit_or 0 (2 ^ page_bucket (page_of_key key)))
+marks_at old new key more is are_old are_new takes differs bucket low =
+    let i = page_bucket (page_of_key key) in
+    let set = bit_or 0 (2 ^ i) in
     elim (cases_eq bucket i) [
       | inl here ↦ (
-          let bit : bit_at set bucket ≡ 1 = ap (λ (b : ℕ). bit_at set b) here ∙ in_it i inside in (
-            (λ one. subst (λ b. bucket_entries b (kept new) ≢ bucket_entries b (kept old)) (own ∙ sym here) (changes_at old new place is are_old are_new differs)),
+          let bit : bit_at set bucket ≡ 1 = ap (λ (b : ℕ). bit_at set b) here ∙ in_it i in (
+            (λ one. subst (λ b. bucket_entries b (kept new) ≢ bucket_entries b (kept old)) (sym here) (changes_at old new key is are_old are_new differs)),
             λ none. absurd (omega (arith, bit, none)),
           )
           )
       | inr away ↦ (
-          let bit : bit_at set bucket ≡ 0 = not_in_it i bucket inside away in (
+          let bit : bit_at set bucket ≡ 0 = not_in_it i bucket away in (
             (λ one. absurd (omega (arith, bit, one))),
-            λ none. others_stay (kept old) (kept new) (record { page = page_of_key place; hist = more }) bucket (IsHistory-kept old are_old) (IsHistory-kept new are_new).pages_ascend takes (λ same. away (sym same ∙ own)),
+            λ none. others_stay (kept old) (kept new) (record { page = page_of_key key; hist = more }) bucket (IsHistory-kept old are_old) (IsHistory-kept new are_new).pages_ascend takes (λ same. away (sym same)),
           )
           )
     ]
@@ -200,7 +200,7 @@ marks_at old new place more is are_old are_new takes differs bucket low =
 pub takes_more : (m p : ℕ) (more : PageHist) (first old new : MapPairs) (before next : ℕ) → AreKept first → AreKept old → TakesRecent m old p more new → Grows (kept first) (kept old) → MarksChanged (kept first) (kept old) before → MarksChanged (kept old) (kept new) next
     → Grows (kept first) (kept new) × MarksChanged (kept first) (kept new) (bit_or before next)
 takes_more m p more first old new before next are_first are_old takes grows marks_before marks_next =
-    let S = references_from m (told_at p more) in
+    let S = references_from m (references_at p more) in
     let whole_first = IsHistory-kept first are_first in
     let whole_old = IsHistory-kept old are_old in
     let step = grows_more (kept old) (kept old) (kept new) S whole_old whole_old (grows_same (kept old) whole_old) takes in (
@@ -236,7 +236,8 @@ left_with_more m bucket es mid rs whole is left =
     ∙ sym (get-history S p)
     ∙ ap (λ t. get t p) (sym is))
 
--- the buckets that change as what isn't older than a time is taken in, and those that lose something at it, change as both is done
+-- the buckets that change as what isn't older than a time is taken in, and those that lose
+-- something at it, change as both is done
 pub marks_cut : (a b m k : ℕ) (es mid new : List Entry) (rs : List Reference) (changed lost : ℕ) → view.IsHistory (history_of_entries_at a es) → m ≡ max a b → k ≡ max a m → mid ≡ list_history (list_references_of es ++ references_from m rs) → new ≡ kept_entries k mid
     → MarksChanged es mid changed → MarksLosing b (history_of_entries_at a es) lost → MarksChanged es new (bit_or changed lost)
 marks_cut a b m k es mid new rs changed lost whole later latest is cut marks loses bucket low =

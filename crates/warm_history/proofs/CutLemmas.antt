@@ -16,15 +16,15 @@ use Rattle.warm_history.specs.declared.hist.PageHist.TheVariants.{Once, Twice}
 use Rattle.warm_history.specs.ReferenceSets.{is_kept, references_from}
 use Rattle.warm_history.specs.KeptEntries.{is_recent, shortened, kept_hist, kept_entries}
 use Rattle.warm_history.specs.ListHistories.{list_history, list_references_of, IsDescending}
-use Rattle.warm_history.specs.Places.{page_of_key, IsMapKey}
-use Rattle.warm_history.specs.Tree.{MapPairs, as_entries, kept, AreKept}
+use Rattle.warm_history.specs.MapKeys.{page_of_key, IsMapKey}
+use Rattle.warm_history.specs.MapPairs.{MapPairs, as_entries, kept, AreKept}
 use Rattle.warm_history.specs.Cuts.{cut_pair, cut_at}
-use Rattle.warm_history.specs.BucketMaps.{all_pairs, pairs_of_maps, LiesIn, AreBuckets, AreSmall, PlacesRise, with_map}
+use Rattle.warm_history.specs.BucketMaps.{all_pairs, pairs_of_maps, LiesIn, AreBuckets, AreSmall, KeysAscend, with_map}
 use Rattle.warm_history.proofs.ListHistoryLemmas.{get, get-history, hist-refs, same_gets, IsHistory-history}
 use Rattle.warm_history.proofs.ListJoinLemmas.{history_of_own_references}
 use Rattle.warm_history.proofs.KeptLemmas.{hist-kept, history-kept}
 use Rattle.warm_history.proofs.OrderLemmas.{PagesDiffer, in_order_rises}
-use Rattle.warm_history.proofs.TreeLemmas.{IsHistory-kept, get-kept, differing}
+use Rattle.warm_history.proofs.MapPairLemmas.{IsHistory-kept, get-kept, differing}
 use Rattle.warm_history.proofs.BucketSteps.{pairs_of-set, length-pairs_of}
 use Rattle.std.proofs.lemmas.List.Edits.{map_over_more}
 
@@ -53,9 +53,9 @@ all_left P m (e ∷ pairs) all = elim (kept_hist m e.1) as (λ x. AllByRecursion
   | Some h ↦ (all.0, all_left P m pairs all.1)
 ]
 
-rise_left : (m : ℕ) (pairs : MapPairs) → PlacesRise pairs → PlacesRise (cut_at m pairs)
+rise_left : (m : ℕ) (pairs : MapPairs) → KeysAscend pairs → KeysAscend (cut_at m pairs)
 rise_left m [] rise = tt
-rise_left m (e ∷ pairs) rise = elim (kept_hist m e.1) as (λ x. PlacesRise (cons_option (option_map (λ h. (e.0, h)) x) (cut_at m pairs))) [
+rise_left m (e ∷ pairs) rise = elim (kept_hist m e.1) as (λ x. KeysAscend (cons_option (option_map (λ h. (e.0, h)) x) (cut_at m pairs))) [
   | None ↦ rise_left m pairs rise.1
   | Some h ↦ (all_left (λ p. nat_cmp e.0 p ≡ Less) m pairs rise.0, rise_left m pairs rise.1)
 ]
@@ -73,8 +73,8 @@ fall_left m (e ∷ pairs) all = elim (is_recent m e.1) as (λ b. AllByRecursion 
 
 pub kept_left : (m : ℕ) (pairs : MapPairs) → AreKept pairs → AreKept (cut_at m pairs)
 kept_left m pairs are = record {
-  places_rise = rise_left m pairs are.places_rise;
-  are_places = all_left IsMapKey m pairs are.are_places;
+  keys_ascend = rise_left m pairs are.keys_ascend;
+  are_keys = all_left IsMapKey m pairs are.are_keys;
   stamps_descend = fall_left m pairs are.stamps_descend;
 }
 
@@ -162,7 +162,7 @@ cut_kept m pairs are =
     let whole = IsHistory-kept pairs are in
     same_gets (kept (cut_at m pairs)) (list_history (references_from m S)) (in_order_rises (as_entries (cut_at m pairs))) (IsHistory-history (references_from m S)).pages_ascend (λ q.
     get-kept (cut_at m pairs) q
-    ∙ get-cut m pairs (differing pairs are.places_rise are.are_places) q
+    ∙ get-cut m pairs (differing pairs are.keys_ascend are.are_keys) q
     ∙ ap (option_and_then (kept_hist m)) (sym (get-kept pairs q) ∙ sym (hist-refs (kept pairs) whole q))
     ∙ sym (hist-kept m S q)
     ∙ sym (get-history (references_from m S) q))

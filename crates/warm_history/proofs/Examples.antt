@@ -61,7 +61,7 @@ in_page_order = refl
 
 -- ---- joins
 
--- the two latest of all four, and not the greater of each place
+-- the two latest of all four, and not the greater of each position
 joined : join (history_of_entries (twice 1 (at 20 1) (at 10 1) ∷ [])) (history_of_entries (twice 1 (at 30 2) (at 15 2) ∷ [])) ≡ history_of_entries (twice 1 (at 30 2) (at 20 1) ∷ [])
 unfolding history
 joined = refl

@@ -166,7 +166,8 @@ entries_recent m (e ∷ es) all = cases e.page e.hist all.0 (entries_recent m es
         let there : is_kept m t.prev ≡ true = is.1.0 in
         rw (here, there) (ap (λ x. record { page = p; hist = Twice t } ∷ x) rest)
 
--- the references of a page's stamps that aren't older than the horizon are those of the stamps that aren't
+-- the references of a page's stamps that aren't older than the horizon are those of the stamps that
+-- aren't
 pub recent_entry : (m : ℕ) (p : PageId) (ss : List Stamp) → references_from m (map (λ s. record { page = p; stamp = s }) ss) ≡ map (λ s. record { page = p; stamp = s }) (filter (is_kept m) ss)
 recent_entry m p [] = refl
 recent_entry m p (s ∷ ss) = cases (is_kept m s) (recent_entry m p ss)

@@ -9,16 +9,15 @@ pub mod KeptLemmas
 pub mod RaiseLemmas
 pub mod CutLemmas
 pub mod RecentLemmas
-pub mod SinceLemmas
+pub mod HorizonLemmas
 pub mod HistoryLemmas
 pub mod JoinLemmas
 pub mod MergeLemmas
-pub mod PlaceLemmas
-pub mod PlaceOrder
+pub mod EntryLemmas
+pub mod MapKeyOrder
 pub mod OrderLemmas
-pub mod TreeLemmas
+pub mod MapPairLemmas
 pub mod BucketLemmas
-pub mod BucketSets
 pub mod ChangeLemmas
 pub mod RecordLemmas
 pub mod BucketSteps
@@ -26,5 +25,5 @@ pub mod BucketCounts
 pub mod RunLemmas
 pub mod RunPairs
 pub mod BucketParts
-pub mod MergedParts
+pub mod MergeIterLemmas
 pub mod SetLemmas

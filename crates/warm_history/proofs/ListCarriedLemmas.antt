@@ -92,7 +92,8 @@ history-among S ps rising =
 abbrev pub pages_carried : List Reference → ℕ → Option PageId → ℕ → List PageId
 pages_carried S bucket after limit = take limit (filter (is_next_in_bucket bucket after) (list_pages S))
 
--- the first entries of a history that are in the bucket and after the page are the history of what is carried
+-- the first entries of a history that are in the bucket and after the page are the history of what
+-- is carried
 pub history-carried : (S : List Reference) (bucket : ℕ) (after : Option PageId) (limit : ℕ) → take limit (filter (λ e. is_next_in_bucket bucket after e.page) (list_history S)) ≡ list_history (among S (pages_carried S bucket after limit))
 unfolding list_history
 history-carried S bucket after limit =

@@ -12,7 +12,7 @@ use Rattle.warm_stamps.proofs.DistinctLemmas.{is_equal, by_cases, flipped}
 use Rattle.warm_stamps.proofs.StampLemmas.{page_order}
 use Rattle.warm_history.specs.declared.hist.Entry.{Entry}
 use Rattle.warm_history.specs.ListHistories.{IsDescending, PagesAscend, IsListHistory}
-use Rattle.warm_history.specs.Tree.{put_in, in_page_order}
+use Rattle.warm_history.specs.MapPairs.{put_in, in_page_order}
 use Rattle.warm_history.proofs.ListHistoryLemmas.{get, either_way, AllAbove, above_less}
 
 -- two pages that both equal a third are equal
@@ -108,7 +108,7 @@ abbrev pub PagesDiffer : List Entry → Type 0
 PagesDiffer [] = Unit {0}
 PagesDiffer (e ∷ es) = (get es e.page ≡ None) × PagesDiffer es
 
--- page order changes the places of entries alone, where no two are of one page
+-- page order changes the positions of entries alone, where no two are of one page
 pub permuted_in_order : (es : List Entry) → PagesDiffer es → IsPermutation es (in_page_order es)
 permuted_in_order [] differ = IsPermutation-refl []
 permuted_in_order (e ∷ es) differ = IsPermutation-trans (e ∷ es) (e ∷ in_page_order es) (put_in e (in_page_order es))

@@ -6,14 +6,14 @@ use Rattle.warm_stamps.specs.declared.Reference.{Reference}
 use Rattle.warm_history.specs.declared.hist.PageHist.{PageHist}
 use Rattle.warm_history.specs.ReferenceSets.{is_kept, references_from}
 use Rattle.warm_history.specs.ListHistories.{hist_stamps, list_references_of, list_history}
-use Rattle.warm_history.specs.Places.{page_of_key}
-use Rattle.warm_history.specs.Tree.{MapPairs, as_entries, kept, AreKept, told_at, TakesStamps, TakesRecent}
+use Rattle.warm_history.specs.MapKeys.{page_of_key}
+use Rattle.warm_history.specs.MapPairs.{MapPairs, as_entries, kept, AreKept, references_at, TakesStamps, TakesRecent}
 use Rattle.warm_history.proofs.KeptLemmas.{recent_entry, kept-append, kept_alike}
 use Rattle.warm_history.proofs.ListJoinLemmas.{history_alike, history_of_own_references}
-use Rattle.warm_history.proofs.TreeLemmas.{IsHistory-kept, hist-pairs}
+use Rattle.warm_history.proofs.MapPairLemmas.{IsHistory-kept, hist-pairs}
 
--- the references at a place that aren't older than the horizon are those of the stamps that aren't
-told_recent : (m p : ℕ) (more : PageHist) (ss : List Stamp) → ss ≡ filter (is_kept m) (hist_stamps more) → references_from m (told_at p more) ≡ map (λ s. record { page = page_of_key p; stamp = s }) ss
+-- the references at a key that aren't older than the horizon are those of the stamps that aren't
+told_recent : (m p : ℕ) (more : PageHist) (ss : List Stamp) → ss ≡ filter (is_kept m) (hist_stamps more) → references_from m (references_at p more) ≡ map (λ s. record { page = page_of_key p; stamp = s }) ss
 told_recent m p more ss is = recent_entry m (page_of_key p) (hist_stamps more) ∙ ap (map (λ s. record { page = page_of_key p; stamp = s })) (sym is)
 
 -- where none is left
@@ -32,5 +32,5 @@ pub recent_more : (m : ℕ) (first rest left : List Reference) → left ≡ firs
 recent_more m first rest left is = ap (references_from m) is ∙ kept-append m first rest
 
 -- the pairs, or what they keep, may be taken in
-pub told_by_recent : (m : ℕ) (S : List Reference) (pairs : MapPairs) → AreKept pairs → list_history (S ++ references_from m (list_references_of (as_entries pairs))) ≡ list_history (S ++ references_from m (list_references_of (kept pairs)))
-told_by_recent m S pairs are = history_alike S S (references_from m (list_references_of (as_entries pairs))) (references_from m (list_references_of (kept pairs))) (λ p. refl) (kept_alike m (list_references_of (as_entries pairs)) (list_references_of (kept pairs)) (hist-pairs pairs are))
+pub references_by_recent : (m : ℕ) (S : List Reference) (pairs : MapPairs) → AreKept pairs → list_history (S ++ references_from m (list_references_of (as_entries pairs))) ≡ list_history (S ++ references_from m (list_references_of (kept pairs)))
+references_by_recent m S pairs are = history_alike S S (references_from m (list_references_of (as_entries pairs))) (references_from m (list_references_of (kept pairs))) (λ p. refl) (kept_alike m (list_references_of (as_entries pairs)) (list_references_of (kept pairs)) (hist-pairs pairs are))

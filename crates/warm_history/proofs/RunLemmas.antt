@@ -1,10 +1,11 @@
 -- What a history takes in with a run.
-use Rattle.std.proofs.Common.{◌≡◌, ◌≢◌, inl, inr, ℕ, Bool, true, false, cond, List, [], ◌∷◌, ◌++◌, sym, ap, refl, ◌∙◌, subst, arith, append_assoc, Option, Some, None, filter, ◌+◌, ◌*◌, ◌/◌, ◌%◌, ◌^◌, ◌<◌, ◌≤◌}
+use Rattle.std.proofs.Common.{◌≡◌, ◌≢◌, inl, inr, ℕ, Bool, true, false, cond, List, [], ◌∷◌, ◌++◌, sym, ap, refl, ◌∙◌, subst, arith, append_assoc, Option, Some, None, filter, ◌+◌, ◌^◌, ◌≤◌}
 use Rattle.std.specs.Int.{bit_at}
+use Rattle.std.specs.Prelude.{bit_or}
 use Rattle.std.specs.List.{AllByRecursion}
-use Rattle.std.specs.BTreeMap.{is_at, insert_entry}
+use Rattle.std.specs.BTreeMap.{insert_entry}
 use Rattle.std.specs.Ordering.{is_eq, nat_cmp}
-use Rattle.std.specs.declared.cmp.Ordering.TheVariants.{Less, Equal, Greater}
+use Rattle.std.specs.declared.cmp.Ordering.TheVariants.{Less}
 use Rattle.std.proofs.lemmas.Bool.{cases_eq}
 use Rattle.std.proofs.lemmas.List.{append-nil}
 use Rattle.warm_stamps.specs.Buckets.{page_bucket}
@@ -18,14 +19,14 @@ use Rattle.warm_history.specs.Carried.{bucket_entries}
 use Rattle.warm_history.specs.Changes.{SameInBucket, MarksChanged}
 use Rattle.warm_history.specs.ListHistories.{first_two, latest_of, hist_stamps, known_stamps, references_of_entry, list_references_of, list_history}
 use Rattle.warm_history.specs.ReferenceSets.{is_kept, references_from}
-use Rattle.warm_history.specs.Places.{first_key, key_of_page, page_of_key, IsMapKey}
-use Rattle.warm_history.specs.Tree.{MapPairs, kept, AreKept, told_at, TakesEntries, TakesRecent, TakesStamps}
+use Rattle.warm_history.specs.MapKeys.{first_key, key_of_page, page_of_key, IsMapKey}
+use Rattle.warm_history.specs.MapPairs.{MapPairs, kept, AreKept, references_at, TakesEntries, TakesRecent, TakesStamps}
 use Rattle.warm_history.specs.BucketMaps.{LiesIn, HoldsBucket, found}
-use Rattle.warm_history.specs.Runs.{RiseWithin, IsRun, at_place, run_pairs, with_pairs}
+use Rattle.warm_history.specs.Runs.{RiseWithin, at_key, run_pairs, with_pairs}
 use Rattle.warm_history.proofs.ListHistoryLemmas.{hist_swap}
 use Rattle.warm_history.proofs.ListJoinLemmas.{history_alike, history_first, history_of_own_references}
-use Rattle.warm_history.proofs.PlaceOrder.{nat_order}
-use Rattle.warm_history.proofs.TreeLemmas.{ArePlaces, IsHistory-kept, exact_pair, kept_more, found_inserted}
+use Rattle.warm_history.proofs.MapKeyOrder.{nat_order}
+use Rattle.warm_history.proofs.MapPairLemmas.{AreKeys, IsHistory-kept, exact_pair, kept_more, found_inserted}
 use Rattle.warm_history.proofs.RecentLemmas.{takes_none, takes_some, recent_more}
 use Rattle.warm_history.proofs.ChangeLemmas.{others_stay, lies_in, own_bucket, changes_at, in_it, not_in_it}
 use Rattle.warm_history.proofs.RunPairs.{AreAbove, run_above, found_free}
@@ -56,7 +57,7 @@ some_latest (Twice two) = by_cases (stamp_cmp two.prev two.last) _
 
 -- ---- one entry more
 
--- what is found at a place below is found still
+-- what is found at a key below is found still
 found_below : (p q : ℕ) (h : PageHist) (pairs : MapPairs) → nat_cmp p q ≡ Less → found p (insert_entry nat_cmp pairs q h) ≡ found p pairs
 found_below p q h [] less = rw less refl
 found_below p q h (e ∷ pairs) less = by_cases (nat_cmp q e.0) _
@@ -76,7 +77,7 @@ takes_first m old mid new e es back exact takes =
     let S = list_references_of (kept old) in
     let A = references_from m (references_of_entry e) in
     let B = references_from m (list_references_of es) in
-    let own : references_from m (told_at (key_of_page e.page) e.hist) ≡ A = ap (λ p. references_from m (references_of_entry (record { page = p; hist = e.hist }))) back in
+    let own : references_from m (references_at (key_of_page e.page) e.hist) ≡ A = ap (λ p. references_from m (references_of_entry (record { page = p; hist = e.hist }))) back in
     takes
     ∙ ap (λ T. list_history (list_references_of (kept mid) ++ T)) own
     ∙ ap (λ h. list_history (list_references_of h ++ A)) exact
@@ -136,48 +137,48 @@ takes_run m number from old (e ∷ es) are free begins rise =
     mid : MapPairs
     mid = with_pairs old (run_pairs m es)
 
-    cases : (r : Option PageHist) → known_stamps r ≡ filter (is_kept m) (hist_stamps e.hist) → first_key number ≤ key_of_page e.page → found (key_of_page e.page) mid ≡ None → TakesRun m number old es mid → TakesRun m number old (e ∷ es) (with_pairs old (at_place (key_of_page e.page) (latest_of (filter (is_kept m) (hist_stamps e.hist))) ++ run_pairs m es))
-    cases None stamps low none run = subst (λ ss. TakesRun m number old (e ∷ es) (with_pairs old (at_place (key_of_page e.page) (latest_of ss) ++ run_pairs m es))) stamps (passes m number old mid e es rise.2 stamps run)
+    cases : (r : Option PageHist) → known_stamps r ≡ filter (is_kept m) (hist_stamps e.hist) → first_key number ≤ key_of_page e.page → found (key_of_page e.page) mid ≡ None → TakesRun m number old es mid → TakesRun m number old (e ∷ es) (with_pairs old (at_key (key_of_page e.page) (latest_of (filter (is_kept m) (hist_stamps e.hist))) ++ run_pairs m es))
+    cases None stamps low none run = subst (λ ss. TakesRun m number old (e ∷ es) (with_pairs old (at_key (key_of_page e.page) (latest_of ss) ++ run_pairs m es))) stamps (passes m number old mid e es rise.2 stamps run)
     cases (Some more) stamps low none run =
         let latest = some_latest more in
-        subst (λ o. TakesRun m number old (e ∷ es) (with_pairs old (at_place (key_of_page e.page) o ++ run_pairs m es))) (latest.1 ∙ ap latest_of stamps)
+        subst (λ o. TakesRun m number old (e ∷ es) (with_pairs old (at_key (key_of_page e.page) o ++ run_pairs m es))) (latest.1 ∙ ap latest_of stamps)
         (adds m number old mid e es more latest.0 rise.2 (low, rise.1) stamps latest.1 none run)
 
 -- ---- the bucket that changes
 
-pub are_places : (m from to : ℕ) (es : List Entry) → RiseWithin from to es → ArePlaces (run_pairs m es)
-are_places m from to [] rise = tt
-are_places m from to (e ∷ es) rise = cases (latest_of (filter (is_kept m) (hist_stamps e.hist))) (are_places m (key_of_page e.page + 1) to es rise.3)
+pub are_keys : (m from to : ℕ) (es : List Entry) → RiseWithin from to es → AreKeys (run_pairs m es)
+are_keys m from to [] rise = tt
+are_keys m from to (e ∷ es) rise = cases (latest_of (filter (is_kept m) (hist_stamps e.hist))) (are_keys m (key_of_page e.page + 1) to es rise.3)
   where
-    cases : (o : Option PageHist) → ArePlaces (run_pairs m es) → ArePlaces (at_place (key_of_page e.page) o ++ run_pairs m es)
+    cases : (o : Option PageHist) → AreKeys (run_pairs m es) → AreKeys (at_key (key_of_page e.page) o ++ run_pairs m es)
     cases None all = all
     cases (Some h) all = (ap key_of_page rise.2, all)
 
 -- a bucket that had no entries has one where a pair is put in
-changes_in : (number : ℕ) (old run : MapPairs) → AreKept old → AreKept (with_pairs old run) → HoldsBucket number [] old → AllByRecursion (λ (e : ℕ × PageHist). LiesIn number e.0) run → ArePlaces run → run ≢ [] → bucket_entries number (kept (with_pairs old run)) ≢ bucket_entries number (kept old)
-changes_in number old [] are whole free inside places some = absurd (some refl)
-changes_in number old (e ∷ run) are whole free inside places some =
+changes_in : (number : ℕ) (old run : MapPairs) → AreKept old → AreKept (with_pairs old run) → HoldsBucket number [] old → AllByRecursion (λ (e : ℕ × PageHist). LiesIn number e.0) run → AreKeys run → run ≢ [] → bucket_entries number (kept (with_pairs old run)) ≢ bucket_entries number (kept old)
+changes_in number old [] are whole free inside keys some = absurd (some refl)
+changes_in number old (e ∷ run) are whole free inside keys some =
     let new = with_pairs old (e ∷ run) in
     let differs : found e.0 new ≢ found e.0 old = λ same.
     let is : found e.0 new ≡ Some e.1 = found_inserted e.0 e.1 (with_pairs old run) in
     let none : found e.0 old ≡ None = found_free number e.0 old inside.0 free in
     let no : Some e.1 ≡ None = sym is ∙ same ∙ none in
     absurd (cc) in
-    subst (λ b. bucket_entries b (kept new) ≢ bucket_entries b (kept old)) (bucket_is number e.0 places.0 inside.0) (changes_at old new e.0 places.0 are whole differs)
+    subst (λ b. bucket_entries b (kept new) ≢ bucket_entries b (kept old)) (bucket_is number e.0 keys.0 inside.0) (changes_at old new e.0 keys.0 are whole differs)
 
-pub marks_run : (number : ℕ) (old run : MapPairs) → number < 64 → AreKept old → AreKept (with_pairs old run) → HoldsBucket number [] old → AllByRecursion (λ (e : ℕ × PageHist). LiesIn number e.0) run → ArePlaces run → run ≢ [] → ((bucket : ℕ) → bucket ≢ number → SameInBucket bucket (kept old) (kept (with_pairs old run)))
-    → MarksChanged (kept old) (kept (with_pairs old run)) (1 * 2 ^ number % 2 ^ 64)
-marks_run number old run below are whole free inside places some others bucket low =
-    let set = 1 * 2 ^ number % 2 ^ 64 in
+pub marks_run : (number : ℕ) (old run : MapPairs) → AreKept old → AreKept (with_pairs old run) → HoldsBucket number [] old → AllByRecursion (λ (e : ℕ × PageHist). LiesIn number e.0) run → AreKeys run → run ≢ [] → ((bucket : ℕ) → bucket ≢ number → SameInBucket bucket (kept old) (kept (with_pairs old run)))
+    → MarksChanged (kept old) (kept (with_pairs old run)) (bit_or 0 (2 ^ number))
+marks_run number old run are whole free inside keys some others bucket low =
+    let set = bit_or 0 (2 ^ number) in
     elim (cases_eq bucket number) [
       | inl here ↦ (
-          let bit : bit_at set bucket ≡ 1 = ap (λ (b : ℕ). bit_at set b) here ∙ in_it number below in (
-            (λ one. subst (λ b. bucket_entries b (kept (with_pairs old run)) ≢ bucket_entries b (kept old)) (sym here) (changes_in number old run are whole free inside places some)),
+          let bit : bit_at set bucket ≡ 1 = ap (λ (b : ℕ). bit_at set b) here ∙ in_it number in (
+            (λ one. subst (λ b. bucket_entries b (kept (with_pairs old run)) ≢ bucket_entries b (kept old)) (sym here) (changes_in number old run are whole free inside keys some)),
             λ none. absurd (omega (arith, bit, none)),
           )
           )
       | inr away ↦ (
-          let bit : bit_at set bucket ≡ 0 = not_in_it number bucket below away in (
+          let bit : bit_at set bucket ≡ 0 = not_in_it number bucket away in (
             (λ one. absurd (omega (arith, bit, one))),
             λ none. others bucket away,
           )

@@ -1,12 +1,11 @@
 -- The pairs of a run, and the map that they fill.
-use Rattle.std.proofs.Common.{◌≡◌, ◌≢◌, ℕ, Bool, true, false, cond, List, [], ◌∷◌, ◌++◌, sym, ap, refl, ◌∙◌, subst, arith, Option, Some, None, length, zero, suc, filter, slice_set, ◌+◌, ◌/◌, ◌<◌, ◌≤◌, ◌==◌}
+use Rattle.std.proofs.Common.{◌≡◌, ℕ, Bool, true, false, List, [], ◌∷◌, ◌++◌, sym, ap, refl, ◌∙◌, subst, arith, Option, Some, None, length, zero, suc, filter, ◌+◌, ◌<◌, ◌≤◌, ◌==◌}
 use Rattle.std.specs.List.{AllByRecursion}
 use Rattle.std.specs.List.Sorted.{IsStrictlySortedBy}
 use Rattle.std.specs.Map.{keys_of, update, update_all}
-use Rattle.std.specs.BTreeMap.{BTreeMap, is_at, insert_entry, IsFromIterResult}
+use Rattle.std.specs.BTreeMap.{BTreeMap, insert_entry, IsFromIterResult}
 use Rattle.std.specs.Ordering.{is_eq, eq_by_cmp, nat_cmp}
-use Rattle.std.specs.Cmp.{nat_cmp_is, unsigned_tied}
-use Rattle.std.specs.declared.cmp.Ordering.{Ordering}
+use Rattle.std.specs.Cmp.{nat_cmp_is}
 use Rattle.std.specs.declared.cmp.Ordering.TheVariants.{Less, Equal, Greater}
 use Rattle.std.proofs.lemmas.Bool.{eqb-true, eq-eqb}
 use Rattle.std.proofs.lemmas.Cmp.{nat_cmp_total, tied_itself}
@@ -15,12 +14,12 @@ use Rattle.warm_history.specs.declared.hist.PageHist.{PageHist}
 use Rattle.warm_history.specs.declared.hist.Entry.{Entry}
 use Rattle.warm_history.specs.ListHistories.{latest_of, hist_stamps}
 use Rattle.warm_history.specs.ReferenceSets.{is_kept}
-use Rattle.warm_history.specs.Places.{first_key, key_of_page, page_of_key, IsMapKey}
-use Rattle.warm_history.specs.Tree.{MapPairs}
-use Rattle.warm_history.specs.BucketMaps.{pairs_of_maps, all_pairs, LiesIn, AreBuckets, map_at, with_map, PassesIn, HoldsBucket, PlacesRise, found}
-use Rattle.warm_history.specs.Runs.{RiseWithin, IsRun, at_place, run_pairs, with_pairs}
-use Rattle.warm_history.proofs.PlaceOrder.{nat_order}
-use Rattle.warm_history.proofs.TreeLemmas.{below_all, no_later}
+use Rattle.warm_history.specs.MapKeys.{first_key, key_of_page}
+use Rattle.warm_history.specs.MapPairs.{MapPairs}
+use Rattle.warm_history.specs.BucketMaps.{all_pairs, LiesIn, AreBuckets, map_at, with_map, PassesIn, HoldsBucket, KeysAscend, found}
+use Rattle.warm_history.specs.Runs.{RiseWithin, IsRun, at_key, run_pairs, with_pairs}
+use Rattle.warm_history.proofs.MapKeyOrder.{nat_order}
+use Rattle.warm_history.proofs.MapPairLemmas.{below_all, no_later}
 use Rattle.warm_history.proofs.BucketLemmas.{insert_joined}
 use Rattle.warm_history.proofs.BucketParts.{chosen_joined}
 use Rattle.warm_history.proofs.BucketSteps.{AllIn, in_insert, buckets_with, with_same}
@@ -32,7 +31,7 @@ pub none_of : (pairs : MapPairs) → length pairs ≡ 0 → pairs ≡ []
 none_of [] none = refl
 none_of (e ∷ pairs) none = absurd (omega arith)
 
--- ---- the pairs of a run lie at rising places of the bucket
+-- ---- the pairs of a run lie at rising keys of the bucket
 
 pub within : (m low from to : ℕ) (es : List Entry) → low ≤ from → RiseWithin from to es → AllByRecursion (λ (e : ℕ × PageHist). (low ≤ e.0) × (e.0 < to)) (run_pairs m es)
 within m low from to [] le rise = tt
@@ -42,7 +41,7 @@ within m low from to (e ∷ es) le rise =
     let later : low ≤ p + 1 = omega arith in
     cases (latest_of (filter (is_kept m) (hist_stamps e.hist))) (omega arith) rise.1 (within m low (p + 1) to es later rise.3)
   where
-    cases : (o : Option PageHist) → low ≤ key_of_page e.page → key_of_page e.page < to → AllByRecursion (λ (e : ℕ × PageHist). (low ≤ e.0) × (e.0 < to)) (run_pairs m es) → AllByRecursion (λ (e : ℕ × PageHist). (low ≤ e.0) × (e.0 < to)) (at_place (key_of_page e.page) o ++ run_pairs m es)
+    cases : (o : Option PageHist) → low ≤ key_of_page e.page → key_of_page e.page < to → AllByRecursion (λ (e : ℕ × PageHist). (low ≤ e.0) × (e.0 < to)) (run_pairs m es) → AllByRecursion (λ (e : ℕ × PageHist). (low ≤ e.0) × (e.0 < to)) (at_key (key_of_page e.page) o ++ run_pairs m es)
     cases None begins ends all = all
     cases (Some h) begins ends all = ((begins, ends), all)
 
@@ -53,15 +52,15 @@ above_all p to (e ∷ pairs) all =
     let below : p < e.0 = omega arith in
     (sym (nat_cmp_is p e.0 Less below), above_all p to pairs all.1)
 
--- those after a place are above it
+-- those after a key are above it
 pub run_above : (m p to : ℕ) (es : List Entry) → RiseWithin (p + 1) to es → AreAbove p (run_pairs m es)
 run_above m p to es rise = above_all p to (run_pairs m es) (within m (p + 1) (p + 1) to es (omega arith) rise)
 
-pub pairs_rise : (m from to : ℕ) (es : List Entry) → RiseWithin from to es → PlacesRise (run_pairs m es)
+pub pairs_rise : (m from to : ℕ) (es : List Entry) → RiseWithin from to es → KeysAscend (run_pairs m es)
 pairs_rise m from to [] rise = tt
 pairs_rise m from to (e ∷ es) rise = cases (latest_of (filter (is_kept m) (hist_stamps e.hist))) (run_above m (key_of_page e.page) to es rise.3) (pairs_rise m (key_of_page e.page + 1) to es rise.3)
   where
-    cases : (o : Option PageHist) → AreAbove (key_of_page e.page) (run_pairs m es) → PlacesRise (run_pairs m es) → PlacesRise (at_place (key_of_page e.page) o ++ run_pairs m es)
+    cases : (o : Option PageHist) → AreAbove (key_of_page e.page) (run_pairs m es) → KeysAscend (run_pairs m es) → KeysAscend (at_key (key_of_page e.page) o ++ run_pairs m es)
     cases None above later = later
     cases (Some h) above later = (above, later)
 
@@ -74,7 +73,7 @@ put_first : (p : ℕ) (h : PageHist) (pairs : MapPairs) → AreAbove p pairs →
 put_first p h [] all = refl
 put_first p h (e ∷ pairs) all = let less : nat_cmp p e.0 ≡ Less = all.0 in rw less refl
 
-pub filled_none : (run : MapPairs) → PlacesRise run → with_pairs [] run ≡ run
+pub filled_none : (run : MapPairs) → KeysAscend run → with_pairs [] run ≡ run
 filled_none [] rise = refl
 filled_none (e ∷ run) rise = ap (λ t. insert_entry nat_cmp t e.0 e.1) (filled_none run rise.1) ∙ put_first e.0 e.1 run rise.0
 
@@ -108,7 +107,7 @@ filled_joined b i ms (e ∷ run) are there all own =
     ∙ ap (λ t. all_pairs (with_map (with_map ms i n) i (insert_entry nat_cmp t e.0 e.1))) (map_at-with ms i n there)
     ∙ ap all_pairs (with_twice ms i n (insert_entry nat_cmp n e.0 e.1))
 
-pub fills : (i : ℕ) (ms : List MapPairs) (run : MapPairs) → AreBuckets 0 ms → i < length ms → AllIn (0 + i) run → PlacesRise run → map_at ms i ≡ [] → all_pairs (with_map ms i run) ≡ with_pairs (all_pairs ms) run
+pub fills : (i : ℕ) (ms : List MapPairs) (run : MapPairs) → AreBuckets 0 ms → i < length ms → AllIn (0 + i) run → KeysAscend run → map_at ms i ≡ [] → all_pairs (with_map ms i run) ≡ with_pairs (all_pairs ms) run
 fills i ms run are there all rise free =
     ap (λ t. all_pairs (with_map ms i t)) (sym (ap (λ t. with_pairs t run) free ∙ filled_none run rise))
     ∙ sym (filled_joined 0 i ms run are there all (subst (AllIn (0 + i)) (sym free) tt))
@@ -154,23 +153,23 @@ none_chosen p (e ∷ pairs) none = cases (e.0 == p) refl (none_chosen p pairs)
             absurd (cc)
         other false here away = refl
 
--- nothing is found at its places
+-- nothing is found at its keys
 pub found_free : (number p : ℕ) (pairs : MapPairs) → LiesIn number p → HoldsBucket number [] pairs → found p pairs ≡ None
 found_free number p pairs lies free = none_chosen p pairs (sym (free (λ k. k == p) (own_test number p lies)))
 
--- ---- a map that is made of pairs at rising places has these
+-- ---- a map that is made of pairs at rising keys has these
 
 keys_above : (p : ℕ) (es : MapPairs) → AllByRecursion (λ k. nat_cmp p k ≡ Less) (keys_of es) → AreAbove p es
 keys_above p [] all = tt
 keys_above p (e ∷ es) all = (all.0, keys_above p es all.1)
 
-keys_rise : (es : MapPairs) → IsStrictlySortedBy nat_cmp (keys_of es) → PlacesRise es
+keys_rise : (es : MapPairs) → IsStrictlySortedBy nat_cmp (keys_of es) → KeysAscend es
 unfolding IsStrictlySortedBy
 keys_rise [] sorted = tt
 keys_rise (e ∷ es) sorted = (keys_above e.0 es sorted.0, keys_rise es sorted.1)
 
 -- rising pairs in which the same is found are the same
-same_found : (m n : MapPairs) → PlacesRise m → PlacesRise n → ((q : ℕ) → found q m ≡ found q n) → m ≡ n
+same_found : (m n : MapPairs) → KeysAscend m → KeysAscend n → ((q : ℕ) → found q m ≡ found q n) → m ≡ n
 same_found [] [] rise_m rise_n alike = refl
 same_found [] (y ∷ n) rise_m rise_n alike =
     let own : nat_cmp y.0 y.0 ≡ Equal = tied_itself nat_cmp_total y.0 in
@@ -188,11 +187,11 @@ same_found (x ∷ m) (y ∷ n) rise_m rise_n alike = by_cases (nat_cmp x.0 y.0) 
     let no : None ≡ Some x.1 = sym none ∙ sym (alike x.0) ∙ first_found x m in
     absurd (cc))
     (λ tied.
-    let place : x.0 ≡ y.0 = nat_order.same x.0 y.0 tied in
-    let value : Some x.1 ≡ Some y.1 = sym (first_found x m) ∙ alike x.0 ∙ ap (λ k. found k (y ∷ n)) place ∙ first_found y n in
+    let key : x.0 ≡ y.0 = nat_order.same x.0 y.0 tied in
+    let value : Some x.1 ≡ Some y.1 = sym (first_found x m) ∙ alike x.0 ∙ ap (λ k. found k (y ∷ n)) key ∙ first_found y n in
     let hist : x.1 ≡ y.1 = cc in
-    let rest : m ≡ n = same_found m n rise_m.1 rise_n.1 (λ q. later place hist q) in
-    ap (λ k. (k, x.1) ∷ m) place ∙ ap (λ h. (y.0, h) ∷ m) hist ∙ ap (λ t. y ∷ t) rest)
+    let rest : m ≡ n = same_found m n rise_m.1 rise_n.1 (λ q. later key hist q) in
+    ap (λ k. (k, x.1) ∷ m) key ∙ ap (λ h. (y.0, h) ∷ m) hist ∙ ap (λ t. y ∷ t) rest)
     (λ more.
     let less : nat_cmp y.0 x.0 ≡ Less = flipped nat_cmp nat_order x.0 y.0 Greater more in
     let none : found y.0 (x ∷ m) ≡ None = no_later y.0 (x ∷ m) (less, below_all y.0 x.0 m less rise_m.0) in
@@ -206,16 +205,16 @@ same_found (x ∷ m) (y ∷ n) rise_m rise_n alike = by_cases (nat_cmp x.0 y.0) 
     past q e es away = rw away refl
 
     later : x.0 ≡ y.0 → x.1 ≡ y.1 → (q : ℕ) → found q m ≡ found q n
-    later place hist q = cases (is_eq (nat_cmp q x.0)) refl
+    later key hist q = cases (is_eq (nat_cmp q x.0)) refl
       where
         cases : (b : Bool) → is_eq (nat_cmp q x.0) ≡ b → found q m ≡ found q n
         cases true here =
             let same : q ≡ x.0 = nat_order.same q x.0 (is_equal (nat_cmp q x.0) here) in
             let none_m : found q m ≡ None = subst (λ k. found k m ≡ None) (sym same) (no_later x.0 m rise_m.0) in
-            let none_n : found q n ≡ None = subst (λ k. found k n ≡ None) (sym (same ∙ place)) (no_later y.0 n rise_n.0) in
+            let none_n : found q n ≡ None = subst (λ k. found k n ≡ None) (sym (same ∙ key)) (no_later y.0 n rise_n.0) in
             none_m ∙ sym none_n
         cases false away =
-            let also : is_eq (nat_cmp q y.0) ≡ false = ap (λ k. is_eq (nat_cmp q k)) (sym place) ∙ away in
+            let also : is_eq (nat_cmp q y.0) ≡ false = ap (λ k. is_eq (nat_cmp q k)) (sym key) ∙ away in
             sym (past q x m away) ∙ alike q ∙ past q y n also
 
 -- what is found, or what was before
@@ -224,7 +223,7 @@ or_else None y = y
 or_else (Some x) y = Some x
 
 -- a pair that is put in first is read after those put in later
-all_updated : (f : ℕ → Option PageHist) (run : MapPairs) (q : ℕ) → PlacesRise run → update_all (eq_by_cmp nat_cmp) f run q ≡ or_else (found q run) (f q)
+all_updated : (f : ℕ → Option PageHist) (run : MapPairs) (q : ℕ) → KeysAscend run → update_all (eq_by_cmp nat_cmp) f run q ≡ or_else (found q run) (f q)
 all_updated f [] q rise = refl
 all_updated f (e ∷ run) q rise = all_updated (update (eq_by_cmp nat_cmp) f e.0 (Some e.1)) run q rise.1 ∙ by_cases (nat_cmp e.0 q) _
     (λ less. let back : nat_cmp q e.0 ≡ Greater = flipped nat_cmp nat_order e.0 q Less less in rw (less, back) refl)
@@ -239,5 +238,5 @@ or_none : (x : Option PageHist) → or_else x None ≡ x
 or_none None = refl
 or_none (Some x) = refl
 
-pub made_of : (run : MapPairs) (n : BTreeMap ℕ PageHist) → PlacesRise run → IsFromIterResult nat_cmp run n → n.entries ≡ run
+pub made_of : (run : MapPairs) (n : BTreeMap ℕ PageHist) → KeysAscend run → IsFromIterResult nat_cmp run n → n.entries ≡ run
 made_of run n rise made = same_found n.entries run (keys_rise n.entries made.1) rise (λ q. made.0 q ∙ all_updated (λ k. None) run q rise ∙ or_none (found q run))

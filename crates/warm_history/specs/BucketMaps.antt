@@ -1,4 +1,4 @@
--- A map from places, stored as one map per bucket.
+-- A map from keys, stored as one map per bucket.
 use Rattle.std.specs.Prelude.{◌≡◌, ◌≢◌, ℕ, Bool, true, List, [], ◌∷◌, ◌++◌, ◌+◌, ◌≤◌, ◌<◌, length, ⊤, zero, suc, map, filter, Option, Some, None}
 use Rattle.std.specs.List.{AllByRecursion}
 use Rattle.std.specs.Map.{lookup}
@@ -6,11 +6,11 @@ use Rattle.std.specs.BTreeMap.{BTreeMap, is_at, insert_entry}
 use Rattle.std.specs.Ordering.{nat_cmp, on}
 use Rattle.warm_stamps.specs.Distinct.{IsAscending}
 use Rattle.warm_history.specs.declared.hist.PageHist.{PageHist}
-use Rattle.warm_history.specs.declared.bucket_maps.Known.{Known}
-use Rattle.warm_history.specs.declared.bucket_maps.TheConstants.{MOST}
+use Rattle.warm_history.specs.declared.bucket_maps.UndoNote.{UndoNote}
+use Rattle.warm_history.specs.declared.bucket_maps.TheConstants.{MAX_PAIRS}
 use Rattle.warm_history.specs.ListHistories.{latest_of, hist_stamps, known_stamps}
-use Rattle.warm_history.specs.Places.{first_key}
-use Rattle.warm_history.specs.Tree.{MapPairs}
+use Rattle.warm_history.specs.MapKeys.{first_key}
+use Rattle.warm_history.specs.MapPairs.{MapPairs}
 
 -- the pairs of all maps, one map after another
 abbrev pub all_pairs : List MapPairs → MapPairs
@@ -21,18 +21,18 @@ all_pairs (m ∷ ms) = m ++ all_pairs ms
 abbrev pub pairs_of_maps : List (BTreeMap ℕ PageHist) → List MapPairs
 pairs_of_maps ms = map (λ m. m.entries) ms
 
--- the place lies in the bucket of this number
+-- the key lies in the bucket of this number
 abbrev pub LiesIn : ℕ → ℕ → Type 0
-LiesIn bucket place = (first_key bucket ≤ place) × (place < first_key (bucket + 1))
+LiesIn bucket key = (first_key bucket ≤ key) × (key < first_key (bucket + 1))
 
--- each map has only places of its own bucket; the first map is that of the bucket of this number
+-- each map has only keys of its own bucket; the first map is that of the bucket of this number
 abbrev pub AreBuckets : ℕ → List MapPairs → Type 0
 AreBuckets bucket [] = ⊤
 AreBuckets bucket (m ∷ ms) = AllByRecursion (λ e. LiesIn bucket e.0) m × AreBuckets (bucket + 1) ms
 
 -- each map has so few pairs that the count of all 64 maps does not overflow
 abbrev pub AreSmall : List MapPairs → Type 0
-AreSmall ms = AllByRecursion (λ m. length m < MOST) ms
+AreSmall ms = AllByRecursion (λ m. length m < MAX_PAIRS) ms
 
 -- the map of number i, or no pairs where there is none
 abbrev pub map_at : List MapPairs → ℕ → MapPairs
@@ -46,11 +46,11 @@ with_map [] i n = []
 with_map (m ∷ ms) zero n = n ∷ ms
 with_map (m ∷ ms) (suc i) n = m ∷ with_map ms i n
 
--- the test passes for places of this bucket alone
+-- the test passes for keys of this bucket alone
 abbrev pub PassesIn : ℕ → (ℕ → Bool) → Type 0
-PassesIn bucket test = (place : ℕ) → test place ≡ true → LiesIn bucket place
+PassesIn bucket test = (key : ℕ) → test key ≡ true → LiesIn bucket key
 
--- the map has what the pairs have at places of this bucket: a test that only such places pass
+-- the map has what the pairs have at keys of this bucket: a test that only such keys pass
 -- selects the same pairs of both
 abbrev pub HoldsBucket : ℕ → MapPairs → MapPairs → Type 0
 HoldsBucket bucket m pairs = (test : ℕ → Bool) → PassesIn bucket test → filter (λ e. test e.0) m ≡ filter (λ e. test e.0) pairs
@@ -59,25 +59,25 @@ HoldsBucket bucket m pairs = (test : ℕ → Bool) → PassesIn bucket test → 
 abbrev pub pairs_left : MapPairs → List (BTreeMap ℕ PageHist) → MapPairs
 pairs_left here rest = here ++ all_pairs (pairs_of_maps rest)
 
--- the pairs lie at rising places
-abbrev pub PlacesRise : MapPairs → Type 0
-PlacesRise pairs = IsAscending (on (λ e. e.0) nat_cmp) pairs
+-- the pairs lie at rising keys
+abbrev pub KeysAscend : MapPairs → Type 0
+KeysAscend pairs = IsAscending (on (λ e. e.0) nat_cmp) pairs
 
--- the value that the pairs have at the place
+-- the value that the pairs have at the key
 abbrev pub found : ℕ → MapPairs → Option PageHist
-found place pairs = lookup (is_at (nat_cmp place)) pairs
+found key pairs = lookup (is_at (nat_cmp key)) pairs
 
--- the note gives the pairs' old value at the place, where h is the new one and differs; without a
+-- the note gives the pairs' old value at the key, where h is the new one and differs; without a
 -- note the pairs are unchanged
-abbrev pub IsNote : Option Known → ℕ → PageHist → MapPairs → MapPairs → Type 0
-IsNote None place h old new = new ≡ old
-IsNote (Some k) place h old new = (k.place ≡ place) × (k.hist ≡ found place old) × (k.hist ≢ Some h)
+abbrev pub IsUndoNote : Option UndoNote → ℕ → PageHist → MapPairs → MapPairs → Type 0
+IsUndoNote None key h old new = new ≡ old
+IsUndoNote (Some k) key h old new = (k.key ≡ key) × (k.hist ≡ found key old) × (k.hist ≢ Some h)
 
--- new are the pairs old, with the two latest of the stamps there and those of `more` at the place
-abbrev pub Records : MapPairs → ℕ → PageHist → Option Known → MapPairs → Type 0
-Records old place more note new = (h : PageHist) × (Some h ≡ latest_of (hist_stamps more ++ known_stamps (found place old))) × (new ≡ insert_entry nat_cmp old place h) × IsNote note place h old new
+-- new are the pairs old, with the two latest of the stamps there and those of `more` at the key
+abbrev pub RecordsStamps : MapPairs → ℕ → PageHist → Option UndoNote → MapPairs → Type 0
+RecordsStamps old key more note new = (h : PageHist) × (Some h ≡ latest_of (hist_stamps more ++ known_stamps (found key old))) × (new ≡ insert_entry nat_cmp old key h) × IsUndoNote note key h old new
 
--- the value at the place has changed, if there is a note; without a note the pairs are unchanged
-abbrev pub SaysNote : Option Known → ℕ → MapPairs → MapPairs → Type 0
-SaysNote None place old new = new ≡ old
-SaysNote (Some k) place old new = found place new ≢ found place old
+-- the value at the key has changed, if there is a note; without a note the pairs are unchanged
+abbrev pub SaysNote : Option UndoNote → ℕ → MapPairs → MapPairs → Type 0
+SaysNote None key old new = new ≡ old
+SaysNote (Some k) key old new = found key new ≢ found key old

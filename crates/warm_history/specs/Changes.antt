@@ -1,5 +1,4 @@
--- Which buckets change from one list of entries to another. A set of buckets is a number of 64 bits: bit b, of value 2^b, is set where bucket b is
--- in the set.
+-- Which buckets change from one list of entries to another.
 use Rattle.std.specs.Prelude.{◌≡◌, ◌≢◌, ℕ, ◌<◌, List}
 use Rattle.std.specs.Int.{bit_at}
 use Rattle.warm_stamps.specs.declared.TheConstants.{BUCKETS}

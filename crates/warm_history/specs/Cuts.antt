@@ -4,7 +4,7 @@ use Rattle.std.specs.List.{filter_map}
 use Rattle.std.specs.Option.{option_map}
 use Rattle.warm_history.specs.declared.hist.PageHist.{PageHist}
 use Rattle.warm_history.specs.KeptEntries.{kept_hist}
-use Rattle.warm_history.specs.Tree.{MapPairs}
+use Rattle.warm_history.specs.MapPairs.{MapPairs}
 
 -- the rest of a pair after the cut, if any
 abbrev pub cut_pair : ℕ → ℕ × PageHist → Option (ℕ × PageHist)

@@ -8,8 +8,8 @@ pub mod Losses
 pub mod Laws
 pub mod References
 pub mod LatestTwo
-pub mod Places
-pub mod Tree
+pub mod MapKeys
+pub mod MapPairs
 pub mod BucketMaps
 pub mod Runs
 pub mod Merges

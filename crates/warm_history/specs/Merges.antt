@@ -5,10 +5,10 @@ use Rattle.warm_stamps.specs.declared.PageId.{PageId}
 use Rattle.warm_stamps.specs.Stamps.{page_cmp}
 use Rattle.warm_stamps.specs.Buckets.{page_bucket}
 use Rattle.warm_history.specs.declared.hist.Entry.{Entry}
-use Rattle.warm_history.specs.declared.merges.Part.{Part}
-use Rattle.warm_history.specs.declared.merges.Merged.{Merged}
+use Rattle.warm_history.specs.declared.merge_iter.BucketIter.{BucketIter}
+use Rattle.warm_history.specs.declared.merge_iter.MergeIter.{MergeIter}
 use Rattle.warm_history.specs.Carried.{is_next_in_bucket}
-use Rattle.warm_history.specs.Tree.{as_entries}
+use Rattle.warm_history.specs.MapPairs.{as_entries}
 
 -- the entries of a bucket whose page is greater than the given one, if one is given
 abbrev pub later_of_bucket : ℕ → Option PageId → List Entry → List Entry
@@ -55,8 +55,8 @@ from_first None later = []
 from_first (Some e) later = e ∷ later
 
 -- the entries left in a part
-abbrev pub part_left : Part → List Entry
-part_left p = from_first p.first (as_entries p.later)
+abbrev pub bucket_iter_left : BucketIter → List Entry
+bucket_iter_left p = from_first p.first (as_entries p.later)
 
 -- the entries left in two sources, merged
 abbrev pub both_left : {I : Type 0} → (I → List Entry) → List I → List Entry
@@ -64,24 +64,24 @@ both_left left (one ∷ other ∷ []) = merge (left one) (left other)
 both_left left others = []
 
 -- the entries left in a merged pair of sources
-abbrev pub merged_left : {I : Type 0} → (I → List Entry) → Merged I → List Entry
-merged_left left m = from_first m.first (both_left left m.both)
+abbrev pub merge_iter_left : {I : Type 0} → (I → List Entry) → MergeIter I → List Entry
+merge_iter_left left m = from_first m.first (both_left left m.both)
 
 -- the entries left in 2, 4, 8, 16, 32 and all 64 parts
-abbrev pub two_left : Merged Part → List Entry
-two_left = merged_left part_left
+abbrev pub two_left : MergeIter BucketIter → List Entry
+two_left = merge_iter_left bucket_iter_left
 
-abbrev pub four_left : Merged (Merged Part) → List Entry
-four_left = merged_left two_left
+abbrev pub four_left : MergeIter (MergeIter BucketIter) → List Entry
+four_left = merge_iter_left two_left
 
-abbrev pub eight_left : Merged (Merged (Merged Part)) → List Entry
-eight_left = merged_left four_left
+abbrev pub eight_left : MergeIter (MergeIter (MergeIter BucketIter)) → List Entry
+eight_left = merge_iter_left four_left
 
-abbrev pub sixteen_left : Merged (Merged (Merged (Merged Part))) → List Entry
-sixteen_left = merged_left eight_left
+abbrev pub sixteen_left : MergeIter (MergeIter (MergeIter (MergeIter BucketIter))) → List Entry
+sixteen_left = merge_iter_left eight_left
 
-abbrev pub thirty_two_left : Merged (Merged (Merged (Merged (Merged Part)))) → List Entry
-thirty_two_left = merged_left sixteen_left
+abbrev pub thirty_two_left : MergeIter (MergeIter (MergeIter (MergeIter (MergeIter BucketIter)))) → List Entry
+thirty_two_left = merge_iter_left sixteen_left
 
-abbrev pub all_left : Merged (Merged (Merged (Merged (Merged (Merged Part))))) → List Entry
-all_left = merged_left thirty_two_left
+abbrev pub all_left : MergeIter (MergeIter (MergeIter (MergeIter (MergeIter (MergeIter BucketIter))))) → List Entry
+all_left = merge_iter_left thirty_two_left

@@ -1,15 +1,16 @@
--- Runs: entries of one bucket at rising places. Where a bucket has no entries, the pairs of a run fill its map at once.
+-- Runs: entries of one bucket at rising keys. Where a bucket has no entries, the pairs of a run
+-- fill its map at once.
 use Rattle.std.specs.Prelude.{◌≡◌, ℕ, List, [], ◌∷◌, ◌++◌, ◌+◌, ◌≤◌, ◌<◌, ⊤, filter, Option, Some, None}
 use Rattle.std.specs.BTreeMap.{insert_entry}
 use Rattle.std.specs.Ordering.{nat_cmp}
 use Rattle.warm_history.specs.declared.hist.PageHist.{PageHist}
 use Rattle.warm_history.specs.declared.hist.Entry.{Entry}
 use Rattle.warm_history.specs.ListHistories.{latest_of, hist_stamps}
-use Rattle.warm_history.specs.Places.{first_key, key_of_page, page_of_key}
+use Rattle.warm_history.specs.MapKeys.{first_key, key_of_page, page_of_key}
 use Rattle.warm_history.specs.ReferenceSets.{is_kept}
-use Rattle.warm_history.specs.Tree.{MapPairs}
+use Rattle.warm_history.specs.MapPairs.{MapPairs}
 
--- the entries are at rising places, all from the first of these on and before the other
+-- the entries are at rising keys, all from the first of these on and before the other
 abbrev pub RiseWithin : ℕ → ℕ → List Entry → Type 0
 RiseWithin from to [] = ⊤
 RiseWithin from to (e ∷ es) = (from ≤ key_of_page e.page) × (key_of_page e.page < to) × (page_of_key (key_of_page e.page) ≡ e.page) × RiseWithin (key_of_page e.page + 1) to es
@@ -18,14 +19,14 @@ RiseWithin from to (e ∷ es) = (from ≤ key_of_page e.page) × (key_of_page e.
 abbrev pub IsRun : ℕ → List Entry → Type 0
 IsRun number es = RiseWithin (first_key number) (first_key (number + 1)) es
 
--- the pair of a place, if there is a value
-abbrev pub at_place : ℕ → Option PageHist → MapPairs
-at_place place None = []
-at_place place (Some h) = (place, h) ∷ []
+-- the pair of a key, if there is a value
+abbrev pub at_key : ℕ → Option PageHist → MapPairs
+at_key key None = []
+at_key key (Some h) = (key, h) ∷ []
 
 -- the pair of an entry without the stamps older than the horizon, if any is left
 abbrev pub pair_of_entry : ℕ → Entry → MapPairs
-pair_of_entry horizon e = at_place (key_of_page e.page) (latest_of (filter (is_kept horizon) (hist_stamps e.hist)))
+pair_of_entry horizon e = at_key (key_of_page e.page) (latest_of (filter (is_kept horizon) (hist_stamps e.hist)))
 
 -- the pairs of entries
 abbrev pub run_pairs : ℕ → List Entry → MapPairs

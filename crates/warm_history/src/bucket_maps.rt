@@ -1,18 +1,18 @@
-//! A map from places, stored as one map per bucket, so that each look-up searches a small map.
+//! A map from keys, stored as one map per bucket, so that each look-up searches a small map.
 ghost use Rattle.std.specs.Iterator.{YieldsFirst};
 ghost use Rattle.std.specs.Prelude.{◌≡◌, ◌≢◌, ◌+◌, ◌<◌, ◌≤◌, ◌^◌, [], length, map, OnOk, OnErr, IfOk, IfSome, IfNone, IsTrue, None, Some, ◌++◌};
 ghost use Rattle.std.specs.List.{AllByRecursion};
 ghost use Rattle.warm_history.specs.ListHistories.{known_stamps, latest_of, hist_stamps};
-ghost use Rattle.warm_history.specs.Places.{IsMapKey};
+ghost use Rattle.warm_history.specs.MapKeys.{IsMapKey};
 ghost use Rattle.warm_history.specs.Cuts.{cut_at};
 ghost use Rattle.warm_stamps.specs.declared.TheConstants.{BUCKETS};
-ghost use Rattle.warm_history.specs.Tree.{AreKept, TakesStamps};
-ghost use Rattle.warm_history.specs.BucketMaps.{all_pairs, pairs_of_maps, pairs_left, HoldsBucket, LiesIn, PlacesRise, Records, SaysNote, found};
+ghost use Rattle.warm_history.specs.MapPairs.{AreKept, TakesStamps};
+ghost use Rattle.warm_history.specs.BucketMaps.{all_pairs, pairs_of_maps, pairs_left, HoldsBucket, LiesIn, KeysAscend, RecordsStamps, SaysNote, found};
 ghost use Rattle.warm_history.specs.Runs.{with_pairs};
-ghost use Rattle.warm_history.specs.Undo.{put_back, noted, Undoes};
+ghost use Rattle.warm_history.specs.Undo.{put_back, notes_of, Undoes};
 
-use crate::hist::{PageHist, join_hist, join_known, keep_since};
-use crate::place::bucket_at;
+use crate::hist::{PageHist, join_hist, keep_cut, prove_two_latest};
+use crate::map_key::bucket_of_key;
 use std::alloc::{AllocError, Global};
 use std::array;
 use std::collections::BTreeMap;
@@ -24,18 +24,18 @@ use warm_stamps::BUCKETS;
 // The number of maps.
 const MAPS: usize = BUCKETS as usize;
 
-// Each map has fewer pairs than this, so that the count of all pairs does not overflow. No memory
-// holds as many.
-pub(crate) const MOST: usize = 288_230_376_151_711_744;
+// Each map has fewer pairs than this, 2^58, so that the count of all pairs does not overflow. No
+// memory holds as many.
+pub(crate) const MAX_PAIRS: usize = 1 << 58;
 
-// The value at a place before it changed.
+// The value at a key before it changed.
 #[derive(Debug, Clone, Copy)]
-pub(crate) struct Known {
-    place: u128,
+pub(crate) struct UndoNote {
+    key: u128,
     pub(crate) hist: Option<PageHist>,
 }
 
-// The values at places, in the order of the places: one map per bucket.
+// The values at keys, in the order of the keys: one map per bucket.
 #[derive(Debug, Drop)]
 pub(crate) struct BucketMaps {
     maps: [BTreeMap<u128, PageHist>; MAPS],
@@ -44,7 +44,7 @@ pub(crate) struct BucketMaps {
 impl Model for BucketMaps {
     ghost use Rattle.std.specs.Prelude.{◌≡◌, length};
     ghost use Rattle.warm_stamps.specs.declared.TheConstants.{BUCKETS};
-    ghost use Rattle.warm_history.specs.Tree.{MapPairs};
+    ghost use Rattle.warm_history.specs.MapPairs.{MapPairs};
     ghost use Rattle.warm_history.specs.BucketMaps.{all_pairs, AreBuckets, AreSmall, pairs_of_maps};
 
     ghost Value = { MapPairs };
@@ -65,7 +65,7 @@ impl BucketMaps {
         }
     }
 
-    // The number of places that have a value.
+    // The number of keys that have a value.
     pub(crate) fn len(&self) -> usize
         ensures { result ≡ length self.now }
     {
@@ -101,37 +101,37 @@ impl BucketMaps {
         }
     }
 
-    // The value at a place.
-    pub(crate) fn get(&self, place: u128) -> Option<PageHist>
-        requires { IsMapKey place }
-        ensures { result ≡ found place self.now }
+    // The value at a key.
+    pub(crate) fn get(&self, key: u128) -> Option<PageHist>
+        requires { IsMapKey key }
+        ensures { result ≡ found key self.now }
     {
-        self.maps[bucket_at(place)].get(&place).copied()
+        self.maps[bucket_of_key(key)].get(&key).copied()
     }
 
-    // Takes in the given stamps of the page at a place, and returns its old value where that
+    // Takes in the given stamps of the page at a key, and returns its old value where that
     // changes.
     //
     // Where the page is likely new it inserts first, and otherwise it looks the page up first: each
     // is the faster way for its case.
     pub(crate) fn record(
         &mut self,
-        place: u128,
+        key: u128,
         more: PageHist,
         likely_new: bool,
-    ) -> Result<Option<Known>, AllocError>
-        requires place { IsMapKey place }
+    ) -> Result<Option<UndoNote>, AllocError>
+        requires key { IsMapKey key }
         requires kept { AreKept self.old }
-        ensures exact { OnOk result (TakesStamps self.old place more self.new) }
+        ensures exact { OnOk result (TakesStamps self.old key more self.new) }
         ensures whole { AreKept self.new }
-        ensures undo { IfOk result (λ note. Undoes (noted note) self.new self.old) }
-        ensures tells { IfOk result (λ note. SaysNote note place self.old self.new) }
+        ensures undo { IfOk result (λ note. Undoes (notes_of note) self.new self.old) }
+        ensures tells { IfOk result (λ note. SaysNote note key self.old self.new) }
         ensures err { OnErr result (self.new ≡ self.old) }
     {
-        record_in(&mut self.maps[bucket_at(place)], place, more, likely_new)
+        record_in(&mut self.maps[bucket_of_key(key)], key, more, likely_new)
     }
 
-    // Whether no place of the bucket of this number has a value. Allocation-free.
+    // Whether no key of the bucket of this number has a value. Allocation-free.
     pub(crate) fn is_free(&self, number: u8) -> bool
         requires { number < BUCKETS }
         ensures { IsTrue result → HoldsBucket number [] self.now }
@@ -139,7 +139,7 @@ impl BucketMaps {
         self.map_of(number).is_empty()
     }
 
-    // Makes pairs at rising places the map of the bucket of this number, which has none: they are
+    // Makes pairs at rising keys the map of the bucket of this number, which has none: they are
     // not inserted one after the other.
     pub(crate) fn fill(
         &mut self,
@@ -149,7 +149,7 @@ impl BucketMaps {
     ) -> Result<(), AllocError>
         requires number { number < BUCKETS }
         requires free { HoldsBucket number [] self.old }
-        requires rise { PlacesRise pairs.items }
+        requires rise { KeysAscend pairs.items }
         requires inside { AllByRecursion (λ e. LiesIn number e.0) pairs.items }
         ensures ok { OnOk result (self.new ≡ with_pairs self.old pairs.items) }
         ensures err { OnErr result (self.new ≡ self.old) }
@@ -160,12 +160,12 @@ impl BucketMaps {
     }
 
     // Restores the old value of a page. Allocation-free.
-    pub(crate) fn put_back(&mut self, known: Known)
-        ensures { self.new ≡ put_back known.place known.hist self.old }
+    pub(crate) fn put_back(&mut self, note: UndoNote)
+        ensures { self.new ≡ put_back note.key note.hist self.old }
     {
-        let bucket = bucket_at(known.place);
+        let bucket = bucket_of_key(note.key);
         if bucket < self.maps.len() {
-            put_back_in(&mut self.maps[bucket], known);
+            put_back_in(&mut self.maps[bucket], note);
         }
     }
 
@@ -185,7 +185,7 @@ pub(crate) struct EachPair<'a> {
 }
 
 impl<'a> Model for EachPair<'a> {
-    ghost use Rattle.warm_history.specs.Tree.{MapPairs};
+    ghost use Rattle.warm_history.specs.MapPairs.{MapPairs};
     ghost use Rattle.warm_history.specs.BucketMaps.{pairs_left};
 
     ghost Value = { MapPairs };
@@ -216,8 +216,8 @@ fn next_pair<'a>(
         (pairs_left here.old rest.old.now) result (pairs_left here.new rest.new.now) }
 {
     loop {
-        if let Some((place, hist)) = here.next() {
-            return Some((*place, *hist));
+        if let Some((key, hist)) = here.next() {
+            return Some((*key, *hist));
         }
         let (map, later) = rest.split_first()?;
         *here = map.range(..);
@@ -237,103 +237,98 @@ fn count_all(maps: &[BTreeMap<u128, PageHist>]) -> usize
     count
 }
 
-// The map of pairs at rising places. All its nodes are full, but for the last ones.
+// The map of pairs at rising keys. All its nodes are full, but for the last ones.
 fn map_from(
     alloc: Global,
     pairs: Vec<(u128, PageHist)>,
 ) -> Result<BTreeMap<u128, PageHist>, AllocError>
-    requires { PlacesRise pairs.items }
+    requires { KeysAscend pairs.items }
     ensures same { IfOk result (λ map. map.entries ≡ pairs.items) }
-    ensures small { IfOk result (λ map. length map.entries < MOST) }
+    ensures small { IfOk result (λ map. length map.entries < MAX_PAIRS) }
 {
-    if pairs.len() >= MOST {
+    if pairs.len() >= MAX_PAIRS {
         return Err(AllocError);
     }
+    // Not returned as it comes: the proof takes success and failure apart here.
     let map = BTreeMap::from_iter(alloc, pairs)?;
     Ok(map)
 }
 
-// Takes in the given stamps of the page at a place of the map's own bucket.
+// Takes in the given stamps of the page at a key of the map's own bucket.
 fn record_in(
     map: &mut BTreeMap<u128, PageHist>,
-    place: u128,
+    key: u128,
     more: PageHist,
     likely_new: bool,
-) -> Result<Option<Known>, AllocError>
-    requires { PlacesRise map.old.entries }
-    ensures ok { IfOk result (λ note. Records map.old.entries place more note map.new.entries) }
+) -> Result<Option<UndoNote>, AllocError>
+    requires { KeysAscend map.old.entries }
+    ensures ok { IfOk result (λ note. RecordsStamps map.old.entries key more note map.new.entries) }
     ensures err { OnErr result (map.new.entries ≡ map.old.entries) }
-    ensures small { length map.old.entries < MOST → length map.new.entries < MOST }
+    ensures small { length map.old.entries < MAX_PAIRS → length map.new.entries < MAX_PAIRS }
 {
-    if likely_new && map.len() < MOST - 1 {
-        return record_likely_new(map, place, more);
+    if likely_new && map.len() < MAX_PAIRS - 1 {
+        return record_likely_new(map, key, more);
     }
-    record_likely_known(map, place, more)
+    record_likely_known(map, key, more)
 }
 
 // The same for a page that is likely new: it is inserted at once, which costs one descent of the
 // map where it is new and two where it is known.
 fn record_likely_new(
     map: &mut BTreeMap<u128, PageHist>,
-    place: u128,
+    key: u128,
     more: PageHist,
-) -> Result<Option<Known>, AllocError>
-    requires rise { PlacesRise map.old.entries }
-    requires few { length map.old.entries + 1 < MOST }
-    ensures ok { IfOk result (λ note. Records map.old.entries place more note map.new.entries) }
+) -> Result<Option<UndoNote>, AllocError>
+    requires rise { KeysAscend map.old.entries }
+    requires few { length map.old.entries + 1 < MAX_PAIRS }
+    ensures ok { IfOk result (λ note. RecordsStamps map.old.entries key more note map.new.entries) }
     ensures err { OnErr result (map.new.entries ≡ map.old.entries) }
-    ensures small { length map.new.entries < MOST }
+    ensures small { length map.new.entries < MAX_PAIRS }
 {
-    let Some(before) = map.insert(place, alone(&more))? else {
-        return Ok(Some(Known { place, hist: None }));
+    prove_two_latest(&more);
+    let Some(before) = map.insert(key, more)? else {
+        return Ok(Some(UndoNote { key, hist: None }));
     };
-    let Some(known) = map.get_mut(&place) else {
+    let Some(known) = map.get_mut(&key) else {
         unreachable!()
     };
     *known = before;
-    let Some(before) = raise(known, more) else {
+    let Some(before) = merge_into(known, more) else {
         return Ok(None);
     };
     let hist = Some(before);
-    Ok(Some(Known { place, hist }))
+    Ok(Some(UndoNote { key, hist }))
 }
 
 // The same for a page that is likely known: it is looked up first, which costs one descent of the
 // map where it is known and two where it is new.
 fn record_likely_known(
     map: &mut BTreeMap<u128, PageHist>,
-    place: u128,
+    key: u128,
     more: PageHist,
-) -> Result<Option<Known>, AllocError>
-    requires { PlacesRise map.old.entries }
-    ensures ok { IfOk result (λ note. Records map.old.entries place more note map.new.entries) }
+) -> Result<Option<UndoNote>, AllocError>
+    requires { KeysAscend map.old.entries }
+    ensures ok { IfOk result (λ note. RecordsStamps map.old.entries key more note map.new.entries) }
     ensures err { OnErr result (map.new.entries ≡ map.old.entries) }
-    ensures small { length map.old.entries < MOST → length map.new.entries < MOST }
+    ensures small { length map.old.entries < MAX_PAIRS → length map.new.entries < MAX_PAIRS }
 {
-    if let Some(known) = map.get_mut(&place) {
-        let Some(before) = raise(known, more) else {
+    if let Some(known) = map.get_mut(&key) {
+        let Some(before) = merge_into(known, more) else {
             return Ok(None);
         };
         let hist = Some(before);
-        return Ok(Some(Known { place, hist }));
+        return Ok(Some(UndoNote { key, hist }));
     }
-    if map.len() >= MOST - 1 {
+    if map.len() >= MAX_PAIRS - 1 {
         return Err(AllocError);
     }
-    let hist = join_known(None, more);
-    map.insert(place, hist)?;
-    Ok(Some(Known { place, hist: None }))
-}
-
-// The two latest of these stamps, of a page that has no entry yet.
-pub(crate) fn alone(more: &PageHist) -> PageHist
-    ensures { Some result ≡ latest_of (hist_stamps more.now ++ known_stamps None) }
-{
-    join_known(None, *more)
+    prove_two_latest(&more);
+    map.insert(key, more)?;
+    Ok(Some(UndoNote { key, hist: None }))
 }
 
 // Merges more stamps into the value of a page, and returns the old value where it changes.
-fn raise(known: &mut PageHist, more: PageHist) -> Option<PageHist>
+fn merge_into(known: &mut PageHist, more: PageHist) -> Option<PageHist>
     ensures now { Some known.new ≡ latest_of (hist_stamps more ++ hist_stamps known.old) }
     ensures before { IfSome result (λ h. h ≡ known.old) }
     ensures differs { IfSome result (λ h. h ≢ known.new) }
@@ -359,19 +354,19 @@ fn forget_all(maps: &mut [BTreeMap<u128, PageHist>], horizon: u64)
 fn forget_in(map: &mut BTreeMap<u128, PageHist>, horizon: u64)
     ensures { map.new.entries ≡ cut_at horizon map.old.entries }
 {
-    map.retain(|_, hist| keep_since(hist, horizon));
+    map.retain(|_, hist| keep_cut(hist, horizon));
 }
 
-fn put_back_in(map: &mut BTreeMap<u128, PageHist>, known: Known)
-    ensures { map.new.entries ≡ put_back known.place known.hist map.old.entries }
+fn put_back_in(map: &mut BTreeMap<u128, PageHist>, note: UndoNote)
+    ensures { map.new.entries ≡ put_back note.key note.hist map.old.entries }
 {
-    let place = known.place;
-    match known.hist {
+    let key = note.key;
+    match note.hist {
         None => {
-            let _ = map.remove(&place);
+            let _ = map.remove(&key);
         }
         Some(hist) => {
-            if let Some(now) = map.get_mut(&place) {
+            if let Some(now) = map.get_mut(&key) {
                 *now = hist;
             }
         }

@@ -2,10 +2,11 @@
 ghost use Rattle.std.specs.Prelude.{◌≡◌, ◌↔◌, [], ◌∷◌, ◌++◌, filter, cond, IsTrue};
 ghost use Rattle.warm_history.specs.ListHistories.{latest_of, hist_stamps, known_stamps};
 ghost use Rattle.warm_history.specs.ReferenceSets.{is_kept};
-ghost use Rattle.warm_history.specs.Histories.{IsKept};
+ghost use Rattle.warm_history.specs.Histories.{IsKept, PagesAscend};
 ghost use Rattle.warm_history.specs.KeptEntries.{kept_hist};
 ghost use Rattle.warm_stamps.specs.Stamps.{stamp_cmp};
 
+use crate::laws::prove_stamps_descend;
 use std::cmp::Ordering;
 use std::marker::Model;
 use warm_stamps::{PageId, Stamp};
@@ -107,7 +108,7 @@ impl PageHist {
     }
 
     // The two latest of these stamps and two more.
-    #[tactic(auto, using(crate::proofs::PlaceLemmas::latest_of_more))]
+    #[tactic(auto, using(crate::proofs::EntryLemmas::latest_of_more))]
     fn with_both(self, two: Two) -> PageHist
         ensures { Some result ≡ latest_of (two.last ∷ two.prev ∷ hist_stamps self) }
     {
@@ -115,7 +116,7 @@ impl PageHist {
     }
 
     // These stamps without those older than the horizon, if any is left.
-    pub(crate) fn since(self, horizon: u64) -> Option<PageHist>
+    pub(crate) fn cut_before(self, horizon: u64) -> Option<PageHist>
         ensures left { result ≡ kept_hist horizon self }
         ensures stamps { known_stamps result ≡ filter (is_kept horizon) (hist_stamps self) }
     {
@@ -126,13 +127,12 @@ impl PageHist {
                 }
                 Some(PageHist::Once(last))
             }
-            PageHist::Twice(two) => since_both(two, horizon),
+            PageHist::Twice(two) => cut_both(two, horizon),
         }
     }
 
-    // Whether none of these stamps is older than the horizon: the second latest stamp is the older
-    // one.
-    pub(crate) fn is_since(self, horizon: u64) -> bool
+    // Whether none of these stamps is before the horizon: the second latest stamp is the older one.
+    pub(crate) fn none_before(self, horizon: u64) -> bool
         ensures { IsTrue result ↔ IsKept horizon self }
     {
         match self {
@@ -153,8 +153,25 @@ pub fn join_hist(a: PageHist, b: PageHist) -> PageHist
     }
 }
 
+/// Whether the pages of the entries rise, each above the one before it. Allocation-free.
+pub fn is_sorted_by_page(entries: &[Entry]) -> bool
+    ensures { IsTrue result ↔ PagesAscend entries.now }
+{
+    let Some((mut last, mut rest)) = entries.split_first() else {
+        return true;
+    };
+    while let Some((next, later)) = rest.split_first() {
+        let Ordering::Less = last.page.cmp(&next.page) else {
+            return false;
+        };
+        last = next;
+        rest = later;
+    }
+    true
+}
+
 // Both stamps without those older than the horizon, if any is left.
-fn since_both(two: Two, horizon: u64) -> Option<PageHist>
+fn cut_both(two: Two, horizon: u64) -> Option<PageHist>
     ensures left { result ≡ kept_hist horizon (PageHist.Twice two) }
     ensures stamps { known_stamps result ≡ filter (is_kept horizon) (two.last ∷ two.prev ∷ []) }
 {
@@ -170,25 +187,22 @@ fn since_both(two: Two, horizon: u64) -> Option<PageHist>
 }
 
 // Forgets the stamps older than the horizon, and returns whether one is left.
-pub(crate) fn keep_since(hist: &mut PageHist, horizon: u64) -> bool
+pub(crate) fn keep_cut(hist: &mut PageHist, horizon: u64) -> bool
     ensures { cond result (Some hist.new) None ≡ kept_hist horizon hist.old }
 {
-    let Some(left) = hist.since(horizon) else {
+    let Some(left) = hist.cut_before(horizon) else {
         return false;
     };
     *hist = left;
     true
 }
 
-// The two latest stamps of a page's known stamps, if there are any, and more.
-pub(crate) fn join_known(known: Option<PageHist>, more: PageHist) -> PageHist
-    ensures { Some result ≡ latest_of (hist_stamps more ++ known_stamps known) }
+// The stamps of a page's history descend, so they are the two latest of themselves. It costs
+// nothing at run time.
+pub(crate) fn prove_two_latest(more: &PageHist)
+    ensures { Some more.now ≡ latest_of (hist_stamps more.now ++ known_stamps None) }
 {
-    match known {
-        None => match more {
-            PageHist::Once(last) => PageHist::Once(last),
-            PageHist::Twice(two) => PageHist::Once(two.prev()).with(two.last()),
-        },
-        Some(known) => join_hist(more, known),
+    if let PageHist::Twice(two) = *more {
+        prove_stamps_descend(two);
     }
 }

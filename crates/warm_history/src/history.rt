@@ -1,5 +1,5 @@
-//! Histories, stored as maps from places: the entries of a bucket lie together.
-ghost use Rattle.std.specs.Prelude.{◌≡◌, ◌≤◌, [], false, length, max, OnOk, OnErr, IfOk, IsPermutation, IsTrue, slice_get, take};
+//! Histories, stored as maps from keys: the entries of a bucket lie together.
+ghost use Rattle.std.specs.Prelude.{◌≡◌, ◌↔◌, ◌≤◌, [], false, length, OnOk, OnErr, IfOk, IsPermutation, IsTrue, slice_get, take};
 ghost use Rattle.warm_history.specs.ReferenceSets.{ReferenceSet, set_of_list, with_horizon, ◌∪◌};
 ghost use Rattle.warm_history.specs.Histories.{entries_of, history_of_entries, history_of_entries_at, hist, references_of, history, join, StandsFor, TakesIn, IsHistory};
 ghost use Rattle.warm_history.specs.Carried.{AreCarried, bucket_entries};
@@ -8,18 +8,16 @@ ghost use Rattle.warm_history.specs.Changes.{MarksChanged};
 ghost use Rattle.warm_history.specs.Merges.{later_of_bucket};
 
 use crate::bucket_maps::{BucketMaps, EachPair};
+use crate::cut::{CutEntries, losing, none_older};
 use crate::hist::{Entry, PageHist};
-use crate::losses::losing;
-use crate::merges::{AllParts, Source, all_parts};
-use crate::parts::{later_pairs, next_entry};
-use crate::place::page_at;
-use crate::since::{CutEntries, none_older};
-use crate::tree::{known_of, raise, take_entries, take_pairs, take_references};
+use crate::map_key::page_of_key;
+use crate::merge_iter::{MergedEntries, Source, later_pairs, merged_entries, next_entry};
+use crate::take_in::{lookup, raise, take_entries, take_pairs, take_references};
 use std::alloc::{AllocError, Global};
 use std::collections::btree_map::Range;
 use std::fmt;
 use std::marker::Model;
-use warm_stamps::{Bucket, PageId, Reference};
+use warm_stamps::{Bucket, BucketSet, PageId, Reference};
 
 /// The two latest stamps of every page that was referenced.
 ///
@@ -54,7 +52,7 @@ impl Drop for History {
 
 impl Model for History {
     ghost use Rattle.warm_history.specs.Histories.{HistoryView, history_of_entries_at, NoneOlder};
-    ghost use Rattle.warm_history.specs.Tree.{kept, AreKept};
+    ghost use Rattle.warm_history.specs.MapPairs.{kept, AreKept};
 
     ghost Value = { HistoryView };
 
@@ -104,6 +102,13 @@ impl History {
         self.maps.len()
     }
 
+    /// Whether no page has an entry. Allocation-free.
+    pub fn is_empty(&self) -> bool
+        ensures { IsTrue result ↔ entries_of self.now ≡ [] }
+    {
+        self.len() == 0
+    }
+
     /// The entry of index `i` in page order, counted from 0, where there is one. Allocation-free.
     ///
     /// It steps over the `i` entries before it, as [`History::iter`] does: to visit all entries,
@@ -123,7 +128,7 @@ impl History {
         ensures { result ≡ entries_of self.now }
     {
         Entries {
-            left: all_parts(&self.maps),
+            left: merged_entries(&self.maps),
         }
     }
 
@@ -145,7 +150,7 @@ impl History {
     pub fn bucket_at_horizon(&self, bucket: Bucket, horizon: u64) -> CutEntries<'_>
         ensures { result ≡ bucket_at_horizon horizon bucket self.now }
     {
-        CutEntries::new(self.bucket(bucket), later(self.horizon, horizon))
+        CutEntries::new(self.bucket(bucket), self.horizon.max(horizon))
     }
 
     /// Whether the entries of a bucket would change at a horizon: one of them has an older stamp.
@@ -163,11 +168,10 @@ impl History {
         !none_older(self.bucket(bucket), horizon)
     }
 
-    /// The buckets whose entries would change at a horizon, as a set: bit b, of value 2^b, is set
-    /// for bucket b. Allocation-free.
+    /// The buckets whose entries would change at a horizon. Allocation-free.
     ///
     /// It costs what [`History::loses`] costs for each bucket.
-    pub fn losing(&self, horizon: u64) -> u64
+    pub fn losing(&self, horizon: u64) -> BucketSet
         ensures lost { MarksLosing horizon self.now result }
         ensures none { result ≡ 0 → entries_of (raised horizon self.now) ≡ entries_of self.now }
     {
@@ -189,33 +193,34 @@ impl History {
     pub fn get(&self, page: PageId) -> Option<PageHist>
         ensures { (S : ReferenceSet) → StandsFor self.now S → result ≡ hist S page }
     {
-        known_of(&self.maps, page)
+        lookup(&self.maps, page)
     }
 
-    /// Takes in references, in any order; any of them may be known already. Returns the set of the
-    /// buckets whose entries changed: bit b, of value 2^b, is set for bucket b.
+    /// Takes in references, in any order; any of them may be known already. Returns the
+    /// buckets whose entries changed.
     ///
     /// Time grows with the batch, and with the logarithm of the number of pages. `AllocError`
     /// occurs where the allocation of the undo list (the old values of the batch's pages) or of a
     /// new page fails, and changes nothing.
-    pub fn absorb(&mut self, batch: &[Reference]) -> Result<u64, AllocError>
+    pub fn absorb(&mut self, batch: &[Reference]) -> Result<BucketSet, AllocError>
         ensures ok { OnOk result (TakesIn self.old (set_of_list batch.now) self.new) }
         ensures exact { OnOk result (self.new ≡ history (references_of self.old ∪ set_of_list batch.now)) }
         ensures changed { IfOk result (MarksChanged (entries_of self.old) (entries_of self.new)) }
         ensures none { IfOk result (λ changed. changed ≡ 0 → self.new ≡ self.old) }
         ensures err { OnErr result (self.new ≡ self.old) }
     {
+        // Not returned as it comes: the proof takes success and failure apart here.
         let changed = take_references(self.alloc, &mut self.maps, self.horizon, batch)?;
         Ok(changed)
     }
 
-    /// Takes in all entries of the other history, and returns the set of the buckets whose entries
-    /// changed, as [`History::absorb`] does.
+    /// Takes in all entries of the other history, and returns the buckets whose entries changed, as
+    /// [`History::absorb`] does.
     ///
     /// The other history is scanned once, and each of its pages is looked up in this one.
     /// `AllocError` occurs where the allocation of the undo list (the old values of these pages) or
     /// of a new page fails, and changes nothing.
-    pub fn join(&mut self, other: &History) -> Result<u64, AllocError>
+    pub fn join(&mut self, other: &History) -> Result<BucketSet, AllocError>
         ensures ok { OnOk result (TakesIn self.old (references_of other.now) self.new) }
         ensures exact { OnOk result (self.new ≡ join self.old other.now) }
         ensures changed { IfOk result (MarksChanged (entries_of self.old) (entries_of self.new)) }
@@ -224,22 +229,22 @@ impl History {
         ensures err { OnErr result (self.new ≡ self.old) }
     {
         let lost = self.losing(other.horizon);
-        let horizon = later(self.horizon, other.horizon);
+        let horizon = self.horizon.max(other.horizon);
         let changed = take_pairs(self.alloc, &mut self.maps, horizon, &other.maps)?;
         self.horizon = raise(&mut self.maps, self.horizon, horizon);
-        Ok(changed | lost)
+        Ok(changed.union(lost))
     }
 
-    /// Takes in these entries, which may be in any order and may repeat a page, and returns the set
-    /// of the buckets whose entries changed, as [`History::absorb`] does: buckets that lost a stamp
-    /// to the horizon are included.
+    /// Takes in these entries, which may be in any order and may repeat a page, and returns the
+    /// buckets whose entries changed, as [`History::absorb`] does: buckets that lost a stamp to the
+    /// horizon are included.
     ///
     /// The entries are scanned once, and each page is looked up in this history. Entries of one
-    /// bucket, with rising pages, are not looked up where the bucket has no entries yet: they become
-    /// its entries at once. `AllocError` occurs where the allocation of the undo list (the old
-    /// values of these pages), of a list of the new entries, or of a new page fails, and changes
-    /// nothing.
-    pub fn join_entries(&mut self, horizon: u64, more: &[Entry]) -> Result<u64, AllocError>
+    /// bucket, with rising pages, are not looked up where the bucket has no entries yet: they
+    /// become its entries at once. `AllocError` occurs where the allocation of the undo list (the
+    /// old values of these pages), of a list of the new entries, or of a new page fails, and
+    /// changes nothing.
+    pub fn join_entries(&mut self, horizon: u64, more: &[Entry]) -> Result<BucketSet, AllocError>
         ensures ok { OnOk result
             (TakesIn self.old (references_of (history_of_entries_at horizon more.now)) self.new) }
         ensures exact { OnOk result (self.new ≡ join self.old (history_of_entries_at horizon more.now)) }
@@ -249,10 +254,10 @@ impl History {
         ensures err { OnErr result (self.new ≡ self.old) }
     {
         let lost = self.losing(horizon);
-        let horizon = later(self.horizon, horizon);
+        let horizon = self.horizon.max(horizon);
         let changed = take_entries(self.alloc, &mut self.maps, horizon, more)?;
         self.horizon = raise(&mut self.maps, self.horizon, horizon);
-        Ok(changed | lost)
+        Ok(changed.union(lost))
     }
 
     /// A second history, equal to this one. `AllocError` occurs where its allocation fails.
@@ -267,8 +272,8 @@ impl History {
         })
     }
 
-    /// The first `limit` entries, in page order, of those in the bucket whose page is greater
-    /// than `after`; of all in the bucket, where `after` is `None`. They are a history themselves: their
+    /// The first `limit` entries, in page order, of those in the bucket whose page is greater than
+    /// `after`; of all in the bucket, where `after` is `None`. They are a history themselves: their
     /// pages rise, and the stamps of each page fall. The page `after` may be of any bucket.
     ///
     /// It costs a look-up, and a step for each entry that is returned: no other entry is read.
@@ -296,15 +301,30 @@ impl History {
     }
 }
 
+impl<'a> IntoIterator for &'a History {
+    ghost use Rattle.std.specs.Prelude.{◌≡◌};
+    ghost use Rattle.warm_history.specs.Histories.{entries_of};
+
+    type Item = Entry;
+
+    type IntoIter = Entries<'a>;
+
+    ghost into_iter_gives = { λ history entries. entries ≡ entries_of history.now };
+
+    fn into_iter(self) -> Entries<'a> {
+        self.iter()
+    }
+}
+
 /// Iterates over the entries of a history in rising page order: its buckets are merged.
 ///
 /// Contracts see it as the list of the entries that are left.
 #[derive(Drop)]
 pub struct Entries<'a> {
-    left: AllParts<'a>,
+    left: MergedEntries<'a>,
 }
 
-// It shows only the name: the parts of all buckets would say little to a reader.
+// It shows only the name: the iterators of all buckets would say little to a reader.
 impl fmt::Debug for Entries<'_> {
     fn fmt<W: fmt::Write>(&self, f: &mut fmt::Formatter<W>) -> fmt::Result {
         f.write_str("Entries")
@@ -346,7 +366,7 @@ pub struct BucketEntries<'a> {
 impl<'a> Model for BucketEntries<'a> {
     ghost use Rattle.std.specs.Prelude.{List};
     ghost use Rattle.warm_history.specs.declared.hist.Entry.{Entry};
-    ghost use Rattle.warm_history.specs.Tree.{as_entries};
+    ghost use Rattle.warm_history.specs.MapPairs.{as_entries};
 
     ghost Value = { List Entry };
 
@@ -378,7 +398,7 @@ pub struct Unordered<'a> {
 impl<'a> Model for Unordered<'a> {
     ghost use Rattle.std.specs.Prelude.{List};
     ghost use Rattle.warm_history.specs.declared.hist.Entry.{Entry};
-    ghost use Rattle.warm_history.specs.Tree.{as_entries};
+    ghost use Rattle.warm_history.specs.MapPairs.{as_entries};
 
     ghost Value = { List Entry };
 
@@ -395,19 +415,12 @@ impl<'a> Iterator for Unordered<'a> {
     ghost remaining = { item_count (λ entries. entries) };
 
     fn next(&mut self) -> Option<Entry> {
-        let (place, hist) = self.left.next()?;
+        let (key, hist) = self.left.next()?;
         Some(Entry {
-            page: page_at(place),
+            page: page_of_key(key),
             hist,
         })
     }
-}
-
-// The later of two times.
-fn later(one: u64, other: u64) -> u64
-    ensures { result ≡ max one other }
-{
-    if one < other { other } else { one }
 }
 
 // The first `limit` of the entries.

@@ -11,19 +11,15 @@
 #![tactic(auto)]
 
 mod bucket_maps;
+mod cut;
 mod hist;
 mod history;
 pub mod laws;
-mod losses;
-mod merges;
-mod order;
-mod parts;
-mod place;
+mod map_key;
+mod merge_iter;
 mod runs;
-mod since;
-mod tree;
+mod take_in;
 
-pub use hist::{Entry, PageHist, Two, join_hist};
+pub use cut::CutEntries;
+pub use hist::{Entry, PageHist, Two, is_sorted_by_page, join_hist};
 pub use history::{BucketEntries, Entries, History, Unordered};
-pub use order::pages_ascend;
-pub use since::CutEntries;

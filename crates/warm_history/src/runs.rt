@@ -1,4 +1,4 @@
-//! Runs: entries of one bucket at rising places, as a dump has them.
+//! Runs: entries of one bucket at rising keys, as a dump has them.
 //!
 //! Where the bucket has no entries, a run becomes its map at once: an insertion searches the map
 //! from its root for each page, and leaves its nodes half full.
@@ -6,51 +6,51 @@ ghost use Rattle.std.specs.Prelude.{◌≡◌, [], ◌++◌, ◌<◌, IfOk, IfSo
 ghost use Rattle.warm_history.specs.BucketMaps.{HoldsBucket};
 ghost use Rattle.warm_history.specs.Changes.{MarksChanged};
 ghost use Rattle.warm_history.specs.Runs.{IsRun, pair_of_entry, run_pairs};
-ghost use Rattle.warm_history.specs.Tree.{AreKept, kept, TakesEntries};
+ghost use Rattle.warm_history.specs.MapPairs.{AreKept, kept, TakesEntries};
 ghost use Rattle.warm_stamps.specs.declared.TheConstants.{BUCKETS};
 
-use crate::bucket_maps::{BucketMaps, alone};
-use crate::hist::{Entry, PageHist};
-use crate::place::{first_place, place_of};
+use crate::bucket_maps::BucketMaps;
+use crate::hist::{Entry, PageHist, prove_two_latest};
+use crate::map_key::{first_key, key_of_page};
 use std::alloc::{AllocError, Global};
-use warm_stamps::bucket_of;
+use warm_stamps::{Bucket, BucketSet, bucket_of};
 
 // Whether the entries are a run of the bucket of this number.
 fn is_run(number: u8, entries: &[Entry]) -> bool
     requires { number < BUCKETS }
     ensures { IsTrue result → IsRun number entries.now }
 {
-    let end = first_place(number + 1);
-    let mut from = first_place(number);
+    let end = first_key(number + 1);
+    let mut from = first_key(number);
     for entry in entries {
-        let place = place_of(entry.page);
-        if place < from {
+        let key = key_of_page(entry.page);
+        if key < from {
             return false;
         }
-        if end <= place {
+        if end <= key {
             return false;
         }
-        from = place + 1;
+        from = key + 1;
     }
     true
 }
 
-// The number of the bucket that these entries fill: they are a run of it, and it has no entries.
+// The bucket that these entries fill: they are a run of it, and it has no entries.
 // The latter is looked at first, since it costs nothing and most messages end there.
-pub(crate) fn bucket_to_fill(maps: &BucketMaps, more: &[Entry]) -> Option<u8>
-    ensures number { IfSome result (λ number. number < BUCKETS) }
-    ensures free { IfSome result (λ number. HoldsBucket number [] maps.now) }
-    ensures run { IfSome result (λ number. IsRun number more.now) }
+pub(crate) fn bucket_to_fill(maps: &BucketMaps, more: &[Entry]) -> Option<Bucket>
+    ensures free { IfSome result (λ bucket. HoldsBucket bucket [] maps.now) }
+    ensures run { IfSome result (λ bucket. IsRun bucket more.now) }
 {
     let first = more.first()?;
-    let number = bucket_of(first.page).get();
+    let bucket = bucket_of(first.page);
+    let number = bucket.get();
     if !maps.is_free(number) {
         return None;
     }
     if !is_run(number, more) {
         return None;
     }
-    Some(number)
+    Some(bucket)
 }
 
 // Takes in a run of a bucket that has no entries: all stamps that are not older than the horizon
@@ -59,13 +59,12 @@ pub(crate) fn take_run(
     alloc: Global,
     maps: &mut BucketMaps,
     horizon: u64,
-    number: u8,
+    bucket: Bucket,
     run: &[Entry],
-) -> Result<u64, AllocError>
+) -> Result<BucketSet, AllocError>
     requires kept { AreKept maps.old }
-    requires number { number < BUCKETS }
-    requires free { HoldsBucket number [] maps.old }
-    requires run { IsRun number run.now }
+    requires free { HoldsBucket bucket [] maps.old }
+    requires run { IsRun bucket run.now }
     ensures exact { OnOk result (TakesEntries horizon maps.old run.now maps.new) }
     ensures changed { IfOk result (MarksChanged (kept maps.old) (kept maps.new)) }
     ensures whole { AreKept maps.new }
@@ -73,10 +72,10 @@ pub(crate) fn take_run(
 {
     let pairs = recent_pairs(alloc, horizon, run)?;
     if pairs.is_empty() {
-        return Ok(0);
+        return Ok(BucketSet::new());
     }
-    maps.fill(alloc, number, pairs)?;
-    Ok(1 << number)
+    maps.fill(alloc, bucket.get(), pairs)?;
+    Ok(BucketSet::new().with(bucket))
 }
 
 // The pairs of entries, without the stamps older than the horizon.
@@ -102,9 +101,10 @@ fn push_recent(
 ) -> Result<(), AllocError>
     ensures { OnOk result (pairs.new.items ≡ pairs.old.items ++ pair_of_entry horizon entry.now) }
 {
-    let Some(recent) = entry.hist.since(horizon) else {
+    let Some(recent) = entry.hist.cut_before(horizon) else {
         return Ok(());
     };
-    pairs.push((place_of(entry.page), alone(&recent)))?;
+    prove_two_latest(&recent);
+    pairs.push((key_of_page(entry.page), recent))?;
     Ok(())
 }

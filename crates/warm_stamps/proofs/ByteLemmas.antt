@@ -1,4 +1,5 @@
--- Stamps and pages are read from the bytes that they are written as, and written as the bytes that they are read from.
+-- Stamps and pages are read from the bytes that they are written as, and written as the bytes that
+-- they are read from.
 use Rattle.std.proofs.Common.{◌≡◌, ℕ, ◌+◌, ◌<◌, ◌^◌, List, ◌++◌, length, get_or, take, drop, refl, ◌∙◌, arith, inl, inr}
 use Rattle.std.specs.Int.{w16, w32, w64, from_be_bytes, to_be_bytes}
 use Rattle.std.proofs.lemmas.Bool.{cases_lt}

@@ -3,23 +3,25 @@
 //! A *page* is a block of a numbered device. A *stamp* says when and at which replica a page was
 //! referenced, by the clock of the caller that reports it. A *reference* is a page with a stamp;
 //! the same page with the same stamp, reported twice, is one reference. A *bucket* is one of
-//! [`BUCKETS`] classes of pages; replicas exchange their histories bucket by bucket.
+//! [`BUCKETS`] classes of pages; replicas exchange their histories bucket by bucket. A
+//! [`BucketSet`] is a set of buckets.
 //!
 //! The order of each type is total, and only equal values tie: `specs/Stamps.antt` defines the
 //! orders, and [`laws`] says so. Everything here is allocation-free.
 #![tactic(auto)]
 
-ghost use Rattle.std.specs.Prelude.{◌≡◌, ℕ, ◌+◌, ◌<◌, ◌≤◌, ◌↔◌, IfOk, IfSome, IsOk, IsSome};
-ghost use Rattle.warm_stamps.specs.Buckets.{IsBucket, page_bucket};
+ghost use Rattle.std.specs.Prelude.{◌≡◌, ℕ, ◌<◌, ◌≤◌, ◌↔◌, IfOk, IsOk};
 ghost use Rattle.warm_stamps.specs.Replicas.{IsReplica};
 
 use std::marker::Model;
 use thiserror::Error;
 
+mod buckets;
 mod bytes;
 mod items;
 pub mod laws;
 
+pub use buckets::{Bucket, BucketSet, Buckets, bucket_of};
 pub use bytes::{page_bytes, page_from, page_from_narrow, stamp_bytes, stamp_from};
 pub use items::{ByteList, Items, PageList, RefList};
 
@@ -103,57 +105,4 @@ pub struct Reference {
     pub page: PageId,
     /// When and at which replica.
     pub stamp: Stamp,
-}
-
-/// One of the [`BUCKETS`] classes of pages.
-#[derive(Debug, Clone, Copy, PartialEq, Eq, PartialOrd, Ord)]
-pub struct Bucket {
-    index: u8,
-}
-
-impl Model for Bucket {
-    ghost use Rattle.std.specs.Prelude.{ℕ};
-    ghost use Rattle.warm_stamps.specs.Buckets.{IsBucket};
-
-    ghost Value = { ℕ };
-
-    ghost view = { λ bucket. bucket.index };
-
-    ghost invariant = { λ bucket. IsBucket bucket.index };
-
-    ghost inverse = { λ index. record { index = index } };
-}
-
-impl Bucket {
-    /// The bucket of this number. `None` is returned exactly for a number of [`BUCKETS`] or more.
-    pub fn new(number: u8) -> Option<Bucket>
-        ensures value { IfSome result (λ bucket. bucket ≡ number) }
-        ensures taken { IsSome result ↔ IsBucket number }
-    {
-        if number < BUCKETS {
-            Some(Bucket { index: number })
-        } else {
-            None
-        }
-    }
-
-    /// The bucket's number.
-    pub fn get(self) -> u8
-        ensures value { result ≡ self }
-        ensures below { result < BUCKETS }
-    {
-        self.index
-    }
-}
-
-/// The bucket of a page: its device's number plus its page number, modulo [`BUCKETS`]. The sum
-/// doesn't wrap.
-pub fn bucket_of(page: PageId) -> Bucket
-    ensures { result ≡ page_bucket page }
-{
-    let buckets = u64::from(BUCKETS);
-    let sum = u64::from(page.dev) % buckets + page.no % buckets;
-    Bucket {
-        index: (sum % buckets) as u8,
-    }
 }

@@ -1,4 +1,4 @@
-use Rattle.std.proofs.Common.{◌≡◌, ◌<◌, sym, ap, subst, ◌∙◌, arith, length}
+use Rattle.std.proofs.Common.{◌<◌, sym, subst, ◌∙◌, arith, length}
 use Rattle.std.proofs.IntoIterSteps.{All-taken}
 use Rattle.std.specs.BTreeMap.{IsFromIterResult}
 use Rattle.std.specs.Ordering.{nat_cmp}

@@ -1,12 +1,12 @@
-use Rattle.std.proofs.Common.{◌≡◌, ◌+◌, ◌≤◌, ◌<◌, List, drop, sym, ap, subst, ◌∙◌, arith}
+use Rattle.std.proofs.Common.{◌≡◌, ◌+◌, ◌≤◌, ◌<◌, List, drop, sym, subst}
 use Rattle.warm_history.specs.declared.hist.Entry.{Entry}
-use Rattle.warm_history.specs.Places.{first_key, key_of_page, page_of_key}
+use Rattle.warm_history.specs.MapKeys.{first_key, key_of_page, page_of_key}
 use Rattle.warm_history.specs.Runs.{RiseWithin}
-use Rattle.warm_history.proofs.TreeLemmas.{left_more, none_left}
+use Rattle.warm_history.proofs.MapPairLemmas.{left_more, none_left}
 use Rattle.warm_history.proofs.runs.is_run.Goals as goal
 
 pub loop-entry-init : goal.loop-entry-init
-loop-entry-init c = record { enough = λ rise. subst (λ from. RiseWithin from (first_key (c.args.number + 1)) c.args.entries.now) c.first_place-from.ensures rise }
+loop-entry-init c = record { enough = λ rise. subst (λ from. RiseWithin from (first_key (c.args.number + 1)) c.args.entries.now) c.first_key-from.ensures rise }
 
 pub loop-entry-preserved : goal.loop-entry-preserved
 loop-entry-preserved c =
@@ -14,11 +14,11 @@ loop-entry-preserved c =
     let i : _ = c.loop-entry.entry-index in
     let e : Entry = c.entry-item.result in
     let to = first_key (c.args.number + 1) in
-    let value : c.place_of-place.result ≡ key_of_page e.page = c.place_of-place.ensures.value in
-    let starts : c.loop-entry.from ≤ key_of_page e.page = subst (λ p. c.loop-entry.from ≤ p) value c.if-place-from.false in
-    let below : c.place_of-place.result < to = subst (λ end. c.place_of-place.result < end) c.first_place-end.ensures c.if-end-place.false in
+    let value : c.key_of_page-key.result ≡ key_of_page e.page = c.key_of_page-key.ensures.value in
+    let starts : c.loop-entry.from ≤ key_of_page e.page = subst (λ p. c.loop-entry.from ≤ p) value c.if-key-from.false in
+    let below : c.key_of_page-key.result < to = subst (λ end. c.key_of_page-key.result < end) c.first_key-end.ensures c.if-end-key.false in
     let ends : key_of_page e.page < to = subst (λ p. p < to) value below in
-    let back : page_of_key (key_of_page e.page) ≡ e.page = subst (λ p. page_of_key p ≡ e.page) value c.place_of-place.ensures.back in
+    let back : page_of_key (key_of_page e.page) ≡ e.page = subst (λ p. page_of_key p ≡ e.page) value c.key_of_page-key.ensures.back in
     record {
       enough = λ rise. c.loop-entry.invariant.enough (subst (RiseWithin c.loop-entry.from to) (sym (left_more more i e c.loop-entry-test.true c.entry-item.is)) (starts, ends, back, subst (λ p. RiseWithin (p + 1) to (drop (i + 1) more)) value rise));
     }

@@ -1,9 +1,9 @@
-use Rattle.std.proofs.Common.{◌≡◌, ◌+◌, drop}
-use Rattle.warm_history.specs.Places.{first_key}
+use Rattle.std.proofs.Common.{◌+◌, drop}
+use Rattle.warm_history.specs.MapKeys.{first_key}
 use Rattle.warm_history.specs.Runs.{IsRun, RiseWithin}
 use Rattle.warm_history.proofs.runs.is_run.Given as goal
 
--- all are a run where those that are left rise from the next place on
+-- all are a run where those that are left rise from the next key on
 abbrev pub invariant-loop-entry : goal.invariant-loop-entry
 invariant-loop-entry l = record {
   enough : RiseWithin l.from (first_key (l.number + 1)) (drop l.entry-index l.entries) → IsRun l.number l.entries;

@@ -1,9 +1,9 @@
-use Rattle.std.proofs.Common.{◌≡◌, ◌++◌, ◌+◌, List, drop, sym, ap, subst, ◌∙◌, append_assoc}
+use Rattle.std.proofs.Common.{◌++◌, ◌+◌, List, drop, sym, ap, ◌∙◌, append_assoc}
 use Rattle.std.proofs.lemmas.List.{append-nil}
 use Rattle.warm_history.specs.declared.hist.Entry.{Entry}
 use Rattle.warm_history.specs.Runs.{pair_of_entry, run_pairs}
-use Rattle.warm_history.specs.Tree.{MapPairs}
-use Rattle.warm_history.proofs.TreeLemmas.{left_more, none_left}
+use Rattle.warm_history.specs.MapPairs.{MapPairs}
+use Rattle.warm_history.proofs.MapPairLemmas.{left_more, none_left}
 use Rattle.warm_history.proofs.runs.recent_pairs.Goals as goal
 
 pub loop-entry-init : goal.loop-entry-init

@@ -1,7 +1,7 @@
 use Rattle.std.proofs.Common.{◌≡◌, ◌<◌, ◌+◌, [], sym, ap, subst, ◌∙◌, arith, length}
-use Rattle.warm_history.specs.BucketMaps.{pairs_of_maps, all_pairs, AreBuckets, AreSmall, HoldsBucket, map_at, with_map}
+use Rattle.warm_history.specs.BucketMaps.{pairs_of_maps, all_pairs, AreBuckets, AreSmall, HoldsBucket, with_map}
 use Rattle.warm_history.specs.Runs.{with_pairs}
-use Rattle.warm_history.specs.Tree.{MapPairs}
+use Rattle.warm_history.specs.MapPairs.{MapPairs}
 use Rattle.warm_history.proofs.BucketCounts.{small_with}
 use Rattle.warm_history.proofs.BucketSteps.{AllIn, pairs_of-set, length-set, length-pairs_of, bucket_in, buckets_with}
 use Rattle.warm_history.proofs.RunPairs.{fills, own_map_free}

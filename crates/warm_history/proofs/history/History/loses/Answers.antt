@@ -1,7 +1,7 @@
 use Rattle.std.proofs.Common.{◌≡◌, ◌≤◌, Bool, true, false, not, refl, subst, sym, arith}
 use Rattle.warm_history.specs.Histories.{HistoryView, IsHistory, NoneOlder}
 use Rattle.warm_history.proofs.RaiseLemmas.{whole_of}
-use Rattle.warm_history.proofs.SinceLemmas.{keeps_all, keeps_recent, loses_older}
+use Rattle.warm_history.proofs.HorizonLemmas.{keeps_all, keeps_recent, loses_older}
 use Rattle.warm_history.proofs.history.History.loses.Goals as goal
 
 from_not : (b : Bool) → not b ≡ false → b ≡ true

@@ -1,0 +1,40 @@
+use Rattle.std.proofs.Common.{refl, ◌+◌, ◌++◌, List, drop, ap, ◌∙◌, subst, sym}
+use Rattle.warm_history.specs.declared.hist.Entry.{Entry}
+use Rattle.warm_history.specs.ReferenceSets.{references_from}
+use Rattle.warm_history.specs.Changes.{MarksChanged}
+use Rattle.warm_history.specs.ListHistories.{list_references_of, list_history, references_of_entry}
+use Rattle.warm_history.specs.MapPairs.{kept}
+use Rattle.warm_history.proofs.MapPairLemmas.{IsHistory-kept, goes_on, all_taken, left_more, none_left}
+use Rattle.warm_history.proofs.ChangeLemmas.{grows_same, marks_empty, takes_more}
+use Rattle.warm_history.proofs.RecentLemmas.{recent_more}
+use Rattle.warm_history.proofs.take_in.take_each_entry.Goals as goal
+
+pub loop-entry-init : goal.loop-entry-init
+loop-entry-init c =
+    let first = kept c.args.maps.now in
+    record {
+      whole = c.requires;
+      goes_on = refl;
+      undo = refl;
+      grows = grows_same first (IsHistory-kept c.args.maps.now c.requires);
+      changed = marks_empty first c.new-changed.result c.new-changed.ensures;
+    }
+
+pub loop-entry-preserved : goal.loop-entry-preserved
+loop-entry-preserved c =
+    let inv : _ = c.loop-entry.invariant in
+    let i : _ = c.loop-entry.entry-index in
+    let more : List Entry = c.args.more.now in
+    let e : Entry = c.entry-item.result in
+    let m : _ = c.args.horizon in
+    let taken = takes_more m c.key_of_page-key.result (e.hist) c.args.maps.now c.loop-entry.maps c.take_recent.new.maps c.loop-entry.changed c.in_ok-taken.taken.changed c.requires inv.whole c.in_ok-taken.ensures.exact inv.grows inv.changed c.in_ok-taken.ensures.changed in
+    record {
+      whole = c.take_recent.ensures.whole;
+      goes_on = goes_on _ (kept c.take_recent.new.maps) (references_from m (references_of_entry e)) (references_from m (list_references_of (drop (i + 1) more))) (references_from m (list_references_of (drop i more))) _ (c.in_ok-taken.ensures.exact ∙ ap (λ p. list_history (list_references_of (kept c.loop-entry.maps) ++ references_from m (references_of_entry (record { page = p; hist = e.hist })))) c.key_of_page-key.ensures.back) (recent_more m (references_of_entry e) (list_references_of (drop (i + 1) more)) (list_references_of (drop i more)) (ap list_references_of (left_more more i e c.loop-entry-test.true c.entry-item.is))) inv.goes_on;
+      undo = c.take_recent.ensures.undo ∙ inv.undo;
+      grows = taken.0;
+      changed = subst (MarksChanged (kept c.args.maps.now) (kept c.take_recent.new.maps)) (sym c.union-changed.ensures) taken.1;
+    }
+
+pub returns-clause-exact : goal.returns-clause-exact
+returns-clause-exact c = all_taken _ _ (references_from c.args.horizon (list_references_of (drop c.loop-entry.entry-index c.args.more.now))) (IsHistory-kept _ c.loop-entry.invariant.whole) (ap (λ es. references_from c.args.horizon (list_references_of es)) (none_left c.args.more.now c.loop-entry.entry-index c.loop-entry-test.false)) c.loop-entry.invariant.goes_on

@@ -1,0 +1,105 @@
+//! What a cut at a horizon leaves of a history: the entries of a bucket, where older stamps are
+//! skipped as they are read, and the buckets that it would change. The history is unchanged.
+ghost use Rattle.std.specs.Prelude.{◌≡◌, ◌↔◌, IsTrue};
+ghost use Rattle.std.specs.Iterator.{YieldsFirst};
+ghost use Rattle.warm_history.specs.Histories.{NoneOlder, entries_of};
+ghost use Rattle.warm_history.specs.KeptEntries.{kept_entries};
+ghost use Rattle.warm_history.specs.Losses.{MarksLosing, raised};
+
+use crate::hist::Entry;
+use crate::history::{BucketEntries, History};
+use std::marker::Model;
+use warm_stamps::{Bucket, BucketSet};
+
+/// Iterates over the entries of a bucket after a cut at a horizon, in rising page order: each entry
+/// has only its stamps that are not older than the horizon, and entries without such a stamp are
+/// skipped.
+///
+/// Contracts see it as the list of the entries ahead, after the cut.
+#[derive(Debug, Drop)]
+pub struct CutEntries<'a> {
+    ahead: BucketEntries<'a>,
+    horizon: u64,
+}
+
+impl<'a> Model for CutEntries<'a> {
+    ghost use Rattle.std.specs.Prelude.{List};
+    ghost use Rattle.warm_history.specs.declared.hist.Entry.{Entry};
+    ghost use Rattle.warm_history.specs.KeptEntries.{kept_entries};
+
+    ghost Value = { List Entry };
+
+    ghost view = { λ entries. kept_entries entries.horizon entries.ahead };
+}
+
+impl<'a> CutEntries<'a> {
+    // These entries, cut at the horizon.
+    pub(crate) fn new(entries: BucketEntries<'a>, horizon: u64) -> CutEntries<'a>
+        ensures { result ≡ kept_entries horizon entries.entry }
+    {
+        CutEntries {
+            ahead: entries,
+            horizon,
+        }
+    }
+}
+
+impl<'a> Iterator for CutEntries<'a> {
+    ghost use Rattle.std.specs.Iterator.{YieldsFirst, item_count};
+
+    type Item = Entry;
+
+    ghost next_gives = { YieldsFirst (λ entries. entries) };
+
+    ghost remaining = { item_count (λ entries. entries) };
+
+    fn next(&mut self) -> Option<Entry> {
+        next_cut(&mut self.ahead, self.horizon)
+    }
+}
+
+// The first entry that has a stamp not older than the horizon, after the cut; those before it are
+// skipped.
+fn next_cut(ahead: &mut BucketEntries<'_>, horizon: u64) -> Option<Entry>
+    ensures { YieldsFirst (λ (ahead : _). kept_entries horizon ahead) ahead.old result ahead.new }
+{
+    loop {
+        let entry = ahead.next()?;
+        if let Some(hist) = entry.hist.cut_before(horizon) {
+            return Some(Entry {
+                page: entry.page,
+                hist,
+            });
+        }
+    }
+}
+
+// Whether no stamp of these entries is older than the horizon. It reads up to the first that is.
+pub(crate) fn none_older(entries: BucketEntries<'_>, horizon: u64) -> bool
+    ensures { IsTrue result ↔ NoneOlder horizon entries.entry }
+{
+    for entry in entries {
+        if !entry.hist.none_before(horizon) {
+            return false;
+        }
+    }
+    true
+}
+
+// The buckets whose entries would change at the horizon.
+pub(crate) fn losing(history: &History, horizon: u64) -> BucketSet
+    ensures lost { MarksLosing horizon history.now result }
+    ensures none { result ≡ 0
+        → entries_of (raised horizon history.now) ≡ entries_of history.now }
+{
+    if horizon <= history.horizon() {
+        return BucketSet::new();
+    }
+    let mut buckets = BucketSet::new();
+    for bucket in Bucket::all() {
+        if history.loses(bucket, horizon) {
+            buckets = buckets.with(bucket);
+        }
+    }
+    buckets
+}

@@ -1,0 +1,275 @@
+//! A history in maps from keys: how references are taken in, and rolled back where an allocation
+//! fails.
+//!
+//! Each change notes the old value in an undo list. Where an allocation fails the notes are
+//! restored, the last one first, which is allocation-free.
+ghost use Rattle.std.specs.Prelude.{◌≡◌, IfOk, OnOk, OnErr, max};
+ghost use Rattle.warm_history.specs.Changes.{MarksChanged};
+ghost use Rattle.warm_history.specs.MapKeys.{key_of_page, page_of_key, IsMapKey};
+ghost use Rattle.warm_history.specs.MapPairs.{
+  AreKept,
+  kept,
+  TakesStamps,
+  TakesRecent,
+  TakesReferences,
+  TakesEntries,
+  TakesPairs,
+};
+ghost use Rattle.warm_history.specs.BucketMaps.{found};
+ghost use Rattle.warm_history.specs.Histories.{NoneOlder};
+ghost use Rattle.warm_history.specs.KeptEntries.{kept_entries};
+ghost use Rattle.warm_history.specs.Undo.{undone, LeadsBack};
+
+use crate::bucket_maps::{BucketMaps, UndoNote};
+use crate::hist::{Entry, PageHist};
+use crate::map_key::{key_of_page, page_of_key};
+use crate::runs::{bucket_to_fill, take_run};
+use std::alloc::{AllocError, Global};
+use warm_stamps::{BucketSet, PageId, Reference, bucket_of};
+
+// The outcome of taking in the stamps of a page.
+#[derive(Debug, Clone, Copy)]
+struct Outcome {
+    // The bucket of the page, where that changed.
+    changed: BucketSet,
+    // Whether the page was new. Pages often come in runs that are all new or all known, so the next
+    // page is likely to be as this one was.
+    is_new: bool,
+}
+
+// The value of a page, if it has one.
+pub(crate) fn lookup(maps: &BucketMaps, page: PageId) -> Option<PageHist>
+    ensures known { result ≡ found (key_of_page page) maps.now }
+    ensures back { page_of_key (key_of_page page) ≡ page }
+{
+    maps.get(key_of_page(page))
+}
+
+// Takes in all references that are not older than the horizon or, where an allocation fails, none.
+pub(crate) fn take_references(
+    alloc: Global,
+    maps: &mut BucketMaps,
+    horizon: u64,
+    batch: &[Reference],
+) -> Result<BucketSet, AllocError>
+    requires { AreKept maps.old }
+    ensures exact { OnOk result (TakesReferences horizon maps.old batch.now maps.new) }
+    ensures changed { IfOk result (MarksChanged (kept maps.old) (kept maps.new)) }
+    ensures whole { AreKept maps.new }
+    ensures err { OnErr result (maps.new ≡ maps.old) }
+{
+    let mut undo = Vec::with_capacity(alloc, batch.len())?;
+    match take_each_reference(maps, &mut undo, horizon, batch) {
+        Ok(changed) => Ok(changed),
+        Err(fault) => {
+            put_all_back(maps, &mut undo);
+            Err(fault)
+        }
+    }
+}
+
+// Takes in all stamps of entries that are not older than the horizon or, where an allocation fails,
+// none. The entries may be in any order. Where they fill a bucket, its map is built at once.
+pub(crate) fn take_entries(
+    alloc: Global,
+    maps: &mut BucketMaps,
+    horizon: u64,
+    more: &[Entry],
+) -> Result<BucketSet, AllocError>
+    requires { AreKept maps.old }
+    ensures exact { OnOk result (TakesEntries horizon maps.old more.now maps.new) }
+    ensures changed { IfOk result (MarksChanged (kept maps.old) (kept maps.new)) }
+    ensures whole { AreKept maps.new }
+    ensures err { OnErr result (maps.new ≡ maps.old) }
+{
+    if let Some(bucket) = bucket_to_fill(maps, more) {
+        return take_run(alloc, maps, horizon, bucket, more);
+    }
+    let mut undo = Vec::new(alloc);
+    match take_each_entry(maps, &mut undo, horizon, more) {
+        Ok(changed) => Ok(changed),
+        Err(fault) => {
+            put_all_back(maps, &mut undo);
+            Err(fault)
+        }
+    }
+}
+
+// Takes in all stamps of another map that are not older than the horizon or, where an allocation
+// fails, none.
+pub(crate) fn take_pairs(
+    alloc: Global,
+    maps: &mut BucketMaps,
+    horizon: u64,
+    more: &BucketMaps,
+) -> Result<BucketSet, AllocError>
+    requires here { AreKept maps.old }
+    requires there { AreKept more.now }
+    ensures exact { OnOk result (TakesPairs horizon maps.old more.now maps.new) }
+    ensures changed { IfOk result (MarksChanged (kept maps.old) (kept maps.new)) }
+    ensures whole { AreKept maps.new }
+    ensures err { OnErr result (maps.new ≡ maps.old) }
+{
+    let mut undo = Vec::new(alloc);
+    match take_each_pair(maps, &mut undo, horizon, more) {
+        Ok(changed) => Ok(changed),
+        Err(fault) => {
+            put_all_back(maps, &mut undo);
+            Err(fault)
+        }
+    }
+}
+
+// Takes in the given stamps of the page at a key, and notes its old value.
+fn take(
+    maps: &mut BucketMaps,
+    undo: &mut Vec<UndoNote>,
+    key: u128,
+    more: PageHist,
+    likely_new: bool,
+) -> Result<Outcome, AllocError>
+    requires key { IsMapKey key }
+    requires kept { AreKept maps.old }
+    ensures exact { OnOk result (TakesStamps maps.old key more maps.new) }
+    ensures changed { IfOk result
+        (λ taken. MarksChanged (kept maps.old) (kept maps.new) taken.changed) }
+    ensures undo { LeadsBack undo.new.items maps.new undo.old.items maps.old }
+    ensures whole { AreKept maps.new }
+{
+    undo.reserve(1)?;
+    let Some(note) = maps.record(key, more, likely_new)? else {
+        return Ok(Outcome {
+            changed: BucketSet::new(),
+            is_new: false,
+        });
+    };
+    let is_new = note.hist.is_none();
+    undo.push_reserved(note);
+    Ok(Outcome {
+        changed: BucketSet::new().with(bucket_of(page_of_key(key))),
+        is_new,
+    })
+}
+
+// Takes in those of the given stamps of the page at a key that are not older than the horizon.
+fn take_recent(
+    maps: &mut BucketMaps,
+    undo: &mut Vec<UndoNote>,
+    horizon: u64,
+    key: u128,
+    more: PageHist,
+    likely_new: bool,
+) -> Result<Outcome, AllocError>
+    requires key { IsMapKey key }
+    requires kept { AreKept maps.old }
+    ensures exact { OnOk result (TakesRecent horizon maps.old key more maps.new) }
+    ensures changed { IfOk result
+        (λ taken. MarksChanged (kept maps.old) (kept maps.new) taken.changed) }
+    ensures undo { LeadsBack undo.new.items maps.new undo.old.items maps.old }
+    ensures whole { AreKept maps.new }
+{
+    let Some(recent) = more.cut_before(horizon) else {
+        return Ok(Outcome {
+            changed: BucketSet::new(),
+            is_new: likely_new,
+        });
+    };
+    // Not returned as it comes: the proof takes success and failure apart here.
+    let taken = take(maps, undo, key, recent, likely_new)?;
+    Ok(taken)
+}
+
+fn take_each_reference(
+    maps: &mut BucketMaps,
+    undo: &mut Vec<UndoNote>,
+    horizon: u64,
+    batch: &[Reference],
+) -> Result<BucketSet, AllocError>
+    requires { AreKept maps.old }
+    ensures exact { OnOk result (TakesReferences horizon maps.old batch.now maps.new) }
+    ensures changed { IfOk result (MarksChanged (kept maps.old) (kept maps.new)) }
+    ensures undo { LeadsBack undo.new.items maps.new undo.old.items maps.old }
+    ensures whole { AreKept maps.new }
+{
+    let mut changed = BucketSet::new();
+    let mut is_new = false;
+    for reference in batch {
+        let key = key_of_page(reference.page);
+        let more = PageHist::Once(reference.stamp);
+        let taken = take_recent(maps, undo, horizon, key, more, is_new)?;
+        changed = changed.union(taken.changed);
+        is_new = taken.is_new;
+    }
+    Ok(changed)
+}
+
+fn take_each_entry(
+    maps: &mut BucketMaps,
+    undo: &mut Vec<UndoNote>,
+    horizon: u64,
+    more: &[Entry],
+) -> Result<BucketSet, AllocError>
+    requires { AreKept maps.old }
+    ensures exact { OnOk result (TakesEntries horizon maps.old more.now maps.new) }
+    ensures changed { IfOk result (MarksChanged (kept maps.old) (kept maps.new)) }
+    ensures undo { LeadsBack undo.new.items maps.new undo.old.items maps.old }
+    ensures whole { AreKept maps.new }
+{
+    let mut changed = BucketSet::new();
+    let mut is_new = false;
+    for entry in more {
+        let key = key_of_page(entry.page);
+        let taken = take_recent(maps, undo, horizon, key, entry.hist, is_new)?;
+        changed = changed.union(taken.changed);
+        is_new = taken.is_new;
+    }
+    Ok(changed)
+}
+
+fn take_each_pair(
+    maps: &mut BucketMaps,
+    undo: &mut Vec<UndoNote>,
+    horizon: u64,
+    more: &BucketMaps,
+) -> Result<BucketSet, AllocError>
+    requires here { AreKept maps.old }
+    requires there { AreKept more.now }
+    ensures exact { OnOk result (TakesPairs horizon maps.old more.now maps.new) }
+    ensures changed { IfOk result (MarksChanged (kept maps.old) (kept maps.new)) }
+    ensures undo { LeadsBack undo.new.items maps.new undo.old.items maps.old }
+    ensures whole { AreKept maps.new }
+{
+    let mut changed = BucketSet::new();
+    let mut is_new = false;
+    for (key, hist) in more.each_pair() {
+        let taken = take_recent(maps, undo, horizon, key, hist, is_new)?;
+        changed = changed.union(taken.changed);
+        is_new = taken.is_new;
+    }
+    Ok(changed)
+}
+
+// Forgets what is older than a time, where that is later than the horizon, and returns the new
+// horizon.
+pub(crate) fn raise(maps: &mut BucketMaps, horizon: u64, time: u64) -> u64
+    requires kept { AreKept maps.old }
+    requires recent { NoneOlder horizon (kept maps.old) }
+    ensures later { result ≡ max horizon time }
+    ensures cut { kept maps.new ≡ kept_entries result (kept maps.old) }
+    ensures whole { AreKept maps.new }
+{
+    if horizon < time {
+        maps.forget(time);
+        return time;
+    }
+    horizon
+}
+
+// Restores the old values, the last change first.
+fn put_all_back(maps: &mut BucketMaps, undo: &mut Vec<UndoNote>)
+    ensures { maps.new ≡ undone undo.old.items maps.old }
+{
+    while let Some(note) = undo.pop() {
+        maps.put_back(note);
+    }
+}

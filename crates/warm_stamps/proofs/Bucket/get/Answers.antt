@@ -1,4 +1,0 @@
-use Rattle.warm_stamps.proofs.Bucket.get.Goals as goal
-
-pub returns-clause-value : goal.returns-clause-value
-returns-clause-value c = c.self.view_is
