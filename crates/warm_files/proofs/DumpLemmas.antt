@@ -17,7 +17,7 @@ use Rattle.warm_frames.specs.declared.layout.TheConstants.{MAX_ENTRIES}
 use Rattle.warm_frames.specs.declared.message.Message.{Message}
 use Rattle.warm_frames.specs.declared.message.Message.TheVariants.{Entries}
 use Rattle.warm_frames.specs.Entries.{FitsInFrame}
-use Rattle.warm_frames.specs.Spelling.{encoding}
+use Rattle.warm_frames.specs.Encoding.{encoding}
 use Rattle.warm_stamps.specs.Buckets.{page_bucket}
 use Rattle.std.specs.Prelude.{◌==◌}
 use Rattle.std.specs.declared.cmp.Ordering.{Ordering}

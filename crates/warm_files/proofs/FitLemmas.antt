@@ -23,8 +23,8 @@ use Rattle.warm_history.proofs.ListHistoryLemmas.{entries}
 use Rattle.warm_frames.specs.declared.message.Message.{Message}
 use Rattle.warm_frames.specs.declared.message.Message.TheVariants.{Entries, Digest, Want}
 use Rattle.warm_frames.specs.Entries.{IsEntry, IsHist}
-use Rattle.warm_frames.specs.Pieces.{SpellAll}
-use Rattle.warm_frames.specs.Spelling.{IsValidMessage}
+use Rattle.warm_frames.specs.Pieces.{EncodeAll}
+use Rattle.warm_frames.specs.Encoding.{IsValidMessage}
 use Rattle.warm_digest.specs.Exchange.{Fits}
 use Rattle.warm_files.specs.Reading.{brought, entries_brought, references_in, IsDump}
 
@@ -96,7 +96,7 @@ brought_fits (Entries sender own es) is = is.2.each
 brought_fits (Digest sender own digests) is = tt
 brought_fits (Want sender own request) is = tt
 
-frames_fit : (ts : List (List ℕ)) (fs more : List Message) → SpellAll ts (fs ++ more) → AllByRecursion IsEntry (entries_brought fs)
+frames_fit : (ts : List (List ℕ)) (fs more : List Message) → EncodeAll ts (fs ++ more) → AllByRecursion IsEntry (entries_brought fs)
 frames_fit ts [] more all = tt
 frames_fit [] (f ∷ fs) more all = absurd all
 frames_fit (t ∷ ts) (f ∷ fs) more all =

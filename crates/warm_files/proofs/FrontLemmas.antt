@@ -4,8 +4,8 @@ use Rattle.std.specs.List.{AllByRecursion}
 use Rattle.std.proofs.lemmas.List.{take_at, drop_at, take-append-drop, take-append-le}
 use Rattle.warm_frames.specs.declared.message.Message.{Message}
 use Rattle.warm_frames.specs.declared.message.Message.TheVariants.{Entries, Digest, Want}
-use Rattle.warm_frames.specs.Pieces.{IsIncomplete, SpellAll, texts_of, Splits}
-use Rattle.warm_frames.specs.Spelling.{Encodes}
+use Rattle.warm_frames.specs.Pieces.{IsIncomplete, EncodeAll, texts_of, Splits}
+use Rattle.warm_frames.specs.Encoding.{Encodes}
 use Rattle.warm_frames.proofs.FrameLemmas.{frame_read, encoding_is_injective, prefix_free}
 use Rattle.warm_frames.proofs.SizeLemmas.{no_ok, lt_or_le, nothing_short, part_without_header}
 use Rattle.warm_history.specs.Histories.{HistoryView}
@@ -39,8 +39,8 @@ first_text s t f g x y is_f is_g same =
     ⊎_elim (λ lt. front_text s t f g x y is_f is_g same (omega (arith, lt))) (λ le. sym (front_text t s g f y x is_g is_f (sym same) le)) (lt_or_le (length s) (length t))
 
 -- frames that begin a text which others spell whole are the first of those
-pub first_frames : (ts us : List (List ℕ)) (fs gs : List Message) (rest : List ℕ) → SpellAll ts fs → SpellAll us gs → texts_of ts ≡ texts_of us ++ rest
-    → (vs : List (List ℕ)) × (more : List Message) × SpellAll vs more × (fs ≡ gs ++ more) × (rest ≡ texts_of vs)
+pub first_frames : (ts us : List (List ℕ)) (fs gs : List Message) (rest : List ℕ) → EncodeAll ts fs → EncodeAll us gs → texts_of ts ≡ texts_of us ++ rest
+    → (vs : List (List ℕ)) × (more : List Message) × EncodeAll vs more × (fs ≡ gs ++ more) × (rest ≡ texts_of vs)
 first_frames ts [] fs [] rest a b same = (ts, fs, a, refl, sym same)
 first_frames ts [] fs (g ∷ gs) rest a b same = absurd b
 first_frames ts (u ∷ us) fs [] rest a b same = absurd b
@@ -65,7 +65,7 @@ dump_splits text h d = record { texts = d.whole.texts; whole = d.whole.whole; ea
 
 -- what begins a dump
 pub begins_dump : (text : List ℕ) (h : HistoryView) (d : IsDump text h) (gs : List Message) (rest : List ℕ) → Begins text gs rest
-    → (vs : List (List ℕ)) × (more : List Message) × SpellAll vs more × (d.frames ++ Digest d.sender h.horizon d.digests ∷ [] ≡ gs ++ more) × (rest ≡ texts_of vs)
+    → (vs : List (List ℕ)) × (more : List Message) × EncodeAll vs more × (d.frames ++ Digest d.sender h.horizon d.digests ∷ [] ≡ gs ++ more) × (rest ≡ texts_of vs)
 begins_dump text h d gs rest b =
     first_frames d.whole.texts b.texts (d.frames ++ Digest d.sender h.horizon d.digests ∷ []) gs rest d.whole.each b.each (sym (append-nil (texts_of d.whole.texts)) ∙ sym d.whole.whole ∙ b.whole)
 

@@ -6,7 +6,7 @@ use Rattle.warm_frames.specs.declared.fault.FrameFault.{FrameFault}
 use Rattle.warm_frames.specs.declared.fault.FrameFault.TheVariants as frame_faults
 use Rattle.warm_frames.specs.declared.message.Message.{Message}
 use Rattle.warm_frames.specs.declared.message.Message.TheVariants.{Entries, Digest, Want}
-use Rattle.warm_frames.specs.Pieces.{SpellAll, texts_of}
+use Rattle.warm_frames.specs.Pieces.{EncodeAll, texts_of}
 use Rattle.warm_frames.proofs.StreamLemmas.{one_reading, part_or_fault}
 use Rattle.warm_digest.specs.BucketDigests.{digests_of}
 use Rattle.warm_files.specs.declared.fault.DumpFault.TheVariants.{Frame, CutShort, DigestsDiffer, HorizonsDiffer, MoreFollows, ReadFault, WriteFault}
@@ -72,7 +72,7 @@ last_of text h d horizon own sender gs digests rest all b =
     let parts = one_front h.horizon horizon d.frames gs e f begun.1 d.entries all tt tt (begun.3 ∙ append_assoc gs (f ∷ []) begun.1) in
     (parts.0, parts.1, begun.4 ∙ none begun.0 begun.1 begun.2 parts.2)
   where
-    none : (vs : List (List ℕ)) (more : List Message) → SpellAll vs more → more ≡ [] → texts_of vs ≡ []
+    none : (vs : List (List ℕ)) (more : List Message) → EncodeAll vs more → more ≡ [] → texts_of vs ≡ []
     none [] more all is = refl
     none (v ∷ vs) [] all is = absurd all
     none (v ∷ vs) (f ∷ more) all is = absurd (cc)

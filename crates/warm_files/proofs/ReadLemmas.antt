@@ -17,17 +17,17 @@ use Rattle.warm_frames.specs.declared.fault.FrameFault.{FrameFault}
 use Rattle.warm_frames.specs.declared.fault.FrameFault.TheVariants as frame_faults
 use Rattle.warm_frames.specs.declared.message.Message.{Message}
 use Rattle.warm_frames.specs.declared.message.Message.TheVariants.{Entries, Digest, Want}
-use Rattle.warm_frames.specs.Pieces.{DecoderState, Inside, IsIncomplete, Breaks, FeedStep, SpellAll, texts_of}
-use Rattle.warm_frames.specs.Pieces.{TakesPiece}
+use Rattle.warm_frames.specs.Pieces.{DecoderState, Inside, IsIncomplete, Breaks, FeedStep, EncodeAll, texts_of}
+use Rattle.warm_frames.specs.Pieces.{TakesPiece as TakesBytes}
 use Rattle.warm_frames.specs.Reading.{read_frame}
-use Rattle.warm_frames.specs.Spelling.{Encodes}
+use Rattle.warm_frames.specs.Encoding.{Encodes}
 use Rattle.warm_frames.proofs.FrameLemmas.{frame_read}
 use Rattle.warm_frames.proofs.SizeLemmas.{no_ok, nothing_short, part_without_header}
 use Rattle.warm_digest.specs.BucketDigests.{digests_of}
 use Rattle.warm_files.specs.declared.fault.DumpFault.{DumpFault}
 use Rattle.warm_files.specs.declared.fault.DumpFault.TheVariants.{Frame, CutShort, DigestsDiffer, HorizonsDiffer, MoreFollows}
 use Rattle.warm_files.specs.declared.reading.Gathered.{Gathered}
-use Rattle.warm_files.specs.Gathering.{Agrees, AreAt, references_at, Gathers, HasRead, TakesMessage, Rejects, IsRefusedForGood}
+use Rattle.warm_files.specs.Gathering.{Agrees, AreAt, references_at, Gathers, HasRead, TakesPiece, Rejects, IsRefusedForGood}
 use Rattle.warm_files.specs.Reading.{IsEntriesAt, AreEntriesAt, IsPartAt, brought, entries_brought, references_in, history_of_messages, Begins, IsDump, EndsWithDigests, EndsAt, ShowsFrameFault, IsDumpRefused}
 
 -- ---- texts one after the other
@@ -36,7 +36,7 @@ one_text : (ts : List (List ℕ)) (t : List ℕ) → texts_of (ts ++ t ∷ []) �
 one_text [] t = append-nil t
 one_text (u ∷ us) t = ap (λ (w : List ℕ). u ++ w) (one_text us t) ∙ sym (append_assoc u (texts_of us) t)
 
-one_spelled : (ts : List (List ℕ)) (t : List ℕ) (fs : List Message) (f : Message) → SpellAll ts fs → Encodes t f → SpellAll (ts ++ t ∷ []) (fs ++ f ∷ [])
+one_spelled : (ts : List (List ℕ)) (t : List ℕ) (fs : List Message) (f : Message) → EncodeAll ts fs → Encodes t f → EncodeAll (ts ++ t ∷ []) (fs ++ f ∷ [])
 one_spelled [] t [] f all this = (this, tt)
 one_spelled [] t (g ∷ gs) f all this = absurd all
 one_spelled (u ∷ us) t [] f all this = absurd all
@@ -230,7 +230,7 @@ took_digests seen piece n sender horizon digests old new g spelt agrees takes sa
 -- either
 pub took_frame : (seen piece : List ℕ) (n : ℕ) (frame : Message) (old mid new : Gathered) → Gathers seen old
     → ((begun : List ℕ) → old.decoder ≡ Inside begun → Encodes (begun ++ take n piece) frame × (new.decoder ≡ Inside []))
-    → mid.history ≡ old.history → mid.horizon ≡ old.horizon → TakesMessage mid frame new
+    → mid.history ≡ old.history → mid.horizon ≡ old.horizon → TakesPiece mid frame new
     → new.seen ≡ length (seen ++ take n piece) → new.at ≡ length (seen ++ take n piece) → HasRead (seen ++ take n piece) new
 took_frame seen piece n (Entries sender horizon es) old mid new g feeds history known takes all here =
     let fed = feeds g.begun g.held in
@@ -247,24 +247,24 @@ took_frame seen piece n (Digest sender horizon digests) old mid new g feeds hist
 took_frame seen piece n (Want sender horizon request) old mid new g feeds history known takes all here = absurd takes
 
 -- where the frames end is no part of what a frame adds
-pub takes_placed : (frame : Message) (old new : Gathered) (at : ℕ) → TakesMessage old frame new → TakesMessage old frame (record new { at = at })
+pub takes_placed : (frame : Message) (old new : Gathered) (at : ℕ) → TakesPiece old frame new → TakesPiece old frame (record new { at = at })
 takes_placed (Entries sender horizon es) old new at takes = takes
 takes_placed (Digest sender horizon digests) old new at takes = takes
 takes_placed (Want sender horizon request) old new at takes = takes
 
 -- what a feed did, of a decoder inside a frame
-fed_inside : (piece : List ℕ) (fed : Fed) (frame : Option Message) (old next : DecoderState) → FeedStep old piece (Ok fed) next → fed.frame ≡ frame → (b : List ℕ) → old ≡ Inside b → TakesPiece b piece fed.taken frame next
+fed_inside : (piece : List ℕ) (fed : Fed) (frame : Option Message) (old next : DecoderState) → FeedStep old piece (Ok fed) next → fed.message ≡ frame → (b : List ℕ) → old ≡ Inside b → TakesBytes b piece fed.taken frame next
 fed_inside piece fed frame old next feeds is b inside =
-    subst (λ (o : Option Message). TakesPiece b piece fed.taken o next) is (subst (λ (d : DecoderState). FeedStep d piece (Ok fed) next) inside feeds)
+    subst (λ (o : Option Message). TakesBytes b piece fed.taken o next) is (subst (λ (d : DecoderState). FeedStep d piece (Ok fed) next) inside feeds)
 
-pub part_read : (seen piece : List ℕ) (fed : Fed) (old new : Gathered) → Gathers seen old → FeedStep old.decoder piece (Ok fed) new.decoder → fed.frame ≡ None
+pub part_read : (seen piece : List ℕ) (fed : Fed) (old new : Gathered) → Gathers seen old → FeedStep old.decoder piece (Ok fed) new.decoder → fed.message ≡ None
     → new.history ≡ old.history → new.horizon ≡ old.horizon → new.whole ≡ false → new.seen ≡ old.seen + fed.taken → new.at ≡ old.at → HasRead (seen ++ take fed.taken piece) new
 part_read seen piece fed old new g feeds none history horizon unclosed more same =
     let f = fed_inside piece fed None old.decoder new.decoder feeds none in
     took_part seen piece fed.taken old new g (f g.begun g.held).0 (λ b is. ((f b is).1, (f b is).2)) history horizon unclosed more same
 
-pub whole_read : (seen piece : List ℕ) (fed : Fed) (frame : Message) (old mid new : Gathered) → Gathers seen old → FeedStep old.decoder piece (Ok fed) mid.decoder → fed.frame ≡ Some frame
-    → mid.history ≡ old.history → mid.horizon ≡ old.horizon → new.decoder ≡ mid.decoder → TakesMessage mid frame new
+pub whole_read : (seen piece : List ℕ) (fed : Fed) (frame : Message) (old mid new : Gathered) → Gathers seen old → FeedStep old.decoder piece (Ok fed) mid.decoder → fed.message ≡ Some frame
+    → mid.history ≡ old.history → mid.horizon ≡ old.horizon → new.decoder ≡ mid.decoder → TakesPiece mid frame new
     → new.seen ≡ old.seen + fed.taken → new.at ≡ new.seen → HasRead (seen ++ take fed.taken piece) new
 whole_read seen piece fed frame old mid new g feeds some history horizon same takes more here =
     let f = fed_inside piece fed (Some frame) old.decoder mid.decoder feeds some in
@@ -279,7 +279,7 @@ some_taken seen piece zero frame old g feeds =
     absurd (no_ok (sym (g.part (length g.begun)) ∙ ap read_frame whole ∙ frame_read g.begun frame spelt))
 some_taken seen piece (suc n) frame old g feeds = omega arith
 
-pub some_fed : (seen piece : List ℕ) (fed : Fed) (frame : Message) (old : Gathered) (next : DecoderState) → Gathers seen old → FeedStep old.decoder piece (Ok fed) next → fed.frame ≡ Some frame → 0 < fed.taken
+pub some_fed : (seen piece : List ℕ) (fed : Fed) (frame : Message) (old : Gathered) (next : DecoderState) → Gathers seen old → FeedStep old.decoder piece (Ok fed) next → fed.message ≡ Some frame → 0 < fed.taken
 some_fed seen piece fed frame old next g feeds some = some_taken seen piece fed.taken frame old g (λ b is. (fed_inside piece fed (Some frame) old.decoder next feeds some b is).1)
 
 -- ---- refusals
@@ -402,7 +402,7 @@ pub frame_rejected : (seen piece : List ℕ) (n : ℕ) (frame : Message) (why : 
 frame_rejected seen piece n frame why old mid g feeds history known x later =
     rejects_refused seen piece later n frame why old g (feeds g.begun g.held) (rejects_same frame why old mid history known x)
 
-pub whole_rejected : (seen piece : List ℕ) (fed : Fed) (frame : Message) (why : DumpFault) (old mid : Gathered) (next : DecoderState) → Gathers seen old → FeedStep old.decoder piece (Ok fed) next → fed.frame ≡ Some frame
+pub whole_rejected : (seen piece : List ℕ) (fed : Fed) (frame : Message) (why : DumpFault) (old mid : Gathered) (next : DecoderState) → Gathers seen old → FeedStep old.decoder piece (Ok fed) next → fed.message ≡ Some frame
     → mid.history ≡ old.history → mid.horizon ≡ old.horizon → Rejects mid frame why → IsRefusedForGood (seen ++ piece) old.at why
 whole_rejected seen piece fed frame why old mid next g feeds some history known x =
     frame_rejected seen piece fed.taken frame why old mid g (λ b is. (fed_inside piece fed (Some frame) old.decoder next feeds some b is).1) history known x

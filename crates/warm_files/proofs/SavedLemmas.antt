@@ -31,8 +31,8 @@ use Rattle.warm_frames.specs.declared.message.Message.{Message}
 use Rattle.warm_frames.specs.declared.message.Message.TheVariants.{Entries}
 use Rattle.warm_frames.specs.Digests.{IsDigestTable}
 use Rattle.warm_frames.specs.Entries.{IsEntry, entries_bytes}
-use Rattle.warm_frames.specs.Pieces.{SpellAll, texts_of}
-use Rattle.warm_frames.specs.Spelling.{IsValidMessage, Encodes, encoding}
+use Rattle.warm_frames.specs.Pieces.{EncodeAll, texts_of}
+use Rattle.warm_frames.specs.Encoding.{IsValidMessage, Encodes, encoding}
 use Rattle.warm_frames.specs.Reading.{format_of}
 use Rattle.warm_digest.specs.BucketDigests.{bucket_digest, digests_of}
 use Rattle.warm_digest.specs.Exchange.{Fits}
@@ -59,7 +59,7 @@ value_of (Err e) is = absurd (never is)
 spelled : (f : Message) → IsValidMessage f → Encodes (encoding f) f
 spelled f fits = (value_of (format_of MAGIC) refl, record { fits = fits; holds = tt; text = refl })
 
-all_spelled : (fs : List Message) → AllByRecursion IsValidMessage fs → SpellAll (map encoding fs) fs
+all_spelled : (fs : List Message) → AllByRecursion IsValidMessage fs → EncodeAll (map encoding fs) fs
 all_spelled [] all = tt
 all_spelled (f ∷ fs) all = (spelled f all.0, all_spelled fs all.1)
 

@@ -8,7 +8,7 @@ use Rattle.warm_history.specs.Carried.{bucket_entries}
 use Rattle.warm_frames.specs.declared.layout.TheConstants.{MAX_ENTRIES}
 use Rattle.warm_frames.specs.declared.message.Message.{Message}
 use Rattle.warm_frames.specs.declared.message.Message.TheVariants.{Entries, Digest}
-use Rattle.warm_frames.specs.Spelling.{encoding}
+use Rattle.warm_frames.specs.Encoding.{encoding}
 use Rattle.warm_digest.specs.BucketDigests.{digests_of}
 
 -- the list in pieces of `size` items, of which the last may be shorter; at most n pieces

@@ -8,7 +8,7 @@ use Rattle.warm_frames.specs.declared.fault.FrameFault.{FrameFault}
 use Rattle.warm_frames.specs.declared.fault.FrameFault.TheVariants as frame_faults
 use Rattle.warm_frames.specs.declared.message.Message.{Message}
 use Rattle.warm_frames.specs.declared.message.Message.TheVariants.{Entries, Digest, Want}
-use Rattle.warm_frames.specs.Pieces.{SpellAll, texts_of, Splits, Fails}
+use Rattle.warm_frames.specs.Pieces.{EncodeAll, texts_of, Splits, Fails}
 use Rattle.warm_digest.specs.BucketDigests.{digests_of}
 use Rattle.warm_files.specs.declared.fault.DumpFault.{DumpFault}
 use Rattle.warm_files.specs.declared.fault.DumpFault.TheVariants.{Frame, CutShort, DigestsDiffer, HorizonsDiffer, MoreFollows, ReadFault, WriteFault}
@@ -48,7 +48,7 @@ history_of_messages horizon frames = history (references_in horizon frames)
 pub record Begins (text : List ℕ) (frames : List Message) (rest : List ℕ) : Type 0 where
   pub texts : List (List ℕ)
   pub whole : text ≡ texts_of texts ++ rest
-  pub each : SpellAll texts frames
+  pub each : EncodeAll texts frames
 
 -- The text is a dump of the history: frames of entries, and then the frame of the digests, all with the history's horizon, and nothing else.
 -- The frames tell the history, and the digests are its own. Any replica may have sent each frame.

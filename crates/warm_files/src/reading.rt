@@ -120,15 +120,15 @@ impl Gathered {
         Ok(())
     }
 
-    // Takes a frame.
-    fn take_frame(&mut self, frame: &Message) -> Result<(), DumpFault>
+    // Takes a message.
+    fn take_message(&mut self, message: &Message) -> Result<(), DumpFault>
         requires { self.old.whole ≡ false }
-        ensures takes { OnOk result (TakesMessage self.old frame.now self.new) }
+        ensures takes { OnOk result (TakesMessage self.old message.now self.new) }
         ensures decoder { self.new.decoder ≡ self.old.decoder }
         ensures counts { (self.new.seen ≡ self.old.seen) × (self.new.at ≡ self.old.at) }
-        ensures refused { IfErr result (λ why. Rejects self.old frame.now why) }
+        ensures refused { IfErr result (λ why. Rejects self.old message.now why) }
     {
-        match frame {
+        match message {
             Message::Entries {
                 sender: _,
                 horizon,
@@ -157,11 +157,11 @@ impl Gathered {
     {
         match self.decoder.feed(piece) {
             Ok(fed) => {
-                let Fed { taken, frame } = fed;
+                let Fed { taken, message } = fed;
                 let seen = count(self.seen, taken)?;
                 self.seen = seen;
-                match frame {
-                    Some(frame) => self.take_frame(frame.as_message())?,
+                match message {
+                    Some(message) => self.take_message(message.as_message())?,
                     None => return Ok(taken),
                 }
                 self.at = seen;

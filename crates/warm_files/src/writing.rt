@@ -2,7 +2,7 @@
 ghost use Rattle.std.specs.Prelude.{◌≡◌, take, drop, OnOk, IfOk, IfErr};
 ghost use Rattle.std.specs.Io.KnownBytes.{Appends};
 ghost use Rattle.warm_frames.specs.declared.layout.TheConstants.{MAX_ENTRIES};
-ghost use Rattle.warm_frames.specs.Spelling.{encoding};
+ghost use Rattle.warm_frames.specs.Encoding.{encoding};
 ghost use Rattle.warm_history.specs.Histories.{PagesAscend};
 ghost use Rattle.warm_files.specs.Dumps.{dump_of, entry_frames, messages_of, last_frame, text_of};
 ghost use Rattle.warm_files.specs.Writing.{StopsWriting};

@@ -336,9 +336,9 @@ fn digests_of(body: &[u8]) -> Result<DigestTable, FrameFault>
     }
 }
 
-/// The frame that the bytes spell, or the first fault.
+/// The message that the bytes encode, or the first fault.
 #[tactic(auto, unfolding(crate::specs::Reading::read_frame, crate::specs::Reading::read_message, crate::specs::Reading::reserved_by))]
-pub(crate) fn frame_in(alloc: Global, bytes: &[u8]) -> Result<Message, FrameFault>
+pub(crate) fn message_in(alloc: Global, bytes: &[u8]) -> Result<Message, FrameFault>
     ensures { GivesReading result (read_frame bytes.now) (reserved_by bytes.now) }
 {
     let (format, kind, sender, horizon, rest) = match start_at(bytes) {

@@ -2,7 +2,7 @@ use Rattle.std.proofs.Common.{◌<◌, ◌++◌, length, vec_len, sym, ◌∙◌
 use Rattle.std.proofs.KnownBytes.{Appends-trans}
 use Rattle.std.proofs.lemmas.Bool.{eqb-false}
 use Rattle.warm_frames.specs.declared.message.Message.TheVariants.{Entries}
-use Rattle.warm_frames.specs.Spelling.{encoding}
+use Rattle.warm_frames.specs.Encoding.{encoding}
 use Rattle.warm_files.proofs.DumpLemmas.{frame_more, left_shorter, piece_fits, rest_rises}
 use Rattle.warm_files.proofs.writing.write_bucket.Goals as goal
 

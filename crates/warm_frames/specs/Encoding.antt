@@ -1,4 +1,4 @@
--- The spellings of a frame: one in each format that can hold it.
+-- The encodings of a message as a frame: one in each format that can hold it.
 use Rattle.std.specs.Prelude.{◌≡◌, ℕ, ◌<◌, ◌^◌, List, [], ◌∷◌, ◌++◌, length, ⊤}
 use Rattle.std.specs.List.{AllByRecursion, flat_map}
 use Rattle.std.specs.Int.{w16, w32, w64, to_be_bytes}
@@ -12,7 +12,7 @@ use Rattle.warm_frames.specs.declared.message.Message.TheVariants.{Entries, Dige
 use Rattle.warm_frames.specs.Entries.{IsEntryList, entries_bytes_in}
 use Rattle.warm_frames.specs.Digests.{IsDigestTable}
 
--- the valid frames
+-- the valid messages
 abbrev pub IsValidMessage : Message → Type 0
 IsValidMessage (Entries sender horizon entries) = IsReplica sender × (horizon < 2 ^ 64) × IsEntryList entries
 IsValidMessage (Digest sender horizon digests) = IsReplica sender × (horizon < 2 ^ 64) × IsDigestTable digests
@@ -32,38 +32,38 @@ horizon_bytes Wide horizon = to_be_bytes w64 horizon
 abbrev pub header_bytes : Format → ℕ → ℕ → ℕ → ℕ → List ℕ
 header_bytes format kind sender horizon len = to_be_bytes w32 (magic_of format) ++ (kind ∷ (to_be_bytes w16 sender ++ (horizon_bytes format horizon ++ to_be_bytes w32 len)))
 
--- a header and the body
-abbrev pub framed : Format → ℕ → ℕ → ℕ → List ℕ → List ℕ
-framed format kind sender horizon body = header_bytes format kind sender horizon (length body) ++ body
+-- a frame: a header and the body
+abbrev pub frame_bytes : Format → ℕ → ℕ → ℕ → List ℕ → List ℕ
+frame_bytes format kind sender horizon body = header_bytes format kind sender horizon (length body) ++ body
 
 -- The encoding of a message in a format, by its kind. The body of entries is their count and the
 -- entries, that of digests is the digests one after the other, and that of a request is its number.
-abbrev pub spelling_in : Format → Message → List ℕ
-spelling_in format (Entries sender horizon entries) = framed format 1 sender horizon (to_be_bytes w32 (length entries) ++ entries_bytes_in format entries)
-spelling_in format (Digest sender horizon digests) = framed format 2 sender horizon (flat_map (λ digest. digest) digests)
-spelling_in format (Want sender horizon request) = framed format 3 sender horizon (to_be_bytes w64 request)
+abbrev pub encoding_in : Format → Message → List ℕ
+encoding_in format (Entries sender horizon entries) = frame_bytes format 1 sender horizon (to_be_bytes w32 (length entries) ++ entries_bytes_in format entries)
+encoding_in format (Digest sender horizon digests) = frame_bytes format 2 sender horizon (flat_map (λ digest. digest) digests)
+encoding_in format (Want sender horizon request) = frame_bytes format 3 sender horizon (to_be_bytes w64 request)
 
 -- the encoding that is written
 abbrev pub encoding : Message → List ℕ
-encoding f = spelling_in Wide f
+encoding f = encoding_in Wide f
 
 -- the numbers of all pages fit in 32 bits
 abbrev pub AreNarrow : List Entry → Type 0
 AreNarrow es = AllByRecursion (λ e. e.page.no < 2 ^ 32) es
 
--- the format can hold the frame: the narrow one holds no horizon, and only page numbers of 32 bits
+-- the format can hold the message: the narrow one holds no horizon, and only page numbers of 32 bits
 abbrev pub CanHold : Format → Message → Type 0
 CanHold Wide f = ⊤
 CanHold Narrow (Entries sender horizon entries) = (horizon ≡ 0) × AreNarrow entries
 CanHold Narrow (Digest sender horizon digests) = horizon ≡ 0
 CanHold Narrow (Want sender horizon request) = horizon ≡ 0
 
--- these bytes spell this frame in a format
-pub record SpellsIn (format : Format) (bytes : List ℕ) (frame : Message) : Type 0 where
-  pub fits : IsValidMessage frame
-  pub holds : CanHold format frame
-  pub text : bytes ≡ spelling_in format frame
+-- these bytes encode this message in a format
+pub record EncodesIn (format : Format) (bytes : List ℕ) (message : Message) : Type 0 where
+  pub fits : IsValidMessage message
+  pub holds : CanHold format message
+  pub text : bytes ≡ encoding_in format message
 
--- these bytes spell this frame
+-- these bytes encode this message
 abbrev pub Encodes : List ℕ → Message → Type 0
-Encodes bytes frame = (format : Format) × SpellsIn format bytes frame
+Encodes bytes message = (format : Format) × EncodesIn format bytes message
