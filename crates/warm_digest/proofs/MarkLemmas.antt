@@ -8,7 +8,7 @@ use Rattle.warm_history.specs.Changes.{MarksChanged}
 use Rattle.warm_history.specs.Histories.{HistoryView, entries_of}
 use Rattle.warm_history.specs.Carried.{bucket_entries}
 use Rattle.warm_history.specs.Losses.{MarksLosing, raised}
-use Rattle.warm_digest.specs.KeptDigests.{MarksChanges, StaysMarked}
+use Rattle.warm_digest.specs.CachedDigests.{MarksChanges, StaysMarked}
 
 -- the buckets are marked whose entries change
 pub marks_changes : (h g : HistoryView) (old changed : ℕ) → MarksChanged (entries_of h) (entries_of g) changed → MarksChanges (record { history = h; marked = old }) (record { history = g; marked = bit_or old changed })

@@ -4,9 +4,9 @@ ghost use Rattle.warm_history.specs.Changes.{MarksChanged};
 ghost use Rattle.warm_history.specs.ReferenceSets.{set_of_list, with_horizon, ◌∪◌};
 ghost use Rattle.warm_history.specs.Histories.{entries_of, history, history_of_entries, history_of_entries_at, join, references_of};
 ghost use Rattle.warm_digest.specs.BucketDigests.{digests_of, digests_at_horizon};
-ghost use Rattle.warm_digest.specs.KeptDigests.{MarksChanges, StaysMarked};
+ghost use Rattle.warm_digest.specs.CachedDigests.{MarksChanges, StaysMarked};
 
-use crate::kept::Digests;
+use crate::cached::Digests;
 use std::alloc::{AllocError, Global};
 use std::marker::Model;
 use warm_frames::DigestTable;
@@ -43,7 +43,7 @@ impl Drop for DigestedHistory {
 
 impl Model for DigestedHistory {
     ghost use Rattle.warm_history.specs.Histories.{entries_of};
-    ghost use Rattle.warm_digest.specs.KeptDigests.{DigestedView, AreCurrent};
+    ghost use Rattle.warm_digest.specs.CachedDigests.{DigestedView, AreCurrent};
 
     ghost Value = { DigestedView };
 
@@ -74,8 +74,9 @@ impl DigestedHistory {
         &self.history
     }
 
-    /// Takes in references, as [`History::absorb`] does: `AllocError` changes nothing. It marks the buckets whose entries changed, and
-    /// returns the set of them: bit b, of value 2^b, is set for bucket b.
+    /// Takes in references, as [`History::absorb`] does: `AllocError` changes nothing. It marks the
+    /// buckets whose entries changed, and returns the set of them: bit b, of value 2^b, is set for
+    /// bucket b.
     pub fn absorb(&mut self, batch: &[Reference]) -> Result<u64, AllocError>
         ensures exact { OnOk result
             (self.new.history ≡ history (references_of self.old.history ∪ set_of_list batch.now)) }
@@ -133,7 +134,8 @@ impl DigestedHistory {
         self.history.horizon()
     }
 
-    /// Forgets all stamps before this time, as [`History::raise`] does. It marks the buckets that lose a stamp, and returns the set of them.
+    /// Forgets all stamps before this time, as [`History::raise`] does. It marks the buckets that
+    /// lose a stamp, and returns the set of them.
     ///
     /// Where the time is later than the horizon, finding them costs one more scan of each bucket,
     /// up to its first older stamp.
@@ -201,7 +203,7 @@ impl DigestedHistory {
         }
         let lost = self.history.losing(horizon);
         self.digests.renew(&self.history, self.changed & !lost)?;
-        let table = self.digests.table_since(&self.history, horizon, lost)?;
+        let table = self.digests.table_at_horizon(&self.history, horizon, lost)?;
         self.changed &= lost;
         Ok(table)
     }

@@ -1,4 +1,5 @@
-//! Bucket digests: two replicas whose digests of a bucket are equal need not send each other its entries.
+//! Bucket digests: two replicas whose digests of a bucket are equal need not send each other its
+//! entries.
 //!
 //! The digest of a bucket is the SHA-256 digest (FIPS 180-4) of its entries as they are in a gossip
 //! frame, one after the other in page order, without a count. A [`DigestedHistory`] caches its
@@ -9,12 +10,12 @@ ghost use Rattle.std.specs.Prelude.{◌≡◌, IfOk};
 ghost use Rattle.warm_history.specs.Histories.{entries_of};
 ghost use Rattle.warm_digest.specs.BucketDigests.{digests_of, MarksDiffering};
 
+mod cached;
 mod digested;
-mod kept;
 pub mod laws;
 
+pub use cached::Digests;
 pub use digested::DigestedHistory;
-pub use kept::Digests;
 use std::alloc::{AllocError, Global};
 use warm_frames::DigestTable;
 use warm_history::History;

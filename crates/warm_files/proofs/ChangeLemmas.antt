@@ -13,7 +13,7 @@ use Rattle.warm_frames.specs.Digests.{digest_at}
 use Rattle.warm_digest.specs.BucketDigests.{bucket_digest, digests_of}
 use Rattle.warm_digest.specs.Exchange.{IsCollision, IsDifferenceOf, Fits, in_buckets}
 use Rattle.warm_digest.proofs.ExchangeLemmas.{exchange_joins}
-use Rattle.warm_digest.proofs.KeptLemmas.{digest_is}
+use Rattle.warm_digest.proofs.CachedLemmas.{digest_is}
 use Rattle.warm_files.specs.Laws.{ChangedDumpIsSeen}
 use Rattle.warm_files.specs.Reading.{references_in}
 use Rattle.warm_files.proofs.FitLemmas.{dump_fits}

@@ -1,6 +1,6 @@
 use Rattle.std.proofs.Common.{◌∙◌}
 use Rattle.warm_history.specs.Histories.{entries_of}
-use Rattle.warm_digest.proofs.KeptLemmas.{all_renewed}
+use Rattle.warm_digest.proofs.CachedLemmas.{all_renewed}
 use Rattle.warm_digest.proofs.digests.Goals as goal
 
 pub returns : goal.returns

@@ -1,4 +1,4 @@
-use Rattle.warm_digest.proofs.KeptLemmas.{nothing_kept}
+use Rattle.warm_digest.proofs.CachedLemmas.{nothing_kept}
 use Rattle.warm_digest.proofs.digested.DigestedHistory.clear.Goals as goal
 
 pub invariant_of-self : goal.invariant_of-self

@@ -4,8 +4,8 @@ use Rattle.warm_history.specs.Histories.{HistoryView, entries_of}
 use Rattle.warm_history.specs.Losses.{raised}
 use Rattle.warm_history.proofs.JoinLemmas.{raised_to_no_later}
 use Rattle.warm_digest.specs.BucketDigests.{digests_of, digests_at_horizon}
-use Rattle.warm_digest.specs.KeptDigests.{DigestedView, StaysMarked}
-use Rattle.warm_digest.proofs.KeptLemmas.{all_since, others_right}
+use Rattle.warm_digest.specs.CachedDigests.{DigestedView, StaysMarked}
+use Rattle.warm_digest.proofs.CachedLemmas.{all_at_horizon, others_right}
 use Rattle.warm_digest.proofs.MarkLemmas.{losing_stay, none_stay_if}
 use Rattle.warm_digest.proofs.digested.DigestedHistory.digests_at_horizon.Goals as goal
 
@@ -17,7 +17,7 @@ pub returns-clause-table : goal.returns-clause-table
 returns-clause-table c =
     let given = c.in_ok-table in
     subst (λ (v : DigestedView). given.table ≡ digests_at_horizon c.args.horizon v.history) c.self.view_is
-    (all_since c.self.inside.changed c.losing-lost.result c.args.horizon c.self.inside.history c.renew.new.self given.table given.ensures.count (invariant_of-self-2 c) c.losing-lost.ensures.lost given.ensures.wanted given.ensures.others)
+    (all_at_horizon c.self.inside.changed c.losing-lost.result c.args.horizon c.self.inside.history c.renew.new.self given.table given.ensures.count (invariant_of-self-2 c) c.losing-lost.ensures.lost given.ensures.wanted given.ensures.others)
 
 -- at no later horizon than its own a history is raised to itself
 pub returns-then-horizon-clause-table : goal.returns-then-horizon-clause-table

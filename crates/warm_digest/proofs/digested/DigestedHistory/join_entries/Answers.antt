@@ -2,8 +2,8 @@ use Rattle.std.proofs.Common.{◌≡◌, subst}
 use Rattle.std.specs.Prelude.{bit_or}
 use Rattle.warm_history.specs.Changes.{MarksChanged}
 use Rattle.warm_history.specs.Histories.{entries_of}
-use Rattle.warm_digest.specs.KeptDigests.{DigestedView, MarksChanges}
-use Rattle.warm_digest.proofs.KeptLemmas.{kept_as_marked}
+use Rattle.warm_digest.specs.CachedDigests.{DigestedView, MarksChanges}
+use Rattle.warm_digest.proofs.CachedLemmas.{kept_as_marked}
 use Rattle.warm_digest.proofs.MarkLemmas.{marks_changes}
 use Rattle.warm_digest.proofs.digested.DigestedHistory.join_entries.Goals as goal
 

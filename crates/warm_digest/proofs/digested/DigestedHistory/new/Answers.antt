@@ -1,4 +1,4 @@
-use Rattle.warm_digest.proofs.KeptLemmas.{nothing_kept}
+use Rattle.warm_digest.proofs.CachedLemmas.{nothing_kept}
 use Rattle.warm_digest.proofs.digested.DigestedHistory.new.Goals as goal
 
 pub invariant_of-result : goal.invariant_of-result

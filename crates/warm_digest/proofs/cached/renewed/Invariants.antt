@@ -5,8 +5,8 @@ use Rattle.warm_history.specs.Histories.{entries_of}
 use Rattle.warm_history.specs.Losses.{raised}
 use Rattle.warm_frames.specs.Digests.{digest_at}
 use Rattle.warm_digest.specs.BucketDigests.{bucket_digest}
-use Rattle.warm_digest.specs.KeptDigests.{SameDigestsOutside}
-use Rattle.warm_digest.proofs.kept.renewed.Given as goal
+use Rattle.warm_digest.specs.CachedDigests.{SameDigestsOutside}
+use Rattle.warm_digest.proofs.cached.renewed.Given as goal
 
 -- the buckets before the index are done
 abbrev pub invariant-loop-index : goal.invariant-loop-index

@@ -8,7 +8,7 @@ ghost use Rattle.warm_history.specs.Losses.{raised};
 ghost use Rattle.warm_frames.specs.Entries.{entry_bytes, entries_bytes};
 ghost use Rattle.warm_digest.specs.BucketDigests.{digests_of};
 ghost use Rattle.warm_digest.specs.Hashing.{Gathers};
-ghost use Rattle.warm_digest.specs.KeptDigests.{HasDigestsOf, SameDigestsOutside};
+ghost use Rattle.warm_digest.specs.CachedDigests.{HasDigestsOf, SameDigestsOutside};
 
 use sha2::{Digest, Sha256};
 use std::alloc::{AllocError, Global};
@@ -85,7 +85,7 @@ impl Digests {
 
     // These digests, with those of the wanted buckets replaced by what they would be if the history
     // were raised to the horizon. An empty set costs nothing.
-    pub(crate) fn table_since(
+    pub(crate) fn table_at_horizon(
         &self,
         history: &History,
         horizon: u64,
@@ -121,10 +121,7 @@ fn gather_entry(hasher: &mut Sha256, text: &mut Vec<u8>, entry: &Entry) -> Resul
 
 // The digest of entries. The buffer is overwritten. With capacity for `HASHED_SIZE` bytes and the
 // bytes of an entry it never grows.
-fn digest_of(
-    entries: CutEntries<'_>,
-    buffer: &mut Vec<u8>,
-) -> Result<[u8; DIGEST_SIZE], AllocError>
+fn digest_of(entries: CutEntries<'_>, buffer: &mut Vec<u8>) -> Result<[u8; DIGEST_SIZE], AllocError>
     ensures { IfOk result (λ digest. digest ≡ sha256 (entries_bytes entries.entry)) }
 {
     buffer.clear();

@@ -1,7 +1,7 @@
 use Rattle.std.proofs.Common.{◌≡◌, ◌++◌}
 use Rattle.warm_frames.specs.Entries.{entries_bytes}
 use Rattle.warm_digest.specs.Hashing.{Gathers}
-use Rattle.warm_digest.proofs.kept.digest_of.Given as goal
+use Rattle.warm_digest.proofs.cached.digest_of.Given as goal
 
 abbrev pub invariant-loop-entry : goal.invariant-loop-entry
 invariant-loop-entry l = record {

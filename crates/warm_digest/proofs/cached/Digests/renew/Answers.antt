@@ -1,8 +1,8 @@
 use Rattle.std.proofs.Common.{subst, arith}
 use Rattle.warm_history.specs.Histories.{HistoryView, entries_of}
 use Rattle.warm_history.proofs.JoinLemmas.{raised_to_no_later}
-use Rattle.warm_digest.specs.KeptDigests.{HasDigestsOf}
-use Rattle.warm_digest.proofs.kept.Digests.renew.Goals as goal
+use Rattle.warm_digest.specs.CachedDigests.{HasDigestsOf}
+use Rattle.warm_digest.proofs.cached.Digests.renew.Goals as goal
 
 -- nothing is older than time 0
 pub returns-clause-wanted : goal.returns-clause-wanted

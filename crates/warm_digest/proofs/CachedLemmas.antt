@@ -14,7 +14,7 @@ use Rattle.warm_frames.specs.Entries.{entries_bytes}
 use Rattle.warm_frames.specs.Digests.{digest_at}
 use Rattle.sha2.specs.Sha256.{sha256}
 use Rattle.warm_digest.specs.BucketDigests.{bucket_digest, digests_of, digests_at_horizon}
-use Rattle.warm_digest.specs.KeptDigests.{HasDigestsOf, SameDigestsOutside, AreCurrent}
+use Rattle.warm_digest.specs.CachedDigests.{HasDigestsOf, SameDigestsOutside, AreCurrent}
 
 abbrev digest_from : List Entry → List ℕ
 digest_from es = sha256 (entries_bytes es)
@@ -69,9 +69,9 @@ others_right changed lost h old new fits kept has same bucket low clear =
     ]
 
 -- digests of a history, with those that it would have at a horizon of the buckets that lose something there
-pub all_since : (changed lost horizon : ℕ) (h : HistoryView) (own table : List (List ℕ)) → length table ≡ BUCKETS → AreCurrent (bit_and changed lost) (entries_of h) own → MarksLosing horizon h lost
+pub all_at_horizon : (changed lost horizon : ℕ) (h : HistoryView) (own table : List (List ℕ)) → length table ≡ BUCKETS → AreCurrent (bit_and changed lost) (entries_of h) own → MarksLosing horizon h lost
     → HasDigestsOf lost (entries_of (raised horizon h)) table → SameDigestsOutside lost own table → table ≡ digests_at_horizon horizon h
-all_since changed lost horizon h own table count kept loses has same = all_done table (entries_of (raised horizon h)) count (λ bucket low. elim (cases_eq (bit_at lost bucket) 1) [
+all_at_horizon changed lost horizon h own table count kept loses has same = all_done table (entries_of (raised horizon h)) count (λ bucket low. elim (cases_eq (bit_at lost bucket) 1) [
   | inl set ↦ has bucket low set
   | inr clear ↦ (let zero_is : bit_at lost bucket ≡ 0 = omega (arith, bit_at-lt lost bucket, clear) in
       let both : bit_at (bit_and changed lost) bucket ≡ 0 = bit_at_and changed lost bucket ∙ omega (arith, zero_is) in
