@@ -67,18 +67,18 @@ fn full_frame(alloc: Global, sender: ReplicaId) -> Result<Message> {
     }
 }
 
-fn encoded(alloc: Global, frame: &Message) -> Result<Vec<u8>> {
-    match encode(alloc, frame) {
+fn encoded(alloc: Global, message: &Message) -> Result<Vec<u8>> {
+    match encode(alloc, message) {
         Ok(bytes) => Ok(bytes),
         Err(_) => bail!("no memory"),
     }
 }
 
 // The bytes of the last of `rounds` encodings.
-fn encode_often(alloc: Global, frame: &Message, rounds: u64) -> Result<Vec<u8>> {
-    let mut bytes = encoded(alloc, frame)?;
+fn encode_often(alloc: Global, message: &Message, rounds: u64) -> Result<Vec<u8>> {
+    let mut bytes = encoded(alloc, message)?;
     for _ in 1..rounds {
-        bytes = encoded(alloc, frame)?;
+        bytes = encoded(alloc, message)?;
     }
     Ok(bytes)
 }
@@ -121,12 +121,12 @@ fn stream_of(alloc: Global, bytes: &[u8], frames: u64) -> Result<Vec<u8>> {
     Ok(stream)
 }
 
-// The number of entries of a frame, where there is one.
-fn entries_in(frame: Option<BoxedMessage>) -> u64 {
-    let Some(frame) = frame else {
+// The number of entries of a message, where there is one.
+fn entries_in(message: Option<BoxedMessage>) -> u64 {
+    let Some(message) = message else {
         return 0;
     };
-    match frame.as_message() {
+    match message.as_message() {
         Message::Entries { entries, .. } => entries.as_slice().len() as u64,
         _ => 0,
     }
@@ -140,10 +140,10 @@ fn feed_all(decoder: &mut Decoder, piece: &[u8]) -> Option<u64> {
         if rest.is_empty() {
             break;
         }
-        let Ok(Fed { taken, frame }) = decoder.feed(rest) else {
+        let Ok(Fed { taken, message }) = decoder.feed(rest) else {
             return None;
         };
-        count = count.wrapping_add(entries_in(frame));
+        count = count.wrapping_add(entries_in(message));
         rest = rest.get(taken..)?;
     }
     Some(count)

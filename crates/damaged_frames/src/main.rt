@@ -41,9 +41,14 @@ fn put_digests<W: Write>(alloc: Global, writer: &mut W, digests: &DigestTable) -
     Ok(())
 }
 
-// A frame's fields, and whether these bytes are its encoding.
-fn put_frame<W: Write>(alloc: Global, writer: &mut W, frame: &Message, bytes: &[u8]) -> Result<()> {
-    match frame {
+// A message's fields, and whether these bytes are its encoding.
+fn put_message<W: Write>(
+    alloc: Global,
+    writer: &mut W,
+    message: &Message,
+    bytes: &[u8],
+) -> Result<()> {
+    match message {
         Message::Entries {
             sender,
             entries,
@@ -66,9 +71,9 @@ fn put_frame<W: Write>(alloc: Global, writer: &mut W, frame: &Message, bytes: &[
             sender,
             request,
             ..
-        } => write!(writer, " want {} {}", sender.get(), request)?,
+        } => write!(writer, " want {} {}", sender.get(), request.bits())?,
     }
-    if encode(alloc, frame)?.as_slice() == bytes {
+    if encode(alloc, message)?.as_slice() == bytes {
         write!(writer, " same")?;
     } else {
         write!(writer, " other")?;
@@ -83,7 +88,7 @@ fn put_fault<W: Write>(writer: &mut W, fault: FrameFault) -> Result<()> {
 
 fn put_whole<W: Write>(alloc: Global, writer: &mut W, bytes: &[u8]) -> Result<()> {
     match decode(alloc, bytes) {
-        Ok(frame) => put_frame(alloc, writer, &frame, bytes),
+        Ok(message) => put_message(alloc, writer, &message, bytes),
         Err(fault) => put_fault(writer, fault),
     }
 }
@@ -108,11 +113,11 @@ fn put_fed<W: Write>(
         bail!("a piece is part of the bytes")
     };
     match reader.decoder.feed(rest) {
-        Ok(Fed { taken, frame }) => {
+        Ok(Fed { taken, message }) => {
             reader.fed = reader.fed.wrapping_add(taken);
-            if let Some(frame) = frame {
-                let spelled = reader.bytes.get(reader.begun..reader.fed);
-                put_frame(alloc, writer, frame.as_message(), spelled.unwrap_or(&[]))?;
+            if let Some(message) = message {
+                let frame = reader.bytes.get(reader.begun..reader.fed);
+                put_message(alloc, writer, message.as_message(), frame.unwrap_or(&[]))?;
                 reader.begun = reader.fed;
                 write!(writer, " to {}", reader.fed)?;
             }

@@ -17,34 +17,34 @@ const NARROW: [u8; 42] = [
 
 fn decoded(met: &mut Met, alloc: Global, bytes: &[u8]) -> Result<Message, Ended> {
     match decode(alloc, bytes) {
-        Ok(frame) => Ok(frame),
+        Ok(message) => Ok(message),
         Err(fault) => {
-            met.refuse(fault == FrameFault::Memory, "the bytes spell a frame")?;
+            met.refuse(fault == FrameFault::Memory, "the bytes encode a message")?;
             match decode(alloc, bytes) {
-                Ok(frame) => Ok(frame),
+                Ok(message) => Ok(message),
                 Err(_) => Err(met.broken("decode is refused again")),
             }
         }
     }
 }
 
-fn spelled(met: &mut Met, alloc: Global, frame: &Message, wanted: &[u8]) -> Result<(), Ended> {
-    let bytes = match encode(alloc, frame) {
+fn encoded(met: &mut Met, alloc: Global, message: &Message, wanted: &[u8]) -> Result<(), Ended> {
+    let bytes = match encode(alloc, message) {
         Ok(bytes) => bytes,
         Err(_) => {
             met.refuse(true, "")?;
-            let Ok(bytes) = encode(alloc, frame) else {
+            let Ok(bytes) = encode(alloc, message) else {
                 return Err(met.broken("encode is refused again"));
             };
             bytes
         }
     };
-    met.holds(bytes.as_slice() == wanted, "a frame is written in one way")
+    met.holds(bytes.as_slice() == wanted, "a message is written in one way")
 }
 
 // Feeds a piece that lies in the frame. A refusal consumes nothing, so the same piece is fed again.
 fn fed(met: &mut Met, decoder: &mut Decoder, piece: &[u8]) -> Result<Option<BoxedMessage>, Ended> {
-    let Fed { taken, frame } = match decoder.feed(piece) {
+    let Fed { taken, message } = match decoder.feed(piece) {
         Ok(fed) => fed,
         Err(fault) => {
             met.refuse(fault == FrameFault::Memory, "the pieces are of a frame")?;
@@ -55,7 +55,7 @@ fn fed(met: &mut Met, decoder: &mut Decoder, piece: &[u8]) -> Result<Option<Boxe
         }
     };
     met.holds(taken == piece.len(), "a piece is taken whole")?;
-    Ok(frame)
+    Ok(message)
 }
 
 fn pieces(met: &mut Met, alloc: Global) -> Result<(), Ended> {
@@ -64,18 +64,18 @@ fn pieces(met: &mut Met, alloc: Global) -> Result<(), Ended> {
     met.holds(first.is_none(), "20 bytes are no frame")?;
     let second = fed(met, &mut decoder, &WIDE[20..53])?;
     met.holds(second.is_none(), "53 bytes are no frame")?;
-    let Some(frame) = fed(met, &mut decoder, &WIDE[53..])? else {
+    let Some(message) = fed(met, &mut decoder, &WIDE[53..])? else {
         return Err(met.broken("54 bytes are a frame"));
     };
-    spelled(met, alloc, frame.as_message(), &WIDE)
+    encoded(met, alloc, message.as_message(), &WIDE)
 }
 
 pub(crate) fn rows(met: &mut Met, alloc: Global) -> Result<(), Ended> {
-    let frame = decoded(met, alloc, &WIDE)?;
-    spelled(met, alloc, &frame, &WIDE)?;
+    let message = decoded(met, alloc, &WIDE)?;
+    encoded(met, alloc, &message, &WIDE)?;
     let older = decoded(met, alloc, &NARROW)?;
     let mut widened = WIDE;
     widened[14] = 0;
-    spelled(met, alloc, &older, &widened)?;
+    encoded(met, alloc, &older, &widened)?;
     pieces(met, alloc)
 }

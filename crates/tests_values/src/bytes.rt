@@ -52,8 +52,8 @@ pub(crate) fn row_holds(rt: &impl Abort, at: usize, is_so: bool) {
     assert!(rt; is_so, "row {at}");
 }
 
-pub(crate) fn encoded(rt: &impl Abort, alloc: Global, frame: &Message) -> Vec<u8> {
-    encode(alloc, frame).expect(rt, "memory for the bytes")
+pub(crate) fn encoded(rt: &impl Abort, alloc: Global, message: &Message) -> Vec<u8> {
+    encode(alloc, message).expect(rt, "memory for the bytes")
 }
 
 pub(crate) fn fault(alloc: Global, bytes: &[u8]) -> Option<FrameFault> {

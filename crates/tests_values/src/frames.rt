@@ -6,16 +6,16 @@ use test_kit::{NARROW, WIDE, bucket, entry, once, page, page_on, replica, twice}
 use warm_frames::{DigestTable, EntryList, FrameFault, Message, decode, put_entry};
 use warm_history::Entry;
 
-// The frame that these bytes are read as, and which is written as those wanted.
+// The message that these bytes are read as, and which is written as those wanted.
 fn read_as(rt: &impl Abort, alloc: Global, bytes: &[u8], want: &[u8]) -> Message {
-    let frame = decode(alloc, bytes).expect(rt, "a frame");
-    assert!(rt; encoded(rt, alloc, &frame).as_slice() == want);
-    frame
+    let message = decode(alloc, bytes).expect(rt, "a frame");
+    assert!(rt; encoded(rt, alloc, &message).as_slice() == want);
+    message
 }
 
-// A frame of entries: the number of its sender, the horizon, and the entries.
-fn said_in(rt: &impl Abort, frame: Message) -> (u16, u64, EntryList) {
-    match frame {
+// A message of entries: the number of its sender, the horizon, and the entries.
+fn said_in(rt: &impl Abort, message: Message) -> (u16, u64, EntryList) {
+    match message {
         Message::Entries {
             sender,
             horizon,
@@ -25,17 +25,17 @@ fn said_in(rt: &impl Abort, frame: Message) -> (u16, u64, EntryList) {
     }
 }
 
-// Whether a frame has this horizon, is of sender 1, and has only the entry 0:7 with stamps 20@1 and
+// Whether a message has this horizon, is of sender 1, and has only the entry 0:7 with stamps 20@1 and
 // 10@1.
-fn says_twice(rt: &impl Abort, frame: Message, since: u64) -> bool {
-    let (sender, horizon, entries) = said_in(rt, frame);
+fn says_twice(rt: &impl Abort, message: Message, since: u64) -> bool {
+    let (sender, horizon, entries) = said_in(rt, message);
     let entries = entries.into_entries();
     let want = entry(page(7), twice((20, 1), (10, 1)));
     sender == 1 && horizon == since && entries.as_slice() == [want].as_slice()
 }
 
 #[test]
-fn entries_have_one_spelling(rt: HostRuntime) {
+fn entries_have_one_encoding(rt: HostRuntime) {
     let wide = read_as(&rt, rt.alloc(), &WIDE, &WIDE);
     assert!(rt; says_twice(&rt, wide, 12));
     let narrow = read_as(&rt, rt.alloc(), &NARROW, &WIDENED);
@@ -52,12 +52,12 @@ fn spread_digests() -> [[u8; 32]; 64] {
 
 // The bytes of sender 64's table of those digests, with the horizon 12.
 fn table_bytes(rt: &impl Abort, alloc: Global) -> Vec<u8> {
-    let frame = Message::Digest {
+    let message = Message::Digest {
         sender: replica(64),
         horizon: 12,
         digests: DigestTable::of(spread_digests()),
     };
-    encoded(rt, alloc, &frame)
+    encoded(rt, alloc, &message)
 }
 
 // Whether these are those bytes.

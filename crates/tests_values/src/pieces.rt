@@ -9,7 +9,7 @@ use std::process::Abort;
 use test_kit::{NARROW, WIDE};
 use warm_frames::{Decoder, FrameFault};
 
-// Feeds the start of a piece, and appends the encoding of a returned frame to the text. Returns the
+// Feeds the start of a piece, and appends the encoding of a returned message to the text. Returns the
 // number of consumed bytes.
 fn feed_some(
     rt: &impl Abort,
@@ -20,14 +20,14 @@ fn feed_some(
 ) -> usize {
     let fed = decoder.feed(piece).expect(rt, "no fault");
     let taken = fed.taken;
-    if let Some(frame) = &fed.frame {
-        let bytes = encoded(rt, alloc, frame.as_message());
+    if let Some(message) = &fed.message {
+        let bytes = encoded(rt, alloc, message.as_message());
         put(rt, text, &bytes);
     }
     taken
 }
 
-// Feeds a whole piece, and appends the spellings of the returned frames to the text.
+// Feeds a whole piece, and appends the encodings of the returned messages to the text.
 fn feed_all(
     rt: &impl Abort,
     alloc: Global,
@@ -45,7 +45,7 @@ fn feed_all(
     }
 }
 
-// Whether these pieces, which must end between two frames, give the frames with these spellings.
+// Whether these pieces, which must end between two frames, give the messages with these encodings.
 fn give(rt: &impl Abort, alloc: Global, pieces: &[&[u8]], want: &[u8]) -> bool {
     let mut decoder = Decoder::new(alloc);
     let mut text = Vec::new(alloc);
@@ -133,7 +133,7 @@ fn a_frame_and_a_byte_in_one_piece(rt: HostRuntime) {
 // Whether an empty piece is consumed and gives no frame.
 fn takes_nothing(decoder: &mut Decoder) -> bool {
     match decoder.feed(&[]) {
-        Ok(fed) => fed.taken == 0 && fed.frame.is_none(),
+        Ok(fed) => fed.taken == 0 && fed.message.is_none(),
         Err(_) => false,
     }
 }
@@ -166,7 +166,7 @@ fn is_not_the_end(rt: &impl Abort, alloc: Global, part: &[u8]) {
     let mut decoder = Decoder::new(alloc);
     assert!(rt; decoder.finish() == Ok(()));
     let begun = decoder.feed(part).expect(rt, "no fault");
-    assert!(rt; begun.taken == part.len() && begun.frame.is_none());
+    assert!(rt; begun.taken == part.len() && begun.message.is_none());
     assert!(rt; decoder.finish() == Err(FrameFault::Truncated));
 }
 

@@ -11,7 +11,7 @@ use Rattle.warm_frames.specs.declared.limit.TimeFault.{TimeFault}
 use Rattle.warm_frames.specs.declared.limit.TimeFault.TheVariants.{LateHorizon, LateStamp}
 use Rattle.warm_frames.specs.Limits.{SpeaksBy, StampsBy, entries_in, horizon_in}
 use Rattle.warm_frames.specs.Reading.{GivesReading, read_frame, reserved_by}
-use Rattle.warm_frames.specs.Spelling.{Encodes, encoding}
+use Rattle.warm_frames.specs.Encoding.{Encodes, encoding}
 use Rattle.warm_pool.specs.State.{IsSettled}
 use Rattle.warm_gossip.specs.declared.call.Call.{Call}
 use Rattle.warm_gossip.specs.declared.call.Call.TheVariants.{Absorb, Send, Receive, Horizon, Pin, Unpin, Read, Write, Victim, WarmList, WarmStep}

@@ -1,4 +1,5 @@
+pub mod CachedLemmas
 mod Examples
 pub mod ExchangeLemmas
-pub mod KeptLemmas
+pub mod FitLemmas
 pub mod MarkLemmas

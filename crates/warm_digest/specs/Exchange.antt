@@ -3,7 +3,9 @@ use Rattle.std.specs.Prelude.{◌≡◌, ◌≢◌, ◌⊎◌, ◌↔◌, ℕ, �
 use Rattle.std.specs.List.{AllByRecursion}
 use Rattle.std.specs.Int.{bit_at}
 use Rattle.sha2.specs.Sha256.{sha256}
+use Rattle.warm_stamps.specs.declared.Reference.{Reference}
 use Rattle.warm_stamps.specs.declared.TheConstants.{BUCKETS}
+use Rattle.warm_stamps.specs.Bytes.{IsPage, IsStamp}
 use Rattle.warm_stamps.specs.Buckets.{page_bucket}
 use Rattle.warm_history.specs.ReferenceSets.{ReferenceSet, ◌∪◌, filter_references}
 use Rattle.warm_history.specs.Histories.{HistoryView, entries_of, history}
@@ -29,6 +31,14 @@ IsDifferenceOf h g buckets = (bucket : ℕ) → bucket < BUCKETS
 -- the references of S to pages of these buckets
 abbrev pub in_buckets : ℕ → ReferenceSet → ReferenceSet
 in_buckets buckets S = filter_references (λ r. bit_at buckets (page_bucket r.page) == 1) S
+
+-- a valid page with a valid stamp
+pub record IsReference (r : Reference) : Type 0 where
+  pub page : IsPage r.page
+  pub stamp : IsStamp r.stamp
+
+abbrev pub AreReferences : List Reference → Type 0
+AreReferences rs = AllByRecursion IsReference rs
 
 -- the entries of a history are valid
 abbrev pub Fits : HistoryView → Type 0

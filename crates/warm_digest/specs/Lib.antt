@@ -1,4 +1,4 @@
 pub mod BucketDigests
+pub mod CachedDigests
 pub mod Exchange
 pub mod Hashing
-pub mod KeptDigests

@@ -1,4 +1,5 @@
-//! Bucket digests: two replicas whose digests of a bucket are equal need not send each other its entries.
+//! Bucket digests: two replicas whose digests of a bucket are equal need not send each other its
+//! entries.
 //!
 //! The digest of a bucket is the SHA-256 digest (FIPS 180-4) of its entries as they are in a gossip
 //! frame, one after the other in page order, without a count. A [`DigestedHistory`] caches its
@@ -9,16 +10,16 @@ ghost use Rattle.std.specs.Prelude.{◌≡◌, IfOk};
 ghost use Rattle.warm_history.specs.Histories.{entries_of};
 ghost use Rattle.warm_digest.specs.BucketDigests.{digests_of, MarksDiffering};
 
+mod cached;
 mod digested;
-mod kept;
 pub mod laws;
 
+pub use cached::Digests;
 pub use digested::DigestedHistory;
-pub use kept::Digests;
 use std::alloc::{AllocError, Global};
 use warm_frames::DigestTable;
 use warm_history::History;
-use warm_stamps::{BUCKETS, Bucket};
+use warm_stamps::{Bucket, BucketSet};
 
 /// The digests of a history's buckets, all recomputed. It scans the history once, bucket by bucket.
 ///
@@ -27,21 +28,19 @@ pub fn digests(alloc: Global, history: &History) -> Result<DigestTable, AllocErr
     ensures { IfOk result (λ table. table ≡ digests_of (entries_of history.now)) }
 {
     let mut digests = Digests::new(alloc);
-    digests.renew(history, u64::MAX)?;
+    digests.renew(history, BucketSet::all())?;
     Ok(digests.table())
 }
 
-/// The buckets at which two tables differ, as a set: bit b, of value 2^b, is set exactly where the
-/// digests of bucket b differ. Allocation-free.
-pub fn differing(left: &DigestTable, right: &DigestTable) -> u64
+/// The buckets whose digests differ between two tables. Allocation-free.
+pub fn differing(left: &DigestTable, right: &DigestTable) -> BucketSet
     ensures { MarksDiffering result left.now right.now }
 {
-    let mut buckets: u64 = 0;
-    for index in 0..BUCKETS {
-        let Some(bucket) = Bucket::new(index) else {
-            unreachable!()
-        };
-        buckets |= u64::from(left.digest(bucket) != right.digest(bucket)) << index;
+    let mut buckets = BucketSet::new();
+    for bucket in Bucket::all() {
+        if left.digest(bucket) != right.digest(bucket) {
+            buckets = buckets.with(bucket);
+        }
     }
     buckets
 }

@@ -13,7 +13,7 @@ use Rattle.warm_frames.specs.Digests.{digest_at}
 use Rattle.warm_digest.specs.BucketDigests.{bucket_digest, digests_of}
 use Rattle.warm_digest.specs.Exchange.{IsCollision, IsDifferenceOf, Fits, in_buckets}
 use Rattle.warm_digest.proofs.ExchangeLemmas.{exchange_joins}
-use Rattle.warm_digest.proofs.KeptLemmas.{digest_is}
+use Rattle.warm_digest.proofs.CachedLemmas.{digest_is}
 use Rattle.warm_files.specs.Laws.{ChangedDumpIsSeen}
 use Rattle.warm_files.specs.Reading.{references_in}
 use Rattle.warm_files.proofs.FitLemmas.{dump_fits}
@@ -54,5 +54,5 @@ seen_of S T h g is_h is_g horizon fits others same = rw (is_h, is_g) (same_histo
 
 pub changed_dump_is_seen : ChangedDumpIsSeen
 changed_dump_is_seen text changed h g a b horizon digests =
-    seen_of (references_in g.horizon b.frames) (references_in h.horizon a.frames) g h b.given a.given horizon (dump_fits changed g b) (dump_fits text h a)
+    seen_of (references_in g.horizon b.messages) (references_in h.horizon a.messages) g h b.given a.given horizon (dump_fits changed g b) (dump_fits text h a)
     (sym b.same_digests ∙ digests ∙ a.same_digests)

@@ -12,7 +12,8 @@ use Rattle.warm_frames.specs.declared.message.Message.TheVariants.{Entries}
 use Rattle.warm_digest.specs.BucketDigests.{digests_of}
 use Rattle.warm_frames.proofs.SizeLemmas.{nothing_short, part_without_header}
 use Rattle.warm_files.specs.declared.fault.DumpFault.TheVariants.{CutShort}
-use Rattle.warm_files.specs.Dumps.{pieces, entry_frames, text_of, dump_of}
+use Rattle.warm_frames.specs.Chunks.{chunks}
+use Rattle.warm_files.specs.Dumps.{history_messages, text_of, dump_of}
 use Rattle.warm_files.specs.Reading.{history_of_messages, IsDumpRefused}
 
 abbrev at_1 : ℕ → Stamp
@@ -32,21 +33,21 @@ abbrev one_page : HistoryView
 one_page = record { horizon = 10; entries = seventh ∷ [] }
 
 -- the last piece may be shorter
-in_pieces : pieces {A = ℕ} 2 (5 ∷ 6 ∷ 7 ∷ []) ≡ (5 ∷ 6 ∷ []) ∷ (7 ∷ []) ∷ []
+in_pieces : chunks {A = ℕ} 2 (5 ∷ 6 ∷ 7 ∷ []) ≡ (5 ∷ 6 ∷ []) ∷ (7 ∷ []) ∷ []
 in_pieces = refl
 
 -- a bucket without entries has no frame
-no_frames : entry_frames 1 nothing ≡ []
+no_frames : history_messages 1 nothing ≡ []
 no_frames = refl
 
-one_frame : entry_frames 1 one_page ≡ Entries 1 10 (seventh ∷ []) ∷ []
+one_frame : history_messages 1 one_page ≡ Entries 1 10 (seventh ∷ []) ∷ []
 one_frame = refl
 
 -- the frames come by buckets: 0:1 is in bucket 1, and 0:7 in bucket 7
-two_frames : entry_frames 2 (record { horizon = 0; entries = first ∷ seventh ∷ [] }) ≡ Entries 2 0 (first ∷ []) ∷ Entries 2 0 (seventh ∷ []) ∷ []
+two_frames : history_messages 2 (record { horizon = 0; entries = first ∷ seventh ∷ [] }) ≡ Entries 2 0 (first ∷ []) ∷ Entries 2 0 (seventh ∷ []) ∷ []
 two_frames = refl
 
-one_page_spelled : text_of (entry_frames 1 one_page) ≡
+one_page_spelled : text_of (history_messages 1 one_page) ≡
     0x4C ∷ 0x32 ∷ 0x47 ∷ 0x32 ∷ 1 ∷ 0 ∷ 1 ∷ 0 ∷ 0 ∷ 0 ∷ 0 ∷ 0 ∷ 0 ∷ 0 ∷ 0x0A ∷ 0 ∷ 0 ∷ 0 ∷ 0x23 ∷ 0 ∷ 0 ∷ 0 ∷ 1
     ∷ 0 ∷ 0 ∷ 0 ∷ 0 ∷ 0 ∷ 0 ∷ 0 ∷ 0 ∷ 0 ∷ 7 ∷ 2 ∷ 0 ∷ 0 ∷ 0 ∷ 0 ∷ 0 ∷ 0 ∷ 0 ∷ 0x14 ∷ 0 ∷ 1 ∷ 0 ∷ 0 ∷ 0 ∷ 0 ∷ 0 ∷ 0 ∷ 0 ∷ 0x0A ∷ 0 ∷ 1 ∷ []
 one_page_spelled = refl

@@ -1,4 +1,4 @@
--- The history of a dump has entries that there are, since its frames have none but such.
+-- The history of a dump has valid entries, since its messages have none but such.
 use Rattle.std.proofs.Common.{ℕ, List, [], ◌∷◌, ◌++◌, map, Option, Some, None, sym, subst}
 use Rattle.std.specs.List.{AllByRecursion, cons_option}
 use Rattle.std.specs.Option.{option_map}
@@ -23,80 +23,20 @@ use Rattle.warm_history.proofs.ListHistoryLemmas.{entries}
 use Rattle.warm_frames.specs.declared.message.Message.{Message}
 use Rattle.warm_frames.specs.declared.message.Message.TheVariants.{Entries, Digest, Want}
 use Rattle.warm_frames.specs.Entries.{IsEntry, IsHist}
-use Rattle.warm_frames.specs.Pieces.{SpellAll}
-use Rattle.warm_frames.specs.Spelling.{IsValidMessage}
-use Rattle.warm_digest.specs.Exchange.{Fits}
+use Rattle.warm_frames.specs.Pieces.{EncodeAll}
+use Rattle.warm_frames.specs.Encoding.{IsValidMessage}
+use Rattle.warm_digest.specs.Exchange.{IsReference, Fits}
+use Rattle.warm_digest.proofs.FitLemmas.{history_fits, references_fit}
 use Rattle.warm_files.specs.Reading.{brought, entries_brought, references_in, IsDump}
 
--- a reference of a page and a stamp that there are
-pub record IsReference (r : Reference) : Type 0 where
-  pub page : IsPage r.page
-  pub stamp : IsStamp r.stamp
-
-abbrev pub AreReferences : List Reference → Type 0
-AreReferences rs = AllByRecursion IsReference rs
-
--- ---- the history of references that there are
-
-all_insert : {A : Type 0} (P : A → Type 0) (cmp : A → A → Ordering) (x : A) (ys : List A) → P x → AllByRecursion P ys → AllByRecursion P (insert_distinct cmp x ys)
-all_insert P cmp x [] own all = (own, tt)
-all_insert P cmp x (y ∷ ys) own all = by_cases (cmp x y) _
-    (λ less. rw less (own, all))
-    (λ tied. rw tied all)
-    (λ more. rw more (all.0, all_insert P cmp x ys own all.1))
-
-all_distinct : {A : Type 0} (P : A → Type 0) (cmp : A → A → Ordering) (xs : List A) → AllByRecursion P xs → AllByRecursion P (distinct cmp xs)
-all_distinct P cmp [] all = tt
-all_distinct P cmp (x ∷ xs) all = all_insert P cmp x (distinct cmp xs) all.0 (all_distinct P cmp xs all.1)
-
-all_mapped : {A B : Type 0} (P : A → Type 0) (Q : B → Type 0) (f : A → B) (xs : List A) → ((x : A) → P x → Q (f x)) → AllByRecursion P xs → AllByRecursion Q (map f xs)
-all_mapped P Q f [] each all = tt
-all_mapped P Q f (x ∷ xs) each all = (each x all.0, all_mapped P Q f xs each all.1)
-
--- the stamps of a page's history, if it has one, are stamps that there are
-abbrev FitsIfAny : Option PageHist → Type 0
-FitsIfAny None = Unit {0}
-FitsIfAny (Some h) = IsHist h
-
-first_two_fit : (ss : List Stamp) → IsAscending (flip_args stamp_cmp) ss → AllByRecursion IsStamp ss → FitsIfAny (first_two ss)
-first_two_fit [] falls all = tt
-first_two_fit (a ∷ []) falls all = all.0
-first_two_fit (a ∷ b ∷ ss) falls all = (all.0, all.1.0, falls.0.0)
-
-hist_fits : (S : ReferenceSet) (p : PageId) → AreReferences (references S) → FitsIfAny (hist S p)
-hist_fits S p all =
-    let falls = flip_args stamp_cmp in
-    let listed = map (λ (r : Reference). r.stamp) (references_to S p) in
-    first_two_fit (stamps S p) (distinct_rises falls (IsStrictOrder-flip stamp_cmp stamp_order) listed)
-    (all_distinct IsStamp falls listed (all_mapped IsReference IsStamp (λ r. r.stamp) (references_to S p) (λ r own. own.stamp) (all_filter IsReference (λ r. is_eq (page_cmp r.page p)) (references S) all)))
-
-entries_fit : (f : PageId → Option PageHist) (ps : List PageId) → ((p : PageId) → FitsIfAny (f p)) → AllByRecursion IsPage ps → AllByRecursion IsEntry (entries f ps)
-entries_fit f [] each all = tt
-entries_fit f (p ∷ ps) each all = elim (f p) as (λ x. FitsIfAny x → AllByRecursion IsEntry (cons_option (option_map (λ h. record { page = p; hist = h }) x) (entries f ps))) [
-  | None ↦ λ fit. entries_fit f ps each all.1
-  | Some h ↦ λ fit. (record { page = all.0; hist = fit }, entries_fit f ps each all.1)
-] (each p)
-
-history_fits : (S : ReferenceSet) → AreReferences (references S) → Fits (history S)
-unfolding history
-history_fits S all = entries_fit (hist S) (pages S) (λ p. hist_fits S p all) (all_distinct IsPage page_cmp (map (λ (r : Reference). r.page) (references S)) (all_mapped IsReference IsPage (λ r. r.page) (references S) (λ r own. own.page) all))
-
--- ---- the references of frames
-
-entry_held : (page : _) (h : PageHist) → IsPage page → IsHist h → AreReferences (references_of_entry (record { page = page; hist = h }))
-entry_held page (Once last) own is = (record { page = own; stamp = is }, tt)
-entry_held page (Twice two) own is = (record { page = own; stamp = is.0 }, (record { page = own; stamp = is.1 }, tt))
-
-all_held : (es : List Entry) → AllByRecursion IsEntry es → AreReferences (references_of_entries es)
-all_held [] all = tt
-all_held (e ∷ es) all = all_append IsReference (references_of_entry e) (references_of_entries es) (entry_held e.page e.hist all.0.page all.0.hist) (all_held es all.1)
+-- ---- the entries of messages
 
 brought_fits : (f : Message) → IsValidMessage f → AllByRecursion IsEntry (brought f)
 brought_fits (Entries sender own es) is = is.2.each
 brought_fits (Digest sender own digests) is = tt
 brought_fits (Want sender own request) is = tt
 
-frames_fit : (ts : List (List ℕ)) (fs more : List Message) → SpellAll ts (fs ++ more) → AllByRecursion IsEntry (entries_brought fs)
+frames_fit : (ts : List (List ℕ)) (fs more : List Message) → EncodeAll ts (fs ++ more) → AllByRecursion IsEntry (entries_brought fs)
 frames_fit ts [] more all = tt
 frames_fit [] (f ∷ fs) more all = absurd all
 frames_fit (t ∷ ts) (f ∷ fs) more all =
@@ -104,5 +44,5 @@ frames_fit (t ∷ ts) (f ∷ fs) more all =
 
 pub dump_fits : (text : List ℕ) (h : HistoryView) → IsDump text h → Fits h
 dump_fits text h d =
-    let all = all_held (entries_brought d.frames) (frames_fit d.whole.texts d.frames (Digest d.sender h.horizon d.digests ∷ []) d.whole.each) in
-    subst Fits (sym d.given) (history_fits (references_in h.horizon d.frames) (all_filter IsReference (λ r. is_kept h.horizon r.stamp) (references_of_entries (entries_brought d.frames)) all))
+    let all = references_fit (entries_brought d.messages) (frames_fit d.whole.texts d.messages (Digest d.sender h.horizon d.digests ∷ []) d.whole.each) in
+    subst Fits (sym d.given) (history_fits (references_in h.horizon d.messages) (all_filter IsReference (λ r. is_kept h.horizon r.stamp) (references_of_entries (entries_brought d.messages)) all))

@@ -1,75 +1,50 @@
--- Frames that begin a text, beside those that spell all of it.
+-- Messages that begin a text, beside those that encode all of it.
 use Rattle.std.proofs.Common.{◌≡◌, ℕ, ◌<◌, ◌≤◌, List, [], ◌∷◌, ◌++◌, length, take, drop, refl, sym, ap, subst, ◌∙◌, append_assoc, append-nil, ⊎_elim, arith}
 use Rattle.std.specs.List.{AllByRecursion}
 use Rattle.std.proofs.lemmas.List.{take_at, drop_at, take-append-drop, take-append-le}
 use Rattle.warm_frames.specs.declared.message.Message.{Message}
 use Rattle.warm_frames.specs.declared.message.Message.TheVariants.{Entries, Digest, Want}
-use Rattle.warm_frames.specs.Pieces.{IsIncomplete, SpellAll, texts_of, Splits}
-use Rattle.warm_frames.specs.Spelling.{Encodes}
-use Rattle.warm_frames.proofs.FrameLemmas.{frame_read, encoding_is_injective, prefix_free}
-use Rattle.warm_frames.proofs.SizeLemmas.{no_ok, lt_or_le, nothing_short, part_without_header}
+use Rattle.warm_frames.specs.Pieces.{IsIncomplete, EncodeAll, texts_of, Splits}
+use Rattle.warm_frames.specs.Encoding.{Encodes}
+use Rattle.warm_frames.proofs.FrameLemmas.{encoding_is_injective}
+use Rattle.warm_frames.proofs.StreamLemmas.{nothing_is_part, no_empty_frame, first_text}
 use Rattle.warm_history.specs.Histories.{HistoryView}
 use Rattle.warm_files.specs.Reading.{IsEntriesAt, AreEntriesAt, IsPartAt, Begins, IsDump}
 
--- ---- the first text
+-- ---- the first messages
 
-nothing_is_part : IsIncomplete []
-nothing_is_part = part_without_header [] (nothing_short [] refl)
-
--- a frame has a byte at least
-empty_spelt : (f : Message) → Encodes [] f → ⊥
-empty_spelt f spelt = no_ok (sym (nothing_is_part 0) ∙ frame_read [] f spelt)
-
--- of two fronts of one list the shorter is a front of the longer
-longer : (a x b y : List ℕ) → a ++ x ≡ b ++ y → length a ≤ length b → b ≡ a ++ drop (length a) b
-longer a x b y same le =
-    let front : take (length a) b ≡ a = sym (take-append-le (length a) b y le) ∙ ap (take (length a)) (sym same) ∙ take_at a x (length a) refl in
-    sym (take-append-drop (length a) b) ∙ ap (λ (w : List ℕ). w ++ drop (length a) b) front
-
-front_text : (s t : List ℕ) (f g : Message) (x y : List ℕ) → Encodes s f → Encodes t g → s ++ x ≡ t ++ y → length s ≤ length t → s ≡ t
-front_text s t f g x y is_f is_g same le =
-    let rest = drop (length s) t in
-    let parts : t ≡ s ++ rest = longer s x t y same le in
-    let none : rest ≡ [] = prefix_free s rest f g is_f (subst (λ (w : List ℕ). Encodes w g) parts is_g) in
-    sym (append-nil s) ∙ ap (λ (r : List ℕ). s ++ r) (sym none) ∙ sym parts
-
--- where two spellings begin one text they are one
-first_text : (s t : List ℕ) (f g : Message) (x y : List ℕ) → Encodes s f → Encodes t g → s ++ x ≡ t ++ y → s ≡ t
-first_text s t f g x y is_f is_g same =
-    ⊎_elim (λ lt. front_text s t f g x y is_f is_g same (omega (arith, lt))) (λ le. sym (front_text t s g f y x is_g is_f (sym same) le)) (lt_or_le (length s) (length t))
-
--- frames that begin a text which others spell whole are the first of those
-pub first_frames : (ts us : List (List ℕ)) (fs gs : List Message) (rest : List ℕ) → SpellAll ts fs → SpellAll us gs → texts_of ts ≡ texts_of us ++ rest
-    → (vs : List (List ℕ)) × (more : List Message) × SpellAll vs more × (fs ≡ gs ++ more) × (rest ≡ texts_of vs)
-first_frames ts [] fs [] rest a b same = (ts, fs, a, refl, sym same)
-first_frames ts [] fs (g ∷ gs) rest a b same = absurd b
-first_frames ts (u ∷ us) fs [] rest a b same = absurd b
-first_frames [] (u ∷ us) (f ∷ fs) (g ∷ gs) rest a b same = absurd a
-first_frames (t ∷ ts) (u ∷ us) [] (g ∷ gs) rest a b same = absurd a
-first_frames [] ([] ∷ us) [] (g ∷ gs) rest a b same = absurd (empty_spelt g b.0)
-first_frames [] ((c ∷ u) ∷ us) [] (g ∷ gs) rest a b same = absurd (cc)
-first_frames (t ∷ ts) (u ∷ us) (f ∷ fs) (g ∷ gs) rest a b same =
+-- messages that begin a text which others encode whole are the first of those
+pub first_messages : (ts us : List (List ℕ)) (fs gs : List Message) (rest : List ℕ) → EncodeAll ts fs → EncodeAll us gs → texts_of ts ≡ texts_of us ++ rest
+    → (vs : List (List ℕ)) × (more : List Message) × EncodeAll vs more × (fs ≡ gs ++ more) × (rest ≡ texts_of vs)
+first_messages ts [] fs [] rest a b same = (ts, fs, a, refl, sym same)
+first_messages ts [] fs (g ∷ gs) rest a b same = absurd b
+first_messages ts (u ∷ us) fs [] rest a b same = absurd b
+first_messages [] (u ∷ us) (f ∷ fs) (g ∷ gs) rest a b same = absurd a
+first_messages (t ∷ ts) (u ∷ us) [] (g ∷ gs) rest a b same = absurd a
+first_messages [] ([] ∷ us) [] (g ∷ gs) rest a b same = absurd (no_empty_frame g b.0)
+first_messages [] ((c ∷ u) ∷ us) [] (g ∷ gs) rest a b same = absurd (cc)
+first_messages (t ∷ ts) (u ∷ us) (f ∷ fs) (g ∷ gs) rest a b same =
     let x = texts_of ts in
     let y = texts_of us ++ rest in
     let both : t ++ x ≡ u ++ y = same ∙ append_assoc u (texts_of us) rest in
     let text : t ≡ u = first_text t u f g x y a.0 b.0 both in
     let first : f ≡ g = encoding_is_injective u f g (subst (λ (w : List ℕ). Encodes w f) text a.0) b.0 in
     let behind : x ≡ y = sym (drop_at t x (length t) refl) ∙ ap (drop (length t)) both ∙ drop_at u y (length t) (sym (ap length text)) in
-    let later = first_frames ts us fs gs rest a.1 b.1 behind in
+    let later = first_messages ts us fs gs rest a.1 b.1 behind in
     (later.0, later.1, later.2, (λ i. first i ∷ later.3 i), later.4)
 
--- ---- the frames of a dump
+-- ---- the messages of a dump
 
-pub dump_splits : (text : List ℕ) (h : HistoryView) (d : IsDump text h) → Splits text (d.frames ++ Digest d.sender h.horizon d.digests ∷ []) []
+pub dump_splits : (text : List ℕ) (h : HistoryView) (d : IsDump text h) → Splits text (d.messages ++ Digest d.sender h.horizon d.digests ∷ []) []
 dump_splits text h d = record { texts = d.whole.texts; whole = d.whole.whole; each = d.whole.each; part = nothing_is_part }
 
 -- what begins a dump
 pub begins_dump : (text : List ℕ) (h : HistoryView) (d : IsDump text h) (gs : List Message) (rest : List ℕ) → Begins text gs rest
-    → (vs : List (List ℕ)) × (more : List Message) × SpellAll vs more × (d.frames ++ Digest d.sender h.horizon d.digests ∷ [] ≡ gs ++ more) × (rest ≡ texts_of vs)
+    → (vs : List (List ℕ)) × (more : List Message) × EncodeAll vs more × (d.messages ++ Digest d.sender h.horizon d.digests ∷ [] ≡ gs ++ more) × (rest ≡ texts_of vs)
 begins_dump text h d gs rest b =
-    first_frames d.whole.texts b.texts (d.frames ++ Digest d.sender h.horizon d.digests ∷ []) gs rest d.whole.each b.each (sym (append-nil (texts_of d.whole.texts)) ∙ sym d.whole.whole ∙ b.whole)
+    first_messages d.whole.texts b.texts (d.messages ++ Digest d.sender h.horizon d.digests ∷ []) gs rest d.whole.each b.each (sym (append-nil (texts_of d.whole.texts)) ∙ sym d.whole.whole ∙ b.whole)
 
--- a frame of something else than entries
+-- a message of something else than entries
 abbrev pub IsOther : Message → Type 0
 IsOther (Entries sender own es) = ⊥
 IsOther (Digest sender own digests) = Unit {0}
@@ -80,7 +55,7 @@ never_both horizon (Entries sender own es) is other = absurd other
 never_both horizon (Digest sender own digests) is other = absurd is
 never_both horizon (Want sender own request) is other = absurd is
 
--- behind frames of entries the first other frame stands at one place
+-- behind messages of entries the first other one stands at one place
 pub one_front : (a b : ℕ) (fs gs : List Message) (d e : Message) (more : List Message) → AreEntriesAt a fs → AreEntriesAt b gs → IsOther d → IsOther e → fs ++ d ∷ [] ≡ gs ++ e ∷ more
     → (fs ≡ gs) × (d ≡ e) × (more ≡ [])
 one_front a b [] [] d e more all these first second same =
@@ -103,7 +78,7 @@ pub all_parts : {A : Type 0} (P : A → Type 0) (xs ys : List A) → AllByRecurs
 all_parts P [] ys all = (tt, all)
 all_parts P (x ∷ xs) ys all = ((all.0, (all_parts P xs ys all.1).0), (all_parts P xs ys all.1).1)
 
--- ---- the horizons of a dump's frames
+-- ---- the horizons of a dump's messages
 
 entries_part : (horizon : ℕ) (f : Message) → IsEntriesAt horizon f → IsPartAt horizon f
 entries_part horizon (Entries sender own es) is = is
@@ -114,8 +89,8 @@ parts_and : (horizon : ℕ) (fs : List Message) (d : Message) → AreEntriesAt h
 parts_and horizon [] d all last = (last, tt)
 parts_and horizon (f ∷ fs) d all last = (entries_part horizon f all.0, parts_and horizon fs d all.1 last)
 
-pub dump_parts : (text : List ℕ) (h : HistoryView) (d : IsDump text h) → AllByRecursion (IsPartAt h.horizon) (d.frames ++ Digest d.sender h.horizon d.digests ∷ [])
-dump_parts text h d = parts_and h.horizon d.frames (Digest d.sender h.horizon d.digests) d.entries refl
+pub dump_parts : (text : List ℕ) (h : HistoryView) (d : IsDump text h) → AllByRecursion (IsPartAt h.horizon) (d.messages ++ Digest d.sender h.horizon d.digests ∷ [])
+dump_parts text h d = parts_and h.horizon d.messages (Digest d.sender h.horizon d.digests) d.entries refl
 
 pub one_horizon : (a b : ℕ) (f : Message) → IsPartAt a f → IsPartAt b f → a ≡ b
 one_horizon a b (Entries sender own es) one other = sym one ∙ other

@@ -6,7 +6,7 @@ use Rattle.warm_frames.specs.declared.fault.FrameFault.{FrameFault}
 use Rattle.warm_frames.specs.declared.fault.FrameFault.TheVariants as frame_faults
 use Rattle.warm_frames.specs.declared.message.Message.{Message}
 use Rattle.warm_frames.specs.declared.message.Message.TheVariants.{Entries, Digest, Want}
-use Rattle.warm_frames.specs.Pieces.{SpellAll, texts_of}
+use Rattle.warm_frames.specs.Pieces.{EncodeAll, texts_of}
 use Rattle.warm_frames.proofs.StreamLemmas.{one_reading, part_or_fault}
 use Rattle.warm_digest.specs.BucketDigests.{digests_of}
 use Rattle.warm_files.specs.declared.fault.DumpFault.TheVariants.{Frame, CutShort, DigestsDiffer, HorizonsDiffer, MoreFollows, ReadFault, WriteFault}
@@ -28,14 +28,14 @@ pub one_history : DumpHasOneHistory
 one_history text h g a b =
     let d : Message = Digest a.sender h.horizon a.digests in
     let e : Message = Digest b.sender g.horizon b.digests in
-    let same = one_reading text (a.frames ++ d ∷ []) (b.frames ++ e ∷ []) [] [] (dump_splits text h a) (dump_splits text g b) in
-    let parts = one_front h.horizon g.horizon a.frames b.frames d e [] a.entries b.entries tt tt same.0 in
+    let same = one_reading text (a.messages ++ d ∷ []) (b.messages ++ e ∷ []) [] [] (dump_splits text h a) (dump_splits text g b) in
+    let parts = one_front h.horizon g.horizon a.messages b.messages d e [] a.entries b.entries tt tt same.0 in
     let horizon : h.horizon ≡ g.horizon = ap horizon_of parts.1 in
-    let told : history_of_messages h.horizon a.frames ≡ history_of_messages g.horizon b.frames = λ i. history_of_messages (horizon i) (parts.0 i) in
+    let told : history_of_messages h.horizon a.messages ≡ history_of_messages g.horizon b.messages = λ i. history_of_messages (horizon i) (parts.0 i) in
     a.given ∙ told ∙ sym b.given
 
 no_fault : (text : List ℕ) (h : HistoryView) (at : ℕ) (fault : FrameFault) → IsDump text h → ShowsFrameFault text at fault → ⊥
-no_fault text h at fault d shown = part_or_fault text (d.frames ++ Digest d.sender h.horizon d.digests ∷ []) shown.1 [] fault (dump_splits text h d) shown.4
+no_fault text h at fault d shown = part_or_fault text (d.messages ++ Digest d.sender h.horizon d.digests ∷ []) shown.1 [] fault (dump_splits text h d) shown.4
 
 -- the parts of what begins a dump
 fronts : (text : List ℕ) (h : HistoryView) (d : IsDump text h) (gs : List Message) (f : Message) (rest : List ℕ) → Begins text (gs ++ f ∷ []) rest
@@ -52,8 +52,8 @@ no_request text h at d r = (fronts text h d r.1 (Want r.2 r.3 r.4) r.5 r.8).1
 not_short : (text : List ℕ) (h : HistoryView) (at : ℕ) → IsDump text h → IsCutShort text at → ⊥
 not_short text h at d r =
     let e : Message = Digest d.sender h.horizon d.digests in
-    let same = one_reading text (d.frames ++ e ∷ []) r.1 [] r.2 (dump_splits text h d) r.5 in
-    (all_parts (IsEntriesAt r.0) d.frames (e ∷ []) (subst (AreEntriesAt r.0) (sym same.0) r.3)).1.0
+    let same = one_reading text (d.messages ++ e ∷ []) r.1 [] r.2 (dump_splits text h d) r.5 in
+    (all_parts (IsEntriesAt r.0) d.messages (e ∷ []) (subst (AreEntriesAt r.0) (sym same.0) r.3)).1.0
 
 not_two : (text : List ℕ) (h : HistoryView) (at : ℕ) → IsDump text h → HasTwoHorizons text at → ⊥
 not_two text h at d r =
@@ -64,15 +64,15 @@ not_two text h at d r =
 
 -- behind frames of entries that begin a dump comes the frame of its digests
 last_of : (text : List ℕ) (h : HistoryView) (d : IsDump text h) (horizon own sender : ℕ) (gs : List Message) (digests : List (List ℕ)) (rest : List ℕ) → AreEntriesAt horizon gs → Begins text (gs ++ Digest sender own digests ∷ []) rest
-    → (d.frames ≡ gs) × (Digest d.sender h.horizon d.digests ≡ Digest sender own digests) × (rest ≡ [])
+    → (d.messages ≡ gs) × (Digest d.sender h.horizon d.digests ≡ Digest sender own digests) × (rest ≡ [])
 last_of text h d horizon own sender gs digests rest all b =
     let f : Message = Digest sender own digests in
     let e : Message = Digest d.sender h.horizon d.digests in
     let begun = begins_dump text h d (gs ++ f ∷ []) rest b in
-    let parts = one_front h.horizon horizon d.frames gs e f begun.1 d.entries all tt tt (begun.3 ∙ append_assoc gs (f ∷ []) begun.1) in
+    let parts = one_front h.horizon horizon d.messages gs e f begun.1 d.entries all tt tt (begun.3 ∙ append_assoc gs (f ∷ []) begun.1) in
     (parts.0, parts.1, begun.4 ∙ none begun.0 begun.1 begun.2 parts.2)
   where
-    none : (vs : List (List ℕ)) (more : List Message) → SpellAll vs more → more ≡ [] → texts_of vs ≡ []
+    none : (vs : List (List ℕ)) (more : List Message) → EncodeAll vs more → more ≡ [] → texts_of vs ≡ []
     none [] more all is = refl
     none (v ∷ vs) [] all is = absurd all
     none (v ∷ vs) (f ∷ more) all is = absurd (cc)
@@ -80,10 +80,10 @@ last_of text h d horizon own sender gs digests rest all b =
 own_digests : (text : List ℕ) (h : HistoryView) (at : ℕ) → IsDump text h → HasOtherDigests text at → ⊥
 own_digests text h at d r =
     let horizon = r.0 in
-    let frames = r.1 in
-    let parts = last_of text h d horizon horizon r.2 frames r.3 r.4 r.5 r.8 in
+    let messages = r.1 in
+    let parts = last_of text h d horizon horizon r.2 messages r.3 r.4 r.5 r.8 in
     let own : h.horizon ≡ horizon = ap horizon_of parts.1 in
-    let told : h ≡ history_of_messages horizon frames = d.given ∙ (λ i. history_of_messages (own i) (parts.0 i)) in
+    let told : h ≡ history_of_messages horizon messages = d.given ∙ (λ i. history_of_messages (own i) (parts.0 i)) in
     r.6 (sym (ap digests_in parts.1) ∙ d.same_digests ∙ ap (λ (k : HistoryView). digests_of (entries_of k)) told)
 
 no_more : (text : List ℕ) (h : HistoryView) (at : ℕ) → IsDump text h → HasMore text at → ⊥
@@ -93,9 +93,9 @@ no_more text h at d r =
     let k = r.2 in
     let e : IsDump dump k = r.6 in
     let T = texts_of e.whole.texts in
-    let begins : Begins text (e.frames ++ Digest e.sender k.horizon e.digests ∷ []) more =
+    let begins : Begins text (e.messages ++ Digest e.sender k.horizon e.digests ∷ []) more =
     record { texts = e.whole.texts; whole = r.3 ∙ ap (λ (w : List ℕ). w ++ more) (e.whole.whole ∙ append-nil T); each = e.whole.each } in
-    let parts = last_of text h d k.horizon k.horizon e.sender e.frames e.digests more e.entries begins in
+    let parts = last_of text h d k.horizon k.horizon e.sender e.messages e.digests more e.entries begins in
     omega (arith, r.4, ap (λ (w : List ℕ). length w) parts.2)
 
 pub dump_is_taken : DumpIsTaken

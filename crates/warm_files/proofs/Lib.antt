@@ -1,11 +1,11 @@
-pub mod Examples
-pub mod GrowingLemmas
+pub mod BuilderLemmas
+pub mod ChangeLemmas
 pub mod DumpLemmas
-pub mod ReadLemmas
 pub mod EndLemmas
-pub mod StopLemmas
+pub mod Examples
+pub mod FitLemmas
 pub mod FrontLemmas
 pub mod LawLemmas
-pub mod FitLemmas
-pub mod ChangeLemmas
+pub mod ReadLemmas
 pub mod SavedLemmas
+pub mod StopLemmas

@@ -31,16 +31,18 @@ use Rattle.warm_frames.specs.declared.message.Message.{Message}
 use Rattle.warm_frames.specs.declared.message.Message.TheVariants.{Entries}
 use Rattle.warm_frames.specs.Digests.{IsDigestTable}
 use Rattle.warm_frames.specs.Entries.{IsEntry, entries_bytes}
-use Rattle.warm_frames.specs.Pieces.{SpellAll, texts_of}
-use Rattle.warm_frames.specs.Spelling.{IsValidMessage, Encodes, encoding}
+use Rattle.warm_frames.specs.Pieces.{EncodeAll, texts_of}
+use Rattle.warm_frames.specs.Encoding.{IsValidMessage, Encodes, encoding}
 use Rattle.warm_frames.specs.Reading.{format_of}
 use Rattle.warm_digest.specs.BucketDigests.{bucket_digest, digests_of}
 use Rattle.warm_digest.specs.Exchange.{Fits}
-use Rattle.warm_files.specs.Dumps.{pieces_of, bucket_frames, entry_frames, last_frame, text_of}
+use Rattle.warm_frames.specs.Chunks.{chunks_of, bucket_messages}
+use Rattle.warm_files.specs.Dumps.{history_messages, last_message, text_of}
 use Rattle.warm_files.specs.Laws.{DumpReadsBack}
 use Rattle.warm_files.specs.Reading.{IsEntriesAt, AreEntriesAt, brought, entries_brought, references_in}
-use Rattle.warm_files.proofs.DumpLemmas.{frames_below, range_more, rising_drop}
-use Rattle.warm_files.proofs.ReadLemmas.{held-append}
+use Rattle.warm_frames.proofs.ChunkLemmas.{pages_ascend_drop}
+use Rattle.warm_files.proofs.DumpLemmas.{messages_below, range_more}
+use Rattle.warm_files.proofs.BuilderLemmas.{references_of_entries-append}
 
 -- ---- frames and their spellings
 
@@ -59,9 +61,9 @@ value_of (Err e) is = absurd (never is)
 spelled : (f : Message) → IsValidMessage f → Encodes (encoding f) f
 spelled f fits = (value_of (format_of MAGIC) refl, record { fits = fits; holds = tt; text = refl })
 
-all_spelled : (fs : List Message) → AllByRecursion IsValidMessage fs → SpellAll (map encoding fs) fs
-all_spelled [] all = tt
-all_spelled (f ∷ fs) all = (spelled f all.0, all_spelled fs all.1)
+all_encoded : (fs : List Message) → AllByRecursion IsValidMessage fs → EncodeAll (map encoding fs) fs
+all_encoded [] all = tt
+all_encoded (f ∷ fs) all = (spelled f all.0, all_encoded fs all.1)
 
 -- ---- the frames of a list
 
@@ -70,11 +72,11 @@ all_drop P zero xs all = all
 all_drop P (suc n) [] all = tt
 all_drop P (suc n) (x ∷ xs) all = all_drop P n xs all.1
 
-pieces_frames : (sender horizon n : ℕ) (es : List Entry) → IsReplica sender → horizon < 2 ^ 64 → PagesAscend es → AllByRecursion IsEntry es
-    → AllByRecursion IsValidMessage (map (λ piece. Entries sender horizon piece) (pieces_of MAX_ENTRIES n es))
-pieces_frames sender horizon zero es replica low rise all = tt
-pieces_frames sender horizon (suc n) [] replica low rise all = tt
-pieces_frames sender horizon (suc n) (e ∷ es) replica low rise all =
+chunks_encoded : (sender horizon n : ℕ) (es : List Entry) → IsReplica sender → horizon < 2 ^ 64 → PagesAscend es → AllByRecursion IsEntry es
+    → AllByRecursion IsValidMessage (map (λ chunk. Entries sender horizon chunk) (chunks_of MAX_ENTRIES n es))
+chunks_encoded sender horizon zero es replica low rise all = tt
+chunks_encoded sender horizon (suc n) [] replica low rise all = tt
+chunks_encoded sender horizon (suc n) (e ∷ es) replica low rise all =
     let by_page = on (λ (e : Entry). e.page) page_cmp in (
       (
         replica,
@@ -85,23 +87,23 @@ pieces_frames sender horizon (suc n) (e ∷ es) replica low rise all =
           each = all_take IsEntry MAX_ENTRIES (e ∷ es) all;
         },
       ),
-      pieces_frames sender horizon n (drop MAX_ENTRIES (e ∷ es)) replica low (rising_drop by_page MAX_ENTRIES (e ∷ es) rise) (all_drop IsEntry MAX_ENTRIES (e ∷ es) all),
+      chunks_encoded sender horizon n (drop MAX_ENTRIES (e ∷ es)) replica low (pages_ascend_drop MAX_ENTRIES (e ∷ es) (drop MAX_ENTRIES (e ∷ es)) refl rise) (all_drop IsEntry MAX_ENTRIES (e ∷ es) all),
     )
 
-pieces_entries : (sender horizon n : ℕ) (es : List Entry) → AreEntriesAt horizon (map (λ piece. Entries sender horizon piece) (pieces_of MAX_ENTRIES n es))
-pieces_entries sender horizon zero es = tt
-pieces_entries sender horizon (suc n) [] = tt
-pieces_entries sender horizon (suc n) (e ∷ es) = (refl, pieces_entries sender horizon n (drop MAX_ENTRIES (e ∷ es)))
+chunks_entries : (sender horizon n : ℕ) (es : List Entry) → AreEntriesAt horizon (map (λ chunk. Entries sender horizon chunk) (chunks_of MAX_ENTRIES n es))
+chunks_entries sender horizon zero es = tt
+chunks_entries sender horizon (suc n) [] = tt
+chunks_entries sender horizon (suc n) (e ∷ es) = (refl, chunks_entries sender horizon n (drop MAX_ENTRIES (e ∷ es)))
 
-pieces_bring : (sender horizon n : ℕ) (es : List Entry) → length es ≤ n → entries_brought (map (λ piece. Entries sender horizon piece) (pieces_of MAX_ENTRIES n es)) ≡ es
-pieces_bring sender horizon zero [] few = refl
-pieces_bring sender horizon zero (e ∷ es) few = absurd (omega (arith, few))
-pieces_bring sender horizon (suc n) [] few = refl
-pieces_bring sender horizon (suc n) (e ∷ es) few =
+chunks_bring : (sender horizon n : ℕ) (es : List Entry) → length es ≤ n → entries_brought (map (λ chunk. Entries sender horizon chunk) (chunks_of MAX_ENTRIES n es)) ≡ es
+chunks_bring sender horizon zero [] few = refl
+chunks_bring sender horizon zero (e ∷ es) few = absurd (omega (arith, few))
+chunks_bring sender horizon (suc n) [] few = refl
+chunks_bring sender horizon (suc n) (e ∷ es) few =
     let more : List Entry = drop MAX_ENTRIES (e ∷ es) in
-    let frames : List Message = map (λ piece. Entries sender horizon piece) (pieces_of MAX_ENTRIES n more) in
-    flat_map-cons brought (Entries sender horizon (take MAX_ENTRIES (e ∷ es))) frames
-    ∙ ap (λ (x : List Entry). take MAX_ENTRIES (e ∷ es) ++ x) (pieces_bring sender horizon n more (omega (arith, few, length-drop MAX_ENTRIES (e ∷ es))))
+    let messages : List Message = map (λ chunk. Entries sender horizon chunk) (chunks_of MAX_ENTRIES n more) in
+    flat_map-cons brought (Entries sender horizon (take MAX_ENTRIES (e ∷ es))) messages
+    ∙ ap (λ (x : List Entry). take MAX_ENTRIES (e ∷ es) ++ x) (chunks_bring sender horizon n more (omega (arith, few, length-drop MAX_ENTRIES (e ∷ es))))
     ∙ take-append-drop MAX_ENTRIES (e ∷ es)
 
 -- ---- the frames of all buckets
@@ -114,39 +116,39 @@ all_flat_map P f (x ∷ xs) each = subst (AllByRecursion P) (sym (flat_map-cons 
 bucket_rise : (h : HistoryView) (bucket : ℕ) → IsHistory h → PagesAscend (bucket_entries bucket (entries_of h))
 bucket_rise h bucket whole = rising_filter (on (λ (e : Entry). e.page) page_cmp) (λ e. page_bucket e.page == bucket) (entries_of h) whole.pages_ascend
 
-all_frames : (sender : ℕ) (h : HistoryView) → IsReplica sender → h.horizon < 2 ^ 64 → IsHistory h → Fits h → AllByRecursion IsValidMessage (entry_frames sender h)
-all_frames sender h replica low whole fits = all_flat_map IsValidMessage (bucket_frames sender h) (range_with_len 0 BUCKETS) (λ bucket.
+all_frames : (sender : ℕ) (h : HistoryView) → IsReplica sender → h.horizon < 2 ^ 64 → IsHistory h → Fits h → AllByRecursion IsValidMessage (history_messages sender h)
+all_frames sender h replica low whole fits = all_flat_map IsValidMessage (bucket_messages sender h) (range_with_len 0 BUCKETS) (λ bucket.
     let es : List Entry = bucket_entries bucket (entries_of h) in
-    pieces_frames sender h.horizon (length es) es replica low (bucket_rise h bucket whole) (all_filter IsEntry (λ e. page_bucket e.page == bucket) (entries_of h) fits))
+    chunks_encoded sender h.horizon (length es) es replica low (bucket_rise h bucket whole) (all_filter IsEntry (λ e. page_bucket e.page == bucket) (entries_of h) fits))
 
-all_entries : (sender : ℕ) (h : HistoryView) → AreEntriesAt h.horizon (entry_frames sender h)
-all_entries sender h = all_flat_map (IsEntriesAt h.horizon) (bucket_frames sender h) (range_with_len 0 BUCKETS) (λ bucket.
+all_entries : (sender : ℕ) (h : HistoryView) → AreEntriesAt h.horizon (history_messages sender h)
+all_entries sender h = all_flat_map (IsEntriesAt h.horizon) (bucket_messages sender h) (range_with_len 0 BUCKETS) (λ bucket.
     let es : List Entry = bucket_entries bucket (entries_of h) in
-    pieces_entries sender h.horizon (length es) es)
+    chunks_entries sender h.horizon (length es) es)
 
 -- ---- what they tell of a page
 
 -- the stamps that the first buckets' frames hold of the page p
 abbrev told_below : ℕ → HistoryView → ℕ → PageId → List Stamp
-told_below sender h n p = told (references_of_entries (entries_brought (frames_below sender h n))) p
+told_below sender h n p = told (references_of_entries (entries_brought (messages_below sender h n))) p
 
-bucket_brings : (sender n : ℕ) (h : HistoryView) → entries_brought (frames_below sender h (n + 1)) ≡ entries_brought (frames_below sender h n) ++ bucket_entries n (entries_of h)
+bucket_brings : (sender n : ℕ) (h : HistoryView) → entries_brought (messages_below sender h (n + 1)) ≡ entries_brought (messages_below sender h n) ++ bucket_entries n (entries_of h)
 bucket_brings sender n h =
     let es : List Entry = bucket_entries n (entries_of h) in
-    let B = bucket_frames sender h in
+    let B = bucket_messages sender h in
     ap (λ (ks : List ℕ). entries_brought (flat_map B ks)) (range_more n)
-    ∙ ap entries_brought (flat_map-append B (range_with_len 0 n) (n ∷ []) ∙ ap (λ (fs : List Message). frames_below sender h n ++ fs) (append-nil (B n)))
-    ∙ flat_map-append brought (frames_below sender h n) (B n)
-    ∙ ap (λ (x : List Entry). entries_brought (frames_below sender h n) ++ x) (pieces_bring sender h.horizon (length es) es (omega arith))
+    ∙ ap entries_brought (flat_map-append B (range_with_len 0 n) (n ∷ []) ∙ ap (λ (fs : List Message). messages_below sender h n ++ fs) (append-nil (B n)))
+    ∙ flat_map-append brought (messages_below sender h n) (B n)
+    ∙ ap (λ (x : List Entry). entries_brought (messages_below sender h n) ++ x) (chunks_bring sender h.horizon (length es) es (omega arith))
 
 told_more : (sender n : ℕ) (h : HistoryView) (p : PageId) → told_below sender h (suc n) p ≡ told_below sender h n p ++ told (references_of_entries (bucket_entries n (entries_of h))) p
 told_more sender n h p =
-    let before : List Entry = entries_brought (frames_below sender h n) in
+    let before : List Entry = entries_brought (messages_below sender h n) in
     let es : List Entry = bucket_entries n (entries_of h) in
     let next : suc n ≡ n + 1 = omega arith in
     ap (λ (k : ℕ). told_below sender h k p) next
     ∙ ap (λ (x : List Entry). told (references_of_entries x) p) (bucket_brings sender n h)
-    ∙ ap (λ rs. told rs p) (held-append before es)
+    ∙ ap (λ rs. told rs p) (references_of_entries-append before es)
     ∙ told-append (references_of_entries before) (references_of_entries es) p
 
 -- what a bucket tells of a page: all, if it is the page's own, and nothing otherwise
@@ -184,12 +186,12 @@ low_bucket : (p : PageId) → page_bucket p < BUCKETS
 low_bucket p = omega arith
 
 -- the frames tell the history
-told_back : (sender : ℕ) (h : HistoryView) → IsHistory h → h ≡ history (references_in h.horizon (entry_frames sender h))
+told_back : (sender : ℕ) (h : HistoryView) → IsHistory h → h ≡ history (references_in h.horizon (history_messages sender h))
 told_back sender h whole =
-    let S = references_in h.horizon (entry_frames sender h) in
-    let alike : (p : PageId) → list_hist (references_of_entries (entries_of h)) p ≡ list_hist (references_of_entries (entries_brought (entry_frames sender h))) p =
+    let S = references_in h.horizon (history_messages sender h) in
+    let alike : (p : PageId) → list_hist (references_of_entries (entries_of h)) p ≡ list_hist (references_of_entries (entries_brought (history_messages sender h))) p =
     λ p. ap (λ (ss : List Stamp). first_two (distinct (flip_args stamp_cmp) ss)) (sym (told_all sender BUCKETS h p whole (low_bucket p))) in
-    sym (history_of_own_references h whole) ∙ same_hists (references_of h) S refl (kept_alike h.horizon (references_of_entries (entries_of h)) (references_of_entries (entries_brought (entry_frames sender h))) alike)
+    sym (history_of_own_references h whole) ∙ same_hists (references_of h) S refl (kept_alike h.horizon (references_of_entries (entries_of h)) (references_of_entries (entries_brought (history_messages sender h))) alike)
 
 -- ---- the digests
 
@@ -221,18 +223,18 @@ text_last fs f = flat_map-append encoding fs (f ∷ []) ∙ ap (λ (w : List ℕ
 
 pub dump_reads_back : DumpReadsBack
 dump_reads_back sender h replica low whole fits =
-    let frames : List Message = entry_frames sender h in
-    let last : Message = last_frame sender h in
-    let all : List Message = frames ++ last ∷ [] in
+    let messages : List Message = history_messages sender h in
+    let last : Message = last_message sender h in
+    let all : List Message = messages ++ last ∷ [] in
     let is_last : IsValidMessage last = (replica, low, digests_fit (entries_of h)) in
     record {
-      frames = frames;
+      messages = messages;
       sender = sender;
       digests = digests_of (entries_of h);
       whole = record {
         texts = map encoding all;
-        whole = sym (text_last frames last) ∙ sym (text_is all) ∙ sym (append-nil (texts_of (map encoding all)));
-        each = all_spelled all (all_last IsValidMessage frames last (all_frames sender h replica low whole fits) is_last);
+        whole = sym (text_last messages last) ∙ sym (text_is all) ∙ sym (append-nil (texts_of (map encoding all)));
+        each = all_encoded all (all_last IsValidMessage messages last (all_frames sender h replica low whole fits) is_last);
       };
       entries = all_entries sender h;
       given = told_back sender h whole;

@@ -1,6 +1,6 @@
 pub mod Dumps
 pub mod Faults
-pub mod Gathering
+pub mod Progress
 pub mod Laws
 pub mod Reading
 pub mod Writing

@@ -9,20 +9,20 @@ use warm_frames::FrameFault;
 /// Why a dump was not written or not read. As an error it shows its name ([`DumpFault::name`]).
 #[derive(Clone, Copy, Debug, PartialEq, Eq, Error)]
 pub enum DumpFault {
-    /// The fault of a frame, with its number, 1 to 11. `Memory` is any allocation failure. `BadKind` is also a request
-    /// in the place of a frame of entries or digests. `Truncated` and `Failed` do not come.
+    /// 1 to 11: the fault of a frame, with its number. `Memory` is any allocation failure. `BadKind`
+    /// is also a request where entries or digests are expected. `Truncated` and `Failed` do not occur.
     #[error("{0}")]
     Frame(FrameFault),
-    /// 13: the bytes end before the frame of the digests does.
+    /// 13: the bytes end before the digests do.
     #[error("CutShort")]
     CutShort,
     /// 14: the digests are not those of the history that the entries give.
     #[error("DigestsDiffer")]
     DigestsDiffer,
-    /// 15: a frame has another horizon than the frames before it.
+    /// 15: a message has another horizon than those before it.
     #[error("HorizonsDiffer")]
     HorizonsDiffer,
-    /// 16: bytes follow the frame of the digests.
+    /// 16: bytes follow the digests.
     #[error("MoreFollows")]
     MoreFollows,
     /// 17: the reader failed, or 2^40 reads did not reach its end.
@@ -46,7 +46,7 @@ impl From<AllocError> for DumpFault {
 }
 
 impl DumpFault {
-    /// Its number: a frame's fault has its own, 1 to 11, and the others have 13 to 18.
+    /// The number of the refusal: that of a frame's fault, 1 to 11, or 13 to 18.
     pub fn code(self) -> u8
         ensures { result ≡ dump_fault_code self }
     {
@@ -77,13 +77,14 @@ impl DumpFault {
     }
 }
 
-/// Why a dump was not read, and where. As an error it shows both, as in `BadMagic at byte 54`: the fault by its name, and
-/// that of a frame by its own.
+/// Why a dump was not read, and where. As an error it shows both, as in `BadMagic at byte 54`: the
+/// fault by its name, and that of a frame by its own.
 #[derive(Clone, Copy, Debug, PartialEq, Eq, Error)]
 #[error("{fault} at byte {at}")]
 pub struct DumpError {
-    /// Where the whole frames before the fault end, in bytes from the start: the frame that shows the fault, or
-    /// what follows the dump, begins here. Of an allocation failure and of a reader that fails no contract says it.
+    /// The byte at which the whole frames before the fault end: the frame that shows the fault, or what
+    /// follows the dump, begins here. After an allocation failure or a failed read no contract says
+    /// it.
     pub at: u64,
     /// Why.
     pub fault: DumpFault,

@@ -1,7 +1,7 @@
 //! The laws of dumps, over the definitions alone.
 //!
-//! Each function does nothing. What it ensures is a theorem, for the crates above to cite and for a reader to look up:
-//! `specs/Laws.antt` says each in full.
+//! Each function does nothing. Its contract is a theorem, which the crates above cite and a reader
+//! can look up: `specs/Laws.antt` states each in full.
 ghost use Rattle.warm_files.specs.Laws.{DumpReadsBack, DumpHasOneHistory, DumpIsTaken, ChangedDumpIsSeen};
 
 /// What is written of a history is a dump of it.
@@ -19,7 +19,8 @@ pub fn dump_is_taken()
     ensures { DumpIsTaken }
 {}
 
-/// Two dumps with one horizon and the same digests are of one history, or two texts of one bucket have one SHA-256.
+/// Two dumps with one horizon and the same digests are of one history, or two texts of one bucket
+/// have one SHA-256.
 pub fn changed_dump_is_seen()
     ensures { ChangedDumpIsSeen }
 {}

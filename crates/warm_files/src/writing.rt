@@ -1,10 +1,11 @@
-//! Writing a history as a dump, a frame at a time.
+//! Writing a history as a dump, a message at a time.
 ghost use Rattle.std.specs.Prelude.{◌≡◌, take, drop, OnOk, IfOk, IfErr};
 ghost use Rattle.std.specs.Io.KnownBytes.{Appends};
 ghost use Rattle.warm_frames.specs.declared.layout.TheConstants.{MAX_ENTRIES};
-ghost use Rattle.warm_frames.specs.Spelling.{encoding};
+ghost use Rattle.warm_frames.specs.Chunks.{entry_messages};
+ghost use Rattle.warm_frames.specs.Encoding.{encoding};
 ghost use Rattle.warm_history.specs.Histories.{PagesAscend};
-ghost use Rattle.warm_files.specs.Dumps.{dump_of, entry_frames, messages_of, last_frame, text_of};
+ghost use Rattle.warm_files.specs.Dumps.{dump_of, history_messages, last_message, text_of};
 ghost use Rattle.warm_files.specs.Writing.{StopsWriting};
 
 use crate::fault::DumpFault;
@@ -16,33 +17,37 @@ use warm_history::laws::prove_is_history;
 use warm_history::{BucketEntries, Entry, History};
 use warm_stamps::{BUCKETS, Bucket, ReplicaId};
 
-// Writes a frame.
-fn write_frame<W: Write>(alloc: Global, writer: &mut W, frame: &Message) -> Result<(), DumpFault>
+// Writes a message as a frame.
+fn write_message<W: Write>(
+    alloc: Global,
+    writer: &mut W,
+    message: &Message,
+) -> Result<(), DumpFault>
     ensures written { OnOk result
-        (Appends (W.contents writer.old) (W.contents writer.new) (encoding frame.now)) }
+        (Appends (W.contents writer.old) (W.contents writer.new) (encoding message.now)) }
     ensures stopped { IfErr result StopsWriting }
 {
-    let text = encode(alloc, frame)?;
+    let text = encode(alloc, message)?;
     writer.write_all(&text).map_err(|_| DumpFault::WriteFault)?;
     Ok(())
 }
 
-// Takes the next entries of a bucket, as many as a frame carries.
-fn next_piece(alloc: Global, left: &mut BucketEntries<'_>) -> Result<Vec<Entry>, AllocError>
-    ensures piece { IfOk result (λ es. es.items ≡ take MAX_ENTRIES left.old) }
+// Takes the next entries of a bucket, up to the maximum of a message.
+fn next_chunk(alloc: Global, left: &mut BucketEntries<'_>) -> Result<Vec<Entry>, AllocError>
+    ensures chunk { IfOk result (λ es. es.items ≡ take MAX_ENTRIES left.old) }
     ensures left { OnOk result (left.new ≡ drop MAX_ENTRIES left.old) }
 {
-    let mut piece = Vec::with_capacity(alloc, MAX_ENTRIES)?;
-    while piece.len() < MAX_ENTRIES {
+    let mut chunk = Vec::with_capacity(alloc, MAX_ENTRIES)?;
+    while chunk.len() < MAX_ENTRIES {
         match left.next() {
-            Some(entry) => piece.push(entry)?,
-            None => return Ok(piece),
+            Some(entry) => chunk.push(entry)?,
+            None => return Ok(chunk),
         }
     }
-    Ok(piece)
+    Ok(chunk)
 }
 
-// Writes the entries that are left of a bucket, in frames that are as full as can be.
+// Writes the entries that are left of a bucket, in messages that are as full as can be.
 fn write_bucket<W: Write>(
     alloc: Global,
     writer: &mut W,
@@ -52,25 +57,25 @@ fn write_bucket<W: Write>(
 ) -> Result<(), DumpFault>
     requires { PagesAscend left }
     ensures written { OnOk result (Appends (W.contents writer.old) (W.contents writer.new)
-        (text_of (messages_of sender horizon left.entry))) }
+        (text_of (entry_messages sender horizon left.entry))) }
     ensures stopped { IfErr result StopsWriting }
 {
     loop {
-        let piece = next_piece(alloc, &mut left)?;
-        if piece.is_empty() {
+        let chunk = next_chunk(alloc, &mut left)?;
+        if chunk.is_empty() {
             return Ok(());
         }
-        let entries = EntryList::holding(piece);
-        let frame = Message::Entries {
+        let entries = EntryList::holding(chunk);
+        let message = Message::Entries {
             sender,
             horizon,
             entries,
         };
-        write_frame(alloc, writer, &frame)?;
+        write_message(alloc, writer, &message)?;
     }
 }
 
-// Writes the frames of all entries, bucket by bucket.
+// Writes the messages of all entries, bucket by bucket.
 fn write_entries<W: Write>(
     alloc: Global,
     writer: &mut W,
@@ -78,7 +83,7 @@ fn write_entries<W: Write>(
     history: &History,
 ) -> Result<(), DumpFault>
     ensures written { OnOk result (Appends (W.contents writer.old) (W.contents writer.new)
-        (text_of (entry_frames sender history.now))) }
+        (text_of (history_messages sender history.now))) }
     ensures stopped { IfErr result StopsWriting }
 {
     prove_is_history(history);
@@ -92,7 +97,7 @@ fn write_entries<W: Write>(
     Ok(())
 }
 
-// Writes the frame of the digests.
+// Writes the message of the digests.
 fn write_digests<W: Write>(
     alloc: Global,
     writer: &mut W,
@@ -100,29 +105,31 @@ fn write_digests<W: Write>(
     history: &History,
 ) -> Result<(), DumpFault>
     ensures written { OnOk result (Appends (W.contents writer.old) (W.contents writer.new)
-        (encoding (last_frame sender history.now))) }
+        (encoding (last_message sender history.now))) }
     ensures stopped { IfErr result StopsWriting }
 {
     let digests = digests(alloc, history)?;
-    let frame = Message::Digest {
+    let message = Message::Digest {
         sender,
         horizon: history.horizon(),
         digests,
     };
-    write_frame(alloc, writer, &frame)
+    write_message(alloc, writer, &message)
 }
 
-/// Writes the history as a dump: the frames of its entries, bucket by bucket and each in page order, up to
-/// [`MAX_ENTRIES`] to a frame, and then the frame of its digests. Each has this sender and the history's horizon. The
-/// writer is flushed last.
+/// Writes the history as a dump: the messages of its entries, bucket by bucket and each in page order,
+/// up to [`MAX_ENTRIES`] to a message, and then the message of its digests. Each has this sender and
+/// the history's horizon. Flushes the writer last.
 ///
 /// A dump that was written reads back equal ([`crate::laws::dump_reads_back`]).
 ///
-/// It takes memory for one frame at a time, its entries and its bytes: some 87 KB at most. Refused:
-/// - `Frame(Memory)`: memory for a frame was refused;
+/// It takes memory for one message at a time, its entries and its bytes: some 87 KB at most.
+///
+/// Refused:
+/// - `Frame(Memory)`: an allocation failed;
 /// - `WriteFault`: the writer failed, or could not be flushed.
 ///
-/// After a fault nothing is said of how much was written; the history is as before in any case.
+/// After a fault nothing is said of how much was written; the history is unchanged in any case.
 pub fn write_dump<W: Write>(
     alloc: Global,
     writer: &mut W,

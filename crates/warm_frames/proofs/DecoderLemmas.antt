@@ -45,7 +45,7 @@ pub said_some : (begun piece : List ℕ) (size : Option ℕ) (n : ℕ) → size 
 said_some begun piece size n is says = subst (λ (x : Option ℕ). SaysSize begun piece (Ok x)) is says
 
 -- all of the piece was taken
-pub took_all : (old : DecoderState) (failed : Bool) (begun held piece : List ℕ) (fed : Fed) → state_of failed begun ≡ old → failed ≡ false → fed.taken ≡ length piece → fed.frame ≡ None → held ≡ begun ++ piece
+pub took_all : (old : DecoderState) (failed : Bool) (begun held piece : List ℕ) (fed : Fed) → state_of failed begun ≡ old → failed ≡ false → fed.taken ≡ length piece → fed.message ≡ None → held ≡ begun ++ piece
     → IsIncomplete (begun ++ piece) → FeedStep old piece (Ok fed) (state_of failed held)
 took_all old failed begun held piece fed view works all none is part =
     let stands : Inside begun ≡ old = ap (λ (b : Bool). state_of b begun) (sym works) ∙ view in

@@ -7,7 +7,7 @@ use Rattle.warm_frames.specs.declared.layout.TheConstants.{MAX_ENTRY_SIZE, MAX_E
 use Rattle.warm_frames.specs.declared.format.Format.TheVariants.{Narrow}
 use Rattle.warm_frames.specs.declared.fault.FrameFault.TheVariants.{Truncated, BadMagic, BadKind, BadSender, BadLength, BadCount, BadTag, BadStamp, BadOrder}
 use Rattle.warm_frames.specs.declared.message.Message.TheVariants.{Entries, Want}
-use Rattle.warm_frames.specs.Spelling.{spelling_in, encoding}
+use Rattle.warm_frames.specs.Encoding.{encoding_in, encoding}
 use Rattle.warm_frames.specs.Digests.{table_size}
 use Rattle.warm_frames.specs.Limits.{SpeaksBy}
 use Rattle.warm_frames.specs.Reading.{start_at, length_at, body_at, two_in, hist_at, read_page, entry_at, entries_at, count_at, all_entries, read_entries, read_message, read_frame}
@@ -35,7 +35,7 @@ longest_body_is = refl
 table_size_is : table_size ≡ 2048
 table_size_is = refl
 
--- ---- spellings
+-- ---- encodings
 
 abbrev letters : List ℕ
 letters = 0x4C ∷ 0x32 ∷ 0x47 ∷ 0x31 ∷ []
@@ -55,14 +55,14 @@ page n = 0 ∷ 0 ∷ 0 ∷ 0 ∷ 0 ∷ n ∷ []
 abbrev entries_frame : ℕ → ℕ → ℕ → List ℕ → List ℕ
 entries_frame sender len count text = letters ++ 1 ∷ 0 ∷ sender ∷ 0 ∷ 0 ∷ 0 ∷ len ∷ 0 ∷ 0 ∷ 0 ∷ count ∷ text
 
-nothing_spelled : spelling_in Narrow (Entries 3 0 []) ≡ letters ++ 1 ∷ 0 ∷ 3 ∷ 0 ∷ 0 ∷ 0 ∷ 4 ∷ 0 ∷ 0 ∷ 0 ∷ 0 ∷ []
-nothing_spelled = refl
+nothing_encoded : encoding_in Narrow (Entries 3 0 []) ≡ letters ++ 1 ∷ 0 ∷ 3 ∷ 0 ∷ 0 ∷ 0 ∷ 4 ∷ 0 ∷ 0 ∷ 0 ∷ 0 ∷ []
+nothing_encoded = refl
 
-two_stamps_spelled : spelling_in Narrow (Entries 1 0 (twice 7 (at 20 1) (at 10 1) ∷ [])) ≡ entries_frame 1 0x1F 1 (page 7 ++ 2 ∷ (twenty ++ ten))
-two_stamps_spelled = refl
+two_stamps_encoded : encoding_in Narrow (Entries 1 0 (twice 7 (at 20 1) (at 10 1) ∷ [])) ≡ entries_frame 1 0x1F 1 (page 7 ++ 2 ∷ (twenty ++ ten))
+two_stamps_encoded = refl
 
-request_spelled : spelling_in Narrow (Want 2 0 6) ≡ letters ++ 3 ∷ 0 ∷ 2 ∷ 0 ∷ 0 ∷ 0 ∷ 8 ∷ 0 ∷ 0 ∷ 0 ∷ 0 ∷ 0 ∷ 0 ∷ 0 ∷ 6 ∷ []
-request_spelled = refl
+request_encoded : encoding_in Narrow (Want 2 0 6) ≡ letters ++ 3 ∷ 0 ∷ 2 ∷ 0 ∷ 0 ∷ 0 ∷ 8 ∷ 0 ∷ 0 ∷ 0 ∷ 0 ∷ 0 ∷ 0 ∷ 0 ∷ 6 ∷ []
+request_encoded = refl
 
 -- the wide encoding of the request, and of an entry under a horizon
 request_written : encoding (Want 2 0 6) ≡ 0x4C ∷ 0x32 ∷ 0x47 ∷ 0x32 ∷ 3 ∷ 0 ∷ 2 ∷ 0 ∷ 0 ∷ 0 ∷ 0 ∷ 0 ∷ 0 ∷ 0 ∷ 0 ∷ 0 ∷ 0 ∷ 0 ∷ 8 ∷ 0 ∷ 0 ∷ 0 ∷ 0 ∷ 0 ∷ 0 ∷ 0 ∷ 6 ∷ []

@@ -19,7 +19,7 @@ use Rattle.warm_frames.specs.declared.fault.FrameFault.TheVariants.{Truncated, B
 use Rattle.warm_frames.specs.declared.reading.Kind.{Kind}
 use Rattle.warm_frames.specs.declared.reading.Kind.TheVariants as kinds
 use Rattle.warm_frames.specs.Pieces.{IsLasting}
-use Rattle.warm_frames.specs.Reading.{◌>>=◌, front_at, number_at, byte_at, want, is_replica, kind_of, Start, format_of, horizon_at, start_at, stamp_in, two_in, hist_at, read_page, entry_at, entries_at, count_at, all_entries, read_entries, read_digests, frame_by, read_message}
+use Rattle.warm_frames.specs.Reading.{◌>>=◌, front_at, number_at, byte_at, want, is_replica, kind_of, Start, format_of, horizon_at, start_at, stamp_in, two_in, hist_at, read_page, entry_at, entries_at, count_at, all_entries, read_entries, read_digests, message_by, read_message}
 use Rattle.warm_frames.specs.Digests.{table_size}
 use Rattle.warm_frames.specs.Sizes.{header_size}
 use Rattle.warm_frames.proofs.FieldLemmas.{done, guard_ok, ok_is}
@@ -118,7 +118,7 @@ body_lasts format body =
     only_then IsLasting (want (eqb (length entries.1) 0) BadLength) _ (only_want IsLasting (eqb (length entries.1) 0) BadLength bad_length) (λ ended is_ended. tt)))
 
 -- a fault of a body is there for good
-by_lasts : (kind : Kind) (format : Format) (sender horizon : ℕ) (body : List ℕ) → Only IsLasting (frame_by kind format sender horizon body)
+by_lasts : (kind : Kind) (format : Format) (sender horizon : ℕ) (body : List ℕ) → Only IsLasting (message_by kind format sender horizon body)
 unfolding read_digests
 by_lasts kinds.Entries format sender horizon body = only_then IsLasting (read_entries format body) _ (body_lasts format body) (λ entries is_entries. tt)
 by_lasts kinds.Digest format sender horizon body =

@@ -1,4 +1,4 @@
--- Frames: what is read is spelled so, and what is spelled so is read.
+-- Messages: what is read is encoded so, and what is encoded so is read.
 use Rattle.std.proofs.Common.{◌≡◌, ℕ, zero, suc, ◌+◌, ◌*◌, ◌^◌, ◌<◌, ◌≤◌, Bool, true, false, cond, eqb, leb, List, [], ◌∷◌, ◌++◌, length, Result, Ok, Err, refl, sym, ap, subst, ◌∙◌, append_assoc, arith}
 use Rattle.std.specs.Int.{w16, w32, w64, to_be_bytes}
 use Rattle.std.specs.List.{flat_map, AllByRecursion}
@@ -14,12 +14,12 @@ use Rattle.warm_frames.specs.declared.layout.TheConstants.{MAGIC, NARROW_MAGIC, 
 use Rattle.warm_frames.specs.declared.fault.FrameFault.{FrameFault}
 use Rattle.warm_frames.specs.declared.fault.FrameFault.TheVariants.{Truncated, BadMagic, BadSender, BadLength}
 use Rattle.warm_frames.specs.declared.message.Message.{Message}
-use Rattle.warm_frames.specs.declared.message.Message.TheVariants as frames
+use Rattle.warm_frames.specs.declared.message.Message.TheVariants as messages
 use Rattle.warm_frames.specs.declared.reading.Kind.{Kind}
 use Rattle.warm_frames.specs.declared.reading.Kind.TheVariants as kinds
 use Rattle.warm_frames.specs.Entries.{entries_bytes_in}
-use Rattle.warm_frames.specs.Spelling.{IsValidMessage, magic_of, horizon_bytes, spelling_in, CanHold, SpellsIn, Encodes}
-use Rattle.warm_frames.specs.Reading.{◌>>=◌, number_at, byte_at, want, is_replica, kind_of, entry_size, may_have, Start, format_of, horizon_at, start_at, length_at, whole_body, body_at, read_entries, read_digests, frame_by, read_message, read_frame}
+use Rattle.warm_frames.specs.Encoding.{IsValidMessage, magic_of, horizon_bytes, encoding_in, CanHold, EncodesIn, Encodes}
+use Rattle.warm_frames.specs.Reading.{◌>>=◌, number_at, byte_at, want, is_replica, kind_of, entry_size, may_have, Start, format_of, horizon_at, start_at, length_at, whole_body, body_at, read_entries, read_digests, message_by, read_message, read_frame}
 use Rattle.warm_frames.proofs.FieldLemmas.{done, IsNarrowIn, bind_ok, want_ok, ok_is, Takes, Takes-then, byte_takes, wide16, wide32, wide64, number_takes, number_again, replica_is, replica_true}
 use Rattle.warm_frames.proofs.BodyLemmas.{entries_body, body_again, short_entries, digests_body, digests_again, length-digests}
 
@@ -164,60 +164,60 @@ body_at_again format kind body few allowed =
 -- ---- bodies by kind
 
 abbrev pub frame_kind : Message → Kind
-frame_kind (frames.Entries sender horizon entries) = kinds.Entries
-frame_kind (frames.Digest sender horizon digests) = kinds.Digest
-frame_kind (frames.Want sender horizon request) = kinds.Want
+frame_kind (messages.Entries sender horizon entries) = kinds.Entries
+frame_kind (messages.Digest sender horizon digests) = kinds.Digest
+frame_kind (messages.Want sender horizon request) = kinds.Want
 
 abbrev pub frame_sender : Message → ℕ
-frame_sender (frames.Entries sender horizon entries) = sender
-frame_sender (frames.Digest sender horizon digests) = sender
-frame_sender (frames.Want sender horizon request) = sender
+frame_sender (messages.Entries sender horizon entries) = sender
+frame_sender (messages.Digest sender horizon digests) = sender
+frame_sender (messages.Want sender horizon request) = sender
 
 abbrev pub frame_horizon : Message → ℕ
-frame_horizon (frames.Entries sender horizon entries) = horizon
-frame_horizon (frames.Digest sender horizon digests) = horizon
-frame_horizon (frames.Want sender horizon request) = horizon
+frame_horizon (messages.Entries sender horizon entries) = horizon
+frame_horizon (messages.Digest sender horizon digests) = horizon
+frame_horizon (messages.Want sender horizon request) = horizon
 
 abbrev pub frame_body : Format → Message → List ℕ
-frame_body format (frames.Entries sender horizon entries) = to_be_bytes w32 (length entries) ++ entries_bytes_in format entries
-frame_body format (frames.Digest sender horizon digests) = flat_map (λ x. x) digests
-frame_body format (frames.Want sender horizon request) = to_be_bytes w64 request
+frame_body format (messages.Entries sender horizon entries) = to_be_bytes w32 (length entries) ++ entries_bytes_in format entries
+frame_body format (messages.Digest sender horizon digests) = flat_map (λ x. x) digests
+frame_body format (messages.Want sender horizon request) = to_be_bytes w64 request
 
 abbrev pub start_of : Format → Message → Start
 start_of format f = record { format = format; kind = frame_kind f; sender = frame_sender f; horizon = frame_horizon f }
 
-spelling_parts : (format : Format) (f : Message) → spelling_in format f ≡ start_bytes (start_of format f) ++ (to_be_bytes w32 (length (frame_body format f)) ++ frame_body format f)
-spelling_parts Narrow (frames.Entries sender horizon entries) = refl
-spelling_parts Narrow (frames.Digest sender horizon digests) = refl
-spelling_parts Narrow (frames.Want sender horizon request) = refl
-spelling_parts Wide (frames.Entries sender horizon entries) = refl
-spelling_parts Wide (frames.Digest sender horizon digests) = refl
-spelling_parts Wide (frames.Want sender horizon request) = refl
+encoding_parts : (format : Format) (f : Message) → encoding_in format f ≡ start_bytes (start_of format f) ++ (to_be_bytes w32 (length (frame_body format f)) ++ frame_body format f)
+encoding_parts Narrow (messages.Entries sender horizon entries) = refl
+encoding_parts Narrow (messages.Digest sender horizon digests) = refl
+encoding_parts Narrow (messages.Want sender horizon request) = refl
+encoding_parts Wide (messages.Entries sender horizon entries) = refl
+encoding_parts Wide (messages.Digest sender horizon digests) = refl
+encoding_parts Wide (messages.Want sender horizon request) = refl
 
 -- what the format says of the horizon and the pages says that it can hold the frame
-holds_entries : (format : Format) (sender horizon : ℕ) (es : List Entry) → HoldsHorizon format horizon → AllByRecursion (λ e. IsNarrowIn format e.page) es → CanHold format (frames.Entries sender horizon es)
+holds_entries : (format : Format) (sender horizon : ℕ) (es : List Entry) → HoldsHorizon format horizon → AllByRecursion (λ e. IsNarrowIn format e.page) es → CanHold format (messages.Entries sender horizon es)
 holds_entries Narrow sender horizon es none narrow = (none, narrow)
 holds_entries Wide sender horizon es none narrow = tt
 
-holds_digest : (format : Format) (sender horizon : ℕ) (digests : List (List ℕ)) → HoldsHorizon format horizon → CanHold format (frames.Digest sender horizon digests)
+holds_digest : (format : Format) (sender horizon : ℕ) (digests : List (List ℕ)) → HoldsHorizon format horizon → CanHold format (messages.Digest sender horizon digests)
 holds_digest Narrow sender horizon digests none = none
 holds_digest Wide sender horizon digests none = tt
 
-holds_want : (format : Format) (sender horizon request : ℕ) → HoldsHorizon format horizon → CanHold format (frames.Want sender horizon request)
+holds_want : (format : Format) (sender horizon request : ℕ) → HoldsHorizon format horizon → CanHold format (messages.Want sender horizon request)
 holds_want Narrow sender horizon request none = none
 holds_want Wide sender horizon request none = tt
 
 held_horizon : (format : Format) (f : Message) → CanHold format f → HoldsHorizon format (frame_horizon f)
-held_horizon Narrow (frames.Entries sender horizon entries) holds = holds.0
-held_horizon Narrow (frames.Digest sender horizon digests) holds = holds
-held_horizon Narrow (frames.Want sender horizon request) holds = holds
+held_horizon Narrow (messages.Entries sender horizon entries) holds = holds.0
+held_horizon Narrow (messages.Digest sender horizon digests) holds = holds
+held_horizon Narrow (messages.Want sender horizon request) holds = holds
 held_horizon Wide f holds = tt
 
 wide_all : (es : List Entry) → AllByRecursion (λ e. IsNarrowIn Wide e.page) es
 wide_all [] = tt
 wide_all (e ∷ es) = (tt, wide_all es)
 
-held_pages : (format : Format) (sender horizon : ℕ) (es : List Entry) → CanHold format (frames.Entries sender horizon es) → AllByRecursion (λ e. IsNarrowIn format e.page) es
+held_pages : (format : Format) (sender horizon : ℕ) (es : List Entry) → CanHold format (messages.Entries sender horizon es) → AllByRecursion (λ e. IsNarrowIn format e.page) es
 held_pages Narrow sender horizon es holds = holds.1
 held_pages Wide sender horizon es holds = wide_all es
 
@@ -228,34 +228,34 @@ pub record IsFrameOf (start : Start) (body : List ℕ) (f : Message) : Type 0 wh
   pub fits : IsReplica start.sender → start.horizon < 2 ^ 64 → IsValidMessage f
   pub holds : HoldsHorizon start.format start.horizon → CanHold start.format f
 
-frame_takes : (kind : Kind) (format : Format) (sender horizon : ℕ) (body : List ℕ) (f : Message) → IsBytes body → may_have format kind (length body) ≡ true → frame_by kind format sender horizon body ≡ Ok f → IsFrameOf (record { format = format; kind = kind; sender = sender; horizon = horizon }) body f
+frame_takes : (kind : Kind) (format : Format) (sender horizon : ℕ) (body : List ℕ) (f : Message) → IsBytes body → may_have format kind (length body) ≡ true → message_by kind format sender horizon body ≡ Ok f → IsFrameOf (record { format = format; kind = kind; sender = sender; horizon = horizon }) body f
 frame_takes kinds.Entries format sender horizon body f fits allowed e =
-    let a = bind_ok (read_entries format body) (λ entries. Ok (frames.Entries sender horizon entries)) f e in
+    let a = bind_ok (read_entries format body) (λ entries. Ok (messages.Entries sender horizon entries)) f e in
     let t = entries_body format body a.0 fits a.1 in
-    subst (IsFrameOf (record { format = format; kind = kinds.Entries; sender = sender; horizon = horizon }) body) (ok_is (frames.Entries sender horizon a.0) f a.2) (record { start_is = refl; body_is = t.text; fits = λ good few. (good, few, t.listed); holds = λ none. holds_entries format sender horizon a.0 none t.narrow })
+    subst (IsFrameOf (record { format = format; kind = kinds.Entries; sender = sender; horizon = horizon }) body) (ok_is (messages.Entries sender horizon a.0) f a.2) (record { start_is = refl; body_is = t.text; fits = λ good few. (good, few, t.listed); holds = λ none. holds_entries format sender horizon a.0 none t.narrow })
 frame_takes kinds.Digest format sender horizon body f fits allowed e =
-    let a = bind_ok (read_digests body) (λ digests. Ok (frames.Digest sender horizon digests)) f e in
+    let a = bind_ok (read_digests body) (λ digests. Ok (messages.Digest sender horizon digests)) f e in
     let t = digests_body body a.0 a.1 in
-    subst (IsFrameOf (record { format = format; kind = kinds.Digest; sender = sender; horizon = horizon }) body) (ok_is (frames.Digest sender horizon a.0) f a.2) (record { start_is = refl; body_is = t.text; fits = λ good few. (good, few, t.table); holds = λ none. holds_digest format sender horizon a.0 none })
+    subst (IsFrameOf (record { format = format; kind = kinds.Digest; sender = sender; horizon = horizon }) body) (ok_is (messages.Digest sender horizon a.0) f a.2) (record { start_is = refl; body_is = t.text; fits = λ good few. (good, few, t.table); holds = λ none. holds_digest format sender horizon a.0 none })
 frame_takes kinds.Want format sender horizon body f fits allowed e =
-    let a = bind_ok (number_at w64 BadLength body) (λ request. Ok (frames.Want sender horizon request.0)) f e in
+    let a = bind_ok (number_at w64 BadLength body) (λ request. Ok (messages.Want sender horizon request.0)) f e in
     let t = number_takes w64 (2 ^ 64) BadLength wide64 body a.0 fits a.1 in
     let eight : length body ≡ 8 = eqb-true _ _ allowed in
     let nothing : a.0.1 ≡ [] = nil_from_length a.0.1 (omega (arith, eight, ap length t.0.parts, length-append (to_be_bytes w64 a.0.0) a.0.1)) in
     let text : body ≡ to_be_bytes w64 a.0.0 = t.0.parts ∙ ap (λ (r : List ℕ). to_be_bytes w64 a.0.0 ++ r) nothing ∙ append-nil (to_be_bytes w64 a.0.0) in
-    subst (IsFrameOf (record { format = format; kind = kinds.Want; sender = sender; horizon = horizon }) body) (ok_is (frames.Want sender horizon a.0.0) f a.2) (record { start_is = refl; body_is = text; fits = λ good few. (good, few, t.1); holds = λ none. holds_want format sender horizon a.0.0 none })
+    subst (IsFrameOf (record { format = format; kind = kinds.Want; sender = sender; horizon = horizon }) body) (ok_is (messages.Want sender horizon a.0.0) f a.2) (record { start_is = refl; body_is = text; fits = λ good few. (good, few, t.1); holds = λ none. holds_want format sender horizon a.0.0 none })
 
-frame_again : (format : Format) (f : Message) → IsValidMessage f → CanHold format f → frame_by (frame_kind f) format (frame_sender f) (frame_horizon f) (frame_body format f) ≡ Ok f
-frame_again format (frames.Entries sender horizon entries) fits holds = rw (body_again format entries fits.2 (held_pages format sender horizon entries holds)) refl
-frame_again format (frames.Digest sender horizon digests) fits holds = rw (digests_again digests fits.2) refl
-frame_again format (frames.Want sender horizon request) fits holds =
+frame_again : (format : Format) (f : Message) → IsValidMessage f → CanHold format f → message_by (frame_kind f) format (frame_sender f) (frame_horizon f) (frame_body format f) ≡ Ok f
+frame_again format (messages.Entries sender horizon entries) fits holds = rw (body_again format entries fits.2 (held_pages format sender horizon entries holds)) refl
+frame_again format (messages.Digest sender horizon digests) fits holds = rw (digests_again digests fits.2) refl
+frame_again format (messages.Want sender horizon request) fits holds =
     let whole : number_at w64 BadLength (to_be_bytes w64 request) ≡ Ok (request, []) = ap (number_at w64 BadLength) (sym (append-nil (to_be_bytes w64 request))) ∙ number_again w64 (2 ^ 64) BadLength wide64 request [] fits.2 in
-    ap (λ (r : Result (ℕ × List ℕ) FrameFault). r >>= λ m. Ok (frames.Want sender horizon m.0)) whole
+    ap (λ (r : Result (ℕ × List ℕ) FrameFault). r >>= λ m. Ok (messages.Want sender horizon m.0)) whole
 
 good_sender : (f : Message) → IsValidMessage f → IsReplica (frame_sender f) × (frame_horizon f < 2 ^ 64)
-good_sender (frames.Entries sender horizon entries) fits = (fits.0, fits.1)
-good_sender (frames.Digest sender horizon digests) fits = (fits.0, fits.1)
-good_sender (frames.Want sender horizon request) fits = (fits.0, fits.1)
+good_sender (messages.Entries sender horizon entries) fits = (fits.0, fits.1)
+good_sender (messages.Digest sender horizon digests) fits = (fits.0, fits.1)
+good_sender (messages.Want sender horizon request) fits = (fits.0, fits.1)
 
 -- the length of a frame's body is valid for its kind
 pub record HasLength (format : Format) (f : Message) : Type 0 where
@@ -267,31 +267,31 @@ most_size Narrow = omega arith
 most_size Wide = omega arith
 
 pub body_length : (format : Format) (f : Message) → IsValidMessage f → HasLength format f
-body_length Narrow (frames.Entries sender horizon entries) fits =
+body_length Narrow (messages.Entries sender horizon entries) fits =
     let listed = fits.2.at_most in
     let whole : length (to_be_bytes w32 (length entries) ++ entries_bytes_in Narrow entries) ≡ 4 + length (entries_bytes_in Narrow entries) = length-append (to_be_bytes w32 (length entries)) (entries_bytes_in Narrow entries) in
     let short : length (entries_bytes_in Narrow entries) ≤ 27 * length entries = short_entries Narrow entries in
     let least : 4 ≤ length (to_be_bytes w32 (length entries) ++ entries_bytes_in Narrow entries) = omega arith in
     let most : length (to_be_bytes w32 (length entries) ++ entries_bytes_in Narrow entries) ≤ 4 + 27 * MAX_ENTRIES = omega arith in
     record { few = omega arith; allowed = grind (arith, nat_tests, least, most) }
-body_length Wide (frames.Entries sender horizon entries) fits =
+body_length Wide (messages.Entries sender horizon entries) fits =
     let listed = fits.2.at_most in
     let whole : length (to_be_bytes w32 (length entries) ++ entries_bytes_in Wide entries) ≡ 4 + length (entries_bytes_in Wide entries) = length-append (to_be_bytes w32 (length entries)) (entries_bytes_in Wide entries) in
     let short : length (entries_bytes_in Wide entries) ≤ 31 * length entries = short_entries Wide entries in
     let least : 4 ≤ length (to_be_bytes w32 (length entries) ++ entries_bytes_in Wide entries) = omega arith in
     let most : length (to_be_bytes w32 (length entries) ++ entries_bytes_in Wide entries) ≤ 4 + 31 * MAX_ENTRIES = omega arith in
     record { few = omega arith; allowed = grind (arith, nat_tests, least, most) }
-body_length format (frames.Digest sender horizon digests) fits =
+body_length format (messages.Digest sender horizon digests) fits =
     let len = length-digests digests fits.2 in
     record { few = omega (arith, len); allowed = rw len refl }
-body_length format (frames.Want sender horizon request) fits = record { few = omega arith; allowed = refl }
+body_length format (messages.Want sender horizon request) fits = record { few = omega arith; allowed = refl }
 
 -- ---- whole frames
 
--- what is read is spelled so
-pub frame_spelled : (bytes : List ℕ) (f : Message) → IsBytes bytes → read_frame bytes ≡ Ok f → Encodes bytes f
+-- what is read is encoded so
+pub frame_encodes : (bytes : List ℕ) (f : Message) → IsBytes bytes → read_frame bytes ≡ Ok f → Encodes bytes f
 unfolding read_frame read_message
-frame_spelled bytes f fits e =
+frame_encodes bytes f fits e =
     let a = bind_ok (start_at bytes) _ f e in
     let start = a.0.0 in
     let b = bind_ok (body_at start.format start.kind a.0.1) _ f a.2 in
@@ -304,29 +304,29 @@ frame_spelled bytes f fits e =
         fits = t3.fits t1.sender t1.few;
         holds = t3.holds t1.held;
         text = t1.taken.parts ∙ ap (λ (w : List ℕ). start_bytes start ++ w) (t2.text ∙ ap (λ (w : List ℕ). to_be_bytes w32 (length w) ++ w) t3.body_is)
-            ∙ ap (λ (s : Start). start_bytes s ++ (to_be_bytes w32 (length body) ++ body)) (sym t3.start_is) ∙ sym (spelling_parts start.format f);
+            ∙ ap (λ (s : Start). start_bytes s ++ (to_be_bytes w32 (length body) ++ body)) (sym t3.start_is) ∙ sym (encoding_parts start.format f);
       },
     )
 
--- what is spelled so is read
-pub spelt_read : (format : Format) (bytes : List ℕ) (f : Message) → SpellsIn format bytes f → read_frame bytes ≡ Ok f
+-- what is encoded so is read
+pub encoded_read : (format : Format) (bytes : List ℕ) (f : Message) → EncodesIn format bytes f → read_frame bytes ≡ Ok f
 unfolding read_frame read_message
-spelt_read format bytes f spelt =
-    let len = body_length format f spelt.fits in
-    let good = good_sender f spelt.fits in
+encoded_read format bytes f encodes =
+    let len = body_length format f encodes.fits in
+    let good = good_sender f encodes.fits in
     let body = frame_body format f in
-    ap read_frame (spelt.text ∙ spelling_parts format f)
-    ∙ rw (start_again format (frame_kind f) (frame_sender f) (frame_horizon f) (to_be_bytes w32 (length body) ++ body) good.0 good.1 (held_horizon format f spelt.holds), body_at_again format (frame_kind f) body len.few len.allowed, frame_again format f spelt.fits spelt.holds) refl
+    ap read_frame (encodes.text ∙ encoding_parts format f)
+    ∙ rw (start_again format (frame_kind f) (frame_sender f) (frame_horizon f) (to_be_bytes w32 (length body) ++ body) good.0 good.1 (held_horizon format f encodes.holds), body_at_again format (frame_kind f) body len.few len.allowed, frame_again format f encodes.fits encodes.holds) refl
 
 pub frame_read : (bytes : List ℕ) (f : Message) → Encodes bytes f → read_frame bytes ≡ Ok f
-frame_read bytes f spelt = spelt_read spelt.0 bytes f spelt.1
+frame_read bytes f encodes = encoded_read encodes.0 bytes f encodes.1
 
--- ---- the laws of spellings
+-- ---- the laws of the encoding
 
 pub encoding_is_injective : (bytes : List ℕ) (f g : Message) → Encodes bytes f → Encodes bytes g → f ≡ g
 encoding_is_injective bytes f g first second = ok_is f g (sym (frame_read bytes f first) ∙ frame_read bytes g second)
 
--- where a frame's encoding is followed by more, no frame is spelled
+-- where an encoding is followed by more, no message is encoded
 pub prefix_free : (text rest : List ℕ) (f g : Message) → Encodes text f → Encodes (text ++ rest) g → rest ≡ []
 unfolding read_frame
 prefix_free text rest f g first second =
@@ -337,7 +337,7 @@ prefix_free text rest f g first second =
     let len = body_length format f first.1.fits in
     let good = good_sender f first.1.fits in
     let after = to_be_bytes w32 (length body) ++ (body ++ rest) in
-    let regrouped : text ++ rest ≡ start_bytes start ++ after = ap (λ (w : List ℕ). w ++ rest) (first.1.text ∙ spelling_parts format f) ∙ append_assoc (start_bytes start) (to_be_bytes w32 (length body) ++ body) rest ∙ ap (λ (w : List ℕ). start_bytes start ++ w) (append_assoc (to_be_bytes w32 (length body)) body rest) in
+    let regrouped : text ++ rest ≡ start_bytes start ++ after = ap (λ (w : List ℕ). w ++ rest) (first.1.text ∙ encoding_parts format f) ∙ append_assoc (start_bytes start) (to_be_bytes w32 (length body) ++ body) rest ∙ ap (λ (w : List ℕ). start_bytes start ++ w) (append_assoc (to_be_bytes w32 (length body)) body rest) in
     let read : read_frame (start_bytes start ++ after) ≡ Ok g = ap read_frame (sym regrouped) ∙ frame_read (text ++ rest) g second in
     let a = bind_ok (start_at (start_bytes start ++ after)) _ g read in
     let is : (start, after) ≡ a.0 = ok_is (start, after) a.0 (sym (start_again format kind (frame_sender f) (frame_horizon f) after good.0 good.1 (held_horizon format f first.1.holds)) ∙ a.1) in

@@ -1,4 +1,5 @@
 pub mod BodyLemmas
+pub mod ChunkLemmas
 pub mod DecodeLemmas
 pub mod DecoderLemmas
 pub mod EntryLemmas

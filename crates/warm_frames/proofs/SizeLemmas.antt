@@ -15,7 +15,7 @@ use Rattle.warm_frames.specs.declared.format.Format.TheVariants.{Narrow, Wide}
 use Rattle.warm_frames.specs.Pieces.{IsLasting, IsIncomplete, ShowsFault}
 use Rattle.warm_frames.specs.Reading.{◌>>=◌, number_at, byte_at, want, is_replica, kind_of, may_have, Start, format_of, horizon_at, start_at, length_at, whole_body, body_at, read_message, read_frame}
 use Rattle.warm_frames.specs.Sizes.{header_size, frame_size}
-use Rattle.warm_frames.specs.Spelling.{Encodes}
+use Rattle.warm_frames.specs.Encoding.{Encodes}
 use Rattle.warm_frames.proofs.FieldLemmas.{bind_ok, want_ok, ok_is}
 use Rattle.warm_frames.proofs.FaultLemmas.{Only, only_then, only_fault, only_want, frame_lasts, ShortOrLasting, number_short, start_short, header_most, most_of, format_is, number_long, byte_long}
 use Rattle.warm_frames.proofs.FrameLemmas.{length_ok, frame_read}
@@ -410,7 +410,7 @@ no_frame bytes more e f shown ok (Ok size) is =
 
 -- a fault stays, whatever follows
 pub fault_for_good : (bytes more : List ℕ) (e : FrameFault) (f : Message) → ShowsFault bytes e → Encodes (bytes ++ more) f → ⊥
-fault_for_good bytes more e f shown spelt = no_frame bytes more e f shown (frame_read (bytes ++ more) f spelt) (frame_size bytes) refl
+fault_for_good bytes more e f shown encodes = no_frame bytes more e f shown (frame_read (bytes ++ more) f encodes) (frame_size bytes) refl
 
 -- ---- for a decoder
 

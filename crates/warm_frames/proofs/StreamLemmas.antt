@@ -7,9 +7,9 @@ use Rattle.warm_frames.specs.declared.decoder.Fed.{Fed}
 use Rattle.warm_frames.specs.declared.fault.FrameFault.{FrameFault}
 use Rattle.warm_frames.specs.declared.fault.FrameFault.TheVariants.{Truncated}
 use Rattle.warm_frames.specs.declared.message.Message.{Message}
-use Rattle.warm_frames.specs.Pieces.{DecoderState, Inside, Broken, IsIncomplete, IsLasting, ShowsFault, TakesPiece, Breaks, FeedStep, Feeding, bytes_taken, taken_in, frame_given, messages_given, Feedings, SpellAll, texts_of, Splits, Fails}
+use Rattle.warm_frames.specs.Pieces.{DecoderState, Inside, Broken, IsIncomplete, IsLasting, ShowsFault, TakesPiece, Breaks, FeedStep, Feeding, bytes_taken, taken_in, message_given, messages_given, Feedings, EncodeAll, texts_of, Splits, Fails}
 use Rattle.warm_frames.specs.Reading.{read_frame}
-use Rattle.warm_frames.specs.Spelling.{Encodes}
+use Rattle.warm_frames.specs.Encoding.{Encodes}
 use Rattle.warm_frames.proofs.FrameLemmas.{frame_read, encoding_is_injective, prefix_free}
 use Rattle.warm_frames.proofs.SizeLemmas.{failed, no_ok, err_is, lt_or_le, truncated_mends, nothing_short, part_without_header, fault_for_good}
 
@@ -25,7 +25,8 @@ broken_stays : (calls : List Feeding) (new : DecoderState) → Feedings Broken c
 broken_stays [] new run = run
 broken_stays (c ∷ calls) new run = broken_stays calls new (subst (λ (s : DecoderState). Feedings s calls new) run.1.1 run.2)
 
-nothing_is_part : IsIncomplete []
+-- between two frames nothing has come of the next
+pub nothing_is_part : IsIncomplete []
 nothing_is_part = part_without_header [] (nothing_short [] refl)
 
 -- the later feeds are read from whatever part has come
@@ -51,8 +52,8 @@ one_fed calls new rest begun piece taken (Some frame) next later takes run =
     }
 
 one_answered : (calls : List Feeding) (new : DecoderState) (rest begun piece : List ℕ) (answer : Result Fed FrameFault) (next : DecoderState) → Later calls new rest → IsIncomplete begun → new ≡ Inside rest → FeedStep (Inside begun) piece answer next → Feedings next calls new
-    → Splits (begun ++ (bytes_taken piece answer ++ taken_in calls)) (frame_given answer ++ messages_given calls) rest
-one_answered calls new rest begun piece (Ok fed) next later part ends feeds run = one_fed calls new rest begun piece fed.taken fed.frame next later feeds run
+    → Splits (begun ++ (bytes_taken piece answer ++ taken_in calls)) (message_given answer ++ messages_given calls) rest
+one_answered calls new rest begun piece (Ok fed) next later part ends feeds run = one_fed calls new rest begun piece fed.taken fed.message next later feeds run
 one_answered calls new rest begun piece (Err fault) next later part ends (inl none) run = later begun part (subst (λ (s : DecoderState). Feedings s calls new) none.1 run)
 one_answered calls new rest begun piece (Err fault) next later part ends (inr breaks) run =
     absurd (apart rest (sym (broken_stays calls new (subst (λ (s : DecoderState). Feedings s calls new) breaks.3 run)) ∙ ends))
@@ -64,9 +65,9 @@ fed_from [] new rest ends begun part run =
 fed_from (c ∷ calls) new rest ends begun part run =
     let all = one_answered calls new rest begun c.piece c.answer run.0 (fed_from calls new rest ends) part ends run.1 run.2 in
     let bytes : taken_in (c ∷ calls) ≡ bytes_taken c.piece c.answer ++ taken_in calls = flat_map-cons (λ (d : Feeding). bytes_taken d.piece d.answer) c calls in
-    let frames : messages_given (c ∷ calls) ≡ frame_given c.answer ++ messages_given calls = flat_map-cons (λ (d : Feeding). frame_given d.answer) c calls in
+    let frames : messages_given (c ∷ calls) ≡ message_given c.answer ++ messages_given calls = flat_map-cons (λ (d : Feeding). message_given d.answer) c calls in
     subst (λ (fs : List Message). Splits (begun ++ taken_in (c ∷ calls)) fs rest) (sym frames)
-    (subst (λ (s : List ℕ). Splits (begun ++ s) (frame_given c.answer ++ messages_given calls) rest) (sym bytes) all)
+    (subst (λ (s : List ℕ). Splits (begun ++ s) (message_given c.answer ++ messages_given calls) rest) (sym bytes) all)
 
 -- the consumed bytes are the returned frames and a part of the next
 pub in_pieces : (calls : List Feeding) (rest : List ℕ) → Feedings (Inside []) calls (Inside rest) → Splits (taken_in calls) (messages_given calls) rest
@@ -94,10 +95,14 @@ fault_in_pieces calls begun piece fault run breaks =
 shorter : (a x b y : List ℕ) → a ++ x ≡ b ++ y → length a ≤ length b → take (length a) b ≡ a
 shorter a x b y same le = sym (take-append-le (length a) b y le) ∙ ap (take (length a)) (sym same) ∙ take_at a x (length a) refl
 
-longer : (a x b y : List ℕ) → a ++ x ≡ b ++ y → length a ≤ length b → b ≡ a ++ drop (length a) b
+pub longer : (a x b y : List ℕ) → a ++ x ≡ b ++ y → length a ≤ length b → b ≡ a ++ drop (length a) b
 longer a x b y same le = sym (take-append-drop (length a) b) ∙ ap (λ (w : List ℕ). w ++ drop (length a) b) (shorter a x b y same le)
 
--- where one frame's encoding is a prefix of another's, the two spellings are equal
+-- a frame has a byte at least
+pub no_empty_frame : (f : Message) → Encodes [] f → ⊥
+no_empty_frame f encodes = no_ok (sym (nothing_is_part 0) ∙ frame_read [] f encodes)
+
+-- where one message's encoding is a prefix of another's, the two are equal
 front_text : (s t : List ℕ) (f g : Message) (x y : List ℕ) → Encodes s f → Encodes t g → s ++ x ≡ t ++ y → length s ≤ length t → s ≡ t
 front_text s t f g x y is_f is_g same le =
     let rest = drop (length s) t in
@@ -105,7 +110,8 @@ front_text s t f g x y is_f is_g same le =
     let none : rest ≡ [] = prefix_free s rest f g is_f (subst (λ (w : List ℕ). Encodes w g) parts is_g) in
     sym (append-nil s) ∙ ap (λ (r : List ℕ). s ++ r) (sym none) ∙ sym parts
 
-first_text : (s t : List ℕ) (f g : Message) (x y : List ℕ) → Encodes s f → Encodes t g → s ++ x ≡ t ++ y → s ≡ t
+-- where two frames begin one text they are one
+pub first_text : (s t : List ℕ) (f g : Message) (x y : List ℕ) → Encodes s f → Encodes t g → s ++ x ≡ t ++ y → s ≡ t
 first_text s t f g x y is_f is_g same =
     ⊎_elim (λ lt. front_text s t f g x y is_f is_g same (omega (arith, lt))) (λ le. sym (front_text t s g f y x is_g is_f (sym same) le)) (lt_or_le (length s) (length t))
 
@@ -114,18 +120,18 @@ abbrev pub NoFrame : List ℕ → Type 0
 NoFrame bytes = (text : List ℕ) (f : Message) (more : List ℕ) → Encodes text f → bytes ≡ text ++ more → ⊥
 
 part_no_frame : (rest : List ℕ) → IsIncomplete rest → NoFrame rest
-part_no_frame rest part text f more spelt is =
+part_no_frame rest part text f more encodes is =
     let n = length text in
     let front : take n rest ≡ text = ap (take n) is ∙ take_at text more n refl in
-    no_ok (sym (part n) ∙ ap read_frame front ∙ frame_read text f spelt)
+    no_ok (sym (part n) ∙ ap read_frame front ∙ frame_read text f encodes)
 
 bad_no_frame : (bad later : List ℕ) (fault : FrameFault) → ShowsFault bad fault → NoFrame (bad ++ later)
-bad_no_frame bad later fault shown text f more spelt is =
-    ⊎_elim (λ lt. no_ok (sym (shown.not_before (length text) lt) ∙ ap read_frame (shorter text more bad later (sym is) (omega (arith, lt))) ∙ frame_read text f spelt))
-    (λ le. fault_for_good bad (drop (length bad) text) fault f shown (subst (λ (w : List ℕ). Encodes w f) (longer bad later text more is le) spelt))
+bad_no_frame bad later fault shown text f more encodes is =
+    ⊎_elim (λ lt. no_ok (sym (shown.not_before (length text) lt) ∙ ap read_frame (shorter text more bad later (sym is) (omega (arith, lt))) ∙ frame_read text f encodes))
+    (λ le. fault_for_good bad (drop (length bad) text) fault f shown (subst (λ (w : List ℕ). Encodes w f) (longer bad later text more is le) encodes))
     (lt_or_le (length text) (length bad))
 
-same_reading : (ts us : List (List ℕ)) (fs gs : List Message) (r q : List ℕ) → SpellAll ts fs → SpellAll us gs → NoFrame r → NoFrame q → texts_of ts ++ r ≡ texts_of us ++ q → (fs ≡ gs) × (r ≡ q)
+same_reading : (ts us : List (List ℕ)) (fs gs : List Message) (r q : List ℕ) → EncodeAll ts fs → EncodeAll us gs → NoFrame r → NoFrame q → texts_of ts ++ r ≡ texts_of us ++ q → (fs ≡ gs) × (r ≡ q)
 same_reading [] [] [] [] r q all_f all_g none_r none_q same = (refl, same)
 same_reading [] us (f ∷ fs) gs r q all_f all_g none_r none_q same = absurd all_f
 same_reading (t ∷ ts) us [] gs r q all_f all_g none_r none_q same = absurd all_f

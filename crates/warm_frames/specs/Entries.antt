@@ -23,7 +23,7 @@ pub record IsEntry (e : Entry) : Type 0 where
   pub page : IsPage e.page
   pub hist : IsHist e.hist
 
--- entries that fit in one frame: their pages rise, and there are at most MAX_ENTRIES
+-- entries that fit in one frame: their pages ascend, and there are at most MAX_ENTRIES
 abbrev pub FitsInFrame : List Entry → Type 0
 FitsInFrame es = PagesAscend es × (length es ≤ MAX_ENTRIES)
 

@@ -1,4 +1,5 @@
--- The numbers and names of the refusals: of bytes that are no frame, and of messages with late times.
+-- The numbers and names of the refusals: of bytes that are no frame, and of messages with late
+-- times.
 use Rattle.std.specs.Prelude.{ℕ, List, codes}
 use Rattle.warm_frames.specs.declared.fault.FrameFault.{FrameFault}
 use Rattle.warm_frames.specs.declared.fault.FrameFault.TheVariants.{Memory, Truncated, BadMagic, BadKind, BadSender, BadLength, BadCount, BadTag, BadStamp, BadOrder, Failed}

@@ -1,34 +1,34 @@
--- The laws of spellings, and of streams that are given in pieces.
+-- The laws of the encoding, and of streams that are given in pieces.
 use Rattle.std.specs.Prelude.{◌≡◌, ℕ, ◌<◌, List, [], ◌++◌, length}
 use Rattle.warm_frames.specs.declared.fault.FrameFault.{FrameFault}
 use Rattle.warm_frames.specs.declared.message.Message.{Message}
 use Rattle.warm_frames.specs.Pieces.{Inside, Broken, IsIncomplete, longest_frame, ShowsFault, Breaks, Feeding, taken_in, messages_given, Feedings, Splits, Fails}
-use Rattle.warm_frames.specs.Spelling.{Encodes}
+use Rattle.warm_frames.specs.Encoding.{Encodes}
 
--- no two frames share a encoding
+-- the encoding is injective: no two messages share one
 abbrev pub EncodingIsInjective : Type 0
 EncodingIsInjective = (bytes : List ℕ) (f g : Message) → Encodes bytes f → Encodes bytes g → f ≡ g
 
--- no encoding is a proper prefix of another
+-- the encoding is prefix-free: none is a proper prefix of another
 abbrev pub PrefixFree : Type 0
 PrefixFree = (text rest : List ℕ) (f g : Message) → Encodes text f → Encodes (text ++ rest) g → rest ≡ []
 
--- The bytes that a decoder consumed are the spellings of the frames that it returned, then the part
--- of a frame that it holds.
+-- The bytes that a decoder consumed encode the messages that it returned, one after the other, and
+-- are then the part of a frame that it holds.
 abbrev pub InPieces : Type 0
 InPieces = (calls : List Feeding) (rest : List ℕ) → Feedings (Inside []) calls (Inside rest) → Splits (taken_in calls) (messages_given calls) rest
 
--- Where it then finds a fault in a piece, the stream up to the piece's end is the spellings of the
--- frames returned, then bytes that show the fault.
+-- Where it then finds a fault in a piece, the stream up to the piece's end encodes the messages
+-- returned, and is then bytes that show the fault.
 abbrev pub FaultInPieces : Type 0
 FaultInPieces = (calls : List Feeding) (begun piece : List ℕ) (fault : FrameFault) → Feedings (Inside []) calls (Inside begun) → Breaks begun piece fault Broken
     → Fails (taken_in calls ++ piece) (messages_given calls) fault
 
--- A stream has one list of frames and one rest, however it is cut into pieces.
+-- A stream has one list of messages and one rest, however it is cut into pieces.
 abbrev pub OneReading : Type 0
 OneReading = (stream : List ℕ) (fs gs : List Message) (r q : List ℕ) → Splits stream fs r → Splits stream gs q → (fs ≡ gs) × (r ≡ q)
 
--- the same for a fault: there is one, after the same frames
+-- the same for a fault: there is one, after the same messages
 abbrev pub OneFault : Type 0
 OneFault = (stream : List ℕ) (fs gs : List Message) (e d : FrameFault) → Fails stream fs e → Fails stream gs d → (fs ≡ gs) × (e ≡ d)
 
@@ -36,7 +36,7 @@ OneFault = (stream : List ℕ) (fs gs : List Message) (e d : FrameFault) → Fai
 abbrev pub PartOrFault : Type 0
 PartOrFault = (stream : List ℕ) (fs gs : List Message) (r : List ℕ) (fault : FrameFault) → Splits stream fs r → Fails stream gs fault → ⊥
 
--- no frame's encoding begins with bytes that show a fault
+-- no frame begins with bytes that show a fault
 abbrev pub FaultForGood : Type 0
 FaultForGood = (bytes more : List ℕ) (fault : FrameFault) (f : Message) → ShowsFault bytes fault → Encodes (bytes ++ more) f → ⊥
 

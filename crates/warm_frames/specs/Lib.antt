@@ -1,3 +1,4 @@
+pub mod Chunks
 pub mod Entries
 pub mod Faults
 pub mod Laws
@@ -5,5 +6,5 @@ pub mod Limits
 pub mod Pieces
 pub mod Reading
 pub mod Sizes
-pub mod Spelling
+pub mod Encoding
 pub mod Digests

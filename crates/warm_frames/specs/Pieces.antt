@@ -1,4 +1,4 @@
--- Frames in a stream of bytes that is given in pieces.
+-- Messages in a stream of frames that is given in pieces.
 use Rattle.std.specs.Prelude.{◌≡◌, ◌⊎◌, ℕ, ◌+◌, ◌*◌, ◌<◌, ◌≤◌, Bool, true, false, List, [], ◌∷◌, ◌++◌, length, take, ⊤, Option, Some, None, option_to_list, Result, Ok, Err}
 use Rattle.std.specs.List.{flat_map}
 use Rattle.warm_frames.specs.declared.layout.TheConstants.{MAX_ENTRY_SIZE, MAX_ENTRIES, HEADER_SIZE}
@@ -9,7 +9,7 @@ use Rattle.warm_frames.specs.declared.message.Message.{Message}
 use Rattle.warm_frames.specs.Faults.{fault_code}
 use Rattle.warm_frames.specs.Reading.{read_frame}
 use Rattle.warm_frames.specs.Sizes.{SaysSize}
-use Rattle.warm_frames.specs.Spelling.{Encodes}
+use Rattle.warm_frames.specs.Encoding.{Encodes}
 
 -- The state of a decoder: inside a frame of which these bytes have come (none between two frames),
 -- or after a fault.
@@ -41,10 +41,10 @@ pub record ShowsFault (bytes : List ℕ) (fault : FrameFault) : Type 0 where
   pub not_before : (n : ℕ) → n < length bytes → read_frame (take n bytes) ≡ Err Truncated
 
 -- The whole piece was consumed, and the frame isn't complete yet; or bytes were consumed up to the
--- end of a frame, which is returned.
+-- end of a frame, and its message is returned.
 abbrev pub TakesPiece : List ℕ → List ℕ → ℕ → Option Message → DecoderState → Type 0
 TakesPiece begun piece taken None new = (taken ≡ length piece) × IsIncomplete (begun ++ piece) × (new ≡ Inside (begun ++ piece))
-TakesPiece begun piece taken (Some frame) new = (taken ≤ length piece) × Encodes (begun ++ take taken piece) frame × (new ≡ Inside [])
+TakesPiece begun piece taken (Some message) new = (taken ≤ length piece) × Encodes (begun ++ take taken piece) message × (new ≡ Inside [])
 
 -- a byte of the piece shows the fault
 abbrev pub Breaks : List ℕ → List ℕ → FrameFault → DecoderState → Type 0
@@ -53,7 +53,7 @@ Breaks begun piece fault new = (n : ℕ) × (n ≤ length piece) × ShowsFault (
 -- Feeding a piece, by the answer. An allocation failure changes nothing, and after a fault nothing
 -- is consumed.
 abbrev pub FeedStep : DecoderState → List ℕ → Result Fed FrameFault → DecoderState → Type 0
-FeedStep (Inside begun) piece (Ok fed) new = TakesPiece begun piece fed.taken fed.frame new
+FeedStep (Inside begun) piece (Ok fed) new = TakesPiece begun piece fed.taken fed.message new
 FeedStep (Inside begun) piece (Err fault) new = ((fault ≡ Memory) × (new ≡ Inside begun)) ⊎ Breaks begun piece fault new
 FeedStep Broken piece answer new = (answer ≡ Err Failed) × (new ≡ Broken)
 
@@ -88,13 +88,13 @@ bytes_taken piece (Err fault) = []
 abbrev pub taken_in : List Feeding → List ℕ
 taken_in = flat_map (λ c. bytes_taken c.piece c.answer)
 
--- the frame that was returned
-abbrev pub frame_given : Result Fed FrameFault → List Message
-frame_given (Ok fed) = option_to_list fed.frame
-frame_given (Err fault) = []
+-- the message that was returned
+abbrev pub message_given : Result Fed FrameFault → List Message
+message_given (Ok fed) = option_to_list fed.message
+message_given (Err fault) = []
 
 abbrev pub messages_given : List Feeding → List Message
-messages_given = flat_map (λ c. frame_given c.answer)
+messages_given = flat_map (λ c. message_given c.answer)
 
 -- pieces fed one after the other
 abbrev pub Feedings : DecoderState → List Feeding → DecoderState → Type 0
@@ -103,30 +103,30 @@ Feedings old (c ∷ more) new = (next : DecoderState) × FeedStep old c.piece c.
 
 -- ---- streams
 
--- the texts spell the frames, one each
-abbrev pub SpellAll : List (List ℕ) → List Message → Type 0
-SpellAll [] [] = ⊤
-SpellAll [] (f ∷ fs) = ⊥
-SpellAll (t ∷ ts) [] = ⊥
-SpellAll (t ∷ ts) (f ∷ fs) = Encodes t f × SpellAll ts fs
+-- the texts encode the messages, one each
+abbrev pub EncodeAll : List (List ℕ) → List Message → Type 0
+EncodeAll [] [] = ⊤
+EncodeAll [] (f ∷ fs) = ⊥
+EncodeAll (t ∷ ts) [] = ⊥
+EncodeAll (t ∷ ts) (f ∷ fs) = Encodes t f × EncodeAll ts fs
 
 -- texts one after the other
 abbrev pub texts_of : List (List ℕ) → List ℕ
 texts_of [] = []
 texts_of (t ∷ ts) = t ++ texts_of ts
 
--- the stream is the spellings of these frames, then a part of a frame
-pub record Splits (stream : List ℕ) (frames : List Message) (rest : List ℕ) : Type 0 where
+-- the stream is the frames of these messages, then a part of a frame
+pub record Splits (stream : List ℕ) (messages : List Message) (rest : List ℕ) : Type 0 where
   pub texts : List (List ℕ)
   pub whole : stream ≡ texts_of texts ++ rest
-  pub each : SpellAll texts frames
+  pub each : EncodeAll texts messages
   pub part : IsIncomplete rest
 
--- the stream is the spellings of these frames, then bytes that show this fault, then anything
-pub record Fails (stream : List ℕ) (frames : List Message) (fault : FrameFault) : Type 0 where
+-- the stream is the frames of these messages, then bytes that show this fault, then anything
+pub record Fails (stream : List ℕ) (messages : List Message) (fault : FrameFault) : Type 0 where
   pub texts : List (List ℕ)
   pub bad : List ℕ
   pub later : List ℕ
   pub whole : stream ≡ texts_of texts ++ (bad ++ later)
-  pub each : SpellAll texts frames
+  pub each : EncodeAll texts messages
   pub shown : ShowsFault bad fault

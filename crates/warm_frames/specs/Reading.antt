@@ -18,10 +18,10 @@ use Rattle.warm_frames.specs.declared.layout.TheConstants.{MAGIC, NARROW_MAGIC, 
 use Rattle.warm_frames.specs.declared.fault.FrameFault.{FrameFault}
 use Rattle.warm_frames.specs.declared.fault.FrameFault.TheVariants.{Memory, Truncated, BadMagic, BadKind, BadSender, BadLength, BadCount, BadTag, BadStamp, BadOrder}
 use Rattle.warm_frames.specs.declared.message.Message.{Message}
-use Rattle.warm_frames.specs.declared.message.Message.TheVariants as frames
+use Rattle.warm_frames.specs.declared.message.Message.TheVariants as messages
 use Rattle.warm_frames.specs.declared.reading.Kind.{Kind}
 use Rattle.warm_frames.specs.declared.reading.Kind.TheVariants as kinds
-use Rattle.warm_frames.specs.Spelling.{Encodes}
+use Rattle.warm_frames.specs.Encoding.{Encodes}
 use Rattle.warm_frames.specs.Digests.{table_size}
 
 infixl 10 ◌>>=◌
@@ -215,22 +215,22 @@ read_entries format body = do
 unfoldable pub read_digests : List ℕ → Result (List (List ℕ)) FrameFault
 read_digests body = if length body == table_size then Ok (first_chunks DIGEST_SIZE BUCKETS body) else Err BadLength
 
-abbrev pub frame_by : Kind → Format → ℕ → ℕ → List ℕ → Result Message FrameFault
-frame_by kinds.Entries format sender horizon body = do
+abbrev pub message_by : Kind → Format → ℕ → ℕ → List ℕ → Result Message FrameFault
+message_by kinds.Entries format sender horizon body = do
   entries ← read_entries format body
-  Ok (frames.Entries sender horizon entries)
-frame_by kinds.Digest format sender horizon body = do
+  Ok (messages.Entries sender horizon entries)
+message_by kinds.Digest format sender horizon body = do
   digests ← read_digests body
-  Ok (frames.Digest sender horizon digests)
-frame_by kinds.Want format sender horizon body = do
+  Ok (messages.Digest sender horizon digests)
+message_by kinds.Want format sender horizon body = do
   request ← number_at w64 BadLength body
-  Ok (frames.Want sender horizon request.0)
+  Ok (messages.Want sender horizon request.0)
 
--- the frame of a body
+-- the message of a header and a body
 unfoldable pub read_message : Start → List ℕ → Result Message FrameFault
-read_message start body = frame_by start.kind start.format start.sender start.horizon body
+read_message start body = message_by start.kind start.format start.sender start.horizon body
 
--- a whole frame
+-- the message of a whole frame
 unfoldable pub read_frame : List ℕ → Result Message FrameFault
 read_frame bytes = do
   start ← start_at bytes
@@ -265,6 +265,6 @@ Reserves reserved = (n : ℕ) × (0 < n) × (reserved ≡ Ok n)
 abbrev pub GivesReading : {X : Type 0} → Result X FrameFault → Result X FrameFault → Result ℕ FrameFault → Type 0
 GivesReading result read reserved = (result ≡ read) ⊎ ((result ≡ Err Memory) × Reserves reserved)
 
--- The frame that the bytes spell, if they spell one, was returned, unless the allocation failed.
-abbrev pub FindsSpelled : List ℕ → Result Message FrameFault → Type 0
-FindsSpelled bytes result = (frame : Message) → Encodes bytes frame → GivesReading result (Ok frame) (reserved_by bytes)
+-- The message that the bytes encode, if they encode one, was returned, unless the allocation failed.
+abbrev pub FindsEncoded : List ℕ → Result Message FrameFault → Type 0
+FindsEncoded bytes result = (message : Message) → Encodes bytes message → GivesReading result (Ok message) (reserved_by bytes)

@@ -1,7 +1,7 @@
-//! Frames from a stream of bytes that is given in pieces.
+//! Messages from a stream of frames that is given in pieces.
 ghost use Rattle.std.specs.Prelude.{◌≡◌, ◌⊎◌, ◌<◌, ◌++◌, [], length, None, IfOk, IfErr, OnOk, OnErr};
 ghost use Rattle.warm_frames.specs.declared.layout.TheConstants.{HEADER_SIZE};
-ghost use Rattle.warm_frames.specs.Spelling.{Encodes};
+ghost use Rattle.warm_frames.specs.Encoding.{Encodes};
 ghost use Rattle.warm_frames.specs.Sizes.{frame_size, KnowsSize, SaysSize};
 ghost use Rattle.warm_frames.specs.Pieces.{DecoderState.Inside, DecodesWith, FeedStep, KnowsWith, finish_of};
 
@@ -19,14 +19,14 @@ pub struct Fed {
     /// The number of bytes of the piece that were consumed: up to the end of the frame, or all of
     /// them.
     pub taken: usize,
-    /// The frame that is now complete, if one is.
-    pub frame: Option<BoxedMessage>,
+    /// The message of the frame that is now complete, if one is.
+    pub message: Option<BoxedMessage>,
 }
 
 /// Decodes the frames of a stream, however the stream is cut into pieces.
 ///
-/// It returns a frame as soon as its last byte is there. Until then it holds the bytes of the frame
-/// that has begun, and no others. After a fault it may still hold the bytes of that frame from
+/// It returns a message as soon as the last byte of its frame is there. Until then it holds the
+/// bytes of the frame that has begun, and no others. After a fault it may still hold the bytes of that frame from
 /// earlier pieces, until it is dropped; it reads them no more and holds no further ones. Contracts
 /// see its state: inside a frame of which these bytes have come, or after a fault.
 #[derive(Debug, Drop)]
@@ -40,7 +40,7 @@ pub struct Decoder {
 }
 
 impl Model for Decoder {
-    ghost use Rattle.warm_frames.specs.Spelling.{Encodes};
+    ghost use Rattle.warm_frames.specs.Encoding.{Encodes};
     ghost use Rattle.warm_frames.specs.Sizes.{KnowsSize};
     ghost use Rattle.warm_frames.specs.Pieces.{DecoderState, state_of};
 
@@ -97,19 +97,19 @@ fn hold(held: &mut Vec<u8>, piece: &[u8]) -> Result<(), FrameFault>
 // The answer to a piece that was consumed whole, where the frame is not complete yet.
 fn all_of(piece: &[u8]) -> Fed
     ensures taken { result.taken ≡ length piece.now }
-    ensures none { result.frame ≡ None }
+    ensures none { result.message ≡ None }
 {
     Fed {
         taken: piece.len(),
-        frame: None,
+        message: None,
     }
 }
 
-// The frame that consists of the bytes held and those at its end. A frame that lies whole in one
-// piece is decoded in place, without a copy.
-fn frame_with(alloc: Global, held: &mut Vec<u8>, end: &[u8]) -> Result<BoxedMessage, FrameFault>
+// The message of the frame that consists of the bytes held and those at its end. A frame that lies
+// whole in one piece is decoded in place, without a copy.
+fn message_with(alloc: Global, held: &mut Vec<u8>, end: &[u8]) -> Result<BoxedMessage, FrameFault>
     ensures reads { DecodesWith held.old.items end.now result held.new.items }
-    ensures spelled { IfOk result (λ frame. Encodes (held.old.items ++ end.now) frame) }
+    ensures encodes { IfOk result (λ message. Encodes (held.old.items ++ end.now) message) }
 {
     if held.is_empty() {
         return decode_boxed(alloc, end);
@@ -138,16 +138,16 @@ impl Decoder {
         }
     }
 
-    /// Consumes the bytes of the piece up to the end of the frame that has begun, and returns that
-    /// frame; or all bytes, where the frame isn't complete yet. The bytes not consumed belong to
-    /// the next frame: feed them again.
+    /// Consumes the bytes of the piece up to the end of the frame that has begun, and returns the
+    /// message that it encodes; or all bytes, where the frame isn't complete yet. The bytes not
+    /// consumed belong to the next frame: feed them again.
     ///
     /// Refused:
-    /// - `Memory`: an allocation failed, for the bytes, the frame or its entries. Nothing was
+    /// - `Memory`: an allocation failed, for the bytes, the message or its entries. Nothing was
     ///   consumed, and the same piece may be fed again;
     /// - any fault of [`decode`] but `Truncated`, at the byte that shows it: a fault of a header
-    ///   field at the field's last byte, a fault of the body at the body's last byte. No frame's
-    ///   encoding begins with the bytes up to there;
+    ///   field at the field's last byte, a fault of the body at the body's last byte. No
+    ///   message's encoding begins with the bytes up to there;
     /// - `Failed`: there was a fault before. Nothing more is consumed.
     pub fn feed(&mut self, piece: &[u8]) -> Result<Fed, FrameFault>
         ensures { FeedStep self.old piece.now result self.new }
@@ -179,13 +179,13 @@ impl Decoder {
             self.size = Some(size);
             return Ok(all_of(piece));
         }
-        match frame_with(self.alloc, &mut self.held, &piece[..missing]) {
-            Ok(frame) => {
+        match message_with(self.alloc, &mut self.held, &piece[..missing]) {
+            Ok(message) => {
                 self.held.clear();
                 self.size = None;
                 Ok(Fed {
                     taken: missing,
-                    frame: Some(frame),
+                    message: Some(message),
                 })
             }
             Err(fault) => {

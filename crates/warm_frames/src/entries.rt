@@ -8,7 +8,7 @@ use std::marker::Model;
 use warm_history::laws::prove_stamps_descend;
 use warm_history::{Entry, PageHist, is_sorted_by_page};
 
-/// At most [`MAX_ENTRIES`] entries with rising pages. Contracts see the list of the entries.
+/// At most [`MAX_ENTRIES`] entries whose pages ascend. Contracts see the list of the entries.
 #[derive(Debug, Drop)]
 pub struct EntryList {
     entries: Vec<Entry>,
@@ -29,7 +29,7 @@ impl Model for EntryList {
 impl EntryList {
     /// The entries as a list that fits in a frame. Allocation-free.
     ///
-    /// They are given back where their pages don't rise, each greater than the one before, or where
+    /// They are given back where their pages don't ascend, each greater than the one before, or where
     /// there are more than [`MAX_ENTRIES`].
     pub fn of(entries: Vec<Entry>) -> Result<EntryList, Vec<Entry>>
         ensures value { IfOk result (λ list. list ≡ entries.items) }
@@ -60,7 +60,7 @@ impl EntryList {
         EntryList { entries }
     }
 
-    /// The entries, in rising page order. Allocation-free.
+    /// The entries, in ascending page order. Allocation-free.
     pub fn as_slice(&self) -> &[Entry]
         ensures value { result.now ≡ self.now }
         ensures whole { IsEntryList self.now }
@@ -68,7 +68,7 @@ impl EntryList {
         &self.entries
     }
 
-    /// The entries, in rising page order. Allocation-free.
+    /// The entries, in ascending page order. Allocation-free.
     pub fn into_entries(self) -> Vec<Entry>
         ensures value { result.items ≡ self }
         ensures whole { IsEntryList self }

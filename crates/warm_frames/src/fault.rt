@@ -9,7 +9,7 @@ use thiserror::Error;
 #[derive(Clone, Copy, Debug, PartialEq, Eq, Error)]
 pub enum FrameFault {
     /// 1: the allocation of the entries failed; of a [`crate::Decoder`], also that of the bytes
-    /// that it holds or of the frame that it returns.
+    /// that it holds or of the message that it returns.
     #[error("Memory")]
     Memory,
     /// 2: the bytes end inside the header or the body.

@@ -1,19 +1,19 @@
-//! The laws of spellings and of streams: a encoding is that of exactly one frame and determines its
-//! own end, and a stream has one reading, however it is cut into pieces.
+//! The laws of the encoding and of streams: the encoding is injective and prefix-free, and a stream
+//! has one reading, however it is cut into pieces.
 ghost use Rattle.warm_frames.specs.Laws.{EncodingIsInjective, PrefixFree, InPieces, FaultInPieces, OneReading, OneFault, PartOrFault, FaultForGood, PartIsShort};
 
-/// No two frames share a encoding.
+/// The encoding is injective: no two messages share one, in whichever formats.
 pub fn encoding_is_injective()
     ensures { EncodingIsInjective }
 {}
 
-/// No encoding of a frame is a proper prefix of another.
+/// The encoding is prefix-free: no frame is a proper prefix of another.
 pub fn prefix_free()
     ensures { PrefixFree }
 {}
 
-/// The bytes that a decoder consumed, in any pieces, are the spellings of the frames that it
-/// returned, then a part of the next.
+/// The bytes that a decoder consumed, in any pieces, encode the messages that it returned, one after
+/// the other, and are then a part of the next frame.
 pub fn in_pieces()
     ensures { InPieces }
 {}
@@ -23,12 +23,12 @@ pub fn fault_in_pieces()
     ensures { FaultInPieces }
 {}
 
-/// A stream is the spellings of exactly one list of frames and one rest.
+/// A stream is the frames of exactly one list of messages, and one rest.
 pub fn one_reading()
     ensures { OneReading }
 {}
 
-/// A stream shows at most one fault, after one list of frames.
+/// A stream shows at most one fault, after one list of messages.
 pub fn one_fault()
     ensures { OneFault }
 {}
@@ -38,7 +38,7 @@ pub fn part_or_fault()
     ensures { PartOrFault }
 {}
 
-/// No frame's encoding begins with bytes that show a fault, whatever follows them.
+/// No frame begins with bytes that show a fault, whatever follows them.
 pub fn fault_for_good()
     ensures { FaultForGood }
 {}

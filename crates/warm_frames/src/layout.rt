@@ -1,7 +1,8 @@
 //! The layout of frames: the numbers that writing and reading share.
 //!
-//! A frame is a header and a body, one after the other. There are two formats: the wide one is written and read, the narrow one
-//! is only read. A number of more than one byte has its highest byte first. All sizes are in bytes.
+//! A frame is the bytes of a message: a header and a body, one after the other. There are two
+//! formats: the wide one is written and read, the narrow one is only read. A number of more than one
+//! byte has its highest byte first. All sizes are in bytes.
 //!
 //! | Header | Wide | Narrow |
 //! |---|---|---|
@@ -11,9 +12,9 @@
 //! | horizon | [`HORIZON_SIZE`] | none |
 //! | length of the body | [`LENGTH_SIZE`] | [`LENGTH_SIZE`] |
 //!
-//! The body of a frame of entries is their count ([`COUNT_SIZE`]) and the entries: each is a page, a tag and one or two stamps,
-//! the later one first. The body of a message of digests is the digest of each bucket, and that of a request is a number with
-//! a bit for each bucket.
+//! The body of a frame of entries is their count ([`COUNT_SIZE`]) and the entries: each is a page, a
+//! tag and one or two stamps, the later one first. The body of a frame of digests is the digest of
+//! each bucket, and that of a request is a number with a bit for each bucket.
 use warm_stamps::BUCKETS;
 
 /// The magic number of the wide format: the letters `L2G2`.
@@ -25,7 +26,7 @@ pub const NARROW_MAGIC: u32 = 0x4C32_4731;
 /// The kind of a frame of entries.
 pub const ENTRIES_KIND: u8 = 1;
 
-/// The kind of a message of digests.
+/// The kind of a frame of digests.
 pub const DIGEST_KIND: u8 = 2;
 
 /// The kind of a request.
@@ -90,13 +91,13 @@ pub const MAX_ENTRY_SIZE: usize = PAGE_ID_SIZE + TWICE_SIZE;
 /// The maximum size of an entry in the narrow format: 27.
 pub const NARROW_MAX_ENTRY_SIZE: usize = NARROW_PAGE_ID_SIZE + TWICE_SIZE;
 
-/// The number of digests in a message of digests: one for each bucket.
+/// The number of digests in a frame of digests: one for each bucket.
 pub const DIGESTS: usize = BUCKETS as usize;
 
 /// The size of a digest.
 pub const DIGEST_SIZE: usize = 32;
 
-/// The size of the body of a message of digests: 2048.
+/// The size of the body of a frame of digests: 2048.
 pub const TABLE_SIZE: usize = DIGEST_SIZE * DIGESTS;
 
 /// The size of the body of a request: a number with a bit for each bucket.

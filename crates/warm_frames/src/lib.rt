@@ -1,12 +1,13 @@
-//! Gossip frames: what replicas send each other, as bytes with an exact grammar. A frame and a
-//! message are the same thing.
+//! The messages that replicas send each other, and their bytes, with an exact grammar: a *message*
+//! is the value, and a *frame* is the bytes of one message.
 //!
 //! A [`Message`] carries entries of a history, the digests of all buckets, or the set of requested
-//! buckets. `specs/Spelling.antt` says which bytes spell a frame: each frame has one encoding in
-//! each format that can hold it, and no two frames share one. `specs/Reading.antt` says how bytes
-//! are read, and which fault is reported. A [`Decoder`] decodes frames from a stream that is given
-//! in pieces: `specs/Pieces.antt`. [`check_times`] refuses a message that speaks of times later than a
-//! limit.
+//! buckets. `specs/Encoding.antt` says which bytes encode a message: each message has one encoding
+//! in each format that can hold it. The encoding is injective, so no two messages share one, and
+//! prefix-free: none begins another. `specs/Reading.antt` says how bytes are read, and which fault
+//! is reported. A [`Decoder`] decodes messages from a stream of frames that is given in pieces:
+//! `specs/Pieces.antt`. [`check_times`] refuses a message that speaks of times later than a limit.
+//! `specs/Chunks.antt` says how a list of entries is cut into messages.
 #![tactic(auto)]
 
 mod decoder;

@@ -49,17 +49,6 @@ impl TimeFault {
     }
 }
 
-// The horizon of the sender.
-fn horizon_of(message: &Message) -> u64
-    ensures { result ≡ horizon_in message.now }
-{
-    match message {
-        Message::Entries { horizon, .. } => *horizon,
-        Message::Digest { horizon, .. } => *horizon,
-        Message::Want { horizon, .. } => *horizon,
-    }
-}
-
 // Whether no stamp is later than the limit: of two stamps the second is the older one.
 fn is_by(hist: PageHist, limit: u64) -> bool
     ensures { IsTrue result ↔ AllByRecursion (λ s. s.time ≤ limit) (hist_stamps hist) }
@@ -77,12 +66,12 @@ fn are_by(entries: &[Entry], limit: u64) -> bool
     entries.iter().all(|entry| is_by(entry.hist, limit))
 }
 
-/// Checks that the message speaks of no time later than `limit`: neither its horizon is later, which
-/// messages of all three kinds have, nor a stamp of its entries. The limit is in the unit of the
+/// Checks that the message speaks of no time later than `limit`: neither its horizon is later
+/// ([`Message::horizon`]), nor a stamp of its entries. The limit is in the unit of the
 /// stamps, whichever the replicas agreed on. Allocation-free; nothing is changed.
 ///
 /// Nothing else refuses a time: [`decode`](crate::decode) and a node that receives the message
-/// believe each one. A frame with a later horizon empties every history that takes it in, and no
+/// believe each one. A message with a later horizon empties every history that takes it in, and no
 /// horizon is ever lowered again. A page with two stamps in the future is ranked above all pages in
 /// use until that time has come. So where a clock may be wrong or bytes may be changed, call this
 /// before the message is received, with the current time plus the most that clocks may differ.
@@ -96,7 +85,7 @@ pub fn check_times(message: &Message, limit: u64) -> Result<(), TimeFault>
     ensures late_stamp { (result ≡ Err TimeFault.LateStamp)
         ↔ ((horizon_in message.now ≤ limit) × ¬ StampsBy limit (entries_in message.now)) }
 {
-    if limit < horizon_of(message) {
+    if limit < message.horizon() {
         return Err(TimeFault::LateHorizon);
     }
     if let Message::Entries { entries, .. } = message {

@@ -1,18 +1,20 @@
-//! Frames, and their encoding.
+//! Messages, and their encoding as frames.
 ghost use Rattle.std.specs.Prelude.{◌≡◌, ◌⊎◌, IfOk, Err};
-ghost use Rattle.warm_frames.specs.Spelling.{encoding, Encodes};
-ghost use Rattle.warm_frames.specs.Reading.{GivesReading, FindsSpelled, read_frame, reserved_by};
+ghost use Rattle.warm_frames.specs.Encoding.{encoding, Encodes};
+ghost use Rattle.warm_frames.specs.Limits.{horizon_in};
+ghost use Rattle.warm_frames.specs.Reading.{GivesReading, FindsEncoded, read_frame, reserved_by};
 
 use crate::digests::DigestTable;
 use crate::entries::EntryList;
 use crate::fault::FrameFault;
-use crate::reading::frame_in;
+use crate::reading::message_in;
 use crate::writing::{digest_text, entries_text, want_text};
 use std::alloc::{AllocError, Global};
 use std::marker::Model;
-use warm_stamps::{Items, ReplicaId};
+use warm_stamps::{BucketSet, Items, ReplicaId};
 
-/// A frame: what one replica sends another.
+/// What one replica sends another. Its bytes are a *frame*: [`encode`] writes them, and [`decode`]
+/// reads them.
 #[derive(Debug, Drop)]
 pub enum Message {
     /// Entries of the sender's history.
@@ -39,22 +41,36 @@ pub enum Message {
         sender: ReplicaId,
         /// The sender's horizon: the time before which it forgot stamps.
         horizon: u64,
-        /// The buckets: bit b, of value 2^b, requests bucket b.
-        request: u64,
+        /// The buckets whose entries are requested.
+        request: BucketSet,
     },
 }
 
-/// A list of frames, in the order in which they are sent. Contracts see the list.
+impl Message {
+    /// Returns the horizon of its sender, which messages of all three kinds have. Allocation-free.
+    pub fn horizon(&self) -> u64
+        ensures { result ≡ horizon_in self.now }
+    {
+        match self {
+            Message::Entries { horizon, .. } => *horizon,
+            Message::Digest { horizon, .. } => *horizon,
+            Message::Want { horizon, .. } => *horizon,
+        }
+    }
+}
+
+/// A list of messages, in the order in which they are sent. Contracts see the list.
 pub type MessageList = Items<Message>;
 
-/// The bytes that spell the frame. `AllocError` occurs only where their allocation fails.
-pub fn encode(alloc: Global, frame: &Message) -> Result<Vec<u8>, AllocError>
-    // The bytes written spell the frame, so `decode` returns it.
-    ensures spells { IfOk result (λ bytes. Encodes bytes.items frame.now) }
+/// Encodes the message as a frame of the format `L2G2`. `AllocError` occurs only where the allocation
+/// of the bytes fails.
+pub fn encode(alloc: Global, message: &Message) -> Result<Vec<u8>, AllocError>
+    // The bytes written encode the message, so `decode` returns it.
+    ensures encodes { IfOk result (λ bytes. Encodes bytes.items message.now) }
     // They are this encoding, whichever others a reader may accept.
-    ensures exact { IfOk result (λ bytes. bytes.items ≡ encoding frame.now) }
+    ensures exact { IfOk result (λ bytes. bytes.items ≡ encoding message.now) }
 {
-    match frame {
+    match message {
         Message::Entries {
             sender,
             horizon,
@@ -73,7 +89,8 @@ pub fn encode(alloc: Global, frame: &Message) -> Result<Vec<u8>, AllocError>
     }
 }
 
-/// The frame that the bytes spell, all of them, in the format `L2G2` or in the older `L2G1`, which is read with horizon 0.
+/// Decodes the message that the bytes encode, all of them: a frame of the format `L2G2`, or of the
+/// older `L2G1`, which is read with horizon 0.
 ///
 /// Refused by the first fault from left to right:
 /// - `Truncated`: fewer than 4 bytes, then `BadMagic`: neither `L2G2` nor `L2G1`;
@@ -93,21 +110,21 @@ pub fn encode(alloc: Global, frame: &Message) -> Result<Vec<u8>, AllocError>
 ///   or a second stamp that isn't older;
 /// - `BadLength`: bytes after the last entry.
 pub fn decode(alloc: Global, bytes: &[u8]) -> Result<Message, FrameFault>
-    // The bytes spell the decoded frame.
-    ensures found { IfOk result (λ frame. Encodes bytes.now frame) }
-    // A frame that the bytes spell is decoded, unless an allocation fails.
-    ensures only { FindsSpelled bytes.now result }
+    // The bytes encode the decoded message.
+    ensures found { IfOk result (λ message. Encodes bytes.now message) }
+    // A message that the bytes encode is decoded, unless an allocation fails.
+    ensures only { FindsEncoded bytes.now result }
     // The result is that of `read_frame`, so a fault is the first one; or an allocation failed.
     ensures first { GivesReading result (read_frame bytes.now) (reserved_by bytes.now) }
 {
-    frame_in(alloc, bytes)
+    message_in(alloc, bytes)
 }
 
-/// A frame in a heap box: it is one pointer, whereas a [`Message`] has space for a table of
-/// digests, some 2,080 bytes. Contracts see the frame.
+/// A message in a heap box: it is one pointer, whereas a [`Message`] has space for a table of
+/// digests, some 2,080 bytes. Contracts see the message.
 #[derive(Debug, Drop)]
 pub struct BoxedMessage {
-    frame: Box<Message>,
+    message: Box<Message>,
 }
 
 impl Model for BoxedMessage {
@@ -115,31 +132,24 @@ impl Model for BoxedMessage {
 
     ghost Value = { Message };
 
-    ghost view = { λ boxed. boxed.frame.value };
+    ghost view = { λ boxed. boxed.message.value };
 }
 
 impl BoxedMessage {
-    /// The frame. Allocation-free.
+    /// Borrows the message. Allocation-free.
     pub fn as_message(&self) -> &Message
         ensures { result.now ≡ self.now }
     {
-        &self.frame
-    }
-
-    /// The frame. Allocation-free; the box is freed.
-    pub fn into_frame(self) -> Message
-        ensures { result ≡ self }
-    {
-        Box::into_inner(self.frame)
+        &self.message
     }
 }
 
 /// As [`decode`]; a failed allocation of the box is `Memory` too.
 pub(crate) fn decode_boxed(alloc: Global, bytes: &[u8]) -> Result<BoxedMessage, FrameFault>
-    ensures found { IfOk result (λ frame. Encodes bytes.now frame) }
+    ensures found { IfOk result (λ message. Encodes bytes.now message) }
     ensures reads { (result ≡ read_frame bytes.now) ⊎ (result ≡ Err FrameFault.Memory) }
 {
-    let frame = decode(alloc, bytes)?;
-    let frame = Box::new(alloc, frame)?;
-    Ok(BoxedMessage { frame })
+    let message = decode(alloc, bytes)?;
+    let message = Box::new(alloc, message)?;
+    Ok(BoxedMessage { message })
 }

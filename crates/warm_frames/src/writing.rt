@@ -3,9 +3,9 @@ ghost use Rattle.std.specs.Prelude.{◌≡◌, ◌≤◌, ◌+◌, ◌*◌, ◌�
 ghost use Rattle.warm_stamps.specs.Bytes.{IsReplica, bytes_of_page, bytes_of_stamp};
 ghost use Rattle.warm_frames.specs.declared.layout.TheConstants.{MAX_ENTRIES, MAX_ENTRY_SIZE, ONCE_TAG, PAGE_ID_SIZE, STAMP_SIZE, TWICE_SIZE, TWICE_TAG};
 ghost use Rattle.warm_frames.specs.declared.format.Format.TheVariants.{Wide};
-ghost use Rattle.warm_frames.specs.declared.message.Message.TheVariants as frames;
+ghost use Rattle.warm_frames.specs.declared.message.Message.TheVariants as messages;
 ghost use Rattle.warm_frames.specs.Entries.{hist_bytes, entry_bytes, entries_bytes};
-ghost use Rattle.warm_frames.specs.Spelling.{header_bytes, SpellsIn};
+ghost use Rattle.warm_frames.specs.Encoding.{header_bytes, EncodesIn};
 
 use crate::digests::DigestTable;
 use crate::entries::EntryList;
@@ -15,7 +15,7 @@ use crate::layout::{
 };
 use std::alloc::{AllocError, Global};
 use warm_history::{Entry, PageHist};
-use warm_stamps::{PageId, ReplicaId, Stamp};
+use warm_stamps::{BucketSet, PageId, ReplicaId, Stamp};
 
 // The header of a frame, with capacity for a body of this length.
 fn header(
@@ -137,8 +137,8 @@ pub(crate) fn entries_text(
     horizon: u64,
     entries: &EntryList,
 ) -> Result<Vec<u8>, AllocError>
-    ensures { IfOk result (λ text. SpellsIn Wide text.items
-        (frames.Entries sender horizon entries.now)) }
+    ensures { IfOk result (λ text. EncodesIn Wide text.items
+        (messages.Entries sender horizon entries.now)) }
 {
     let entries = entries.as_slice();
     let len = COUNT_SIZE as u32 + entries_len(entries);
@@ -156,8 +156,8 @@ pub(crate) fn digest_text(
     horizon: u64,
     digests: &DigestTable,
 ) -> Result<Vec<u8>, AllocError>
-    ensures { IfOk result (λ text. SpellsIn Wide text.items
-        (frames.Digest sender horizon digests.now)) }
+    ensures { IfOk result (λ text. EncodesIn Wide text.items
+        (messages.Digest sender horizon digests.now)) }
 {
     let mut text = header(alloc, DIGEST_KIND, sender, horizon, TABLE_SIZE as u32)?;
     text.extend_from_slice(digests.as_bytes())?;
@@ -168,11 +168,11 @@ pub(crate) fn want_text(
     alloc: Global,
     sender: ReplicaId,
     horizon: u64,
-    request: u64,
+    request: BucketSet,
 ) -> Result<Vec<u8>, AllocError>
-    ensures { IfOk result (λ text. SpellsIn Wide text.items (frames.Want sender horizon request)) }
+    ensures { IfOk result (λ text. EncodesIn Wide text.items (messages.Want sender horizon request)) }
 {
     let mut text = header(alloc, WANT_KIND, sender, horizon, REQUEST_SIZE as u32)?;
-    text.extend_from_slice(&request.to_be_bytes())?;
+    text.extend_from_slice(&request.bits().to_be_bytes())?;
     Ok(text)
 }

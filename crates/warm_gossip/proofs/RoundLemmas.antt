@@ -38,7 +38,7 @@ use Rattle.warm_frames.specs.declared.message.Message.TheVariants.{Entries, Want
 use Rattle.warm_frames.specs.Entries.{IsEntry, IsHist}
 use Rattle.warm_digest.specs.BucketDigests.{digests_of}
 use Rattle.warm_digest.specs.Exchange.{Fits, IsCollision, IsDifferenceOf, in_buckets}
-use Rattle.warm_digest.proofs.KeptLemmas.{digest_is}
+use Rattle.warm_digest.proofs.CachedLemmas.{digest_is}
 use Rattle.warm_digest.proofs.ExchangeLemmas.{kept, hist-kept, joined_same, joined_none, exchange_joins}
 use Rattle.warm_gossip.specs.Answers.{pieces_of, pieces, entry_messages, bucket_messages, buckets_in, requested_messages, IsDiffering, refs_in, history_after}
 use Rattle.warm_gossip.specs.Round.{Receives, HistoryRound, GossipRoundEnds, HistoryRoundJoins, OwnDigestsUnanswered, EntriesBringAll, offer}

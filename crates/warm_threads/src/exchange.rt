@@ -3,7 +3,7 @@ ghost use Rattle.std.specs.Prelude.{◌≡◌, ◌<◌, ◌≤◌, List, length,
 ghost use Rattle.std.specs.List.{All};
 ghost use Rattle.warm_frames.specs.declared.layout.TheConstants.{MAX_ENTRIES};
 ghost use Rattle.warm_frames.specs.declared.message.Message.{Message};
-ghost use Rattle.warm_frames.specs.Spelling.{Encodes};
+ghost use Rattle.warm_frames.specs.Encoding.{Encodes};
 ghost use Rattle.warm_gossip.specs.declared.call.Call.TheVariants.{Send, Receive};
 ghost use Rattle.warm_gossip.specs.declared.call.Reply.TheVariants.{Sent, Answers};
 ghost use Rattle.warm_gossip.specs.Pieces.{last_page};

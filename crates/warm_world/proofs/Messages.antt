@@ -5,8 +5,8 @@ use Rattle.std.specs.Global.{Vec}
 use Rattle.warm_frames.specs.declared.message.Message.{Message}
 use Rattle.warm_frames.specs.declared.fault.FrameFault.{FrameFault}
 use Rattle.warm_frames.specs.declared.fault.FrameFault.TheVariants.{Memory as FrameMemory}
-use Rattle.warm_frames.specs.Spelling.{encoding, Encodes}
-use Rattle.warm_frames.specs.Reading.{FindsSpelled}
+use Rattle.warm_frames.specs.Encoding.{encoding, Encodes}
+use Rattle.warm_frames.specs.Reading.{FindsEncoded}
 use Rattle.warm_gossip.specs.declared.fault.NodeFault.TheVariants.{Memory}
 use Rattle.warm_world.specs.declared.event.Event.{Event}
 use Rattle.warm_world.specs.declared.event.Answer.{Answer}
@@ -39,7 +39,7 @@ messages_join w m added rs st spell = record { replicas = st.replicas; messages 
 
 -- what is decoded of the bytes of a number is the message of the record of that number
 pub decoded_is : (w : WorldView) (m : ModelState) (k : ℕ) (vs : List (Vec ℕ)) (v : Vec ℕ) (bytes : List ℕ) (result : Result Message FrameFault) (message : Message) → StandsFor w m
-    → w.messages ≡ map (λ b. b.items) vs → IsNumber k (length w.messages) → v ≡ get_or vs (index_of_number k) v → bytes ≡ v.items → FindsSpelled bytes result → result ≡ Ok message → message ≡ message_kept (record_at m (index_of_number k))
+    → w.messages ≡ map (λ b. b.items) vs → IsNumber k (length w.messages) → v ≡ get_or vs (index_of_number k) v → bytes ≡ v.items → FindsEncoded bytes result → result ≡ Ok message → message ≡ message_kept (record_at m (index_of_number k))
 decoded_is w m k vs v bytes result message st are number is same finds found =
     let kept = record_at m (index_of_number k) in
     let lt : index_of_number k < length w.messages = omega (arith, number.from_one, number.in_range) in

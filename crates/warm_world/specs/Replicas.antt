@@ -4,7 +4,7 @@ use Rattle.warm_history.specs.Histories.{history_of_entries}
 use Rattle.warm_refbuffer.specs.Buffered.{cleared}
 use Rattle.warm_frames.specs.declared.message.Message.{Message}
 use Rattle.warm_frames.specs.declared.message.Message.TheVariants.{Entries, Digest, Want}
-use Rattle.warm_frames.specs.Spelling.{encoding, Encodes}
+use Rattle.warm_frames.specs.Encoding.{encoding, Encodes}
 use Rattle.warm_pool.specs.View.{PoolView}
 use Rattle.warm_pool.specs.Retiring.{Emptied}
 use Rattle.warm_gossip.specs.declared.call.Call.{Call}

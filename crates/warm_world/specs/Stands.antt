@@ -6,7 +6,7 @@ use Rattle.warm_history.specs.Histories.{HistoryView, entries_of, history_of_ent
 use Rattle.warm_history.specs.References.{SameReferences}
 use Rattle.warm_frames.specs.declared.message.Message.{Message}
 use Rattle.warm_frames.specs.declared.message.Message.TheVariants.{Entries, Digest, Want}
-use Rattle.warm_frames.specs.Spelling.{encoding, Encodes}
+use Rattle.warm_frames.specs.Encoding.{encoding, Encodes}
 use Rattle.warm_rank.specs.Laws.{RankAlike, IsFarthest}
 use Rattle.warm_refbuffer.specs.Buffered.{Buffered}
 use Rattle.warm_pool.specs.View.{PoolView, IsAbsent, IsResident, unfixed_pages}

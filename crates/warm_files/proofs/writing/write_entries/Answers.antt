@@ -1,14 +1,15 @@
 use Rattle.std.proofs.Common.{◌≡◌, arith}
 use Rattle.std.proofs.KnownBytes.{Appends-nil}
 use Rattle.warm_stamps.specs.declared.TheConstants.{BUCKETS}
-use Rattle.warm_files.proofs.DumpLemmas.{bucket_rises, bucket_written}
+use Rattle.warm_files.proofs.DumpLemmas.{bucket_written}
+use Rattle.warm_frames.proofs.ChunkLemmas.{bucket_ascends}
 use Rattle.warm_files.proofs.writing.write_entries.Goals as goal
 
 pub loop-index-init : goal.loop-index-init
 loop-index-init g c = Appends-nil _
 
 pub write_bucket-requires : goal.write_bucket-requires
-write_bucket-requires g c = bucket_rises c.in-Some.bucket c.args.history.now _ c.bucket.ensures c.prove_is_history.ensures
+write_bucket-requires g c = bucket_ascends c.in-Some.bucket c.args.history.now _ c.bucket.ensures c.prove_is_history.ensures
 
 pub loop-index-preserved : goal.loop-index-preserved
 loop-index-preserved g c =

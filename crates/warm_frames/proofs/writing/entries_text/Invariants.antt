@@ -2,7 +2,7 @@ use Rattle.std.proofs.Common.{◌≡◌, ◌+◌, ◌++◌, length, take}
 use Rattle.std.specs.Int.{w32, to_be_bytes}
 use Rattle.warm_frames.specs.Entries.{entries_bytes}
 use Rattle.warm_frames.specs.declared.format.Format.TheVariants.{Wide}
-use Rattle.warm_frames.specs.Spelling.{header_bytes}
+use Rattle.warm_frames.specs.Encoding.{header_bytes}
 use Rattle.warm_frames.proofs.writing.entries_text.Given as goal
 
 abbrev pub invariant-loop-entry : goal.invariant-loop-entry

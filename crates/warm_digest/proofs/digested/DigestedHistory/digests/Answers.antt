@@ -1,8 +1,8 @@
 use Rattle.std.proofs.Common.{◌∙◌, ap}
 use Rattle.warm_history.specs.Histories.{entries_of}
 use Rattle.warm_digest.specs.BucketDigests.{digests_of}
-use Rattle.warm_digest.specs.KeptDigests.{DigestedView}
-use Rattle.warm_digest.proofs.KeptLemmas.{all_right}
+use Rattle.warm_digest.specs.CachedDigests.{DigestedView}
+use Rattle.warm_digest.proofs.CachedLemmas.{all_right}
 use Rattle.warm_digest.proofs.digested.DigestedHistory.digests.Goals as goal
 
 pub returns-clause-table : goal.returns-clause-table
