@@ -1,4 +1,4 @@
--- The order in which pages leave.
+-- The eviction order.
 use Rattle.std.proofs.Common.{◌≡◌, take, sym, ap, ◌∙◌, inl, inr}
 use Rattle.std.specs.Cmp.Lexicographic.{options_total}
 use Rattle.std.specs.Ordering.{flip_args, ordering_then}
@@ -15,7 +15,7 @@ use Rattle.warm_history.proofs.HistoryLemmas.{hist_refs-history, pages_alike}
 use Rattle.warm_history.proofs.SetLemmas.{hist_of_set}
 use Rattle.warm_rank.specs.Keys.{rank_key, key_cmp}
 use Rattle.warm_rank.specs.Ranking.{dist, latest, eviction_cmp, farther_cmp, older_cmp}
-use Rattle.warm_rank.specs.Laws.{LeavingIsOrder, OrderKept, RankAlike, SameReferencesRankAlike}
+use Rattle.warm_rank.specs.Laws.{EvictionIsOrder, TruncationKeepsOrder, RankAlike, SameReferencesRankAlike}
 use Rattle.warm_rank.proofs.KeyLemmas.{keys_order_pages}
 
 pub eviction_order : (S : ReferenceSet) → IsStrictOrder (eviction_cmp S)
@@ -27,7 +27,7 @@ eviction_order S = record {
       page_order.same p q (both_tie (older_cmp (latest S p) (latest S q)) (page_cmp p q) last.1).1;
 }
 
-pub eviction_is_order : LeavingIsOrder
+pub eviction_is_order : EvictionIsOrder
 eviction_is_order S =
     let order = eviction_order S in
     record {
@@ -38,8 +38,8 @@ eviction_is_order S =
 
 -- ---- lists that agree on each page rank pages alike
 
-leave_alike : (S T : ReferenceSet) → ((p : PageId) → hist S p ≡ hist T p) → (p q : PageId) → eviction_cmp S p q ≡ eviction_cmp T p q
-leave_alike S T alike p q =
+evicted_alike : (S T : ReferenceSet) → ((p : PageId) → hist S p ≡ hist T p) → (p q : PageId) → eviction_cmp S p q ≡ eviction_cmp T p q
+evicted_alike S T alike p q =
     sym (keys_order_pages S p q)
     ∙ ap (λ x. key_cmp (rank_key p x) (rank_key q (hist S q))) (alike p)
     ∙ ap (λ x. key_cmp (rank_key p (hist T p)) (rank_key q x)) (alike q)
@@ -47,13 +47,13 @@ leave_alike S T alike p q =
 
 pub rank_alike : (S T : ReferenceSet) → ((p : PageId) → hist S p ≡ hist T p) → RankAlike S T
 rank_alike S T alike =
-    let order : eviction_cmp S ≡ eviction_cmp T = λ i p q. leave_alike S T alike p q i in
+    let order : eviction_cmp S ≡ eviction_cmp T = λ i p q. evicted_alike S T alike p q i in
     record {
-      leave_alike = leave_alike S T alike;
-      warm_alike = λ n. ap (λ c. take n (distinct (flip_args c) (pages S))) order ∙ ap (λ ps. take n (distinct (flip_args (eviction_cmp T)) ps)) (pages_alike S T alike);
+      evicted_alike = evicted_alike S T alike;
+      hottest_alike = λ n. ap (λ c. take n (distinct (flip_args c) (pages S))) order ∙ ap (λ ps. take n (distinct (flip_args (eviction_cmp T)) ps)) (pages_alike S T alike);
     }
 
-pub truncation_keeps_order : OrderKept
+pub truncation_keeps_order : TruncationKeepsOrder
 truncation_keeps_order h S stands = rank_alike (references_of h) S (λ p. ap (λ g. hist (references_of g) p) stands ∙ hist_refs-history S p)
 
 pub same_references_rank_alike : SameReferencesRankAlike
