@@ -126,7 +126,8 @@ module _ {A : Type 0} (cmp : A → A → Ordering) (order : IsStrictOrder cmp) w
       absurd (omega (arith, once r, ties-permutation cmp order r xs (rest ++ top) parted, ties-append cmp order r rest top)))
       (λ more. let no : true ≡ false = sym (ap is_lt (flipped cmp order r t Greater more)) ∙ above r t has_r has_t in absurd (cc))
 
-  -- a list without ties, of which no item of top is below one of rest: its distinct items descending
+  -- a list without ties, of which no item of top is below one of rest: its distinct items,
+  -- descending
   pub distinct-descending : (xs rest top sorted : List A) → HasNoTies cmp xs → IsPermutation xs (rest ++ top) → IsAbove cmp rest top → IsPermutation top sorted → IsSorted cmp sorted → distinct (flip_args cmp) xs ≡ reverse sorted ++ distinct (flip_args cmp) rest
   distinct-descending xs rest top sorted once parted above moved in_order =
       let order_back : IsStrictOrder (flip_args cmp) = IsStrictOrder-flip cmp order in

@@ -21,8 +21,8 @@ DistanceIsPlacesBack = (S : ReferenceSet) (p : PageId) → StampsAscend (referen
 abbrev pub KeysOrderPages : Type 0
 KeysOrderPages = (S : ReferenceSet) (p q : PageId) → key_cmp (rank_key p (hist S p)) (rank_key q (hist S q)) ≡ eviction_cmp S p q
 
--- of two different pages exactly one is evicted before the other: the order is total, transitive and
--- irreflexive
+-- of two different pages exactly one is evicted before the other: the order is total, transitive
+-- and irreflexive
 pub record OrdersPages (S : ReferenceSet) : Type 0 where
   pub total : (p q : PageId) → p ≢ q → IsBefore S p q ⊎ IsBefore S q p
   pub transitive : (p q r : PageId) → IsBefore S p q → IsBefore S q r → IsBefore S p r

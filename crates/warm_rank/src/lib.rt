@@ -38,7 +38,8 @@ pub const MAX_FRAMES: usize = 65_536;
 ///
 /// The derived order is the eviction order: pages that were never referenced, by page; then pages
 /// that were referenced once, by that stamp, then page; then pages that were referenced twice or
-/// more, by the second latest stamp, then the latest, then page. [`key_of`] makes the key of a page.
+/// more, by the second latest stamp, then the latest, then page. [`key_of`] makes the key of a
+/// page.
 #[derive(Debug, Clone, Copy, PartialEq, Eq, PartialOrd, Ord)]
 pub enum RankKey {
     /// A page without a known reference.
