@@ -10,6 +10,7 @@ ghost use Rattle.warm_pool.specs.State.{IsRankedByAll, RankedBy};
 
 mod let_go;
 mod limits;
+mod placed;
 mod ranks;
 mod wide;
 
