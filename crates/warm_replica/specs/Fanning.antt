@@ -1,9 +1,9 @@
 -- The steps of a run of jobs: their allocations, and the results of their threads.
 use Rattle.std.specs.Prelude.{◌≡◌, List, Result, OnOk, IfOk}
 use Rattle.std.specs.Global.{Vec}
-use Rattle.warm_turn.specs.declared.board.Ended.{Ended}
-use Rattle.warm_turn.specs.declared.board.View.{View}
-use Rattle.warm_turn.specs.Turns.{Widened}
+use Rattle.warm_turn.specs.declared.table.EndedPass.{EndedPass}
+use Rattle.warm_turn.specs.declared.table.View.{View}
+use Rattle.warm_turn.specs.CallHistories.{Widened}
 use Rattle.warm_gossip.specs.declared.call.Call.{Call}
 use Rattle.warm_gossip.specs.declared.call.Reply.{Reply}
 use Rattle.warm_replica.specs.declared.ready.Ready.{Ready}
@@ -21,7 +21,7 @@ abbrev pub AreReady : List Job → List Ready → Type 0
 AreReady = Pairs IsReady
 
 -- the calls of an ended pass are those of this job, with these replies
-abbrev pub ReadyWentAs : Ready → Replied → Ended Call Reply → Type 0
+abbrev pub ReadyWentAs : Ready → Replied → EndedPass Call Reply → Type 0
 ReadyWentAs ready replies e = WentAs ready.buffer.capacity ready.steps.items replies.items e
 
 module _ {X : Type 0} where
@@ -32,8 +32,8 @@ module _ {X : Type 0} where
   -- the pass has seen more, and holds one pass for each of the jobs, whose calls are that job's, where all were started
   abbrev pub HasFanned : View X Call Reply → List Ready → Result (Unit {0}) NoThread → List Replied → View X Call Reply → Type 0
   HasFanned v jobs result replies w =
-      (more : List (Ended Call Reply)) × Widened v more w × OnOk result (Triples ReadyWentAs jobs replies more)
+      (more : List (EndedPass Call Reply)) × Widened v more w × OnOk result (Triples ReadyWentAs jobs replies more)
 
   abbrev pub Fanned : View X Call Reply → List Ready → Result (Vec Replied) NoThread → View X Call Reply → Type 0
   Fanned v jobs result w =
-      (more : List (Ended Call Reply)) × Widened v more w × IfOk result (λ replies. Triples ReadyWentAs jobs replies.items more)
+      (more : List (EndedPass Call Reply)) × Widened v more w × IfOk result (λ replies. Triples ReadyWentAs jobs replies.items more)

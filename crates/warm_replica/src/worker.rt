@@ -1,6 +1,6 @@
 //! A worker of a replica: a pass of its own, and a buffer of references.
 ghost use Rattle.std.specs.Prelude.{◌≡◌, ◌≤◌, ◌<◌, length, Err, IsOk, IfOk, IfErr, OnOk};
-ghost use Rattle.warm_turn.specs.Turns.{Called, marked};
+ghost use Rattle.warm_turn.specs.CallHistories.{Called, marked};
 ghost use Rattle.warm_refbuffer.specs.Buffered.{with_last};
 ghost use Rattle.warm_replica.specs.Working.{Flushes, KeepsBatch};
 

@@ -7,7 +7,7 @@ use Rattle.warm_history.specs.declared.hist.Entry.{Entry}
 use Rattle.warm_frames.specs.declared.layout.TheConstants.{MAX_ENTRIES}
 use Rattle.warm_frames.specs.declared.message.Message.{Message}
 use Rattle.warm_frames.specs.declared.message.Message.TheVariants.{Entries}
-use Rattle.warm_turn.specs.declared.board.Entry as turn
+use Rattle.warm_turn.specs.declared.table.Entry as turn
 use Rattle.warm_gossip.specs.declared.call.Call.{Call}
 use Rattle.warm_gossip.specs.declared.call.Call.TheVariants.{Send, Receive}
 use Rattle.warm_gossip.specs.declared.call.Reply.{Reply}

@@ -2,7 +2,7 @@ use Rattle.std.proofs.Common.{rules, ap, ◌∙◌, arith}
 use Rattle.warm_replica.specs.Fanning.{ReadyWentAs}
 use Rattle.warm_replica.specs.Pairs.{Triples}
 use Rattle.warm_replica.proofs.Fans.{fan_none, fan_stop, fan_err, fan_fits, fan_more, job_as, ran_as, none_ended}
-use Rattle.warm_turn.specs.Turns.{new_pass}
+use Rattle.warm_turn.specs.CallHistories.{new_pass}
 use Rattle.warm_replica.proofs.fan.+fan_out.Goals as goal
 
 pub returns-in_default-clause-fanned : goal.returns-in_default-clause-fanned

@@ -1,6 +1,6 @@
 use Rattle.std.proofs.Common.{ap, subst}
 use Rattle.std.proofs.lemmas.Result.{IfOk-at_ok}
-use Rattle.warm_turn.specs.Turns.{Joined, Widened}
+use Rattle.warm_turn.specs.CallHistories.{Joined, Widened}
 use Rattle.warm_replica.specs.Fanning.{ReadyWentAs}
 use Rattle.warm_replica.specs.Pairs.{Triples}
 use Rattle.warm_replica.proofs.Readies.{has_seen_more, jobs_went}

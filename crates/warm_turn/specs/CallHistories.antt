@@ -1,12 +1,12 @@
--- Histories, and what contracts see of a turn, a pass and a note.
+-- Histories of calls, and what contracts see of a turn, a pass and a note.
 use Rattle.std.specs.Prelude.{◌≡◌, ◌≢◌, ℕ, List, [], ◌∷◌, ◌++◌, true, false, Option, Some, None, if◌then◌else◌, ◌==◌}
 use mathlib.Core.Option.{some}
 use mathlib.Core.List.{IsPrefix}
 use lib.ListN.{get_elem?}
 use Rattle.atomic_table.specs.Seated.{TableId}
-use Rattle.warm_turn.specs.declared.board.Entry.{Entry}
-use Rattle.warm_turn.specs.declared.board.Ended.{Ended}
-use Rattle.warm_turn.specs.declared.board.View.{View}
+use Rattle.warm_turn.specs.declared.table.Entry.{Entry}
+use Rattle.warm_turn.specs.declared.table.EndedPass.{EndedPass}
+use Rattle.warm_turn.specs.declared.table.View.{View}
 
 module _ {C R : Type 0} where
   abbrev pub entry : ℕ → C → R → Entry C R
@@ -18,8 +18,8 @@ module _ {C R : Type 0} where
   calls_by n (e ∷ es) = if e.by == n then e ∷ calls_by n es else calls_by n es
 
   -- no number occurs twice
-  abbrev pub NoRepeat : List (Ended C R) → Type 0
-  NoRepeat es = (a b : ℕ) (e f : Ended C R) → get_elem? es a ≡ some e → get_elem? es b ≡ some f → e.number ≡ f.number → a ≡ b
+  abbrev pub NoRepeat : List (EndedPass C R) → Type 0
+  NoRepeat es = (a b : ℕ) (e f : EndedPass C R) → get_elem? es a ≡ some e → get_elem? es b ≡ some f → e.number ≡ f.number → a ≡ b
 
 module _ {X C R : Type 0} where
   -- the list is a run of the machine's relation from the first state to the last
@@ -75,7 +75,7 @@ module _ {X C R : Type 0} where
   learned v w = record v { also = w.seen; also_opening = w.opening }
 
   -- what is kept of a pass that is ended
-  abbrev pub as_ended : View X C R → Ended C R
+  abbrev pub as_ended : View X C R → EndedPass C R
   as_ended w = record { number = w.number; calls = w.mine }
 
   -- the pass learned the list that the other has seen, and holds the other's number and calls, and
@@ -94,7 +94,7 @@ module _ {X C R : Type 0} where
     pub idle : (v.waits ≡ false) × (v.serves ≡ false) × (v.also ≡ [])
     pub legal : IsLegal goes v.opening v.seen
     pub own : calls_by v.number v.seen ≡ v.mine
-    pub others : (a : ℕ) (e : Ended C R) → get_elem? v.ended a ≡ some e → (calls_by e.number v.seen ≡ e.calls) × (e.number ≢ v.number)
+    pub others : (a : ℕ) (e : EndedPass C R) → get_elem? v.ended a ≡ some e → (calls_by e.number v.seen ≡ e.calls) × (e.number ≢ v.number)
     pub apart : NoRepeat v.ended
 
   -- a note has a list, and no calls
@@ -134,7 +134,7 @@ module _ {X C R : Type 0} where
     pub mark : v.found_last ≡ true → w.found_last ≡ true
 
   -- the pass has seen more, and holds these passes in addition. Otherwise it is unchanged
-  pub record Widened (v : View X C R) (more : List (Ended C R)) (w : View X C R) : Type 0 where
+  pub record Widened (v : View X C R) (more : List (EndedPass C R)) (w : View X C R) : Type 0 where
     pub seen : IsPrefix v.seen w.seen
     pub mine : w.mine ≡ v.mine
     pub number : w.number ≡ v.number
@@ -150,19 +150,19 @@ pub record IsLast {X C R : Type 0} (goes : X → C → R → X → Type 0) (open
   pub begins : IsPrefix v.seen history
   pub reaches : Runs goes opening history x
   pub own : calls_by v.number history ≡ v.mine
-  pub others : (a : ℕ) (e : Ended C R) → get_elem? v.ended a ≡ some e → calls_by e.number history ≡ e.calls
+  pub others : (a : ℕ) (e : EndedPass C R) → get_elem? v.ended a ≡ some e → calls_by e.number history ≡ e.calls
   pub opens : v.opening ≡ Some opening
   pub legal : IsPass goes v
 
 -- what contracts see of a turn: its table, and its opening state
-pub record Shape (X : Type 0) : Type 0 where
+pub record TurnView (X : Type 0) : Type 0 where
   pub table : TableId
   pub opening : X
 
-abbrev pub turn_at : {X : Type 0} → TableId → X → Shape X
+abbrev pub turn_at : {X : Type 0} → TableId → X → TurnView X
 turn_at table opening = record { table = table; opening = opening }
 
 -- what contracts see of a pass or a note: its table, and what it knows
-pub record Sight (X C R : Type 0) : Type 0 where
+pub record PassView (X C R : Type 0) : Type 0 where
   pub table : TableId
   pub view : View X C R

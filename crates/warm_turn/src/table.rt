@@ -1,6 +1,6 @@
 //! The table that the passes share: two words and a slot.
 //!
-//! Word 0 is the next ticket, and word 1 the ticket that is served. The slot holds the machine.
+//! Word 0 is the next ticket, and word 1 the ticket that is served. The slot is the machine's cell.
 ghost use Rattle.std.specs.Prelude.{◌≡◌, IfOk, IfErr};
 
 use crate::fault::Memory;
@@ -22,7 +22,7 @@ pub struct Entry<C, R> {
 }
 
 /// What is kept of an ended pass. It exists only in contracts.
-pub struct Ended<C, R> {
+pub struct EndedPass<C, R> {
     /// Its number.
     pub number: u64,
     /// Its calls, in their order.
@@ -58,12 +58,12 @@ pub struct View<X, C, R> {
     /// The pass's own calls, in their order.
     pub mine: LinkedList<Entry<C, R>>,
     /// The passes that were ended into this one, and those that they held.
-    pub ended: LinkedList<Ended<C, R>>,
+    pub ended: LinkedList<EndedPass<C, R>>,
 }
 
 /// A call and its reply, as contracts see them. It has no bytes.
 #[derive(Drop)]
-pub struct Made<C, R> {
+pub struct CallMade<C, R> {
     /// The call.
     pub call: Snapshot<C>,
     /// The reply.
@@ -112,43 +112,44 @@ impl<M: Machine> BoxedMachine<M> {
     }
 }
 
-/// The contents of the slot.
+/// The contents of the machine's cell, while no pass has taken the machine out.
 #[derive(Drop)]
-pub struct Held<M, C, R> {
+pub struct CellContents<M, C, R> {
     /// The machine.
     pub machine: BoxedMachine<M>,
     /// The last call that it answered, with the reply.
-    pub made: Option<Made<C, R>>,
+    pub made: Option<CallMade<C, R>>,
 }
 
-/// The rule of the table, `Kept` of `specs/Rule.antt`. Its key is the machine that the turn opened
-/// with.
-pub struct Turns;
+/// The rule of the table, `TicketRuleHolds` of `specs/Rule.antt`. Its key is the machine that the
+/// turn opened with.
+pub struct TicketRule;
 
 impl<M: Machine> TableRule<
-    Option<Held<M, M::Call, M::Reply>>,
+    Option<CellContents<M, M::Call, M::Reply>>,
     View<M::State, M::Call, M::Reply>,
     Snapshot<M>,
-> for Turns {
-    ghost use Rattle.warm_turn.specs.Rule.{Kept};
-    ghost use Rattle.warm_turn.specs.Turns.{first_pass};
+> for TicketRule {
+    ghost use Rattle.warm_turn.specs.Rule.{TicketRuleHolds};
+    ghost use Rattle.warm_turn.specs.CallHistories.{first_pass};
 
-    ghost holds = { λ key. Kept M.view M.goes (M.view key.value) };
+    ghost holds = { λ key. TicketRuleHolds M.view M.goes (M.view key.value) };
 
     ghost first = { λ key. first_pass (M.view key.value) };
 }
 
-/// The slot of a turn over `M`.
-pub type Slot<M> = Option<Held<M, <M as Machine>::Call, <M as Machine>::Reply>>;
+/// The machine's cell, the one slot of the table of a turn over `M`: empty while a pass has taken
+/// the machine out.
+pub type MachineCell<M> = Option<CellContents<M, <M as Machine>::Call, <M as Machine>::Reply>>;
 
 /// What a seat of a turn over `M` knows.
 pub type ViewOf<M> = View<<M as Machine>::State, <M as Machine>::Call, <M as Machine>::Reply>;
 
-/// A seat at the table of a turn over `M`.
-pub type Place<M> = Seat<Slot<M>, ViewOf<M>>;
+/// A seat at the table of a turn over `M`. A pass has one, and so has a note.
+pub type TurnSeat<M> = Seat<MachineCell<M>, ViewOf<M>>;
 
 /// The part of the table of a turn over `M` that all threads share.
-pub type Top<M> = Shared<Slot<M>, ViewOf<M>, Snapshot<M>, Turns>;
+pub type SharedTable<M> = Shared<MachineCell<M>, ViewOf<M>, Snapshot<M>, TicketRule>;
 
 /// The table of a turn over `M`.
-pub type Board<M> = Table<Slot<M>, ViewOf<M>, Snapshot<M>, Turns, Global>;
+pub type TicketTable<M> = Table<MachineCell<M>, ViewOf<M>, Snapshot<M>, TicketRule, Global>;
