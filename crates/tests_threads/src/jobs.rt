@@ -14,20 +14,11 @@ use warm_devices::MemDevice;
 use warm_gossip::{Call, Node, Reply};
 use warm_pool::Slot;
 use warm_replica::{
-    Absorbing, BoxedCall, Gate, Job, MAX_JOBS, Replies, RunFault, Step, StepReply, run_workers,
+    BatchMachine, BoxedCall, Gate, Job, MAX_JOBS, NoGate, Replies, RunFault, Step, StepReply,
+    run_workers,
 };
 use warm_stamps::PageId;
 use warm_turn::{Pass, Turn};
-
-// A gate that holds nothing back.
-#[derive(Clone, Copy)]
-pub(crate) struct Open;
-
-impl Gate for Open {
-    fn before(&self, _job: usize, _step: usize) {}
-
-    fn after(&self, _job: usize, _step: usize) {}
-}
 
 // A gate at which four jobs wait for one another before their first step: the number that arrived,
 // and the number that saw all arrive. The calls of each job are counted in 16 bits of their own, and
@@ -81,7 +72,7 @@ impl<'a, C: Clock> Gate for Meeting<'a, C> {
 }
 
 // Runs jobs, of which there are at most MAX_JOBS.
-pub(crate) fn run<M: Absorbing + Send, R: Threads + Wait + Abort + Sync, G: Gate + Sync>(
+pub(crate) fn run<M: BatchMachine + Send, R: Threads + Wait + Abort + Sync, G: Gate + Sync>(
     rt: &R,
     alloc: Global,
     replica: &Turn<M>,
@@ -97,7 +88,7 @@ pub(crate) fn run<M: Absorbing + Send, R: Threads + Wait + Abort + Sync, G: Gate
 }
 
 // The replies of these jobs, and the machine afterwards.
-pub(crate) fn ran<M: Absorbing + Drop + Send, R: Threads + Wait + Abort + Sync, G: Gate + Sync>(
+pub(crate) fn ran<M: BatchMachine + Drop + Send, R: Threads + Wait + Abort + Sync, G: Gate + Sync>(
     rt: &R,
     alloc: Global,
     machine: M,
@@ -114,7 +105,7 @@ pub(crate) fn ran<M: Absorbing + Drop + Send, R: Threads + Wait + Abort + Sync, 
 
 // A step that makes a call.
 fn make(rt: &impl Abort, alloc: Global, call: Call) -> Step {
-    Step::Make(BoxedCall::new(alloc, call).expect(rt, "memory for a call"))
+    Step::Call(BoxedCall::new(alloc, call).expect(rt, "memory for a call"))
 }
 
 // A job that requests the victim; where it has five steps, after three touches of its page and a
@@ -235,7 +226,7 @@ fn ended<R: Threads + Wait + Abort + Sync>(
         alloc,
         fresh(rt, alloc),
         one_touch(rt, alloc, capacity),
-        &Open,
+        &NoGate,
     );
     assert!(rt; node.history().len() == 0);
     ran?;
@@ -258,7 +249,7 @@ fn are_flushed<R: Threads + Wait + Abort + Sync>(rt: &R, alloc: Global) -> bool 
         jobs.push(Job { capacity: 1, steps })
             .expect(rt, "memory for a job");
     }
-    let (ran, _node) = ran(rt, alloc, fresh(rt, alloc), jobs, &Open);
+    let (ran, _node) = ran(rt, alloc, fresh(rt, alloc), jobs, &NoGate);
     let all = listed(rt, alloc, ran.expect(rt, "the jobs run"));
     for replies in &all {
         let [StepReply::Flushed] = replies.as_slice() else {
@@ -307,12 +298,12 @@ fn a_job_does_just_its_steps(rt: HostRuntime) {
     let touch = Step::Touch(seen(page(1), 10, 1));
     let steps = vec![in alloc; touch, Step::Flush, pin].expect(&rt, "memory for steps");
     let jobs = vec![in alloc; Job { capacity: 1, steps }].expect(&rt, "memory for a job");
-    let (_ran, node) = ran(&rt, alloc, fresh(&rt, alloc), jobs, &Open);
+    let (_ran, node) = ran(&rt, alloc, fresh(&rt, alloc), jobs, &NoGate);
     assert!(rt; has_one_page(node));
 }
 
 // The machine of a worker that has flushed one reference.
-fn flushed<M: Absorbing + Drop, R: Wait + Abort>(rt: &R, alloc: Global, machine: M) -> M {
+fn flushed<M: BatchMachine + Drop, R: Wait + Abort>(rt: &R, alloc: Global, machine: M) -> M {
     let (turn, mut worker) = opened(rt, alloc, machine);
     worker.touch(seen(page(1), 10, 1)).expect(rt, "one fits");
     worker.flush(rt, alloc, &turn).expect(rt, "it is absorbed");

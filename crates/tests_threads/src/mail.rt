@@ -1,5 +1,5 @@
 //! Loops over mail: when they end, what they count, which answers a post gets, and what they leave
-//! unchanged. Loops in threads of their own are in stations.
+//! unchanged. Loops in threads of their own are in mail_loops.
 ghost use Rattle.std.specs.Prelude.{◌≡◌};
 
 use crate::setup::{fresh, opened, over};
@@ -15,7 +15,7 @@ use warm_gossip::Node;
 use warm_history::{Entry, History};
 use warm_pool::Slot;
 use warm_replica::{
-    Absorbing, Mail, MailIter, MailReport, MemPost, Outbox, Outboxes, Post, mail_loop,
+    BatchMachine, Mail, MailIter, MailReport, MemPost, Outbox, Outboxes, Post, mail_loop,
 };
 use warm_stamps::{ByteList, ReplicaId};
 
@@ -81,7 +81,7 @@ type Bounds = (u64, u64, u64);
 const ONE_STOP: Bounds = (1, 10, 10);
 
 // The counts of the mail by an empty machine.
-fn heard<M: Absorbing + Drop, P: Post, R: Wait + Abort>(
+fn heard<M: BatchMachine + Drop, P: Post, R: Wait + Abort>(
     rt: &R,
     alloc: Global,
     machine: M,

@@ -11,7 +11,7 @@ use warm_devices::{MemDevice, PageDevice};
 use warm_gossip::{Node, Reply};
 use warm_pool::Pool;
 use warm_refbuffer::RefBuffer;
-use warm_replica::{Absorbing, Replies, StepReply, Worker};
+use warm_replica::{BatchMachine, Replies, StepReply, Worker};
 use warm_stamps::PageList;
 use warm_turn::{Pass, Turn};
 
@@ -36,7 +36,7 @@ pub(crate) fn fresh(rt: &impl Abort, alloc: Global) -> Node<MemDevice> {
 }
 
 // A turn over this machine, and its first pass.
-pub(crate) fn turn_over<M: Absorbing + Drop>(
+pub(crate) fn turn_over<M: BatchMachine + Drop>(
     rt: &impl Abort,
     alloc: Global,
     machine: M,
@@ -49,7 +49,7 @@ pub(crate) fn turn_over<M: Absorbing + Drop>(
 }
 
 // The same, and a worker whose buffer holds two references.
-pub(crate) fn opened<M: Absorbing + Drop>(
+pub(crate) fn opened<M: BatchMachine + Drop>(
     rt: &impl Abort,
     alloc: Global,
     machine: M,

@@ -15,7 +15,8 @@ use Rattle.warm_gossip.specs.Batches.{no_memory}
 use Rattle.warm_replica.specs.declared.fault.FlushFault.{FlushFault}
 use Rattle.warm_replica.specs.declared.fault.FlushFault.TheVariants.{Memory, TurnsSpent}
 use Rattle.warm_replica.specs.declared.job.Step.{Step}
-use Rattle.warm_replica.specs.declared.job.Step.TheVariants.{Touch, Flush, Make}
+use Rattle.warm_replica.specs.declared.job.Step.TheVariants.{Touch, Flush}
+use Rattle.warm_replica.specs.declared.job.Step.TheVariants as job_step
 use Rattle.warm_replica.specs.declared.job.StepReply.{StepReply}
 use Rattle.warm_replica.specs.declared.job.StepReply.TheVariants.{Touched, Full, Flushed, Failed}
 use Rattle.warm_replica.specs.Jobs.{Calls, Gave, StepWent}
@@ -108,7 +109,7 @@ module _ {X : Type 0} (v w : Working X Call Reply) (step : Step) where
       ))
       kept.1
 
-  pub was_spent : (call : Call) → step ≡ Make call → w.buffer ≡ v.buffer → w.pass.view ≡ marked v.pass.view → StepWent v step (Failed TurnsSpent) w
+  pub was_spent : (call : Call) → step ≡ job_step.Call call → w.buffer ≡ v.buffer → w.pass.view ≡ marked v.pass.view → StepWent v step (Failed TurnsSpent) w
   was_spent call is same spent = (
     [],
     subst (GaveTo (Failed TurnsSpent) []) (sym is) (mark_stands spent, ap (λ (b : Buffered). b.refs) same, refl),

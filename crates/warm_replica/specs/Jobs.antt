@@ -14,7 +14,8 @@ use Rattle.warm_gossip.specs.declared.call.Reply.TheVariants.{Done}
 use Rattle.warm_replica.specs.declared.fault.FlushFault.TheVariants.{Memory, TurnsSpent}
 use Rattle.warm_replica.specs.declared.job.Job.{Job}
 use Rattle.warm_replica.specs.declared.job.Step.{Step}
-use Rattle.warm_replica.specs.declared.job.Step.TheVariants.{Touch, Flush, Make}
+use Rattle.warm_replica.specs.declared.job.Step.TheVariants.{Touch, Flush}
+use Rattle.warm_replica.specs.declared.job.Step.TheVariants as job_step
 use Rattle.warm_replica.specs.declared.job.StepReply.{StepReply}
 use Rattle.warm_replica.specs.declared.job.StepReply.TheVariants.{Touched, Full, Flushed, Answered, Failed}
 use Rattle.warm_gossip.specs.Batches.{no_memory}
@@ -36,8 +37,8 @@ Gave capacity n spent held Flush Flushed after held' made = (spent ≡ false) ×
 Gave capacity n spent held Flush (Failed Memory) after held' made =
     (held' ≡ held) × (((after ≡ spent) × (made ≡ [])) ⊎ ((spent ≡ false) × (after ≡ false) × (made ≡ entry n (Absorb held) no_memory ∷ [])))
 Gave capacity n spent held Flush (Failed TurnsSpent) after held' made = (after ≡ true) × (held' ≡ held) × (made ≡ [])
-Gave capacity n spent held (Make call) (Answered reply) after held' made = (spent ≡ false) × (after ≡ false) × (held' ≡ held) × (made ≡ entry n call reply ∷ [])
-Gave capacity n spent held (Make call) (Failed TurnsSpent) after held' made = (after ≡ true) × (held' ≡ held) × (made ≡ [])
+Gave capacity n spent held (job_step.Call call) (Answered reply) after held' made = (spent ≡ false) × (after ≡ false) × (held' ≡ held) × (made ≡ entry n call reply ∷ [])
+Gave capacity n spent held (job_step.Call call) (Failed TurnsSpent) after held' made = (after ≡ true) × (held' ≡ held) × (made ≡ [])
 Gave capacity n spent held step reply after held' made = ⊥
 
 -- the same, for steps one after another

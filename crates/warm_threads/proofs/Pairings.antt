@@ -44,10 +44,10 @@ gathered_pairs : {A T E : Type 0} (P : A → T → Type 0) (xs : List A) (result
     → Pairs (λ x r. IfOk r (P x)) xs results → Pairs (λ r t. r ≡ Ok t) results ys → Pairs P xs ys
 gathered_pairs P xs results ys = pairs_then (λ x r. IfOk r (P x)) (λ r t. r ≡ Ok t) P (λ x r t h is. subst (λ q. IfOk q (P x)) is h) xs results ys
 
--- the same of values that are gathered, where they are
-pub gathered_all : {A T E : Type 0} (P : A → T → Type 0) (xs : List A) (results : List (Result T E)) (r : Result (Vec T) E)
+-- the same of values that are all_or_first_error, where they are
+pub all_or_first_all : {A T E : Type 0} (P : A → T → Type 0) (xs : List A) (results : List (Result T E)) (r : Result (Vec T) E)
     → Pairs (λ x r. IfOk r (P x)) xs results → IfOk r (λ v. Pairs (λ r t. r ≡ Ok t) results v.items) → IfOk r (λ v. Pairs P xs v.items)
-gathered_all P xs results r h = if_ok_then (λ v. Pairs (λ r t. r ≡ Ok t) results v.items) (λ v. Pairs P xs v.items) r (λ v. gathered_pairs P xs results v.items h)
+all_or_first_all P xs results r h = if_ok_then (λ v. Pairs (λ r t. r ≡ Ok t) results v.items) (λ v. Pairs P xs v.items) r (λ v. gathered_pairs P xs results v.items h)
 
 -- of a list read off another
 pub all_mapped : {A B : Type 0} (f : A → B) (Q : B → Type 0) (xs : List A) (ys : List B) → map f xs ≡ ys → All Q ys → All (λ x. Q (f x)) xs

@@ -3,19 +3,19 @@ ghost use Rattle.std.specs.Prelude.{◌≡◌, ◌≢◌, ◌↔◌, ◌≤◌, 
 ghost use Rattle.std.specs.List.{All};
 ghost use Rattle.warm_replica.specs.declared.fan.TheConstants.{MAX_JOBS};
 ghost use Rattle.warm_replica.specs.Pairs.{Pairs};
-ghost use Rattle.warm_threads.specs.declared.fault.CrewFault.TheVariants.{Closed};
+ghost use Rattle.warm_threads.specs.declared.fault.ReplicaRunFault.TheVariants.{Closed};
 ghost use Rattle.warm_threads.specs.Exchanges.{IsReceipt, SendsAll};
 ghost use Rattle.warm_threads.specs.Works.{LeadsBy, Went, Works};
 
-use crate::exchange::{Parcel, hear_all, send_all};
-use crate::fault::CrewFault;
+use crate::exchange::{SharedMail, hear_all, send_all};
+use crate::fault::ReplicaRunFault;
 use crate::work::work;
 use crossbeam_channel::{Receiver, Sender, unbounded};
 use std::alloc::{AllocError, Global};
 use std::sync::Wait;
 use std::thread;
 use std::thread::Threads;
-use warm_replica::{Absorbing, Job};
+use warm_replica::{BatchMachine, Job};
 
 // A machine, the jobs of its workers, the channels to which it sends its history, and the channel
 // of its mail.
@@ -23,31 +23,31 @@ use warm_replica::{Absorbing, Job};
 struct Crew<M> {
     machine: M,
     jobs: Vec<Job>,
-    boxes: Vec<Sender<Parcel>>,
-    receiver: Receiver<Parcel>,
+    boxes: Vec<Sender<SharedMail>>,
+    receiver: Receiver<SharedMail>,
 }
 
 // The same, after the workers have ended.
 #[derive(Drop)]
 struct Knowing<M> {
     machine: M,
-    boxes: Vec<Sender<Parcel>>,
-    receiver: Receiver<Parcel>,
+    boxes: Vec<Sender<SharedMail>>,
+    receiver: Receiver<SharedMail>,
 }
 
 // The same, after all was sent: `stops` Stops will be received.
 #[derive(Drop)]
 struct Hearing<M> {
     machine: M,
-    receiver: Receiver<Parcel>,
+    receiver: Receiver<SharedMail>,
     stops: u64,
 }
 
-fn work_one<M: Absorbing + Send + Drop, R: Threads + Wait + Sync>(
+fn work_one<M: BatchMachine + Send + Drop, R: Threads + Wait + Sync>(
     rt: &R,
     alloc: Global,
     crew: Crew<M>,
-) -> Result<Knowing<M>, CrewFault>
+) -> Result<Knowing<M>, ReplicaRunFault>
     requires { length crew.jobs.items ≤ MAX_JOBS }
     ensures { IfOk result
         (λ k. Works M.goes crew.jobs.items (M.view crew.machine) (M.view k.machine)) }
@@ -66,11 +66,11 @@ fn work_one<M: Absorbing + Send + Drop, R: Threads + Wait + Sync>(
     })
 }
 
-fn send_one<M: Absorbing + Drop, R: Wait>(
+fn send_one<M: BatchMachine + Drop, R: Wait>(
     rt: &R,
     alloc: Global,
     one: Knowing<M>,
-) -> Result<Hearing<M>, CrewFault>
+) -> Result<Hearing<M>, ReplicaRunFault>
     ensures { IfOk result
         (λ h. LeadsBy M.goes SendsAll (M.view one.machine) (M.view h.machine)) }
 {
@@ -87,11 +87,11 @@ fn send_one<M: Absorbing + Drop, R: Wait>(
     })
 }
 
-fn hear_one<M: Absorbing + Drop, R: Wait>(
+fn hear_one<M: BatchMachine + Drop, R: Wait>(
     rt: &R,
     alloc: Global,
     one: Hearing<M>,
-) -> Result<M, CrewFault>
+) -> Result<M, ReplicaRunFault>
     ensures { IfOk result
         (λ m. LeadsBy M.goes (All IsReceipt) (M.view one.machine) (M.view m)) }
 {
@@ -105,13 +105,13 @@ fn hear_one<M: Absorbing + Drop, R: Wait>(
 
 // Why crews failed: the first fault other than `Closed`. A crew finds a closed channel only after
 // another crew has failed.
-fn cause_of<T>(results: &[Result<T, CrewFault>]) -> Option<CrewFault>
+fn first_error<T>(results: &[Result<T, ReplicaRunFault>]) -> Option<ReplicaRunFault>
     ensures cause { IfSome result (λ why. why ≢ Closed) }
     ensures none { IsNone result ↔ All (λ r. IfErr r (λ why. why ≡ Closed)) results.now }
 {
     for result in results {
         match result {
-            Ok(_) | Err(CrewFault::Closed) => {}
+            Ok(_) | Err(ReplicaRunFault::Closed) => {}
             Err(why) => return Some(*why),
         }
     }
@@ -119,11 +119,11 @@ fn cause_of<T>(results: &[Result<T, CrewFault>]) -> Option<CrewFault>
 }
 
 // The results, where all crews succeeded. The fault is `Closed` only where no crew has another.
-fn gathered<T: Drop>(alloc: Global, results: Vec<Result<T, CrewFault>>) -> Result<Vec<T>, CrewFault>
+fn all_or_first_error<T: Drop>(alloc: Global, results: Vec<Result<T, ReplicaRunFault>>) -> Result<Vec<T>, ReplicaRunFault>
     ensures whole { IfOk result (λ v. Pairs (λ r t. r ≡ Ok t) results.items v.items) }
     ensures closed { result ≡ Err Closed → All (λ r. IfErr r (λ why. why ≡ Closed)) results.items }
 {
-    if let Some(why) = cause_of(&results) {
+    if let Some(why) = first_error(&results) {
         return Err(why);
     }
     let mut all = Vec::with_capacity(alloc, results.len())?;
@@ -134,63 +134,63 @@ fn gathered<T: Drop>(alloc: Global, results: Vec<Result<T, CrewFault>>) -> Resul
 }
 
 // All workers of all replicas do their jobs at the same time.
-fn all_work<M: Absorbing + Send + Drop, R: Threads + Wait + Sync>(
+fn all_work<M: BatchMachine + Send + Drop, R: Threads + Wait + Sync>(
     rt: &R,
     alloc: Global,
     crews: Vec<Crew<M>>,
-) -> Result<Vec<Knowing<M>>, CrewFault>
+) -> Result<Vec<Knowing<M>>, ReplicaRunFault>
     requires few { All (λ c. length c.jobs.items ≤ MAX_JOBS) crews.items }
     ensures { IfOk result (λ v. Pairs (λ c k. Works M.goes c.jobs.items
         (M.view c.machine) (M.view k.machine)) crews.items v.items) }
 {
-    let run = move |crew: Crew<M>| -> Result<Knowing<M>, CrewFault>
+    let run = move |crew: Crew<M>| -> Result<Knowing<M>, ReplicaRunFault>
         requires { length crew.jobs.items ≤ MAX_JOBS }
         ensures { IfOk result (λ k. Works M.goes crew.jobs.items
             (M.view crew.machine) (M.view k.machine)) }
     { work_one(rt, alloc, crew) };
     let done = thread::map_vec(rt, crews, &run)?;
-    gathered(alloc, done)
+    all_or_first_error(alloc, done)
 }
 
 // Each sends its whole history.
-fn all_send<M: Absorbing + Send + Drop, R: Threads + Wait + Sync>(
+fn all_send<M: BatchMachine + Send + Drop, R: Threads + Wait + Sync>(
     rt: &R,
     alloc: Global,
     knowing: Vec<Knowing<M>>,
-) -> Result<Vec<Hearing<M>>, CrewFault>
+) -> Result<Vec<Hearing<M>>, ReplicaRunFault>
     ensures { IfOk result (λ v. Pairs (λ k h. LeadsBy M.goes SendsAll
         (M.view k.machine) (M.view h.machine)) knowing.items v.items) }
 {
-    let run = move |one: Knowing<M>| -> Result<Hearing<M>, CrewFault>
+    let run = move |one: Knowing<M>| -> Result<Hearing<M>, ReplicaRunFault>
         ensures { IfOk result
             (λ h. LeadsBy M.goes SendsAll (M.view one.machine) (M.view h.machine)) }
     { send_one(rt, alloc, one) };
     let done = thread::map_vec(rt, knowing, &run)?;
-    gathered(alloc, done)
+    all_or_first_error(alloc, done)
 }
 
 // Each receives all that the others have sent.
-fn all_hear<M: Absorbing + Send + Drop, R: Threads + Wait + Sync>(
+fn all_hear<M: BatchMachine + Send + Drop, R: Threads + Wait + Sync>(
     rt: &R,
     alloc: Global,
     hearing: Vec<Hearing<M>>,
-) -> Result<Vec<M>, CrewFault>
+) -> Result<Vec<M>, ReplicaRunFault>
     ensures { IfOk result (λ v. Pairs (λ h m. LeadsBy M.goes (All IsReceipt)
         (M.view h.machine) (M.view m)) hearing.items v.items) }
 {
-    let run = move |one: Hearing<M>| -> Result<M, CrewFault>
+    let run = move |one: Hearing<M>| -> Result<M, ReplicaRunFault>
         ensures { IfOk result
             (λ m. LeadsBy M.goes (All IsReceipt) (M.view one.machine) (M.view m)) }
     { hear_one(rt, alloc, one) };
     let done = thread::map_vec(rt, hearing, &run)?;
-    gathered(alloc, done)
+    all_or_first_error(alloc, done)
 }
 
 // Both ends of `count` channels.
 fn channels(
     alloc: Global,
     count: usize,
-) -> Result<(Vec<Sender<Parcel>>, Vec<Receiver<Parcel>>), AllocError>
+) -> Result<(Vec<Sender<SharedMail>>, Vec<Receiver<SharedMail>>), AllocError>
     ensures { IfOk result (λ ends. length ends.1.items ≡ count) }
 {
     let mut senders = Vec::with_capacity(alloc, count)?;
@@ -206,9 +206,9 @@ fn channels(
 // The channels of all but one.
 fn others(
     alloc: Global,
-    senders: &[Sender<Parcel>],
+    senders: &[Sender<SharedMail>],
     but: usize,
-) -> Result<Vec<Sender<Parcel>>, AllocError> {
+) -> Result<Vec<Sender<SharedMail>>, AllocError> {
     let mut boxes = Vec::with_capacity(alloc, senders.len())?;
     for at in 0..senders.len() {
         if at != but {
@@ -257,12 +257,12 @@ fn crews_of<M: Drop>(
 /// `Memory`: an allocation failed, including one of a worker, of a machine or of a channel.
 /// `NoThread`: a worker's thread could not be started, or left a call unfinished. `Closed`: a
 /// replica ended before all was sent to it, and none has another fault. All machines are dropped.
-pub(crate) fn run_all<M: Absorbing + Send + Drop, R: Threads + Wait + Sync>(
+pub(crate) fn run_all<M: BatchMachine + Send + Drop, R: Threads + Wait + Sync>(
     rt: &R,
     alloc: Global,
     machines: Vec<M>,
     jobs: Vec<Vec<Job>>,
-) -> Result<Vec<M>, CrewFault>
+) -> Result<Vec<M>, ReplicaRunFault>
     requires each { length jobs.items ≡ length machines.items }
     requires few { All (λ list. length list.items ≤ MAX_JOBS) jobs.items }
     ensures { IfOk result (λ v. Went M.goes (map M.view machines.items) jobs.items

@@ -32,7 +32,7 @@ use warm_gossip::Node;
 use warm_history::History;
 use warm_play_fault::PlayFault;
 use warm_pool::{MAX_DEVICES, Pool};
-use warm_replica::Absorbing;
+use warm_replica::BatchMachine;
 use warm_schedule::print_history;
 use warm_stamps::ReplicaId;
 use warm_world::{Setup, are_sized};
@@ -162,7 +162,7 @@ fn print_replicas<D: PageDevice, W: Write>(
 }
 
 // Plays a schedule by threads, over these machines, one for each replica of the setup, and gives them back.
-fn play_over<M: Absorbing + Send + Drop, T: Threads + Wait + Sync, R: Read>(
+fn play_over<M: BatchMachine + Send + Drop, T: Threads + Wait + Sync, R: Read>(
     rt: &T,
     alloc: Global,
     reader: &mut R,
@@ -212,7 +212,7 @@ fn play_over<M: Absorbing + Send + Drop, T: Threads + Wait + Sync, R: Read>(
 ///   was sent to it, and no replica has another fault.
 /// - `WriteFault`: the writer failed.
 ///
-/// Of the faults of the threads (`CrewFault`), `Memory` is returned as `Memory`, and `NoThread` and
+/// Of the faults of the threads (`ReplicaRunFault`), `Memory` is returned as `Memory`, and `NoThread` and
 /// `Closed` as `NoThread`. In each case all devices are dropped. Nothing was written, except for
 /// `WriteFault`, where it is unspecified how much was.
 pub fn play_threads<D, T, R, W>(

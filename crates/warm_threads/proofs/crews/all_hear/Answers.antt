@@ -1,10 +1,10 @@
 use Rattle.std.proofs.Common.{◌≡◌, length, arith}
-use Rattle.warm_threads.proofs.Pairings.{pairs_by_place, gathered_all}
+use Rattle.warm_threads.proofs.Pairings.{pairs_by_place, all_or_first_all}
 use Rattle.warm_threads.proofs.crews.all_hear.Goals as goal
 
 pub returns : goal.returns
 returns g c =
     let same : length c.in_ok-done.done.items ≡ length c.args.hearing.items = omega (arith, c.in_ok-done.ensures.len) in
-    gathered_all _ c.args.hearing.items c.in_ok-done.done.items c.gathered.result
+    all_or_first_all _ c.args.hearing.items c.in_ok-done.done.items c.all_or_first_error.result
     (pairs_by_place _ c.args.hearing.items c.in_ok-done.done.items same (λ k d low. let made = (c.in_ok-done.ensures.each k d low).1 in (made.job, made.job_is, made.call.met)))
-    c.gathered.ensures.whole
+    c.all_or_first_error.ensures.whole

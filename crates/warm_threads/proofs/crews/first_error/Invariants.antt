@@ -1,6 +1,6 @@
 use Rattle.std.proofs.Common.{◌≡◌, ℕ, ◌<◌, IfErr, slice_index_or}
-use Rattle.warm_threads.specs.declared.fault.CrewFault.TheVariants.{Closed}
-use Rattle.warm_threads.proofs.crews.cause_of.Given as goal
+use Rattle.warm_threads.specs.declared.fault.ReplicaRunFault.TheVariants.{Closed}
+use Rattle.warm_threads.proofs.crews.first_error.Given as goal
 
 -- no crew so far has another fault than `Closed`
 abbrev pub invariant-loop-result : goal.invariant-loop-result

@@ -7,7 +7,7 @@ use warm_refbuffer::RefBuffer;
 
 // A job with its buffer, and with capacity for its replies.
 #[derive(Drop)]
-pub(crate) struct Ready {
+pub(crate) struct PreparedJob {
     pub(crate) job: usize,
     pub(crate) buffer: RefBuffer,
     pub(crate) steps: Vec<Step>,

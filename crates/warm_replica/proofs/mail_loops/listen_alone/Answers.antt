@@ -1,4 +1,4 @@
-use Rattle.warm_replica.proofs.stations.listen_alone.Goals as goal
+use Rattle.warm_replica.proofs.mail_loops.listen_alone.Goals as goal
 
 pub returns : goal.returns
 returns g c =

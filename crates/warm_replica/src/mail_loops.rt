@@ -1,4 +1,4 @@
-//! Any number of replicas, each of which takes its mail in a thread of its own.
+//! Any number of mail loops, each in a thread of its own.
 ghost use Rattle.std.specs.Prelude.{◌≡◌, ◌≤◌, [], List, length, vec_capacity, IfOk, OnOk};
 ghost use Rattle.std.specs.Thread.{IsSync, IsSend};
 ghost use Rattle.warm_replica.specs.Mails.{Listened, AllListened};
@@ -18,10 +18,10 @@ use std::thread::{Promise, PromisedHandle, Scope, Threads};
 use warm_gossip::{Call, Reply};
 use warm_turn::{Machine, Turn};
 
-/// A replica, the worker that takes its mail, the channel of that mail, and the outboxes for the
-/// answers.
+/// The parts of a mail loop: a replica, the worker that takes its mail, the channel of that mail,
+/// and the outboxes for the answers.
 #[derive(Drop)]
-pub struct Station<'a, M: Machine> {
+pub struct MailLoop<'a, M: Machine> {
     replica: &'a Turn<M>,
     worker: Worker<M>,
     receiver: Receiver<Mail>,
@@ -29,20 +29,20 @@ pub struct Station<'a, M: Machine> {
     ghost placed: { worker.pass.table ≡ replica.now.table },
 }
 
-impl<'a, M: Machine> Station<'a, M> {
-    /// A station of these parts. Allocation-free.
+impl<'a, M: Machine> MailLoop<'a, M> {
+    /// A mail loop of these parts, which is not run yet. Allocation-free.
     pub fn new(
         replica: &'a Turn<M>,
         worker: Worker<M>,
         receiver: Receiver<Mail>,
         boxes: Vec<Outbox>,
-    ) -> Station<'a, M>
+    ) -> MailLoop<'a, M>
         requires { worker.pass.table ≡ replica.now.table }
         ensures worker { result.worker ≡ worker }
         ensures receiver { result.receiver ≡ receiver }
         ensures boxes { result.boxes ≡ boxes }
     {
-        Station {
+        MailLoop {
             replica,
             worker,
             receiver,
@@ -53,13 +53,13 @@ impl<'a, M: Machine> Station<'a, M> {
 
 // What a listening thread begins with.
 #[derive(Drop)]
-struct Began<M: Machine> {
+struct LoopStart<M: Machine> {
     worker: Snapshot<Worker<M>>,
     stops: u64,
     turns: u64,
 }
 
-impl<M: Machine<Call = Call, Reply = Reply>> Promise<(Worker<M>, MailReport)> for Began<M> {
+impl<M: Machine<Call = Call, Reply = Reply>> Promise<(Worker<M>, MailReport)> for LoopStart<M> {
     ghost use Rattle.warm_replica.specs.Mails.{Listened};
 
     ghost kept_by = { λ p r. Listened p.stops p.turns p.worker.value r.1 r.0 };
@@ -94,54 +94,54 @@ fn listen_alone<M: Machine<Call = Call, Reply = Reply>, R: Wait>(
     (worker, report)
 }
 
-// A station's loop.
+// One mail loop.
 fn listen_at<M: Machine<Call = Call, Reply = Reply>, R: Wait>(
     rt: &R,
     alloc: Global,
-    station: Station<'_, M>,
+    one: MailLoop<'_, M>,
     stops: u64,
     turns: u64,
 ) -> (Worker<M>, MailReport)
-    ensures { Listened stops turns station.entry.worker result.1 result.0 }
+    ensures { Listened stops turns one.entry.worker result.1 result.0 }
 {
-    let Station {
+    let MailLoop {
         replica,
         worker,
         receiver,
         boxes,
-    } = station;
+    } = one;
     listen_alone(rt, alloc, replica, worker, receiver, boxes, stops, turns)
 }
 
-// Starts a station's loop in a thread of its own.
-fn start_station<'s, E, M: Machine<Call = Call, Reply = Reply> + Send + 's, R: Wait + Sync>(
+// Starts a mail loop in a thread of its own.
+fn start_mail_loop<'s, E, M: Machine<Call = Call, Reply = Reply> + Send + 's, R: Wait + Sync>(
     scope: &Scope<'s, E>,
     rt: &'s R,
     alloc: Global,
-    station: Station<'s, M>,
+    one: MailLoop<'s, M>,
     stops: u64,
     turns: u64,
-) -> Result<PromisedHandle<(Worker<M>, MailReport), Began<M>>, NoThread>
+) -> Result<PromisedHandle<(Worker<M>, MailReport), LoopStart<M>>, NoThread>
     requires send { IsSend M.row × IsSync R.row }
-    ensures worker { IfOk result (λ child. child.promise.worker.value ≡ station.entry.worker) }
+    ensures worker { IfOk result (λ child. child.promise.worker.value ≡ one.entry.worker) }
     ensures stops { IfOk result (λ child. child.promise.stops ≡ stops) }
     ensures turns { IfOk result (λ child. child.promise.turns ≡ turns) }
 {
-    let began = Began {
-        worker: Snapshot::of(&station.worker),
+    let start = LoopStart {
+        worker: Snapshot::of(&one.worker),
         stops,
         turns,
     };
     let child = scope.spawn_with(
-        began,
+        start,
         move || -> (Worker<M>, MailReport)
-            ensures { Listened stops turns station.entry.worker result.1 result.0 }
-        { listen_at(rt, alloc, station, stops, turns) },
+            ensures { Listened stops turns one.entry.worker result.1 result.0 }
+        { listen_at(rt, alloc, one, stops, turns) },
     )?;
     Ok(child)
 }
 
-// Each station takes its mail in a thread of its own, the last one first to start.
+// Runs each mail loop in a thread of its own, the last one first to start.
 pub(crate) fn listen_all<
     's,
     E,
@@ -151,22 +151,22 @@ pub(crate) fn listen_all<
     scope: &Scope<'s, E>,
     rt: &'s R,
     alloc: Global,
-    mut stations: Vec<Station<'s, M>>,
+    mut loops: Vec<MailLoop<'s, M>>,
     stops: u64,
     turns: u64,
     all: &mut Vec<(Worker<M>, MailReport)>,
 ) -> Result<(), NoThread>
     requires send { IsSend M.row × IsSync R.row }
-    requires capacity { (all.old.items ≡ []) × (length stations.items ≤ vec_capacity all.old) }
+    requires capacity { (all.old.items ≡ []) × (length loops.items ≤ vec_capacity all.old) }
     ensures capacity { vec_capacity all.old ≤ vec_capacity all.new }
     ensures heard { OnOk result
-        (AllListened (λ s. s.worker) stops turns stations.entry.items all.new.items) }
+        (AllListened (λ s. s.worker) stops turns loops.entry.items all.new.items) }
 {
-    let Some(station) = stations.pop() else {
+    let Some(one) = loops.pop() else {
         return Ok(());
     };
-    let child = start_station(scope, rt, alloc, station, stops, turns)?;
-    let rest = listen_all(scope, rt, alloc, stations, stops, turns, all);
+    let child = start_mail_loop(scope, rt, alloc, one, stops, turns)?;
+    let rest = listen_all(scope, rt, alloc, loops, stops, turns, all);
     let heard = child.join(rt);
     if let Err(none) = rest {
         return Err(none);
@@ -179,26 +179,26 @@ pub(crate) fn listen_all<
 fn run_in_scope<'a, M: Machine<Call = Call, Reply = Reply> + Send, R: Threads + Wait + Sync>(
     rt: &'a R,
     alloc: Global,
-    stations: Vec<Station<'a, M>>,
+    loops: Vec<MailLoop<'a, M>>,
     stops: u64,
     turns: u64,
     all: Vec<(Worker<M>, MailReport)>,
 ) -> Result<Vec<(Worker<M>, MailReport)>, NoThread>
-    requires { (all.items ≡ []) × (length stations.items ≤ vec_capacity all) }
+    requires { (all.items ≡ []) × (length loops.items ≤ vec_capacity all) }
     ensures { IfOk result
-        (λ v. AllListened (λ s. s.worker) stops turns stations.entry.items v.items) }
+        (λ v. AllListened (λ s. s.worker) stops turns loops.entry.items v.items) }
 {
     let (_, ran) = thread::scope(
         thread::scope_env(),
         rt,
         move |scope| -> ((), Result<Vec<(Worker<M>, MailReport)>, NoThread>)
             requires { IsSend M.row × IsSync R.row
-                × (all.items ≡ []) × (length stations.items ≤ vec_capacity all) }
+                × (all.items ≡ []) × (length loops.items ≤ vec_capacity all) }
             ensures { IfOk result.1
-                (λ v. AllListened (λ s. s.worker) stops turns stations.entry.items v.items) }
+                (λ v. AllListened (λ s. s.worker) stops turns loops.entry.items v.items) }
         {
             let mut all = all;
-            match listen_all(scope, rt, alloc, stations, stops, turns, &mut all) {
+            match listen_all(scope, rt, alloc, loops, stops, turns, &mut all) {
                 Ok(()) => ((), Ok(all)),
                 Err(none) => ((), Err(none)),
             }
@@ -207,24 +207,24 @@ fn run_in_scope<'a, M: Machine<Call = Call, Reply = Reply> + Send, R: Threads + 
     ran
 }
 
-/// Each station takes its mail in a thread of its own, as [`crate::mail_loop`] does, until `stops`
-/// Stops or `turns` items, and returns its worker, with its buffer unchanged, and its counts, in
-/// the order of the stations. It ends when all have ended.
+/// Runs each mail loop in a thread of its own, as [`crate::mail_loop`] does, until `stops` Stops or
+/// `turns` items, and returns its worker, with its buffer unchanged, and its counts, in the order
+/// of the loops. It ends when all have ended.
 ///
 /// # Errors
 /// `NoThread`: a thread could not be started, or an allocation failed. The threads that were
 /// started have run to their end; the workers are dropped with the references in their buffers, and
 /// their calls stay in the histories of their replicas.
-pub fn run_stations<'a, M: Machine<Call = Call, Reply = Reply> + Send, R: Threads + Wait + Sync>(
+pub fn run_mail_loops<'a, M: Machine<Call = Call, Reply = Reply> + Send, R: Threads + Wait + Sync>(
     rt: &'a R,
     alloc: Global,
-    stations: Vec<Station<'a, M>>,
+    loops: Vec<MailLoop<'a, M>>,
     stops: u64,
     turns: u64,
 ) -> Result<Vec<(Worker<M>, MailReport)>, NoThread>
     ensures { IfOk result
-        (λ v. AllListened (λ s. s.worker) stops turns stations.entry.items v.items) }
+        (λ v. AllListened (λ s. s.worker) stops turns loops.entry.items v.items) }
 {
-    let all = Vec::with_capacity(alloc, stations.len())?;
-    run_in_scope(rt, alloc, stations, stops, turns, all)
+    let all = Vec::with_capacity(alloc, loops.len())?;
+    run_in_scope(rt, alloc, loops, stops, turns, all)
 }

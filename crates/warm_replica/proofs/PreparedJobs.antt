@@ -8,8 +8,8 @@ use Rattle.warm_gossip.specs.declared.call.Call.{Call}
 use Rattle.warm_gossip.specs.declared.call.Reply.{Reply}
 use Rattle.warm_replica.specs.declared.job.Job.{Job}
 use Rattle.warm_replica.specs.declared.job.Step.{Step}
-use Rattle.warm_replica.specs.declared.ready.Ready.{Ready}
-use Rattle.warm_replica.specs.Fanning.{AreReady, IsReady, ReadyWentAs}
+use Rattle.warm_replica.specs.declared.prepared.PreparedJob.{PreparedJob}
+use Rattle.warm_replica.specs.Fanning.{ArePrepared, IsPrepared, PreparedJobWentAs}
 use Rattle.warm_replica.specs.Jobs.{HasSeenMore, JobsWent, JobWentAs, WentAs}
 use Rattle.warm_replica.specs.Pairs.{Pairs, Triples}
 use Rattle.warm_replica.specs.Replied.{Replied}
@@ -33,14 +33,14 @@ module _ {X : Type 0} (goes : X → Call → Reply → X → Type 0) where
   pub has_seen_more : (v own w : View X Call Reply) (n : ℕ) (more : List (EndedPass Call Reply)) → Widened (new_pass v n) more own → Joined goes v own w → HasSeenMore v w
   has_seen_more v own w n more wide joined = (as_ended own ∷ more, fan_ends goes v own w n more wide joined)
 
-  pub jobs_went : (v own w : View X Call Reply) (n : ℕ) (jobs : List Job) (ready : List Ready) (all : List Replied) (more : List (EndedPass Call Reply))
-      → AreReady jobs ready → Widened (new_pass v n) more own → Joined goes v own w → Triples ReadyWentAs ready all more → JobsWent v jobs all w
-  jobs_went v own w n jobs ready all more same wide joined went = (
+  pub jobs_went : (v own w : View X Call Reply) (n : ℕ) (jobs : List Job) (prepared : List PreparedJob) (all : List Replied) (more : List (EndedPass Call Reply))
+      → ArePrepared jobs prepared → Widened (new_pass v n) more own → Joined goes v own w → Triples PreparedJobWentAs prepared all more → JobsWent v jobs all w
+  jobs_went v own w n jobs prepared all more same wide joined went = (
     as_ended own,
     more,
     fan_ends goes v own w n more wide joined,
     wide.mine,
-    pairs_triples IsReady ReadyWentAs JobWentAs
+    pairs_triples IsPrepared PreparedJobWentAs JobWentAs
         (λ j r d e p q. subst (λ (k : ℕ). WentAs k j.steps.items d.items e) (sym p.0) (subst (λ (l : Vec Step). WentAs r.buffer.capacity l.items d.items e) (sym p.1) q))
-        jobs ready all more same went,
+        jobs prepared all more same went,
   )

@@ -1,8 +1,8 @@
 use Rattle.std.proofs.Common.{◌++◌, ◌∷◌, [], length, append_assoc, ap, sym, ◌∙◌, arith}
 use Rattle.std.proofs.lemmas.List.{length-append}
 use Rattle.warm_replica.proofs.PairLemmas.{pairs_more}
-use Rattle.warm_replica.specs.Fanning.{IsReady}
-use Rattle.warm_replica.proofs.fan.make_all_ready.Goals as goal
+use Rattle.warm_replica.specs.Fanning.{IsPrepared}
+use Rattle.warm_replica.proofs.fan.prepare_jobs.Goals as goal
 
 pub loop-job-init : goal.loop-job-init
 loop-job-init c = record {
@@ -18,8 +18,8 @@ loop-job-preserved c =
     let job = c.in-Some.job in
     record {
       same = rw c.push_reserved.ensures.items
-          (pairs_more IsReady so_far c.loop-job.all.items job c.in_ok-make_ready.field-0 c.loop-job.invariant.same c.in_ok-make_ready.ensures);
+          (pairs_more IsPrepared so_far c.loop-job.all.items job c.in_ok-prepare_job.field-0 c.loop-job.invariant.same c.in_ok-prepare_job.ensures);
       rest = append_assoc so_far (job ∷ []) c.next.new.self.rest.items ∙ (ap (λ r. so_far ++ r) (sym c.in-Some.ensures.steps.0) ∙ c.loop-job.invariant.rest);
-      count = ap length c.push_reserved.ensures.items ∙ omega (arith, length-append c.loop-job.all.items (c.in_ok-make_ready.field-0 ∷ []), length-append so_far (job ∷ []), c.loop-job.invariant.count);
+      count = ap length c.push_reserved.ensures.items ∙ omega (arith, length-append c.loop-job.all.items (c.in_ok-prepare_job.field-0 ∷ []), length-append so_far (job ∷ []), c.loop-job.invariant.count);
       capacity = omega (arith, c.push_reserved.ensures.capacity, c.loop-job.invariant.capacity);
     }

@@ -1,4 +1,4 @@
-//! Stations: loops over mail in threads of their own, and two of them that answer each other.
+//! Loops over mail in threads of their own, and two of them that answer each other.
 use crate::mail::{
     boxed, brings, brings_entries, brings_request, channel_of, digest_of, entry_at, mailed,
     outbox_of, report,
@@ -15,11 +15,11 @@ use test_kit::{NARROW, alone, entry, memory, page, replica, twice};
 use warm_devices::MemDevice;
 use warm_gossip::Node;
 use warm_pool::Pool;
-use warm_replica::{Absorbing, Mail, MailReport, Outbox, Station, run_stations};
+use warm_replica::{BatchMachine, Mail, MailLoop, MailReport, Outbox, run_mail_loops};
 
 // The counts of two machines of their mail, each in a thread of its own, until each has received a
 // Stop or this many items. Each is given with its mail and its outboxes.
-fn heard_by_both<M: Absorbing + Drop + Send, R: Threads + Wait + Abort + Sync>(
+fn heard_by_both<M: BatchMachine + Drop + Send, R: Threads + Wait + Abort + Sync>(
     rt: &R,
     alloc: Global,
     (first, to_first, of_first): (M, Receiver<Mail>, Vec<Outbox>),
@@ -28,20 +28,20 @@ fn heard_by_both<M: Absorbing + Drop + Send, R: Threads + Wait + Abort + Sync>(
 ) -> (MailReport, MailReport) {
     let (first, one) = opened(rt, alloc, first);
     let (second, two) = opened(rt, alloc, second);
-    let mut stations = Vec::with_capacity(alloc, 2).expect(rt, "memory for two stations");
-    stations.push_reserved(Station::new(&first, one, to_first, of_first));
-    stations.push_reserved(Station::new(&second, two, to_second, of_second));
-    ended(rt, alloc, stations, turns)
+    let mut loops = Vec::with_capacity(alloc, 2).expect(rt, "memory for two loops");
+    loops.push_reserved(MailLoop::new(&first, one, to_first, of_first));
+    loops.push_reserved(MailLoop::new(&second, two, to_second, of_second));
+    ended(rt, alloc, loops, turns)
 }
 
-// The counts of two stations.
-fn ended<M: Absorbing + Drop + Send, R: Threads + Wait + Abort + Sync>(
+// The counts of two mail loops.
+fn ended<M: BatchMachine + Drop + Send, R: Threads + Wait + Abort + Sync>(
     rt: &R,
     alloc: Global,
-    stations: Vec<Station<'_, M>>,
+    loops: Vec<MailLoop<'_, M>>,
     turns: u64,
 ) -> (MailReport, MailReport) {
-    let heard = run_stations(rt, alloc, stations, 1, turns).expect(rt, "threads");
+    let heard = run_mail_loops(rt, alloc, loops, 1, turns).expect(rt, "threads");
     match heard.as_slice() {
         [(_, one), (_, two)] => (*one, *two),
         _ => panic!(rt; "two loops end"),
@@ -132,7 +132,7 @@ fn heard_in_turn<R: Threads + Wait + Abort + Sync>(
 // entries for its own request. If one ran to its end before the other started, a late Stop would
 // end it, and its counts would be lower.
 #[test]
-fn two_stations_answer_each_other(rt: HostRuntime) {
+fn two_mail_loops_answer_each_other(rt: HostRuntime) {
     let alloc = rt.alloc();
     let first = asked(&rt, alloc, 1, 2);
     let second = asked(&rt, alloc, 2, 1);
