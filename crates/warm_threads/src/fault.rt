@@ -1,5 +1,4 @@
-//! Why a crew, which is a replica and its workers, did not finish its work or its exchange with the
-//! others.
+//! Why a replica's run did not end well: the work of its workers, or its exchange with the others.
 use crossbeam_channel::SendError;
 use std::alloc::{AllocError, AllocFailed};
 use thiserror::Error;
@@ -7,18 +6,18 @@ use warm_play_fault::PlayFault;
 use warm_replica::RunFault;
 use warm_turn::{Busy, Memory};
 
-/// Why a crew did not finish. Each fault is displayed as its name.
+/// Why a run did not end well. Each fault is displayed as its name.
 #[derive(Clone, Copy, Debug, Error)]
 pub(crate) enum ReplicaRunFault {
-    /// An allocation failed: the crew's own, a channel's, or the machine's, which then refuses a
+    /// An allocation failed: the run's own, a channel's, or the machine's, which then refuses a
     /// call. A worker's call for which no ticket is left also counts as this fault, and so does
-    /// mail that spells no message, which no crew sends.
+    /// mail that spells no message, which no replica sends.
     #[error("Memory")]
     Memory,
     /// A worker's thread could not be started, or left a call unfinished.
     #[error("NoThread")]
     NoThread,
-    /// A channel was closed: the crew that was to take its mail ended early.
+    /// A channel was closed: the replica that was to take its mail ended early.
     #[error("Closed")]
     Closed,
 }
@@ -83,7 +82,7 @@ impl From<Busy> for ReplicaRunFault {
     }
 }
 
-// The jobs of a crew have the setup's capacity, which is valid: they are never refused for it.
+// The jobs of a run have the setup's capacity, which is valid: they are never refused for it.
 impl From<RunFault> for ReplicaRunFault {
     ghost use Rattle.std.specs.Prelude.{◌≡◌};
     ghost use Rattle.warm_threads.specs.Faults.{run_fault_of_workers};

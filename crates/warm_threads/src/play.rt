@@ -20,9 +20,9 @@ ghost use Rattle.warm_threads.specs.Played.{Played};
 ghost use Rattle.warm_threads.specs.Refusals.{ThreadsPlayRefused, StopsThreads, ThreadsRefused};
 ghost use Rattle.warm_threads.specs.Works.{Went};
 
-use crate::crews::run_all;
 use crate::plan::jobs_in;
 use crate::reading::read_whole;
+use crate::runs::run_all;
 use std::alloc::Global;
 use std::io::{self, Read, Write};
 use std::sync::Wait;

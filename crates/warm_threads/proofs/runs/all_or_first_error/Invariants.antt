@@ -1,7 +1,7 @@
 use Rattle.std.proofs.Common.{◌≡◌, ◌++◌, Ok}
 use Rattle.std.specs.Vec.Iter.{into_iter_items}
 use Rattle.warm_replica.specs.Pairs.{Pairs}
-use Rattle.warm_threads.proofs.crews.all_or_first_error.Given as goal
+use Rattle.warm_threads.proofs.runs.all_or_first_error.Given as goal
 
 -- the values of the results so far
 abbrev pub invariant-loop-result : goal.invariant-loop-result

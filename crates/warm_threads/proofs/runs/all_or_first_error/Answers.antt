@@ -1,6 +1,6 @@
 use Rattle.std.proofs.Common.{◌≡◌, ◌∷◌, [], ◌++◌, Ok, append_assoc, ap, sym, ◌∙◌}
 use Rattle.warm_replica.proofs.PairLemmas.{pairs_more}
-use Rattle.warm_threads.proofs.crews.all_or_first_error.Goals as goal
+use Rattle.warm_threads.proofs.runs.all_or_first_error.Goals as goal
 
 pub loop-result-preserved : goal.loop-result-preserved
 loop-result-preserved g c =
