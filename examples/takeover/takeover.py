@@ -1,9 +1,12 @@
 #!/usr/bin/env python3
 """A standby that takes over, played on the page trace of a real database.
 
-usage: takeover.py setup                prints the setup of the two replicas
+usage: takeover.py setup [REPLICAS]     prints the setup, of two replicas unless it is said
        takeover.py schedule TRACE       prints a schedule for `warmplay play --setup SETUP`
        takeover.py answer TRACE         prints what `warmplay play` must print for it
+       takeover.py demo-schedule TRACE  prints the schedule of ./demo, for three replicas
+       takeover.py demo-answer TRACE    prints what `warmplay play` must print for that
+       takeover.py demo-table TRACE     prints hits and reads after the takeover of ./demo
 
 Each line of the trace (`r PAGE` or `w PAGE`) is one access, and the number of its line its time. Up to TAKEOVER replica 1, the
 primary, makes all accesses: a reference, a pin, a read or a write of eight bytes, an unpin. After every ROUND accesses it forgets
@@ -32,14 +35,22 @@ END = 24_000
 BUCKETS = 64
 ENTRIES_OF_A_FRAME = 1000
 
-SETUP = f"""\
-replicas = 2
+# of ./demo: a round of gossip after so many accesses, but none at the takeover, and how many accesses are shown
+DEMO_ROUND = 1000
+DEMO_ACCESSES = 400
+PRIMARY, WARM, COLD = 1, 2, 3
+
+
+def setup(replicas: int) -> str:
+    return f"""\
+replicas = {replicas}
 workers = 1
 buffer = {BUFFER}
 frames = {FRAMES}
 page_size = {PAGE_SIZE}
 device = [{{ pages = {PAGES} }}]
 """
+
 
 Stamp = tuple[int, int]  # a time, and the number of a replica
 History = dict[int, tuple[Stamp, ...]]  # of each page the latest stamp, and the one before it
@@ -69,6 +80,9 @@ class Replica:
     waiting: list[tuple[int, Stamp]] = field(default_factory=list)
     frames: list[Frame] = field(default_factory=lambda: [Frame() for _ in range(FRAMES)])
     device: dict[int, bytes] = field(default_factory=dict)
+    hits: int = 0
+    reads: int = 0
+    read_before: int = 0
 
     def hear(self, page: int, stamps: tuple[Stamp, ...]) -> None:
         """Stamps of a page come to the replica, which drops those before its horizon."""
@@ -111,6 +125,7 @@ class Replica:
             self.device[frame.page] = frame.data
         frame.page = page
         frame.generation += 1
+        self.reads += 1
         frame.data = self.device.get(page, bytes(PAGE_SIZE))
         return slot
 
@@ -134,11 +149,11 @@ class Replica:
 
 
 class World:
-    """Two replicas, and every message that was sent: what it is, the sender's horizon, and entries, digests or the buckets that a
+    """Some replicas, and every message that was sent: what it is, the sender's horizon, and entries, digests or the buckets that a
     request names."""
 
-    def __init__(self) -> None:
-        self.replicas = {1: Replica(1), 2: Replica(2)}
+    def __init__(self, replicas: int = 2) -> None:
+        self.replicas = {i: Replica(i) for i in range(1, replicas + 1)}
         self.sent: list[tuple[str, int, list]] = []
 
     def keep(self, kind: str, replica: Replica, content: list) -> int:
@@ -194,6 +209,7 @@ class World:
             yield f"flush {i} 1", ["ok"]
         resident = replica.slot_of(page)
         slot = replica.load(page) if resident is None else resident
+        replica.hits += resident is not None
         frame = replica.frames[slot]
         name = f"{slot}.{frame.generation}"
         yield f"pin {i} 0:{page}", [f"slot {name}"]
@@ -279,14 +295,64 @@ def steps(path: str) -> Iterator[Step]:
     yield world.horizon(1, 0)
 
 
+def demo_steps(path: str, world: World) -> Iterator[Step]:
+    """The primary makes all accesses, and the warm standby hears of them but for the last round, and loads its hottest pages. Then
+    all three make the same accesses, as if each were the one that goes on."""
+    for time, kind, page in accesses(path):
+        if time > TAKEOVER + DEMO_ACCESSES:
+            break
+        yield from world.access(PRIMARY, time, kind, page)
+        if time > TAKEOVER:
+            yield from world.access(WARM, time, kind, page)
+            yield from world.access(COLD, time, kind, page)
+        elif time == TAKEOVER:
+            yield from world.warm_up(WARM)
+            for replica in world.replicas.values():
+                replica.hits = 0
+                # what was read before, of which the table shows the warm-up's
+                replica.read_before, replica.reads = replica.reads, 0
+        elif time % DEMO_ROUND == 0:
+            yield world.flush(PRIMARY)
+            yield from world.gossip_round(PRIMARY, WARM)
+
+
+def demo_table(path: str) -> str:
+    world = World(3)
+    for _step in demo_steps(path, world):
+        pass
+    warmed = world.replicas[WARM].read_before
+    rows = [
+        (PRIMARY, "primary, had it gone on", ""),
+        (COLD, "cold standby", ""),
+        (WARM, "warm standby", f"   and {warmed} reads before the takeover"),
+    ]
+    lines = [
+        f"The first {DEMO_ACCESSES} accesses after a takeover: SQLite's page trace, {FRAMES} frames, {PAGES:,} pages",
+        "",
+        f"{'':24}  hits  reads",
+    ]
+    for number, name, note in rows:
+        replica = world.replicas[number]
+        lines.append(f"{name:24} {replica.hits:5}  {replica.reads:5}{note}")
+    return "".join(f"{line}\n" for line in lines)
+
+
 def main() -> None:
     match sys.argv[1:]:
         case ["setup"]:
-            sys.stdout.write(SETUP)
+            sys.stdout.write(setup(2))
+        case ["setup", replicas]:
+            sys.stdout.write(setup(int(replicas)))
         case ["schedule", path]:
             sys.stdout.writelines(f"{line}\n" for line, _answer in steps(path))
         case ["answer", path]:
             sys.stdout.writelines(f"{line}\n" for _line, answer in steps(path) for line in answer)
+        case ["demo-schedule", path]:
+            sys.stdout.writelines(f"{line}\n" for line, _answer in demo_steps(path, World(3)))
+        case ["demo-answer", path]:
+            sys.stdout.writelines(f"{line}\n" for _line, answer in demo_steps(path, World(3)) for line in answer)
+        case ["demo-table", path]:
+            sys.stdout.write(demo_table(path))
         case _:
             sys.exit(__doc__)
 

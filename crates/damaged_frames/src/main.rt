@@ -5,7 +5,7 @@
 //! pieces of that many bytes, and its result at the end. A frame is printed with its fields except
 //! the horizon, and with `same` where `encode` gives the bytes that it was read from, horizon
 //! included: those of a frame of the format `L2G2`. A frame of `L2G1`, which is only read, is
-//! `other`. `examples/damaged-frames/check` compares with a reader of its own.
+//! `other`. `checks/damaged-frames/check` compares with a reader of its own.
 #![tactic(auto)]
 
 use anyhow::{Context, Result, bail};

@@ -1,9 +1,9 @@
-//! Two replicas of a database in one program, each with its own buffer pool over a device in
-//! memory.
+//! A primary and a standby in one program, each with its own buffer pool over a device in memory.
 //!
-//! The primary absorbs references to pages. Messages, sent as bytes, bring them to the standby,
-//! until both histories are equal. The standby is restarted from a dump of its history. It loads the
-//! hottest pages before it takes over; then a page is pinned, written to and unpinned, and the
+//! The primary uses its working set, and then scans the table once. Messages, sent as bytes, bring
+//! its references to the standby, until both histories are equal. The standby is restarted from a
+//! dump of its history, loads the hottest pages, and takes over. A cold standby, which knows nothing,
+//! makes the same accesses: both print how many pages they read. Then a page is written to, and the
 //! standby shuts down in an orderly way. Each refusal is an error, and `?` returns it.
 #![tactic(auto)]
 
@@ -22,15 +22,21 @@ const FRAMES: usize = 4;
 
 const PAGE_SIZE: usize = 16;
 
+// The pages that are used again and again: as many as there are frames.
+const WORKING_SET: [u64; 4] = [1, 2, 3, 4];
+
+// The pages of a scan, each of which is used once.
+const SCAN: [u64; 8] = [10, 11, 12, 13, 14, 15, 16, 17];
+
+// The accesses after the takeover.
+const AFTER: [u64; 6] = [2, 4, 1, 3, 2, 1];
+
 // The maximum number of gossip rounds. Where all messages arrive, one round makes them equal.
-const MOST_ROUNDS: u32 = 3;
+const MAX_ROUNDS: u32 = 3;
 
 // A page of device 0.
-const fn page(no: u32) -> PageId {
-    PageId {
-        dev: 0,
-        no: no as u64,
-    }
+const fn page(no: u64) -> PageId {
+    PageId { dev: 0, no }
 }
 
 // A node without references, with a pool over a device of 64 pages.
@@ -42,8 +48,8 @@ fn opened(alloc: Global, number: u16) -> Result<Node<MemDevice>> {
     Ok(Node::new(alloc, ReplicaId::new(number)?, pool))
 }
 
-// References to these pages, one after the other, from a time on.
-fn refer(alloc: Global, node: &mut Node<MemDevice>, from: u64, pages: &[u32]) -> Result<()> {
+// A reference to each of these pages, one after the other, from a time on.
+fn refer(alloc: Global, node: &mut Node<MemDevice>, from: u64, pages: &[u64]) -> Result<()> {
     let replica = node.id();
     let mut batch = Vec::with_capacity(alloc, pages.len())?;
     let mut time = from;
@@ -56,6 +62,23 @@ fn refer(alloc: Global, node: &mut Node<MemDevice>, from: u64, pages: &[u32]) ->
     }
     node.absorb(&batch)?;
     Ok(())
+}
+
+// Accesses these pages one after the other, from a time on: each is pinned, referenced and
+// unpinned, since a pin is no reference. Returns how many of them were read from the device.
+fn access(alloc: Global, node: &mut Node<MemDevice>, from: u64, pages: &[u64]) -> Result<u32> {
+    let mut reads: u32 = 0;
+    let mut time = from;
+    for no in pages {
+        if !node.pool().resident(page(*no)) {
+            reads = reads.wrapping_add(1);
+        }
+        let slot = node.pin(page(*no))?;
+        refer(alloc, node, time, &[*no])?;
+        node.unpin(slot)?;
+        time = time.wrapping_add(1);
+    }
+    Ok(reads)
 }
 
 // Delivers a message's bytes to a node, and returns those of its answers.
@@ -89,7 +112,7 @@ fn make_equal(
     first: &mut Node<MemDevice>,
     second: &mut Node<MemDevice>,
 ) -> Result<u32> {
-    for round in 0..MOST_ROUNDS {
+    for round in 0..MAX_ROUNDS {
         let digests = encode(alloc, &first.offer()?)?;
         let entries_and_want = deliver(alloc, second, &digests)?;
         if entries_and_want.is_empty() {
@@ -130,7 +153,7 @@ fn warm(rt: &impl Print, node: &mut Node<MemDevice>) -> Result<()> {
 }
 
 // Pins a page, writes to it, reads it again and unpins it.
-fn change(node: &mut Node<MemDevice>, no: u32, text: &[u8]) -> Result<Vec<u8>> {
+fn change(node: &mut Node<MemDevice>, no: u64, text: &[u8]) -> Result<Vec<u8>> {
     let slot = node.pin(page(no))?;
     node.write(slot, 0, text)?;
     let bytes = node.read(slot, 0, text.len())?;
@@ -143,7 +166,9 @@ fn change(node: &mut Node<MemDevice>, no: u32, text: &[u8]) -> Result<Vec<u8>> {
 fn live(rt: &impl Print, alloc: Global) -> Result<Vec<u8>> {
     let mut primary = opened(alloc, 1)?;
     let mut standby = opened(alloc, 2)?;
-    refer(alloc, &mut primary, 1, &[3, 5, 3, 9, 5, 7])?;
+    let _reads = access(alloc, &mut primary, 1, &WORKING_SET)?;
+    let _reads = access(alloc, &mut primary, 5, &WORKING_SET)?;
+    let _reads = access(alloc, &mut primary, 9, &SCAN)?;
     let rounds = make_equal(alloc, &mut primary, &mut standby)?;
     println!(rt;
         "{} pages known after round {}",
@@ -153,7 +178,7 @@ fn live(rt: &impl Print, alloc: Global) -> Result<Vec<u8>> {
     dumped(alloc, &standby)
 }
 
-// The standby is restarted: a new node joins the history of the dump.
+// The standby is restarted: a new node joins the history of the dump, and loads its hottest pages.
 fn restarted(rt: &impl Print, alloc: Global, dump: &[u8]) -> Result<Node<MemDevice>> {
     let mut standby = opened(alloc, 2)?;
     restore(alloc, &mut standby, dump)?;
@@ -162,23 +187,31 @@ fn restarted(rt: &impl Print, alloc: Global, dump: &[u8]) -> Result<Node<MemDevi
         standby.history().len(),
         dump.len()
     )?;
+    warm(rt, &mut standby)?;
     Ok(standby)
 }
 
-// The primary is gone, and the standby takes over. A pin is not a reference, so it also absorbs one.
-fn take_over(rt: &impl Print, alloc: Global, standby: &mut Node<MemDevice>) -> Result<()> {
-    warm(rt, standby)?;
-    refer(alloc, standby, 7, &[5])?;
-    let bytes = change(standby, 5, b"warm")?;
-    println!(rt; "wrote {} bytes", bytes.len())?;
+// The primary is gone, and a standby takes over: how many pages does it read?
+fn take_over(
+    rt: &impl Print,
+    alloc: Global,
+    name: &str,
+    standby: &mut Node<MemDevice>,
+) -> Result<()> {
+    let reads = access(alloc, standby, 17, &AFTER)?;
+    println!(rt; "{}: {} reads for {} accesses", name, reads, AFTER.len())?;
     Ok(())
 }
 
 fn main(rt: HostRuntime) -> Result<()> {
     let alloc = rt.alloc();
     let dump = live(&rt, alloc)?;
+    let mut cold = opened(alloc, 3)?;
+    take_over(&rt, alloc, "cold standby", &mut cold)?;
     let mut standby = restarted(&rt, alloc, &dump)?;
-    take_over(&rt, alloc, &mut standby)?;
+    take_over(&rt, alloc, "warm standby", &mut standby)?;
+    let bytes = change(&mut standby, 2, b"warm")?;
+    println!(rt; "wrote {} bytes", bytes.len())?;
     standby.into_pool().close()?;
     println!(rt; "closed")?;
     Ok(())

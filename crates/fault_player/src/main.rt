@@ -1,4 +1,4 @@
-//! Plays over devices of which one call fails, for `examples/failing-devices/check`. A read, a write and a flush are calls, counted
+//! Plays over devices of which one call fails, for `checks/failing-devices/check`. A read, a write and a flush are calls, counted
 //! from 1.
 //!
 //! - `play CALL FRAMES`: a schedule from standard input, as `warmplay` plays it, over one replica with one worker and this many

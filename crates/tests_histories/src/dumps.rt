@@ -1,4 +1,4 @@
-//! Dumps: their bytes, as a program apart spells them (`examples/dumps/vectors`), and which bytes are dumps of one history.
+//! Dumps: their bytes, as a program apart spells them (`checks/dumps/vectors`), and which bytes are dumps of one history.
 use crate::digests::FOUR_PAGES;
 use crate::histories::are_equal;
 use sha2::{Digest, Sha256};

@@ -18,7 +18,7 @@ use Rattle.warm_frames.specs.declared.fault.FrameFault.TheVariants as frame_faul
 use Rattle.warm_frames.specs.declared.message.Message.{Message}
 use Rattle.warm_frames.specs.declared.message.Message.TheVariants.{Entries, Digest, Want}
 use Rattle.warm_frames.specs.Pieces.{DecoderState, Inside, IsIncomplete, Breaks, FeedStep, SpellAll, texts_of}
-use Rattle.warm_frames.specs.Pieces.{TakesPiece as TakesBytes}
+use Rattle.warm_frames.specs.Pieces.{TakesPiece}
 use Rattle.warm_frames.specs.Reading.{read_frame}
 use Rattle.warm_frames.specs.Spelling.{Encodes}
 use Rattle.warm_frames.proofs.FrameLemmas.{frame_read}
@@ -27,7 +27,7 @@ use Rattle.warm_digest.specs.BucketDigests.{digests_of}
 use Rattle.warm_files.specs.declared.fault.DumpFault.{DumpFault}
 use Rattle.warm_files.specs.declared.fault.DumpFault.TheVariants.{Frame, CutShort, DigestsDiffer, HorizonsDiffer, MoreFollows}
 use Rattle.warm_files.specs.declared.reading.Gathered.{Gathered}
-use Rattle.warm_files.specs.Gathering.{Agrees, AreAt, references_at, Gathers, HasRead, TakesPiece, Rejects, IsRefusedForGood}
+use Rattle.warm_files.specs.Gathering.{Agrees, AreAt, references_at, Gathers, HasRead, TakesMessage, Rejects, IsRefusedForGood}
 use Rattle.warm_files.specs.Reading.{IsEntriesAt, AreEntriesAt, IsPartAt, brought, entries_brought, references_in, history_of_messages, Begins, IsDump, EndsWithDigests, EndsAt, ShowsFrameFault, IsDumpRefused}
 
 -- ---- texts one after the other
@@ -230,7 +230,7 @@ took_digests seen piece n sender horizon digests old new g spelt agrees takes sa
 -- either
 pub took_frame : (seen piece : List ℕ) (n : ℕ) (frame : Message) (old mid new : Gathered) → Gathers seen old
     → ((begun : List ℕ) → old.decoder ≡ Inside begun → Encodes (begun ++ take n piece) frame × (new.decoder ≡ Inside []))
-    → mid.history ≡ old.history → mid.horizon ≡ old.horizon → TakesPiece mid frame new
+    → mid.history ≡ old.history → mid.horizon ≡ old.horizon → TakesMessage mid frame new
     → new.seen ≡ length (seen ++ take n piece) → new.at ≡ length (seen ++ take n piece) → HasRead (seen ++ take n piece) new
 took_frame seen piece n (Entries sender horizon es) old mid new g feeds history known takes all here =
     let fed = feeds g.begun g.held in
@@ -247,15 +247,15 @@ took_frame seen piece n (Digest sender horizon digests) old mid new g feeds hist
 took_frame seen piece n (Want sender horizon request) old mid new g feeds history known takes all here = absurd takes
 
 -- where the frames end is no part of what a frame adds
-pub takes_placed : (frame : Message) (old new : Gathered) (at : ℕ) → TakesPiece old frame new → TakesPiece old frame (record new { at = at })
+pub takes_placed : (frame : Message) (old new : Gathered) (at : ℕ) → TakesMessage old frame new → TakesMessage old frame (record new { at = at })
 takes_placed (Entries sender horizon es) old new at takes = takes
 takes_placed (Digest sender horizon digests) old new at takes = takes
 takes_placed (Want sender horizon request) old new at takes = takes
 
 -- what a feed did, of a decoder inside a frame
-fed_inside : (piece : List ℕ) (fed : Fed) (frame : Option Message) (old next : DecoderState) → FeedStep old piece (Ok fed) next → fed.frame ≡ frame → (b : List ℕ) → old ≡ Inside b → TakesBytes b piece fed.taken frame next
+fed_inside : (piece : List ℕ) (fed : Fed) (frame : Option Message) (old next : DecoderState) → FeedStep old piece (Ok fed) next → fed.frame ≡ frame → (b : List ℕ) → old ≡ Inside b → TakesPiece b piece fed.taken frame next
 fed_inside piece fed frame old next feeds is b inside =
-    subst (λ (o : Option Message). TakesBytes b piece fed.taken o next) is (subst (λ (d : DecoderState). FeedStep d piece (Ok fed) next) inside feeds)
+    subst (λ (o : Option Message). TakesPiece b piece fed.taken o next) is (subst (λ (d : DecoderState). FeedStep d piece (Ok fed) next) inside feeds)
 
 pub part_read : (seen piece : List ℕ) (fed : Fed) (old new : Gathered) → Gathers seen old → FeedStep old.decoder piece (Ok fed) new.decoder → fed.frame ≡ None
     → new.history ≡ old.history → new.horizon ≡ old.horizon → new.whole ≡ false → new.seen ≡ old.seen + fed.taken → new.at ≡ old.at → HasRead (seen ++ take fed.taken piece) new
@@ -264,7 +264,7 @@ part_read seen piece fed old new g feeds none history horizon unclosed more same
     took_part seen piece fed.taken old new g (f g.begun g.held).0 (λ b is. ((f b is).1, (f b is).2)) history horizon unclosed more same
 
 pub whole_read : (seen piece : List ℕ) (fed : Fed) (frame : Message) (old mid new : Gathered) → Gathers seen old → FeedStep old.decoder piece (Ok fed) mid.decoder → fed.frame ≡ Some frame
-    → mid.history ≡ old.history → mid.horizon ≡ old.horizon → new.decoder ≡ mid.decoder → TakesPiece mid frame new
+    → mid.history ≡ old.history → mid.horizon ≡ old.horizon → new.decoder ≡ mid.decoder → TakesMessage mid frame new
     → new.seen ≡ old.seen + fed.taken → new.at ≡ new.seen → HasRead (seen ++ take fed.taken piece) new
 whole_read seen piece fed frame old mid new g feeds some history horizon same takes more here =
     let f = fed_inside piece fed (Some frame) old.decoder mid.decoder feeds some in

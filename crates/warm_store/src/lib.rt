@@ -5,7 +5,7 @@
 //!
 //! Contracts say which step may fail in which call, and no more: no contract can say what a file system does. Only tested: after a
 //! kill at any moment the path names the old file or the new one, whole; after a failure the old file is as it was, and no draft is
-//! left (`examples/dumps`). Neither proved nor tested: what a loss of power leaves.
+//! left (`checks/dumps`). Neither proved nor tested: what a loss of power leaves.
 #![tactic(auto)]
 
 mod draft;

@@ -5,14 +5,14 @@ use Rattle.std.proofs.lemmas.List.{get_or-set_same, get_or-set_other, length-map
 use Rattle.std.proofs.lemmas.Bool.{cases_eq}
 use Rattle.warm_gossip.specs.declared.fault.NodeFault.{NodeFault}
 use Rattle.warm_gossip.specs.declared.fault.NodeFault.TheVariants.{Pool}
-use Rattle.warm_gossip.specs.State.{NodeState, NodeView, empty_node as no_node}
+use Rattle.warm_gossip.specs.State.{NodeState, NodeView, empty_node}
 use Rattle.warm_gossip.specs.Step.{IsFailed, OnPool}
 use Rattle.warm_pool.specs.declared.fault.PoolFault.TheVariants.{Fault}
 use Rattle.warm_world.specs.Opening.{FailsAtPlace, FailsOf, FinishFails, StopsInOrder, with_pool}
 use Rattle.warm_pool.specs.State.{IsSettled}
 use Rattle.warm_world.specs.declared.world.World.{World}
 use Rattle.warm_world.specs.Views.{AreSameBut, AreSameFrom, AreSettledBefore, IsSettledBefore, ReplicaView, WorldView, world_view}
-use Rattle.warm_world.specs.States.{ReplicaState, empty_node, replica, set_replica}
+use Rattle.warm_world.specs.States.{ReplicaState, no_replica, replica, set_replica}
 use Rattle.warm_world.specs.Stands.{CountsFailure, ReplicaStands, StandsFor}
 use Rattle.warm_world.proofs.Pairs.{Pairwise-set}
 use Rattle.warm_world.proofs.Worlds.{shown_at, world, world_stays}
@@ -75,9 +75,9 @@ stops_in_order old mid new k same settled later kept did =
 pub fails_stand : (old new : WorldView) → FailsOf old new → CountsFailure old new
 fails_stand old new fails m st =
     let k = fails.replica in
-    let other : ReplicaView = record { node = no_node; buffers = [] } in
+    let other : ReplicaView = record { node = empty_node; buffers = [] } in
     let r : ReplicaView = get_or old.replicas k other in
-    let was : ReplicaStands m.capacity k r (replica m k) = st.replicas.each k other empty_node fails.there in
+    let was : ReplicaStands m.capacity k r (replica m k) = st.replicas.each k other no_replica fails.there in
     let after : ReplicaState = record (replica m k) { pool = fails.pool } in
     let stands : ReplicaStands m.capacity k (with_pool r fails.pool) after = record {
       has_capacity = was.has_capacity;

@@ -5,11 +5,11 @@ use Rattle.std.proofs.Math.ListN.{get_or-map}
 use Rattle.std.proofs.lemmas.Bool.{cases_lt}
 use Rattle.std.proofs.lemmas.List.{get_or_past, length-map}
 use Rattle.warm_stamps.specs.declared.PageId.{PageId}
-use Rattle.warm_pool.specs.State.{fresh_pool as opened_pool}
+use Rattle.warm_pool.specs.State.{fresh_pool}
 use Rattle.warm_pool.specs.View.{PoolView, view_of}
 use Rattle.warm_gossip.specs.declared.call.Call.TheVariants as call
 use Rattle.warm_gossip.specs.declared.call.Reply.TheVariants as reply
-use Rattle.warm_gossip.specs.State.{NodeState, NodeView, fresh_pool, node_view}
+use Rattle.warm_gossip.specs.State.{NodeState, NodeView, opened_node, node_view}
 use Rattle.warm_gossip.specs.Step.{Step}
 use Rattle.warm_gossip.specs.WarmUps.{PagesDiffer, WarmSteps}
 use Rattle.warm_gossip.proofs.WarmUpLemmas.{pages_differ}
@@ -77,7 +77,7 @@ bare_differs i j p first second = absurd (let never : None ≡ Some p = first in
 
 -- what a reader beyond the last node or replica gets
 no_node : NodeState
-no_node = fresh_pool 0 (opened_pool 0 0 [])
+no_node = opened_node 0 (fresh_pool 0 0 [])
 
 abbrev unseen : ReplicaView
 unseen = record { node = node_view no_node; buffers = [] }
