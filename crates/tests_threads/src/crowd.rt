@@ -3,7 +3,7 @@
 ghost use Rattle.std.specs.Prelude.{◌≡◌};
 
 use crate::jobs::run;
-use crate::setup::{fresh, listed, turn_over};
+use crate::setup::{fresh_node, listed, turn_over};
 use std::alloc::Global;
 use std::process::Abort;
 use std::sync::Wait;
@@ -169,7 +169,7 @@ fn are_of_one_history(rt: &impl Abort, alloc: Global, all: &[Vec<StepReply>]) ->
 #[test]
 fn flushes_of_eight_jobs_are_in_one_order(rt: HostRuntime) {
     for _ in 0..RUNS {
-        let all = answered(&rt, rt.alloc(), fresh(&rt, rt.alloc()));
+        let all = answered(&rt, rt.alloc(), fresh_node(&rt, rt.alloc()));
         assert!(rt; are_of_one_history(&rt, rt.alloc(), &all));
     }
 }

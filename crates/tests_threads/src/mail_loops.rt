@@ -3,7 +3,7 @@ use crate::mail::{
     boxed, brings, brings_entries, brings_request, channel_of, digest_of, entry_at, mailed,
     outbox_of, report,
 };
-use crate::setup::{comes, fresh, opened};
+use crate::setup::{comes, fresh_node, turn_and_worker};
 use crossbeam_channel::{Receiver, Sender};
 use std::alloc::Global;
 use std::process::Abort;
@@ -26,8 +26,8 @@ fn heard_by_both<M: BatchMachine + Drop + Send, R: Threads + Wait + Abort + Sync
     (second, to_second, of_second): (M, Receiver<Mail>, Vec<Outbox>),
     turns: u64,
 ) -> (MailReport, MailReport) {
-    let (first, one) = opened(rt, alloc, first);
-    let (second, two) = opened(rt, alloc, second);
+    let (first, one) = turn_and_worker(rt, alloc, first);
+    let (second, two) = turn_and_worker(rt, alloc, second);
     let mut loops = Vec::with_capacity(alloc, 2).expect(rt, "memory for two loops");
     loops.push_reserved(MailLoop::new(&first, one, to_first, of_first));
     loops.push_reserved(MailLoop::new(&second, two, to_second, of_second));
@@ -61,8 +61,8 @@ fn heard_by_nodes<R: Threads + Wait + Abort + Sync>(
     heard_by_both(
         rt,
         alloc,
-        (fresh(rt, alloc), to_first, Vec::new(alloc)),
-        (fresh(rt, alloc), to_second, boxes),
+        (fresh_node(rt, alloc), to_first, Vec::new(alloc)),
+        (fresh_node(rt, alloc), to_second, boxes),
         10,
     )
 }

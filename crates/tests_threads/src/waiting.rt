@@ -1,6 +1,6 @@
 //! A page is read while another thread touches what it has referenced: a touch never waits.
-use crate::jobs::{FIRST, ran};
-use crate::setup::{comes, list_of, over};
+use crate::jobs::{FIRST, run_over};
+use crate::setup::{comes, list_of, node_over};
 use std::alloc::Global;
 use std::process::Abort;
 use std::sync::atomic::{AtomicU64, Ordering};
@@ -126,7 +126,7 @@ fn pins_and_touches<
     R: Threads + Wait + Abort + Sync,
     G: Gate + Sync,
 >(rt: &R, alloc: Global, machine: M, gate: &G) -> (Replies, Replies) {
-    let (ran, _machine) = ran(rt, alloc, machine, two_jobs(rt, alloc), gate);
+    let (ran, _machine) = run_over(rt, alloc, machine, two_jobs(rt, alloc), gate);
     let mut replies = ran.expect(rt, "the jobs run");
     let touched = replies.pop().expect(rt, "the touch is answered");
     let pinned = replies.pop().expect(rt, "the pin is answered");
@@ -151,7 +151,7 @@ fn are_answered<R: Clock + Threads + Wait + Abort + Sync>(
     clock: HostRuntime,
     flags: &Arc<Flags, Global>,
 ) -> bool {
-    let node = over(rt, alloc, 1, slow_device(rt, alloc, clock, flags));
+    let node = node_over(rt, alloc, 1, slow_device(rt, alloc, clock, flags));
     let gate = WhileRead { clock: rt, flags };
     let (pinned, touched) = pins_and_touches(rt, alloc, node, &gate);
     let pinned = list_of(rt, alloc, pinned);

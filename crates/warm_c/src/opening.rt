@@ -117,7 +117,7 @@ pub fn open(
     page_size: usize,
     devices: &[WarmDevice],
 ) -> Result<Held, Refusal>
-    ensures opened_handle { IfOk result (λ held.
+    ensures opened { IfOk result (λ held.
         held ≡ opened_handle (open_request replica frames page_size devices.now)) }
     ensures is_asked { OnOk result (IsAsked (open_request replica frames page_size devices.now)) }
     ensures refused { IfErr result (IsUnopened (open_request replica frames page_size devices.now)) }

@@ -103,7 +103,7 @@ impl<D: PageDevice> Pool<D> {
         devices: Vec<D>,
     ) -> Result<Pool<D>, NewPoolError<D>>
         requires few { length devices.items ≤ MAX_DEVICES }
-        ensures fresh_pool { IfOk result (λ pool. pool
+        ensures opened { IfOk result (λ pool. pool
             ≡ fresh_pool frames page_size (map D.state devices.items)) }
         ensures ranked { IfOk result (λ pool. IsRankedByAll (pool)) }
         ensures refused { IfErr result (λ unmade. NewPoolRefused frames page_size

@@ -15,7 +15,8 @@ use Rattle.warm_gossip.specs.declared.call.Reply.{Reply}
 use Rattle.warm_gossip.specs.declared.call.Reply.TheVariants.{Sent, Answers}
 use Rattle.warm_gossip.specs.Pieces.{last_page}
 use Rattle.warm_replica.specs.Jobs.{Calls}
-use Rattle.warm_threads.specs.Exchanges.{entries_in, IsReceipt, SendsAll, SendsBucket}
+use Rattle.warm_frames.specs.Limits.{entries_in}
+use Rattle.warm_threads.specs.Exchanges.{IsReceipt, SendsAll, SendsBucket}
 use Rattle.warm_threads.specs.Numbers.{NumberedFrom}
 use Rattle.warm_threads.specs.Works.{LeadsBy}
 use Rattle.warm_threads.proofs.Numberings.{numbered_more}

@@ -43,7 +43,8 @@ abbrev pub bad_or : Option (Option Ask) → ℕ → Option ℕ → Option ℕ
 bad_or None number later = Some number
 bad_or (Some said) number later = later
 
--- the number of the first of these lines that threads can't play, where the first of all has this number
+-- the number of the first of these lines that threads can't play, where the first of all has this
+-- number
 abbrev pub bad_from : Sizes → ℕ → List (List ℕ) → Option ℕ
 bad_from s number [] = None
 bad_from s number (line ∷ rest) = bad_or (asked s line) number (bad_from s (number + 1) rest)

@@ -62,7 +62,8 @@ pub record IsJobOf (s : Sizes) (asks : List Ask) (i w : ℕ) (job : Job) : Type 
   pub capacity : job.capacity ≡ s.buffer
   pub steps : job.steps.items ≡ (plan_of s asks i w).steps ++ Flush ∷ []
 
--- a list of jobs for each replica, in each the job of each worker; replicas and workers are counted from 1
+-- a list of jobs for each replica, in each the job of each worker; replicas and workers are counted
+-- from 1
 pub record AreJobsOf (s : Sizes) (asks : List Ask) (jobs : List (Vec Job)) : Type 0 where
   pub replicas : length jobs ≡ s.replicas
   pub workers : All (λ list. length list.items ≡ s.workers) jobs

@@ -3,11 +3,12 @@ ghost use Rattle.std.specs.Prelude.{◌≡◌, ◌<◌, ◌≤◌, List, length,
 ghost use Rattle.std.specs.List.{All};
 ghost use Rattle.warm_frames.specs.declared.layout.TheConstants.{MAX_ENTRIES};
 ghost use Rattle.warm_frames.specs.declared.message.Message.{Message};
+ghost use Rattle.warm_frames.specs.Limits.{entries_in};
 ghost use Rattle.warm_frames.specs.Spelling.{Encodes};
 ghost use Rattle.warm_gossip.specs.declared.call.Call.TheVariants.{Send, Receive};
 ghost use Rattle.warm_gossip.specs.declared.call.Reply.TheVariants.{Sent, Answers};
 ghost use Rattle.warm_gossip.specs.Pieces.{last_page};
-ghost use Rattle.warm_threads.specs.Exchanges.{entries_in, IsReceipt, SendsAll, SendsBucket};
+ghost use Rattle.warm_threads.specs.Exchanges.{IsReceipt, SendsAll, SendsBucket};
 ghost use Rattle.warm_threads.specs.Works.{LeadsBy};
 
 use crate::fault::ReplicaRunFault;
@@ -25,7 +26,8 @@ pub(crate) const MAX_MAIL: u64 = 1_000_000;
 /// One item of mail: what a channel carries to the replica whose mail it is.
 #[derive(Drop)]
 pub(crate) enum SharedMail {
-    /// Bytes that spell a message. All replicas that it is sent to share them: they are freed when the last has received it.
+    /// Bytes that spell a message. All replicas that it is sent to share them: they are freed when
+    /// the last has received it.
     Bytes(Arc<ByteList, Global>),
     /// The sign that a sender is done.
     Stop,
@@ -52,7 +54,8 @@ fn post_stops<R: Wait>(rt: &R, boxes: &[Sender<SharedMail>]) -> Result<(), Repli
     Ok(())
 }
 
-// The page after which more of the bucket may follow: the last one of a message that is full. `None` where nothing follows.
+// The page after which more of the bucket may follow: the last one of a message that is full.
+// `None` where nothing follows.
 fn next_after(message: &Message) -> Option<PageId>
     ensures full { IfSome result (λ page. MAX_ENTRIES ≤ length (entries_in message.now)) }
     ensures last { IfSome result (λ page. last_page (entries_in message.now) ≡ Some page) }
@@ -136,8 +139,8 @@ pub(crate) fn send_all<M: Machine<Call = Call, Reply = Reply> + Drop, R: Wait>(
     Ok(machine)
 }
 
-// Has the machine receive the message that the bytes spell. Its answers are dropped: entries have none, and no replica sends another
-// kind of message.
+// Has the machine receive the message that the bytes spell. Its answers are dropped: entries have
+// none, and no replica sends another kind of message.
 fn receive<M: Machine<Call = Call, Reply = Reply>>(
     alloc: Global,
     machine: &mut M,
@@ -178,10 +181,10 @@ pub(crate) fn hear_all<M: Machine<Call = Call, Reply = Reply> + Drop, R: Wait>(
         if missing == 0 {
             return Ok(machine);
         }
-        let Ok(parcel) = receiver.recv(rt) else {
+        let Ok(item) = receiver.recv(rt) else {
             return Ok(machine);
         };
-        match parcel {
+        match item {
             SharedMail::Bytes(bytes) => receive(alloc, &mut machine, bytes.as_slice())?,
             SharedMail::Stop => missing -= 1,
         }

@@ -45,7 +45,8 @@ impl Plan {
         }
     }
 
-    // Plans one more reference, or a flush where there is none. The buffer holds `capacity` references.
+    // Plans one more reference, or a flush where there is none. The buffer holds `capacity`
+    // references.
     fn add(&mut self, capacity: usize, asked: Option<Reference>) -> Result<(), AllocError>
         requires { IsCapacity capacity }
         ensures { OnOk result (self.new ≡ plan_ask capacity self.old asked) }

@@ -207,8 +207,8 @@ fn runs_of<M: Drop>(
     Ok(runs)
 }
 
-/// Has each machine's workers do their jobs, in threads of their own, and then has each machine send
-/// every bucket whole to each other, and receive what was sent to it.
+/// Has each machine's workers do their jobs, in threads of their own, and then has each machine
+/// send every bucket whole to each other, and receive what was sent to it.
 ///
 /// # Errors
 /// `Memory`: an allocation failed, including one of a worker, of a machine or of a channel.
