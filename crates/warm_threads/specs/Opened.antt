@@ -10,7 +10,7 @@ use Rattle.warm_world.specs.Sizes.{Sizes}
 -- the node of this number over these devices: its history is that of no references, and its pool
 -- has no page
 abbrev pub opened_node : Sizes → ℕ → List DeviceState → NodeState
-opened_node s i devices = node.opened i (fresh_pool s.frames s.page_size devices)
+opened_node s i devices = node.opened_node i (fresh_pool s.frames s.page_size devices)
 
 -- a node over each list of devices, of which the first has this number
 abbrev pub opened_nodes : Sizes → ℕ → List (List DeviceState) → List NodeState
