@@ -132,7 +132,7 @@ fn entries_in(frame: Option<BoxedMessage>) -> u64 {
     }
 }
 
-// FeedStep all of a piece, and counts the entries of the frames that end in it. `None` at a fault.
+// Feeds all of a piece, and counts the entries of the frames that end in it. `None` at a fault.
 fn feed_all(decoder: &mut Decoder, piece: &[u8]) -> Option<u64> {
     let mut count = 0u64;
     let mut rest = piece;

@@ -97,7 +97,7 @@ struct Reader<'a> {
     begun: usize,
 }
 
-// FeedStep the rest of a piece, once. `false` after a fault.
+// Feeds the rest of a piece, once. `false` after a fault.
 fn put_fed<W: Write>(
     alloc: Global,
     writer: &mut W,
@@ -126,7 +126,7 @@ fn put_fed<W: Write>(
     }
 }
 
-// FeedStep a piece until all of it is consumed. `false` after a fault.
+// Feeds a piece until all of it is consumed. `false` after a fault.
 fn put_piece<W: Write>(
     alloc: Global,
     writer: &mut W,

@@ -123,7 +123,7 @@ fn decoded<P: Print>(rt: &P, alloc: Global, bytes: &[u8]) -> Result<Message, End
     Ok(message)
 }
 
-// FeedStep a piece that lies in the frame, and returns whether the frame is complete with it.
+// Feeds a piece that lies in the frame, and returns whether the frame is complete with it.
 fn is_whole_with(decoder: &mut Decoder, piece: &[u8]) -> Result<bool, Ended> {
     match decoder.feed(piece) {
         Ok(fed) => Ok(fed.frame.is_some()),

@@ -42,7 +42,7 @@ fn spelled(met: &mut Met, alloc: Global, frame: &Message, wanted: &[u8]) -> Resu
     met.holds(bytes.as_slice() == wanted, "a frame is written in one way")
 }
 
-// FeedStep a piece that lies in the frame. A refusal consumes nothing, so the same piece is fed again.
+// Feeds a piece that lies in the frame. A refusal consumes nothing, so the same piece is fed again.
 fn fed(met: &mut Met, decoder: &mut Decoder, piece: &[u8]) -> Result<Option<BoxedMessage>, Ended> {
     let Fed { taken, frame } = match decoder.feed(piece) {
         Ok(fed) => fed,

@@ -9,7 +9,7 @@ use std::process::Abort;
 use test_kit::{NARROW, WIDE};
 use warm_frames::{Decoder, FrameFault};
 
-// FeedStep the start of a piece, and appends the encoding of a returned frame to the text. Returns the
+// Feeds the start of a piece, and appends the encoding of a returned frame to the text. Returns the
 // number of consumed bytes.
 fn feed_some(
     rt: &impl Abort,
@@ -27,7 +27,7 @@ fn feed_some(
     taken
 }
 
-// FeedStep a whole piece, and appends the spellings of the returned frames to the text.
+// Feeds a whole piece, and appends the spellings of the returned frames to the text.
 fn feed_all(
     rt: &impl Abort,
     alloc: Global,
