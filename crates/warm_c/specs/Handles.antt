@@ -77,7 +77,7 @@ pub record IsAsked (a : OpenRequest) : Type 0 where
 -- a node that was given nothing, over a pool without a page; no answer waits, and no time is later than the limit
 abbrev pub opened_handle : OpenRequest → Held
 opened_handle a = record {
-  node = nodes.opened a.replica (pools.opened a.frames a.page_size (fd_devices a.page_size a.devices));
+  node = nodes.opened_node a.replica (pools.fresh_pool a.frames a.page_size (fd_devices a.page_size a.devices));
   answers = [];
   given = 0;
   limit = 2 ^ 64 - 1;
