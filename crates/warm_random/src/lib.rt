@@ -1,7 +1,8 @@
 //! Schedules drawn at random: the same lines for the same seed, everywhere.
 //!
-//! The words are those of the generator PCG32 (`Lcg64Xsh32` of the crate `rand_pcg`), which takes the seed as its state
-//! and 1 as its stream. docs/FORMATS.md has the table of the lines and the order in which their fields are drawn.
+//! The words are those of the generator PCG32 (`Lcg64Xsh32` of the crate `rand_pcg`), which takes
+//! the seed as its state and 1 as its stream. docs/FORMATS.md has the table of the lines and the
+//! order in which their fields are drawn.
 #![tactic(auto)]
 
 ghost use Rattle.std.specs.Prelude.{◌≡◌, ◌≤◌, ◌<◌, ◌+◌, ◌^◌, OnOk};
