@@ -34,10 +34,10 @@ pub enum Line {
         replica: u64,
         bucket: u64,
     },
-    /// `deliver REPLICA FRAME`: the number of a message that was sent before, or of the next one.
+    /// `deliver REPLICA MESSAGE`: the number of a message that was sent before, or of the next one.
     Deliver {
         replica: u64,
-        frame: u64,
+        message: u64,
     },
     /// `show REPLICA`
     Show {
@@ -69,7 +69,7 @@ impl Line {
             } => writeln!(writer, "ref {replica} {worker} 0:{page} {time}"),
             Line::Flush { replica, worker } => writeln!(writer, "flush {replica} {worker}"),
             Line::Send { replica, bucket } => writeln!(writer, "send {replica} {bucket}"),
-            Line::Deliver { replica, frame } => writeln!(writer, "deliver {replica} {frame}"),
+            Line::Deliver { replica, message } => writeln!(writer, "deliver {replica} {message}"),
             Line::Show { replica } => writeln!(writer, "show {replica}"),
         }
     }
@@ -115,7 +115,7 @@ fn draw_line(words: &mut Lcg64Xsh32, replicas: u64, workers: u64, time: u64, sen
         },
         6 => Line::Deliver {
             replica: up_to(words, replicas),
-            frame: up_to(words, sends + 1),
+            message: up_to(words, sends + 1),
         },
         _ => Line::Show {
             replica: up_to(words, replicas),
