@@ -4,8 +4,10 @@ use Rattle.warm_stamps.specs.declared.PageId.{PageId}
 use Rattle.warm_stamps.specs.declared.Reference.{Reference}
 use Rattle.warm_world.specs.Sizes.{Sizes}
 use Rattle.warm_schedule.specs.Grammar.{meaning}
-use Rattle.warm_schedule.specs.Workers.{worker_line_in}
-use Rattle.warm_schedule.specs.declared.worker.WorkerLine.{WorkerLine}
+use Rattle.warm_schedule.specs.Workers.{worker_request_in}
+use Rattle.warm_schedule.specs.declared.worker.NotForWorker.{NotForWorker}
+use Rattle.warm_schedule.specs.declared.worker.WorkerRequest.{WorkerRequest}
+use Rattle.warm_schedule.specs.declared.worker.WorkerRequest.TheVariants as request
 use Rattle.warm_play_fault.specs.declared.PlayFault.{PlayFault}
 use Rattle.warm_play_fault.specs.declared.PlayFault.TheVariants.{BadLine}
 use Rattle.warm_threads.specs.declared.ask.Ask.{Ask}
@@ -22,16 +24,11 @@ abbrev pub has_worker : Sizes → ℕ → ℕ → Bool
 has_worker s i w = is_number i s.replicas && is_number w s.workers
 
 -- a reference to a page at a time that the replica of a number makes
-abbrev pub reference : ℕ → (PageId × ℕ) → Reference
-reference i made = record { page = made.0; stamp = record { time = made.1; replica = i } }
+abbrev pub reference : ℕ → PageId → ℕ → Reference
+reference i page time = record { page = page; stamp = record { time = time; replica = i } }
 
--- to make a reference, or to flush where there is none
-abbrev pub task_of : ℕ → Option (PageId × ℕ) → Task
-task_of i None = task.Flush
-task_of i (Some made) = task.Reference (reference i made)
-
-abbrev pub ask : WorkerLine → Ask
-ask line = record { replica = line.replica; worker = line.worker; task = task_of line.replica line.reference }
+abbrev pub ask : ℕ → ℕ → Task → Ask
+ask i w task = record { replica = i; worker = w; task = task }
 
 abbrev pub not_playable : NotPlayable
 not_playable = record {}
@@ -40,20 +37,24 @@ not_playable = record {}
 abbrev pub ask_if : Bool → Ask → Result Ask NotPlayable
 ask_if there a = if there then Ok a else Err not_playable
 
+abbrev pub ask_in : Sizes → WorkerRequest → Result Ask NotPlayable
+ask_in s (request.Reference i w page time) = ask_if (has_worker s i w) (ask i w (task.Reference (reference i page time)))
+ask_in s (request.Flush i w) = ask_if (has_worker s i w) (ask i w task.Flush)
+
 abbrev pub as_said : Result Ask NotPlayable → Result (Option Ask) NotPlayable
 as_said (Ok a) = Ok (Some a)
 as_said (Err e) = Err e
 
 -- a request to a worker, or nothing; not playable where the line is bad or is not a request to a
 -- worker, or the setup has no such worker
-abbrev pub asked_in : Sizes → Option (Option WorkerLine) → Result (Option Ask) NotPlayable
-asked_in s None = Err not_playable
-asked_in s (Some None) = Ok None
-asked_in s (Some (Some line)) = as_said (ask_if (has_worker s line.replica line.worker) (ask line))
+abbrev pub asked_in : Sizes → Result (Option WorkerRequest) NotForWorker → Result (Option Ask) NotPlayable
+asked_in s (Err e) = Err not_playable
+asked_in s (Ok None) = Ok None
+asked_in s (Ok (Some said)) = as_said (ask_in s said)
 
 -- the request of a line, or nothing
 abbrev pub asked : Sizes → List ℕ → Result (Option Ask) NotPlayable
-asked s line = asked_in s (worker_line_in (meaning line))
+asked s line = asked_in s (worker_request_in (meaning line))
 
 abbrev pub bad_or : Result (Option Ask) NotPlayable → ℕ → Option ℕ → Option ℕ
 bad_or (Err e) number later = Some number

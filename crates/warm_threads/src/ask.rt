@@ -1,9 +1,9 @@
 //! The requests of lines to workers.
 ghost use Rattle.std.specs.Prelude.{◌≡◌};
 ghost use Rattle.warm_world.specs.Sizes.{IsSetup};
-ghost use Rattle.warm_threads.specs.Asks.{ask, ask_if, asked, has_worker, is_number};
+ghost use Rattle.warm_threads.specs.Asks.{ask_in, asked, has_worker, is_number};
 
-use warm_schedule::{WorkerLine, parse_worker_line};
+use warm_schedule::{WorkerRequest, parse_worker_line};
 use warm_stamps::{Reference, ReplicaId, Stamp};
 use warm_world::Setup;
 
@@ -42,40 +42,58 @@ fn has_worker(setup: Setup, replica: u16, worker: u16) -> bool
 }
 
 // The request of a line to a worker, which the setup has to have.
-fn ask_of(setup: Setup, line: WorkerLine) -> Result<Ask, NotPlayable>
-    ensures { result ≡ ask_if (has_worker setup line.replica line.worker) (ask line) }
+fn ask_of(setup: Setup, request: WorkerRequest) -> Result<Ask, NotPlayable>
+    ensures { result ≡ ask_in setup request }
 {
-    if !has_worker(setup, line.replica, line.worker) {
-        return Err(NotPlayable);
-    }
-    let task = match line.reference {
-        Some((page, time)) => {
-            let Ok(replica) = ReplicaId::new(line.replica) else {
+    match request {
+        WorkerRequest::Reference {
+            replica,
+            worker,
+            page,
+            time,
+        } => {
+            if !has_worker(setup, replica, worker) {
+                return Err(NotPlayable);
+            }
+            let Ok(maker) = ReplicaId::new(replica) else {
                 unreachable!()
             };
-            let stamp = Stamp { time, replica };
-            Task::Reference(Reference { page, stamp })
+            let stamp = Stamp {
+                time,
+                replica: maker,
+            };
+            let task = Task::Reference(Reference { page, stamp });
+            Ok(Ask {
+                replica,
+                worker,
+                task,
+            })
         }
-        None => Task::Flush,
-    };
-    Ok(Ask {
-        replica: line.replica,
-        worker: line.worker,
-        task,
-    })
+        WorkerRequest::Flush { replica, worker } => {
+            if !has_worker(setup, replica, worker) {
+                return Err(NotPlayable);
+            }
+            let task = Task::Flush;
+            Ok(Ask {
+                replica,
+                worker,
+                task,
+            })
+        }
+    }
 }
 
 /// The request of a line. `None` where it has no word or is a comment.
 pub(crate) fn asked(setup: Setup, line: &[u8]) -> Result<Option<Ask>, NotPlayable>
     ensures { result ≡ asked setup line.now }
 {
-    let Some(said) = parse_worker_line(line) else {
+    let Ok(said) = parse_worker_line(line) else {
         return Err(NotPlayable);
     };
-    let Some(line) = said else {
+    let Some(request) = said else {
         return Ok(None);
     };
-    match ask_of(setup, line) {
+    match ask_of(setup, request) {
         Ok(ask) => Ok(Some(ask)),
         Err(refused) => Err(refused),
     }

@@ -1,7 +1,7 @@
 use Rattle.std.proofs.Common.{◌+◌, ◌*◌, arith, sym, ◌∙◌}
 use Rattle.std.proofs.lemmas.Bool.{eqb-true}
 use Rattle.warm_schedule.proofs.Numbers.{goes_on, is_empty, is_other, is_big, is_whole}
-use Rattle.warm_schedule.proofs.fields.number.Goals as goal
+use Rattle.warm_schedule.proofs.fields.parse_number.Goals as goal
 
 pub returns-then-is_empty-clause-value : goal.returns-then-is_empty-clause-value
 returns-then-is_empty-clause-value c = is_empty c.args.limit c.args.word.now (eqb-true _ _ (sym c.is_empty.ensures ∙ c.if-is_empty.true))

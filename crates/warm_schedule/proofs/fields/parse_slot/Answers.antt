@@ -1,6 +1,6 @@
 use Rattle.std.proofs.Common.{rules}
 use Rattle.warm_schedule.proofs.Parts.{slot_parts}
-use Rattle.warm_schedule.proofs.fields.slot.Goals as goal
+use Rattle.warm_schedule.proofs.fields.parse_slot.Goals as goal
 
 pub returns-in_err-generation : goal.returns-in_err-generation
 returns-in_err-generation c =

@@ -3,7 +3,7 @@ use Rattle.std.specs.Option.{ok_or}
 use Rattle.warm_schedule.specs.Fields.{hex_pairs}
 use Rattle.warm_schedule.proofs.Hexes.{one_more, read_all, some_digits, with_read}
 use Rattle.warm_schedule.specs.declared.parse.LineFault.TheVariants.{Bad}
-use Rattle.warm_schedule.proofs.fields.bytes.Goals as goal
+use Rattle.warm_schedule.proofs.fields.parse_bytes.Goals as goal
 
 pub loop-byte-preserved : goal.loop-byte-preserved
 loop-byte-preserved c = record {

@@ -1,7 +1,7 @@
 use Rattle.std.proofs.Common.{◌≡◌, ◌+◌, ◌*◌, ◌≤◌, ◌/◌, length, vec_capacity}
 use Rattle.warm_schedule.specs.Fields.{hex_pairs}
 use Rattle.warm_schedule.proofs.Hexes.{with_read}
-use Rattle.warm_schedule.proofs.fields.bytes.Given as goal
+use Rattle.warm_schedule.proofs.fields.parse_bytes.Given as goal
 
 abbrev pub invariant-loop-byte : goal.invariant-loop-byte
 invariant-loop-byte l = record {
