@@ -1,7 +1,7 @@
 //! Writes a history as a dump, and reads the dump back, both in memory.
 //!
-//! With no word it does so with 1,000 pages and prints what came out. With a number of pages it does so with that many, and prints the
-//! nanoseconds too, for `bench/files/measure.py`.
+//! With no word it does so with 1,000 pages and prints what came out. With a number of pages it
+//! does so with that many, and prints the nanoseconds too, for `bench/files/measure.py`.
 use crate::parts::{added_bytes, asked_number, replica, twice};
 use anyhow::{Result, bail};
 use std::alloc::Global;

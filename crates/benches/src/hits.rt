@@ -1,8 +1,9 @@
-//! Measures hits in a node's pool, for `bench/c/measure.py`, which measures the same from C. Prints a checksum of what was read, and
-//! nanoseconds.
+//! Measures hits in a node's pool, for `bench/c/measure.py`, which measures the same from C. Prints
+//! a checksum of what was read, and nanoseconds.
 //!
-//! Two numbers are taken: of frames, a power of two up to 65,536, and of hits. Each frame has a page of 16 bytes. A hit pins a page that is
-//! drawn evenly, reads eight bytes of it, and unpins it. With no word a few hits are made.
+//! Two numbers are taken: of frames, a power of two up to 65,536, and of hits. Each frame has a
+//! page of 16 bytes. A hit pins a page that is drawn evenly, reads eight bytes of it, and unpins
+//! it. With no word a few hits are made.
 
 use crate::parts::{added, next, node_over};
 use anyhow::{Context, Result, bail};
@@ -35,7 +36,8 @@ fn fill(node: &mut Node<MemDevice>, frames: u64) -> Result<(), NodeFault> {
     Ok(())
 }
 
-// A checksum of what the hits read. Pages are drawn by a linear congruence, from as many as the mask and one.
+// A checksum of what the hits read. Pages are drawn by a linear congruence, from as many as the
+// mask and one.
 fn hit_often(node: &mut Node<MemDevice>, mask: u64, hits: u64) -> Result<u64, NodeFault> {
     let mut drawn = 1u64;
     let mut checksum = 0u64;

@@ -1,7 +1,8 @@
-//! Measures a pool of pages of 64 bytes over devices in memory, for `bench/pool/measure.py`. Each call prints nanoseconds.
+//! Measures a pool of pages of 64 bytes over devices in memory, for `bench/pool/measure.py`. Each
+//! call prints nanoseconds.
 //!
-//! - With a number: this number of visits of resident pages, drawn evenly from 65,536 frames. A visit pins a page, reads eight
-//!   bytes of it, writes eight, and unpins it.
+//! - With a number: this number of visits of resident pages, drawn evenly from 65,536 frames. A
+//!   visit pins a page, reads eight bytes of it, writes eight, and unpins it.
 //! - `misses` and a number: this number of pins of pages that are in no frame of 65,536, each read
 //!   and unpinned. Each page has two references, and the victim may be in any of the frames.
 //! - Either with `boxed` before it: the same over devices in boxes, whose calls are dynamic.

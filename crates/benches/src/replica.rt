@@ -18,7 +18,7 @@ use std::time::{Clock, Duration, Instant};
 use warm_devices::MemDevice;
 use warm_gossip::{Call, Node, Reply};
 use warm_refbuffer::{Full, RefBuffer};
-use warm_replica::{Absorbing, Worker};
+use warm_replica::{BatchMachine, Worker};
 use warm_stamps::{PageId, Reference, ReplicaId, Stamp};
 use warm_turn::{Pass, Turn};
 
@@ -43,7 +43,7 @@ fn reference(replica: ReplicaId, worker: u64, i: u64, drawn: u64, pages: u64) ->
 
 // Touches this many references to this many pages, and flushes whenever the buffer is full and at
 // the end. Returns the number of refused flushes.
-fn bring<M: Absorbing, R: Wait>(
+fn bring<M: BatchMachine, R: Wait>(
     rt: &R,
     alloc: Global,
     replica: &Turn<M>,
@@ -76,7 +76,7 @@ fn bring<M: Absorbing, R: Wait>(
 
 // The worker of this number adds its references. A buffer whose allocation fails is counted as a
 // refused flush.
-fn bring_one<M: Absorbing, R: Wait + AllocGlobal>(
+fn bring_one<M: BatchMachine, R: Wait + AllocGlobal>(
     rt: &R,
     replica: &Turn<M>,
     pass: Pass<M>,
@@ -107,7 +107,7 @@ fn bring_one<M: Absorbing, R: Wait + AllocGlobal>(
 }
 
 // Two workers, of this number and the next, each in a thread of its own.
-fn bring_two<M: Absorbing + Send, R: Threads + Wait + AllocGlobal + Sync>(
+fn bring_two<M: BatchMachine + Send, R: Threads + Wait + AllocGlobal + Sync>(
     rt: &R,
     replica: &Turn<M>,
     mut pass: Pass<M>,
@@ -144,7 +144,7 @@ fn bring_two<M: Absorbing + Send, R: Threads + Wait + AllocGlobal + Sync>(
 }
 
 // Four workers.
-fn bring_four<M: Absorbing + Send, R: Threads + Wait + AllocGlobal + Sync>(
+fn bring_four<M: BatchMachine + Send, R: Threads + Wait + AllocGlobal + Sync>(
     rt: &R,
     replica: &Turn<M>,
     mut pass: Pass<M>,

@@ -5,10 +5,10 @@ use warm_pool::Slot;
 use warm_stamps::PageId;
 
 /// The maximum number of numbers of a line.
-const MOST: usize = 5;
+const MAX_NUMBERS: usize = 5;
 
 /// The maximum number of devices of a pool, including the spare ones.
-const MOST_DEVICES: usize = 8;
+const MAX_DEVICES: usize = 8;
 
 /// A call of a pool.
 #[derive(Clone, Copy, Debug)]
@@ -53,7 +53,7 @@ pub fn opening_in(alloc: Global, line: &str) -> Result<(u32, Vec<Made>)> {
     let mut words = line.split_whitespace();
     let frames = number(words.next())?;
     let mut devices = Vec::new(alloc);
-    for _ in 0..MOST_DEVICES {
+    for _ in 0..MAX_DEVICES {
         let Some(pages) = words.next() else {
             break;
         };
@@ -80,11 +80,11 @@ fn number(word: Option<&str>) -> Result<u64> {
 pub fn asked_in(line: &str) -> Result<Asked> {
     let mut words = line.split_whitespace();
     let word = words.next().context("a line has a word")?;
-    let mut numbers = [0u64; MOST];
+    let mut numbers = [0u64; MAX_NUMBERS];
     let mut at = 0usize;
     for text in words {
-        if at >= MOST {
-            bail!("a line has {MOST} numbers at most")
+        if at >= MAX_NUMBERS {
+            bail!("a line has {MAX_NUMBERS} numbers at most")
         }
         numbers[at] = number(Some(text))?;
         at += 1;
@@ -92,7 +92,7 @@ pub fn asked_in(line: &str) -> Result<Asked> {
     asked_by(word, &numbers)
 }
 
-fn asked_by(word: &str, numbers: &[u64; MOST]) -> Result<Asked> {
+fn asked_by(word: &str, numbers: &[u64; MAX_NUMBERS]) -> Result<Asked> {
     match word {
         "pin" => Ok(Asked::Pins(page(numbers)?)),
         "load" => Ok(Asked::Loads(page(numbers)?)),
@@ -120,14 +120,14 @@ fn device(number: u64) -> Result<u16> {
     Ok(u16::try_from(number).context("the number of a device")?)
 }
 
-fn page(numbers: &[u64; MOST]) -> Result<PageId> {
+fn page(numbers: &[u64; MAX_NUMBERS]) -> Result<PageId> {
     Ok(PageId {
         dev: device(numbers[0])?,
         no: numbers[1],
     })
 }
 
-fn slot(numbers: &[u64; MOST]) -> Result<Slot> {
+fn slot(numbers: &[u64; MAX_NUMBERS]) -> Result<Slot> {
     Ok(Slot {
         index: small(numbers[0])?,
         generation: numbers[1],

@@ -1,8 +1,9 @@
-//! Plays over devices of which one call fails, for `checks/failing-devices/check`. A read, a write and a flush are calls, counted
-//! from 1.
+//! Plays over devices of which one call fails, for `checks/failing-devices/check`. A read, a write
+//! and a flush are calls, counted from 1.
 //!
-//! - `play CALL FRAMES`: a schedule from standard input, as `warmplay` plays it, over one replica with one worker and this many
-//!   frames, on a device in memory of 8 pages of 16 bytes whose call of that number fails. With 0 none does.
+//! - `play CALL FRAMES`: a schedule from standard input, as `warmplay` plays it, over one replica
+//!   with one worker and this many frames, on a device in memory of 8 pages of 16 bytes whose call
+//!   of that number fails. With 0 none does.
 //! - `pools`: calls of pools from standard input, each with its answer. Pools are separated by
 //!   blank lines; `src/line.rt` defines a pool's first line, which describes its frames and
 //!   devices, and the syntax of calls.

@@ -11,7 +11,7 @@ use warm_frames::{DIGEST_SIZE, DigestTable, Message, encode};
 use warm_gossip::{Call, Node, NodeFault, Reply};
 use warm_refbuffer::RefBuffer;
 use warm_replica::{
-    BoxedCall, FlushFault, Gate, Job, MAX_JOBS, Mail, MailReport, MemPost, Post, Replica, Replies,
+    BoxedCall, FlushFault, Job, MAX_JOBS, Mail, MailReport, MemPost, NoGate, Post, Replica, Replies,
     RunFault, Step, StepReply, Worker, mail_loop, run_workers,
 };
 use warm_stamps::{BUCKETS, ByteList, PageId, ReplicaId};
@@ -94,16 +94,6 @@ fn list<R: Wait>(
     met.holds(pages.as_slice() == [hottest].as_slice(), "0:1 was flushed")
 }
 
-// A gate that holds nothing back.
-#[derive(Clone, Copy)]
-struct Open;
-
-impl Gate for Open {
-    fn before(&self, _job: usize, _step: usize) {}
-
-    fn after(&self, _job: usize, _step: usize) {}
-}
-
 // Two jobs: a touch, a flush and a list.
 fn jobs(alloc: Global) -> Result<Vec<Job>, Ended> {
     let mut all = Vec::new(alloc);
@@ -112,7 +102,7 @@ fn jobs(alloc: Global) -> Result<Vec<Job>, Ended> {
         steps.push_reserved(Step::Touch(reference(no, 30)?));
         steps.push_reserved(Step::Flush);
         let list = BoxedCall::new(alloc, Call::WarmList(1))?;
-        steps.push_reserved(Step::Make(list));
+        steps.push_reserved(Step::Call(list));
         if all.push(Job { capacity: 1, steps }).is_err() {
             return Err(Ended::NoMemory);
         }
@@ -134,7 +124,7 @@ fn replies_to<R: Threads + Wait + Sync>(
     if all.len() > MAX_JOBS {
         return Err(Ended::Broken);
     }
-    Ok(run_workers(rt, alloc, replica, pass, all, &Open))
+    Ok(run_workers(rt, alloc, replica, pass, all, &NoGate))
 }
 
 // The replies of a job, one for each step. Where the list is refused, they are given back, and are

@@ -1,10 +1,11 @@
-//! How faults are displayed: those of lines, setups, commands and runs, of worlds, and of their nodes and pools.
+//! How faults are displayed: those of lines, setups, commands and runs, of worlds, and of their
+//! nodes and pools.
 use std::alloc::Global;
 use std::fmt;
 use std::process::Abort;
 use warm_gossip::NodeFault;
 use warm_pool::PoolFault;
-use warm_schedule::{LineFault, PlayFault};
+use warm_schedule::{LineFault, NotForWorker, PlayFault};
 use warm_setup::{CmdFault, PathText, ProgramFault, SetupFault};
 use warm_world::{BadSetup, BadWorld, WorldFault};
 
@@ -75,6 +76,7 @@ fn faults_of_what_is_read_are_shown_by_their_names(rt: HostRuntime) {
     }
     assert!(rt; shows(&rt, rt.alloc(), &LineFault::Memory, "Memory"));
     assert!(rt; shows(&rt, rt.alloc(), &LineFault::Bad, "Bad"));
+    assert!(rt; shows(&rt, rt.alloc(), &NotForWorker, "NotForWorker"));
 }
 
 #[test]

@@ -1,6 +1,6 @@
 //! Tests of warm_schedule and warm_setup, over only public calls: the output of schedules and how a
-//! play ends, the meanings of words and setup files, how a run ends, and what their faults and those
-//! of a world display. The expected texts were derived by hand from docs/FORMATS.md.
+//! play ends, the meanings of words and setup files, how a run ends, and what their faults and
+//! those of a world display. The expected texts were derived by hand from docs/FORMATS.md.
 #![tactic(auto)]
 
 #[cfg(test)]

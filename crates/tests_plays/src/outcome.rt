@@ -2,7 +2,9 @@
 use std::alloc::Global;
 use std::process::Abort;
 use warm_play_fault::PlayFault;
-use warm_setup::{CmdFault, PathText, ProgramFault, SetupFault, command_of, non_utf8_argument, outcome_of};
+use warm_setup::{
+    CmdFault, PathText, ProgramFault, SetupFault, command_of, non_utf8_argument, outcome_of,
+};
 
 // Whether a run with this end has this status and this line.
 fn says(
@@ -71,7 +73,15 @@ fn refused_words_have_status_2_and_help_0(rt: HostRuntime) {
     for (word, status) in [("--help", 0), ("help", 0), ("threads", 2)] {
         assert!(rt; refuses(&rt, alloc, word, status));
     }
-    assert!(rt; ends(&rt, alloc, ProgramFault::Command(non_utf8_argument(alloc)), 2, ""));
+    assert!(rt;
+        ends(
+            &rt,
+            alloc,
+            ProgramFault::Command(non_utf8_argument(alloc)),
+            2,
+            ""
+        )
+    );
     let memory = ProgramFault::Command(CmdFault::Memory);
     assert!(rt; ends(&rt, alloc, memory, 1, "warmplay: Memory\n"));
 }

@@ -85,11 +85,59 @@ pub(crate) fn answers_of(rt: &impl Abort, alloc: Global, setup: Setup, schedule:
     answers
 }
 
-// Each of these schedules prints the text beside it, in a world of three replicas whose pools have this many frames.
+// A world of three replicas whose pools have this many frames.
+fn setup_of(rt: &impl Abort, frames: u32) -> Setup {
+    Setup::new(3, 2, 64, frames, 16).expect(rt, "it is within its limits")
+}
+
+// Adds a text and its line end.
+fn add_line(rt: &impl Abort, bytes: &mut Vec<u8>, text: &str) {
+    add(rt, bytes, 1, text.as_bytes());
+    add(rt, bytes, 1, b"\n");
+}
+
+// The schedule of these lines, and all that it prints. Beside each line is its answer, one or more
+// lines, the last without its end.
+pub(crate) fn texts_of(
+    rt: &impl Abort,
+    alloc: Global,
+    lines: &[(&str, &str)],
+) -> (Vec<u8>, Vec<u8>) {
+    let (mut schedule, mut want) = (Vec::new(alloc), Vec::new(alloc));
+    for (line, answer) in lines {
+        add_line(rt, &mut schedule, line);
+        add_line(rt, &mut want, answer);
+    }
+    (schedule, want)
+}
+
+// What follows this answer, where it comes first.
+fn after_answer<'a>(rest: &'a [u8], answer: &str) -> Option<&'a [u8]> {
+    rest.strip_prefix(answer.as_bytes())?.strip_prefix(b"\n")
+}
+
+// Each line of these schedules prints the answer beside it.
+pub(crate) fn each_line_prints(
+    rt: &impl Abort,
+    alloc: Global,
+    frames: u32,
+    schedules: &[&[(&str, &str)]],
+) {
+    for lines in schedules {
+        let (schedule, _) = texts_of(rt, alloc, lines);
+        let answers = answers_of(rt, alloc, setup_of(rt, frames), schedule.as_slice());
+        let mut rest = answers.as_slice();
+        for (line, answer) in *lines {
+            rest = after_answer(rest, answer).expect(rt, line);
+        }
+        assert!(rt; rest.is_empty());
+    }
+}
+
+// Each of these schedules prints the text beside it.
 pub(crate) fn each_prints(rt: &impl Abort, alloc: Global, frames: u32, rows: &[(&str, &str)]) {
-    let setup = Setup::new(3, 2, 64, frames, 16).expect(rt, "it is within its limits");
     for (schedule, want) in rows {
-        let answers = answers_of(rt, alloc, setup, schedule.as_bytes());
+        let answers = answers_of(rt, alloc, setup_of(rt, frames), schedule.as_bytes());
         assert!(rt; answers.as_slice() == want.as_bytes(), "{schedule}");
     }
 }

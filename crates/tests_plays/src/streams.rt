@@ -1,6 +1,6 @@
 //! Readers and writers of `play` that give bytes one by one, are interrupted, or fail, and writers
 //! of `random_schedule` that record or fail a flush: behaviour that no contract covers.
-use crate::player::{add, ended};
+use crate::player::{add, ended, texts_of};
 use crate::schedules::GOSSIP;
 use std::alloc::Global;
 use std::io;
@@ -45,12 +45,13 @@ fn trickles(rt: &impl Abort, alloc: Global, schedule: &[u8], want: &[u8]) {
     assert!(rt; played == Ok(()) && answers.as_slice() == want);
 }
 
-// 150,699 reads of one byte each, with as many interrupted ones, are more than 2^18: 13,699 lines of 11 bytes, and 10 bytes of the
-// last line.
+// 150,699 reads of one byte each, with as many interrupted ones, are more than 2^18: 13,699 lines of
+// 11 bytes, and 10 bytes of the last line.
 #[test]
 fn a_schedule_may_come_in_bytes(rt: HostRuntime) {
-    for (schedule, want) in GOSSIP {
-        trickles(&rt, rt.alloc(), schedule.as_bytes(), want.as_bytes());
+    for lines in GOSSIP {
+        let (schedule, want) = texts_of(&rt, rt.alloc(), lines);
+        trickles(&rt, rt.alloc(), schedule.as_slice(), want.as_slice());
     }
     let mut schedule = Vec::new(rt.alloc());
     add(&rt, &mut schedule, 13_700, b"  show 001\n");
@@ -149,7 +150,8 @@ fn ended_in(alloc: Global, left: usize) -> Result<(), PlayFault> {
     ended(alloc, &mut reader, &mut writer)
 }
 
-// "end 0\nok\nok\n" has 12 bytes. Each write but the first may fail, and after the last one the flush.
+// "end 0\nok\nok\n" has 12 bytes. Each write but the first may fail, and after the last one the
+// flush.
 #[test]
 fn a_failed_write_ends_the_play(rt: HostRuntime) {
     for left in 0..13usize {
@@ -185,8 +187,8 @@ fn a_read_asks_for_65_536_bytes(rt: HostRuntime) {
     assert!(rt; played == Ok(()) && reader.most == 65_536);
 }
 
-// The first lines of the schedule of seed 7 for one replica with one worker, as the independent program of tests_values gives them: 32
-// bytes.
+// The first lines of the schedule of seed 7 for one replica with one worker, as the independent
+// program of tests_values gives them: 32 bytes.
 const DRAWN: &str = "ref 1 1 0:95 1\nsend 1 23\nshow 1\n";
 
 // Draws that many lines of it.

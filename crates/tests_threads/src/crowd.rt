@@ -2,8 +2,8 @@
 //! one legal history, so all replies of all jobs are compared with one order.
 ghost use Rattle.std.specs.Prelude.{◌≡◌};
 
-use crate::jobs::{Open, run};
-use crate::setup::{fresh, listed, turn_over};
+use crate::jobs::run;
+use crate::setup::{fresh_node, listed, turn_over};
 use std::alloc::Global;
 use std::process::Abort;
 use std::sync::Wait;
@@ -12,7 +12,7 @@ use test_kit::{bucket, page, seen};
 use warm_frames::Message;
 use warm_gossip::{Call, Reply};
 use warm_history::{Entry, PageHist};
-use warm_replica::{Absorbing, BoxedCall, Job, Step, StepReply};
+use warm_replica::{BatchMachine, BoxedCall, Job, NoGate, Step, StepReply};
 
 const JOBS: usize = 8;
 
@@ -40,13 +40,13 @@ fn job_of(rt: &impl Abort, alloc: Global, job: u64) -> Job {
             .push(Step::Touch(touch))
             .expect(rt, "memory for a touch");
         steps.push(Step::Flush).expect(rt, "memory for a flush");
-        steps.push(Step::Make(call)).expect(rt, "memory for a step");
+        steps.push(Step::Call(call)).expect(rt, "memory for a step");
     }
     Job { capacity: 1, steps }
 }
 
 // The replies of eight such jobs.
-fn answered<M: Absorbing + Drop + Send, R: Threads + Wait + Abort + Sync>(
+fn answered<M: BatchMachine + Drop + Send, R: Threads + Wait + Abort + Sync>(
     rt: &R,
     alloc: Global,
     machine: M,
@@ -57,7 +57,7 @@ fn answered<M: Absorbing + Drop + Send, R: Threads + Wait + Abort + Sync>(
             .expect(rt, "memory for a job");
     }
     let (replica, mut pass) = turn_over(rt, alloc, machine);
-    let ran = run(rt, alloc, &replica, &mut pass, jobs, &Open);
+    let ran = run(rt, alloc, &replica, &mut pass, jobs, &NoGate);
     listed(rt, alloc, ran.expect(rt, "the jobs run"))
 }
 
@@ -169,7 +169,7 @@ fn are_of_one_history(rt: &impl Abort, alloc: Global, all: &[Vec<StepReply>]) ->
 #[test]
 fn flushes_of_eight_jobs_are_in_one_order(rt: HostRuntime) {
     for _ in 0..RUNS {
-        let all = answered(&rt, rt.alloc(), fresh(&rt, rt.alloc()));
+        let all = answered(&rt, rt.alloc(), fresh_node(&rt, rt.alloc()));
         assert!(rt; are_of_one_history(&rt, rt.alloc(), &all));
     }
 }

@@ -2,7 +2,7 @@
 //! jobs of a run, and the contents of a node after jobs and after a flush.
 ghost use Rattle.std.specs.Prelude.{◌≡◌};
 
-use crate::setup::{comes, fresh, listed, opened, pages_of, turn_over};
+use crate::setup::{comes, fresh_node, listed, pages_of, turn_and_worker, turn_over};
 use std::alloc::Global;
 use std::process::Abort;
 use std::sync::Wait;
@@ -14,31 +14,22 @@ use warm_devices::MemDevice;
 use warm_gossip::{Call, Node, Reply};
 use warm_pool::Slot;
 use warm_replica::{
-    Absorbing, BoxedCall, Gate, Job, MAX_JOBS, Replies, RunFault, Step, StepReply, run_workers,
+    BatchMachine, BoxedCall, Gate, Job, MAX_JOBS, NoGate, Replies, RunFault, Step, StepReply,
+    run_workers,
 };
 use warm_stamps::PageId;
 use warm_turn::{Pass, Turn};
 
-// A gate that holds nothing back.
-#[derive(Clone, Copy)]
-pub(crate) struct Open;
-
-impl Gate for Open {
-    fn before(&self, _job: usize, _step: usize) {}
-
-    fn after(&self, _job: usize, _step: usize) {}
-}
-
 // A gate at which four jobs wait for one another before their first step: the number that arrived,
-// and the number that saw all arrive. The calls of each job are counted in 16 bits of their own, and
-// each has to be the next: before step 0, after it, before step 1, and so on.
+// and the number that saw all arrive. The calls of each job are counted, and each has to be the
+// next of its job: before step 0, after it, before step 1, and so on.
 #[derive(Drop)]
 struct Meeting<'a, C: Clock> {
     clock: &'a C,
     here: AtomicU64,
     met: AtomicU64,
-    calls: AtomicU64,
-    // A call was not the next of its job.
+    calls: [AtomicU64; 4],
+    // A call was not the next of its job, or of none of the four.
     disorder: AtomicU64,
 }
 
@@ -48,18 +39,36 @@ impl<'a, C: Clock> Meeting<'a, C> {
             clock,
             here: AtomicU64::new(0),
             met: AtomicU64::new(0),
-            calls: AtomicU64::new(0),
+            calls: [
+                AtomicU64::new(0),
+                AtomicU64::new(0),
+                AtomicU64::new(0),
+                AtomicU64::new(0),
+            ],
             disorder: AtomicU64::new(0),
         }
     }
 
     // A call of a job, which has to come after this many others of it.
     fn count(&self, job: usize, earlier: usize) {
-        let shift = 16 * (job % 4) as u32;
-        let calls = self.calls.fetch_add(1 << shift, Ordering::SeqCst);
-        if calls >> shift & 0xFFFF != earlier as u64 {
+        let mut is_next = false;
+        if let Some(calls) = self.calls.as_slice().get(job) {
+            is_next = calls.fetch_add(1, Ordering::SeqCst) == earlier as u64;
+        }
+        if !is_next {
             self.disorder.store(1, Ordering::SeqCst);
         }
+    }
+
+    // The number of calls of each job.
+    fn counts(&self) -> [u64; 4] {
+        let [first, second, third, fourth] = &self.calls;
+        [
+            first.load(Ordering::SeqCst),
+            second.load(Ordering::SeqCst),
+            third.load(Ordering::SeqCst),
+            fourth.load(Ordering::SeqCst),
+        ]
     }
 }
 
@@ -81,7 +90,7 @@ impl<'a, C: Clock> Gate for Meeting<'a, C> {
 }
 
 // Runs jobs, of which there are at most MAX_JOBS.
-pub(crate) fn run<M: Absorbing + Send, R: Threads + Wait + Abort + Sync, G: Gate + Sync>(
+pub(crate) fn run<M: BatchMachine + Send, R: Threads + Wait + Abort + Sync, G: Gate + Sync>(
     rt: &R,
     alloc: Global,
     replica: &Turn<M>,
@@ -97,7 +106,11 @@ pub(crate) fn run<M: Absorbing + Send, R: Threads + Wait + Abort + Sync, G: Gate
 }
 
 // The replies of these jobs, and the machine afterwards.
-pub(crate) fn ran<M: Absorbing + Drop + Send, R: Threads + Wait + Abort + Sync, G: Gate + Sync>(
+pub(crate) fn run_over<
+    M: BatchMachine + Drop + Send,
+    R: Threads + Wait + Abort + Sync,
+    G: Gate + Sync,
+>(
     rt: &R,
     alloc: Global,
     machine: M,
@@ -114,7 +127,7 @@ pub(crate) fn ran<M: Absorbing + Drop + Send, R: Threads + Wait + Abort + Sync, 
 
 // A step that makes a call.
 fn make(rt: &impl Abort, alloc: Global, call: Call) -> Step {
-    Step::Make(BoxedCall::new(alloc, call).expect(rt, "memory for a call"))
+    Step::Call(BoxedCall::new(alloc, call).expect(rt, "memory for a call"))
 }
 
 // A job that requests the victim; where it has five steps, after three touches of its page and a
@@ -193,26 +206,27 @@ fn are_met<R: Threads + Wait + Abort + Sync, G: Gate + Sync>(
         jobs.push(job_of(rt, alloc, no, five))
             .expect(rt, "memory for a job");
     }
-    let (ran, mut node) = ran(rt, alloc, fresh(rt, alloc), jobs, gate);
+    let (ran, mut node) = run_over(rt, alloc, fresh_node(rt, alloc), jobs, gate);
     let all = listed(rt, alloc, ran.expect(rt, "the jobs run"));
     let answer: Result<Reply, RunFault> = Ok(node.call(Call::WarmList(100)));
     let pages = pages_of(answer).expect(rt, "the pages are listed");
     are_answered(&all) && pages.as_slice() == hottest
 }
 
-// Four jobs of one call, and of five steps: then each of the pages 0 to 3 was referenced twice, and a later one later. Behind
-// these steps job 0 has none, and each other job one more than the job before it.
+// Four jobs of one call, and of five steps: then each of the pages 0 to 3 was referenced twice, and
+// a later one later. Behind these steps job 0 has none, and each other job one more than the job
+// before it.
 #[test]
 fn four_jobs_meet(rt: HostRuntime) {
     let all = [page(3), page(2), page(1), page(0)];
-    for (five, hottest, calls) in [
-        (false, all.split_at(0).0, 0x0008_0006_0004_0002),
-        (true, all.as_slice(), 0x0010_000E_000C_000A),
+    for (five, hottest, counts) in [
+        (false, all.split_at(0).0, [2, 4, 6, 8]),
+        (true, all.as_slice(), [10, 12, 14, 16]),
     ] {
         let gate = Meeting::new(&rt);
         assert!(rt; are_met(&rt, rt.alloc(), &gate, five, hottest));
         assert!(rt; gate.met.load(Ordering::SeqCst) == 4);
-        assert!(rt; gate.calls.load(Ordering::SeqCst) == calls);
+        assert!(rt; gate.counts() == counts);
         assert!(rt; gate.disorder.load(Ordering::SeqCst) == 0);
     }
 }
@@ -230,12 +244,12 @@ fn ended<R: Threads + Wait + Abort + Sync>(
     alloc: Global,
     capacity: usize,
 ) -> Result<(), RunFault> {
-    let (ran, node) = ran(
+    let (ran, node) = run_over(
         rt,
         alloc,
-        fresh(rt, alloc),
+        fresh_node(rt, alloc),
         one_touch(rt, alloc, capacity),
-        &Open,
+        &NoGate,
     );
     assert!(rt; node.history().len() == 0);
     ran?;
@@ -258,7 +272,7 @@ fn are_flushed<R: Threads + Wait + Abort + Sync>(rt: &R, alloc: Global) -> bool 
         jobs.push(Job { capacity: 1, steps })
             .expect(rt, "memory for a job");
     }
-    let (ran, _node) = ran(rt, alloc, fresh(rt, alloc), jobs, &Open);
+    let (ran, _node) = run_over(rt, alloc, fresh_node(rt, alloc), jobs, &NoGate);
     let all = listed(rt, alloc, ran.expect(rt, "the jobs run"));
     for replies in &all {
         let [StepReply::Flushed] = replies.as_slice() else {
@@ -307,13 +321,13 @@ fn a_job_does_just_its_steps(rt: HostRuntime) {
     let touch = Step::Touch(seen(page(1), 10, 1));
     let steps = vec![in alloc; touch, Step::Flush, pin].expect(&rt, "memory for steps");
     let jobs = vec![in alloc; Job { capacity: 1, steps }].expect(&rt, "memory for a job");
-    let (_ran, node) = ran(&rt, alloc, fresh(&rt, alloc), jobs, &Open);
+    let (_ran, node) = run_over(&rt, alloc, fresh_node(&rt, alloc), jobs, &NoGate);
     assert!(rt; has_one_page(node));
 }
 
 // The machine of a worker that has flushed one reference.
-fn flushed<M: Absorbing + Drop, R: Wait + Abort>(rt: &R, alloc: Global, machine: M) -> M {
-    let (turn, mut worker) = opened(rt, alloc, machine);
+fn flushed<M: BatchMachine + Drop, R: Wait + Abort>(rt: &R, alloc: Global, machine: M) -> M {
+    let (turn, mut worker) = turn_and_worker(rt, alloc, machine);
     worker.touch(seen(page(1), 10, 1)).expect(rt, "one fits");
     worker.flush(rt, alloc, &turn).expect(rt, "it is absorbed");
     let (pass, _buffer) = worker.into_parts();
@@ -322,7 +336,7 @@ fn flushed<M: Absorbing + Drop, R: Wait + Abort>(rt: &R, alloc: Global, machine:
 
 #[test]
 fn a_flush_absorbs_just_the_buffer(rt: HostRuntime) {
-    let mut node = fresh(&rt, rt.alloc());
+    let mut node = fresh_node(&rt, rt.alloc());
     let _pinned = node.call(Call::Pin(page(5)));
     assert!(rt; has_one_page(flushed(&rt, rt.alloc(), node)));
 }

@@ -12,11 +12,11 @@ mod jobs;
 #[cfg(test)]
 mod mail;
 #[cfg(test)]
+mod mail_loops;
+#[cfg(test)]
 mod plays;
 #[cfg(test)]
 mod setup;
-#[cfg(test)]
-mod stations;
 #[cfg(test)]
 mod turns;
 #[cfg(test)]

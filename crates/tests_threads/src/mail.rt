@@ -1,8 +1,8 @@
 //! Loops over mail: when they end, what they count, which answers a post gets, and what they leave
-//! unchanged. Loops in threads of their own are in stations.
+//! unchanged. Loops in threads of their own are in mail_loops.
 ghost use Rattle.std.specs.Prelude.{◌≡◌};
 
-use crate::setup::{fresh, opened, over};
+use crate::setup::{fresh_node, node_over, turn_and_worker};
 use crossbeam_channel::{Receiver, Sender, unbounded};
 use std::alloc::Global;
 use std::process::Abort;
@@ -15,7 +15,7 @@ use warm_gossip::Node;
 use warm_history::{Entry, History};
 use warm_pool::Slot;
 use warm_replica::{
-    Absorbing, Mail, MailIter, MailReport, MemPost, Outbox, Outboxes, Post, mail_loop,
+    BatchMachine, Mail, MailIter, MailReport, MemPost, Outbox, Outboxes, Post, mail_loop,
 };
 use warm_stamps::{ByteList, ReplicaId};
 
@@ -48,7 +48,8 @@ pub(crate) fn mailed<R: Wait + Abort>(rt: &R, alloc: Global, texts: &[&[u8]]) ->
     receiver
 }
 
-// Replica 1 at this horizon sends one entry: this page of device 0, with one stamp of replica 1 at this time.
+// Replica 1 at this horizon sends one entry: this page of device 0, with one stamp of replica 1 at
+// this time.
 pub(crate) const fn entry_at(horizon: u8, no: u8, time: u8) -> [u8; 44] {
     [
         0x4C, 0x32, 0x47, 0x32, 1, 0, 1, 0, 0, 0, 0, 0, 0, 0, horizon, 0, 0, 0, 0x19, 0, 0, 0, 1,
@@ -81,7 +82,7 @@ type Bounds = (u64, u64, u64);
 const ONE_STOP: Bounds = (1, 10, 10);
 
 // The counts of the mail by an empty machine.
-fn heard<M: Absorbing + Drop, P: Post, R: Wait + Abort>(
+fn heard<M: BatchMachine + Drop, P: Post, R: Wait + Abort>(
     rt: &R,
     alloc: Global,
     machine: M,
@@ -90,7 +91,7 @@ fn heard<M: Absorbing + Drop, P: Post, R: Wait + Abort>(
     bounds: Bounds,
 ) -> MailReport {
     let (stops, turns, most) = bounds;
-    let (turn, mut worker) = opened(rt, alloc, machine);
+    let (turn, mut worker) = turn_and_worker(rt, alloc, machine);
     let items = MailIter::new(rt, receiver, most);
     mail_loop(rt, alloc, &turn, &mut worker, items, post, stops, turns)
 }
@@ -111,7 +112,7 @@ fn heard_alone<R: Wait + Abort>(
     bounds: Bounds,
 ) -> MailReport {
     let mut post = MemPost::new(alloc);
-    let heard = heard(rt, alloc, fresh(rt, alloc), mail, &mut post, bounds);
+    let heard = heard(rt, alloc, fresh_node(rt, alloc), mail, &mut post, bounds);
     assert!(rt; post.given().is_empty());
     heard
 }
@@ -120,7 +121,7 @@ fn heard_alone<R: Wait + Abort>(
 // Stop, the channel is closed.
 #[test]
 fn a_loop_ends_at_its_bounds(rt: HostRuntime) {
-    let rows = [
+    let cases = [
         (ONE_STOP, report(1, 1, 0)),
         ((1, 1, 10), report(1, 0, 0)),
         ((1, 0, 10), report(0, 0, 0)),
@@ -128,7 +129,7 @@ fn a_loop_ends_at_its_bounds(rt: HostRuntime) {
         ((2, 10, 10), report(1, 1, 0)),
         ((1, 10, 1), report(1, 0, 0)),
     ];
-    for (bounds, want) in rows {
+    for (bounds, want) in cases {
         let mail = mailed(&rt, rt.alloc(), &[&NARROW, &[0]]);
         assert!(rt; heard_alone(&rt, rt.alloc(), mail, bounds) == want);
     }
@@ -201,7 +202,7 @@ fn heard_digest<P: Post, R: Wait + Abort>(
 ) -> MailReport {
     let text = digest_of(rt, alloc, 9, horizon);
     let mail = mailed(rt, alloc, &[&entry_at(0, 1, 10), text.as_slice()]);
-    heard(rt, alloc, fresh(rt, alloc), mail, post, ONE_STOP)
+    heard(rt, alloc, fresh_node(rt, alloc), mail, post, ONE_STOP)
 }
 
 // The stamp at 10 is older than 11, so there is nothing to answer.
@@ -230,7 +231,14 @@ fn both_formats_come_in_one_stream(rt: HostRuntime) {
     let text = digest_of(&rt, alloc, 9, 0);
     let mail = mailed(&rt, alloc, &[&NARROW, &WIDE, &[0], text.as_slice()]);
     let mut post = MemPost::new(alloc);
-    let heard = heard(&rt, alloc, fresh(&rt, alloc), mail, &mut post, ONE_STOP);
+    let heard = heard(
+        &rt,
+        alloc,
+        fresh_node(&rt, alloc),
+        mail,
+        &mut post,
+        ONE_STOP,
+    );
     assert!(rt; heard == report(3, 1, 0));
     assert!(rt; are_for_nine(post.given(), &entry_at(12, 7, 20), &request_of(1, 12, 128)));
 }
@@ -341,7 +349,7 @@ fn are_answered<R: Wait + Abort>(
         asked: 0,
         rest,
     };
-    let heard = heard(rt, alloc, fresh(rt, alloc), mail, &mut post, ONE_STOP);
+    let heard = heard(rt, alloc, fresh_node(rt, alloc), mail, &mut post, ONE_STOP);
     heard == report(4, 0, lost)
         && brings_entries(rt, alloc, &receiver, &known(1, 10))
         && (place == 1 || brings_entries(rt, alloc, &receiver, &known(2, 20)))
@@ -390,7 +398,16 @@ fn a_thousand_entries_go_through_an_outbox(rt: HostRuntime) {
     let mail = mailed(&rt, alloc, &[text.as_slice(), &request_of(9, 0, 2)]);
     let (boxes, receiver) = outbox_of(&rt, alloc, 9);
     let mut post = Outboxes::new(&rt, boxes);
-    assert!(rt; heard(&rt, alloc, fresh(&rt, alloc), mail, &mut post, ONE_STOP) == report(2, 0, 0));
+    assert!(rt;
+        heard(
+            &rt,
+            alloc,
+            fresh_node(&rt, alloc),
+            mail,
+            &mut post,
+            ONE_STOP
+        ) == report(2, 0, 0)
+    );
     assert!(rt; brings_entries(&rt, alloc, &receiver, thousand(&rt, alloc).as_slice()));
 }
 
@@ -428,7 +445,7 @@ const FIRST: Slot = Slot {
 // `stays` is true.
 fn filled(rt: &impl Abort, alloc: Global, stays: bool) -> Node<MemDevice> {
     let device = memory(alloc, 8).expect(rt, "memory for a device");
-    let mut node = over(rt, alloc, 1, device);
+    let mut node = node_over(rt, alloc, 1, device);
     let slot = node.pin(page(3)).ok().expect(rt, "the page comes in");
     node.write(slot, 0, &[7, 8, 9])
         .ok()
@@ -441,7 +458,7 @@ fn filled(rt: &impl Abort, alloc: Global, stays: bool) -> Node<MemDevice> {
 
 // Such a node after a loop over an entry, digests and a request.
 fn left_by_a_loop<R: Wait + Abort>(rt: &R, alloc: Global, stays: bool) -> Node<MemDevice> {
-    let (turn, mut worker) = opened(rt, alloc, filled(rt, alloc, stays));
+    let (turn, mut worker) = turn_and_worker(rt, alloc, filled(rt, alloc, stays));
     let text = digest_of(rt, alloc, 9, 0);
     let (one, request) = (entry_at(0, 1, 10), request_of(9, 0, 2));
     let mail = mailed(rt, alloc, &[&one, text.as_slice(), &request]);

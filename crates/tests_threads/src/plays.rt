@@ -121,7 +121,8 @@ fn shown_by(rt: &impl Abort, alloc: Global, replicas: u16, entries: &str, count:
     text
 }
 
-// Pages of a bucket at one of two replicas: a full message, and an empty one; one page in a second message; and one in a third.
+// Pages of a bucket at one of two replicas: a full message, and an empty one; one page in a second
+// message; and one in a third.
 #[test]
 fn a_bucket_is_sent_whole(rt: HostRuntime) {
     for pages in [1000, 1001, 2001] {
@@ -133,7 +134,8 @@ fn a_bucket_is_sent_whole(rt: HostRuntime) {
     }
 }
 
-// A reference of each of 64 replicas, to a page and at a time of its own, and the entries of all of them.
+// A reference of each of 64 replicas, to a page and at a time of its own, and the entries of all of
+// them.
 fn one_of_each(rt: &impl Abort, alloc: Global) -> (String, String) {
     let mut text = String::new(alloc);
     let mut entries = String::new(alloc);

@@ -11,12 +11,12 @@ use warm_devices::{MemDevice, PageDevice};
 use warm_gossip::{Node, Reply};
 use warm_pool::Pool;
 use warm_refbuffer::RefBuffer;
-use warm_replica::{Absorbing, Replies, StepReply, Worker};
+use warm_replica::{BatchMachine, Replies, StepReply, Worker};
 use warm_stamps::PageList;
 use warm_turn::{Pass, Turn};
 
 // A node of replica 1 with this many frames.
-pub(crate) fn over<D: PageDevice>(
+pub(crate) fn node_over<D: PageDevice>(
     rt: &impl Abort,
     alloc: Global,
     frames: usize,
@@ -30,13 +30,13 @@ pub(crate) fn over<D: PageDevice>(
 }
 
 // A node of two frames over a device of 8 pages.
-pub(crate) fn fresh(rt: &impl Abort, alloc: Global) -> Node<MemDevice> {
+pub(crate) fn fresh_node(rt: &impl Abort, alloc: Global) -> Node<MemDevice> {
     let device = memory(alloc, 8).expect(rt, "memory for a device");
-    over(rt, alloc, 2, device)
+    node_over(rt, alloc, 2, device)
 }
 
 // A turn over this machine, and its first pass.
-pub(crate) fn turn_over<M: Absorbing + Drop>(
+pub(crate) fn turn_over<M: BatchMachine + Drop>(
     rt: &impl Abort,
     alloc: Global,
     machine: M,
@@ -49,7 +49,7 @@ pub(crate) fn turn_over<M: Absorbing + Drop>(
 }
 
 // The same, and a worker whose buffer holds two references.
-pub(crate) fn opened<M: Absorbing + Drop>(
+pub(crate) fn turn_and_worker<M: BatchMachine + Drop>(
     rt: &impl Abort,
     alloc: Global,
     machine: M,

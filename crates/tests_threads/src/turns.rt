@@ -74,7 +74,7 @@ fn add_by_two<R: Wait + Abort>(
 fn two_passes_count_on_one_machine(rt: HostRuntime) {
     let (turn, mut first) = counter_at(&rt, rt.alloc(), 0);
     let (five, seven) = add_by_two(&rt, &turn, &mut first);
-    first.is_legal();
+    first.prove_is_legal();
     let total = closed(&rt, turn, first);
     assert!(rt; five == Added::Total(5) && seven == Added::Total(7) && total == 7);
 }

@@ -1,6 +1,6 @@
 //! A page is read while another thread touches what it has referenced: a touch never waits.
-use crate::jobs::{FIRST, ran};
-use crate::setup::{comes, list_of, over};
+use crate::jobs::{FIRST, run_over};
+use crate::setup::{comes, list_of, node_over};
 use std::alloc::Global;
 use std::process::Abort;
 use std::sync::atomic::{AtomicU64, Ordering};
@@ -9,7 +9,7 @@ use std::thread::Threads;
 use std::time::Clock;
 use test_kit::{HookedDevice, Hooks, memory, page, seen};
 use warm_gossip::{Call, Reply};
-use warm_replica::{Absorbing, BoxedCall, Gate, Job, Replies, Step, StepReply};
+use warm_replica::{BatchMachine, BoxedCall, Gate, Job, Replies, Step, StepReply};
 
 // The flags that two threads set for each other.
 #[derive(Drop)]
@@ -116,18 +116,17 @@ fn job_of(rt: &impl Abort, alloc: Global, step: Step) -> Job {
 fn two_jobs(rt: &impl Abort, alloc: Global) -> Vec<Job> {
     let touches = job_of(rt, alloc, Step::Touch(seen(page(1), 1, 1)));
     let call = BoxedCall::new(alloc, Call::Pin(page(1))).expect(rt, "memory for a call");
-    let pins = job_of(rt, alloc, Step::Make(call));
+    let pins = job_of(rt, alloc, Step::Call(call));
     vec![in alloc; pins, touches].expect(rt, "memory for two jobs")
 }
 
 // A pin and a touch in threads of their own, and the replies to each.
-fn pins_and_touches<M: Absorbing + Drop + Send, R: Threads + Wait + Abort + Sync, G: Gate + Sync>(
-    rt: &R,
-    alloc: Global,
-    machine: M,
-    gate: &G,
-) -> (Replies, Replies) {
-    let (ran, _machine) = ran(rt, alloc, machine, two_jobs(rt, alloc), gate);
+fn pins_and_touches<
+    M: BatchMachine + Drop + Send,
+    R: Threads + Wait + Abort + Sync,
+    G: Gate + Sync,
+>(rt: &R, alloc: Global, machine: M, gate: &G) -> (Replies, Replies) {
+    let (ran, _machine) = run_over(rt, alloc, machine, two_jobs(rt, alloc), gate);
     let mut replies = ran.expect(rt, "the jobs run");
     let touched = replies.pop().expect(rt, "the touch is answered");
     let pinned = replies.pop().expect(rt, "the pin is answered");
@@ -152,7 +151,7 @@ fn are_answered<R: Clock + Threads + Wait + Abort + Sync>(
     clock: HostRuntime,
     flags: &Arc<Flags, Global>,
 ) -> bool {
-    let node = over(rt, alloc, 1, slow_device(rt, alloc, clock, flags));
+    let node = node_over(rt, alloc, 1, slow_device(rt, alloc, clock, flags));
     let gate = WhileRead { clock: rt, flags };
     let (pinned, touched) = pins_and_touches(rt, alloc, node, &gate);
     let pinned = list_of(rt, alloc, pinned);

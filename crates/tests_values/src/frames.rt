@@ -106,8 +106,8 @@ fn digests_stand_bucket_0_first(rt: HostRuntime) {
     assert!(rt; bring_digests(&rt, rt.alloc(), &narrow_table(), 0));
 }
 
-// A frame of this many entries, whose header and count come first: an entry has no device, a number of these zeros and four bytes, and
-// a history of these bytes.
+// A frame of this many entries, whose header and count come first: an entry has no device, a number
+// of these zeros and four bytes, and a history of these bytes.
 fn frame_of(
     rt: &impl Abort,
     alloc: Global,
@@ -127,7 +127,8 @@ fn frame_of(
     text
 }
 
-// The header and the count of sender 1's entries: how many bytes the body has, and its count, by their last two bytes.
+// The header and the count of sender 1's entries: how many bytes the body has, and its count, by
+// their last two bytes.
 const fn wide_start(len: [u8; 2], count: [u8; 2]) -> [u8; 23] {
     [
         0x4C, 0x32, 0x47, 0x32, 1, 0, 1, 0, 0, 0, 0, 0, 0, 0, 0, 0, 0, len[0], len[1], 0, 0,
@@ -135,7 +136,8 @@ const fn wide_start(len: [u8; 2], count: [u8; 2]) -> [u8; 23] {
     ]
 }
 
-// A frame of 1000 entries of two stamps each, which is as long as one can be: its body has 31,004 bytes.
+// A frame of 1000 entries of two stamps each, which is as long as one can be: its body has 31,004
+// bytes.
 pub(crate) fn longest_wide(rt: &impl Abort, alloc: Global) -> Vec<u8> {
     let start = wide_start([0x79, 0x1C], [3, 0xE8]);
     frame_of(rt, alloc, &start, 1000, &[0; 4], &NARROW[21..])

@@ -113,8 +113,8 @@ fn a_frame_twice_over(rt: HostRuntime) {
     }
 }
 
-// A whole frame with the first byte of the next is one piece: the byte is not taken with the frame. It is then taken as a piece of its
-// own, and the bytes after it show that no frame begins so.
+// A whole frame with the first byte of the next is one piece: the byte is not taken with the frame.
+// It is then taken as a piece of its own, and the bytes after it show that no frame begins so.
 #[test]
 fn a_frame_and_a_byte_in_one_piece(rt: HostRuntime) {
     let alloc = rt.alloc();

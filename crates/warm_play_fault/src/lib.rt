@@ -1,7 +1,7 @@
 //! Why a play did not reach its end.
 //!
-//! [`PlayFault`] has a crate of its own, below the players (`warm_schedule`) and the endings of the program
-//! (`warm_setup`), so that neither of these depends on the other.
+//! [`PlayFault`] has a crate of its own, below the players (`warm_schedule`) and the endings of the
+//! program (`warm_setup`), so that neither of these depends on the other.
 #![tactic(auto)]
 
 ghost use Rattle.std.specs.Prelude.{◌≡◌};

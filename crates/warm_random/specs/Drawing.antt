@@ -27,11 +27,11 @@ first >>= next = λ g. next (first g).0 (first g).1
 abbrev pub word : Draw ℕ
 word = pcg32
 
--- a number below n
+-- a draw of a number below n
 abbrev pub below : ℕ → Draw ℕ
 below n = word >>= λ r. always (r % n)
 
--- a number from 1 to n
+-- a draw of a number from 1 to n
 abbrev pub draw_up_to : ℕ → Draw ℕ
 draw_up_to n = word >>= λ r. always (1 + r % n)
 

@@ -1,7 +1,8 @@
 //! Schedules drawn at random: the same lines for the same seed, everywhere.
 //!
-//! The words are those of the generator PCG32 (`Lcg64Xsh32` of the crate `rand_pcg`), which takes the seed as its state
-//! and 1 as its stream. docs/FORMATS.md has the table of the lines and the order in which their fields are drawn.
+//! The words are those of the generator PCG32 (`Lcg64Xsh32` of the crate `rand_pcg`), which takes
+//! the seed as its state and 1 as its stream. docs/FORMATS.md has the table of the lines and the
+//! order in which their fields are drawn.
 #![tactic(auto)]
 
 ghost use Rattle.std.specs.Prelude.{◌≡◌, ◌≤◌, ◌<◌, ◌+◌, ◌^◌, OnOk};
@@ -33,10 +34,10 @@ pub enum Line {
         replica: u64,
         bucket: u64,
     },
-    /// `deliver REPLICA FRAME`: the number of a message that was sent before, or of the next one.
+    /// `deliver REPLICA MESSAGE`: the number of a message that was sent before, or of the next one.
     Deliver {
         replica: u64,
-        frame: u64,
+        message: u64,
     },
     /// `show REPLICA`
     Show {
@@ -68,7 +69,7 @@ impl Line {
             } => writeln!(writer, "ref {replica} {worker} 0:{page} {time}"),
             Line::Flush { replica, worker } => writeln!(writer, "flush {replica} {worker}"),
             Line::Send { replica, bucket } => writeln!(writer, "send {replica} {bucket}"),
-            Line::Deliver { replica, frame } => writeln!(writer, "deliver {replica} {frame}"),
+            Line::Deliver { replica, message } => writeln!(writer, "deliver {replica} {message}"),
             Line::Show { replica } => writeln!(writer, "show {replica}"),
         }
     }
@@ -114,7 +115,7 @@ fn draw_line(words: &mut Lcg64Xsh32, replicas: u64, workers: u64, time: u64, sen
         },
         6 => Line::Deliver {
             replica: up_to(words, replicas),
-            frame: up_to(words, sends + 1),
+            message: up_to(words, sends + 1),
         },
         _ => Line::Show {
             replica: up_to(words, replicas),

@@ -1,8 +1,8 @@
 -- What the reply to a batch says.
 use Rattle.std.proofs.Common.{◌≡◌, List, subst, ⊎_elim}
 use Rattle.warm_stamps.specs.declared.Reference.{Reference}
-use Rattle.warm_turn.specs.declared.board.View.{View}
-use Rattle.warm_turn.specs.Turns.{Called}
+use Rattle.warm_turn.specs.declared.table.View.{View}
+use Rattle.warm_turn.specs.CallHistories.{Called}
 use Rattle.warm_turn.proofs.Passes.{called_step}
 use Rattle.warm_gossip.specs.declared.call.Call.{Call}
 use Rattle.warm_gossip.specs.declared.call.Call.TheVariants.{Absorb}

@@ -4,8 +4,8 @@ use Rattle.std.proofs.Math.Nat.{lt_of_not-le}
 use Rattle.warm_stamps.specs.declared.Reference.{Reference}
 use Rattle.warm_refbuffer.specs.declared.Full.{Full as Back}
 use Rattle.warm_refbuffer.specs.Buffered.{Buffered}
-use Rattle.warm_turn.specs.declared.board.View.{View}
-use Rattle.warm_turn.specs.Turns.{Called, Extended, Sight, entry, marked}
+use Rattle.warm_turn.specs.declared.table.View.{View}
+use Rattle.warm_turn.specs.CallHistories.{Called, Extended, PassView, entry, marked}
 use Rattle.warm_turn.proofs.Passes.{Extended-self, Extended-marked, Extended-called}
 use Rattle.warm_gossip.specs.declared.call.Call.{Call}
 use Rattle.warm_gossip.specs.declared.call.Call.TheVariants.{Absorb}
@@ -15,7 +15,8 @@ use Rattle.warm_gossip.specs.Batches.{no_memory}
 use Rattle.warm_replica.specs.declared.fault.FlushFault.{FlushFault}
 use Rattle.warm_replica.specs.declared.fault.FlushFault.TheVariants.{Memory, TurnsSpent}
 use Rattle.warm_replica.specs.declared.job.Step.{Step}
-use Rattle.warm_replica.specs.declared.job.Step.TheVariants.{Touch, Flush, Make}
+use Rattle.warm_replica.specs.declared.job.Step.TheVariants.{Touch, Flush}
+use Rattle.warm_replica.specs.declared.job.Step.TheVariants as job_step
 use Rattle.warm_replica.specs.declared.job.StepReply.{StepReply}
 use Rattle.warm_replica.specs.declared.job.StepReply.TheVariants.{Touched, Full, Flushed, Failed}
 use Rattle.warm_replica.specs.Jobs.{Calls, Gave, StepWent}
@@ -41,10 +42,10 @@ module _ {X : Type 0} (v w : Working X Call Reply) (step : Step) where
   GaveTo reply made s = Gave v.buffer.capacity v.pass.view.number v.pass.view.found_last v.buffer.refs s reply w.pass.view.found_last w.buffer.refs made
 
   stays : w.pass ≡ v.pass → Extended v.pass.view [] w.pass.view
-  stays same = subst (λ (p : Sight X Call Reply). Extended v.pass.view [] p.view) (sym same) (Extended-self v.pass.view)
+  stays same = subst (λ (p : PassView X Call Reply). Extended v.pass.view [] p.view) (sym same) (Extended-self v.pass.view)
 
   mark_stays : w.pass ≡ v.pass → w.pass.view.found_last ≡ v.pass.view.found_last
-  mark_stays same = ap (λ (p : Sight X Call Reply). p.view.found_last) same
+  mark_stays same = ap (λ (p : PassView X Call Reply). p.view.found_last) same
 
   mark_stands : w.pass.view ≡ marked v.pass.view → w.pass.view.found_last ≡ true
   mark_stands spent = ap (λ (u : View X Call Reply). u.found_last) spent
@@ -108,7 +109,7 @@ module _ {X : Type 0} (v w : Working X Call Reply) (step : Step) where
       ))
       kept.1
 
-  pub was_spent : (call : Call) → step ≡ Make call → w.buffer ≡ v.buffer → w.pass.view ≡ marked v.pass.view → StepWent v step (Failed TurnsSpent) w
+  pub was_spent : (call : Call) → step ≡ job_step.Call call → w.buffer ≡ v.buffer → w.pass.view ≡ marked v.pass.view → StepWent v step (Failed TurnsSpent) w
   was_spent call is same spent = (
     [],
     subst (GaveTo (Failed TurnsSpent) []) (sym is) (mark_stands spent, ap (λ (b : Buffered). b.refs) same, refl),

@@ -3,10 +3,10 @@ use Rattle.std.specs.Prelude.{◌≡◌, ◌⊎◌, ℕ, ◌<◌, ◌≤◌, Lis
 use Rattle.std.specs.List.{All}
 use Rattle.warm_stamps.specs.declared.Reference.{Reference}
 use Rattle.warm_refbuffer.specs.Buffered.{IsCapacity}
-use Rattle.warm_turn.specs.declared.board.Entry.{Entry}
-use Rattle.warm_turn.specs.declared.board.Ended.{Ended}
-use Rattle.warm_turn.specs.declared.board.View.{View}
-use Rattle.warm_turn.specs.Turns.{entry, Extended, Widened}
+use Rattle.warm_turn.specs.declared.table.Entry.{Entry}
+use Rattle.warm_turn.specs.declared.table.EndedPass.{EndedPass}
+use Rattle.warm_turn.specs.declared.table.View.{View}
+use Rattle.warm_turn.specs.CallHistories.{entry, Extended, Widened}
 use Rattle.warm_gossip.specs.declared.call.Call.{Call}
 use Rattle.warm_gossip.specs.declared.call.Call.TheVariants.{Absorb}
 use Rattle.warm_gossip.specs.declared.call.Reply.{Reply}
@@ -14,7 +14,8 @@ use Rattle.warm_gossip.specs.declared.call.Reply.TheVariants.{Done}
 use Rattle.warm_replica.specs.declared.fault.FlushFault.TheVariants.{Memory, TurnsSpent}
 use Rattle.warm_replica.specs.declared.job.Job.{Job}
 use Rattle.warm_replica.specs.declared.job.Step.{Step}
-use Rattle.warm_replica.specs.declared.job.Step.TheVariants.{Touch, Flush, Make}
+use Rattle.warm_replica.specs.declared.job.Step.TheVariants.{Touch, Flush}
+use Rattle.warm_replica.specs.declared.job.Step.TheVariants as job_step
 use Rattle.warm_replica.specs.declared.job.StepReply.{StepReply}
 use Rattle.warm_replica.specs.declared.job.StepReply.TheVariants.{Touched, Full, Flushed, Answered, Failed}
 use Rattle.warm_gossip.specs.Batches.{no_memory}
@@ -36,8 +37,8 @@ Gave capacity n spent held Flush Flushed after held' made = (spent ≡ false) ×
 Gave capacity n spent held Flush (Failed Memory) after held' made =
     (held' ≡ held) × (((after ≡ spent) × (made ≡ [])) ⊎ ((spent ≡ false) × (after ≡ false) × (made ≡ entry n (Absorb held) no_memory ∷ [])))
 Gave capacity n spent held Flush (Failed TurnsSpent) after held' made = (after ≡ true) × (held' ≡ held) × (made ≡ [])
-Gave capacity n spent held (Make call) (Answered reply) after held' made = (spent ≡ false) × (after ≡ false) × (held' ≡ held) × (made ≡ entry n call reply ∷ [])
-Gave capacity n spent held (Make call) (Failed TurnsSpent) after held' made = (after ≡ true) × (held' ≡ held) × (made ≡ [])
+Gave capacity n spent held (job_step.Call call) (Answered reply) after held' made = (spent ≡ false) × (after ≡ false) × (held' ≡ held) × (made ≡ entry n call reply ∷ [])
+Gave capacity n spent held (job_step.Call call) (Failed TurnsSpent) after held' made = (after ≡ true) × (held' ≡ held) × (made ≡ [])
 Gave capacity n spent held step reply after held' made = ⊥
 
 -- the same, for steps one after another
@@ -70,10 +71,10 @@ module _ {X : Type 0} where
       (held : List Reference) × (made : Calls) × AllGave capacity v.number v.found_last [] steps replies w.found_last held made × Extended v made w
 
 -- the calls of an ended pass, which began without a mark, are those of a job with these replies
-abbrev pub WentAs : ℕ → List Step → List StepReply → Ended Call Reply → Type 0
+abbrev pub WentAs : ℕ → List Step → List StepReply → EndedPass Call Reply → Type 0
 WentAs capacity steps replies e = (after : Bool) × (held : List Reference) × AllGave capacity e.number false [] steps replies after held e.calls
 
-abbrev pub JobWentAs : Job → Replied → Ended Call Reply → Type 0
+abbrev pub JobWentAs : Job → Replied → EndedPass Call Reply → Type 0
 JobWentAs job replies e = WentAs job.capacity job.steps.items replies.items e
 
 -- every job has a valid buffer capacity
@@ -84,8 +85,8 @@ HaveCapacities jobs = All (λ job. IsCapacity job.capacity) jobs
 -- whose calls are that job's, and one pass that made no calls
 abbrev pub JobsWent : {X : Type 0} → View X Call Reply → List Job → List Replied → View X Call Reply → Type 0
 JobsWent v jobs replies w =
-    (fan : Ended Call Reply) × (more : List (Ended Call Reply)) × Widened v (fan ∷ more) w × (fan.calls ≡ []) × Triples JobWentAs jobs replies more
+    (fan : EndedPass Call Reply) × (more : List (EndedPass Call Reply)) × Widened v (fan ∷ more) w × (fan.calls ≡ []) × Triples JobWentAs jobs replies more
 
 -- the pass has seen more, and holds passes of unspecified jobs
 abbrev pub HasSeenMore : {X : Type 0} → View X Call Reply → View X Call Reply → Type 0
-HasSeenMore v w = (more : List (Ended Call Reply)) × Widened v more w
+HasSeenMore v w = (more : List (EndedPass Call Reply)) × Widened v more w

@@ -4,13 +4,13 @@ ghost use Rattle.std.specs.Prelude.{Err, IfOk, IfErr, IsTrue};
 ghost use Rattle.std.specs.Thread.{IsSync, IsSend};
 ghost use Rattle.warm_refbuffer.specs.Buffered.{IsCapacity};
 ghost use Rattle.warm_replica.specs.Jobs.{HasSeenMore, HaveCapacities, JobsWent};
-ghost use Rattle.warm_replica.specs.Fanning.{AreReady, IsReady, ReadyWent, Fanned, HasFanned};
+ghost use Rattle.warm_replica.specs.Fanning.{ArePrepared, IsPrepared, PreparedJobWent, Fanned, HasFanned};
 
 use crate::fault::{NoThread, RunFault};
 use crate::job::{Gate, Job, Step, take_steps};
-use crate::ready::Ready;
+use crate::prepared::PreparedJob;
 use crate::replies::Replies;
-use crate::worker::{Absorbing, Worker};
+use crate::worker::{BatchMachine, Worker};
 use std::alloc::{AllocError, Global};
 use std::snapshot::Snapshot;
 use std::sync::Wait;
@@ -22,15 +22,15 @@ use warm_turn::{Machine, Pass, Turn};
 /// The maximum number of jobs of one run.
 pub const MAX_JOBS: usize = 64;
 
-// What a job begins with.
+// What a job's thread begins with.
 #[derive(Drop)]
-struct Began<M: Machine> {
+struct JobStart<M: Machine> {
     buffer: Snapshot<RefBuffer>,
     steps: Snapshot<Vec<Step>>,
     pass: Snapshot<Pass<M>>,
 }
 
-impl<M: Absorbing> Promise<(Pass<M>, Replies)> for Began<M> {
+impl<M: BatchMachine> Promise<(Pass<M>, Replies)> for JobStart<M> {
     ghost use Rattle.std.specs.Prelude.{◌≡◌};
     ghost use Rattle.warm_replica.specs.Jobs.{JobWent};
 
@@ -40,24 +40,24 @@ impl<M: Absorbing> Promise<(Pass<M>, Replies)> for Began<M> {
 }
 
 // The steps of a job, with a pass of its own.
-fn run_job<M: Absorbing, R: Wait, G: Gate>(
+fn run_job<M: BatchMachine, R: Wait, G: Gate>(
     rt: &R,
     alloc: Global,
     replica: &Turn<M>,
     gate: &G,
     pass: Pass<M>,
-    ready: Ready,
+    prepared: PreparedJob,
 ) -> (Pass<M>, Replies)
     requires { pass.table ≡ replica.now.table }
     ensures table { result.0.table ≡ pass.table }
-    ensures went { ReadyWent ready result.1 pass.view result.0.view }
+    ensures went { PreparedJobWent prepared result.1 pass.view result.0.view }
 {
-    let Ready {
+    let PreparedJob {
         job,
         buffer,
         steps,
         mut replies,
-    } = ready;
+    } = prepared;
     let mut worker = Worker::new(pass, buffer);
     take_steps(
         rt,
@@ -74,46 +74,47 @@ fn run_job<M: Absorbing, R: Wait, G: Gate>(
 }
 
 // Starts a job in a thread of its own, with a pass of its own.
-fn start_job<'s, E, M: Absorbing + Send + 's, R: Wait + Sync, G: Gate + Sync>(
+fn start_job<'s, E, M: BatchMachine + Send + 's, R: Wait + Sync, G: Gate + Sync>(
     scope: &Scope<'s, E>,
     rt: &'s R,
     alloc: Global,
     replica: &'s Turn<M>,
     gate: &'s G,
     mine: Pass<M>,
-    ready: Ready,
-) -> Result<PromisedHandle<(Pass<M>, Replies), Began<M>>, NoThread>
+    prepared: PreparedJob,
+) -> Result<PromisedHandle<(Pass<M>, Replies), JobStart<M>>, NoThread>
     requires send { IsSend M.row × IsSync R.row × IsSync G.row }
     requires table { mine.table ≡ replica.now.table }
-    ensures buffer { IfOk result (λ child. child.promise.buffer.value ≡ ready.buffer) }
-    ensures steps { IfOk result (λ child. child.promise.steps.value ≡ ready.steps) }
+    ensures buffer { IfOk result (λ child. child.promise.buffer.value ≡ prepared.buffer) }
+    ensures steps { IfOk result (λ child. child.promise.steps.value ≡ prepared.steps) }
     ensures pass { IfOk result (λ child. child.promise.pass.value ≡ mine) }
 {
-    let began = Began {
-        buffer: Snapshot::of(&ready.buffer),
-        steps: Snapshot::of(&ready.steps),
+    let start = JobStart {
+        buffer: Snapshot::of(&prepared.buffer),
+        steps: Snapshot::of(&prepared.steps),
         pass: Snapshot::of(&mine),
     };
     let child = scope.spawn_with(
-        began,
+        start,
         move || -> (Pass<M>, Replies)
             requires { mine.table ≡ replica.now.table }
             ensures { (result.0.table ≡ mine.table)
-                × ReadyWent ready result.1 mine.view result.0.view }
-        { run_job(rt, alloc, replica, gate, mine, ready) },
+                × PreparedJobWent prepared result.1 mine.view result.0.view }
+        { run_job(rt, alloc, replica, gate, mine, prepared) },
     )?;
     Ok(child)
 }
 
-// Runs each job in a thread of its own, the last one first to start, and ends their passes into this one.
-fn fan_out<'s, E, M: Absorbing + Send + 's, R: Threads + Wait + Sync, G: Gate + Sync>(
+// Runs each job in a thread of its own, the last one first to start, and ends their passes into
+// this one.
+fn fan_out<'s, E, M: BatchMachine + Send + 's, R: Threads + Wait + Sync, G: Gate + Sync>(
     scope: &Scope<'s, E>,
     rt: &'s R,
     alloc: Global,
     replica: &'s Turn<M>,
     gate: &'s G,
     pass: &mut Pass<M>,
-    mut jobs: Vec<Ready>,
+    mut jobs: Vec<PreparedJob>,
     all: &mut Vec<Replies>,
 ) -> Result<(), NoThread>
     requires send { IsSend M.row × IsSync R.row × IsSync G.row }
@@ -123,11 +124,11 @@ fn fan_out<'s, E, M: Absorbing + Send + 's, R: Threads + Wait + Sync, G: Gate + 
     ensures capacity { vec_capacity all.old ≤ vec_capacity all.new }
     ensures fanned { HasFanned pass.old.view jobs.items result all.new.items pass.new.view }
 {
-    let Some(ready) = jobs.pop() else {
+    let Some(prepared) = jobs.pop() else {
         return Ok(());
     };
     let mine = replica.pass(pass);
-    let child = start_job(scope, rt, alloc, replica, gate, mine, ready)?;
+    let child = start_job(scope, rt, alloc, replica, gate, mine, prepared)?;
     let rest = fan_out(scope, rt, alloc, replica, gate, pass, jobs, all);
     let (theirs, replies) = child.join(rt);
     replica.end(pass, theirs);
@@ -140,16 +141,16 @@ fn fan_out<'s, E, M: Absorbing + Send + 's, R: Threads + Wait + Sync, G: Gate + 
 
 // A job with its buffer, and with capacity for its replies. The buffer's capacity is valid, so only
 // an allocation can fail.
-fn make_ready(alloc: Global, number: usize, job: Job) -> Result<Ready, AllocError>
+fn prepare_job(alloc: Global, number: usize, job: Job) -> Result<PreparedJob, AllocError>
     requires { IsCapacity job.capacity }
-    ensures { IfOk result (IsReady job) }
+    ensures { IfOk result (IsPrepared job) }
 {
     let Job { capacity, steps } = job;
     let Ok(buffer) = RefBuffer::new(alloc, capacity) else {
         return Err(AllocError);
     };
     let replies = Replies::with_capacity(alloc, steps.len())?;
-    Ok(Ready {
+    Ok(PreparedJob {
         job: number,
         buffer,
         steps,
@@ -158,14 +159,14 @@ fn make_ready(alloc: Global, number: usize, job: Job) -> Result<Ready, AllocErro
 }
 
 // The jobs with their buffers, and with capacity for their replies.
-fn make_all_ready(alloc: Global, jobs: Vec<Job>) -> Result<Vec<Ready>, AllocError>
+fn prepare_jobs(alloc: Global, jobs: Vec<Job>) -> Result<Vec<PreparedJob>, AllocError>
     requires { HaveCapacities jobs.items }
-    ensures { IfOk result (λ v. AreReady jobs.items v.items) }
+    ensures { IfOk result (λ v. ArePrepared jobs.items v.items) }
 {
     let mut all = Vec::with_capacity(alloc, jobs.len())?;
     for job in jobs {
         let number = all.len();
-        all.push_reserved(make_ready(alloc, number, job)?);
+        all.push_reserved(prepare_job(alloc, number, job)?);
     }
     Ok(all)
 }
@@ -178,20 +179,20 @@ fn have_capacities(jobs: &[Job]) -> bool
         .all(|job| 1 <= job.capacity && job.capacity <= MAX_CAPACITY)
 }
 
-// Runs the jobs that are ready, with a pass of their own.
-fn run_ready<M: Absorbing + Send, R: Threads + Wait + Sync, G: Gate + Sync>(
+// Runs the prepared jobs, with a pass of their own.
+fn run_prepared<M: BatchMachine + Send, R: Threads + Wait + Sync, G: Gate + Sync>(
     rt: &R,
     alloc: Global,
     replica: &Turn<M>,
     gate: &G,
     own: Pass<M>,
-    ready: Vec<Ready>,
+    prepared: Vec<PreparedJob>,
     all: Vec<Replies>,
 ) -> (Pass<M>, Result<Vec<Replies>, NoThread>)
     requires table { own.table ≡ replica.now.table }
-    requires capacity { (all.items ≡ []) × (length ready.items ≤ vec_capacity all) }
+    requires capacity { (all.items ≡ []) × (length prepared.items ≤ vec_capacity all) }
     ensures table { result.0.table ≡ own.table }
-    ensures fanned { Fanned own.view ready.items result.1 result.0.view }
+    ensures fanned { Fanned own.view prepared.items result.1 result.0.view }
 {
     thread::scope(
         thread::scope_env(),
@@ -199,13 +200,15 @@ fn run_ready<M: Absorbing + Send, R: Threads + Wait + Sync, G: Gate + Sync>(
         move |scope| -> (Pass<M>, Result<Vec<Replies>, NoThread>)
             requires { IsSend M.row × IsSync R.row × IsSync G.row
                 × (own.table ≡ replica.now.table)
-                × (all.items ≡ []) × (length ready.items ≤ vec_capacity all) }
+                × (all.items ≡ []) × (length prepared.items ≤ vec_capacity all) }
             ensures { (result.0.table ≡ own.table)
-                × Fanned own.view ready.items result.1 result.0.view }
+                × Fanned own.view prepared.items result.1 result.0.view }
         {
             let mut own = own;
             let mut all = all;
-            match fan_out(scope, rt, alloc, replica, gate, &mut own, ready, &mut all) {
+            match fan_out(
+                scope, rt, alloc, replica, gate, &mut own, prepared, &mut all,
+            ) {
                 Ok(()) => (own, Ok(all)),
                 Err(none) => (own, Err(none)),
             }
@@ -229,7 +232,7 @@ fn run_ready<M: Absorbing + Send, R: Threads + Wait + Sync, G: Gate + Sync>(
 ///   was started.
 /// - `NoThread`: a thread could not be started; this includes an allocation failure on starting it.
 ///   The jobs that were started have run to their end, and the pass has seen their calls.
-pub fn run_workers<M: Absorbing + Send, R: Threads + Wait + Sync, G: Gate + Sync>(
+pub fn run_workers<M: BatchMachine + Send, R: Threads + Wait + Sync, G: Gate + Sync>(
     rt: &R,
     alloc: Global,
     replica: &Turn<M>,
@@ -249,10 +252,10 @@ pub fn run_workers<M: Absorbing + Send, R: Threads + Wait + Sync, G: Gate + Sync
     if !have_capacities(&jobs) {
         return Err(RunFault::BadCapacity);
     }
-    let ready = make_all_ready(alloc, jobs)?;
-    let all = Vec::with_capacity(alloc, ready.len())?;
+    let prepared = prepare_jobs(alloc, jobs)?;
+    let all = Vec::with_capacity(alloc, prepared.len())?;
     let own = replica.pass(pass);
-    let (own, ran) = run_ready(rt, alloc, replica, gate, own, ready, all);
+    let (own, ran) = run_prepared(rt, alloc, replica, gate, own, prepared, all);
     replica.end(pass, own);
     let replies = ran?;
     Ok(replies)

@@ -5,7 +5,7 @@ ghost use Rattle.warm_replica.specs.Jobs.{StepWent, StepsWent};
 use crate::boxed::{BoxedCall, BoxedReply};
 use crate::fault::FlushFault;
 use crate::replies::Replies;
-use crate::worker::{Absorbing, Worker};
+use crate::worker::{BatchMachine, Worker};
 use std::alloc::Global;
 use std::sync::Wait;
 use warm_refbuffer::Full;
@@ -20,8 +20,8 @@ pub enum Step {
     Touch(Reference),
     /// Have the replica absorb the buffer, and empty it.
     Flush,
-    /// Make a call.
-    Make(BoxedCall),
+    /// Make this call.
+    Call(BoxedCall),
 }
 
 /// The reply to a step.
@@ -60,8 +60,18 @@ pub trait Gate {
     fn after(&self, job: usize, step: usize);
 }
 
+/// A gate that does nothing, for jobs that nobody watches.
+#[derive(Clone, Copy, Debug)]
+pub struct NoGate;
+
+impl Gate for NoGate {
+    fn before(&self, _job: usize, _step: usize) {}
+
+    fn after(&self, _job: usize, _step: usize) {}
+}
+
 // One step of a job.
-fn take_step<M: Absorbing, R: Wait>(
+fn take_step<M: BatchMachine, R: Wait>(
     rt: &R,
     alloc: Global,
     replica: &Turn<M>,
@@ -81,7 +91,7 @@ fn take_step<M: Absorbing, R: Wait>(
             Ok(()) => StepReply::Flushed,
             Err(fault) => StepReply::Failed(fault),
         },
-        Step::Make(boxed) => {
+        Step::Call(boxed) => {
             let (call, slot) = boxed.into_parts();
             match worker.call(rt, replica, call) {
                 Ok(reply) => StepReply::Answered(slot.with(reply)),
@@ -92,7 +102,7 @@ fn take_step<M: Absorbing, R: Wait>(
 }
 
 // All steps of a job, in order. There is capacity for the replies.
-pub(crate) fn take_steps<M: Absorbing, R: Wait, G: Gate>(
+pub(crate) fn take_steps<M: BatchMachine, R: Wait, G: Gate>(
     rt: &R,
     alloc: Global,
     replica: &Turn<M>,

@@ -2,7 +2,7 @@
 ghost use Rattle.std.specs.Prelude.{◌≡◌, ◌≢◌, [], ◌∷◌, ◌++◌, true, false};
 ghost use Rattle.std.specs.Prelude.{IfErr, IsErr, OnErr, OnOk, Some, ◌==◌, position};
 ghost use Rattle.std.specs.List.{All};
-ghost use Rattle.warm_replica.specs.Parcels.{Gained};
+ghost use Rattle.warm_replica.specs.AddressedBytes.{Gained};
 
 use crate::mail::Mail;
 use crossbeam_channel::Sender;
@@ -15,13 +15,13 @@ use warm_stamps::{ByteList, ReplicaId};
 /// contracts of a mail loop state what a post that keeps has gained.
 pub trait Post {
     ghost use Rattle.std.specs.Prelude.{List, Bool};
-    ghost use Rattle.warm_replica.specs.Parcels.{Parcel};
+    ghost use Rattle.warm_replica.specs.AddressedBytes.{AddressedBytes};
 
     // Whether it keeps what it takes.
     ghost keeps: { Bool };
 
     // What it has taken and keeps, oldest first.
-    ghost given: { Self → List Parcel };
+    ghost given: { Self → List AddressedBytes };
 
     /// Takes bytes for a replica, or gives them back and is unchanged.
     fn post(&mut self, to: ReplicaId, bytes: ByteList) -> Result<(), ByteList>
@@ -31,8 +31,8 @@ pub trait Post {
         ensures same { OnErr result (Gained keeps (given self.old) [] (given self.new)) };
 }
 
-/// A post that keeps what it is given, in memory, for tests and for callers that carry the bytes themselves. Contracts see the list,
-/// oldest first.
+/// A post that keeps what it is given, in memory, for tests and for callers that carry the bytes
+/// themselves. Contracts see the list, oldest first.
 #[derive(Drop)]
 pub struct MemPost {
     given: Vec<(ReplicaId, ByteList)>,
@@ -119,7 +119,8 @@ fn send_at<R: Wait>(
     }
 }
 
-/// A post that sends to the first outbox of a replica's number, for replicas that listen in threads of one program. It keeps nothing.
+/// A post that sends to the first outbox of a replica's number, for replicas that listen in threads
+/// of one program. It keeps nothing.
 #[derive(Drop)]
 pub struct Outboxes<'a, R: Wait> {
     rt: &'a R,

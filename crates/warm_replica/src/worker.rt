@@ -1,6 +1,6 @@
 //! A worker of a replica: a pass of its own, and a buffer of references.
 ghost use Rattle.std.specs.Prelude.{◌≡◌, ◌≤◌, ◌<◌, length, Err, IsOk, IfOk, IfErr, OnOk};
-ghost use Rattle.warm_turn.specs.Turns.{Called, marked};
+ghost use Rattle.warm_turn.specs.CallHistories.{Called, marked};
 ghost use Rattle.warm_refbuffer.specs.Buffered.{with_last};
 ghost use Rattle.warm_replica.specs.Working.{Flushes, KeepsBatch};
 
@@ -16,14 +16,14 @@ use warm_turn::{Machine, Pass, Turn};
 
 /// A machine that answers the calls of a node, and refuses a batch of references only because of an
 /// allocation failure. Flushes and jobs require it, so that a refused flush has one meaning.
-pub trait Absorbing: Machine<Call = Call, Reply = Reply> {
+pub trait BatchMachine: Machine<Call = Call, Reply = Reply> {
     ghost use Rattle.warm_gossip.specs.Batches.{TakesBatches};
 
     // A batch is absorbed, or refused because of an allocation failure.
     ghost absorbs: { TakesBatches Self.Machine.goes };
 }
 
-impl<D: PageDevice + Send> Absorbing for Node<D> {
+impl<D: PageDevice + Send> BatchMachine for Node<D> {
     ghost use Rattle.warm_gossip.proofs.Batches.{batches_are_taken};
 
     ghost absorbs = { batches_are_taken };
@@ -69,11 +69,7 @@ impl<M: Machine<Call = Call, Reply = Reply>> Worker<M> {
     pub fn into_parts(self) -> (Pass<M>, RefBuffer)
         ensures { result ≡ (self.pass, self.buffer) }
     {
-        let Worker {
-            pass,
-            buffer: waiting,
-        } = self;
-        (pass, waiting)
+        (self.pass, self.buffer)
     }
 
     /// Puts a reference last in the buffer. It is allocation-free and never waits: it shares
@@ -112,7 +108,7 @@ impl<M: Machine<Call = Call, Reply = Reply>> Worker<M> {
     }
 }
 
-impl<M: Absorbing> Worker<M> {
+impl<M: BatchMachine> Worker<M> {
     /// Has the replica absorb the whole buffer in one turn, and empties the buffer. It may wait for
     /// the turn.
     ///

@@ -1,5 +1,5 @@
 -- The language and the answers, computed on lines and answers derived by hand.
-use Rattle.std.proofs.Common.{◌≡◌, inl, ◌<◌, List, ℕ, [], ◌∷◌, Some, None, refl, arith}
+use Rattle.std.proofs.Common.{◌≡◌, inl, ◌<◌, List, ℕ, [], ◌∷◌, Some, None, Err, refl, arith}
 use Rattle.std.specs.Fmt.{digits}
 use Rattle.std.specs.Prelude.{codes}
 use Rattle.warm_stamps.specs.declared.PageId.{PageId}
@@ -17,11 +17,11 @@ use Rattle.warm_history.specs.declared.hist.PageHist.TheVariants.{Once, Twice}
 use Rattle.warm_world.specs.declared.event.Event.TheVariants.{Refer, Flush, Send, Offer, Deliver, Pin, Unpin, Put, Get, Victim, Warm, WarmStep, Restart, Horizon, Show}
 use Rattle.warm_world.specs.declared.event.Answer.TheVariants.{Done, Shown, FrameNo, Took, Pinned, Bytes, Page, Pages, Loaded, Kept, Refused}
 use Rattle.warm_world.specs.declared.event.WorldFault.TheVariants.{Node, NoSuchReplica, NoSuchWorker, NoSuchFrame}
-use Rattle.warm_schedule.specs.declared.parse.Line.TheVariants.{Nothing, Act}
+use Rattle.warm_schedule.specs.declared.parse.Line.TheVariants as meant
 use Rattle.warm_schedule.specs.Text.{lines, words}
 use Rattle.warm_schedule.specs.Fields.{number_up_to, page_of_word, slot_of_word, bytes_of_hex, number_field, page_field, after_field, slot_field, bytes_field}
 use Rattle.warm_schedule.specs.Grammar.{line_of, meaning, commands, refer_of, flush_of, send_of, offer_of, deliver_of, pin_of, unpin_of, put_of, get_of, victim_of, warm_of, warmstep_of, restart_of, horizon_of, show_of}
-use Rattle.warm_schedule.specs.Workers.{worker_line_in}
+use Rattle.warm_schedule.specs.Workers.{worker_request_in}
 use Rattle.warm_schedule.specs.Answers.{answer_text}
 
 abbrev page : ℕ → ℕ → PageId
@@ -35,19 +35,19 @@ slot s g = record { index = s; generation = g }
 
 -- ---- lines
 
-ref_line : line_of (codes "ref 1 2 0:1 10") ≡ Some (Act (Refer 1 2 (page 0 1) 10))
+ref_line : line_of (codes "ref 1 2 0:1 10") ≡ Some (meant.Event (Refer 1 2 (page 0 1) 10))
 unfolding line_of commands words number_up_to page_of_word number_field page_field refer_of
 ref_line = refl
 
-spaces_and_zeros : line_of (codes "  flush  001   2 ") ≡ Some (Act (Flush 1 2))
+spaces_and_zeros : line_of (codes "  flush  001   2 ") ≡ Some (meant.Event (Flush 1 2))
 unfolding line_of commands words number_up_to number_field flush_of
 spaces_and_zeros = refl
 
-send_line : line_of (codes "send 1 63") ≡ Some (Act (Send 1 63 None))
+send_line : line_of (codes "send 1 63") ≡ Some (meant.Event (Send 1 63 None))
 unfolding line_of commands words number_up_to number_field after_field send_of
 send_line = refl
 
-send_after : line_of (codes "send 1 0 0:63936") ≡ Some (Act (Send 1 0 (Some (page 0 63936))))
+send_after : line_of (codes "send 1 0 0:63936") ≡ Some (meant.Event (Send 1 0 (Some (page 0 63936))))
 unfolding line_of commands words number_up_to page_of_word number_field after_field send_of
 send_after = refl
 
@@ -55,7 +55,7 @@ no_such_bucket : line_of (codes "send 1 64") ≡ None
 unfolding line_of commands words number_up_to number_field send_of
 no_such_bucket = refl
 
-greatest_frame : line_of (codes "deliver 65535 18446744073709551615") ≡ Some (Act (Deliver 65535 18446744073709551615))
+greatest_frame : line_of (codes "deliver 65535 18446744073709551615") ≡ Some (meant.Event (Deliver 65535 18446744073709551615))
 unfolding line_of commands words number_up_to number_field deliver_of
 greatest_frame = refl
 
@@ -63,19 +63,19 @@ over_range : line_of (codes "deliver 1 18446744073709551616") ≡ None
 unfolding line_of commands words number_up_to number_field deliver_of
 over_range = refl
 
-warm_line : line_of (codes "warm 1 3") ≡ Some (Act (Warm 1 3))
+warm_line : line_of (codes "warm 1 3") ≡ Some (meant.Event (Warm 1 3))
 unfolding line_of commands words number_up_to number_field warm_of
 warm_line = refl
 
-restart_line : line_of (codes "restart 1") ≡ Some (Act (Restart 1))
+restart_line : line_of (codes "restart 1") ≡ Some (meant.Event (Restart 1))
 unfolding line_of commands words number_up_to number_field restart_of
 restart_line = refl
 
-horizon_line : line_of (codes "horizon 1 15") ≡ Some (Act (Horizon 1 15))
+horizon_line : line_of (codes "horizon 1 15") ≡ Some (meant.Event (Horizon 1 15))
 unfolding line_of commands words number_up_to number_field horizon_of
 horizon_line = refl
 
-greatest_horizon : line_of (codes "horizon 65535 18446744073709551615") ≡ Some (Act (Horizon 65535 18446744073709551615))
+greatest_horizon : line_of (codes "horizon 65535 18446744073709551615") ≡ Some (meant.Event (Horizon 65535 18446744073709551615))
 unfolding line_of commands words number_up_to number_field horizon_of
 greatest_horizon = refl
 
@@ -85,23 +85,23 @@ unfolding line_of commands words number_up_to number_field horizon_of
 no_horizons = (refl, refl, refl, refl)
 
 -- a horizon is not a request to a worker
-horizon_of_no_worker : worker_line_in (line_of (codes "horizon 1 15")) ≡ None
+horizon_of_no_worker : worker_request_in (line_of (codes "horizon 1 15")) ≡ Err (record {})
 unfolding line_of commands words number_up_to number_field horizon_of
 horizon_of_no_worker = refl
 
-show_line : line_of (codes "show 3") ≡ Some (Act (Show 3))
+show_line : line_of (codes "show 3") ≡ Some (meant.Event (Show 3))
 unfolding line_of commands words number_up_to number_field show_of
 show_line = refl
 
-offer_line : line_of (codes "offer 2") ≡ Some (Act (Offer 2))
+offer_line : line_of (codes "offer 2") ≡ Some (meant.Event (Offer 2))
 unfolding line_of commands words number_up_to number_field offer_of
 offer_line = refl
 
-pin_line : line_of (codes "pin 1 0:255") ≡ Some (Act (Pin 1 (page 0 255)))
+pin_line : line_of (codes "pin 1 0:255") ≡ Some (meant.Event (Pin 1 (page 0 255)))
 unfolding line_of commands words number_up_to page_of_word number_field page_field pin_of
 pin_line = refl
 
-greatest_page : line_of (codes "pin 1 65535:18446744073709551615") ≡ Some (Act (Pin 1 (page 65535 18446744073709551615)))
+greatest_page : line_of (codes "pin 1 65535:18446744073709551615") ≡ Some (meant.Event (Pin 1 (page 65535 18446744073709551615)))
 unfolding line_of commands words number_up_to page_of_word number_field page_field pin_of
 greatest_page = refl
 
@@ -110,7 +110,7 @@ no_such_pages : (line_of (codes "pin 1 0:18446744073709551616") ≡ None) × (li
 unfolding line_of commands words number_up_to page_of_word number_field page_field pin_of
 no_such_pages = (refl, refl)
 
-unpin_line : line_of (codes "unpin 1 4294967295.18446744073709551615") ≡ Some (Act (Unpin 1 (slot 4294967295 18446744073709551615)))
+unpin_line : line_of (codes "unpin 1 4294967295.18446744073709551615") ≡ Some (meant.Event (Unpin 1 (slot 4294967295 18446744073709551615)))
 unfolding line_of commands words number_up_to slot_of_word number_field slot_field unpin_of
 unpin_line = refl
 
@@ -119,7 +119,7 @@ no_slots : (line_of (codes "unpin 1 0") ≡ None) × (line_of (codes "unpin 1 0.
 unfolding line_of commands words number_up_to slot_of_word number_field slot_field unpin_of
 no_slots = (refl, refl, refl)
 
-put_line : line_of (codes "put 1 0.1 15 CAfe09") ≡ Some (Act (Put 1 (slot 0 1) 15 (202 ∷ 254 ∷ 9 ∷ [])))
+put_line : line_of (codes "put 1 0.1 15 CAfe09") ≡ Some (meant.Event (Put 1 (slot 0 1) 15 (202 ∷ 254 ∷ 9 ∷ [])))
 unfolding line_of commands words number_up_to slot_of_word bytes_of_hex number_field slot_field bytes_field put_of
 put_line = refl
 
@@ -128,23 +128,23 @@ no_bytes : (line_of (codes "put 1 0.1 0 CAF") ≡ None) × (line_of (codes "put 
 unfolding line_of commands words number_up_to slot_of_word bytes_of_hex number_field slot_field bytes_field put_of
 no_bytes = (refl, refl, refl, refl)
 
-get_line : line_of (codes "get 1 0.1 16 4294967295") ≡ Some (Act (Get 1 (slot 0 1) 16 4294967295))
+get_line : line_of (codes "get 1 0.1 16 4294967295") ≡ Some (meant.Event (Get 1 (slot 0 1) 16 4294967295))
 unfolding line_of commands words number_up_to slot_of_word number_field slot_field get_of
 get_line = refl
 
-victim_line : line_of (codes "victim 3") ≡ Some (Act (Victim 3))
+victim_line : line_of (codes "victim 3") ≡ Some (meant.Event (Victim 3))
 unfolding line_of commands words number_up_to number_field victim_of
 victim_line = refl
 
-warmstep_line : line_of (codes "warmstep 3") ≡ Some (Act (WarmStep 3))
+warmstep_line : line_of (codes "warmstep 3") ≡ Some (meant.Event (WarmStep 3))
 unfolding line_of commands words number_up_to number_field warmstep_of
 warmstep_line = refl
 
-comment : line_of (codes " #show 3") ≡ Some Nothing
+comment : line_of (codes " #show 3") ≡ Some meant.Nothing
 unfolding line_of commands words
 comment = refl
 
-blank : line_of (codes "   ") ≡ Some Nothing
+blank : line_of (codes "   ") ≡ Some meant.Nothing
 unfolding line_of commands words
 blank = refl
 

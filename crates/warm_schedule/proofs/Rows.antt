@@ -1,4 +1,5 @@
--- What schedules with horizons, and with page numbers of more than 32 bits, print: computed line by line.
+-- What schedules with horizons, and with page numbers of more than 32 bits, print: computed line by
+-- line.
 use Rattle.std.proofs.Common.{◌≡◌, true, inl, ◌<◌, ◌≤◌, ◌+◌, List, ℕ, [], ◌∷◌, ◌++◌, refl, arith}
 use Rattle.std.specs.Fmt.{digits}
 use Rattle.std.specs.Prelude.{codes}
@@ -157,7 +158,8 @@ forgotten = printed (alone (kept 0 []) []) (alone (kept 0 []) []) 1 forgotten_ta
   ),
 )
 
--- ---- a frame brings its sender's horizon: replica 2 has the page at 8 and 9, replica 1 has it at 20
+-- ---- a frame brings its sender's horizon: replica 2 has the page at 8 and 9, replica 1 has it at
+-- 20
 
 abbrev newer_frame : MessageRecord
 newer_frame = References 1 (kept 9 (at 1 20 1 ∷ []))
@@ -238,9 +240,9 @@ sent_then_forgotten = printed (both (has 0 []) (has 0 []) []) (both (has 0 (at 1
   ),
 )
 
--- ---- Digests and a request bring a horizon too. Replica 1 then sends its digests, which differ from those of nothing in bucket 1 alone:
--- replica 2 has nothing to send and requests that bucket, and replica 1, which receives the horizon
--- with the request, forgets the page.
+-- ---- Digests and a request bring a horizon too. Replica 1 then sends its digests, which differ
+-- from those of nothing in bucket 1 alone: replica 2 has nothing to send and requests that bucket,
+-- and replica 1, which receives the horizon with the request, forgets the page.
 
 abbrev request_frame : MessageRecord
 request_frame = Request 2 50 2
@@ -273,7 +275,8 @@ requested digests differ = printed (both (has 0 (at 1 10 1 ∷ [])) (has 50 (at 
   ),
 )
 
--- ---- a page number of more than 32 bits: it is referenced, sent and shown, and no device of 256 pages has it
+-- ---- a page number of more than 32 bits: it is referenced, sent and shown, and no device of 256
+-- pages has it
 
 -- a pool without a frame over one device of 256 pages
 abbrev small : PoolView

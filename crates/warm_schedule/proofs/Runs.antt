@@ -5,7 +5,7 @@ use Rattle.warm_world.specs.declared.event.Answer.{Answer}
 use Rattle.warm_world.specs.States.{ModelState}
 use Rattle.warm_world.specs.Next.{Run}
 use Rattle.warm_schedule.specs.declared.parse.Line.{Line}
-use Rattle.warm_schedule.specs.declared.parse.Line.TheVariants.{Nothing, Act}
+use Rattle.warm_schedule.specs.declared.parse.Line.TheVariants as meant
 use Rattle.warm_schedule.specs.Grammar.{meaning}
 use Rattle.warm_schedule.specs.Printed.{LineAnswered, PrintedFrom}
 use Rattle.warm_schedule.specs.Laws.{LineIs, LinesAre}
@@ -30,19 +30,19 @@ line_first state next last number None line rest front back is answered r = reco
   lines_are = ([], r.events, [], r.answers, front, back, subst (λ (o : Option Line). LineIs number o [] [] front) is (refl, refl, answered.0), r.lines_are, refl, refl, refl);
   run = run_from state next r.events r.answers last answered.1 r.run;
 }
-line_first state next last number (Some Nothing) line rest front back is answered r = record {
+line_first state next last number (Some meant.Nothing) line rest front back is answered r = record {
   events = r.events;
   answers = r.answers;
   lines_are = ([], r.events, [], r.answers, front, back, subst (λ (o : Option Line). LineIs number o [] [] front) is (refl, refl, answered.0), r.lines_are, refl, refl, refl);
   run = run_from state next r.events r.answers last answered.1 r.run;
 }
-line_first state next last number (Some (Act event)) line rest front back is (inl happens) r = record {
+line_first state next last number (Some (meant.Event event)) line rest front back is (inl happens) r = record {
   events = event ∷ r.events;
   answers = happens.0 ∷ r.answers;
   lines_are = (event ∷ [], r.events, happens.0 ∷ [], r.answers, front, back, subst (λ (o : Option Line). LineIs number o (event ∷ []) (happens.0 ∷ []) front) is (inl (happens.0, refl, refl, happens.2)), r.lines_are, refl, refl, refl);
   run = (next, happens.1, r.run);
 }
-line_first state next last number (Some (Act event)) line rest front back is (inr refused) r = record {
+line_first state next last number (Some (meant.Event event)) line rest front back is (inr refused) r = record {
   events = r.events;
   answers = r.answers;
   lines_are = ([], r.events, [], r.answers, front, back, subst (λ (o : Option Line). LineIs number o [] [] front) is (inr (refused.0, refl, refl, refused.1)), r.lines_are, refl, refl, refl);

@@ -33,7 +33,7 @@ use Rattle.warm_world.specs.Views.{ReplicaView, WorldView}
 use Rattle.warm_gossip.specs.declared.fault.NodeFault.TheVariants as node_fault
 use Rattle.warm_world.specs.declared.event.WorldFault.TheVariants.{Node}
 use Rattle.warm_schedule.specs.declared.parse.Line.{Line}
-use Rattle.warm_schedule.specs.declared.parse.Line.TheVariants.{Nothing, Act}
+use Rattle.warm_schedule.specs.declared.parse.Line.TheVariants as meant
 use Rattle.warm_schedule.specs.Answers.{answer_text, refused_text, bad_line, end_refused}
 use Rattle.warm_world.specs.declared.event.Event.{Event}
 use Rattle.warm_world.specs.declared.event.Answer.{Answer}
@@ -130,10 +130,10 @@ read_line said l is = sym (ok_of_ok_or said) ∙ ap result_ok (sym is)
 pub read_bad : (said : Option Line) → Err Bad ≡ ok_or said Bad → said ≡ None
 read_bad said is = sym (ok_of_ok_or said) ∙ ap result_ok (sym is)
 
-pub read_put : (said : Option Line) → MatchOption said ⊥ PutsBytes → (event : Event) × (said ≡ Some (Act event)) × IsPut event
+pub read_put : (said : Option Line) → MatchOption said ⊥ PutsBytes → (event : Event) × (said ≡ Some (meant.Event event)) × IsPut event
 read_put None puts = absurd puts
-read_put (Some Nothing) puts = absurd puts
-read_put (Some (Act event)) puts = (event, refl, puts)
+read_put (Some meant.Nothing) puts = absurd puts
+read_put (Some (meant.Event event)) puts = (event, refl, puts)
 
 -- ---- what was written
 
@@ -259,7 +259,7 @@ module _ (line : List ℕ) (read : Result Line LineFault) (reads : Reads PutsByt
   pub was_line : (l : Line) → read ≡ Ok l → Some l ≡ meaning line
   was_line l is = sym (read_line (meaning line) l (read_as (Ok l) is))
 
-  pub was_put : read ≡ Err Memory → (event : Event) × (Some (Act event) ≡ meaning line) × IsPut event
+  pub was_put : read ≡ Err Memory → (event : Event) × (Some (meant.Event event) ≡ meaning line) × IsPut event
   was_put is =
       let put = read_put (meaning line) (read_as (Err Memory) is) in
       (put.0, sym put.1, put.2)
@@ -268,16 +268,16 @@ module _ (world : WorldView) (number : ℕ) (line : List ℕ) where
   pub answers_bad : None ≡ meaning line → AnswersLine world number line (bad_line number) world
   answers_bad means = λ state stands. (state, stands, said_so state number None _ _ state means (refl, refl))
 
-  pub answers_nothing : Some Nothing ≡ meaning line → AnswersLine world number line [] world
-  answers_nothing means = λ state stands. (state, stands, said_so state number (Some Nothing) _ _ state means (refl, refl))
+  pub answers_nothing : Some meant.Nothing ≡ meaning line → AnswersLine world number line [] world
+  answers_nothing means = λ state stands. (state, stands, said_so state number (Some meant.Nothing) _ _ state means (refl, refl))
 
-  pub answers_event : (event : Event) (answer : Answer) (w : WorldView) → Some (Act event) ≡ meaning line → Steps world event answer w → AnswersLine world number line (answer_text answer) w
+  pub answers_event : (event : Event) (answer : Answer) (w : WorldView) → Some (meant.Event event) ≡ meaning line → Steps world event answer w → AnswersLine world number line (answer_text answer) w
   answers_event event answer w means steps = λ state stands.
       let step = steps state stands in
-      (step.new, step.stands, said_so state number (Some (Act event)) _ _ step.new means (inl (answer, step.next, refl)))
+      (step.new, step.stands, said_so state number (Some (meant.Event event)) _ _ step.new means (inl (answer, step.next, refl)))
 
-  pub answers_no_memory : ((event : Event) × (Some (Act event) ≡ meaning line) × IsPut event) → AnswersLine world number line (refused_text (Node node_fault.Memory)) world
-  answers_no_memory put = λ state stands. (state, stands, said_so state number (Some (Act put.0)) _ _ state put.1 (inr (put.2, refl, refl)))
+  pub answers_no_memory : ((event : Event) × (Some (meant.Event event) ≡ meaning line) × IsPut event) → AnswersLine world number line (refused_text (Node node_fault.Memory)) world
+  answers_no_memory put = λ state stands. (state, stands, said_so state number (Some (meant.Event put.0)) _ _ state put.1 (inr (put.2, refl, refl)))
 
 -- the last line is answered, and then it is the end
 pub Ends-answer : (a : SessionView) (out more : List ℕ) (w : WorldView) → AnswersLine a.world a.number a.held out w → PrintsEnding w more → Ends a out more

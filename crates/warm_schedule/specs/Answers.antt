@@ -42,7 +42,7 @@ end_text count = codes "end " ++ decimal count ++ codes "\n"
 abbrev pub shown_text : List Entry → List ℕ
 shown_text entries = flat_map entry_text entries ++ end_text (length entries)
 
--- the number of answering frames, and the first one's number where there is one
+-- how many messages answer, and the number of the first where there is one
 abbrev pub took_text : ℕ → ℕ → List ℕ
 took_text zero first = codes "took 0\n"
 took_text (suc n) first = codes "took " ++ decimal (suc n) ++ codes " from " ++ decimal first ++ codes "\n"

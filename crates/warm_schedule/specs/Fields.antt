@@ -31,7 +31,7 @@ up_to limit (Some n) = if nat_le n limit then Some n else None
 unfoldable pub number_up_to : ℕ → List ℕ → Option ℕ
 number_up_to limit word = up_to limit (number_of word)
 
--- a device, a colon and a number
+-- a device and a number
 abbrev pub page_of_parts : List (List ℕ) → Option PageId
 page_of_parts (device ∷ number ∷ []) = do
   d ← number_up_to 65535 device
@@ -39,12 +39,13 @@ page_of_parts (device ∷ number ∷ []) = do
   Some (record { dev = d; no = n })
 page_of_parts parts = None
 
+-- the page that a word spells: a device, a colon and a number
 unfoldable pub page_of_word : List ℕ → Option PageId
 page_of_word word = page_of_parts (split 58 word)
 
 -- ---- slots and bytes
 
--- a frame, a dot and a generation
+-- a frame of a pool and a generation
 abbrev pub slot_of_parts : List (List ℕ) → Option Slot
 slot_of_parts (frame ∷ generation ∷ []) = do
   s ← number_up_to 4294967295 frame
@@ -52,6 +53,7 @@ slot_of_parts (frame ∷ generation ∷ []) = do
   Some (record { index = s; generation = g })
 slot_of_parts parts = None
 
+-- the slot that a word spells: a frame of a pool, a dot and a generation
 unfoldable pub slot_of_word : List ℕ → Option Slot
 slot_of_word word = slot_of_parts (split 46 word)
 
@@ -64,7 +66,7 @@ hex_digit_of c = if is_from 48 57 c then Some (c - 48)
     else (if is_from 97 102 c then Some (c - 87)
     else (if is_from 65 70 c then Some (c - 55) else None))
 
--- two digits for each byte
+-- the bytes that these digits spell, two digits for each
 abbrev pub hex_pairs : List ℕ → Option (List ℕ)
 hex_pairs [] = Some []
 hex_pairs (c ∷ []) = None
@@ -74,7 +76,7 @@ hex_pairs (high ∷ low ∷ rest) = do
   bytes ← hex_pairs rest
   Some ((16 * h + l) ∷ bytes)
 
--- one or more bytes
+-- the bytes that a word spells, one or more
 unfoldable pub bytes_of_hex : List ℕ → Option (List ℕ)
 bytes_of_hex [] = None
 bytes_of_hex (c ∷ cs) = hex_pairs (c ∷ cs)
@@ -126,6 +128,6 @@ bucket_field fields = number_field (BUCKETS - 1) fields
 abbrev pub count_field : List (List ℕ) → Option (ℕ × List (List ℕ))
 count_field fields = number_field 4294967295 fields
 
--- a time, or the number of a frame
-abbrev pub long_field : List (List ℕ) → Option (ℕ × List (List ℕ))
-long_field fields = number_field 18446744073709551615 fields
+-- a time, or the number of a message
+abbrev pub u64_field : List (List ℕ) → Option (ℕ × List (List ℕ))
+u64_field fields = number_field 18446744073709551615 fields

@@ -3,9 +3,9 @@ use Rattle.std.specs.Prelude.{ℕ, List, [], ◌∷◌, Bool, false, ◌==◌, n
 use Rattle.warm_world.specs.declared.event.Event.{Event}
 use Rattle.warm_world.specs.declared.event.Event.TheVariants.{Refer, Flush, Send, Offer, Deliver, Pin, Unpin, Put, Get, Victim, Warm, WarmStep, Restart, Horizon, Show}
 use Rattle.warm_schedule.specs.Text.{words}
-use Rattle.warm_schedule.specs.Fields.{◌>>=◌, page_field, after_field, slot_field, bytes_field, replica_field, worker_field, bucket_field, count_field, long_field}
+use Rattle.warm_schedule.specs.Fields.{◌>>=◌, page_field, after_field, slot_field, bytes_field, replica_field, worker_field, bucket_field, count_field, u64_field}
 use Rattle.warm_schedule.specs.declared.parse.Line.{Line}
-use Rattle.warm_schedule.specs.declared.parse.Line.TheVariants.{Nothing, Act}
+use Rattle.warm_schedule.specs.declared.parse.Line.TheVariants as meant
 use Rattle.warm_schedule.specs.declared.parse.TheConstants.{MAX_LINE}
 
 -- the event, where its line has no further word
@@ -21,7 +21,7 @@ refer_of fields = do
   i ← replica_field fields
   w ← worker_field i.1
   page ← page_field w.1
-  time ← long_field page.1
+  time ← u64_field page.1
   ends_with time.1 (Refer i.0 w.0 page.0 time.0)
 
 -- flush REPLICA WORKER
@@ -45,11 +45,11 @@ offer_of fields = do
   i ← replica_field fields
   ends_with i.1 (Offer i.0)
 
--- deliver REPLICA FRAME
+-- deliver REPLICA MESSAGE
 unfoldable pub deliver_of : List (List ℕ) → Option Event
 deliver_of fields = do
   j ← replica_field fields
-  k ← long_field j.1
+  k ← u64_field j.1
   ends_with k.1 (Deliver j.0 k.0)
 
 -- pin REPLICA PAGE
@@ -113,7 +113,7 @@ restart_of fields = do
 unfoldable pub horizon_of : List (List ℕ) → Option Event
 horizon_of fields = do
   i ← replica_field fields
-  time ← long_field i.1
+  time ← u64_field i.1
   ends_with time.1 (Horizon i.0 time.0)
 
 -- show REPLICA
@@ -162,8 +162,8 @@ begins_with c (x ∷ xs) = x == c
 
 -- a line without words and a comment mean nothing
 abbrev pub line_of_words : List (List ℕ) → Option Line
-line_of_words [] = Some Nothing
-line_of_words (word ∷ rest) = if begins_with 35 word then Some Nothing else option_map Act (event_of word rest)
+line_of_words [] = Some meant.Nothing
+line_of_words (word ∷ rest) = if begins_with 35 word then Some meant.Nothing else option_map meant.Event (event_of word rest)
 
 -- the meaning of a line of any length, or None where it is not of the language
 unfoldable pub line_of : List ℕ → Option Line

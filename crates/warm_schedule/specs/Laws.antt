@@ -8,7 +8,7 @@ use Rattle.warm_world.specs.States.{ModelState}
 use Rattle.warm_world.specs.Next.{Run}
 use Rattle.warm_world.specs.Stands.{IsRightRun}
 use Rattle.warm_schedule.specs.declared.parse.Line.{Line}
-use Rattle.warm_schedule.specs.declared.parse.Line.TheVariants.{Nothing, Act}
+use Rattle.warm_schedule.specs.declared.parse.Line.TheVariants as meant
 use Rattle.warm_schedule.specs.Text.{lines}
 use Rattle.warm_schedule.specs.Grammar.{meaning}
 use Rattle.warm_schedule.specs.Reading.{IsPut}
@@ -19,8 +19,8 @@ use Rattle.warm_schedule.specs.Printed.{Printed}
 -- or none for a bad line, a line without meaning, and a put for whose bytes the allocation failed.
 abbrev pub LineIs : ℕ → Option Line → List Event → List Answer → List ℕ → Type 0
 LineIs number None events answers out = (events ≡ []) × (answers ≡ []) × (out ≡ bad_line number)
-LineIs number (Some Nothing) events answers out = (events ≡ []) × (answers ≡ []) × (out ≡ [])
-LineIs number (Some (Act event)) events answers out =
+LineIs number (Some meant.Nothing) events answers out = (events ≡ []) × (answers ≡ []) × (out ≡ [])
+LineIs number (Some (meant.Event event)) events answers out =
     ((answer : Answer) × (events ≡ event ∷ []) × (answers ≡ answer ∷ []) × (out ≡ answer_text answer))
     ⊎ (IsPut event × (events ≡ []) × (answers ≡ []) × (out ≡ refused_text (Node Memory)))
 

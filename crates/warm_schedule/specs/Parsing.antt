@@ -5,10 +5,10 @@ use Rattle.warm_schedule.specs.Fields.{bytes_of_hex}
 use Rattle.warm_schedule.specs.Grammar.{Reader, refer_of, flush_of, send_of, offer_of, deliver_of, pin_of, unpin_of, put_of, get_of, victim_of, warm_of, warmstep_of, restart_of, horizon_of, show_of}
 use Rattle.warm_schedule.specs.declared.commands.Command.{Command}
 use Rattle.warm_schedule.specs.declared.commands.Command.TheVariants as command
-use Rattle.warm_schedule.specs.declared.commands.Parsed.{Parsed}
-use Rattle.warm_schedule.specs.declared.commands.Parsed.TheVariants as parsed
+use Rattle.warm_schedule.specs.declared.commands.ParsedLine.{ParsedLine}
+use Rattle.warm_schedule.specs.declared.commands.ParsedLine.TheVariants as parsed
 use Rattle.warm_schedule.specs.declared.parse.Line.{Line}
-use Rattle.warm_schedule.specs.declared.parse.Line.TheVariants.{Nothing, Act}
+use Rattle.warm_schedule.specs.declared.parse.Line.TheVariants as meant
 
 -- the reader of a command's fields
 abbrev pub reader_of : Command → Reader
@@ -30,7 +30,7 @@ reader_of command.Show = show_of
 
 -- the meaning of the line: nothing where it has no word or is a comment; the bytes of a put are
 -- those that its word spells
-abbrev pub line_parsed : Parsed → Option Line
-line_parsed parsed.Nothing = Some Nothing
-line_parsed (parsed.Event event) = Some (Act event)
-line_parsed (parsed.Put replica slot at word) = option_map Act (option_map (event.Put replica slot at) (bytes_of_hex word.now))
+abbrev pub line_parsed : ParsedLine → Option Line
+line_parsed parsed.Nothing = Some meant.Nothing
+line_parsed (parsed.Event event) = Some (meant.Event event)
+line_parsed (parsed.Put replica slot at word) = option_map meant.Event (option_map (event.Put replica slot at) (bytes_of_hex word.now))

@@ -10,7 +10,7 @@ use Rattle.warm_world.specs.Lists.{IsNumber}
 use Rattle.warm_world.specs.States.{ModelState, pool_of}
 use Rattle.warm_world.specs.Next.{Next}
 use Rattle.warm_schedule.specs.declared.parse.Line.{Line}
-use Rattle.warm_schedule.specs.declared.parse.Line.TheVariants.{Nothing, Act}
+use Rattle.warm_schedule.specs.declared.parse.Line.TheVariants as meant
 use Rattle.warm_schedule.specs.Text.{lines}
 use Rattle.warm_schedule.specs.Grammar.{meaning}
 use Rattle.warm_schedule.specs.Reading.{IsPut}
@@ -28,8 +28,8 @@ FindsNoMemory old event out new = IsPut event × (out ≡ refused_text (Node Mem
 -- A line of this meaning and number may print `out` and lead from `old` to `new`.
 abbrev pub LineAnswered : ModelState → ℕ → Option Line → List ℕ → ModelState → Type 0
 LineAnswered old number None out new = (out ≡ bad_line number) × (new ≡ old)
-LineAnswered old number (Some Nothing) out new = (out ≡ []) × (new ≡ old)
-LineAnswered old number (Some (Act event)) out new = Happens old event out new ⊎ FindsNoMemory old event out new
+LineAnswered old number (Some meant.Nothing) out new = (out ≡ []) × (new ≡ old)
+LineAnswered old number (Some (meant.Event event)) out new = Happens old event out new ⊎ FindsNoMemory old event out new
 
 -- lines, of which the first has this number, may print `out` and lead from `state` to `last`
 abbrev pub PrintedFrom : ModelState → ℕ → List (List ℕ) → List ℕ → ModelState → Type 0

@@ -3,7 +3,7 @@ use Rattle.std.specs.Prelude.{◌≡◌, ℕ, List, Option, Result, Err, MatchOp
 use Rattle.warm_world.specs.declared.event.Event.{Event}
 use Rattle.warm_world.specs.declared.event.Event.TheVariants.{Put}
 use Rattle.warm_schedule.specs.declared.parse.Line.{Line}
-use Rattle.warm_schedule.specs.declared.parse.Line.TheVariants.{Nothing, Act}
+use Rattle.warm_schedule.specs.declared.parse.Line.TheVariants as meant
 use Rattle.warm_schedule.specs.declared.parse.LineFault.{LineFault}
 use Rattle.warm_schedule.specs.declared.parse.LineFault.TheVariants.{Memory, Bad}
 
@@ -19,8 +19,8 @@ IsPut event = ⊥
 
 -- a line that puts bytes into a page
 abbrev pub PutsBytes : Line → Type 0
-PutsBytes Nothing = ⊥
-PutsBytes (Act event) = IsPut event
+PutsBytes meant.Nothing = ⊥
+PutsBytes (meant.Event event) = IsPut event
 
 -- bytes always need an allocation
 abbrev pub TakesMemory : List ℕ → Type 0

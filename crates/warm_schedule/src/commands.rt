@@ -4,10 +4,10 @@ ghost use Rattle.warm_schedule.specs.Text.{words};
 ghost use Rattle.warm_schedule.specs.Grammar.{ends_with, refer_of, flush_of, send_of, offer_of, deliver_of, pin_of, unpin_of, put_of, get_of};
 ghost use Rattle.warm_schedule.specs.Grammar.{victim_of, warm_of, warmstep_of, restart_of, horizon_of, show_of, looked_up, commands};
 ghost use Rattle.warm_schedule.specs.Parsing.{reader_of, line_parsed};
-ghost use Rattle.warm_schedule.specs.declared.parse.Line.TheVariants.{Act};
+ghost use Rattle.warm_schedule.specs.declared.parse.Line.TheVariants as meant;
 
 use crate::fields::{
-    after_at, bucket_at, count_at, long_at, page_at, replica_at, slot_at, worker_at,
+    read_after, read_bucket, read_count, read_page, read_replica, read_slot, read_u64, read_worker,
 };
 use crate::text::next_word;
 use warm_pool::Slot;
@@ -76,7 +76,7 @@ pub(crate) fn command_named(word: &[u8]) -> Option<Command>
 // The meaning of a line, read without allocation: the bytes of a `put` are left as the word that
 // should spell them.
 #[derive(Drop)]
-pub(crate) enum Parsed<'a> {
+pub(crate) enum ParsedLine<'a> {
     // The line has no word, or is a comment.
     Nothing,
     Event(Event),
@@ -89,125 +89,128 @@ pub(crate) enum Parsed<'a> {
 }
 
 // The meaning of a command with these fields.
-pub(crate) fn read_fields<'a>(command: Command, fields: &'a [u8]) -> Option<Parsed<'a>>
+pub(crate) fn read_fields(command: Command, fields: &[u8]) -> Option<ParsedLine<'_>>
     ensures { option_and_then line_parsed result
-        ≡ option_map Act (reader_of command (words fields.now)) }
+        ≡ option_map meant.Event (reader_of command (words fields.now)) }
 {
     match command {
-        Command::Refer => whole(refer(fields)),
-        Command::Flush => whole(flush(fields)),
-        Command::Send => whole(send(fields)),
-        Command::Offer => whole(offer(fields)),
-        Command::Deliver => whole(deliver(fields)),
-        Command::Pin => whole(pin(fields)),
-        Command::Unpin => whole(unpin(fields)),
+        Command::Refer => refer(fields),
+        Command::Flush => flush(fields),
+        Command::Send => send(fields),
+        Command::Offer => offer(fields),
+        Command::Deliver => deliver(fields),
+        Command::Pin => pin(fields),
+        Command::Unpin => unpin(fields),
         Command::Put => put(fields),
-        Command::Get => whole(get(fields)),
-        Command::Victim => whole(victim(fields)),
-        Command::Warm => whole(warm(fields)),
-        Command::WarmStep => whole(warmstep(fields)),
-        Command::Restart => whole(restart(fields)),
-        Command::Horizon => whole(horizon(fields)),
-        Command::Show => whole(show(fields)),
+        Command::Get => get(fields),
+        Command::Victim => victim(fields),
+        Command::Warm => warm(fields),
+        Command::WarmStep => warmstep(fields),
+        Command::Restart => restart(fields),
+        Command::Horizon => horizon(fields),
+        Command::Show => show(fields),
     }
 }
 
-fn whole<'a>(event: Option<Event>) -> Option<Parsed<'a>>
-    ensures { option_and_then line_parsed result ≡ option_map Act event }
-{
-    Some(Parsed::Event(event?))
-}
-
 // The event, where no further word follows.
-fn ends_with(rest: &[u8], event: Event) -> Option<Event>
-    ensures { result ≡ ends_with (words rest.now) event }
+fn ends_with(rest: &[u8], event: Event) -> Option<ParsedLine<'_>>
+    ensures { option_and_then line_parsed result
+        ≡ option_map meant.Event (ends_with (words rest.now) event) }
 {
     if next_word(rest).is_some() {
         return None;
     }
-    Some(event)
+    Some(ParsedLine::Event(event))
 }
 
 // ---- the readers, each of what follows the first word
 
 #[tactic(auto, unfolding(crate::specs::Grammar::refer_of))]
-fn refer(fields: &[u8]) -> Option<Event>
-    ensures { result ≡ refer_of (words fields.now) }
+fn refer(fields: &[u8]) -> Option<ParsedLine<'_>>
+    ensures { option_and_then line_parsed result
+        ≡ option_map meant.Event (refer_of (words fields.now)) }
 {
-    let (replica, rest) = replica_at(fields)?;
-    let (worker, rest) = worker_at(rest)?;
-    let (page, rest) = page_at(rest)?;
-    let (time, rest) = long_at(rest)?;
+    let (replica, rest) = read_replica(fields)?;
+    let (worker, rest) = read_worker(rest)?;
+    let (page, rest) = read_page(rest)?;
+    let (time, rest) = read_u64(rest)?;
     ends_with(rest, Event::Refer(replica, worker, page, time))
 }
 
 #[tactic(auto, unfolding(crate::specs::Grammar::flush_of))]
-fn flush(fields: &[u8]) -> Option<Event>
-    ensures { result ≡ flush_of (words fields.now) }
+fn flush(fields: &[u8]) -> Option<ParsedLine<'_>>
+    ensures { option_and_then line_parsed result
+        ≡ option_map meant.Event (flush_of (words fields.now)) }
 {
-    let (replica, rest) = replica_at(fields)?;
-    let (worker, rest) = worker_at(rest)?;
+    let (replica, rest) = read_replica(fields)?;
+    let (worker, rest) = read_worker(rest)?;
     ends_with(rest, Event::Flush(replica, worker))
 }
 
 #[tactic(auto, unfolding(crate::specs::Grammar::send_of))]
-fn send(fields: &[u8]) -> Option<Event>
-    ensures { result ≡ send_of (words fields.now) }
+fn send(fields: &[u8]) -> Option<ParsedLine<'_>>
+    ensures { option_and_then line_parsed result
+        ≡ option_map meant.Event (send_of (words fields.now)) }
 {
-    let (replica, rest) = replica_at(fields)?;
-    let (bucket, rest) = bucket_at(rest)?;
+    let (replica, rest) = read_replica(fields)?;
+    let (bucket, rest) = read_bucket(rest)?;
     let bucket = Bucket::new(bucket)?;
-    let (after, rest) = after_at(rest)?;
+    let (after, rest) = read_after(rest)?;
     ends_with(rest, Event::Send(replica, bucket, after))
 }
 
 #[tactic(auto, unfolding(crate::specs::Grammar::offer_of))]
-fn offer(fields: &[u8]) -> Option<Event>
-    ensures { result ≡ offer_of (words fields.now) }
+fn offer(fields: &[u8]) -> Option<ParsedLine<'_>>
+    ensures { option_and_then line_parsed result
+        ≡ option_map meant.Event (offer_of (words fields.now)) }
 {
-    let (replica, rest) = replica_at(fields)?;
+    let (replica, rest) = read_replica(fields)?;
     ends_with(rest, Event::Offer(replica))
 }
 
 #[tactic(auto, unfolding(crate::specs::Grammar::deliver_of))]
-fn deliver(fields: &[u8]) -> Option<Event>
-    ensures { result ≡ deliver_of (words fields.now) }
+fn deliver(fields: &[u8]) -> Option<ParsedLine<'_>>
+    ensures { option_and_then line_parsed result
+        ≡ option_map meant.Event (deliver_of (words fields.now)) }
 {
-    let (replica, rest) = replica_at(fields)?;
-    let (frame, rest) = long_at(rest)?;
-    ends_with(rest, Event::Deliver(replica, frame))
+    let (replica, rest) = read_replica(fields)?;
+    let (message, rest) = read_u64(rest)?;
+    ends_with(rest, Event::Deliver(replica, message))
 }
 
 #[tactic(auto, unfolding(crate::specs::Grammar::pin_of))]
-fn pin(fields: &[u8]) -> Option<Event>
-    ensures { result ≡ pin_of (words fields.now) }
+fn pin(fields: &[u8]) -> Option<ParsedLine<'_>>
+    ensures { option_and_then line_parsed result
+        ≡ option_map meant.Event (pin_of (words fields.now)) }
 {
-    let (replica, rest) = replica_at(fields)?;
-    let (page, rest) = page_at(rest)?;
+    let (replica, rest) = read_replica(fields)?;
+    let (page, rest) = read_page(rest)?;
     ends_with(rest, Event::Pin(replica, page))
 }
 
 #[tactic(auto, unfolding(crate::specs::Grammar::unpin_of))]
-fn unpin(fields: &[u8]) -> Option<Event>
-    ensures { result ≡ unpin_of (words fields.now) }
+fn unpin(fields: &[u8]) -> Option<ParsedLine<'_>>
+    ensures { option_and_then line_parsed result
+        ≡ option_map meant.Event (unpin_of (words fields.now)) }
 {
-    let (replica, rest) = replica_at(fields)?;
-    let (slot, rest) = slot_at(rest)?;
+    let (replica, rest) = read_replica(fields)?;
+    let (slot, rest) = read_slot(rest)?;
     ends_with(rest, Event::Unpin(replica, slot))
 }
 
 #[tactic(auto, unfolding(crate::specs::Grammar::put_of, crate::specs::Fields::bytes_field))]
-fn put<'a>(fields: &'a [u8]) -> Option<Parsed<'a>>
-    ensures { option_and_then line_parsed result ≡ option_map Act (put_of (words fields.now)) }
+fn put(fields: &[u8]) -> Option<ParsedLine<'_>>
+    ensures { option_and_then line_parsed result
+        ≡ option_map meant.Event (put_of (words fields.now)) }
 {
-    let (replica, rest) = replica_at(fields)?;
-    let (slot, rest) = slot_at(rest)?;
-    let (at, rest) = count_at(rest)?;
+    let (replica, rest) = read_replica(fields)?;
+    let (slot, rest) = read_slot(rest)?;
+    let (at, rest) = read_count(rest)?;
     let (word, rest) = next_word(rest)?;
     if next_word(rest).is_some() {
         return None;
     }
-    Some(Parsed::Put {
+    Some(ParsedLine::Put {
         replica,
         slot,
         at,
@@ -216,62 +219,69 @@ fn put<'a>(fields: &'a [u8]) -> Option<Parsed<'a>>
 }
 
 #[tactic(auto, unfolding(crate::specs::Grammar::get_of))]
-fn get(fields: &[u8]) -> Option<Event>
-    ensures { result ≡ get_of (words fields.now) }
+fn get(fields: &[u8]) -> Option<ParsedLine<'_>>
+    ensures { option_and_then line_parsed result
+        ≡ option_map meant.Event (get_of (words fields.now)) }
 {
-    let (replica, rest) = replica_at(fields)?;
-    let (slot, rest) = slot_at(rest)?;
-    let (at, rest) = count_at(rest)?;
-    let (count, rest) = count_at(rest)?;
+    let (replica, rest) = read_replica(fields)?;
+    let (slot, rest) = read_slot(rest)?;
+    let (at, rest) = read_count(rest)?;
+    let (count, rest) = read_count(rest)?;
     ends_with(rest, Event::Get(replica, slot, at, count))
 }
 
 #[tactic(auto, unfolding(crate::specs::Grammar::victim_of))]
-fn victim(fields: &[u8]) -> Option<Event>
-    ensures { result ≡ victim_of (words fields.now) }
+fn victim(fields: &[u8]) -> Option<ParsedLine<'_>>
+    ensures { option_and_then line_parsed result
+        ≡ option_map meant.Event (victim_of (words fields.now)) }
 {
-    let (replica, rest) = replica_at(fields)?;
+    let (replica, rest) = read_replica(fields)?;
     ends_with(rest, Event::Victim(replica))
 }
 
 #[tactic(auto, unfolding(crate::specs::Grammar::warm_of))]
-fn warm(fields: &[u8]) -> Option<Event>
-    ensures { result ≡ warm_of (words fields.now) }
+fn warm(fields: &[u8]) -> Option<ParsedLine<'_>>
+    ensures { option_and_then line_parsed result
+        ≡ option_map meant.Event (warm_of (words fields.now)) }
 {
-    let (replica, rest) = replica_at(fields)?;
-    let (count, rest) = count_at(rest)?;
+    let (replica, rest) = read_replica(fields)?;
+    let (count, rest) = read_count(rest)?;
     ends_with(rest, Event::Warm(replica, count))
 }
 
 #[tactic(auto, unfolding(crate::specs::Grammar::warmstep_of))]
-fn warmstep(fields: &[u8]) -> Option<Event>
-    ensures { result ≡ warmstep_of (words fields.now) }
+fn warmstep(fields: &[u8]) -> Option<ParsedLine<'_>>
+    ensures { option_and_then line_parsed result
+        ≡ option_map meant.Event (warmstep_of (words fields.now)) }
 {
-    let (replica, rest) = replica_at(fields)?;
+    let (replica, rest) = read_replica(fields)?;
     ends_with(rest, Event::WarmStep(replica))
 }
 
 #[tactic(auto, unfolding(crate::specs::Grammar::restart_of))]
-fn restart(fields: &[u8]) -> Option<Event>
-    ensures { result ≡ restart_of (words fields.now) }
+fn restart(fields: &[u8]) -> Option<ParsedLine<'_>>
+    ensures { option_and_then line_parsed result
+        ≡ option_map meant.Event (restart_of (words fields.now)) }
 {
-    let (replica, rest) = replica_at(fields)?;
+    let (replica, rest) = read_replica(fields)?;
     ends_with(rest, Event::Restart(replica))
 }
 
 #[tactic(auto, unfolding(crate::specs::Grammar::horizon_of))]
-fn horizon(fields: &[u8]) -> Option<Event>
-    ensures { result ≡ horizon_of (words fields.now) }
+fn horizon(fields: &[u8]) -> Option<ParsedLine<'_>>
+    ensures { option_and_then line_parsed result
+        ≡ option_map meant.Event (horizon_of (words fields.now)) }
 {
-    let (replica, rest) = replica_at(fields)?;
-    let (time, rest) = long_at(rest)?;
+    let (replica, rest) = read_replica(fields)?;
+    let (time, rest) = read_u64(rest)?;
     ends_with(rest, Event::Horizon(replica, time))
 }
 
 #[tactic(auto, unfolding(crate::specs::Grammar::show_of))]
-fn show(fields: &[u8]) -> Option<Event>
-    ensures { result ≡ show_of (words fields.now) }
+fn show(fields: &[u8]) -> Option<ParsedLine<'_>>
+    ensures { option_and_then line_parsed result
+        ≡ option_map meant.Event (show_of (words fields.now)) }
 {
-    let (replica, rest) = replica_at(fields)?;
+    let (replica, rest) = read_replica(fields)?;
     ends_with(rest, Event::Show(replica))
 }

@@ -4,7 +4,7 @@ ghost use Rattle.std.specs.Prelude.{◌≡◌, ◌<◌, ◌≤◌, ◌+◌, ◌*
 ghost use Rattle.warm_stamps.specs.declared.TheConstants.{BUCKETS};
 ghost use Rattle.warm_schedule.specs.Text.{words};
 ghost use Rattle.warm_schedule.specs.Fields.{digit_of, number_up_to, page_of_word, slot_of_word, hex_digit_of, hex_pairs, bytes_of_hex};
-ghost use Rattle.warm_schedule.specs.Fields.{number_field, replica_field, worker_field, bucket_field, count_field, long_field, page_field, after_field, slot_field};
+ghost use Rattle.warm_schedule.specs.Fields.{number_field, replica_field, worker_field, bucket_field, count_field, u64_field, page_field, after_field, slot_field};
 ghost use Rattle.warm_schedule.specs.Reading.{Reads, TakesMemory};
 
 use crate::parse::LineFault;
@@ -12,16 +12,6 @@ use crate::text::{cut, next_word};
 use std::alloc::Global;
 use warm_pool::Slot;
 use warm_stamps::{BUCKETS, ByteList, PageId};
-
-const MOST_REPLICA: u64 = 65535;
-
-const MOST_WORKER: u64 = 65535;
-
-const MOST_COUNT: u64 = 4294967295;
-
-const MOST_DEVICE: u64 = 65535;
-
-const MOST_FRAME: u64 = 4294967295;
 
 fn digit(c: u8) -> Option<u8>
     ensures value { result ≡ digit_of c }
@@ -42,7 +32,7 @@ fn with_digit(number: u64, digit: u8) -> Option<u64>
 }
 
 // The number that a word spells, where it is at most `limit`.
-fn number(word: &[u8], limit: u64) -> Option<u64>
+fn parse_number(word: &[u8], limit: u64) -> Option<u64>
     ensures value { result ≡ number_up_to limit word.now }
     ensures bound { IfSome result (λ n. n ≤ limit) }
 {
@@ -61,23 +51,23 @@ fn number(word: &[u8], limit: u64) -> Option<u64>
 
 // A second colon is not a digit of the number, so it is refused.
 #[tactic(auto, using(crate::proofs::Parts::page_parts), unfolding(crate::specs::Fields::page_of_word))]
-fn page(word: &[u8]) -> Option<PageId>
+fn parse_page(word: &[u8]) -> Option<PageId>
     ensures { result ≡ page_of_word word.now }
 {
     let (dev, no) = cut(word, b':')?;
-    let dev = number(dev, MOST_DEVICE)? as u16;
-    let no = number(no, u64::MAX)?;
+    let dev = parse_number(dev, u64::from(u16::MAX))? as u16;
+    let no = parse_number(no, u64::MAX)?;
     Some(PageId { dev, no })
 }
 
 // A second dot is not a digit of the generation, so it is refused.
 #[tactic(auto, using(crate::proofs::Parts::slot_parts), unfolding(crate::specs::Fields::slot_of_word))]
-fn slot(word: &[u8]) -> Option<Slot>
+fn parse_slot(word: &[u8]) -> Option<Slot>
     ensures { result ≡ slot_of_word word.now }
 {
     let (index, generation) = cut(word, b'.')?;
-    let index = number(index, MOST_FRAME)? as u32;
-    let generation = number(generation, u64::MAX)?;
+    let index = parse_number(index, u64::from(u32::MAX))? as u32;
+    let generation = parse_number(generation, u64::MAX)?;
     Some(Slot { index, generation })
 }
 
@@ -123,7 +113,7 @@ fn spells_bytes(word: &[u8]) -> bool
 }
 
 // The bytes that a word spells. It allocates only where the word spells bytes.
-pub(crate) fn bytes(alloc: Global, word: &[u8]) -> Result<ByteList, LineFault>
+pub(crate) fn parse_bytes(alloc: Global, word: &[u8]) -> Result<ByteList, LineFault>
     ensures { Reads TakesMemory (bytes_of_hex word.now) result }
 {
     if !spells_bytes(word) {
@@ -141,80 +131,80 @@ pub(crate) fn bytes(alloc: Global, word: &[u8]) -> Result<ByteList, LineFault>
 // ---- one field, and what follows it
 
 #[tactic(auto, unfolding(crate::specs::Fields::number_field))]
-fn number_at(fields: &[u8], limit: u64) -> Option<(u64, &[u8])>
+fn read_number(fields: &[u8], limit: u64) -> Option<(u64, &[u8])>
     ensures value { option_map (λ x. (x.0, words x.1.now)) result
         ≡ number_field limit (words fields.now) }
     ensures bound { IfSome result (λ x. x.0 ≤ limit) }
 {
     let (word, rest) = next_word(fields)?;
-    Some((number(word, limit)?, rest))
+    Some((parse_number(word, limit)?, rest))
 }
 
 // A replica's number.
-pub(crate) fn replica_at(fields: &[u8]) -> Option<(u16, &[u8])>
+pub(crate) fn read_replica(fields: &[u8]) -> Option<(u16, &[u8])>
     ensures { option_map (λ x. (x.0, words x.1.now)) result ≡ replica_field (words fields.now) }
 {
-    let (replica, rest) = number_at(fields, MOST_REPLICA)?;
+    let (replica, rest) = read_number(fields, u64::from(u16::MAX))?;
     Some((replica as u16, rest))
 }
 
 // A worker's number.
-pub(crate) fn worker_at(fields: &[u8]) -> Option<(u16, &[u8])>
+pub(crate) fn read_worker(fields: &[u8]) -> Option<(u16, &[u8])>
     ensures { option_map (λ x. (x.0, words x.1.now)) result ≡ worker_field (words fields.now) }
 {
-    let (worker, rest) = number_at(fields, MOST_WORKER)?;
+    let (worker, rest) = read_number(fields, u64::from(u16::MAX))?;
     Some((worker as u16, rest))
 }
 
 // A bucket's number.
-pub(crate) fn bucket_at(fields: &[u8]) -> Option<(u8, &[u8])>
+pub(crate) fn read_bucket(fields: &[u8]) -> Option<(u8, &[u8])>
     ensures value { option_map (λ x. (x.0, words x.1.now)) result
         ≡ bucket_field (words fields.now) }
     ensures bound { IfSome result (λ x. x.0 < BUCKETS) }
 {
-    let (bucket, rest) = number_at(fields, BUCKETS as u64 - 1)?;
+    let (bucket, rest) = read_number(fields, BUCKETS as u64 - 1)?;
     Some((bucket as u8, rest))
 }
 
 // A number of pages or bytes, or the offset of a byte.
-pub(crate) fn count_at(fields: &[u8]) -> Option<(u32, &[u8])>
+pub(crate) fn read_count(fields: &[u8]) -> Option<(u32, &[u8])>
     ensures { option_map (λ x. (x.0, words x.1.now)) result ≡ count_field (words fields.now) }
 {
-    let (count, rest) = number_at(fields, MOST_COUNT)?;
+    let (count, rest) = read_number(fields, u64::from(u32::MAX))?;
     Some((count as u32, rest))
 }
 
-// A time, or the number of a frame.
-pub(crate) fn long_at(fields: &[u8]) -> Option<(u64, &[u8])>
-    ensures { option_map (λ x. (x.0, words x.1.now)) result ≡ long_field (words fields.now) }
+// A time, or the number of a message.
+pub(crate) fn read_u64(fields: &[u8]) -> Option<(u64, &[u8])>
+    ensures { option_map (λ x. (x.0, words x.1.now)) result ≡ u64_field (words fields.now) }
 {
-    let (number, rest) = number_at(fields, u64::MAX)?;
+    let (number, rest) = read_number(fields, u64::MAX)?;
     Some((number, rest))
 }
 
 #[tactic(auto, unfolding(crate::specs::Fields::page_field))]
-pub(crate) fn page_at(fields: &[u8]) -> Option<(PageId, &[u8])>
+pub(crate) fn read_page(fields: &[u8]) -> Option<(PageId, &[u8])>
     ensures { option_map (λ x. (x.0, words x.1.now)) result ≡ page_field (words fields.now) }
 {
     let (word, rest) = next_word(fields)?;
-    Some((page(word)?, rest))
+    Some((parse_page(word)?, rest))
 }
 
 // A page, or nothing where the line ends before it.
 #[tactic(auto, unfolding(crate::specs::Fields::after_field))]
-pub(crate) fn after_at(fields: &[u8]) -> Option<(Option<PageId>, &[u8])>
+pub(crate) fn read_after(fields: &[u8]) -> Option<(Option<PageId>, &[u8])>
     ensures { option_map (λ x. (x.0, words x.1.now)) result ≡ after_field (words fields.now) }
 {
     let Some((word, rest)) = next_word(fields) else {
         return Some((None, fields));
     };
-    Some((Some(page(word)?), rest))
+    Some((Some(parse_page(word)?), rest))
 }
 
 #[tactic(auto, unfolding(crate::specs::Fields::slot_field))]
-pub(crate) fn slot_at(fields: &[u8]) -> Option<(Slot, &[u8])>
+pub(crate) fn read_slot(fields: &[u8]) -> Option<(Slot, &[u8])>
     ensures { option_map (λ x. (x.0, words x.1.now)) result ≡ slot_field (words fields.now) }
 {
     let (word, rest) = next_word(fields)?;
-    Some((slot(word)?, rest))
+    Some((parse_slot(word)?, rest))
 }

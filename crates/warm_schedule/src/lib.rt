@@ -23,4 +23,4 @@ pub use printer::{print_answer, print_bad_line, print_end_refused, print_history
 pub use random::random_schedule;
 pub use text::first_line;
 pub use warm_play_fault::PlayFault;
-pub use worker::{WorkerLine, parse_worker_line};
+pub use worker::{NotForWorker, WorkerRequest, parse_worker_line};

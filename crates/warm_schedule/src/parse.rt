@@ -4,8 +4,8 @@ ghost use Rattle.warm_schedule.specs.Grammar.{meaning};
 ghost use Rattle.warm_schedule.specs.Parsing.{line_parsed};
 ghost use Rattle.warm_schedule.specs.Reading.{Reads, PutsBytes, line_fault_code, line_fault_name};
 
-use crate::commands::{Parsed, command_named, read_fields};
-use crate::fields::bytes;
+use crate::commands::{ParsedLine, command_named, read_fields};
+use crate::fields::parse_bytes;
 use crate::text::next_word;
 use std::alloc::{AllocError, Global};
 use thiserror::Error;
@@ -17,7 +17,7 @@ pub enum Line {
     /// A line without words, or a comment: it prints nothing and nothing happens.
     Nothing,
     /// An event of the world.
-    Act(Event),
+    Event(Event),
 }
 
 /// Why a line could not be read.
@@ -71,17 +71,17 @@ pub const MAX_LINE: usize = 262144;
 // The meaning of a line, read without allocation: `None` where it is bad. The word that should
 // spell the bytes of a `put` is not read.
 #[tactic(auto, unfolding(crate::specs::Grammar::meaning, crate::specs::Grammar::line_of))]
-pub(crate) fn parsed_in(line: &[u8]) -> Option<Parsed<'_>>
+pub(crate) fn parsed_in(line: &[u8]) -> Option<ParsedLine<'_>>
     ensures { meaning line.now ≡ option_and_then line_parsed result }
 {
     if line.len() > MAX_LINE {
         return None;
     }
     let Some((word, fields)) = next_word(line) else {
-        return Some(Parsed::Nothing);
+        return Some(ParsedLine::Nothing);
     };
     if let [b'#', ..] = word {
-        return Some(Parsed::Nothing);
+        return Some(ParsedLine::Nothing);
     }
     read_fields(command_named(word)?, fields)
 }
@@ -100,19 +100,19 @@ pub fn parse_line(alloc: Global, line: &[u8]) -> Result<Line, LineFault>
     ensures { Reads PutsBytes (meaning line.now) result }
 {
     match parsed_in(line) {
-        Some(Parsed::Event(event)) => Ok(Line::Act(event)),
+        Some(ParsedLine::Event(event)) => Ok(Line::Event(event)),
         Some(
-            Parsed::Put {
+            ParsedLine::Put {
                 replica,
                 slot,
                 at,
                 word,
             },
         ) => {
-            let bytes = bytes(alloc, word)?;
-            Ok(Line::Act(Event::Put(replica, slot, at, bytes)))
+            let bytes = parse_bytes(alloc, word)?;
+            Ok(Line::Event(Event::Put(replica, slot, at, bytes)))
         }
-        Some(Parsed::Nothing) => Ok(Line::Nothing),
+        Some(ParsedLine::Nothing) => Ok(Line::Nothing),
         None => Err(LineFault::Bad),
     }
 }

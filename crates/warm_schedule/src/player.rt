@@ -16,11 +16,43 @@ use crate::printer::{print_answer, print_bad_line, print_end_refused, print_refu
 use crate::text::first_line;
 use std::alloc::Global;
 use std::io::{ErrorKind, Read, Write};
-use std::mem;
 use warm_devices::PageDevice;
 use warm_gossip::NodeFault;
 use warm_play_fault::PlayFault;
 use warm_world::{BadWorld, Setup, World, WorldFault};
+
+// Answers the line of this number. Errors are returned by `?` before an `Ok(())`, here and below:
+// a clause that speaks of `Ok` alone is proved so, and not of a `map_err` as the last expression.
+fn answer<D: PageDevice, W: Write>(
+    alloc: Global,
+    world: &mut World<D>,
+    number: u64,
+    line: &[u8],
+    writer: &mut W,
+) -> Result<(), PlayFault>
+    ensures answered { OnOk result ((out : List ℕ)
+        × Appends (W.contents writer.old) (W.contents writer.new) out
+        × AnswersLine (world_view world.old) number line.now out (world_view world.new)) }
+    ensures stopped { IfErr result (λ why. why ≡ WriteFault) }
+{
+    match parse_line(alloc, line) {
+        Err(LineFault::Bad) => {
+            print_bad_line(writer, number).map_err(|_| PlayFault::WriteFault)?;
+            Ok(())
+        }
+        Err(LineFault::Memory) => {
+            let fault = WorldFault::Node(NodeFault::Memory);
+            print_refusal(writer, fault).map_err(|_| PlayFault::WriteFault)?;
+            Ok(())
+        }
+        Ok(Line::Nothing) => Ok(()),
+        Ok(Line::Event(event)) => {
+            let answer = world.step(event);
+            print_answer(writer, &answer).map_err(|_| PlayFault::WriteFault)?;
+            Ok(())
+        }
+    }
+}
 
 // A world, and the current line: its bytes, up to one more than the maximum length.
 #[derive(Drop)]
@@ -69,35 +101,6 @@ impl<D: PageDevice> Session<D> {
         Ok(())
     }
 
-    // Answers a line.
-    fn answer<W: Write>(&mut self, line: &[u8], writer: &mut W) -> Result<(), PlayFault>
-        ensures answered { OnOk result ((out : List ℕ)
-            × Appends (W.contents writer.old) (W.contents writer.new) out
-            × AnswersLine (world_view self.old.world) self.old.number line.now out
-            (world_view self.new.world)) }
-        ensures number { self.new.number ≡ self.old.number }
-        ensures held { self.new.line ≡ self.old.line }
-        ensures stopped { IfErr result (λ why. why ≡ WriteFault) }
-    {
-        match parse_line(self.alloc, line) {
-            Err(LineFault::Bad) => {
-                print_bad_line(writer, self.number).map_err(|_| PlayFault::WriteFault)?;
-                Ok(())
-            }
-            Err(LineFault::Memory) => {
-                let fault = WorldFault::Node(NodeFault::Memory);
-                print_refusal(writer, fault).map_err(|_| PlayFault::WriteFault)?;
-                Ok(())
-            }
-            Ok(Line::Nothing) => Ok(()),
-            Ok(Line::Act(event)) => {
-                let answer = self.world.step(event);
-                print_answer(writer, &answer).map_err(|_| PlayFault::WriteFault)?;
-                Ok(())
-            }
-        }
-    }
-
     // Answers the held line and clears it. The capacity of its buffer is kept.
     fn answer_held<W: Write>(&mut self, writer: &mut W) -> Result<(), PlayFault>
         ensures answered { OnOk result ((out : List ℕ)
@@ -108,10 +111,14 @@ impl<D: PageDevice> Session<D> {
         ensures none { OnOk result (self.new.line.items ≡ []) }
         ensures stopped { IfErr result (λ why. why ≡ WriteFault) }
     {
-        let mut line = mem::replace(&mut self.line, Vec::new(self.alloc));
-        self.answer(line.as_slice(), writer)?;
-        line.clear();
-        self.line = line;
+        answer(
+            self.alloc,
+            &mut self.world,
+            self.number,
+            self.line.as_slice(),
+            writer,
+        )?;
+        self.line.clear();
         Ok(())
     }
 
@@ -127,7 +134,7 @@ impl<D: PageDevice> Session<D> {
         ensures stopped { IfErr result StopsAnswers }
     {
         if self.line.is_empty() {
-            self.answer(piece, writer)?;
+            answer(self.alloc, &mut self.world, self.number, piece, writer)?;
             self.number += 1;
             return Ok(());
         }
@@ -137,8 +144,9 @@ impl<D: PageDevice> Session<D> {
         Ok(())
     }
 
-    // Processes the next bytes of the schedule, and answers each line that ends in them.
-    fn feed<W: Write>(&mut self, bytes: &[u8], writer: &mut W) -> Result<(), PlayFault>
+    // Processes the next bytes of the schedule, and answers each line that ends in them: `true`
+    // where one does.
+    fn feed<W: Write>(&mut self, bytes: &[u8], writer: &mut W) -> Result<bool, PlayFault>
         requires { self.old.number + length bytes.now < 2 ^ 64 }
         ensures goes { OnOk result ((out : List ℕ)
             × Appends (W.contents writer.old) (W.contents writer.new) out
@@ -147,12 +155,14 @@ impl<D: PageDevice> Session<D> {
         ensures stopped { IfErr result StopsAnswers }
     {
         let mut rest = bytes;
+        let mut ends_line = false;
         while let Some((piece, after)) = first_line(rest) {
             self.end_line(piece, writer)?;
+            ends_line = true;
             rest = after;
         }
         self.add(rest)?;
-        Ok(())
+        Ok(ends_line)
     }
 
     // Writes back all pages and flushes the devices, and prints a line where that fails.
@@ -184,7 +194,7 @@ impl<D: PageDevice> Session<D> {
     {
         self.answer_held(writer)?;
         self.settle(writer)?;
-        pass_on(writer)?;
+        flush_answers(writer)?;
         Ok(())
     }
 
@@ -210,12 +220,10 @@ impl<D: PageDevice> Session<D> {
         match reader.read(buffer) {
             Ok(0) => Ok(false),
             Ok(n) => {
-                let first = self.number;
-                self.feed(&buffer[..n], writer)?;
-                if self.number == first {
+                if !self.feed(&buffer[..n], writer)? {
                     return Ok(true);
                 }
-                pass_on(writer)?;
+                flush_answers(writer)?;
                 Ok(true)
             }
             Err(e) => {
@@ -228,8 +236,8 @@ impl<D: PageDevice> Session<D> {
     }
 }
 
-// Flushes the writer.
-fn pass_on<W: Write>(writer: &mut W) -> Result<(), PlayFault>
+// Flushes the writer, so that whoever waits for the answers gets them.
+fn flush_answers<W: Write>(writer: &mut W) -> Result<(), PlayFault>
     ensures kept { OnOk result (Keeps (W.contents writer.old) (W.contents writer.new)) }
     ensures stopped { IfErr result (λ why. why ≡ WriteFault) }
 {

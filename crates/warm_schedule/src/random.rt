@@ -25,6 +25,7 @@ pub fn random_schedule<W: Write>(
     ensures fault { IfErr result (λ fault. fault ≡ PlayFault.WriteFault) }
 {
     let setup = *setup;
+    // Errors are returned by `?`, as in `src/player.rt`.
     write_schedule(writer, seed, events, setup.replicas(), setup.workers()).map_err(
         |_| PlayFault::WriteFault,
     )?;

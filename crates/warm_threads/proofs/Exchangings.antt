@@ -8,14 +8,15 @@ use Rattle.warm_stamps.specs.declared.TheConstants.{BUCKETS}
 use Rattle.warm_history.specs.declared.hist.Entry.{Entry}
 use Rattle.warm_frames.specs.declared.layout.TheConstants.{MAX_ENTRIES}
 use Rattle.warm_frames.specs.declared.message.Message.{Message}
-use Rattle.warm_turn.specs.Turns.{Runs, entry}
+use Rattle.warm_turn.specs.CallHistories.{Runs, entry}
 use Rattle.warm_gossip.specs.declared.call.Call.{Call}
 use Rattle.warm_gossip.specs.declared.call.Call.TheVariants.{Send, Receive}
 use Rattle.warm_gossip.specs.declared.call.Reply.{Reply}
 use Rattle.warm_gossip.specs.declared.call.Reply.TheVariants.{Sent, Answers}
 use Rattle.warm_gossip.specs.Pieces.{last_page}
 use Rattle.warm_replica.specs.Jobs.{Calls}
-use Rattle.warm_threads.specs.Exchanges.{entries_in, IsReceipt, SendsAll, SendsBucket}
+use Rattle.warm_frames.specs.Limits.{entries_in}
+use Rattle.warm_threads.specs.Exchanges.{IsReceipt, SendsAll, SendsBucket}
 use Rattle.warm_threads.specs.Numbers.{NumberedFrom}
 use Rattle.warm_threads.specs.Works.{LeadsBy}
 use Rattle.warm_threads.proofs.Numberings.{numbered_more}

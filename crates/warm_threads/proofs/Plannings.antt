@@ -5,15 +5,15 @@ use Rattle.std.specs.Global.{Vec}
 use Rattle.std.proofs.lemmas.Bool.{and_from, and_left, and_parts, and_right, eq-eqb, leb-true, ne_eqb}
 use Rattle.std.proofs.lemmas.List.{append-nil, map-append}
 use Rattle.std.proofs.lemmas.List.Elements.{filter-append}
-use Rattle.warm_stamps.specs.declared.Reference.{Reference}
 use Rattle.warm_replica.specs.declared.job.Job.{Job}
 use Rattle.warm_replica.specs.Pairs.{Pairs}
 use Rattle.warm_world.specs.Sizes.{Sizes}
 use Rattle.warm_threads.specs.declared.ask.Ask.{Ask}
+use Rattle.warm_threads.specs.declared.ask.Task.{Task}
 use Rattle.warm_threads.specs.Asks.{has_worker, is_number}
 use Rattle.warm_threads.specs.Numbers.{Numbered}
 use Rattle.warm_threads.specs.Steps.{Planned, nothing_planned}
-use Rattle.warm_threads.specs.Plans.{plan_ask, plan_asks, is_of, asked_of, plan_of, IsShaped, ArePlansOf, DoesPlan, DoPlans, IsJobOf, AreJobsOf}
+use Rattle.warm_threads.specs.Plans.{plan_task, plan_tasks, is_of, tasks_of, plan_of, IsShaped, ArePlansOf, DoesPlan, DoPlans, IsJobOf, AreJobsOf}
 use Rattle.warm_threads.proofs.Numberings.{numbered_at, numbered_map, numbered_more, numbered_pairs, numbered_replicate, numbered_set, pairs_length, all_pairs}
 
 -- a worker that there is
@@ -25,30 +25,30 @@ has_numbers s i w there =
     (leb-true 1 i replica.0, leb-true i s.replicas replica.1, leb-true 1 w worker.0, leb-true w s.workers worker.1)
 
 -- the last request is planned last
-plan_asks_more : (capacity : ℕ) (p : Planned) (before : List (Option Reference)) (a : Option Reference) → plan_asks capacity p (before ++ a ∷ []) ≡ plan_ask capacity (plan_asks capacity p before) a
-plan_asks_more capacity p [] a = refl
-plan_asks_more capacity p (b ∷ bs) a = plan_asks_more capacity (plan_ask capacity p b) bs a
+plan_tasks_more : (capacity : ℕ) (p : Planned) (before : List Task) (a : Task) → plan_tasks capacity p (before ++ a ∷ []) ≡ plan_task capacity (plan_tasks capacity p before) a
+plan_tasks_more capacity p [] a = refl
+plan_tasks_more capacity p (b ∷ bs) a = plan_tasks_more capacity (plan_task capacity p b) bs a
 
 -- one ask alone
-one_asked : (i w : ℕ) (a : Ask) (there : Bool) → is_of i w a ≡ there → asked_of i w (a ∷ []) ≡ cond there (a.reference ∷ []) []
-one_asked i w a true is = ap (λ (t : Bool). map (λ (b : Ask). b.reference) (cond t (a ∷ []) [])) is
-one_asked i w a false is = ap (λ (t : Bool). map (λ (b : Ask). b.reference) (cond t (a ∷ []) [])) is
+one_asked : (i w : ℕ) (a : Ask) (there : Bool) → is_of i w a ≡ there → tasks_of i w (a ∷ []) ≡ cond there (a.task ∷ []) []
+one_asked i w a true is = ap (λ (t : Bool). map (λ (b : Ask). b.task) (cond t (a ∷ []) [])) is
+one_asked i w a false is = ap (λ (t : Bool). map (λ (b : Ask). b.task) (cond t (a ∷ []) [])) is
 
-asked_more : (i w : ℕ) (before : List Ask) (a : Ask) → asked_of i w (before ++ a ∷ []) ≡ asked_of i w before ++ asked_of i w (a ∷ [])
+asked_more : (i w : ℕ) (before : List Ask) (a : Ask) → tasks_of i w (before ++ a ∷ []) ≡ tasks_of i w before ++ tasks_of i w (a ∷ [])
 asked_more i w before a =
-    ap (λ (asks : List Ask). map (λ (b : Ask). b.reference) asks) (filter-append (is_of i w) before (a ∷ [])) ∙ map-append (λ (b : Ask). b.reference) (filter (is_of i w) before) (filter (is_of i w) (a ∷ []))
+    ap (λ (asks : List Ask). map (λ (b : Ask). b.task) asks) (filter-append (is_of i w) before (a ∷ [])) ∙ map-append (λ (b : Ask). b.task) (filter (is_of i w) before) (filter (is_of i w) (a ∷ []))
 
 -- another worker's plan stays
 plan_other : (s : Sizes) (before : List Ask) (a : Ask) (i w : ℕ) → is_of i w a ≡ false → plan_of s (before ++ a ∷ []) i w ≡ plan_of s before i w
 plan_other s before a i w is =
-    let same : asked_of i w (before ++ a ∷ []) ≡ asked_of i w before = asked_more i w before a ∙ ap (λ (rest : List (Option Reference)). asked_of i w before ++ rest) (one_asked i w a false is) ∙ append-nil (asked_of i w before) in
-    ap (λ (asked : List (Option Reference)). plan_asks s.buffer nothing_planned asked) same
+    let same : tasks_of i w (before ++ a ∷ []) ≡ tasks_of i w before = asked_more i w before a ∙ ap (λ (rest : List Task). tasks_of i w before ++ rest) (one_asked i w a false is) ∙ append-nil (tasks_of i w before) in
+    ap (λ (asked : List Task). plan_tasks s.buffer nothing_planned asked) same
 
 -- the plan of the requested worker is extended
-plan_here : (s : Sizes) (before : List Ask) (a : Ask) (i w : ℕ) → is_of i w a ≡ true → plan_of s (before ++ a ∷ []) i w ≡ plan_ask s.buffer (plan_of s before i w) a.reference
+plan_here : (s : Sizes) (before : List Ask) (a : Ask) (i w : ℕ) → is_of i w a ≡ true → plan_of s (before ++ a ∷ []) i w ≡ plan_task s.buffer (plan_of s before i w) a.task
 plan_here s before a i w is =
-    let more : asked_of i w (before ++ a ∷ []) ≡ asked_of i w before ++ a.reference ∷ [] = asked_more i w before a ∙ ap (λ (rest : List (Option Reference)). asked_of i w before ++ rest) (one_asked i w a true is) in
-    ap (λ (asked : List (Option Reference)). plan_asks s.buffer nothing_planned asked) more ∙ plan_asks_more s.buffer nothing_planned (asked_of i w before) a.reference
+    let more : tasks_of i w (before ++ a ∷ []) ≡ tasks_of i w before ++ a.task ∷ [] = asked_more i w before a ∙ ap (λ (rest : List Task). tasks_of i w before ++ rest) (one_asked i w a true is) in
+    ap (λ (asked : List Task). plan_tasks s.buffer nothing_planned asked) more ∙ plan_tasks_more s.buffer nothing_planned (tasks_of i w before) a.task
 
 is_self : (i w : ℕ) (a : Ask) → i ≡ a.replica → w ≡ a.worker → is_of i w a ≡ true
 is_self i w a here worker = and_from (a.replica == i) (a.worker == w) (eq-eqb a.replica i (sym here)) (eq-eqb a.worker w (sym worker))
@@ -62,7 +62,7 @@ other_worker i w a other = and_right (a.replica == i) (a.worker == w) (ne_eqb a.
 -- One more request: the plan of one worker of one replica is extended. The indexes of both are one
 -- less than their numbers.
 pub plans_more : (s : Sizes) (before : List Ask) (a : Ask) (plans : List (Vec Planned)) (r w : ℕ) (old new : Vec Planned) → a.replica ≡ 1 + r → a.worker ≡ 1 + w → r < length plans
-    → old ≡ slice_index_or plans r old → w < length old.items → new.items ≡ slice_set old.items w (plan_ask s.buffer (slice_index_or old.items w nothing_planned) a.reference)
+    → old ≡ slice_index_or plans r old → w < length old.items → new.items ≡ slice_set old.items w (plan_task s.buffer (slice_index_or old.items w nothing_planned) a.task)
     → ArePlansOf s before plans → ArePlansOf s (before ++ a ∷ []) (slice_set plans r new)
 plans_more s before a plans r w old new replica worker low is there goes h =
     numbered_set 1 r a.replica (λ i list. Numbered (λ v plan. plan ≡ plan_of s before i v) list.items) (λ i list. Numbered (λ v plan. plan ≡ plan_of s (before ++ a ∷ []) i v) list.items) plans new low replica
@@ -76,8 +76,8 @@ plans_more s before a plans r w old new replica worker low is there goes h =
     plan_is : slice_index_or old.items w nothing_planned ≡ plan_of s before a.replica a.worker
     plan_is = numbered_at 1 w a.worker (λ v plan. plan ≡ plan_of s before a.replica v) old.items nothing_planned there worker list_is
 
-    goes_on : plan_ask s.buffer (slice_index_or old.items w nothing_planned) a.reference ≡ plan_of s (before ++ a ∷ []) a.replica a.worker
-    goes_on = ap (λ (p : Planned). plan_ask s.buffer p a.reference) plan_is ∙ sym (plan_here s before a a.replica a.worker (is_self a.replica a.worker a refl refl))
+    goes_on : plan_task s.buffer (slice_index_or old.items w nothing_planned) a.task ≡ plan_of s (before ++ a ∷ []) a.replica a.worker
+    goes_on = ap (λ (p : Planned). plan_task s.buffer p a.task) plan_is ∙ sym (plan_here s before a a.replica a.worker (is_self a.replica a.worker a refl refl))
 
     here : Numbered (λ v plan. plan ≡ plan_of s (before ++ a ∷ []) a.replica v) new.items
     here = subst (λ (items : List Planned). Numbered (λ v plan. plan ≡ plan_of s (before ++ a ∷ []) a.replica v) items) (sym goes)

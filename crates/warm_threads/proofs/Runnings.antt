@@ -4,8 +4,8 @@ use Rattle.std.specs.Global.{Vec}
 use Rattle.std.specs.List.{All}
 use mathlib.Core.Option.{some}
 use lib.ListN.{get_elem?}
-use Rattle.warm_turn.specs.declared.board.View.{View}
-use Rattle.warm_turn.specs.Turns.{Runs, IsLast, first_pass}
+use Rattle.warm_turn.specs.declared.table.View.{View}
+use Rattle.warm_turn.specs.CallHistories.{Runs, IsLast, first_pass}
 use Rattle.warm_gossip.specs.declared.call.Call.{Call}
 use Rattle.warm_gossip.specs.declared.call.Reply.{Reply}
 use Rattle.warm_replica.specs.declared.job.Job.{Job}
@@ -44,7 +44,7 @@ module _ {X : Type 0} (goes : X → Call → Reply → X → Type 0) where
     sends : LeadsBy goes SendsAll x shared
     receives : LeadsBy goes (All IsReceipt) shared z
 
-  -- crews of these machines and jobs that have worked, and machines that have sent and received since
+  -- runs of these machines and jobs that have worked, and machines that have sent and received since
   pub went_all : {C K H M : Type 0} (view : M → X) (first : List M) (lists : List (Vec Job)) (cs : List C) (ks : List K) (hs : List H) (ms : List M)
       → (machine : C → M) (jobs : C → Vec Job) (known : K → M) (heard : H → M) → map machine cs ≡ first → map jobs cs ≡ lists
       → Pairs (λ r k. Works goes (jobs r).items (view (machine r)) (view (known k))) cs ks

@@ -3,11 +3,10 @@ use Rattle.std.specs.Prelude.{◌≡◌, ℕ, ◌<◌, ◌≤◌, List, [], ◌�
 use Rattle.std.specs.List.{flat_map}
 use Rattle.warm_stamps.specs.declared.PageId.{PageId}
 use Rattle.warm_stamps.specs.declared.TheConstants.{BUCKETS}
-use Rattle.warm_history.specs.declared.hist.Entry.{Entry}
 use Rattle.warm_frames.specs.declared.layout.TheConstants.{MAX_ENTRIES}
 use Rattle.warm_frames.specs.declared.message.Message.{Message}
-use Rattle.warm_frames.specs.declared.message.Message.TheVariants.{Entries}
-use Rattle.warm_turn.specs.declared.board.Entry as turn
+use Rattle.warm_frames.specs.Limits.{entries_in}
+use Rattle.warm_turn.specs.declared.table.Entry as turn
 use Rattle.warm_gossip.specs.declared.call.Call.{Call}
 use Rattle.warm_gossip.specs.declared.call.Call.TheVariants.{Send, Receive}
 use Rattle.warm_gossip.specs.declared.call.Reply.{Reply}
@@ -15,11 +14,6 @@ use Rattle.warm_gossip.specs.declared.call.Reply.TheVariants.{Sent, Answers}
 use Rattle.warm_gossip.specs.Pieces.{last_page}
 use Rattle.warm_replica.specs.Jobs.{Calls}
 use Rattle.warm_threads.specs.Numbers.{NumberedFrom}
-
--- the entries that a message carries
-abbrev pub entries_in : Message → List Entry
-entries_in (Entries sender horizon entries) = entries
-entries_in message = []
 
 -- the call requested the bucket's entries after this page, and the reply is this message
 abbrev pub IsSend : ℕ → Option PageId → Message → turn.Entry Call Reply → Type 0

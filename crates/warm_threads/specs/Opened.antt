@@ -7,7 +7,8 @@ use Rattle.warm_gossip.specs.State.{NodeState}
 use Rattle.warm_world.specs.Opening.{AreFew, AreFitting}
 use Rattle.warm_world.specs.Sizes.{Sizes}
 
--- the node of this number over these devices: its history is that of no references, and its pool has no page
+-- the node of this number over these devices: its history is that of no references, and its pool
+-- has no page
 abbrev pub opened_node : Sizes → ℕ → List DeviceState → NodeState
 opened_node s i devices = node.opened_node i (fresh_pool s.frames s.page_size devices)
 

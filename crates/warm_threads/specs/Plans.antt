@@ -1,5 +1,5 @@
 -- The steps by which a worker carries out its requests.
-use Rattle.std.specs.Prelude.{◌≡◌, ℕ, ◌+◌, List, [], ◌∷◌, ◌++◌, Bool, true, false, ◌&&◌, ◌==◌, filter, length, map, nat_lt, Option, Some, None}
+use Rattle.std.specs.Prelude.{◌≡◌, ℕ, ◌+◌, List, [], ◌∷◌, ◌++◌, Bool, true, false, ◌&&◌, ◌==◌, filter, length, map, nat_lt}
 use Rattle.std.specs.Global.{Vec}
 use Rattle.std.specs.List.{All}
 use Rattle.warm_stamps.specs.declared.Reference.{Reference}
@@ -8,6 +8,8 @@ use Rattle.warm_replica.specs.declared.job.Step.TheVariants.{Touch, Flush}
 use Rattle.warm_replica.specs.Pairs.{Pairs}
 use Rattle.warm_world.specs.Sizes.{Sizes}
 use Rattle.warm_threads.specs.declared.ask.Ask.{Ask}
+use Rattle.warm_threads.specs.declared.ask.Task.{Task}
+use Rattle.warm_threads.specs.declared.ask.Task.TheVariants as task
 use Rattle.warm_threads.specs.Numbers.{Numbered}
 use Rattle.warm_threads.specs.Steps.{Planned, nothing_planned}
 
@@ -17,25 +19,25 @@ plan_reference p true r = record { steps = p.steps ++ Touch r ∷ []; held = p.h
 plan_reference p false r = record { steps = p.steps ++ Flush ∷ Touch r ∷ []; held = 1 }
 
 -- the steps for one more reference, or for a flush
-abbrev pub plan_ask : ℕ → Planned → Option Reference → Planned
-plan_ask capacity p (Some r) = plan_reference p (nat_lt p.held capacity) r
-plan_ask capacity p None = record { steps = p.steps ++ Flush ∷ []; held = 0 }
+abbrev pub plan_task : ℕ → Planned → Task → Planned
+plan_task capacity p (task.Reference r) = plan_reference p (nat_lt p.held capacity) r
+plan_task capacity p task.Flush = record { steps = p.steps ++ Flush ∷ []; held = 0 }
 
-abbrev pub plan_asks : ℕ → Planned → List (Option Reference) → Planned
-plan_asks capacity p [] = p
-plan_asks capacity p (a ∷ rest) = plan_asks capacity (plan_ask capacity p a) rest
+abbrev pub plan_tasks : ℕ → Planned → List Task → Planned
+plan_tasks capacity p [] = p
+plan_tasks capacity p (a ∷ rest) = plan_tasks capacity (plan_task capacity p a) rest
 
 -- the request is to this worker of this replica
 abbrev pub is_of : ℕ → ℕ → Ask → Bool
 is_of i w a = (a.replica == i) && (a.worker == w)
 
 -- the requests to the worker of the replica, in their order
-abbrev pub asked_of : ℕ → ℕ → List Ask → List (Option Reference)
-asked_of i w asks = map (λ a. a.reference) (filter (is_of i w) asks)
+abbrev pub tasks_of : ℕ → ℕ → List Ask → List Task
+tasks_of i w asks = map (λ a. a.task) (filter (is_of i w) asks)
 
 -- the worker's plan after these requests
 abbrev pub plan_of : Sizes → List Ask → ℕ → ℕ → Planned
-plan_of s asks i w = plan_asks s.buffer nothing_planned (asked_of i w asks)
+plan_of s asks i w = plan_tasks s.buffer nothing_planned (tasks_of i w asks)
 
 -- a list of plans for each replica, in each a plan for each worker
 pub record IsShaped (s : Sizes) (plans : List (Vec Planned)) : Type 0 where
@@ -62,7 +64,8 @@ pub record IsJobOf (s : Sizes) (asks : List Ask) (i w : ℕ) (job : Job) : Type 
   pub capacity : job.capacity ≡ s.buffer
   pub steps : job.steps.items ≡ (plan_of s asks i w).steps ++ Flush ∷ []
 
--- a list of jobs for each replica, in each the job of each worker; replicas and workers are counted from 1
+-- a list of jobs for each replica, in each the job of each worker; replicas and workers are counted
+-- from 1
 pub record AreJobsOf (s : Sizes) (asks : List Ask) (jobs : List (Vec Job)) : Type 0 where
   pub replicas : length jobs ≡ s.replicas
   pub workers : All (λ list. length list.items ≡ s.workers) jobs

@@ -8,17 +8,17 @@ use Rattle.warm_threads.specs.Opened.{AreUsable}
 
 -- what stops the threads of a play: an allocation failure, a thread that can't be started, or a
 -- replica that takes no mail
-abbrev pub StopsCrews : PlayFault → Type 0
-StopsCrews Memory = Unit {0}
-StopsCrews NoThread = Unit {0}
-StopsCrews why = ⊥
+abbrev pub StopsRuns : PlayFault → Type 0
+StopsRuns Memory = Unit {0}
+StopsRuns NoThread = Unit {0}
+StopsRuns why = ⊥
 
 -- what stops a running play: the same, the reader, the writer, or a line that threads can't play
 abbrev pub StopsThreads : PlayFault → Type 0
 StopsThreads ReadFault = Unit {0}
 StopsThreads WriteFault = Unit {0}
 StopsThreads (BadLine number) = Unit {0}
-StopsThreads why = StopsCrews why
+StopsThreads why = StopsRuns why
 
 -- why a play does not begin: the devices can't be used; or they can, and an allocation failed
 abbrev pub ThreadsPlayRefused : Sizes → List (List DeviceState) → PlayFault → Type 0

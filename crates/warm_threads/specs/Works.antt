@@ -4,8 +4,8 @@ use Rattle.std.specs.Global.{Vec}
 use Rattle.std.specs.List.{All}
 use mathlib.Core.Option.{some}
 use lib.ListN.{get_elem?}
-use Rattle.warm_turn.specs.declared.board.Ended.{Ended}
-use Rattle.warm_turn.specs.Turns.{Runs, NoRepeat, calls_by}
+use Rattle.warm_turn.specs.declared.table.EndedPass.{EndedPass}
+use Rattle.warm_turn.specs.CallHistories.{Runs, NoRepeat, calls_by}
 use Rattle.warm_gossip.specs.declared.call.Call.{Call}
 use Rattle.warm_gossip.specs.declared.call.Reply.{Reply}
 use Rattle.warm_replica.specs.declared.job.Job.{Job}
@@ -27,9 +27,9 @@ module _ {X : Type 0} (goes : X → Call → Reply → X → Type 0) where
     pub runs : Runs goes x calls z
     pub replies : List Replied
     pub taken : All AreTaken replies
-    pub workers : List (Ended Call Reply)
+    pub workers : List (EndedPass Call Reply)
     pub each : Triples JobWentAs jobs replies workers
-    pub stand : (k : ℕ) (e : Ended Call Reply) → get_elem? workers k ≡ some e → calls_by e.number calls ≡ e.calls
+    pub stand : (k : ℕ) (e : EndedPass Call Reply) → get_elem? workers k ≡ some e → calls_by e.number calls ≡ e.calls
     pub apart : NoRepeat workers
 
   -- The workers of a machine have ended; then it has sent every bucket whole, by exactly these

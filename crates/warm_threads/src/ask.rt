@@ -1,20 +1,33 @@
 //! The requests of lines to workers.
-ghost use Rattle.std.specs.Prelude.{◌≡◌, Some, option_map};
+ghost use Rattle.std.specs.Prelude.{◌≡◌};
 ghost use Rattle.warm_world.specs.Sizes.{IsSetup};
-ghost use Rattle.warm_threads.specs.Asks.{asked, asked_in, has_worker, is_number};
+ghost use Rattle.warm_threads.specs.Asks.{ask_in, asked, has_worker, is_number};
 
-use warm_schedule::{WorkerLine, parse_worker_line};
+use warm_schedule::{WorkerRequest, parse_worker_line};
 use warm_stamps::{Reference, ReplicaId, Stamp};
 use warm_world::Setup;
 
-/// The request of a line to a worker of a replica, both numbered from 1: to make a reference, or to
-/// flush where there is none.
+/// What a worker is asked to do.
+#[derive(Clone, Copy)]
+pub(crate) enum Task {
+    /// To make this reference.
+    Reference(Reference),
+    /// To flush its buffer.
+    Flush,
+}
+
+/// The request of a line to a worker of a replica, both numbered from 1.
 #[derive(Clone, Copy)]
 pub(crate) struct Ask {
     pub(crate) replica: u16,
     pub(crate) worker: u16,
-    pub(crate) reference: Option<Reference>,
+    pub(crate) task: Task,
 }
+
+/// A line that threads cannot play: it is not a line of the language, or of another kind, or the
+/// setup has no such worker.
+#[derive(Clone, Copy)]
+pub(crate) struct NotPlayable;
 
 fn is_number(number: u16, count: u16) -> bool
     ensures { result ≡ is_number number count }
@@ -28,37 +41,60 @@ fn has_worker(setup: Setup, replica: u16, worker: u16) -> bool
     is_number(replica, setup.replicas()) && is_number(worker, setup.workers())
 }
 
-// The request of a line to a worker. `None` where the setup has no such worker.
-fn asked_of(setup: Setup, line: WorkerLine) -> Option<Ask>
-    ensures { option_map Some result ≡ asked_in setup (Some (Some line)) }
+// The request of a line to a worker, which the setup has to have.
+fn ask_of(setup: Setup, request: WorkerRequest) -> Result<Ask, NotPlayable>
+    ensures { result ≡ ask_in setup request }
 {
-    if !has_worker(setup, line.replica, line.worker) {
-        return None;
-    }
-    let reference = match line.reference {
-        Some((page, time)) => {
-            let Ok(replica) = ReplicaId::new(line.replica) else {
+    match request {
+        WorkerRequest::Reference {
+            replica,
+            worker,
+            page,
+            time,
+        } => {
+            if !has_worker(setup, replica, worker) {
+                return Err(NotPlayable);
+            }
+            let Ok(maker) = ReplicaId::new(replica) else {
                 unreachable!()
             };
-            let stamp = Stamp { time, replica };
-            Some(Reference { page, stamp })
+            let stamp = Stamp {
+                time,
+                replica: maker,
+            };
+            let task = Task::Reference(Reference { page, stamp });
+            Ok(Ask {
+                replica,
+                worker,
+                task,
+            })
         }
-        None => None,
-    };
-    Some(Ask {
-        replica: line.replica,
-        worker: line.worker,
-        reference,
-    })
+        WorkerRequest::Flush { replica, worker } => {
+            if !has_worker(setup, replica, worker) {
+                return Err(NotPlayable);
+            }
+            let task = Task::Flush;
+            Ok(Ask {
+                replica,
+                worker,
+                task,
+            })
+        }
+    }
 }
 
-/// The request of a line, or nothing. `None` where threads cannot play it: it is not a line of the
-/// language, or of another kind, or the setup has no such worker.
-pub(crate) fn asked(setup: Setup, line: &[u8]) -> Option<Option<Ask>>
+/// The request of a line. `None` where it has no word or is a comment.
+pub(crate) fn asked(setup: Setup, line: &[u8]) -> Result<Option<Ask>, NotPlayable>
     ensures { result ≡ asked setup line.now }
 {
-    let Some(line) = parse_worker_line(line)? else {
-        return Some(None);
+    let Ok(said) = parse_worker_line(line) else {
+        return Err(NotPlayable);
     };
-    Some(Some(asked_of(setup, line)?))
+    let Some(request) = said else {
+        return Ok(None);
+    };
+    match ask_of(setup, request) {
+        Ok(ask) => Ok(Some(ask)),
+        Err(refused) => Err(refused),
+    }
 }

@@ -4,13 +4,14 @@ ghost use Rattle.std.specs.List.{All};
 ghost use Rattle.warm_frames.specs.declared.layout.TheConstants.{MAX_ENTRIES};
 ghost use Rattle.warm_frames.specs.declared.message.Message.{Message};
 ghost use Rattle.warm_frames.specs.Encoding.{Encodes};
+ghost use Rattle.warm_frames.specs.Limits.{entries_in};
 ghost use Rattle.warm_gossip.specs.declared.call.Call.TheVariants.{Send, Receive};
 ghost use Rattle.warm_gossip.specs.declared.call.Reply.TheVariants.{Sent, Answers};
 ghost use Rattle.warm_gossip.specs.Pieces.{last_page};
-ghost use Rattle.warm_threads.specs.Exchanges.{entries_in, IsReceipt, SendsAll, SendsBucket};
+ghost use Rattle.warm_threads.specs.Exchanges.{IsReceipt, SendsAll, SendsBucket};
 ghost use Rattle.warm_threads.specs.Works.{LeadsBy};
 
-use crate::fault::CrewFault;
+use crate::fault::ReplicaRunFault;
 use crossbeam_channel::{Receiver, Sender};
 use std::alloc::Global;
 use std::sync::{Arc, Wait};
@@ -20,12 +21,13 @@ use warm_stamps::{BUCKETS, Bucket, ByteList, PageId};
 use warm_turn::Machine;
 
 /// The maximum number of items of mail that a replica takes.
-pub(crate) const MOST_MAIL: u64 = 1_000_000;
+pub(crate) const MAX_MAIL: u64 = 1_000_000;
 
 /// One item of mail: what a channel carries to the replica whose mail it is.
 #[derive(Drop)]
-pub(crate) enum Parcel {
-    /// Bytes that spell a message. All replicas that it is sent to share them: they are freed when the last has received it.
+pub(crate) enum SharedMail {
+    /// Bytes that spell a message. All replicas that it is sent to share them: they are freed when
+    /// the last has received it.
     Bytes(Arc<ByteList, Global>),
     /// The sign that a sender is done.
     Stop,
@@ -35,24 +37,25 @@ pub(crate) enum Parcel {
 fn post_bytes<R: Wait>(
     rt: &R,
     bytes: &Arc<ByteList, Global>,
-    boxes: &[Sender<Parcel>],
-) -> Result<(), CrewFault> {
+    boxes: &[Sender<SharedMail>],
+) -> Result<(), ReplicaRunFault> {
     for sender in boxes {
         let shared = Arc::try_clone(bytes)?;
-        sender.send(rt, Parcel::Bytes(shared))?;
+        sender.send(rt, SharedMail::Bytes(shared))?;
     }
     Ok(())
 }
 
 // Sends a Stop to each of the channels.
-fn post_stops<R: Wait>(rt: &R, boxes: &[Sender<Parcel>]) -> Result<(), CrewFault> {
+fn post_stops<R: Wait>(rt: &R, boxes: &[Sender<SharedMail>]) -> Result<(), ReplicaRunFault> {
     for sender in boxes {
-        sender.send(rt, Parcel::Stop)?;
+        sender.send(rt, SharedMail::Stop)?;
     }
     Ok(())
 }
 
-// The page after which more of the bucket may follow: the last one of a message that is full. `None` where nothing follows.
+// The page after which more of the bucket may follow: the last one of a message that is full.
+// `None` where nothing follows.
 fn next_after(message: &Message) -> Option<PageId>
     ensures full { IfSome result (λ page. MAX_ENTRIES ≤ length (entries_in message.now)) }
     ensures last { IfSome result (λ page. last_page (entries_in message.now) ≡ Some page) }
@@ -76,14 +79,14 @@ fn asked_message<M: Machine<Call = Call, Reply = Reply>>(
     machine: &mut M,
     bucket: Bucket,
     after: Option<PageId>,
-) -> Result<Message, CrewFault>
+) -> Result<Message, ReplicaRunFault>
     ensures { IfOk result (λ message. M.goes (M.view machine.old)
         (Send bucket after) (Sent message) (M.view machine.new)) }
 {
     let reply = machine.call(Call::Send { bucket, after });
     match reply {
         Reply::Sent(message) => Ok(message),
-        _ => Err(CrewFault::Memory),
+        _ => Err(ReplicaRunFault::Memory),
     }
 }
 
@@ -93,8 +96,8 @@ fn send_bucket<M: Machine<Call = Call, Reply = Reply>, R: Wait>(
     alloc: Global,
     machine: &mut M,
     bucket: Bucket,
-    boxes: &[Sender<Parcel>],
-) -> Result<(), CrewFault>
+    boxes: &[Sender<SharedMail>],
+) -> Result<(), ReplicaRunFault>
     ensures { OnOk result
         (LeadsBy M.goes (SendsBucket bucket None) (M.view machine.old) (M.view machine.new)) }
 {
@@ -121,8 +124,8 @@ pub(crate) fn send_all<M: Machine<Call = Call, Reply = Reply> + Drop, R: Wait>(
     rt: &R,
     alloc: Global,
     machine: M,
-    boxes: &[Sender<Parcel>],
-) -> Result<M, CrewFault>
+    boxes: &[Sender<SharedMail>],
+) -> Result<M, ReplicaRunFault>
     ensures { IfOk result (λ m. LeadsBy M.goes SendsAll (M.view machine) (M.view m)) }
 {
     let mut machine = machine;
@@ -136,28 +139,28 @@ pub(crate) fn send_all<M: Machine<Call = Call, Reply = Reply> + Drop, R: Wait>(
     Ok(machine)
 }
 
-// Has the machine receive the message that the bytes spell. Its answers are dropped: entries have none, and no replica sends another
-// kind of message.
+// Has the machine receive the message that the bytes spell. Its answers are dropped: entries have
+// none, and no replica sends another kind of message.
 fn receive<M: Machine<Call = Call, Reply = Reply>>(
     alloc: Global,
     machine: &mut M,
     bytes: &[u8],
-) -> Result<(), CrewFault>
+) -> Result<(), ReplicaRunFault>
     ensures { OnOk result ((message : Message) × (answers : List Message)
         × Encodes bytes.now message
         × M.goes (M.view machine.old) (Receive message) (Answers answers) (M.view machine.new)) }
 {
     let Ok(message) = decode(alloc, bytes) else {
-        return Err(CrewFault::Memory);
+        return Err(ReplicaRunFault::Memory);
     };
     let reply = machine.call(Call::Receive(message));
     match reply {
         Reply::Answers(_) => Ok(()),
-        _ => Err(CrewFault::Memory),
+        _ => Err(ReplicaRunFault::Memory),
     }
 }
 
-/// Has the machine receive the messages of a channel, until `stops` Stops or [`MOST_MAIL`] items
+/// Has the machine receive the messages of a channel, until `stops` Stops or [`MAX_MAIL`] items
 /// were received.
 ///
 /// # Errors
@@ -167,23 +170,23 @@ pub(crate) fn hear_all<M: Machine<Call = Call, Reply = Reply> + Drop, R: Wait>(
     rt: &R,
     alloc: Global,
     machine: M,
-    receiver: Receiver<Parcel>,
+    receiver: Receiver<SharedMail>,
     stops: u64,
-) -> Result<M, CrewFault>
+) -> Result<M, ReplicaRunFault>
     ensures { IfOk result (λ m. LeadsBy M.goes (All IsReceipt) (M.view machine) (M.view m)) }
 {
     let mut machine = machine;
     let mut missing = stops;
-    for _ in 0..MOST_MAIL {
+    for _ in 0..MAX_MAIL {
         if missing == 0 {
             return Ok(machine);
         }
-        let Ok(parcel) = receiver.recv(rt) else {
+        let Ok(item) = receiver.recv(rt) else {
             return Ok(machine);
         };
-        match parcel {
-            Parcel::Bytes(bytes) => receive(alloc, &mut machine, bytes.as_slice())?,
-            Parcel::Stop => missing -= 1,
+        match item {
+            SharedMail::Bytes(bytes) => receive(alloc, &mut machine, bytes.as_slice())?,
+            SharedMail::Stop => missing -= 1,
         }
     }
     Ok(machine)

@@ -1,5 +1,4 @@
-//! Why a crew, which is a replica and its workers, did not finish its work or its exchange with the
-//! others.
+//! Why a replica's run did not end well: the work of its workers, or its exchange with the others.
 use crossbeam_channel::SendError;
 use std::alloc::{AllocError, AllocFailed};
 use thiserror::Error;
@@ -7,107 +6,107 @@ use warm_play_fault::PlayFault;
 use warm_replica::RunFault;
 use warm_turn::{Busy, Memory};
 
-/// Why a crew did not finish. Each fault is displayed as its name.
+/// Why a run did not end well. Each fault is displayed as its name.
 #[derive(Clone, Copy, Debug, Error)]
-pub(crate) enum CrewFault {
-    /// An allocation failed: the crew's own, a channel's, or the machine's, which then refuses a
+pub(crate) enum ReplicaRunFault {
+    /// An allocation failed: the run's own, a channel's, or the machine's, which then refuses a
     /// call. A worker's call for which no ticket is left also counts as this fault, and so does
-    /// mail that spells no message, which no crew sends.
+    /// mail that spells no message, which no replica sends.
     #[error("Memory")]
     Memory,
     /// A worker's thread could not be started, or left a call unfinished.
     #[error("NoThread")]
     NoThread,
-    /// A channel was closed: the crew that was to take its mail ended early.
+    /// A channel was closed: the replica that was to take its mail ended early.
     #[error("Closed")]
     Closed,
 }
 
-impl From<AllocError> for CrewFault {
+impl From<AllocError> for ReplicaRunFault {
     ghost use Rattle.std.specs.Prelude.{◌≡◌};
-    ghost use Rattle.warm_threads.specs.declared.fault.CrewFault.TheVariants.{Memory};
+    ghost use Rattle.warm_threads.specs.declared.fault.ReplicaRunFault.TheVariants.{Memory};
 
     ghost from_gives = { λ _ fault. fault ≡ Memory };
 
-    fn from(_: AllocError) -> CrewFault {
-        CrewFault::Memory
+    fn from(_: AllocError) -> ReplicaRunFault {
+        ReplicaRunFault::Memory
     }
 }
 
-impl<T: Drop> From<AllocFailed<T>> for CrewFault {
+impl<T: Drop> From<AllocFailed<T>> for ReplicaRunFault {
     ghost use Rattle.std.specs.Prelude.{◌≡◌};
-    ghost use Rattle.warm_threads.specs.declared.fault.CrewFault.TheVariants.{Memory};
+    ghost use Rattle.warm_threads.specs.declared.fault.ReplicaRunFault.TheVariants.{Memory};
 
     ghost from_gives = { λ _ fault. fault ≡ Memory };
 
-    fn from(_: AllocFailed<T>) -> CrewFault {
-        CrewFault::Memory
+    fn from(_: AllocFailed<T>) -> ReplicaRunFault {
+        ReplicaRunFault::Memory
     }
 }
 
 // The machine for which no turn was made is dropped.
-impl<M: Drop> From<Memory<M>> for CrewFault {
+impl<M: Drop> From<Memory<M>> for ReplicaRunFault {
     ghost use Rattle.std.specs.Prelude.{◌≡◌};
-    ghost use Rattle.warm_threads.specs.declared.fault.CrewFault.TheVariants.{Memory};
+    ghost use Rattle.warm_threads.specs.declared.fault.ReplicaRunFault.TheVariants.{Memory};
 
     ghost from_gives = { λ _ fault. fault ≡ Memory };
 
-    fn from(_: Memory<M>) -> CrewFault {
-        CrewFault::Memory
+    fn from(_: Memory<M>) -> ReplicaRunFault {
+        ReplicaRunFault::Memory
     }
 }
 
 // The message that was not sent is dropped.
-impl<T: Drop> From<SendError<T>> for CrewFault {
+impl<T: Drop> From<SendError<T>> for ReplicaRunFault {
     ghost use Rattle.std.specs.Prelude.{◌≡◌};
-    ghost use Rattle.warm_threads.specs.Faults.{crew_fault_of_send};
+    ghost use Rattle.warm_threads.specs.Faults.{run_fault_of_send};
 
-    ghost from_gives = { λ why fault. fault ≡ crew_fault_of_send why };
+    ghost from_gives = { λ why fault. fault ≡ run_fault_of_send why };
 
-    fn from(why: SendError<T>) -> CrewFault {
+    fn from(why: SendError<T>) -> ReplicaRunFault {
         match why {
-            SendError::Disconnected(_) => CrewFault::Closed,
-            SendError::OutOfMemory(_) => CrewFault::Memory,
+            SendError::Disconnected(_) => ReplicaRunFault::Closed,
+            SendError::OutOfMemory(_) => ReplicaRunFault::Memory,
         }
     }
 }
 
-impl From<Busy> for CrewFault {
+impl From<Busy> for ReplicaRunFault {
     ghost use Rattle.std.specs.Prelude.{◌≡◌};
-    ghost use Rattle.warm_threads.specs.declared.fault.CrewFault.TheVariants.{NoThread};
+    ghost use Rattle.warm_threads.specs.declared.fault.ReplicaRunFault.TheVariants.{NoThread};
 
     ghost from_gives = { λ _ fault. fault ≡ NoThread };
 
-    fn from(_: Busy) -> CrewFault {
-        CrewFault::NoThread
+    fn from(_: Busy) -> ReplicaRunFault {
+        ReplicaRunFault::NoThread
     }
 }
 
-// The jobs of a crew have the setup's capacity, which is valid: they are never refused for it.
-impl From<RunFault> for CrewFault {
+// The jobs of a run have the setup's capacity, which is valid: they are never refused for it.
+impl From<RunFault> for ReplicaRunFault {
     ghost use Rattle.std.specs.Prelude.{◌≡◌};
-    ghost use Rattle.warm_threads.specs.Faults.{crew_fault_of_run};
+    ghost use Rattle.warm_threads.specs.Faults.{run_fault_of_workers};
 
-    ghost from_gives = { λ why fault. fault ≡ crew_fault_of_run why };
+    ghost from_gives = { λ why fault. fault ≡ run_fault_of_workers why };
 
-    fn from(why: RunFault) -> CrewFault {
+    fn from(why: RunFault) -> ReplicaRunFault {
         match why {
-            RunFault::NoThread => CrewFault::NoThread,
-            RunFault::Memory | RunFault::BadCapacity => CrewFault::Memory,
+            RunFault::NoThread => ReplicaRunFault::NoThread,
+            RunFault::Memory | RunFault::BadCapacity => ReplicaRunFault::Memory,
         }
     }
 }
 
-impl From<CrewFault> for PlayFault {
+impl From<ReplicaRunFault> for PlayFault {
     ghost use Rattle.std.specs.Prelude.{◌≡◌};
     ghost use Rattle.warm_threads.specs.Faults.{play_fault_of};
 
     ghost from_gives = { λ fault why. why ≡ play_fault_of fault };
 
-    fn from(fault: CrewFault) -> PlayFault {
+    fn from(fault: ReplicaRunFault) -> PlayFault {
         match fault {
-            CrewFault::Memory => PlayFault::Memory,
-            CrewFault::NoThread | CrewFault::Closed => PlayFault::NoThread,
+            ReplicaRunFault::Memory => PlayFault::Memory,
+            ReplicaRunFault::NoThread | ReplicaRunFault::Closed => PlayFault::NoThread,
         }
     }
 }

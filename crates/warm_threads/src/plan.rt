@@ -1,23 +1,22 @@
 //! The steps of each worker.
 ghost use Rattle.std.specs.Prelude.{◌≡◌, ◌+◌, ◌<◌, ◌^◌, ◌++◌, ◌∷◌, [], List, length, replicate, true};
-ghost use Rattle.std.specs.Prelude.{IfOk, IfErr, OnOk, None, ◌⊎◌, slice_set, slice_index_or};
+ghost use Rattle.std.specs.Prelude.{Err, IfOk, IfErr, OnOk, None, ◌⊎◌, slice_set, slice_index_or};
 ghost use Rattle.warm_refbuffer.specs.Buffered.{IsCapacity};
 ghost use Rattle.warm_play_fault.specs.declared.PlayFault.TheVariants.{Memory, BadLine};
 ghost use Rattle.warm_schedule.specs.Text.{lines};
 ghost use Rattle.warm_replica.specs.Pairs.{Pairs};
 ghost use Rattle.warm_threads.specs.declared.ask.Ask.{Ask};
 ghost use Rattle.warm_threads.specs.Steps.{nothing_planned};
-ghost use Rattle.warm_threads.specs.Plans.{plan_ask, IsShaped, ArePlansOf, DoesPlan, DoPlans, AreJobsOf};
-ghost use Rattle.warm_threads.specs.Asks.{asked, asks, first_bad, has_worker, with_ask};
+ghost use Rattle.warm_threads.specs.Plans.{plan_task, IsShaped, ArePlansOf, DoesPlan, DoPlans, AreJobsOf};
+ghost use Rattle.warm_threads.specs.Asks.{asked, asks, first_bad, has_worker, not_playable, with_ask};
 ghost use Rattle.warm_threads.specs.Asks.{IsBadLine, IsPlayable};
 
-use crate::ask::{Ask, asked};
+use crate::ask::{Ask, Task, asked};
 use std::alloc::{AllocError, Global};
 use std::marker::Model;
 use warm_play_fault::PlayFault;
 use warm_replica::{Job, Step};
 use warm_schedule::first_line;
-use warm_stamps::Reference;
 use warm_world::Setup;
 
 /// The steps planned for a worker, and how many references its buffer holds after them.
@@ -45,12 +44,12 @@ impl Plan {
         }
     }
 
-    // Plans one more reference, or a flush where there is none. The buffer holds `capacity` references.
-    fn add(&mut self, capacity: usize, asked: Option<Reference>) -> Result<(), AllocError>
+    // Plans one more task. The buffer holds `capacity` references.
+    fn add(&mut self, capacity: usize, task: Task) -> Result<(), AllocError>
         requires { IsCapacity capacity }
-        ensures { OnOk result (self.new ≡ plan_ask capacity self.old asked) }
+        ensures { OnOk result (self.new ≡ plan_task capacity self.old task) }
     {
-        let Some(reference) = asked else {
+        let Task::Reference(reference) = task else {
             self.steps.push(Step::Flush)?;
             self.held = 0;
             return Ok(());
@@ -68,18 +67,13 @@ impl Plan {
 }
 
 // Plans more for the worker at a place.
-fn add_to(
-    list: &mut Vec<Plan>,
-    at: usize,
-    capacity: usize,
-    asked: Option<Reference>,
-) -> Result<(), AllocError>
+fn add_to(list: &mut Vec<Plan>, at: usize, capacity: usize, task: Task) -> Result<(), AllocError>
     requires there { at < length list.old.items }
     requires capacity { IsCapacity capacity }
     ensures adds { OnOk result (list.new.items ≡ slice_set list.old.items at
-        (plan_ask capacity (slice_index_or list.old.items at nothing_planned) asked)) }
+        (plan_task capacity (slice_index_or list.old.items at nothing_planned) task)) }
 {
-    list[at].add(capacity, asked)?;
+    list[at].add(capacity, task)?;
     Ok(())
 }
 
@@ -94,7 +88,7 @@ fn add_ask(plans: &mut Vec<Vec<Plan>>, setup: Setup, ask: Ask) -> Result<(), All
     let replica = ask.replica as usize - 1;
     let worker = ask.worker as usize - 1;
     let capacity = setup.buffer() as usize;
-    add_to(&mut plans[replica], worker, capacity, ask.reference)?;
+    add_to(&mut plans[replica], worker, capacity, ask.task)?;
     Ok(())
 }
 
@@ -135,9 +129,9 @@ fn take_line(
         plans.new.items) }
     ensures good { OnOk result (IsPlayable (asked setup line.now)) }
     ensures bad { IfErr result (λ why. (why ≡ Memory)
-        ⊎ ((why ≡ BadLine number) × (asked setup line.now ≡ None))) }
+        ⊎ ((why ≡ BadLine number) × (asked setup line.now ≡ Err not_playable))) }
 {
-    let Some(said) = asked(setup, line) else {
+    let Ok(said) = asked(setup, line) else {
         return Err(PlayFault::BadLine(number));
     };
     let Some(ask) = said else {

@@ -20,9 +20,9 @@ ghost use Rattle.warm_threads.specs.Played.{Played};
 ghost use Rattle.warm_threads.specs.Refusals.{ThreadsPlayRefused, StopsThreads, ThreadsRefused};
 ghost use Rattle.warm_threads.specs.Works.{Went};
 
-use crate::crews::run_all;
 use crate::plan::jobs_in;
 use crate::reading::read_whole;
+use crate::runs::run_all;
 use std::alloc::Global;
 use std::io::{self, Read, Write};
 use std::sync::Wait;
@@ -32,7 +32,7 @@ use warm_gossip::Node;
 use warm_history::History;
 use warm_play_fault::PlayFault;
 use warm_pool::{MAX_DEVICES, Pool};
-use warm_replica::Absorbing;
+use warm_replica::BatchMachine;
 use warm_schedule::print_history;
 use warm_stamps::ReplicaId;
 use warm_world::{Setup, are_sized};
@@ -116,8 +116,8 @@ fn nodes_of<D: PageDevice>(
     Ok(nodes)
 }
 
-// The replicas of a setup over their devices. They are `BadDevices` if they are not one list for each replica, each of at most
-// `MAX_DEVICES`, with pages of the setup's size.
+// The replicas of a setup over their devices. They are `BadDevices` if they are not one list for
+// each replica, each of at most `MAX_DEVICES`, with pages of the setup's size.
 fn nodes_over<D: PageDevice>(
     alloc: Global,
     setup: Setup,
@@ -161,8 +161,9 @@ fn print_replicas<D: PageDevice, W: Write>(
     }
 }
 
-// Plays a schedule by threads, over these machines, one for each replica of the setup, and gives them back.
-fn play_over<M: Absorbing + Send + Drop, T: Threads + Wait + Sync, R: Read>(
+// Plays a schedule by threads, over these machines, one for each replica of the setup, and gives
+// them back.
+fn play_over<M: BatchMachine + Send + Drop, T: Threads + Wait + Sync, R: Read>(
     rt: &T,
     alloc: Global,
     reader: &mut R,
@@ -202,8 +203,8 @@ fn play_over<M: Absorbing + Send + Drop, T: Threads + Wait + Sync, R: Read>(
 /// history.
 ///
 /// # Errors
-/// - `BadDevices`: the devices are not one list for each replica, each of at most [`warm_pool::MAX_DEVICES`], with pages of the
-///   setup's size. Nothing was read or written.
+/// - `BadDevices`: the devices are not one list for each replica, each of at most
+///   [`warm_pool::MAX_DEVICES`], with pages of the setup's size. Nothing was read or written.
 /// - `ReadFault`: the reader failed, or 2^40 reads did not reach the end.
 /// - `BadLine` with the number of the first line of another kind. No thread was started.
 /// - `Memory`: an allocation failed, including one of a worker, of a replica or of a channel.
@@ -212,9 +213,9 @@ fn play_over<M: Absorbing + Send + Drop, T: Threads + Wait + Sync, R: Read>(
 ///   was sent to it, and no replica has another fault.
 /// - `WriteFault`: the writer failed.
 ///
-/// Of the faults of the threads (`CrewFault`), `Memory` is returned as `Memory`, and `NoThread` and
-/// `Closed` as `NoThread`. In each case all devices are dropped. Nothing was written, except for
-/// `WriteFault`, where it is unspecified how much was.
+/// Of the faults of the threads (`ReplicaRunFault`), `Memory` is returned as `Memory`, and
+/// `NoThread` and `Closed` as `NoThread`. In each case all devices are dropped. Nothing was
+/// written, except for `WriteFault`, where it is unspecified how much was.
 pub fn play_threads<D, T, R, W>(
     rt: &T,
     alloc: Global,

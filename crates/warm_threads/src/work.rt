@@ -5,22 +5,12 @@ ghost use Rattle.warm_replica.specs.declared.fan.TheConstants.{MAX_JOBS};
 ghost use Rattle.warm_replica.specs.Replied.{AreTaken};
 ghost use Rattle.warm_threads.specs.Works.{Works};
 
-use crate::fault::CrewFault;
+use crate::fault::ReplicaRunFault;
 use std::alloc::Global;
 use std::sync::Wait;
 use std::thread::Threads;
-use warm_replica::{Absorbing, Gate, Job, Replies, run_workers};
+use warm_replica::{BatchMachine, Job, NoGate, Replies, run_workers};
 use warm_turn::Turn;
-
-// A gate that holds nothing back.
-#[derive(Clone, Copy)]
-struct Open;
-
-impl Gate for Open {
-    fn before(&self, _job: usize, _step: usize) {}
-
-    fn after(&self, _job: usize, _step: usize) {}
-}
 
 // Whether all steps of all jobs were taken.
 fn all_taken(replies: &[Replies]) -> bool
@@ -35,23 +25,22 @@ fn all_taken(replies: &[Replies]) -> bool
 /// # Errors
 /// `Memory`: an allocation failed, including one of a worker or of the machine. `NoThread`: a
 /// thread could not be started, or left a call unfinished.
-pub(crate) fn work<M: Absorbing + Send + Drop, R: Threads + Wait + Sync>(
+pub(crate) fn work<M: BatchMachine + Send + Drop, R: Threads + Wait + Sync>(
     rt: &R,
     alloc: Global,
     machine: M,
     jobs: Vec<Job>,
-) -> Result<M, CrewFault>
+) -> Result<M, ReplicaRunFault>
     requires few { length jobs.items ≤ MAX_JOBS }
     ensures { IfOk result
         (λ m. Works M.goes jobs.items (M.view machine) (M.view m)) }
 {
     let (replica, mut pass) = Turn::new(alloc, machine)?;
-    let gate = Open;
-    let ran = run_workers(rt, alloc, &replica, &mut pass, jobs, &gate);
+    let ran = run_workers(rt, alloc, &replica, &mut pass, jobs, &NoGate);
     let closed = replica.close(pass);
     let all = ran?;
     if !all_taken(&all) {
-        return Err(CrewFault::Memory);
+        return Err(ReplicaRunFault::Memory);
     }
     let machine = closed?;
     Ok(machine)

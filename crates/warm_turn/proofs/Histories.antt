@@ -8,11 +8,11 @@ use lib.ListN.{get_elem?}
 use prog.Atomic.{either}
 use Rattle.atomic_table.proofs.Lists.{at_longer, set_else, set_here}
 use Rattle.std.proofs.lemmas.Option.{same_Some}
-use Rattle.warm_turn.specs.declared.board.Entry.{Entry}
-use Rattle.warm_turn.specs.declared.board.Ended.{Ended}
-use Rattle.warm_turn.specs.declared.board.View.{View}
-use Rattle.warm_turn.specs.declared.board.Held.{Held}
-use Rattle.warm_turn.specs.Turns.{nobody, calls_by, NoRepeat, Runs, IsNote, IsPass, first_pass, note_of, new_pass, learned, as_ended, joined, settled}
+use Rattle.warm_turn.specs.declared.table.Entry.{Entry}
+use Rattle.warm_turn.specs.declared.table.EndedPass.{EndedPass}
+use Rattle.warm_turn.specs.declared.table.View.{View}
+use Rattle.warm_turn.specs.declared.table.CellContents.{CellContents}
+use Rattle.warm_turn.specs.CallHistories.{nobody, calls_by, NoRepeat, Runs, IsNote, IsPass, first_pass, note_of, new_pass, learned, as_ended, joined, settled}
 use Rattle.warm_turn.specs.Steps.{server, after_call}
 use Rattle.warm_turn.specs.Rule.{IsGone, IsRecorded, OneHistory}
 use Rattle.warm_turn.proofs.Lists.{off, inside, same_at, now_at, at_end, at_either, one_member, each_set, IsPrefix-self, IsPrefix-append, calls_by-mine, calls_by-other, calls_by-prefix, NoRepeat-join, NoRepeat-one, Runs-push, Runs-front}
@@ -59,8 +59,8 @@ module _ {X C R : Type 0} where
     sight = λ h. let z = f.sight sees in (opening ∙ z.0, subst (λ l. IsPrefix l log) (sym seen) z.1, subst (λ l. IsPrefix l log) (sym also) z.2, also_opening ∙ z.3);
     unused = λ h no. f.unused sees (sym owns ∙ no);
     own = λ h. let z = f.own (sym owns ∙ h) in (sees' ∙ z.0, number ∙ z.1, z.2 ∙ sym mine);
-    others = λ h a e here. let z = f.others (sym owns ∙ h) a e (subst (λ (l : List (Ended C R)). get_elem? l a ≡ some e) ended here) in (z.0, z.1, gone_set vs me v w at sees e.number z.2);
-    apart = λ h. subst (λ (l : List (Ended C R)). NoRepeat l) (sym ended) (f.apart (sym owns ∙ h));
+    others = λ h a e here. let z = f.others (sym owns ∙ h) a e (subst (λ (l : List (EndedPass C R)). get_elem? l a ≡ some e) ended here) in (z.0, z.1, gone_set vs me v w at sees e.number z.2);
+    apart = λ h. subst (λ (l : List (EndedPass C R)). NoRepeat l) (sym ended) (f.apart (sym owns ∙ h));
     serving = λ h. let z = f.serving (sym serves ∙ h) in (seen ∙ z.0, state ∙ z.1);
   }
 
@@ -69,7 +69,7 @@ module _ {M X C R : Type 0} (view_of : M → X) (goes : X → C → R → X → 
   V = View X C R
 
   abbrev H : Type 0
-  H = Held M C R
+  H = CellContents M C R
 
   abbrev Homes : Type 0
   Homes = List (maybe.Option (Option H))
@@ -189,7 +189,7 @@ module _ {M X C R : Type 0} (view_of : M → X) (goes : X → C → R → X → 
       let elsewhere : (j : ℕ) → j ≢ me → e.by ≢ j = λ j other here. other (sym here ∙ number) in
       let own' : calls_by me log ≡ v.mine ++ e ∷ [] = calls_by-mine me r.log e number ∙ ap (λ l. l ++ e ∷ []) ((f.own owns).2) in
       let sight' = f.sight sees in
-      let others' : (b : ℕ) (c : Ended C R) → get_elem? v.ended b ≡ some c → (calls_by c.number log ≡ c.calls) × (c.number ≢ me) =
+      let others' : (b : ℕ) (c : EndedPass C R) → get_elem? v.ended b ≡ some c → (calls_by c.number log ≡ c.calls) × (c.number ≢ me) =
       λ b c at'. let z = f.others owns b c at' in let not = apart_of vs me c.number v at sees z.2 in (calls_by-other c.number r.log e (elsewhere c.number not) ∙ z.1, not) in (
         record {
           log = log;
@@ -322,12 +322,12 @@ module _ {M X C R : Type 0} (view_of : M → X) (goes : X → C → R → X → 
       let owner_moved : (n : ℕ) → n ≢ other → r.owner n ≡ other → owner n ≡ me = λ n e h. owner_else n e ∙ ap (λ b. either b me (r.owner n)) (eq-eqb (r.owner n) other h) in
       let owner_kept : (n j : ℕ) → n ≢ other → r.owner n ≡ j → j ≢ other → owner n ≡ j = λ n j e h k. owner_else n e ∙ (ap (λ b. either b me (r.owner n)) (ne_eqb (r.owner n) other (λ q. k (sym h ∙ q))) ∙ h) in
       let alive : (n : ℕ) → IsGone vs n → n ≢ other = λ n gone. apart_of vs other n u there' sees' gone in
-      let held : (a : ℕ) (e : Ended C R) → get_elem? w.ended a ≡ some e → (owner e.number ≡ me) × (calls_by e.number r.log ≡ e.calls) × IsGone us e.number =
+      let held : (a : ℕ) (e : EndedPass C R) → get_elem? w.ended a ≡ some e → (owner e.number ≡ me) × (calls_by e.number r.log ≡ e.calls) × IsGone us e.number =
       λ a e at'. ⊎_elim
       (λ (x : get_elem? v.ended a ≡ some e). let z = f.others owns a e x in (owner_kept e.number me (alive e.number z.2) z.0 (λ q. apart (sym q)), z.1, more e.number z.2))
       (λ (x : (b : ℕ) × (a ≡ length v.ended + b) × (get_elem? (as_ended u ∷ u.ended) b ≡ some e)). ⊎_elim
       (λ (y : get_elem? (as_ended u ∷ []) x.0 ≡ some e).
-      subst (λ (c : Ended C R). (owner c.number ≡ me) × (calls_by c.number r.log ≡ c.calls) × IsGone us c.number) (one_member (as_ended u) e x.0 y)
+      subst (λ (c : EndedPass C R). (owner c.number ≡ me) × (calls_by c.number r.log ≡ c.calls) × IsGone us c.number) (one_member (as_ended u) e x.0 y)
       (owner_other u.number number, ap (λ k. calls_by k r.log) number ∙ (g.own owns').2, subst (λ k. IsGone us k) (sym number) (nobody, now_at (set vs me w) other u nobody there, refl, refl)))
       (λ (y : (b : ℕ) × (x.0 ≡ 1 + b) × (get_elem? u.ended b ≡ some e)). let z = g.others owns' y.0 e y.2 in (owner_moved e.number (alive e.number z.2) z.0, z.1, more e.number z.2))
       (at_either (as_ended u ∷ []) u.ended x.0 e x.2))
@@ -340,9 +340,9 @@ module _ {M X C R : Type 0} (view_of : M → X) (goes : X → C → R → X → 
         others = λ _. held;
         apart = λ _. NoRepeat-join v.ended (as_ended u ∷ u.ended) (f.apart owns)
             (NoRepeat-join (as_ended u ∷ []) u.ended (NoRepeat-one (as_ended u)) (g.apart owns')
-            (λ a b e c p q same. let z = g.others owns' b c q in alive c.number z.2 (sym same ∙ (ap (λ (k : Ended C R). k.number) (sym (one_member (as_ended u) e a p)) ∙ number))))
+            (λ a b e c p q same. let z = g.others owns' b c q in alive c.number z.2 (sym same ∙ (ap (λ (k : EndedPass C R). k.number) (sym (one_member (as_ended u) e a p)) ∙ number))))
             (λ a b e c p q same. let z = f.others owns a e p in ⊎_elim
-            (λ (y : get_elem? (as_ended u ∷ []) b ≡ some c). alive e.number z.2 (same ∙ (ap (λ (k : Ended C R). k.number) (sym (one_member (as_ended u) c b y)) ∙ number)))
+            (λ (y : get_elem? (as_ended u ∷ []) b ≡ some c). alive e.number z.2 (same ∙ (ap (λ (k : EndedPass C R). k.number) (sym (one_member (as_ended u) c b y)) ∙ number)))
             (λ (y : (d : ℕ) × (b ≡ 1 + d) × (get_elem? u.ended d ≡ some c)). let x = g.others owns' y.0 c y.2 in apart (sym x.0 ∙ (ap r.owner (sym same) ∙ z.0)))
             (at_either (as_ended u ∷ []) u.ended b c q));
         serving = f.serving;

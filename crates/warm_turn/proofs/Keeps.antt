@@ -12,12 +12,12 @@ use Rattle.std.proofs.lemmas.Option.{same_Some}
 use Rattle.warm_turn.specs.declared.fault.Busy.{Busy}
 use prog.Atomic.{either}
 use Rattle.atomic_table.specs.Table.{State, Me, step, keeps, takes, gives, stepped, Allows, Enters, Splits, Joins, Final, Seen, opening}
-use Rattle.warm_turn.specs.declared.board.Entry.{Entry}
-use Rattle.warm_turn.specs.declared.board.View.{View}
-use Rattle.warm_turn.specs.declared.board.Made.{Made}
-use Rattle.warm_turn.specs.declared.board.Held.{Held}
-use Rattle.warm_turn.specs.Turns.{nobody, entry, calls_by, Runs, IsLast, IsNote, IsPass, first_pass, note_of, new_pass, marked, learned, joined, settled}
-use Rattle.warm_turn.specs.Rule.{ticket_word, serving_word, IsQueued, IsRecorded, OneHistory, Kept, AreWords}
+use Rattle.warm_turn.specs.declared.table.Entry.{Entry}
+use Rattle.warm_turn.specs.declared.table.View.{View}
+use Rattle.warm_turn.specs.declared.table.CallMade.{CallMade}
+use Rattle.warm_turn.specs.declared.table.CellContents.{CellContents}
+use Rattle.warm_turn.specs.CallHistories.{nobody, entry, calls_by, Runs, IsLast, IsNote, IsPass, first_pass, note_of, new_pass, marked, learned, joined, settled}
+use Rattle.warm_turn.specs.Rule.{ticket_word, serving_word, IsQueued, IsRecorded, OneHistory, TicketRuleHolds, AreWords}
 use Rattle.warm_turn.specs.Steps.{waiting, server, after_call, took, looked, passed, caught_up, came, became_pass}
 use Rattle.warm_turn.proofs.Lists.{off, never, same_at, same_carried}
 use Rattle.warm_turn.proofs.Tickets as tickets
@@ -28,13 +28,13 @@ module _ {M X C R : Type 0} (view_of : M → X) (goes : X → C → R → X → 
   V = View X C R
 
   abbrev H : Type 0
-  H = Held M C R
+  H = CellContents M C R
 
   abbrev St : Type 0
   St = State (Option H) V
 
   abbrev Rule : St → Type 0
-  Rule = Kept view_of goes o
+  Rule = TicketRuleHolds view_of goes o
 
   -- a history of as many calls
   of_count : {n k : ℕ} (homes : List (maybe.Option (Option H))) (vs : List V) → k ≡ n → OneHistory view_of goes o n homes vs → OneHistory view_of goes o k homes vs
@@ -161,7 +161,7 @@ module _ {M X C R : Type 0} (view_of : M → X) (goes : X → C → R → X → 
         ((λ _. refl), (λ is. absurd (not is))),
       ))
 
-  pub passes : (slots me : ℕ) (v : V) (h : H) (d : Made C R) (x : X) → v.serves ≡ true → v.also ≡ [] → v.state ≡ Some x → h.made ≡ Some d → goes x d.call.value d.reply.value (view_of h.machine)
+  pub passes : (slots me : ℕ) (v : V) (h : H) (d : CallMade C R) (x : X) → v.serves ≡ true → v.also ≡ [] → v.state ≡ Some x → h.made ≡ Some d → goes x d.call.value d.reply.value (view_of h.machine)
       → Allows Rule slots me (v, (0, Some h) ∷ []) 1 (λ n. (n + 1) % 2 ^ 64) (passed goes (step slots 1 1 0 maybe.none) (v, (0, Some h) ∷ []))
   passes slots me v h d x serves also state made did s r wide at _ =
       let q = r.turns.each me v at in
@@ -180,7 +180,7 @@ module _ {M X C R : Type 0} (view_of : M → X) (goes : X → C → R → X → 
         λ h' d' took' made'.
             let one_slot : h ≡ h' = same_carried h h' 0 took' in
             let one_call : d ≡ d' = same_Some d d' (sym made ∙ (ap (λ (z : H). z.made) one_slot ∙ made')) in (
-              subst (λ (z : Made C R). let u : Me (Option H) V = (w, []) in u ≡ (after_call v (entry v.number z.call.value z.reply.value), [])) one_call refl,
+              subst (λ (z : CallMade C R). let u : Me (Option H) V = (w, []) in u ≡ (after_call v (entry v.number z.call.value z.reply.value), [])) one_call refl,
               t.1,
             ),
       )

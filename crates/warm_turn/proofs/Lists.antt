@@ -5,9 +5,9 @@ use mathlib.Core.List.{IsPrefix}
 use lib.ListN.{get_elem?}
 use prog.Atomic.{either}
 use Rattle.atomic_table.proofs.Lists.{at_set, set_here}
-use Rattle.warm_turn.specs.declared.board.Entry.{Entry}
-use Rattle.warm_turn.specs.declared.board.Ended.{Ended}
-use Rattle.warm_turn.specs.Turns.{calls_by, NoRepeat, Runs}
+use Rattle.warm_turn.specs.declared.table.Entry.{Entry}
+use Rattle.warm_turn.specs.declared.table.EndedPass.{EndedPass}
+use Rattle.warm_turn.specs.CallHistories.{calls_by, NoRepeat, Runs}
 
 pub off : {A : Type 0} {b : Bool} → b ≡ true → b ≡ false → A
 off t f = absurd (true≢false (sym t ∙ f))
@@ -120,7 +120,7 @@ module _ {C R : Type 0} where
   pub calls_by-prefix : (n : ℕ) (xs ys : List (Entry C R)) → IsPrefix xs ys → calls_by n ys ≡ [] → calls_by n xs ≡ []
   calls_by-prefix n xs ys p e = no_more (calls_by n xs) (calls_by n p.0) (sym (calls_by-append n xs p.0) ∙ (ap (calls_by n) p.1 ∙ e))
 
-  pub NoRepeat-join : (xs ys : List (Ended C R)) → NoRepeat xs → NoRepeat ys → ((a b : ℕ) (e f : Ended C R) → get_elem? xs a ≡ some e → get_elem? ys b ≡ some f → e.number ≢ f.number) → NoRepeat (xs ++ ys)
+  pub NoRepeat-join : (xs ys : List (EndedPass C R)) → NoRepeat xs → NoRepeat ys → ((a b : ℕ) (e f : EndedPass C R) → get_elem? xs a ≡ some e → get_elem? ys b ≡ some f → e.number ≢ f.number) → NoRepeat (xs ++ ys)
   NoRepeat-join xs ys one two apart a b e f p q same =
       ⊎_elim
       (λ (p' : get_elem? xs a ≡ some e). ⊎_elim
@@ -133,7 +133,7 @@ module _ {C R : Type 0} where
       (at_either xs ys b f q))
       (at_either xs ys a e p)
 
-  pub NoRepeat-one : (e : Ended C R) → NoRepeat (e ∷ [])
+  pub NoRepeat-one : (e : EndedPass C R) → NoRepeat (e ∷ [])
   NoRepeat-one e zero zero x y p q same = refl
   NoRepeat-one e zero (suc b) x y p q same = absurd (some-ne-none y (sym q))
   NoRepeat-one e (suc a) b x y p q same = absurd (some-ne-none x (sym p))

@@ -2,10 +2,10 @@
 use Rattle.std.proofs.Common.{◌≡◌, List, [], ◌∷◌, ◌++◌, true, refl, sym, ap, ◌∙◌, subst, append_assoc, append-nil}
 use mathlib.Core.Option.{some-ne-none}
 use mathlib.Core.List.{IsPrefix}
-use Rattle.warm_turn.specs.declared.board.Entry.{Entry}
-use Rattle.warm_turn.specs.declared.board.Ended.{Ended}
-use Rattle.warm_turn.specs.declared.board.View.{View}
-use Rattle.warm_turn.specs.Turns.{entry, Called, Extended, IsPass, IsStep, Joined, Runs, Widened, as_ended, first_pass, marked}
+use Rattle.warm_turn.specs.declared.table.Entry.{Entry}
+use Rattle.warm_turn.specs.declared.table.EndedPass.{EndedPass}
+use Rattle.warm_turn.specs.declared.table.View.{View}
+use Rattle.warm_turn.specs.CallHistories.{entry, Called, Extended, IsPass, IsStep, Joined, Runs, Widened, as_ended, first_pass, marked}
 use Rattle.warm_turn.proofs.Lists.{off, IsPrefix-self, IsPrefix-trans}
 
 module _ {X C R : Type 0} where
@@ -33,7 +33,7 @@ module _ {X C R : Type 0} where
   Widened-self v = record { seen = IsPrefix-self v.seen; mine = refl; number = refl; ended = sym (append-nil v.ended); opening = refl; mark = refl }
 
   -- widenings add up
-  pub Widened-trans : (u v w : View X C R) (xs ys : List (Ended C R)) → Widened u xs v → Widened v ys w → Widened u (xs ++ ys) w
+  pub Widened-trans : (u v w : View X C R) (xs ys : List (EndedPass C R)) → Widened u xs v → Widened v ys w → Widened u (xs ++ ys) w
   Widened-trans u v w xs ys a b = record {
     seen = IsPrefix-trans u.seen v.seen w.seen a.seen b.seen;
     mine = b.mine ∙ a.mine;

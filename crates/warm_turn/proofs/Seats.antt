@@ -4,11 +4,11 @@ use mathlib.Core.Option as maybe
 use mathlib.Core.List.{IsPrefix}
 use prog.Atomic.{either}
 use Rattle.atomic_table.specs.Table.{State, step, rest, Allows}
-use Rattle.warm_turn.specs.declared.board.View.{View}
-use Rattle.warm_turn.specs.declared.board.Held.{Held}
-use Rattle.warm_turn.specs.Turns.{entry, Called, IsPass}
-use Rattle.warm_turn.specs.Rule.{Kept}
-use Rattle.warm_turn.specs.Steps.{Sat, waiting, server, after_call, HasPassedOn, took, looked, passed, caught_up, became_pass, HasMachine, IsMade, Served}
+use Rattle.warm_turn.specs.declared.table.View.{View}
+use Rattle.warm_turn.specs.declared.table.CellContents.{CellContents}
+use Rattle.warm_turn.specs.CallHistories.{entry, Called, IsPass}
+use Rattle.warm_turn.specs.Rule.{TicketRuleHolds}
+use Rattle.warm_turn.specs.Steps.{SeatState, waiting, server, after_call, HasPassedOn, took, looked, passed, caught_up, became_pass, HasMachine, IsMade, Served}
 use Rattle.warm_turn.proofs.Keeps as keeping
 
 module _ {M X C R : Type 0} (view_of : M → X) (goes : X → C → R → X → Type 0) (o : X) where
@@ -16,13 +16,13 @@ module _ {M X C R : Type 0} (view_of : M → X) (goes : X → C → R → X → 
   V = View X C R
 
   abbrev H : Type 0
-  H = Held M C R
+  H = CellContents M C R
 
   abbrev S : Type 0
-  S = Sat M X C R
+  S = SeatState M X C R
 
   abbrev Rule : State (Option H) V → Type 0
-  Rule = Kept view_of goes o
+  Rule = TicketRuleHolds view_of goes o
 
   pub tries : (slots id : ℕ) (me was : S) (old : ℕ) → me ≡ was → IsPass goes was.0 → old + 1 < 2 ^ 64
       → Allows Rule slots id me 0 (λ n. either (eqb n old) (old + 1) n) (took (step slots 0 old (old + 1) maybe.none) me)

@@ -8,10 +8,10 @@ use lib.ListN.{get_elem?}
 use lib.Seq.{set-get_or}
 use Rattle.atomic_table.specs.Table.{State, keeps, stepped, opening}
 use Rattle.atomic_table.proofs.Lists.{at_longer, set_else, set_here}
-use Rattle.warm_turn.specs.declared.board.Entry.{Entry}
-use Rattle.warm_turn.specs.declared.board.View.{View}
-use Rattle.warm_turn.specs.declared.board.Held.{Held}
-use Rattle.warm_turn.specs.Turns.{nobody, first_pass, note_of}
+use Rattle.warm_turn.specs.declared.table.Entry.{Entry}
+use Rattle.warm_turn.specs.declared.table.View.{View}
+use Rattle.warm_turn.specs.declared.table.CellContents.{CellContents}
+use Rattle.warm_turn.specs.CallHistories.{nobody, first_pass, note_of}
 use Rattle.warm_turn.specs.Steps.{waiting, server, after_call}
 use Rattle.warm_turn.specs.Rule.{ticket_word, serving_word, IsQueued, HomeOrOut, InTurn}
 use Rattle.warm_turn.proofs.Lists.{off, same_at, now_at, at_end, one_member, each_set, put, put_here, put_else}
@@ -36,7 +36,7 @@ module _ {X C R : Type 0} where
 
 module _ {M X C R : Type 0} where
   -- a seat that has the machine has the served ticket
-  pub away_below : (s : State (Option (Held M C R)) (View X C R)) (r : InTurn s) (j : ℕ) (u : View X C R) → get_elem? s.views j ≡ some u → u.serves ≡ true → (serving_word s < ticket_word s) × (r.taker (serving_word s) ≡ j)
+  pub away_below : (s : State (Option (CellContents M C R)) (View X C R)) (r : InTurn s) (j : ℕ) (u : View X C R) → get_elem? s.views j ≡ some u → u.serves ≡ true → (serving_word s < ticket_word s) × (r.taker (serving_word s) ≡ j)
   away_below s r j u at serves =
       let f = r.each j u at in
       let t = f.serving serves in
@@ -44,18 +44,18 @@ module _ {M X C R : Type 0} where
       (subst (λ z. z < ticket_word s) t.1 k.2, ap r.taker (sym t.1) ∙ k.3)
 
   -- no two seats have the machine
-  pub alone : (s : State (Option (Held M C R)) (View X C R)) (r : InTurn s) (i j : ℕ) (v u : View X C R) → get_elem? s.views i ≡ some v → v.serves ≡ true → get_elem? s.views j ≡ some u → u.serves ≡ true → j ≡ i
+  pub alone : (s : State (Option (CellContents M C R)) (View X C R)) (r : InTurn s) (i j : ℕ) (v u : View X C R) → get_elem? s.views i ≡ some v → v.serves ≡ true → get_elem? s.views j ≡ some u → u.serves ≡ true → j ≡ i
   alone s r i j v u at serves at' serves' = sym (away_below s r j u at' serves').1 ∙ (away_below s r i v at serves).1
 
   -- a seat that still has the machine may change the rest of its view
-  home_set : (q : ℕ) (homes : List (maybe.Option (Option (Held M C R)))) (vs : List (View X C R)) (me : ℕ) (v w : View X C R) → get_elem? vs me ≡ some v → (v.serves ≡ true → w.serves ≡ true) → HomeOrOut q homes vs → HomeOrOut q homes (set vs me w)
+  home_set : (q : ℕ) (homes : List (maybe.Option (Option (CellContents M C R)))) (vs : List (View X C R)) (me : ℕ) (v w : View X C R) → get_elem? vs me ≡ some v → (v.serves ≡ true → w.serves ≡ true) → HomeOrOut q homes vs → HomeOrOut q homes (set vs me w)
   home_set q homes vs me v w at serves h = ⊎_elim (λ a. inl a) (λ a. inr (dite (ℕ_discrete q me)
       (λ (e : q ≡ me). let same : a.0 ≡ v = same_at vs me a.0 v (subst (λ k. get_elem? vs k ≡ some a.0) e a.2) at in
       (w, a.1, subst (λ k. get_elem? (set vs me w) k ≡ some w) (sym e) (now_at vs me v w at), serves (ap (λ (u : View X C R). u.serves) (sym same) ∙ a.3)))
       (λ (n : q ≢ me). (a.0, a.1, set_else vs me q w n ∙ a.2, a.3)))) h
 
   -- a step that changes a view alone
-  pub stays : (s : State (Option (Held M C R)) (View X C R)) (r : InTurn s) (i me : ℕ) (cs : List (ℕ × Option (Held M C R))) (v w : View X C R) → get_elem? s.views me ≡ some v → (v.serves ≡ true → w.serves ≡ true)
+  pub stays : (s : State (Option (CellContents M C R)) (View X C R)) (r : InTurn s) (i me : ℕ) (cs : List (ℕ × Option (CellContents M C R))) (v w : View X C R) → get_elem? s.views me ≡ some v → (v.serves ≡ true → w.serves ≡ true)
       → IsQueued (ticket_word s) (serving_word s) r.taker me w → InTurn (stepped s i (get_or s.words i 0) me cs w keeps)
   stays s r i me cs v w at serves mine = subst (λ (ws : List ℕ). InTurn record { words = ws; homes = s.homes; views = set s.views me w }) (sym (set-get_or s.words i 0)) record {
     taker = r.taker;
@@ -68,7 +68,7 @@ module _ {M X C R : Type 0} where
   }
 
   -- the rule, at words that are known
-  makes : (ws : List ℕ) (homes : List (maybe.Option (Option (Held M C R)))) (vs : List (View X C R)) (t n : ℕ) → get_or ws 0 0 ≡ t → get_or ws 1 0 ≡ n → length ws ≡ 2 → length homes ≡ 1 → n ≤ t → t < 2 ^ 64
+  makes : (ws : List ℕ) (homes : List (maybe.Option (Option (CellContents M C R)))) (vs : List (View X C R)) (t n : ℕ) → get_or ws 0 0 ≡ t → get_or ws 1 0 ≡ n → length ws ≡ 2 → length homes ≡ 1 → n ≤ t → t < 2 ^ 64
       → (taker : ℕ → ℕ) → HomeOrOut (taker n) homes vs → ((j : ℕ) (u : View X C R) → get_elem? vs j ≡ some u → IsQueued t n taker j u) → InTurn record { words = ws; homes = homes; views = vs }
   makes ws homes vs t n et en two one le small taker home each = record {
     taker = taker;
@@ -81,7 +81,7 @@ module _ {M X C R : Type 0} where
   }
 
   -- the next ticket is taken
-  pub takes_ticket : (s : State (Option (Held M C R)) (View X C R)) (r : InTurn s) (me : ℕ) (cs : List (ℕ × Option (Held M C R))) (v : View X C R) → get_elem? s.views me ≡ some v → v.owns ≡ true → v.serves ≡ false
+  pub takes_ticket : (s : State (Option (CellContents M C R)) (View X C R)) (r : InTurn s) (me : ℕ) (cs : List (ℕ × Option (CellContents M C R))) (v : View X C R) → get_elem? s.views me ≡ some v → v.owns ≡ true → v.serves ≡ false
       → (new : ℕ) → new ≡ ticket_word s + 1 → new < 2 ^ 64 → InTurn (stepped s 0 new me cs (waiting v (ticket_word s)) keeps)
   takes_ticket s r me cs v at owns rests new up small =
       let t : ℕ = ticket_word s in
@@ -113,7 +113,7 @@ module _ {M X C R : Type 0} where
       }))
 
   -- the holder of the served ticket takes the machine
-  pub takes_machine : (s : State (Option (Held M C R)) (View X C R)) (r : InTurn s) (me : ℕ) (v : View X C R) (h : Held M C R) (log : List (Entry C R)) (x : X) → get_elem? s.views me ≡ some v → v.waits ≡ true → serving_word s ≡ v.ticket
+  pub takes_machine : (s : State (Option (CellContents M C R)) (View X C R)) (r : InTurn s) (me : ℕ) (v : View X C R) (h : CellContents M C R) (log : List (Entry C R)) (x : X) → get_elem? s.views me ≡ some v → v.waits ≡ true → serving_word s ≡ v.ticket
       → get_elem? s.homes 0 ≡ some (some (Some h)) → InTurn record { words = set s.words 1 (get_or s.words 1 0); homes = set s.homes 0 maybe.none; views = set s.views me (server v log x) }
   takes_machine s r me v h log x at waits mine home =
       let w : View X C R = server v log x in
@@ -142,7 +142,7 @@ module _ {M X C R : Type 0} where
       }
 
   -- the holder of the served ticket gives the machine back, and the next ticket is served
-  pub passes_on : (s : State (Option (Held M C R)) (View X C R)) (r : InTurn s) (me : ℕ) (v : View X C R) (h : Held M C R) (e : Entry C R) → get_elem? s.views me ≡ some v → v.serves ≡ true
+  pub passes_on : (s : State (Option (CellContents M C R)) (View X C R)) (r : InTurn s) (me : ℕ) (v : View X C R) (h : CellContents M C R) (e : Entry C R) → get_elem? s.views me ≡ some v → v.serves ≡ true
       → InTurn record { words = set s.words 1 ((serving_word s + 1) % 2 ^ 64); homes = set s.homes 0 (some (Some h)); views = set s.views me (after_call v e) }
   passes_on s r me v h e at serves =
       let t : ℕ = ticket_word s in
@@ -176,7 +176,7 @@ module _ {M X C R : Type 0} where
       }))
 
   -- one more ticket is served
-  pub serves_next : (s : State (Option (Held M C R)) (View X C R)) (r : InTurn s) (me : ℕ) (v : View X C R) → get_elem? s.views me ≡ some v → v.serves ≡ true
+  pub serves_next : (s : State (Option (CellContents M C R)) (View X C R)) (r : InTurn s) (me : ℕ) (v : View X C R) → get_elem? s.views me ≡ some v → v.serves ≡ true
       → get_or (set s.words 1 ((serving_word s + 1) % 2 ^ 64)) 1 0 ≡ serving_word s + 1
   serves_next s r me v at serves =
       let n : ℕ = serving_word s in
@@ -187,7 +187,7 @@ module _ {M X C R : Type 0} where
       get_or-set_same s.words 1 ((n + 1) % 2 ^ 64) 0 (omega arith) ∙ up
 
   -- a new seat has no ticket
-  pub enters : (s : State (Option (Held M C R)) (View X C R)) (r : InTurn s) (v : View X C R) → InTurn record { words = s.words; homes = s.homes; views = s.views ++ note_of v ∷ [] }
+  pub enters : (s : State (Option (CellContents M C R)) (View X C R)) (r : InTurn s) (v : View X C R) → InTurn record { words = s.words; homes = s.homes; views = s.views ++ note_of v ∷ [] }
   enters s r v =
       let w : View X C R = note_of v in
       record {
@@ -206,7 +206,7 @@ module _ {M X C R : Type 0} where
 
   -- a seat that does not have the machine is used up, and another seat changes only what it has
   -- learned
-  pub merges : (s : State (Option (Held M C R)) (View X C R)) (r : InTurn s) (me other : ℕ) (v u w : View X C R) → get_elem? s.views me ≡ some v → get_elem? (set s.views me w) other ≡ some u → u.serves ≡ false → (v.serves ≡ true → w.serves ≡ true)
+  pub merges : (s : State (Option (CellContents M C R)) (View X C R)) (r : InTurn s) (me other : ℕ) (v u w : View X C R) → get_elem? s.views me ≡ some v → get_elem? (set s.views me w) other ≡ some u → u.serves ≡ false → (v.serves ≡ true → w.serves ≡ true)
       → IsQueued (ticket_word s) (serving_word s) r.taker me w → InTurn record { words = s.words; homes = s.homes; views = set (set s.views me w) other nobody }
   merges s r me other v u w at there rests serves mine =
       let vs : List (View X C R) = set s.views me w in
@@ -222,7 +222,7 @@ module _ {M X C R : Type 0} where
             (λ j z n e. each_set P s.views me w mine (λ i y n' e'. r.each i y e') j z e);
       }
 
-  pub begins : (h : Held M C R) (o : X) → InTurn (opening (0 ∷ 0 ∷ []) (Some h ∷ []) (first_pass o))
+  pub begins : (h : CellContents M C R) (o : X) → InTurn (opening (0 ∷ 0 ∷ []) (Some h ∷ []) (first_pass o))
   begins h o = record {
     taker = λ _. 0;
     two = refl;

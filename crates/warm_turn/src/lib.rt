@@ -10,8 +10,8 @@
 //!
 //! - [`Turn::new`] gives the turn and its first pass, and [`Turn::pass`] splits a pass off another.
 //! - [`Turn::call`] makes a call. Its list begins with all that the pass had seen and ends with it.
-//! - By [`Turn::note`] and [`Turn::learn`] one pass learns what another has seen, and [`Turn::end`] ends
-//!   a pass into another. Both lists begin the new one.
+//! - By [`Turn::note`] and [`Turn::learn`] one pass learns what another has seen, and [`Turn::end`]
+//!   ends a pass into another. Both lists begin the new one.
 //! - [`Turn::opening_note`] is for code that was given a turn and a pass: contracts then know that
 //!   the pass that learns it has the turn's opening state.
 //! - [`Turn::close`] gives the machine back, in a state that such a history reaches.
@@ -28,12 +28,12 @@
 //! ends say of a pass are in `proofs/Passes.antt`.
 #![tactic(auto)]
 
-mod board;
 mod counter;
 mod fault;
 pub mod laws;
 mod machine;
 mod plays;
+mod table;
 mod turn;
 
 pub use counter::{Add, Added, Counter};

@@ -1,16 +1,18 @@
 //! The turn, its passes and notes.
 ghost use Rattle.std.specs.Prelude.{◌≡◌, ◌≢◌, ℕ, ◌+◌, ◌<◌, ◌^◌, true, false, [], ◌∷◌, Some};
 ghost use Rattle.std.specs.Prelude.{IfOk, IfErr, IfSome, IfNone, OnOk};
-ghost use Rattle.warm_turn.specs.declared.board.Held.{Held};
-ghost use Rattle.warm_turn.specs.Turns.{calls_by, first_pass, new_pass, note_of, marked};
-ghost use Rattle.warm_turn.specs.Turns.{IsPass, IsStep, IsLast, Called, Learned, Joined};
-ghost use Rattle.warm_turn.specs.Rule.{IsBoard, AreWords, MarkShows};
+ghost use Rattle.warm_turn.specs.declared.table.CellContents.{CellContents};
+ghost use Rattle.warm_turn.specs.CallHistories.{calls_by, first_pass, new_pass, note_of, marked};
+ghost use Rattle.warm_turn.specs.CallHistories.{IsPass, IsStep, IsLast, Called, Learned, Joined};
+ghost use Rattle.warm_turn.specs.Rule.{IsTicketTable, AreWords, MarkShows};
 ghost use Rattle.warm_turn.specs.Steps.{HasTicket, HasMachine, IsMade, Served, HasPassedOn};
 
-use crate::board::{Board, BoxedMachine, Held, Made, Place, Slot, Top};
 use crate::fault::{Busy, Memory, TurnsSpent};
 use crate::machine::Machine;
 use crate::plays::{Become, CatchUp, Come, End, GiveNote, Learn, Look, PassOn, Take};
+use crate::table::{
+    BoxedMachine, CallMade, CellContents, MachineCell, SharedTable, TicketTable, TurnSeat,
+};
 use atomic_table::{Refused, Table};
 use std::alloc::{AllocFailed, Global};
 use std::hint::spin_loop;
@@ -27,19 +29,19 @@ use std::time::Duration;
 /// A turn that is dropped drops the machine in its slot. [`Turn::close`] gives it back.
 #[derive(Drop)]
 pub struct Turn<M: Machine> {
-    table: Board<M>,
+    table: TicketTable<M>,
 }
 
 impl<M: Machine> Model for Turn<M> {
     ghost use Rattle.std.specs.Prelude.{◌≡◌};
-    ghost use Rattle.warm_turn.specs.Turns.{Shape, turn_at};
-    ghost use Rattle.warm_turn.specs.Rule.{IsBoard};
+    ghost use Rattle.warm_turn.specs.CallHistories.{TurnView, turn_at};
+    ghost use Rattle.warm_turn.specs.Rule.{IsTicketTable};
 
-    ghost Value = { Shape M.State };
+    ghost Value = { TurnView M.State };
 
     ghost view = { λ t. turn_at t.table.shared.table_id (M.view t.table.shared.key.value) };
 
-    ghost invariant = { λ t. IsBoard t.table.shared.table_id };
+    ghost invariant = { λ t. IsTicketTable t.table.shared.table_id };
 }
 
 /// The right of one caller to call, of no bytes. It belongs to the turn that made it (`table`), and
@@ -56,36 +58,36 @@ impl<M: Machine> Model for Turn<M> {
 /// A pass that is dropped leaves its calls in the history, and its number is not used again.
 #[derive(Drop)]
 pub struct Pass<M: Machine> {
-    place: Place<M>,
+    seat: TurnSeat<M>,
 }
 
 impl<M: Machine> Model for Pass<M> {
     ghost use Rattle.std.specs.Prelude.{◌≡◌, []};
-    ghost use Rattle.warm_turn.specs.Turns.{Sight, IsPass};
+    ghost use Rattle.warm_turn.specs.CallHistories.{PassView, IsPass};
 
-    ghost Value = { Sight M.State M.Call M.Reply };
+    ghost Value = { PassView M.State M.Call M.Reply };
 
-    ghost view = { λ p. record { table = p.place.table_id; view = p.place.me.0 } };
+    ghost view = { λ p. record { table = p.seat.table_id; view = p.seat.me.0 } };
 
-    ghost invariant = { λ p. (p.place.me.1 ≡ []) × IsPass M.goes p.place.me.0 };
+    ghost invariant = { λ p. (p.seat.me.1 ≡ []) × IsPass M.goes p.seat.me.0 };
 }
 
 /// What a pass had seen, for another pass of the same turn to learn, of no bytes. It has no number
 /// and no calls, cannot call, and may go to another thread. Dropping it loses nothing.
 #[derive(Drop)]
 pub struct Note<M: Machine> {
-    place: Place<M>,
+    seat: TurnSeat<M>,
 }
 
 impl<M: Machine> Model for Note<M> {
     ghost use Rattle.std.specs.Prelude.{◌≡◌, []};
-    ghost use Rattle.warm_turn.specs.Turns.{Sight, IsNote};
+    ghost use Rattle.warm_turn.specs.CallHistories.{PassView, IsNote};
 
-    ghost Value = { Sight M.State M.Call M.Reply };
+    ghost Value = { PassView M.State M.Call M.Reply };
 
-    ghost view = { λ p. record { table = p.place.table_id; view = p.place.me.0 } };
+    ghost view = { λ p. record { table = p.seat.table_id; view = p.seat.me.0 } };
 
-    ghost invariant = { λ p. (p.place.me.1 ≡ []) × IsNote p.place.me.0 };
+    ghost invariant = { λ p. (p.seat.me.1 ≡ []) × IsNote p.seat.me.0 };
 }
 
 // How often a waiting caller polls before it sleeps between polls. It spins in between, twice as
@@ -118,8 +120,8 @@ fn longer_nap(looks: u32) -> u64 {
 
 // Waits between two polls; `looks` polls were made, and `nap` bounds the sleep. The last poll found
 // that the ticket `served` is served.
-fn pause<M: Machine, R: Wait>(rt: &R, top: &Top<M>, served: u64, looks: u32, nap: u64)
-    requires { IsBoard top.now.table_id }
+fn pause<M: Machine, R: Wait>(rt: &R, shared: &SharedTable<M>, served: u64, looks: u32, nap: u64)
+    requires { IsTicketTable shared.now.table_id }
 {
     if looks < SPINS {
         for _ in 0..1u32 << looks {
@@ -127,11 +129,13 @@ fn pause<M: Machine, R: Wait>(rt: &R, top: &Top<M>, served: u64, looks: u32, nap
         }
     } else {
         let low = (served & 0xFFFF_FFFF) as u32;
-        top.park_timeout(rt, 1, low, Duration::from_micros(nap));
+        shared.park_timeout(rt, 1, low, Duration::from_micros(nap));
     }
 }
 
-// The ticket to try for, where this one was seen to be the next. The last number is not a ticket.
+// The ticket to try for, where the ticket word was seen to be `next`. The last number is no ticket:
+// then it is 0, with which the exchange fails and finds the last number. A peek is no step at the
+// table, so it proves nothing; the exchange is one, and from it the seat gets its mark.
 fn tried_for(next: u64) -> u64
     ensures { result + 1 < 2 ^ 64 }
 {
@@ -143,23 +147,27 @@ fn tried_for(next: u64) -> u64
 // It waits before it takes a ticket rather than after: a descheduled caller with a ticket delays
 // all callers with later ones, and a caller without a ticket delays nobody. After many polls it
 // takes one anyway, so that it does not starve.
-fn take_ticket<M: Machine, R: Wait>(rt: &R, top: &Top<M>, place: &mut Place<M>) -> Option<u64>
-    requires table { (place.old.table_id ≡ top.now.table_id) × IsBoard top.now.table_id }
-    requires idle { IsPass M.goes place.old.me.0 }
-    ensures table { (place.new.table_id ≡ place.old.table_id) × (place.new.id ≡ place.old.id) }
-    ensures some { IfSome result (λ k. HasTicket place.old.me k place.new.me) }
-    ensures none { IfNone result (place.new.me ≡ (marked place.old.me.0, place.old.me.1)) }
+fn take_ticket<M: Machine, R: Wait>(
+    rt: &R,
+    shared: &SharedTable<M>,
+    seat: &mut TurnSeat<M>,
+) -> Option<u64>
+    requires table { (seat.old.table_id ≡ shared.now.table_id) × IsTicketTable shared.now.table_id }
+    requires idle { IsPass M.goes seat.old.me.0 }
+    ensures table { (seat.new.table_id ≡ seat.old.table_id) × (seat.new.id ≡ seat.old.id) }
+    ensures some { IfSome result (λ k. HasTicket seat.old.me k seat.new.me) }
+    ensures none { IfNone result (seat.new.me ≡ (marked seat.old.me.0, seat.old.me.1)) }
 {
     let mut looks = 0;
     for _ in rt.forever() {
-        let next = top.peek(0);
-        let served = top.peek(1);
+        let next = shared.peek(0);
+        let served = shared.peek(1);
         if looks < LOOKS && next != served {
-            pause(rt, top, served, looks, longer_nap(looks));
+            pause(rt, shared, served, looks, longer_nap(looks));
             looks += 1;
         } else {
             let expected = tried_for(next);
-            let found = top.compare_exchange::<Take>(place, 0, expected, expected + 1);
+            let found = shared.compare_exchange::<Take>(seat, 0, expected, expected + 1);
             if found == expected {
                 return Some(found);
             }
@@ -174,100 +182,105 @@ fn take_ticket<M: Machine, R: Wait>(rt: &R, top: &Top<M>, place: &mut Place<M>) 
 // Waits until the ticket is served. Then the seat has the machine. The next caller sleeps as the
 // others do, and does not yield: on busy processors a yield gives up a whole time slice, for which
 // all callers behind it would wait too.
-fn wait_turn<M: Machine, R: Wait>(rt: &R, top: &Top<M>, place: &mut Place<M>, ticket: u64)
-    requires table { (place.old.table_id ≡ top.now.table_id) × IsBoard top.now.table_id }
-    requires waits { (place.old.me.1 ≡ []) × (place.old.me.0.waits ≡ true)
-        × (place.old.me.0.serves ≡ false) × (place.old.me.0.ticket ≡ ticket) }
-    ensures table { (place.new.table_id ≡ place.old.table_id) × (place.new.id ≡ place.old.id) }
-    ensures serves { HasMachine M.view place.old.me.0 place.new.me }
+fn wait_turn<M: Machine, R: Wait>(
+    rt: &R,
+    shared: &SharedTable<M>,
+    seat: &mut TurnSeat<M>,
+    ticket: u64,
+)
+    requires table { (seat.old.table_id ≡ shared.now.table_id) × IsTicketTable shared.now.table_id }
+    requires waits { (seat.old.me.1 ≡ []) × (seat.old.me.0.waits ≡ true)
+        × (seat.old.me.0.serves ≡ false) × (seat.old.me.0.ticket ≡ ticket) }
+    ensures table { (seat.new.table_id ≡ seat.old.table_id) × (seat.new.id ≡ seat.old.id) }
+    ensures serves { HasMachine M.view seat.old.me.0 seat.new.me }
 {
     let mut looks = 0u32;
     for _ in rt.forever() {
-        let served = top.load::<Look>(place, 1);
+        let served = shared.load::<Look>(seat, 1);
         if served == ticket {
             return;
         }
-        pause(rt, top, served, looks, NAP);
+        pause(rt, shared, served, looks, NAP);
         looks = looks.saturating_add(1);
     }
 }
 
 // Makes the call on the machine in the slot.
-fn serve<M: Machine>(top: &Top<M>, place: &mut Place<M>, call: M::Call) -> M::Reply
-    requires table { place.old.table_id ≡ top.now.table_id }
-    requires has { (h : Held M M.Call M.Reply) × (place.old.me.1 ≡ (0, Some h) ∷ []) }
-    ensures table { (place.new.table_id ≡ place.old.table_id) × (place.new.id ≡ place.old.id) }
-    ensures made { Served M.view M.goes place.old.me call result place.new.me }
+fn serve<M: Machine>(shared: &SharedTable<M>, seat: &mut TurnSeat<M>, call: M::Call) -> M::Reply
+    requires table { seat.old.table_id ≡ shared.now.table_id }
+    requires has { (h : CellContents M M.Call M.Reply) × (seat.old.me.1 ≡ (0, Some h) ∷ []) }
+    ensures table { (seat.new.table_id ≡ seat.old.table_id) × (seat.new.id ≡ seat.old.id) }
+    ensures made { Served M.view M.goes seat.old.me call result seat.new.me }
 {
     let asked = Snapshot::of(&call);
-    let out = top.exchange(place, 0, None);
+    let out = shared.exchange(seat, 0, None);
     let Some(held) = out else { unreachable!() };
-    let Held {
+    let CellContents {
         mut machine,
         made: _,
     } = held;
     let reply = machine.call(call);
-    let made = Some(Made {
+    let made = Some(CallMade {
         call: asked,
         reply: Snapshot::of(&reply),
     });
-    let empty = top.exchange(place, 0, Some(Held { machine, made }));
+    let empty = shared.exchange(seat, 0, Some(CellContents { machine, made }));
     let None = empty else { unreachable!() };
     reply
 }
 
 // Adds the call to the history, and puts the machine back into the slot for the next ticket.
-fn pass_on<M: Machine>(top: &Top<M>, place: &mut Place<M>)
-    requires table { (place.old.table_id ≡ top.now.table_id) × IsBoard top.now.table_id }
-    requires made { (c : M.Call) × (r : M.Reply) × IsMade M.view M.goes place.old.me c r }
-    ensures table { (place.new.table_id ≡ place.old.table_id) × (place.new.id ≡ place.old.id) }
-    ensures home { place.new.me.1 ≡ [] }
-    ensures added { (c : M.Call) (r : M.Reply) → IsMade M.view M.goes place.old.me c r
-        → HasPassedOn M.goes place.old.me c r place.new.me }
+fn pass_on<M: Machine>(shared: &SharedTable<M>, seat: &mut TurnSeat<M>)
+    requires table { (seat.old.table_id ≡ shared.now.table_id) × IsTicketTable shared.now.table_id }
+    requires made { (c : M.Call) × (r : M.Reply) × IsMade M.view M.goes seat.old.me c r }
+    ensures table { (seat.new.table_id ≡ seat.old.table_id) × (seat.new.id ≡ seat.old.id) }
+    ensures home { seat.new.me.1 ≡ [] }
+    ensures added { (c : M.Call) (r : M.Reply) → IsMade M.view M.goes seat.old.me c r
+        → HasPassedOn M.goes seat.old.me c r seat.new.me }
 {
-    top.fetch_add::<PassOn>(place, 1, 1);
+    shared.fetch_add::<PassOn>(seat, 1, 1);
 }
 
 // Takes a ticket, waits for its turn, makes the call and passes the turn on.
 fn make_call<M: Machine, R: Wait>(
     rt: &R,
-    top: &Top<M>,
-    place: &mut Place<M>,
+    shared: &SharedTable<M>,
+    seat: &mut TurnSeat<M>,
     call: M::Call,
 ) -> Result<M::Reply, TurnsSpent<M::Call>>
-    requires table { (place.old.table_id ≡ top.now.table_id) × IsBoard top.now.table_id }
-    requires idle { (place.old.me.1 ≡ []) × IsPass M.goes place.old.me.0 }
-    ensures table { (place.new.table_id ≡ place.old.table_id) × (place.new.id ≡ place.old.id)
-        × (place.new.me.1 ≡ []) }
-    ensures ok { IfOk result (λ r. Called M.goes place.old.me.0 call r place.new.me.0) }
+    requires table { (seat.old.table_id ≡ shared.now.table_id) × IsTicketTable shared.now.table_id }
+    requires idle { (seat.old.me.1 ≡ []) × IsPass M.goes seat.old.me.0 }
+    ensures table { (seat.new.table_id ≡ seat.old.table_id) × (seat.new.id ≡ seat.old.id)
+        × (seat.new.me.1 ≡ []) }
+    ensures ok { IfOk result (λ r. Called M.goes seat.old.me.0 call r seat.new.me.0) }
     ensures step { IfOk result (λ r. IsStep M.goes call r) }
-    ensures err { IfErr result (λ e. (e.call ≡ call) × (place.new.me.0 ≡ marked place.old.me.0)) }
+    ensures err { IfErr result (λ e. (e.call ≡ call) × (seat.new.me.0 ≡ marked seat.old.me.0)) }
 {
-    let Some(ticket) = take_ticket(rt, top, place) else {
+    let Some(ticket) = take_ticket(rt, shared, seat) else {
         return Err(TurnsSpent { call });
     };
-    wait_turn(rt, top, place, ticket);
-    let reply = serve(top, place, call);
-    pass_on(top, place);
+    wait_turn(rt, shared, seat, ticket);
+    let reply = serve(shared, seat, call);
+    pass_on(shared, seat);
     Ok(reply)
 }
 
 // The machine in the contents of the slot.
-fn machine_of<M: Machine>(slot: Option<Held<M, M::Call, M::Reply>>) -> M
-    requires { (h : Held M M.Call M.Reply) × (slot ≡ Some h) }
-    ensures { (h : Held M M.Call M.Reply) → slot ≡ Some h → result ≡ h.machine }
+fn machine_of<M: Machine>(slot: Option<CellContents<M, M::Call, M::Reply>>) -> M
+    requires { (h : CellContents M M.Call M.Reply) × (slot ≡ Some h) }
+    ensures { (h : CellContents M M.Call M.Reply) → slot ≡ Some h → result ≡ h.machine }
 {
     let Some(held) = slot else { unreachable!() };
-    let Held { machine, made: _ } = held;
+    let CellContents { machine, made: _ } = held;
     machine.into_machine()
 }
 
 // The result of closing a turn, from the two words of its table and the contents of the slot: the
 // machine where each taken ticket was served, and otherwise these words. A machine in the slot is
 // then dropped.
-fn opened<M: Machine + Drop>(ticket: u64, serving: u64, slot: Slot<M>) -> Result<M, Busy>
-    requires home { ticket ≡ serving → (h : Held M M.Call M.Reply) × (slot ≡ Some h) }
-    ensures machine { IfOk result (λ m. (h : Held M M.Call M.Reply)
+fn opened<M: Machine + Drop>(ticket: u64, serving: u64, slot: MachineCell<M>) -> Result<M, Busy>
+    requires home { ticket ≡ serving → (h : CellContents M M.Call M.Reply) × (slot ≡ Some h) }
+    ensures machine { IfOk result (λ m. (h : CellContents M M.Call M.Reply)
         → slot ≡ Some h → m ≡ h.machine) }
     ensures served { OnOk result (ticket ≡ serving) }
     ensures words { IfErr result (λ b. (b.ticket ≡ ticket) × (b.serving ≡ serving)) }
@@ -283,12 +296,12 @@ impl<M: Machine> Pass<M> {
     /// A theorem, for a caller that needs it later: the pass's list is legal from the opening
     /// state, and has, of each number that the pass holds, exactly that pass's calls. It does
     /// nothing at run time.
-    pub fn is_legal(&self)
+    pub fn prove_is_legal(&self)
         ensures { IsPass M.goes self.now.view }
     {
         // It names the field, since only then does the checker know the invariant of the type. It
         // reads nothing.
-        let _ = &self.place;
+        let _ = &self.seat;
     }
 }
 
@@ -306,7 +319,7 @@ impl<M: Machine> Turn<M> {
         let about = Snapshot::of(&machine);
         let machine = BoxedMachine::holding(alloc, machine)?;
         let mut slots = Vec::new(alloc);
-        if let Err(failed) = slots.push(Some(Held {
+        if let Err(failed) = slots.push(Some(CellContents {
             machine,
             made: None,
         })) {
@@ -317,7 +330,7 @@ impl<M: Machine> Turn<M> {
             });
         }
         match Table::new(alloc, &[0, 0], slots, &about) {
-            Ok((table, place)) => Ok((Turn { table }, Pass { place })),
+            Ok((table, seat)) => Ok((Turn { table }, Pass { seat })),
             Err(Refused { mut slots }) => {
                 let Some(slot) = slots.pop() else {
                     unreachable!()
@@ -340,9 +353,9 @@ impl<M: Machine> Turn<M> {
             × (calls_by n pass.old.view.seen ≡ []) }
         ensures legal { IsPass M.goes result.view }
     {
-        let mut place = self.table.shared.split_seat::<GiveNote>(&mut pass.place);
-        self.table.shared.load::<Become>(&mut place, 0);
-        Pass { place }
+        let mut seat = self.table.shared.split_seat::<GiveNote>(&mut pass.seat);
+        self.table.shared.load::<Become>(&mut seat, 0);
+        Pass { seat }
     }
 
     /// What the pass has seen, for another to learn. The pass is unchanged.
@@ -352,8 +365,8 @@ impl<M: Machine> Turn<M> {
         ensures table { result.table ≡ self.now.table }
         ensures given { result.view ≡ note_of pass.old.view }
     {
-        let place = self.table.shared.split_seat::<GiveNote>(&mut pass.place);
-        Note { place }
+        let seat = self.table.shared.split_seat::<GiveNote>(&mut pass.seat);
+        Note { seat }
     }
 
     /// A note that has seen nothing, with the turn's opening state. It is for code that was given a
@@ -363,21 +376,21 @@ impl<M: Machine> Turn<M> {
         ensures table { result.table ≡ self.now.table }
         ensures given { result.view ≡ note_of (first_pass self.now.opening) }
     {
-        let (_, place) = self.table.shared.load_new_seat::<Come>(0);
-        Note { place }
+        let (_, seat) = self.table.shared.load_new_seat::<Come>(0);
+        Note { seat }
     }
 
-    /// JoinsEntries what the note has seen. Afterwards both the pass's earlier list and the note's list
-    /// are prefixes of the pass's list, which may have further entries of other passes. Both have
-    /// the same opening state. Its own calls, those that it holds and its mark stay.
+    /// Learns what the note has seen. Afterwards both the pass's earlier list and the note's list are
+    /// prefixes of the pass's list, which may have further entries of other passes. Both have the
+    /// same opening state. Its own calls, those that it holds and its mark stay.
     pub fn learn(&self, pass: &mut Pass<M>, note: Note<M>)
         requires { (pass.old.table ≡ self.now.table) × (note.table ≡ self.now.table) }
         ensures table { pass.new.table ≡ self.now.table }
         ensures seen { Learned M.goes pass.old.view note.view pass.new.view }
     {
-        let Note { place } = note;
-        self.table.shared.join_seat::<Learn>(&mut pass.place, place);
-        self.table.shared.load::<CatchUp>(&mut pass.place, 0);
+        let Note { seat } = note;
+        self.table.shared.join_seat::<Learn>(&mut pass.seat, seat);
+        self.table.shared.load::<CatchUp>(&mut pass.seat, 0);
     }
 
     /// Ends the other pass into this one. This pass's list then begins with what both had seen, and
@@ -389,9 +402,9 @@ impl<M: Machine> Turn<M> {
         ensures table { pass.new.table ≡ self.now.table }
         ensures seen { Joined M.goes pass.old.view other.view pass.new.view }
     {
-        let Pass { place } = other;
-        self.table.shared.join_seat::<End>(&mut pass.place, place);
-        self.table.shared.load::<CatchUp>(&mut pass.place, 0);
+        let Pass { seat } = other;
+        self.table.shared.join_seat::<End>(&mut pass.seat, seat);
+        self.table.shared.load::<CatchUp>(&mut pass.seat, 0);
     }
 
     /// Takes the next ticket, waits until it is served, calls the machine and passes the turn on.
@@ -418,7 +431,7 @@ impl<M: Machine> Turn<M> {
         ensures spent { IfErr result (λ e. pass.new.view ≡ marked pass.old.view) }
         ensures given_back { IfErr result (λ e. e.call ≡ call) }
     {
-        make_call(rt, &self.table.shared, &mut pass.place, call)
+        make_call(rt, &self.table.shared, &mut pass.seat, call)
     }
 
     /// Gives the machine back. Its state is one that a legal history reaches from the opening
@@ -439,8 +452,8 @@ impl<M: Machine> Turn<M> {
         ensures mark { IfErr result (MarkShows pass.view) }
     {
         let Turn { table } = self;
-        let Pass { place } = pass;
-        let mut closed = table.close_with(place);
+        let Pass { seat } = pass;
+        let mut closed = table.close_with(seat);
         let ticket = closed.word(0);
         let serving = closed.word(1);
         let slot = closed.take(0);

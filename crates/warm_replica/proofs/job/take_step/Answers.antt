@@ -18,4 +18,4 @@ pub returns-in-Err-flush-clause-went : goal.returns-in-Err-flush-clause-went
 returns-in-Err-flush-clause-went g c = was_kept c.args.worker.now c.flush.new.self c.args.step g.M.Machine.goes c.in-Err-flush.fault c.in-Flush.is c.in-Err-flush.ensures.kept
 
 pub returns-in-Err-call-clause-went : goal.returns-in-Err-call-clause-went
-returns-in-Err-call-clause-went g c = was_spent c.args.worker.now c.call.new.self c.args.step c.in-Make.boxed c.in-Make.is c.in-Err-call.ensures.buffer c.in-Err-call.ensures.spent
+returns-in-Err-call-clause-went g c = was_spent c.args.worker.now c.call.new.self c.args.step c.in-Call.boxed c.in-Call.is c.in-Err-call.ensures.buffer c.in-Err-call.ensures.spent

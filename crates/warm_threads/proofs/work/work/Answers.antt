@@ -1,6 +1,6 @@
 use Rattle.std.proofs.Common.{rules, subst}
 use Rattle.std.specs.List.{All}
-use Rattle.warm_turn.specs.Turns.{IsLast}
+use Rattle.warm_turn.specs.CallHistories.{IsLast}
 use Rattle.warm_replica.specs.Jobs.{JobsWent}
 use Rattle.warm_replica.specs.Replied.{AreTaken}
 use Rattle.warm_threads.proofs.Runnings.{jobs_work}

@@ -1,4 +1,4 @@
-use Rattle.std.proofs.Common.{◌≡◌, ℕ, ◌+◌, length, ap, sym, ◌∙◌, arith}
+use Rattle.std.proofs.Common.{◌≡◌, ℕ, ◌+◌, length, ap, sym, refl, ◌∙◌, arith}
 use Rattle.std.proofs.lemmas.Bool.{eqb-true}
 use Rattle.warm_schedule.proofs.Stream.{Goes-end, answers_whole, answers_held, nothing}
 use Rattle.warm_schedule.proofs.player.Session.end_line.Goals as goal
@@ -8,7 +8,7 @@ returns-then-is_empty-clause-goes g c =
     let a = c.in_ok-answer.ensures.answered in
     let line = c.args.self.now.line in
     let none : length line.items ≡ 0 = omega (arith, line.ok.0, eqb-true _ _ (sym c.is_empty.ensures ∙ c.if-is_empty.true)) in
-    (a.0, a.1, Goes-end _ _ c.args.piece.now a.0 c.requires.line (answers_whole _ c.args.piece.now a.0 _ none a.2) (ap (λ (n : ℕ). n + 1) c.in_ok-answer.ensures.number) (rw c.in_ok-answer.ensures.held (nothing line.items none)))
+    (a.0, a.1, Goes-end _ _ c.args.piece.now a.0 c.requires.line (answers_whole _ c.args.piece.now a.0 _ none a.2) refl (nothing line.items none))
 
 pub returns-clause-goes : goal.returns-clause-goes
 returns-clause-goes g c =

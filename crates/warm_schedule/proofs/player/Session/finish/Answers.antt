@@ -9,7 +9,7 @@ returns-clause-ended g c =
     let settled = c.in_ok-settle.ensures.settled in (
       answered.0,
       settled.0,
-      Appends-kept _ _ _ (answered.0 ++ settled.0) (Appends-then _ _ _ answered.0 settled.0 answered.1 settled.1) c.in_ok-pass_on.ensures.kept,
+      Appends-kept _ _ _ (answered.0 ++ settled.0) (Appends-then _ _ _ answered.0 settled.0 answered.1 settled.1) c.in_ok-flush_answers.ensures.kept,
       Ends-answer _ answered.0 settled.0 _ answered.2 settled.2,
       settled.3,
     )

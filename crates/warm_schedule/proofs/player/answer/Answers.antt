@@ -1,0 +1,40 @@
+use Rattle.std.proofs.Common.{[], ap, ◌∙◌, Ok, Err}
+use Rattle.warm_gossip.specs.declared.fault.NodeFault.TheVariants.{Memory}
+use Rattle.warm_world.specs.declared.event.WorldFault.TheVariants.{Node}
+use Rattle.warm_schedule.specs.Answers.{answer_text, refused_text, bad_line}
+use Rattle.warm_schedule.specs.declared.parse.Line.{Line}
+use Rattle.warm_schedule.specs.declared.parse.Line.TheVariants as meant
+use Rattle.warm_schedule.specs.declared.parse.LineFault.{LineFault}
+use Rattle.warm_random.proofs.Written.{Appends-none}
+use Rattle.warm_schedule.proofs.Stream.{answers_event, answers_bad, answers_no_memory, answers_nothing, done, was_bad, was_line, was_put}
+use Rattle.warm_schedule.proofs.player.answer.Goals as goal
+
+pub returns-in_ok-map_err-in-Err-Bad-clause-answered : goal.returns-in_ok-map_err-in-Err-Bad-clause-answered
+returns-in_ok-map_err-in-Err-Bad-clause-answered g c = (
+  bad_line c.args.number,
+  done c.print_bad_line.result c.in_ok-map_err-in-Err-Bad.ensures.variant c.print_bad_line.ensures,
+  answers_bad _ _ c.args.line.now (was_bad c.args.line.now c.parse_line.result c.parse_line.ensures (c.in-Err-Bad.is ∙ ap (λ (fault : LineFault). Err fault) c.in-Err-Bad.field-0-is)),
+)
+
+pub returns-in_ok-map_err-in-Err-Memory-clause-answered : goal.returns-in_ok-map_err-in-Err-Memory-clause-answered
+returns-in_ok-map_err-in-Err-Memory-clause-answered g c = (
+  refused_text (Node Memory),
+  done c.print_refusal.result c.in_ok-map_err-in-Err-Memory.ensures.variant c.print_refusal.ensures,
+  answers_no_memory _ _ c.args.line.now (was_put c.args.line.now c.parse_line.result c.parse_line.ensures (c.in-Err-Memory.is ∙ ap (λ (fault : LineFault). Err fault) c.in-Err-Memory.field-0-is)),
+)
+
+pub returns-in-Ok-Nothing-clause-answered : goal.returns-in-Ok-Nothing-clause-answered
+returns-in-Ok-Nothing-clause-answered g c = (
+  [],
+  Appends-none _,
+  answers_nothing _ _ c.args.line.now (was_line c.args.line.now c.parse_line.result c.parse_line.ensures meant.Nothing (c.in-Ok-Nothing.is ∙ ap (λ (l : Line). Ok l) c.in-Ok-Nothing.field-0-is)),
+)
+
+pub returns-in_ok-map_err-in-Ok-Event-clause-answered : goal.returns-in_ok-map_err-in-Ok-Event-clause-answered
+returns-in_ok-map_err-in-Ok-Event-clause-answered g c = (
+  answer_text c.step-answer.result,
+  done c.print_answer.result c.in_ok-map_err-in-Ok-Event.ensures.variant c.print_answer.ensures,
+  answers_event _ _ c.args.line.now c.in-Ok-Event.event c.step-answer.result _
+      (was_line c.args.line.now c.parse_line.result c.parse_line.ensures (meant.Event c.in-Ok-Event.event) (c.in-Ok-Event.is ∙ ap (λ (l : Line). Ok l) c.in-Ok-Event.field-0-is))
+      c.step-answer.ensures,
+)

@@ -1,0 +1,155 @@
+//! The table that the passes share: two words and a slot.
+//!
+//! Word 0 is the next ticket, and word 1 the ticket that is served. The slot is the machine's cell.
+ghost use Rattle.std.specs.Prelude.{◌≡◌, IfOk, IfErr};
+
+use crate::fault::Memory;
+use crate::machine::Machine;
+use atomic_table::{Seat, Shared, Table, TableRule};
+use std::alloc::{AllocFailed, Global};
+use std::collections::LinkedList;
+use std::marker::Model;
+use std::snapshot::Snapshot;
+
+/// One entry of a history. It exists only in contracts.
+pub struct Entry<C, R> {
+    /// The number of the pass that called.
+    pub by: u64,
+    /// The call.
+    pub call: C,
+    /// The reply of the machine.
+    pub reply: R,
+}
+
+/// What is kept of an ended pass. It exists only in contracts.
+pub struct EndedPass<C, R> {
+    /// Its number.
+    pub number: u64,
+    /// Its calls, in their order.
+    pub calls: LinkedList<Entry<C, R>>,
+}
+
+/// What a seat at the table knows. It exists only in contracts.
+pub struct View<X, C, R> {
+    /// False for a used-up seat.
+    pub sees: bool,
+    /// True for a pass, and false for a note.
+    pub owns: bool,
+    /// A ticket was taken and the turn is not passed on yet.
+    pub waits: bool,
+    /// This seat has taken the machine out of the slot.
+    pub serves: bool,
+    /// The last number, `u64::MAX`, was found in the ticket word.
+    pub found_last: bool,
+    /// The number of the pass, which no other pass of the turn has.
+    pub number: u64,
+    /// The ticket, where one was taken.
+    pub ticket: u64,
+    /// The turn's opening state.
+    pub opening: Option<X>,
+    /// The state of the machine that this seat has taken.
+    pub state: Option<X>,
+    /// A prefix of the history, as this seat has seen it.
+    pub seen: LinkedList<Entry<C, R>>,
+    /// A prefix that was learned from another seat, and is not looked up yet.
+    pub also: LinkedList<Entry<C, R>>,
+    /// The turn's opening state, as it was learned.
+    pub also_opening: Option<X>,
+    /// The pass's own calls, in their order.
+    pub mine: LinkedList<Entry<C, R>>,
+    /// The passes that were ended into this one, and those that they held.
+    pub ended: LinkedList<EndedPass<C, R>>,
+}
+
+/// A call and its reply, as contracts see them. It has no bytes.
+#[derive(Drop)]
+pub struct CallMade<C, R> {
+    /// The call.
+    pub call: Snapshot<C>,
+    /// The reply.
+    pub reply: Snapshot<R>,
+}
+
+/// A machine in a heap box: each turn takes it out of the slot and puts it back, which moves only a
+/// pointer. Contracts see the machine.
+#[derive(Drop)]
+pub struct BoxedMachine<M> {
+    machine: Box<M>,
+}
+
+impl<M> Model for BoxedMachine<M> {
+    ghost Value = { M };
+
+    ghost view = { λ boxed. boxed.machine.value };
+}
+
+impl<M> BoxedMachine<M> {
+    // The machine in a box of its own.
+    pub(crate) fn holding(alloc: Global, machine: M) -> Result<BoxedMachine<M>, Memory<M>>
+        ensures ok { IfOk result (λ boxed. boxed ≡ machine) }
+        ensures err { IfErr result (λ e. e.machine ≡ machine) }
+    {
+        match Box::new(alloc, machine) {
+            Ok(machine) => Ok(BoxedMachine { machine }),
+            Err(AllocFailed { value }) => Err(Memory { machine: value }),
+        }
+    }
+
+    // The machine. Allocation-free; the box is freed.
+    pub(crate) fn into_machine(self) -> M
+        ensures { result ≡ self }
+    {
+        Box::into_inner(self.machine)
+    }
+}
+
+impl<M: Machine> BoxedMachine<M> {
+    // Has the machine answer the call.
+    pub(crate) fn call(&mut self, call: M::Call) -> M::Reply
+        ensures goes { M.goes (M.view self.old) call result (M.view self.new) }
+    {
+        self.machine.call(call)
+    }
+}
+
+/// The contents of the machine's cell, while no pass has taken the machine out.
+#[derive(Drop)]
+pub struct CellContents<M, C, R> {
+    /// The machine.
+    pub machine: BoxedMachine<M>,
+    /// The last call that it answered, with the reply.
+    pub made: Option<CallMade<C, R>>,
+}
+
+/// The rule of the table, `TicketRuleHolds` of `specs/Rule.antt`. Its key is the machine that the
+/// turn opened with.
+pub struct TicketRule;
+
+impl<M: Machine> TableRule<
+    Option<CellContents<M, M::Call, M::Reply>>,
+    View<M::State, M::Call, M::Reply>,
+    Snapshot<M>,
+> for TicketRule {
+    ghost use Rattle.warm_turn.specs.Rule.{TicketRuleHolds};
+    ghost use Rattle.warm_turn.specs.CallHistories.{first_pass};
+
+    ghost holds = { λ key. TicketRuleHolds M.view M.goes (M.view key.value) };
+
+    ghost first = { λ key. first_pass (M.view key.value) };
+}
+
+/// The machine's cell, the one slot of the table of a turn over `M`: empty while a pass has taken
+/// the machine out.
+pub type MachineCell<M> = Option<CellContents<M, <M as Machine>::Call, <M as Machine>::Reply>>;
+
+/// What a seat of a turn over `M` knows.
+pub type ViewOf<M> = View<<M as Machine>::State, <M as Machine>::Call, <M as Machine>::Reply>;
+
+/// A seat at the table of a turn over `M`. A pass has one, and so has a note.
+pub type TurnSeat<M> = Seat<MachineCell<M>, ViewOf<M>>;
+
+/// The part of the table of a turn over `M` that all threads share.
+pub type SharedTable<M> = Shared<MachineCell<M>, ViewOf<M>, Snapshot<M>, TicketRule>;
+
+/// The table of a turn over `M`.
+pub type TicketTable<M> = Table<MachineCell<M>, ViewOf<M>, Snapshot<M>, TicketRule, Global>;
