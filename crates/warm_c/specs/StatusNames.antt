@@ -40,7 +40,8 @@ abbrev pub status_name : ℤ → List ℕ
 status_name (pos n) = name_at n
 status_name (negsuc n) = codes "Unknown"
 
--- the fault of a decoder that has failed before: no whole frame has it, and no call of the library gives it
+-- the fault of a decoder that has failed before: no whole frame has it, and no call of the library
+-- gives it
 abbrev pub IsDecoderFailed : Refusal → Type 0
 IsDecoderFailed (Frame frame.Failed) = Unit {0}
 IsDecoderFailed (Dump (dump.Frame frame.Failed)) = Unit {0}

@@ -11,12 +11,14 @@ use Rattle.warm_gossip.specs.Faults as node_faults
 use Rattle.warm_c.specs.declared.status.Refusal.{Refusal}
 use Rattle.warm_c.specs.declared.status.Refusal.TheVariants.{Node, NewPool, Frame, Closed, AlreadyOpen, BufferTooSmall, BadReplica, BadBucket, SameFile, Late, Dump}
 
--- an allocation failure is 1, wherever it comes; of another fault of a frame it is the fault's own number and 32
+-- an allocation failure is 1, wherever it comes; of another fault of a frame it is the fault's own
+-- number and 32
 abbrev pub frame_code_of : FrameFault → ℕ
 frame_code_of frame.Memory = 1
 frame_code_of fault = 32 + frame_faults.fault_code fault
 
--- of a frame's fault in a dump it is the frame's; of another fault of a dump it is the fault's own number and 64
+-- of a frame's fault in a dump it is the frame's; of another fault of a dump it is the fault's own
+-- number and 64
 abbrev pub dump_code_of : DumpFault → ℕ
 dump_code_of (dump.Frame fault) = frame_code_of fault
 dump_code_of fault = 64 + dump_faults.dump_fault_code fault

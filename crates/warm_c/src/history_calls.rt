@@ -3,7 +3,7 @@ ghost use Rattle.std.specs.Prelude.{◌≡◌, ◌≤◌, length, map, IfErr, If
 ghost use Rattle.warm_c.specs.Calls.{Absorbs, BatchRefused, CountsPages, Lists, Raises};
 ghost use Rattle.warm_c.specs.Values.{c_page, reference_of, with_start};
 
-use crate::held::Held;
+use crate::open_node::OpenNode;
 use crate::status::Refusal;
 use crate::values::{WarmPage, WarmReference};
 use std::alloc::{AllocError, Global};
@@ -52,11 +52,12 @@ fn put_pages(pages: &[WarmPage], into: &mut [WarmPage])
     into[..pages.len()].copy_from_slice(pages);
 }
 
-impl Held {
+impl OpenNode {
     /// The node's [`warm_gossip::Node::absorb`].
     ///
     /// # Errors
-    /// `BadReplica` where the number of one is no replica's; else the node's own. Nothing has changed.
+    /// `BadReplica` where the number of one is no replica's; else the node's own. Nothing has
+    /// changed.
     pub fn absorb(&mut self, alloc: Global, batch: &[WarmReference]) -> Result<(), Refusal>
         ensures { Absorbs batch.now self.old result self.new }
     {
@@ -72,8 +73,8 @@ impl Held {
         *horizon = self.node.raise(time);
     }
 
-    /// The node's [`warm_gossip::Node::warm_list`] of as many pages as there is room for: they are put at the start of `pages`, and
-    /// their number is written.
+    /// The node's [`warm_gossip::Node::warm_list`] of as many pages as there is room for: they are
+    /// put at the start of `pages`, and their number is written.
     ///
     /// # Errors
     /// `Memory`. `pages` and `count` are then as they were.

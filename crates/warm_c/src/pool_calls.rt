@@ -2,14 +2,16 @@
 ghost use Rattle.warm_c.specs.Calls.{Names, Pins, ReadsPage, StepsWarmUp, Unpins, Writes, WritesBack};
 ghost use Rattle.warm_c.specs.Values.{IsOptionalPage};
 
-use crate::held::Held;
+use crate::open_node::OpenNode;
 use crate::status::Refusal;
 use crate::values::{PinnedSlot, WarmPage, WarmSlot};
 use warm_stamps::PageId;
 
-// Writes whether there is a page, as a bool of C, and which; `page` is as it was where there is none.
+// Writes whether there is a page, as a bool of C, and which; `page` is as it was where there is
+// none.
 //
-// `found` is a number here, and not a `bool`: what a caller of C never wrote may be none, and is none of what this reads.
+// `found` is a number here, and not a `bool`: what a caller of C never wrote may be none, and is
+// none of what this reads.
 fn put_page(given: Option<PageId>, found: &mut u8, page: &mut WarmPage)
     ensures { IsOptionalPage given page.old found.new page.new }
 {
@@ -22,7 +24,7 @@ fn put_page(given: Option<PageId>, found: &mut u8, page: &mut WarmPage)
     }
 }
 
-impl Held {
+impl OpenNode {
     /// The node's [`warm_gossip::Node::pin`], whose slot is written.
     ///
     /// # Errors
@@ -75,7 +77,8 @@ impl Held {
         put_page(self.node.victim(), found, page);
     }
 
-    /// The node's [`warm_gossip::Node::warm_step`]: whether a page was loaded is written, and which.
+    /// The node's [`warm_gossip::Node::warm_step`]: whether a page was loaded is written, and
+    /// which.
     ///
     /// # Errors
     /// The node's own. `found` and `page` are then as they were.

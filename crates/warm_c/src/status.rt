@@ -31,10 +31,11 @@ pub enum Refusal {
     BadBucket,
     /// 69: two devices are of one file.
     SameFile,
-    /// 70 or 71: a frame speaks of a time later than the limit; it is the fault's own number and 69.
+    /// 70 or 71: a frame speaks of a time later than the limit; it is the fault's own number and
+    /// 69.
     Late(TimeFault),
-    /// 1, 35 to 42, or 77 to 82: why a dump is not written or not read. That of a frame in it is the frame's; others are the fault's
-    /// own number and 64.
+    /// 1, 35 to 42, or 77 to 82: why a dump is not written or not read. That of a frame in it is
+    /// the frame's; others are the fault's own number and 64.
     Dump(DumpFault),
 }
 
@@ -261,8 +262,8 @@ pub fn name_of_status(status: i32) -> &'static str
     name_of_number(status as u32)
 }
 
-/// A theorem: the name of a refusal's status is its own, as its crate spells it. `Failed` has none: no whole frame has that fault, so 43
-/// is no status.
+/// A theorem: the name of a refusal's status is its own, as its crate spells it. `Failed` has none:
+/// no whole frame has that fault, so 43 is no status.
 pub fn statuses_name_refusals()
     ensures { NamesRefusals }
 {}

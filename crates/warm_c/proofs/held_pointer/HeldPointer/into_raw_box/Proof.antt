@@ -1,37 +1,21 @@
--- `into_loose` moves the fields: what is owned beside them stays.
-use Rattle.std.proofs.Common.{◌≡◌, List, [], ◌∷◌, ◌++◌, refl, sym, subst}
-use mir.Syntax.{Fn}
-use mir.Val.{Val}
-use base.Logic.{SProp, ent, emp, id⊢}
-use prog.Wp.{WpFn}
-use contract.Monad.{fact, fact_i}
-use contract.Running.{tables}
-use types.Kit.{‵, raw, ◌⊛◌, ◌$◌, ◌∵◌, !, qed, by, move, keep, use0, use1, split, fsplit, fjoin, rewrite, suffices}
-use types.Part.{whole, sub, agg}
-use types.Run.{stop, fld, of_opd, no_more, and_then, returns, enter}
-use types.ByLocal.{alloc_all, pass_all, free_all, look_at, get, get_in, sets}
-use denote.RattleType.{owns}
-use denote.RawPtr.{Ptr}
-use denote.Signature.{types_at, type_at}
-use denote.Steps.{nothing, heard}
-use denote.Triple.Entry.{alive}
-use denote.Triple.Walked.{Stays, stay_dropped, walk_of}
-use Rattle.core.proofs.alloc.Calls.{Goes-blank}
-use Rattle.core.proofs.atomic.Steps.{Ptr-Good}
-use Rattle.std.proofs.raw_atomic.Walks.{proved_at, leaves}
+-- `into_raw_box` moves the fields: what is owned beside them stays.
+use Rattle.warm_c.proofs.Walking.{◌≡◌, List, [], ◌∷◌, ◌++◌, refl, sym, subst, Fn, Val, SProp, ent, emp, id⊢, WpFn, fact, fact_i, tables, ‵, raw, ◌⊛◌}
+use Rattle.warm_c.proofs.Walking.{◌$◌, ◌∵◌, !, qed, by, move, keep, use0, use1, split, fsplit, fjoin, rewrite, suffices, whole, sub, agg, stop, fld}
+use Rattle.warm_c.proofs.Walking.{of_opd, no_more, and_then, returns, enter, alloc_all, pass_all, free_all, look_at, get, get_in, sets, owns, Ptr}
+use Rattle.warm_c.proofs.Walking.{types_at, type_at, nothing, heard, alive, Stays, stay_dropped, walk_of, Goes-blank, Ptr-Good, proved_at, leaves}
+use Rattle.warm_c.proofs.Walking.{Option, Some, IsSome}
 use Rattle.std.proofs.alloc.Global.TheLaws as heap_laws
 use Rattle.std.specs.contracts.alloc.Global as heap
-use Rattle.std.specs.Prelude.{Option, Some, IsSome}
 use Rattle.warm_c.proofs.Erased.{first, word, word_of, typed, bits_typed, opens}
-use Rattle.warm_c.specs.declared.held.Held.{Held}
-use Rattle.warm_c.specs.contracts.slot.Slot as slot
-use Rattle.warm_c.specs.contracts.slot.Slot.into_loose.{ended, clauses, signature}
-use Rattle.warm_c.specs.contracts.slot.Slot.into_loose.Key.{name as #self}
-use Rattle.warm_c.proofs.slot.Slot.into_loose.Statement.{statement}
-use Rattle.warm_c.proofs.slot.Slot.into_loose.Code as code
+use Rattle.warm_c.specs.declared.open_node.OpenNode.{OpenNode}
+use Rattle.warm_c.specs.contracts.held_pointer.HeldPointer as pointer
+use Rattle.warm_c.specs.contracts.held_pointer.HeldPointer.into_raw_box.{ended, clauses, signature}
+use Rattle.warm_c.specs.contracts.held_pointer.HeldPointer.into_raw_box.Key.{name as #self}
+use Rattle.warm_c.proofs.held_pointer.HeldPointer.into_raw_box.Statement.{statement}
+use Rattle.warm_c.proofs.held_pointer.HeldPointer.into_raw_box.Code as code
 
-pub into_loose_spec : {M : Type 1} → statement M
-into_loose_spec 𝓤 𝓛 𝓜 𝓡 wired =
+pub into_raw_box_spec : {M : Type 1} → statement M
+into_raw_box_spec 𝓤 𝓛 𝓜 𝓡 wired =
     let H = 𝓛.H in
     let 𝓣 = tables 𝓤 H 𝓜 𝓡 𝓡.env in
     let c = clauses 𝓛 𝓜.mem 𝓡.returns in
@@ -49,12 +33,12 @@ into_loose_spec 𝓤 𝓛 𝓜 𝓡 wired =
     let a = v.alloc in
     let w = word p a in
     let ws = word_of p a z.0.4.0 are.0.0 in
-    qed 𝓛 ((raw (alive 𝓛 signature z.0.0 z.0.1) ⊛ ‵ (owns (types_at signature.params z.0.0) z.0.3 z.0.4)) ∷ raw (fact 𝓤 (IsSome v.held)) ∷ []) ∵
-    move ! (1 ∷ []) $ heard ! (IsSome v.held) (λ is. split ! $ move ! (1 ∷ []) $ fsplit ! $
-    let got = opens v.held is in
+    qed 𝓛 ((raw (alive 𝓛 signature z.0.0 z.0.1) ⊛ ‵ (owns (types_at signature.params z.0.0) z.0.3 z.0.4)) ∷ raw (fact 𝓤 (IsSome v.node)) ∷ []) ∵
+    move ! (1 ∷ []) $ heard ! (IsSome v.node) (λ is. split ! $ move ! (1 ∷ []) $ fsplit ! $
+    let got = opens v.node is in
     let made : To.Denot = record { pointer = p; allocator = a; content = got.0 } in
-    let Said : Type 0 = v.held ≡ Some made.content in
-    rewrite ! 0 (λ (us : List Val). ‵ (From.own_val v us)) ws refl $ rewrite ! 0 (λ (o : Option Held). ‵ (From.own_val (record v { held = o }) (w ∷ []))) got.1 refl $ nothing ! $ move ! (1 ∷ 2 ∷ 3 ∷ 0 ∷ []) $
+    let Said : Type 0 = v.node ≡ Some made.content in
+    rewrite ! 0 (λ (us : List Val). ‵ (From.own_val v us)) ws refl $ rewrite ! 0 (λ (o : Option OpenNode). ‵ (From.own_val (record v { node = o }) (w ∷ []))) got.1 refl $ nothing ! $ move ! (1 ∷ 2 ∷ 3 ∷ 0 ∷ []) $
     -- [what is owned; nothing; the tokens; nothing]
     suffices ! (Run (w ∷ [])) (subst (λ (us : List Val). ent 𝓤 (Run (w ∷ [])) (Run us)) (sym (λ i. ws i ++ [])) (id⊢ 𝓤 (Run (w ∷ [])))) $
     enter ! 𝓣.C 𝓣.Λ fn (w ∷ []) Post $ alloc_all ! (λ l. pass_all ! refl (typed p a, tt) $
