@@ -24,11 +24,14 @@
 //! overlap.
 #![tactic(auto)]
 
-ghost use Rattle.std.specs.Prelude.{◌≡◌, pos, [], ◌∷◌, ◌++◌, length, None};
+ghost use Rattle.std.specs.Fn.{FnOnceReturnsAtMut};
+ghost use Rattle.std.specs.Prelude.{◌≡◌, pos, [], ◌∷◌, ◌++◌, length, None, Some};
 ghost use Rattle.warm_gossip.specs.declared.call.Call.TheVariants.{Offer};
 ghost use Rattle.warm_c.specs.Calls.{Absorbs, CountsPages, GivesNext, Limits, Lists, Loads, Names, Pins, Raises, ReadsPage, Receives, Saves, Sends, SendsFromBucket, StepsWarmUp, Unpins, Writes, WritesBack};
 ghost use Rattle.warm_c.specs.Handles.{Called, Opens, Surely, open_request};
 ghost use Rattle.warm_c.specs.StatusNames.{status_name};
+ghost use Rattle.warm_c.specs.Statuses.{code_of, status_of};
+ghost use Rattle.warm_c.specs.declared.status.Refusal.TheVariants.{Closed};
 ghost use Rattle.warm_c.specs.Values.{page_if, with_some};
 
 pub mod descriptor;
@@ -49,11 +52,47 @@ pub mod values;
 
 use crate::descriptor::Descriptor;
 use crate::handle::Handle;
+use crate::open_node::OpenNode;
 use crate::opening::open;
 use crate::status::{Refusal, name_of_status, put_text, status_of};
-use crate::values::{PinnedSlot, WarmDevice, WarmPage, WarmReference, WarmSlot, page_if};
+use crate::values::{PinnedSlot, WarmDevice, WarmPage, WarmReference, WarmSlot, page_if, put_page};
 use std::alloc::Global;
 use warm_gossip::NodeFault;
+
+// Returns the status of a call on a closed handle.
+fn closed() -> i32
+    ensures { result ≡ pos (code_of Closed) }
+{
+    status_of(Err(Refusal::Closed))
+}
+
+// Ends a call on an open handle: puts the node back, and returns the status.
+fn put_back(handle: &mut Handle, node: Box<OpenNode>, done: Result<(), Refusal>) -> i32
+    ensures held { handle.new.held.node ≡ Some node.value }
+    ensures status { result ≡ status_of done }
+{
+    *handle = Handle::of(node);
+    status_of(done)
+}
+
+// Makes a call of the node of an open handle, and returns its status. A call that writes through a
+// pointer of C takes the node itself: nothing is known of what a closure that was not called has
+// borrowed.
+fn on_open<F: FnOnce(&mut OpenNode) -> Result<(), Refusal>>(
+    alloc: Global,
+    handle: &mut Handle,
+    call: F,
+) -> i32
+    requires { F.IsAlwaysCallable call }
+    ensures { Called (λ old ending new. FnOnceReturnsAtMut F.FnOnce call old ending new)
+        handle.old.held.node result handle.new.held.node }
+{
+    let Some(mut node) = handle.take(alloc) else {
+        return closed();
+    };
+    let done = call(&mut node);
+    put_back(handle, node, done)
+}
 
 /// Opens a closed handle: creates a node of this replica, with a pool of `frames` empty frames over
 /// these devices, and an empty history.
@@ -122,12 +161,7 @@ pub extern "C" fn warm_absorb(
 ) -> i32
     ensures { Called (Absorbs references.now) handle.old.held.node result handle.new.held.node }
 {
-    let Some(mut held) = handle.take(alloc) else {
-        return status_of(Err(Refusal::Closed));
-    };
-    let done = held.absorb(alloc, references);
-    *handle = Handle::of(held);
-    status_of(done)
+    on_open(alloc, handle, |node| node.absorb(alloc, references))
 }
 
 /// Pins a page: reads it into a frame where it is in none, and writes its slot.
@@ -146,12 +180,11 @@ pub extern "C" fn warm_pin(
         handle.new.held.node }
     ensures closed { handle.old.held.node ≡ None → slot.new ≡ slot.old }
 {
-    let Some(mut held) = handle.take(alloc) else {
-        return status_of(Err(Refusal::Closed));
+    let Some(mut node) = handle.take(alloc) else {
+        return closed();
     };
-    let done = held.pin(page, slot);
-    *handle = Handle::of(held);
-    status_of(done)
+    let done = node.pin(page, slot);
+    put_back(handle, node, done)
 }
 
 /// Removes a pin from the slot's page.
@@ -162,12 +195,7 @@ pub extern "C" fn warm_pin(
 pub extern "C" fn warm_unpin(alloc: Global, handle: &mut Handle, slot: WarmSlot) -> i32
     ensures { Called (Unpins slot) handle.old.held.node result handle.new.held.node }
 {
-    let Some(mut held) = handle.take(alloc) else {
-        return status_of(Err(Refusal::Closed));
-    };
-    let done = held.unpin(slot);
-    *handle = Handle::of(held);
-    status_of(done)
+    on_open(alloc, handle, |node| node.unpin(slot))
 }
 
 /// Reads bytes of the slot's page, from `at` on, into the whole of `into`. Allocation-free.
@@ -188,12 +216,11 @@ pub extern "C" fn warm_read(
         handle.new.held.node }
     ensures closed { handle.old.held.node ≡ None → into.new ≡ into.old }
 {
-    let Some(mut held) = handle.take(alloc) else {
-        return status_of(Err(Refusal::Closed));
+    let Some(mut node) = handle.take(alloc) else {
+        return closed();
     };
-    let done = held.read(slot, at, into);
-    *handle = Handle::of(held);
-    status_of(done)
+    let done = node.read(slot, at, into);
+    put_back(handle, node, done)
 }
 
 /// Writes bytes into the slot's page, from `at` on.
@@ -213,12 +240,7 @@ pub extern "C" fn warm_write(
     ensures { Called (Writes slot at bytes.now) handle.old.held.node result
         handle.new.held.node }
 {
-    let Some(mut held) = handle.take(alloc) else {
-        return status_of(Err(Refusal::Closed));
-    };
-    let done = held.write(slot, at, bytes);
-    *handle = Handle::of(held);
-    status_of(done)
+    on_open(alloc, handle, |node| node.write(slot, at, bytes))
 }
 
 /// Writes whether there is a page that would be evicted next, 1 or 0, and which. Where there is
@@ -234,12 +256,11 @@ pub extern "C" fn warm_victim(
         handle.new.held.node }
     ensures closed { handle.old.held.node ≡ None → (found.new ≡ found.old) × (page.new ≡ page.old) }
 {
-    let Some(mut held) = handle.take(alloc) else {
-        return status_of(Err(Refusal::Closed));
+    let Some(node) = handle.take(alloc) else {
+        return closed();
     };
-    held.victim(found, page);
-    *handle = Handle::of(held);
-    status_of(Ok(()))
+    put_page(node.victim(), found, page);
+    put_back(handle, node, Ok(()))
 }
 
 /// Writes the hottest pages of the history, hottest first, and their number: as many as there is
@@ -259,12 +280,11 @@ pub extern "C" fn warm_list(
     ensures closed { handle.old.held.node ≡ None
         → (pages.new ≡ pages.old) × (count.new ≡ count.old) }
 {
-    let Some(mut held) = handle.take(alloc) else {
-        return status_of(Err(Refusal::Closed));
+    let Some(mut node) = handle.take(alloc) else {
+        return closed();
     };
-    let done = held.list(alloc, pages, count);
-    *handle = Handle::of(held);
-    status_of(done)
+    let done = node.list(alloc, pages, count);
+    put_back(handle, node, done)
 }
 
 /// Loads the hottest page that is in no frame, of as many of the hottest pages as the pool has
@@ -286,12 +306,16 @@ pub extern "C" fn warm_step(
         handle.old.held.node result handle.new.held.node }
     ensures closed { handle.old.held.node ≡ None → (found.new ≡ found.old) × (page.new ≡ page.old) }
 {
-    let Some(mut held) = handle.take(alloc) else {
-        return status_of(Err(Refusal::Closed));
+    let Some(mut node) = handle.take(alloc) else {
+        return closed();
     };
-    let done = held.step(found, page);
-    *handle = Handle::of(held);
-    status_of(done)
+    match node.step() {
+        Ok(loaded) => {
+            put_page(loaded, found, page);
+            put_back(handle, node, Ok(()))
+        }
+        Err(why) => put_back(handle, node, Err(why)),
+    }
 }
 
 /// Writes the frame with the digests of the history, and its length.
@@ -311,12 +335,11 @@ pub extern "C" fn warm_offer(
         handle.old.held.node result handle.new.held.node }
     ensures closed { handle.old.held.node ≡ None → (frame.new ≡ frame.old) × (len.new ≡ len.old) }
 {
-    let Some(mut held) = handle.take(alloc) else {
-        return status_of(Err(Refusal::Closed));
+    let Some(mut node) = handle.take(alloc) else {
+        return closed();
     };
-    let done = held.offer(alloc, frame, len);
-    *handle = Handle::of(held);
-    status_of(done)
+    let done = node.offer(alloc, frame, len);
+    put_back(handle, node, done)
 }
 
 /// Writes the frame with the first 1000 entries of a bucket, or, where `has_after`, of its entries
@@ -342,12 +365,11 @@ pub extern "C" fn warm_send(
         handle.old.held.node result handle.new.held.node }
     ensures closed { handle.old.held.node ≡ None → (frame.new ≡ frame.old) × (len.new ≡ len.old) }
 {
-    let Some(mut held) = handle.take(alloc) else {
-        return status_of(Err(Refusal::Closed));
+    let Some(mut node) = handle.take(alloc) else {
+        return closed();
     };
-    let done = held.send(alloc, bucket, page_if(has_after, after), frame, len);
-    *handle = Handle::of(held);
-    status_of(done)
+    let done = node.send(alloc, bucket, page_if(has_after, after), frame, len);
+    put_back(handle, node, done)
 }
 
 /// Sets the latest time that a received frame may speak of: [`warm_receive`] refuses a frame whose
@@ -357,12 +379,10 @@ pub extern "C" fn warm_send(
 pub extern "C" fn warm_limit(alloc: Global, handle: &mut Handle, time: u64) -> i32
     ensures { Called (Surely (Limits time)) handle.old.held.node result handle.new.held.node }
 {
-    let Some(mut held) = handle.take(alloc) else {
-        return status_of(Err(Refusal::Closed));
-    };
-    held.limit(time);
-    *handle = Handle::of(held);
-    status_of(Ok(()))
+    on_open(alloc, handle, |node| {
+        node.limit(time);
+        Ok(())
+    })
 }
 
 /// Receives one whole frame that another replica sent. Its answers wait for [`warm_next_answer`];
@@ -378,12 +398,7 @@ pub extern "C" fn warm_limit(alloc: Global, handle: &mut Handle, time: u64) -> i
 pub extern "C" fn warm_receive(alloc: Global, handle: &mut Handle, frame: &[u8]) -> i32
     ensures { Called (Receives frame.now) handle.old.held.node result handle.new.held.node }
 {
-    let Some(mut held) = handle.take(alloc) else {
-        return status_of(Err(Refusal::Closed));
-    };
-    let done = held.receive(alloc, frame);
-    *handle = Handle::of(held);
-    status_of(done)
+    on_open(alloc, handle, |node| node.receive(alloc, frame))
 }
 
 /// Writes the frame of the next answer that waits, and its length; a length of 0 where none waits.
@@ -403,12 +418,11 @@ pub extern "C" fn warm_next_answer(
         handle.old.held.node result handle.new.held.node }
     ensures closed { handle.old.held.node ≡ None → (frame.new ≡ frame.old) × (len.new ≡ len.old) }
 {
-    let Some(mut held) = handle.take(alloc) else {
-        return status_of(Err(Refusal::Closed));
+    let Some(mut node) = handle.take(alloc) else {
+        return closed();
     };
-    let done = held.next_answer(alloc, frame, len);
-    *handle = Handle::of(held);
-    status_of(done)
+    let done = node.next_answer(alloc, frame, len);
+    put_back(handle, node, done)
 }
 
 /// Raises the horizon to this time, unless it is later already: forgets all stamps before it, and
@@ -424,12 +438,11 @@ pub extern "C" fn warm_horizon(
         handle.new.held.node }
     ensures closed { handle.old.held.node ≡ None → horizon.new ≡ horizon.old }
 {
-    let Some(mut held) = handle.take(alloc) else {
-        return status_of(Err(Refusal::Closed));
+    let Some(mut node) = handle.take(alloc) else {
+        return closed();
     };
-    held.raise(time, horizon);
-    *handle = Handle::of(held);
-    status_of(Ok(()))
+    *horizon = node.raise(time);
+    put_back(handle, node, Ok(()))
 }
 
 /// Writes each dirty page back to its device, and flushes the unflushed devices.
@@ -440,12 +453,7 @@ pub extern "C" fn warm_horizon(
 pub extern "C" fn warm_write_back(alloc: Global, handle: &mut Handle) -> i32
     ensures { Called WritesBack handle.old.held.node result handle.new.held.node }
 {
-    let Some(mut held) = handle.take(alloc) else {
-        return status_of(Err(Refusal::Closed));
-    };
-    let done = held.write_back();
-    *handle = Handle::of(held);
-    status_of(done)
+    on_open(alloc, handle, |node| node.write_back())
 }
 
 /// Writes how many pages the history knows.
@@ -455,12 +463,11 @@ pub extern "C" fn warm_history_length(alloc: Global, handle: &mut Handle, number
         handle.new.held.node }
     ensures closed { handle.old.held.node ≡ None → number.new ≡ number.old }
 {
-    let Some(mut held) = handle.take(alloc) else {
-        return status_of(Err(Refusal::Closed));
+    let Some(node) = handle.take(alloc) else {
+        return closed();
     };
-    held.count(number);
-    *handle = Handle::of(held);
-    status_of(Ok(()))
+    *number = node.count();
+    put_back(handle, node, Ok(()))
 }
 
 /// Writes a dump of the history to the descriptor's file, from byte 0 on, and syncs it. The handle
@@ -474,12 +481,7 @@ pub extern "C" fn warm_history_length(alloc: Global, handle: &mut Handle, number
 pub extern "C" fn warm_save(alloc: Global, handle: &mut Handle, fd: i32) -> i32
     ensures { Called Saves handle.old.held.node result handle.new.held.node }
 {
-    let Some(mut held) = handle.take(alloc) else {
-        return status_of(Err(Refusal::Closed));
-    };
-    let done = held.save(alloc, Descriptor::new(fd));
-    *handle = Handle::of(held);
-    status_of(done)
+    on_open(alloc, handle, |node| node.save(alloc, Descriptor::new(fd)))
 }
 
 /// Reads the dump that the first `length` bytes of the descriptor's file are, and joins its
@@ -494,12 +496,11 @@ pub extern "C" fn warm_save(alloc: Global, handle: &mut Handle, fd: i32) -> i32
 pub extern "C" fn warm_load(alloc: Global, handle: &mut Handle, fd: i32, length: u64) -> i32
     ensures { Called (Loads None) handle.old.held.node result handle.new.held.node }
 {
-    let Some(mut held) = handle.take(alloc) else {
-        return status_of(Err(Refusal::Closed));
-    };
-    let done = held.load(alloc, Descriptor::new(fd), length);
-    *handle = Handle::of(held);
-    status_of(done)
+    on_open(
+        alloc,
+        handle,
+        |node| node.load(alloc, Descriptor::new(fd), length),
+    )
 }
 
 /// Writes the name of a status and a zero byte after it, as many bytes of both as there is room

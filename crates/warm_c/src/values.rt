@@ -1,6 +1,6 @@
 //! What crosses to C, beside numbers, bytes and a handle.
 ghost use Rattle.std.specs.Prelude.{◌≡◌};
-ghost use Rattle.warm_c.specs.Values.{c_page, c_slot, page_if, page_of_c, slot_of_c};
+ghost use Rattle.warm_c.specs.Values.{c_page, c_slot, page_if, page_of_c, slot_of_c, IsOptionalPage};
 
 use warm_pool::Slot;
 use warm_stamps::PageId;
@@ -116,4 +116,21 @@ pub fn page_if(is_there: bool, page: WarmPage) -> Option<PageId>
     ensures { result ≡ page_if is_there page }
 {
     if is_there { Some(page.page()) } else { None }
+}
+
+/// Writes whether there is a page, as a bool of C, and which; `page` is unchanged where there is
+/// none.
+///
+/// `found` is a number here, and not a `bool`: what a caller of C never wrote may be none, and is
+/// none of what this reads.
+pub fn put_page(given: Option<PageId>, found: &mut u8, page: &mut WarmPage)
+    ensures { IsOptionalPage given page.old found.new page.new }
+{
+    match given {
+        Some(given) => {
+            *found = 1;
+            *page = WarmPage::of(given);
+        }
+        None => *found = 0,
+    }
 }
