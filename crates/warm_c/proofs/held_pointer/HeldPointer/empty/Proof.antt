@@ -5,7 +5,6 @@ use Rattle.warm_c.proofs.Walking.{lit, no_more, and_then, returns, enter, alloc_
 use Rattle.warm_c.proofs.Walking.{ptr_val, types_at, type_at, nothing, within, shape, to, alive, Stays, stay_dropped, walk_of, Goes-blank, proved_at}
 use Rattle.warm_c.proofs.Walking.{leaves, None}
 use Rattle.std.proofs.alloc.Global.TheLaws as heap_laws
-use Rattle.std.specs.contracts.alloc.Global as heap
 use Rattle.warm_c.proofs.Erased.{first, bits, word, typed, bits_typed}
 use Rattle.warm_c.specs.contracts.held_pointer.HeldPointer as pointer
 use Rattle.warm_c.specs.contracts.held_pointer.HeldPointer.empty.{ended, clauses, signature}

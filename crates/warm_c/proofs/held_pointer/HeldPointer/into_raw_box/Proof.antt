@@ -4,8 +4,6 @@ use Rattle.warm_c.proofs.Walking.{◌$◌, ◌∵◌, !, qed, by, move, keep, us
 use Rattle.warm_c.proofs.Walking.{of_opd, no_more, and_then, returns, enter, alloc_all, pass_all, free_all, look_at, get, get_in, sets, owns, Ptr}
 use Rattle.warm_c.proofs.Walking.{types_at, type_at, nothing, heard, alive, Stays, stay_dropped, walk_of, Goes-blank, Ptr-Good, proved_at, leaves}
 use Rattle.warm_c.proofs.Walking.{Option, Some, IsSome}
-use Rattle.std.proofs.alloc.Global.TheLaws as heap_laws
-use Rattle.std.specs.contracts.alloc.Global as heap
 use Rattle.warm_c.proofs.Erased.{first, word, word_of, typed, bits_typed, opens}
 use Rattle.warm_c.specs.declared.open_node.OpenNode.{OpenNode}
 use Rattle.warm_c.specs.contracts.held_pointer.HeldPointer as pointer

@@ -4,8 +4,6 @@ use Rattle.warm_c.proofs.Walking.{raw, ◌⊛◌, ◌$◌, ◌∵◌, !, qed, by
 use Rattle.warm_c.proofs.Walking.{stop, fld, of_opd, no_more, and_then, returns, enter, alloc_all, pass_all, free_all, look_at, get, get_in, sets}
 use Rattle.warm_c.proofs.Walking.{owns, Ptr, types_at, type_at, nothing, alive, Stays, stay_dropped, walk_of, Goes-blank, Ptr-Good, proved_at, leaves}
 use Rattle.warm_c.proofs.Walking.{Some}
-use Rattle.std.proofs.alloc.Global.TheLaws as heap_laws
-use Rattle.std.specs.contracts.alloc.Global as heap
 use Rattle.warm_c.proofs.Erased.{first, word, word_of, typed, bits_typed}
 use Rattle.warm_c.specs.contracts.held_pointer.HeldPointer as pointer
 use Rattle.warm_c.specs.contracts.held_pointer.HeldPointer.of_raw_box.{ended, clauses, signature}
