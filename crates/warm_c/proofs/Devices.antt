@@ -8,23 +8,23 @@ use Rattle.warm_c.specs.declared.status.Refusal.{Refusal}
 use Rattle.warm_c.specs.declared.status.Refusal.TheVariants.{Node, NewPool, Frame, Closed, AlreadyOpen, BufferTooSmall, BadReplica, BadBucket, SameFile, Late, Dump}
 use Rattle.warm_c.specs.declared.values.WarmDevice.{WarmDevice}
 use Rattle.warm_c.specs.FdParts.{fd_opened, fd_state}
-use Rattle.warm_c.specs.Handles.{AreDevices, IsClash, IsUnmade, fd_devices}
+use Rattle.warm_c.specs.Handles.{AreDevices, IsClash, DevicesRefused, fd_devices}
 
 -- devices that may be opened, each by itself, but not together
-pub clash_unmade : (page_size : ℕ) (devices : List WarmDevice) (why : Refusal) → AreDevices page_size devices → IsClash devices why → IsUnmade page_size devices why
-clash_unmade page_size devices (Node Memory) are clash = tt
-clash_unmade page_size devices (Node (Pool _)) are clash = absurd clash
-clash_unmade page_size devices (Node StaleSlot) are clash = absurd clash
-clash_unmade page_size devices (NewPool _) are clash = absurd clash
-clash_unmade page_size devices (Frame _) are clash = absurd clash
-clash_unmade page_size devices Closed are clash = absurd clash
-clash_unmade page_size devices AlreadyOpen are clash = absurd clash
-clash_unmade page_size devices BufferTooSmall are clash = absurd clash
-clash_unmade page_size devices BadReplica are clash = absurd clash
-clash_unmade page_size devices BadBucket are clash = absurd clash
-clash_unmade page_size devices SameFile are clash = (are, clash)
-clash_unmade page_size devices (Late _) are clash = absurd clash
-clash_unmade page_size devices (Dump _) are clash = absurd clash
+pub clash_refuses : (page_size : ℕ) (devices : List WarmDevice) (why : Refusal) → AreDevices page_size devices → IsClash devices why → DevicesRefused page_size devices why
+clash_refuses page_size devices (Node Memory) are clash = tt
+clash_refuses page_size devices (Node (Pool _)) are clash = absurd clash
+clash_refuses page_size devices (Node StaleSlot) are clash = absurd clash
+clash_refuses page_size devices (NewPool _) are clash = absurd clash
+clash_refuses page_size devices (Frame _) are clash = absurd clash
+clash_refuses page_size devices Closed are clash = absurd clash
+clash_refuses page_size devices AlreadyOpen are clash = absurd clash
+clash_refuses page_size devices BufferTooSmall are clash = absurd clash
+clash_refuses page_size devices BadReplica are clash = absurd clash
+clash_refuses page_size devices BadBucket are clash = absurd clash
+clash_refuses page_size devices SameFile are clash = (are, clash)
+clash_refuses page_size devices (Late _) are clash = absurd clash
+clash_refuses page_size devices (Dump _) are clash = absurd clash
 
 -- what holds of the first i devices, and of the next one, holds of the first i + 1
 pub contains_next : (ds : List WarmDevice) (i : ℕ) (x : WarmDevice) (P : WarmDevice → Type 0) → i < length ds → ((d : WarmDevice) → Contains (take i ds) d → P d)

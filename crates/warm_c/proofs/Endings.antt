@@ -1,20 +1,20 @@
 -- Calls of handles, from what happens to what they hold.
 use Rattle.std.proofs.Common.{◌≡◌, Option, Some, None, sym, subst}
 use Rattle.std.specs.Prelude.{ℤ, pos}
-use Rattle.warm_c.specs.declared.held.Held.{Held}
+use Rattle.warm_c.specs.declared.open_node.OpenNode.{OpenNode}
 use Rattle.warm_c.specs.declared.status.Refusal.{Refusal}
 use Rattle.warm_c.specs.Statuses.{code_of, status_of}
 use Rattle.warm_c.specs.Calls.{Ending}
-use Rattle.warm_c.specs.Handles.{OpenRequest, Called, IsUnopened, Opens}
+use Rattle.warm_c.specs.Handles.{OpenRequest, Called, OpenRefused, Opens}
 
 -- an open handle, which holds something before and after
-pub called : (goes : Held → Ending → Held → Type 0) (before after : Option Held) (status : ℤ) (old new : Held) (ending : Ending)
+pub called : (goes : OpenNode → Ending → OpenNode → Type 0) (before after : Option OpenNode) (status : ℤ) (old new : OpenNode) (ending : Ending)
     → before ≡ Some old → after ≡ Some new → goes old ending new → status ≡ status_of ending → Called goes before status after
 called goes before after status old new ending was is went said =
-    subst (λ (o : Option Held). Called goes o status after) (sym was) (subst (λ (o : Option Held). Called goes (Some old) status o) (sym is) (ending, went, said))
+    subst (λ (o : Option OpenNode). Called goes o status after) (sym was) (subst (λ (o : Option OpenNode). Called goes (Some old) status o) (sym is) (ending, went, said))
 
 -- a closed one of which none was made
-pub unopened : (a : OpenRequest) (before after : Option Held) (status : ℤ) (why : Refusal)
-    → before ≡ None → after ≡ None → status ≡ pos (code_of why) → IsUnopened a why → Opens a before status after
-unopened a before after status why was is said for =
-    subst (λ (o : Option Held). Opens a o status after) (sym was) (subst (λ (o : Option Held). Opens a None status o) (sym is) (why, said, for))
+pub open_refused : (a : OpenRequest) (before after : Option OpenNode) (status : ℤ) (why : Refusal)
+    → before ≡ None → after ≡ None → status ≡ pos (code_of why) → OpenRefused a why → Opens a before status after
+open_refused a before after status why was is said for =
+    subst (λ (o : Option OpenNode). Opens a o status after) (sym was) (subst (λ (o : Option OpenNode). Opens a None status o) (sym is) (why, said, for))

@@ -1,4 +1,5 @@
--- A `Loose` as a machine value: a pointer with the bits of an allocator after it. Walks open one, and close one.
+-- A `RawBox` as a machine value: a pointer with the bits of an allocator after it. Walks open one,
+-- and close one.
 use Rattle.std.proofs.Common.{◌≡◌, ℕ, List, [], ◌∷◌, ◌++◌, refl, ap, ◌∙◌}
 use mathlib.Core.Bool.{true, ◌&&◌}
 use lib.Dec.{T}
@@ -23,7 +24,7 @@ use Rattle.core.proofs.alloc.Calls.{Al, handle_tells}
 use Rattle.core.proofs.cell.Inside.{Good}
 use Rattle.std_alloc.specs.Box.Ownership.{box_owns}
 use Rattle.std_alloc.proofs.ResultValues.{and_tt}
-use Rattle.warm_c.specs.contracts.loose.Loose as loose
+use Rattle.warm_c.specs.contracts.raw_box.RawBox as raw_box
 
 -- a struct of two values
 abbrev pub pair : Val → Val → Val
@@ -41,7 +42,7 @@ pointer_is whole first second p b o w made one into other = pair_is whole first 
 module _ (X A : RattleType) (laws : Laws A) (ghosts : Ghosts A.Denot) where
   -- a box of X by A, taken apart
   abbrev pub Apart : RattleType
-  Apart = loose.the_row X A ghosts
+  Apart = raw_box.the_row X A ghosts
 
   abbrev handler : Al
   handler = record { row = A; laws = laws; g = ghosts; d = impl [] tnil dnil; drops = impl [] tnil dnil }
@@ -50,7 +51,8 @@ module _ (X A : RattleType) (laws : Laws A) (ghosts : Ghosts A.Denot) where
   pair_typed b o w good = (and_tt (has_ty (layout A) w) good.0, (tt, (good.1, tt)))
 
   module _ {M : Type 1} {𝓤 : Ura M} {𝓛 : Logic 𝓤} {K : Type 0} {Γ : List (Item 𝓤)} {G : Goal 𝓤 𝓛.H} where
-    -- opens one: its pointer points into a block, which is owned with the value there, and beside it is the allocator
+    -- opens one: its pointer points into a block, which is owned with the value there, and beside
+    -- it is the allocator
     pub opened : K → (l : Apart.Denot) (vs : List Val)
         → ((b o : ℕ) (w : Val) → l.pointer ≡ block_ptr b o → vs ≡ pair (vptr b o) w ∷ [] → Good (layout A) w
         → Seq K 𝓛 (‵ (box_owns (ghosts.dealloc_token l.allocator) X (block_ptr b o) l.content) ∷ ‵ (A.own_val l.allocator (w ∷ [])) ∷ Γ) G)
@@ -69,4 +71,4 @@ module _ (X A : RattleType) (laws : Laws A) (ghosts : Ghosts A.Denot) where
     closed t b o w a x = step (λ rest.
         let whole : List Val = pair (vptr b o) w ∷ [] in let first : List Val = vptr b o ∷ [] in
         nothing t $ move t (2 ∷ 0 ∷ []) $ fjoin t $ feq_i t (List Val) first first refl $ fjoin t $ feq_i t (List Val) whole whole refl $ fjoin t $
-        fpack t (Valss (RawPtr ∷ A ∷ [])) (within (shape (loose.the_type X A ghosts)) (block_ptr b o, (a, tt)) whole) (first, (w ∷ [], tt)) $ fjoin t $ rest)
+        fpack t (Valss (RawPtr ∷ A ∷ [])) (within (shape (raw_box.the_type X A ghosts)) (block_ptr b o, (a, tt)) whole) (first, (w ∷ [], tt)) $ fjoin t $ rest)

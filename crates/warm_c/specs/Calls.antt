@@ -20,7 +20,7 @@ use Rattle.warm_gossip.specs.declared.call.Reply.TheVariants.{Done, Sent, Answer
 use Rattle.warm_gossip.specs.declared.fault.NodeFault.{NodeFault}
 use Rattle.warm_gossip.specs.declared.fault.NodeFault.TheVariants.{Memory}
 use Rattle.warm_gossip.specs.Clauses.{Goes, Joins, SameView, NodeWriteBackFails}
-use Rattle.warm_c.specs.declared.held.Held.{Held}
+use Rattle.warm_c.specs.declared.open_node.OpenNode.{OpenNode}
 use Rattle.warm_c.specs.declared.status.Refusal.{Refusal}
 use Rattle.warm_c.specs.declared.status.Refusal.TheVariants.{Node, Frame, Late, BufferTooSmall, BadReplica, BadBucket, Dump}
 use Rattle.warm_c.specs.declared.values.PinnedSlot.{PinnedSlot}
@@ -34,17 +34,17 @@ abbrev pub Ending : Type 0
 Ending = Result (Unit {0}) Refusal
 
 -- what is held beside the node is as it was: the answers that wait, and the limit of times
-pub record SameBeside (old new : Held) : Type 0 where
+pub record SameBeside (old new : OpenNode) : Type 0 where
   pub answers : new.answers ≡ old.answers
   pub given : new.given ≡ old.given
   pub limit : new.limit ≡ old.limit
 
 -- The node has answered this call so, and what is held beside it is as it was.
-abbrev pub Replies : Call → Held → Reply → Held → Type 0
+abbrev pub Replies : Call → OpenNode → Reply → OpenNode → Type 0
 Replies call old reply new = Goes old.node call reply new.node × SameBeside old new
 
 -- the node refuses the call for this reason
-abbrev pub RefusedByNode : Call → Held → Refusal → Held → Type 0
+abbrev pub RefusedByNode : Call → OpenNode → Refusal → OpenNode → Type 0
 RefusedByNode call old (Node why) new = Replies call old (Refused why) new
 RefusedByNode call old why new = ⊥
 
@@ -60,86 +60,90 @@ BatchRefused batch (Node Memory) = Unit {0}
 BatchRefused batch BadReplica = HasBadReplica batch
 BatchRefused batch why = ⊥
 
-abbrev pub Absorbs : List WarmReference → Held → Ending → Held → Type 0
+abbrev pub Absorbs : List WarmReference → OpenNode → Ending → OpenNode → Type 0
 Absorbs batch old (Ok given) new = Replies (Absorb (map reference_of batch)) old Done new
 Absorbs batch old (Err BadReplica) new = HasBadReplica batch × (new ≡ old)
 Absorbs batch old (Err why) new = RefusedByNode (Absorb (map reference_of batch)) old why new
 
 -- the horizon that is written is the one that the node then has
-abbrev pub Raises : ℕ → ℕ → Held → Held → Type 0
+abbrev pub Raises : ℕ → ℕ → OpenNode → OpenNode → Type 0
 Raises time horizon old new = Replies (Horizon time) old (Kept horizon) new
 
 -- the hottest pages stand at the start of the buffer, and their number is given
-abbrev pub Lists : List WarmPage → ℕ → List WarmPage → ℕ → Held → Ending → Held → Type 0
+abbrev pub Lists : List WarmPage → ℕ → List WarmPage → ℕ → OpenNode → Ending → OpenNode → Type 0
 Lists before count after number old (Ok given) new =
     (pages : List PageId) × Replies (WarmList (length before)) old (Pages pages) new × (after ≡ with_start (map c_page pages) before) × (number ≡ length pages)
 Lists before count after number old (Err why) new = RefusedByNode (WarmList (length before)) old why new × (after ≡ before) × (number ≡ count)
 
 -- how many pages the history knows
-abbrev pub CountsPages : ℕ → Held → Held → Type 0
+abbrev pub CountsPages : ℕ → OpenNode → OpenNode → Type 0
 CountsPages number old new = (number ≡ length (entries_of old.node.history)) × (new ≡ old)
 
 -- The pool
 
-abbrev pub Pins : WarmPage → PinnedSlot → PinnedSlot → Held → Ending → Held → Type 0
+abbrev pub Pins : WarmPage → PinnedSlot → PinnedSlot → OpenNode → Ending → OpenNode → Type 0
 Pins page before after old (Ok given) new = Replies (Pin (page_of_c page)) old (Pinned (pinned_slot after)) new
 Pins page before after old (Err why) new = RefusedByNode (Pin (page_of_c page)) old why new × (after ≡ before)
 
-abbrev pub Unpins : WarmSlot → Held → Ending → Held → Type 0
+abbrev pub Unpins : WarmSlot → OpenNode → Ending → OpenNode → Type 0
 Unpins slot old (Ok given) new = Replies (Unpin (slot_of_c slot)) old Done new
 Unpins slot old (Err why) new = RefusedByNode (Unpin (slot_of_c slot)) old why new
 
 -- as many bytes as the buffer has room for; never refused for memory
-abbrev pub ReadsPage : WarmSlot → ℕ → List ℕ → List ℕ → Held → Ending → Held → Type 0
+abbrev pub ReadsPage : WarmSlot → ℕ → List ℕ → List ℕ → OpenNode → Ending → OpenNode → Type 0
 ReadsPage slot at before after old (Ok given) new = Replies (Read (slot_of_c slot) at (length before)) old (Bytes after) new
 ReadsPage slot at before after old (Err (Node Memory)) new = ⊥
 ReadsPage slot at before after old (Err why) new = RefusedByNode (Read (slot_of_c slot) at (length before)) old why new × (after ≡ before)
 
-abbrev pub Writes : WarmSlot → ℕ → List ℕ → Held → Ending → Held → Type 0
+abbrev pub Writes : WarmSlot → ℕ → List ℕ → OpenNode → Ending → OpenNode → Type 0
 Writes slot at bytes old (Ok given) new = Replies (Write (slot_of_c slot) at bytes) old Done new
 Writes slot at bytes old (Err why) new = RefusedByNode (Write (slot_of_c slot) at bytes) old why new
 
-abbrev pub Names : WarmPage → ℕ → WarmPage → Held → Held → Type 0
+abbrev pub Names : WarmPage → ℕ → WarmPage → OpenNode → OpenNode → Type 0
 Names before found page old new = (named : Option PageId) × Replies Victim old (Page named) new × IsOptionalPage named before found page
 
-abbrev pub StepsWarmUp : ℕ → WarmPage → ℕ → WarmPage → Held → Ending → Held → Type 0
+abbrev pub StepsWarmUp : ℕ → WarmPage → ℕ → WarmPage → OpenNode → Ending → OpenNode → Type 0
 StepsWarmUp found page found' page' old (Ok given) new = (loaded : Option PageId) × Replies WarmStep old (Loaded loaded) new × IsOptionalPage loaded page found' page'
 StepsWarmUp found page found' page' old (Err why) new = RefusedByNode WarmStep old why new × (found' ≡ found) × (page' ≡ page)
 
-abbrev pub WritesBack : Held → Ending → Held → Type 0
+abbrev pub WritesBack : OpenNode → Ending → OpenNode → Type 0
 WritesBack old (Ok given) new = SameView old.node new.node × IsSettled new.node.pool × SameBeside old new
 WritesBack old (Err (Node why)) new = NodeWriteBackFails old.node why new.node × SameBeside old new
 WritesBack old (Err why) new = ⊥
 
 -- Frames
 
--- the frame of a message stands at the start of the buffer, and its length is given; the length is given too where it does not fit
+-- the frame of a message stands at the start of the buffer, and its length is written; the length
+-- is written too where it does not fit
 abbrev pub PutsFrame : Message → List ℕ → ℕ → List ℕ → ℕ → Ending → Type 0
 PutsFrame message before len after len' (Ok given) = (after ≡ with_start (encoding message) before) × (len' ≡ length (encoding message))
 PutsFrame message before len after len' (Err BufferTooSmall) = (length before < length (encoding message)) × (after ≡ before) × (len' ≡ length (encoding message))
 PutsFrame message before len after len' (Err (Node Memory)) = (after ≡ before) × (len' ≡ len)
 PutsFrame message before len after len' (Err why) = ⊥
 
--- the node has given a message, whose frame is put into the buffer; or it refuses, and the buffer is as it was
-abbrev pub Sends : Call → List ℕ → ℕ → List ℕ → ℕ → Held → Ending → Held → Type 0
+-- the node has given a message, whose frame is put into the buffer; or it refuses, and the buffer
+-- is as it was
+abbrev pub Sends : Call → List ℕ → ℕ → List ℕ → ℕ → OpenNode → Ending → OpenNode → Type 0
 Sends call before len after len' old ending new =
     ((message : Message) × Replies call old (Sent message) new × PutsFrame message before len after len' ending)
     ⊎ ((why : NodeFault) × (ending ≡ Err (Node why)) × Replies call old (Refused why) new × (after ≡ before) × (len' ≡ len))
 
 -- the number is no bucket's, and nothing has changed; or the same of that bucket
-abbrev pub SendsFromBucket : ℕ → Option PageId → List ℕ → ℕ → List ℕ → ℕ → Held → Ending → Held → Type 0
+abbrev pub SendsFromBucket : ℕ → Option PageId → List ℕ → ℕ → List ℕ → ℕ → OpenNode → Ending → OpenNode → Type 0
 SendsFromBucket bucket page before len after len' old ending new =
     ((IsBucket bucket → ⊥) × (ending ≡ Err BadBucket) × (after ≡ before) × (len' ≡ len) × (new ≡ old))
     ⊎ Sends (Send bucket page) before len after len' old ending new
 
--- why a message is refused that speaks of a time later than the limit: its horizon is later, or else a stamp of an entry is
+-- why a message is refused that speaks of a time later than the limit: its horizon is later, or
+-- else a stamp of an entry is
 abbrev pub IsLate : ℕ → Message → TimeFault → Type 0
 IsLate limit message LateHorizon = limit < horizon_in message
 IsLate limit message LateStamp = (horizon_in message ≤ limit) × (StampsBy limit (entries_in message) → ⊥)
 
--- The bytes spell a frame that speaks of no time later than the limit, which the node has received: its answers wait, and none is given yet.
--- Or it refuses the frame; or the frame speaks of a later time, or the bytes spell none, and nothing has changed.
-abbrev pub Receives : List ℕ → Held → Ending → Held → Type 0
+-- The bytes are a frame that speaks of no time later than the limit, which the node has received:
+-- its answers wait, and none is given yet. Or it refuses the frame; or the frame speaks of a later
+-- time, or the bytes are no frame, and nothing has changed.
+abbrev pub Receives : List ℕ → OpenNode → Ending → OpenNode → Type 0
 Receives bytes old (Ok given) new =
     (message : Message) × Encodes bytes message × SpeaksBy old.limit message
     × Goes old.node (Receive message) (Answers new.answers) new.node × (new.given ≡ 0) × (new.limit ≡ old.limit)
@@ -149,41 +153,43 @@ Receives bytes old (Err (Frame fault)) new = GivesReading (Err fault) (read_fram
 Receives bytes old (Err why) new = ⊥
 
 -- the limit of times is this one from then on, and nothing else has changed
-abbrev pub Limits : ℕ → Held → Held → Type 0
+abbrev pub Limits : ℕ → OpenNode → OpenNode → Type 0
 Limits time old new = new ≡ record old { limit = time }
 
 -- the answer that comes next, if one waits
-abbrev pub next_answer : Held → Option Message
+abbrev pub next_answer : OpenNode → Option Message
 next_answer h = slice_get h.answers h.given
 
 -- one more answer was given, where this ended well
-abbrev pub after_answer : Held → Ending → Held
+abbrev pub after_answer : OpenNode → Ending → OpenNode
 after_answer h (Ok given) = record h { given = h.given + 1 }
 after_answer h (Err why) = h
 
--- the frame of the next answer is put into the buffer, and it waits no more where it fitted; a length of 0 where none waits
-abbrev pub PutsNext : Option Message → List ℕ → ℕ → List ℕ → ℕ → Held → Ending → Held → Type 0
+-- the frame of the next answer is put into the buffer, and it waits no more where it fitted; a
+-- length of 0 where none waits
+abbrev pub PutsNext : Option Message → List ℕ → ℕ → List ℕ → ℕ → OpenNode → Ending → OpenNode → Type 0
 PutsNext None before len after len' old ending new = (ending ≡ Ok tt) × (after ≡ before) × (len' ≡ 0) × (new ≡ old)
 PutsNext (Some message) before len after len' old ending new = PutsFrame message before len after len' ending × (new ≡ after_answer old ending)
 
-abbrev pub GivesNext : List ℕ → ℕ → List ℕ → ℕ → Held → Ending → Held → Type 0
+abbrev pub GivesNext : List ℕ → ℕ → List ℕ → ℕ → OpenNode → Ending → OpenNode → Type 0
 GivesNext before len after len' old ending new = PutsNext (next_answer old) before len after len' old ending new
 
 -- Dumps
 
 -- Why a dump is not written: an allocation failed, or the writer did.
-abbrev pub IsUnsaved : Refusal → Type 0
-IsUnsaved (Dump why) = StopsWriting why
-IsUnsaved why = ⊥
+abbrev pub SaveRefused : Refusal → Type 0
+SaveRefused (Dump why) = StopsWriting why
+SaveRefused why = ⊥
 
 -- What the handle holds is as it was. Of what a file then holds nothing can be said.
-abbrev pub Saves : Held → Ending → Held → Type 0
+abbrev pub Saves : OpenNode → Ending → OpenNode → Type 0
 Saves old (Ok given) new = new ≡ old
-Saves old (Err why) new = IsUnsaved why × (new ≡ old)
+Saves old (Err why) new = SaveRefused why × (new ≡ old)
 
--- The node has joined a history, of which the bytes are a dump, where they are known. Or they show why they are none, or were not read, and
--- nothing has changed; or an allocation for the join failed, and nothing has changed that a caller sees.
-abbrev pub Loads : Option (List ℕ) → Held → Ending → Held → Type 0
+-- The node has joined a history, of which the bytes are a dump, where they are known. Or they show
+-- why they are none, or were not read, and nothing has changed; or an allocation for the join
+-- failed, and nothing has changed that a caller sees.
+abbrev pub Loads : Option (List ℕ) → OpenNode → Ending → OpenNode → Type 0
 Loads bytes old (Ok given) new = ((h : HistoryView) × IsHistory h × IfSome bytes (λ text. IsDump text h) × Joins old.node h new.node) × SameBeside old new
 Loads bytes old (Err (Node Memory)) new = SameView old.node new.node × SameBeside old new
 Loads bytes old (Err (Dump why)) new = ((at : ℕ) × IfSome bytes (λ text. IsDumpRefused text at why)) × (new ≡ old)

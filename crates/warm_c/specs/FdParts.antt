@@ -4,8 +4,8 @@ use Rattle.warm_devices.specs.Device.{DeviceState}
 use Rattle.warm_c.specs.declared.device_file.DeviceFile.{DeviceFile}
 use Rattle.warm_c.specs.declared.fd_device.FdDevice.{FdDevice}
 
--- The number of a descriptor, in the place of contents. A device that is not honest claims nothing of these: here they say over which
--- descriptor it is, which no call changes.
+-- The number of a descriptor, in the place of contents. A device that is not honest claims nothing
+-- of these: here they say over which descriptor it is, which no call changes.
 abbrev pub descriptor_shown : ℤ → List (List ℕ)
 descriptor_shown (pos n) = (n ∷ []) ∷ []
 descriptor_shown (negsuc n) = (n ∷ 0 ∷ []) ∷ []
@@ -29,7 +29,8 @@ fd_state f = fd_device f.file.descriptor.fd f.pages f.page_size f.waiting f.fail
 abbrev pub fd_opened : ℤ → ℕ → ℕ → DeviceState
 fd_opened fd pages page_size = fd_device fd pages page_size false 0
 
--- A flush fails where one has failed before, and one that fails is remembered. The system may report a lost write once, and then no more.
+-- A flush fails where one has failed before, and one that fails is remembered. The system may
+-- report a lost write once, and then no more.
 pub record Remembers (old : DeviceFile) (flushed : Bool) (new : DeviceFile) : Type 0 where
   pub fails : IsTrue old.flush_failed → flushed ≡ false
   pub keeps : flushed ≡ false → IsTrue new.flush_failed

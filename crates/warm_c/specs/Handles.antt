@@ -5,11 +5,11 @@ use Rattle.warm_stamps.specs.Replicas.{IsReplica}
 use Rattle.warm_devices.specs.Device.{DeviceState}
 use Rattle.warm_pool.specs.declared.TheConstants.{MAX_DEVICES}
 use Rattle.warm_pool.specs.declared.fault.PoolFault.TheVariants.{NoDevice}
-use Rattle.warm_pool.specs.State as pools
+use Rattle.warm_pool.specs.State.{fresh_pool}
 use Rattle.warm_pool.specs.Opening.{NewPoolRefused}
 use Rattle.warm_gossip.specs.declared.fault.NodeFault.TheVariants.{Memory, Pool}
-use Rattle.warm_gossip.specs.State as nodes
-use Rattle.warm_c.specs.declared.held.Held.{Held}
+use Rattle.warm_gossip.specs.State.{opened_node}
+use Rattle.warm_c.specs.declared.open_node.OpenNode.{OpenNode}
 use Rattle.warm_c.specs.declared.status.Refusal.{Refusal}
 use Rattle.warm_c.specs.declared.status.Refusal.TheVariants.{Node, NewPool, Closed, AlreadyOpen, BadReplica, SameFile}
 use Rattle.warm_c.specs.declared.values.WarmDevice.{WarmDevice}
@@ -17,14 +17,15 @@ use Rattle.warm_c.specs.FdParts.{fd_opened}
 use Rattle.warm_c.specs.Statuses.{code_of, status_of}
 use Rattle.warm_c.specs.Calls.{Ending}
 
--- A closed handle says that it is closed, and stays so. An open one stays open; what it holds goes so, and the status is that of the ending.
-abbrev pub Called : (Held → Ending → Held → Type 0) → Option Held → ℤ → Option Held → Type 0
+-- A closed handle says that it is closed, and stays so. An open one stays open; its node goes so,
+-- and the status is that of the ending.
+abbrev pub Called : (OpenNode → Ending → OpenNode → Type 0) → Option OpenNode → ℤ → Option OpenNode → Type 0
 Called goes None status new = (status ≡ pos (code_of Closed)) × (new ≡ None)
 Called goes (Some old) status (Some new) = (ending : Ending) × goes old ending new × (status ≡ status_of ending)
 Called goes (Some old) status None = ⊥
 
 -- a call that an open handle does not refuse
-abbrev pub Surely : (Held → Held → Type 0) → Held → Ending → Held → Type 0
+abbrev pub Surely : (OpenNode → OpenNode → Type 0) → OpenNode → Ending → OpenNode → Type 0
 Surely goes old (Ok given) new = goes old new
 Surely goes old (Err why) new = ⊥
 
@@ -44,7 +45,8 @@ open_request replica frames page_size devices = record { replica = replica; fram
 abbrev pub fd_devices : ℕ → List WarmDevice → List DeviceState
 fd_devices page_size devices = map (λ d. fd_opened d.fd d.pages page_size) devices
 
--- there are no more devices than a pool takes, and their pages fit into what a file's offsets can name
+-- there are no more devices than a pool takes, and their pages fit into what a file's offsets can
+-- name
 pub record AreDevices (page_size : ℕ) (devices : List WarmDevice) : Type 0 where
   pub few : length devices ≤ MAX_DEVICES
   pub fit : (d : WarmDevice) → Contains devices d → d.pages * page_size < 2 ^ 63
@@ -57,8 +59,8 @@ AllDiffer items = AllPairs (λ x y. x ≢ y) items
 abbrev pub DescriptorsDiffer : List WarmDevice → Type 0
 DescriptorsDiffer devices = AllDiffer (map (λ d. d.fd) devices)
 
--- Two devices are of one file: they have one descriptor, or the system gave identities of the files of some devices, and two are equal.
--- Which identities it gives is nothing that a contract can say.
+-- Two devices are of one file: they have one descriptor, or the system gave identities of the files
+-- of some devices, and two are equal. Which identities it gives is nothing that a contract can say.
 abbrev pub HaveOneFile : List WarmDevice → Type 0
 HaveOneFile devices = (DescriptorsDiffer devices → ⊥) ⊎ ((files : List ℕ) × (length files ≤ length devices) × (AllDiffer files → ⊥))
 
@@ -68,38 +70,40 @@ IsClash devices (Node Memory) = Unit {0}
 IsClash devices SameFile = HaveOneFile devices
 IsClash devices why = ⊥
 
--- what an open handle was opened with
-pub record IsAsked (a : OpenRequest) : Type 0 where
+-- a request that may be granted: the replica's number is one, and the devices may be opened
+pub record MayOpen (a : OpenRequest) : Type 0 where
   pub replica : IsReplica a.replica
   pub devices : AreDevices a.page_size a.devices
   pub apart : DescriptorsDiffer a.devices
 
--- a node that was given nothing, over a pool without a page; no answer waits, and no time is later than the limit
-abbrev pub opened_handle : OpenRequest → Held
+-- a node with an empty history, over a pool without a page; no answer waits, and no time is later
+-- than the limit
+abbrev pub opened_handle : OpenRequest → OpenNode
 opened_handle a = record {
-  node = nodes.opened_node a.replica (pools.fresh_pool a.frames a.page_size (fd_devices a.page_size a.devices));
+  node = opened_node a.replica (fresh_pool a.frames a.page_size (fd_devices a.page_size a.devices));
   answers = [];
   given = 0;
   limit = 2 ^ 64 - 1;
 }
 
 -- why no devices are made: where both hold, `NoDevice`
-abbrev pub IsUnmade : ℕ → List WarmDevice → Refusal → Type 0
-IsUnmade page_size devices (Node Memory) = Unit {0}
-IsUnmade page_size devices (Node (Pool NoDevice)) = AreDevices page_size devices → ⊥
-IsUnmade page_size devices SameFile = AreDevices page_size devices × HaveOneFile devices
-IsUnmade page_size devices why = ⊥
+abbrev pub DevicesRefused : ℕ → List WarmDevice → Refusal → Type 0
+DevicesRefused page_size devices (Node Memory) = Unit {0}
+DevicesRefused page_size devices (Node (Pool NoDevice)) = AreDevices page_size devices → ⊥
+DevicesRefused page_size devices SameFile = AreDevices page_size devices × HaveOneFile devices
+DevicesRefused page_size devices why = ⊥
 
--- Why no node is made: the first that holds of `BadReplica`, why no devices are made, and why no pool is. An allocation may fail at any
--- point.
-abbrev pub IsUnopened : OpenRequest → Refusal → Type 0
-IsUnopened a (Node Memory) = Unit {0}
-IsUnopened a BadReplica = IsReplica a.replica → ⊥
-IsUnopened a (NewPool fault) = IsAsked a × NewPoolRefused a.frames a.page_size (fd_devices a.page_size a.devices) fault
-IsUnopened a why = IsReplica a.replica × IsUnmade a.page_size a.devices why
+-- Why no node is made: the first that holds of `BadReplica`, why no devices are made, and why no
+-- pool is. An allocation may fail at any point.
+abbrev pub OpenRefused : OpenRequest → Refusal → Type 0
+OpenRefused a (Node Memory) = Unit {0}
+OpenRefused a BadReplica = IsReplica a.replica → ⊥
+OpenRefused a (NewPool fault) = MayOpen a × NewPoolRefused a.frames a.page_size (fd_devices a.page_size a.devices) fault
+OpenRefused a why = IsReplica a.replica × DevicesRefused a.page_size a.devices why
 
--- An open handle says that it is open, and is as it was. A closed one is then open and holds such a node, or stays closed.
-abbrev pub Opens : OpenRequest → Option Held → ℤ → Option Held → Type 0
+-- An open handle says that it is open, and is as it was. A closed one is then open and holds such a
+-- node, or stays closed.
+abbrev pub Opens : OpenRequest → Option OpenNode → ℤ → Option OpenNode → Type 0
 Opens a (Some old) status new = (status ≡ pos (code_of AlreadyOpen)) × (new ≡ Some old)
-Opens a None status (Some held) = (status ≡ pos 0) × (held ≡ opened_handle a) × IsAsked a
-Opens a None status None = (why : Refusal) × (status ≡ pos (code_of why)) × IsUnopened a why
+Opens a None status (Some held) = (status ≡ pos 0) × (held ≡ opened_handle a) × MayOpen a
+Opens a None status None = (why : Refusal) × (status ≡ pos (code_of why)) × OpenRefused a why

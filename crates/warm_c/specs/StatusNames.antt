@@ -1,46 +1,39 @@
 -- The names of statuses.
-use Rattle.std.specs.Prelude.{◌≡◌, ℕ, ℤ, pos, negsuc, List, codes, if◌then◌else◌, ◌==◌, nat_lt}
+use Rattle.std.specs.Prelude.{◌≡◌, ℕ, ℤ, pos, negsuc, List, [], ◌∷◌, codes, if◌then◌else◌, ◌==◌}
 use Rattle.warm_files.specs.declared.fault.DumpFault.TheVariants as dump
 use Rattle.warm_frames.specs.declared.fault.FrameFault.TheVariants as frame
+use Rattle.warm_frames.specs.declared.limit.TimeFault.TheVariants as time
+use Rattle.warm_gossip.specs.declared.fault.NodeFault.TheVariants as node
+use Rattle.warm_pool.specs.declared.fault.NewPoolFault.TheVariants as new
+use Rattle.warm_pool.specs.declared.fault.PoolFault.TheVariants as pool
 use Rattle.warm_c.specs.declared.status.Refusal.{Refusal}
-use Rattle.warm_c.specs.declared.status.Refusal.TheVariants.{Frame, Dump}
+use Rattle.warm_c.specs.declared.status.Refusal.TheVariants.{Node, NewPool, Frame, Closed, AlreadyOpen, BufferTooSmall, BadReplica, BadBucket, SameFile, Late, Dump}
 use Rattle.warm_c.specs.Statuses.{code_of, name_of}
 
-abbrev pub pool_name_at : ℕ → List ℕ
-pool_name_at n =
-    if n == 0 then codes "Ok" else (if n == 1 then codes "Memory" else (if n == 2 then codes "BadFrames" else (
-    if n == 3 then codes "SizeDiffers" else (if n == 4 then codes "NoDevice" else (if n == 5 then codes "NoPage" else (
-    if n == 6 then codes "AllFixed" else (if n == 7 then codes "ReadFault" else (if n == 8 then codes "WriteBack" else (
-    if n == 9 then codes "FixesFull" else (if n == 10 then codes "OutOfPage" else (if n == 11 then codes "Fixed" else (
-    if n == 12 then codes "Fault" else (if n == 13 then codes "StaleSlot" else codes "Unknown")))))))))))))
+-- the name of the first of these refusals that has this number
+abbrev pub name_in : List Refusal → ℕ → List ℕ
+name_in [] n = codes "Unknown"
+name_in (why ∷ rest) n = if code_of why == n then name_of why else name_in rest n
 
-abbrev pub frame_name_at : ℕ → List ℕ
-frame_name_at n =
-    if n == 34 then codes "Truncated" else (if n == 35 then codes "BadMagic" else (if n == 36 then codes "BadKind" else (
-    if n == 37 then codes "BadSender" else (if n == 38 then codes "BadLength" else (if n == 39 then codes "BadCount" else (
-    if n == 40 then codes "BadTag" else (if n == 41 then codes "BadStamp" else (if n == 42 then codes "BadOrder" else codes "Unknown"))))))))
-
-abbrev pub dump_name_at : ℕ → List ℕ
-dump_name_at n =
-    if n == 77 then codes "CutShort" else (if n == 78 then codes "DigestsDiffer" else (if n == 79 then codes "HorizonsDiffer" else (
-    if n == 80 then codes "MoreFollows" else (if n == 81 then codes "ReadFault" else (if n == 82 then codes "WriteFault" else codes "Unknown")))))
-
-abbrev pub library_name_at : ℕ → List ℕ
-library_name_at n =
-    if n == 64 then codes "Closed" else (if n == 65 then codes "AlreadyOpen" else (if n == 66 then codes "BufferTooSmall" else (
-    if n == 67 then codes "BadReplica" else (if n == 68 then codes "BadBucket" else (if n == 69 then codes "SameFile" else (
-    if n == 70 then codes "LateHorizon" else (if n == 71 then codes "LateStamp" else dump_name_at n)))))))
-
--- the name of the status with this number
-abbrev pub name_at : ℕ → List ℕ
-name_at n = if nat_lt n 34 then pool_name_at n else (if nat_lt n 64 then frame_name_at n else library_name_at n)
+-- One refusal of each number. Names and numbers are those of the faults themselves (`code_of`,
+-- `name_of`).
+abbrev pub refusals : List Refusal
+refusals =
+    Node node.Memory ∷ NewPool new.BadFrames ∷ NewPool new.SizeDiffers
+    ∷ Node (node.Pool pool.NoDevice) ∷ Node (node.Pool pool.NoPage) ∷ Node (node.Pool pool.AllFixed) ∷ Node (node.Pool pool.ReadFault) ∷ Node (node.Pool pool.WriteBack)
+    ∷ Node (node.Pool pool.FixesFull) ∷ Node (node.Pool pool.OutOfPage) ∷ Node (node.Pool pool.Fixed) ∷ Node (node.Pool pool.Fault) ∷ Node node.StaleSlot
+    ∷ Frame frame.Truncated ∷ Frame frame.BadMagic ∷ Frame frame.BadKind ∷ Frame frame.BadSender ∷ Frame frame.BadLength ∷ Frame frame.BadCount ∷ Frame frame.BadTag
+    ∷ Frame frame.BadStamp ∷ Frame frame.BadOrder
+    ∷ Closed ∷ AlreadyOpen ∷ BufferTooSmall ∷ BadReplica ∷ BadBucket ∷ SameFile ∷ Late time.LateHorizon ∷ Late time.LateStamp
+    ∷ Dump dump.CutShort ∷ Dump dump.DigestsDiffer ∷ Dump dump.HorizonsDiffer ∷ Dump dump.MoreFollows ∷ Dump dump.ReadFault ∷ Dump dump.WriteFault ∷ []
 
 -- the name of a status; none is below 0
 abbrev pub status_name : ℤ → List ℕ
-status_name (pos n) = name_at n
+status_name (pos n) = if n == 0 then codes "Ok" else name_in refusals n
 status_name (negsuc n) = codes "Unknown"
 
--- the fault of a decoder that has failed before: no whole frame has it, and no call of the library gives it
+-- the fault of a decoder that has failed before: no whole frame has it, and no call of the library
+-- returns it
 abbrev pub IsDecoderFailed : Refusal → Type 0
 IsDecoderFailed (Frame frame.Failed) = Unit {0}
 IsDecoderFailed (Dump (dump.Frame frame.Failed)) = Unit {0}

@@ -2,6 +2,7 @@
 use Rattle.std.specs.Prelude.{ℕ, ℤ, pos, ◌+◌, List, Result, Ok, Err, codes}
 use Rattle.warm_frames.specs.declared.fault.FrameFault.{FrameFault}
 use Rattle.warm_frames.specs.declared.fault.FrameFault.TheVariants as frame
+use Rattle.warm_frames.specs.declared.limit.TimeFault.{TimeFault}
 use Rattle.warm_frames.specs.Faults as frame_faults
 use Rattle.warm_files.specs.declared.fault.DumpFault.{DumpFault}
 use Rattle.warm_files.specs.declared.fault.DumpFault.TheVariants as dump
@@ -11,12 +12,18 @@ use Rattle.warm_gossip.specs.Faults as node_faults
 use Rattle.warm_c.specs.declared.status.Refusal.{Refusal}
 use Rattle.warm_c.specs.declared.status.Refusal.TheVariants.{Node, NewPool, Frame, Closed, AlreadyOpen, BufferTooSmall, BadReplica, BadBucket, SameFile, Late, Dump}
 
--- an allocation failure is 1, wherever it comes; of another fault of a frame it is the fault's own number and 32
+-- 1 of an allocation failure, wherever it comes; of another fault of a frame the fault's own number
+-- and 32
 abbrev pub frame_code_of : FrameFault → ℕ
 frame_code_of frame.Memory = 1
 frame_code_of fault = 32 + frame_faults.fault_code fault
 
--- of a frame's fault in a dump it is the frame's; of another fault of a dump it is the fault's own number and 64
+-- of a late time the fault's own number and 69
+abbrev pub late_code_of : TimeFault → ℕ
+late_code_of fault = 69 + frame_faults.time_fault_code fault
+
+-- of a frame's fault in a dump the frame's; of another fault of a dump the fault's own number and
+-- 64
 abbrev pub dump_code_of : DumpFault → ℕ
 dump_code_of (dump.Frame fault) = frame_code_of fault
 dump_code_of fault = 64 + dump_faults.dump_fault_code fault
@@ -31,7 +38,7 @@ code_of BufferTooSmall = 66
 code_of BadReplica = 67
 code_of BadBucket = 68
 code_of SameFile = 69
-code_of (Late fault) = 69 + frame_faults.time_fault_code fault
+code_of (Late fault) = late_code_of fault
 code_of (Dump fault) = dump_code_of fault
 
 abbrev pub name_of : Refusal → List ℕ

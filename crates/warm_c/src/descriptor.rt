@@ -1,10 +1,16 @@
-//! A file descriptor of the engine. Its reads, writes and flushes are asked for by what `io` calls of C, `read` and `write`.
+//! A file descriptor of the engine. Its reads, writes and flushes are asked for by what `io` calls
+//! of C, `read` and `write`.
 //!
-//! In the library for C these two symbols are functions of c/warm_files.c, which make the calls of the system at once, in the same
-//! thread. A request is nine bytes that are written to the descriptor: one for its kind (1 reads, 2 writes, 3 flushes, 4 asks which file it is of),
-//! eight for the place in its file, highest byte first. The read that follows fills its buffer from that place on, with zeros past the
-//! end of the file; the write that follows puts its bytes there; a flush is done as it is asked for; the read that follows a request for
-//! the file takes its identity, 16 bytes.
+//! In the library for C these two symbols are functions of c/warm_files.c, which make the calls of
+//! the system at once, in the same thread. A request is nine bytes that are written to the
+//! descriptor: one for its kind (1 reads, 2 writes, 3 flushes, 4 asks which file it is of), eight
+//! for the offset in its file, highest byte first.
+//!
+//! - The read that follows a 1 fills its buffer from that offset on, with zeros past the end of the
+//!   file.
+//! - The write that follows a 2 puts its bytes there.
+//! - A flush is done as it is asked for.
+//! - The read that follows a 4 returns the identity of the file, 16 bytes.
 ghost use Rattle.std.specs.Prelude.{◌≡◌};
 
 const READ: u8 = 1;
@@ -15,7 +21,7 @@ const FLUSH: u8 = 3;
 
 const IDENTITY: u8 = 4;
 
-/// A descriptor of the engine.
+/// A file descriptor of the engine.
 #[derive(Clone, Copy)]
 pub struct Descriptor {
     fd: i32,
@@ -29,15 +35,15 @@ fn ask(fd: i32, kind: u8, at: u64) -> bool {
 }
 
 impl Descriptor {
-    /// This descriptor. Nothing is asked of it yet.
+    /// Wraps a descriptor's number. Nothing is asked of it yet.
     pub fn new(fd: i32) -> Descriptor
         ensures { result.fd ≡ fd }
     {
         Descriptor { fd }
     }
 
-    /// Fills `into` with the bytes of the file from a place on, with zeros past its end. False where that fails: `into` may then hold
-    /// any bytes.
+    /// Fills `into` with the bytes of the file from the offset `at` on, with zeros past its end.
+    /// False where that fails: `into` may then hold any bytes.
     pub fn read(self, at: u64, into: &mut [u8]) -> bool {
         // `io` makes no call for no bytes, and the request would wait for one.
         if into.is_empty() {
@@ -46,7 +52,8 @@ impl Descriptor {
         ask(self.fd, READ, at) && io::read_full(self.fd, into) == into.len()
     }
 
-    /// Writes bytes to the file from a place on. False where that fails: the file may then hold any bytes there.
+    /// Writes bytes to the file from the offset `at` on. False where that fails: the file may then
+    /// hold any bytes there.
     pub fn write(self, at: u64, bytes: &[u8]) -> bool {
         if bytes.is_empty() {
             return true;
@@ -54,8 +61,9 @@ impl Descriptor {
         ask(self.fd, WRITE, at) && io::write_all(self.fd, bytes)
     }
 
-    /// The identity of the descriptor's file: a number that all descriptors of that file have, and those of another file have not. `None`
-    /// where the system gives none, as for a descriptor that is closed.
+    /// Returns the identity of the descriptor's file: a number that all descriptors of that file
+    /// have, and those of another file have not. `None` where the system has none, as for a
+    /// descriptor that is closed.
     pub fn file(self) -> Option<u128> {
         let mut identity = [0; 16];
         if !ask(self.fd, IDENTITY, 0) || io::read_full(self.fd, &mut identity) != identity.len() {
@@ -64,7 +72,7 @@ impl Descriptor {
         Some(u128::from_be_bytes(identity))
     }
 
-    /// Has what was written put down. False where that fails.
+    /// Syncs the file. False where that fails.
     pub fn flush(self) -> bool {
         ask(self.fd, FLUSH, 0)
     }

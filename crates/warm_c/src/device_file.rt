@@ -5,8 +5,9 @@ use crate::descriptor::Descriptor;
 
 /// A file of the engine. Once a flush has failed, each later one fails.
 ///
-/// After an `fsync` that failed, the system may have dropped what was written to the file, and the next `fsync` may succeed: it says
-/// nothing of what was dropped. So no flush succeeds any more, until the file is opened again.
+/// After an `fsync` that failed, the system may have dropped what was written to the file, and the
+/// next `fsync` may succeed: it says nothing of what was dropped. So no flush succeeds any more,
+/// until the file is opened again.
 #[derive(Drop)]
 pub struct DeviceFile {
     descriptor: Descriptor,
@@ -16,7 +17,7 @@ pub struct DeviceFile {
 impl DeviceFile {
     ghost use Rattle.warm_c.specs.FdParts.{Remembers};
 
-    /// The file of a descriptor, of which no flush has failed. Nothing is asked of it yet.
+    /// Wraps a descriptor, as a file of which no flush has failed. Nothing is asked of it yet.
     pub fn new(descriptor: Descriptor) -> DeviceFile
         ensures over { result.descriptor ≡ descriptor }
         ensures unfailed { result.flush_failed ≡ false }
@@ -37,7 +38,7 @@ impl DeviceFile {
         self.descriptor.write(at, bytes)
     }
 
-    /// Has what was written put down. False where that fails, or has failed before.
+    /// Syncs the file. False where that fails, or has failed before.
     pub fn flush(&mut self) -> bool
         ensures remembers { Remembers self.old result self.new }
         ensures same { self.new.descriptor ≡ self.old.descriptor }

@@ -1,24 +1,24 @@
-//! The calls of an open handle that write its history to a file, or take one in from a file.
+//! The calls of an open handle that write its history to a file, or join one from a file.
 ghost use Rattle.std.specs.Prelude.{None, IfErr, OnOk};
 ghost use Rattle.std.specs.Io.KnownBytes.{Appends};
 ghost use Rattle.warm_files.specs.Dumps.{dump_of};
-ghost use Rattle.warm_c.specs.Calls.{IsUnsaved, Loads, Saves};
+ghost use Rattle.warm_c.specs.Calls.{SaveRefused, Loads, Saves};
 
 use crate::descriptor::Descriptor;
 use crate::dump_file::{FileReader, FileWriter};
-use crate::held::Held;
+use crate::open_node::OpenNode;
 use crate::status::Refusal;
 use std::alloc::Global;
 use std::io::{Read, Write};
 use warm_files::{read_dump, write_dump};
 use warm_history::laws::prove_is_history;
 
-impl Held {
+impl OpenNode {
     // Writes a dump of the node's history to any writer, with the node's replica as the sender.
     fn write_to<W: Write>(&self, alloc: Global, writer: &mut W) -> Result<(), Refusal>
         ensures written { OnOk result (Appends (W.contents writer.old) (W.contents writer.new)
             (dump_of self.now.node.id self.now.node.history)) }
-        ensures refused { IfErr result IsUnsaved }
+        ensures refused { IfErr result SaveRefused }
     {
         write_dump(alloc, writer, self.node.id(), self.node.history())?;
         Ok(())
@@ -49,11 +49,13 @@ impl Held {
         Ok(())
     }
 
-    /// The node's [`warm_gossip::Node::join`] of the history of a dump, which the first bytes of a file are. The answers that wait
-    /// still wait.
+    /// Reads the dump that the first bytes of a file are, and calls [`warm_gossip::Node::join`]
+    /// with its history. The answers that wait still wait.
     ///
     /// # Errors
-    /// `Dump`, with why the bytes are no dump or are not read; the node's own. Nothing has changed that a caller sees.
+    /// In this order; nothing that a caller sees has changed.
+    /// - `Dump`: the bytes are no dump, or were not read.
+    /// - `Node`: an allocation of the join failed.
     pub fn load(
         &mut self,
         alloc: Global,

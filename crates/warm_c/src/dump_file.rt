@@ -1,5 +1,5 @@
-//! A file of the engine as a writer and as a reader: from its start on, one piece after another. What the file holds is nothing that a
-//! contract can say, so neither says which bytes it has.
+//! A file of the engine as a writer and as a reader: from its start on, one piece after another.
+//! What the file holds is nothing that a contract can say, so neither says which bytes it has.
 ghost use Rattle.std.specs.Prelude.{◌≡◌, ◌+◌, ◌≤◌, false, length, IfNone, IfSome, IsTrue};
 
 use crate::descriptor::Descriptor;
@@ -14,7 +14,7 @@ pub struct FileWriter {
 }
 
 impl FileWriter {
-    /// A writer at the start of the file. Nothing is asked of the descriptor yet.
+    /// Creates a writer at the start of the file. Nothing is asked of the descriptor yet.
     pub fn new(descriptor: Descriptor) -> FileWriter {
         FileWriter { descriptor, at: 0 }
     }
@@ -62,7 +62,8 @@ pub struct FileReader {
 }
 
 impl FileReader {
-    /// A reader of this many bytes, from the start of the file on. Nothing is asked of the descriptor yet.
+    /// Creates a reader of this many bytes, from the start of the file on. Nothing is asked of the
+    /// descriptor yet.
     pub fn new(descriptor: Descriptor, size: u64) -> FileReader {
         FileReader {
             descriptor,
@@ -71,7 +72,8 @@ impl FileReader {
         }
     }
 
-    // Reads the next bytes, as many as there is room for and are left, and says how many; none where that fails.
+    // Reads the next bytes, as many as there is room for and are left, and returns how many; `None`
+    // where that fails.
     fn take(&mut self, into: &mut [u8]) -> Option<usize>
         ensures moves { IfSome result (λ n. self.new.at ≡ self.old.at + n) }
         ensures most { IfSome result (λ n. n ≤ length into.old) }

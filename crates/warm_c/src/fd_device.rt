@@ -1,15 +1,18 @@
-//! A device over a file descriptor of the engine. What its file holds is nothing that a contract can say.
+//! A device over a file descriptor of the engine. What its file holds is nothing that a contract
+//! can say.
 ghost use Rattle.std.specs.Prelude.{◌≡◌, ◌*◌, ◌^◌, ◌<◌, ◌≤◌, IfNone, IfSome, false};
 
 use crate::descriptor::Descriptor;
 use crate::device_file::DeviceFile;
 use warm_devices::{DeviceFault, PageDevice};
 
-/// Pages in a file that the engine opened, one after another from its start. A flush syncs the file.
+/// Pages in a file that the engine opened, one after another from its start. A flush syncs the
+/// file.
 ///
-/// Pages past the end of the file read as zeros, and a write of one extends the file. The descriptor is the engine's: it is not closed
-/// here. The device is safe whatever the descriptor is and the file gives, and it counts its failures. Of the bytes it claims nothing.
-/// Once a flush has failed, each later one fails, as [`DeviceFile`] says.
+/// Pages past the end of the file read as zeros, and a write of one extends the file. The
+/// descriptor is the engine's: it is not closed here. The device is safe whatever the descriptor is
+/// and the file contains, and it counts its failures. It claims nothing of the bytes. Once a flush
+/// has failed, each later one fails, as [`DeviceFile`] says.
 pub struct FdDevice {
     file: DeviceFile,
     pages: u64,
@@ -22,8 +25,9 @@ pub struct FdDevice {
 impl FdDevice {
     ghost use Rattle.warm_c.specs.FdParts.{fd_opened, fd_state};
 
-    /// A device of `pages` pages of `page_size` bytes over the descriptor of this number, of which nothing is asked yet. `None` comes exactly where
-    /// the pages do not fit into 2^63 - 1 bytes, which is what a file's offsets can name.
+    /// Creates a device of `pages` pages of `page_size` bytes over the descriptor of this number,
+    /// of which nothing is asked yet. `None` exactly where the pages do not fit into 2^63 - 1
+    /// bytes, which is what a file's offsets can name.
     pub fn new(fd: i32, pages: u64, page_size: usize) -> Option<FdDevice>
         ensures opened { IfSome result (λ device.
             fd_state device ≡ fd_opened fd pages page_size) }

@@ -1,10 +1,10 @@
-//! The calls of an open handle that give frames or take one.
+//! The calls of an open handle that write frames or receive one.
 ghost use Rattle.std.specs.Prelude.{◌≡◌, ◌<◌, ◌≤◌, length};
 ghost use Rattle.warm_gossip.specs.declared.call.Call.TheVariants.{Offer};
 ghost use Rattle.warm_c.specs.Calls.{GivesNext, Limits, PutsFrame, Receives, Sends, SendsFromBucket};
 ghost use Rattle.warm_c.specs.Values.{with_start};
 
-use crate::held::Held;
+use crate::open_node::OpenNode;
 use crate::status::Refusal;
 use std::alloc::Global;
 use warm_frames::{Message, check_times, decode, encode};
@@ -18,7 +18,8 @@ fn put_bytes(bytes: &[u8], into: &mut [u8])
     into[..bytes.len()].copy_from_slice(bytes);
 }
 
-// Puts the frame of a message at the start of a buffer, and writes its length, also where it does not fit.
+// Puts the frame of a message at the start of a buffer, and writes its length, also where it does
+// not fit.
 fn put_frame(
     alloc: Global,
     message: &Message,
@@ -36,11 +37,13 @@ fn put_frame(
     Ok(())
 }
 
-impl Held {
-    /// The frame of the node's [`warm_gossip::Node::offer`].
+impl OpenNode {
+    /// Calls [`warm_gossip::Node::offer`] and writes the frame of its message, and its length.
     ///
     /// # Errors
-    /// `BufferTooSmall`, with the length written that the frame has; `Memory`. The buffer is then as it was.
+    /// The buffer is unchanged.
+    /// - `Node`, with `Memory`: an allocation failed.
+    /// - `BufferTooSmall`: the frame does not fit; its length is written.
     pub fn offer(&mut self, alloc: Global, frame: &mut [u8], len: &mut usize) -> Result<(), Refusal>
         ensures { Sends Offer frame.old len.old frame.new len.new self.old result self.new }
     {
@@ -48,11 +51,13 @@ impl Held {
         put_frame(alloc, &message, frame, len)
     }
 
-    /// The frame of the node's [`warm_gossip::Node::send`] of a bucket, after a page where there is one.
+    /// Calls [`warm_gossip::Node::send`] and writes the frame of its message, and its length.
     ///
     /// # Errors
-    /// `BadBucket` where the number is no bucket's; `BufferTooSmall`, with the length written that the frame has; `Memory`. The
-    /// buffer is then as it was.
+    /// The buffer is unchanged.
+    /// - `BadBucket`: the bucket's number is not valid.
+    /// - `Node`, with `Memory`: an allocation failed.
+    /// - `BufferTooSmall`: the frame does not fit; its length is written.
     pub fn send(
         &mut self,
         alloc: Global,
@@ -78,11 +83,14 @@ impl Held {
         self.limit = time;
     }
 
-    /// The node's [`warm_gossip::Node::receive`] of the message of a frame. Its answers wait; those that waited are dropped.
+    /// Decodes a frame and calls [`warm_gossip::Node::receive`] with its message. The answers wait;
+    /// those that waited are dropped.
     ///
     /// # Errors
-    /// Why the bytes are no frame; `Late` where its horizon, or else a stamp, is later than the limit; the node's own. Nothing has
-    /// changed, and what waited still waits.
+    /// In this order. Nothing has changed, and the answers that waited still wait.
+    /// - `Frame`: the bytes are no frame.
+    /// - `Late`: the horizon, or else a stamp, is later than the limit.
+    /// - `Node`: the node's own.
     pub fn receive(&mut self, alloc: Global, frame: &[u8]) -> Result<(), Refusal>
         ensures { Receives frame.now self.old result self.new }
     {
@@ -94,10 +102,13 @@ impl Held {
         Ok(())
     }
 
-    /// The frame of the next answer that waits, which waits no more; where none does, a length of 0 is written.
+    /// Writes the frame of the next answer that waits, and its length; a length of 0 where none
+    /// waits.
     ///
     /// # Errors
-    /// `BufferTooSmall`, with the length written that the frame has; `Memory`. The answer is still the next, and the buffer as it was.
+    /// The answer is still the next, and the buffer is unchanged.
+    /// - `Node`, with `Memory`: an allocation failed.
+    /// - `BufferTooSmall`: the frame does not fit; its length is written.
     pub fn next_answer(
         &mut self,
         alloc: Global,

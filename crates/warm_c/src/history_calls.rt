@@ -3,7 +3,7 @@ ghost use Rattle.std.specs.Prelude.{◌≡◌, ◌≤◌, length, map, IfErr, If
 ghost use Rattle.warm_c.specs.Calls.{Absorbs, BatchRefused, CountsPages, Lists, Raises};
 ghost use Rattle.warm_c.specs.Values.{c_page, reference_of, with_start};
 
-use crate::held::Held;
+use crate::open_node::OpenNode;
 use crate::status::Refusal;
 use crate::values::{WarmPage, WarmReference};
 use std::alloc::{AllocError, Global};
@@ -52,11 +52,13 @@ fn put_pages(pages: &[WarmPage], into: &mut [WarmPage])
     into[..pages.len()].copy_from_slice(pages);
 }
 
-impl Held {
-    /// The node's [`warm_gossip::Node::absorb`].
+impl OpenNode {
+    /// Calls [`warm_gossip::Node::absorb`].
     ///
     /// # Errors
-    /// `BadReplica` where the number of one is no replica's; else the node's own. Nothing has changed.
+    /// Nothing has changed.
+    /// - `BadReplica`: one of them has a replica's number that is not valid.
+    /// - `Node`: the node's own.
     pub fn absorb(&mut self, alloc: Global, batch: &[WarmReference]) -> Result<(), Refusal>
         ensures { Absorbs batch.now self.old result self.new }
     {
@@ -65,18 +67,18 @@ impl Held {
         Ok(())
     }
 
-    /// The node's [`warm_gossip::Node::raise`]: the horizon from then on is written.
-    pub fn raise(&mut self, time: u64, horizon: &mut u64)
-        ensures { Raises time horizon.new self.old self.new }
+    /// Calls [`warm_gossip::Node::raise`], and returns the horizon from then on.
+    pub fn raise(&mut self, time: u64) -> u64
+        ensures { Raises time result self.old self.new }
     {
-        *horizon = self.node.raise(time);
+        self.node.raise(time)
     }
 
-    /// The node's [`warm_gossip::Node::warm_list`] of as many pages as there is room for: they are put at the start of `pages`, and
-    /// their number is written.
+    /// Calls [`warm_gossip::Node::warm_list`] for as many pages as there is room for, puts them at
+    /// the start of `pages`, and writes their number.
     ///
     /// # Errors
-    /// `Memory`. `pages` and `count` are then as they were.
+    /// `Node`, with `Memory`. `pages` and `count` are unchanged.
     pub fn list(
         &mut self,
         alloc: Global,
@@ -92,10 +94,10 @@ impl Held {
         Ok(())
     }
 
-    /// How many pages the history knows.
-    pub fn count(&mut self, number: &mut usize)
-        ensures { CountsPages number.new self.old self.new }
+    /// Returns how many pages the history knows.
+    pub fn count(&self) -> usize
+        ensures { CountsPages result self.now self.now }
     {
-        *number = self.node.history().len();
+        self.node.history().len()
     }
 }

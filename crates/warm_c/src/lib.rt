@@ -1,21 +1,37 @@
-//! A replica's node for C and C++: a static library over `Node<FdDevice>`. Its header is include/warm.h.
+//! A replica's node for C and C++: a static library over `Node<FdDevice>`. Its header is
+//! include/warm.h.
 //!
-//! A handle holds a node over the caller's file descriptors, and the answers to the frame that it received last. All zeros is a closed
-//! handle. Each function but `warm_open`, `warm_close` and `warm_status_name` is the node's call of its name on an open handle; on a
-//! closed one it answers 64 and changes nothing. A function answers a status: 0, or the number of why it is refused.
+//! A handle holds a node over the caller's file descriptors, the answers to the frame that it
+//! received last, and a limit of the times in frames. All zeros is a closed handle. A function
+//! returns a status: 0, or the number of why it is refused.
 //!
-//! c/warm_files.c has what is not proved: the calls of the system on the descriptors, which `descriptor` asks for.
+//! Most functions, `warm_NAME`, make the node's call `Node::NAME`. The others are:
 //!
-//! Nothing is undefined for any handle, slot or length, as long as the caller keeps what the header asks: a handle that was all zeros
-//! before its first call, and that only these functions change; one call at a time on one thread; and pointers to as much as their
-//! lengths say, which do not overlap.
+//! - [`warm_list`] makes `Node::warm_list`, [`warm_step`] makes `Node::warm_step`, [`warm_read`]
+//!   makes `Node::read_into`, and [`warm_horizon`] makes `Node::raise`.
+//! - [`warm_history_length`] counts the pages of the node's history, [`warm_save`] writes a dump of
+//!   it, and [`warm_load`] joins the history of a dump (`Node::join`).
+//! - [`warm_limit`] and [`warm_next_answer`] are of the handle alone.
+//! - [`warm_open`] and [`warm_close`] create and drop the node, and [`warm_status_name`] takes no
+//!   handle. Each of the other functions returns 64 on a closed handle, and changes nothing.
+//!
+//! c/warm_files.c has what is not proved: the calls of the system on the descriptors, which
+//! `descriptor` asks for.
+//!
+//! Nothing is undefined for any handle, slot or length, as long as the caller keeps what the header
+//! asks: a handle that was all zeros before its first call, and that only these functions change;
+//! one call at a time on one thread; and pointers to as much as their lengths say, which do not
+//! overlap.
 #![tactic(auto)]
 
-ghost use Rattle.std.specs.Prelude.{◌≡◌, pos, [], ◌∷◌, ◌++◌, length, None};
+ghost use Rattle.std.specs.Fn.{FnOnceReturnsAtMut};
+ghost use Rattle.std.specs.Prelude.{◌≡◌, pos, [], ◌∷◌, ◌++◌, length, None, Some};
 ghost use Rattle.warm_gossip.specs.declared.call.Call.TheVariants.{Offer};
 ghost use Rattle.warm_c.specs.Calls.{Absorbs, CountsPages, GivesNext, Limits, Lists, Loads, Names, Pins, Raises, ReadsPage, Receives, Saves, Sends, SendsFromBucket, StepsWarmUp, Unpins, Writes, WritesBack};
 ghost use Rattle.warm_c.specs.Handles.{Called, Opens, Surely, open_request};
 ghost use Rattle.warm_c.specs.StatusNames.{status_name};
+ghost use Rattle.warm_c.specs.Statuses.{code_of, status_of};
+ghost use Rattle.warm_c.specs.declared.status.Refusal.TheVariants.{Closed};
 ghost use Rattle.warm_c.specs.Values.{page_if, with_some};
 
 pub mod descriptor;
@@ -25,31 +41,74 @@ pub mod dump_file;
 pub mod fd_device;
 mod frame_calls;
 pub mod handle;
-pub mod held;
+pub mod held_pointer;
 mod history_calls;
-pub mod loose;
+pub mod open_node;
 mod opening;
 mod pool_calls;
-pub mod slot;
+pub mod raw_box;
 pub mod status;
 pub mod values;
 
 use crate::descriptor::Descriptor;
 use crate::handle::Handle;
+use crate::open_node::OpenNode;
 use crate::opening::open;
 use crate::status::{Refusal, name_of_status, put_text, status_of};
-use crate::values::{PinnedSlot, WarmDevice, WarmPage, WarmReference, WarmSlot, page_if};
+use crate::values::{PinnedSlot, WarmDevice, WarmPage, WarmReference, WarmSlot, page_if, put_page};
 use std::alloc::Global;
 use warm_gossip::NodeFault;
 
-/// Opens a closed handle: a node of this replica, with a pool of `frames` empty frames over these devices, and an empty history.
+// Returns the status of a call on a closed handle.
+fn closed() -> i32
+    ensures { result ≡ pos (code_of Closed) }
+{
+    status_of(Err(Refusal::Closed))
+}
+
+// Ends a call on an open handle: puts the node back, and returns the status.
+fn put_back(handle: &mut Handle, node: Box<OpenNode>, done: Result<(), Refusal>) -> i32
+    ensures held { handle.new.held.node ≡ Some node.value }
+    ensures status { result ≡ status_of done }
+{
+    *handle = Handle::of(node);
+    status_of(done)
+}
+
+// Makes a call of the node of an open handle, and returns its status. A call that writes through a
+// pointer of C takes the node itself: nothing is known of what a closure that was not called has
+// borrowed.
+fn on_open<F: FnOnce(&mut OpenNode) -> Result<(), Refusal>>(
+    alloc: Global,
+    handle: &mut Handle,
+    call: F,
+) -> i32
+    requires { F.IsAlwaysCallable call }
+    ensures { Called (λ old ending new. FnOnceReturnsAtMut F.FnOnce call old ending new)
+        handle.old.held.node result handle.new.held.node }
+{
+    let Some(mut node) = handle.take(alloc) else {
+        return closed();
+    };
+    let done = call(&mut node);
+    put_back(handle, node, done)
+}
+
+/// Opens a closed handle: creates a node of this replica, with a pool of `frames` empty frames over
+/// these devices, and an empty history.
 ///
-/// `replica` is 1 to 64, `frames` 1 to 65,536, `page_size` 1 to 65,536 bytes. There are 65,536 devices at most.
+/// `replica` is 1 to 64, `frames` 1 to 65,536, `page_size` 1 to 65,536 bytes. There are 65,536
+/// devices at most.
 ///
 /// # Errors
-/// 65, and the handle is as it was, where it is open. Else it stays closed: 67 where the replica's number is none; 4 where there are
-/// too many devices, or the pages of one exceed 2^63 - 1 bytes; 2 and 3 where there are too many frames or none, or bytes of a page; 1
-/// where an allocation failed.
+/// In this order, and 1 at any point where an allocation failed. After 65 the handle is unchanged;
+/// after any other it is closed.
+/// - 65: the handle is open.
+/// - 67: the replica's number is not valid.
+/// - 4: there are too many devices, or the pages of one exceed 2^63 - 1 bytes.
+/// - 69: two devices are of one file.
+/// - 2: there are too many frames, or none.
+/// - 3: a page has too many bytes, or none.
 #[unsafe(no_mangle)]
 pub extern "C" fn warm_open(
     alloc: Global,
@@ -59,8 +118,8 @@ pub extern "C" fn warm_open(
     page_size: usize,
     devices: &[WarmDevice],
 ) -> i32
-    ensures { Opens (open_request replica frames page_size devices.now) handle.old.slot.held result
-        handle.new.slot.held }
+    ensures { Opens (open_request replica frames page_size devices.now) handle.old.held.node result
+        handle.new.held.node }
 {
     if let Some(held) = handle.take(alloc) {
         *handle = Handle::of(held);
@@ -79,38 +138,37 @@ pub extern "C" fn warm_open(
     }
 }
 
-/// Closes a handle, and ends what it holds; a closed one stays closed. Pages that were written to and not written back are lost.
+/// Closes a handle and drops its node; a closed one stays closed. What was written to pages and not
+/// written back is lost.
 #[unsafe(no_mangle)]
 pub extern "C" fn warm_close(alloc: Global, handle: &mut Handle)
-    ensures { handle.new.slot.held ≡ None }
+    ensures { handle.new.held.node ≡ None }
 {
     let _ = handle.take(alloc);
 }
 
-/// Takes references into the history, all or none.
+/// Adds references to the history, all or none.
 ///
 /// # Errors
-/// 67 where one has a replica's number that is none; 1 where an allocation failed. Nothing has changed.
+/// Nothing has changed.
+/// - 67: one of them has a replica's number that is not valid.
+/// - 1: an allocation failed.
 #[unsafe(no_mangle)]
 pub extern "C" fn warm_absorb(
     alloc: Global,
     handle: &mut Handle,
     references: &[WarmReference],
 ) -> i32
-    ensures { Called (Absorbs references.now) handle.old.slot.held result handle.new.slot.held }
+    ensures { Called (Absorbs references.now) handle.old.held.node result handle.new.held.node }
 {
-    let Some(mut held) = handle.take(alloc) else {
-        return status_of(Err(Refusal::Closed));
-    };
-    let done = held.absorb(alloc, references);
-    *handle = Handle::of(held);
-    status_of(done)
+    on_open(alloc, handle, |node| node.absorb(alloc, references))
 }
 
-/// Gives a page a fix, and reads it into a frame where it is in none. Its slot is written.
+/// Pins a page: reads it into a frame where it is in none, and writes its slot.
 ///
 /// # Errors
-/// 4 to 9, in the order of the pool's pin. The slot is as it was, and of the node counts of failures alone have changed.
+/// 4 to 9, in the order of [`warm_pool::Pool::pin`]. The slot is unchanged, and of the node only
+/// counts of failures have changed.
 #[unsafe(no_mangle)]
 pub extern "C" fn warm_pin(
     alloc: Global,
@@ -118,38 +176,34 @@ pub extern "C" fn warm_pin(
     page: WarmPage,
     slot: &mut PinnedSlot,
 ) -> i32
-    ensures called { Called (Pins page slot.old slot.new) handle.old.slot.held result
-        handle.new.slot.held }
-    ensures closed { handle.old.slot.held ≡ None → slot.new ≡ slot.old }
+    ensures called { Called (Pins page slot.old slot.new) handle.old.held.node result
+        handle.new.held.node }
+    ensures closed { handle.old.held.node ≡ None → slot.new ≡ slot.old }
 {
-    let Some(mut held) = handle.take(alloc) else {
-        return status_of(Err(Refusal::Closed));
+    let Some(mut node) = handle.take(alloc) else {
+        return closed();
     };
-    let done = held.pin(page, slot);
-    *handle = Handle::of(held);
-    status_of(done)
+    let done = node.pin(page, slot);
+    put_back(handle, node, done)
 }
 
-/// Takes a fix from the slot's page.
+/// Removes a pin from the slot's page.
 ///
 /// # Errors
-/// 13 where the slot does not hold its page. Nothing has changed.
+/// 13: the slot does not hold its page. Nothing has changed.
 #[unsafe(no_mangle)]
 pub extern "C" fn warm_unpin(alloc: Global, handle: &mut Handle, slot: WarmSlot) -> i32
-    ensures { Called (Unpins slot) handle.old.slot.held result handle.new.slot.held }
+    ensures { Called (Unpins slot) handle.old.held.node result handle.new.held.node }
 {
-    let Some(mut held) = handle.take(alloc) else {
-        return status_of(Err(Refusal::Closed));
-    };
-    let done = held.unpin(slot);
-    *handle = Handle::of(held);
-    status_of(done)
+    on_open(alloc, handle, |node| node.unpin(slot))
 }
 
-/// Copies as many bytes of the slot's page as `into` has room for, from byte `at` on.
+/// Reads bytes of the slot's page, from `at` on, into the whole of `into`. Allocation-free.
 ///
 /// # Errors
-/// 13 where the slot does not hold its page; 10 where the bytes reach beyond its end. `into` is as it was. It is allocation-free.
+/// In this order; `into` is unchanged.
+/// - 13: the slot does not hold its page.
+/// - 10: the bytes reach beyond the end of the page.
 #[unsafe(no_mangle)]
 pub extern "C" fn warm_read(
     alloc: Global,
@@ -158,22 +212,23 @@ pub extern "C" fn warm_read(
     at: usize,
     into: &mut [u8],
 ) -> i32
-    ensures called { Called (ReadsPage slot at into.old into.new) handle.old.slot.held result
-        handle.new.slot.held }
-    ensures closed { handle.old.slot.held ≡ None → into.new ≡ into.old }
+    ensures called { Called (ReadsPage slot at into.old into.new) handle.old.held.node result
+        handle.new.held.node }
+    ensures closed { handle.old.held.node ≡ None → into.new ≡ into.old }
 {
-    let Some(mut held) = handle.take(alloc) else {
-        return status_of(Err(Refusal::Closed));
+    let Some(mut node) = handle.take(alloc) else {
+        return closed();
     };
-    let done = held.read(slot, at, into);
-    *handle = Handle::of(held);
-    status_of(done)
+    let done = node.read(slot, at, into);
+    put_back(handle, node, done)
 }
 
-/// Writes bytes into the slot's page, from byte `at` on.
+/// Writes bytes into the slot's page, from `at` on.
 ///
 /// # Errors
-/// 13 where the slot does not hold its page; 10 where the bytes reach beyond its end. Nothing has changed.
+/// In this order; nothing has changed.
+/// - 13: the slot does not hold its page.
+/// - 10: the bytes reach beyond the end of the page.
 #[unsafe(no_mangle)]
 pub extern "C" fn warm_write(
     alloc: Global,
@@ -182,18 +237,14 @@ pub extern "C" fn warm_write(
     at: usize,
     bytes: &[u8],
 ) -> i32
-    ensures { Called (Writes slot at bytes.now) handle.old.slot.held result
-        handle.new.slot.held }
+    ensures { Called (Writes slot at bytes.now) handle.old.held.node result
+        handle.new.held.node }
 {
-    let Some(mut held) = handle.take(alloc) else {
-        return status_of(Err(Refusal::Closed));
-    };
-    let done = held.write(slot, at, bytes);
-    *handle = Handle::of(held);
-    status_of(done)
+    on_open(alloc, handle, |node| node.write(slot, at, bytes))
 }
 
-/// Writes whether a page would leave the pool next, 1 or 0, and which; where none would, `page` is as it was.
+/// Writes whether there is a page that would be evicted next, 1 or 0, and which. Where there is
+/// none, `page` is unchanged.
 #[unsafe(no_mangle)]
 pub extern "C" fn warm_victim(
     alloc: Global,
@@ -201,22 +252,22 @@ pub extern "C" fn warm_victim(
     found: &mut u8,
     page: &mut WarmPage,
 ) -> i32
-    ensures called { Called (Surely (Names page.old found.new page.new)) handle.old.slot.held result
-        handle.new.slot.held }
-    ensures closed { handle.old.slot.held ≡ None → (found.new ≡ found.old) × (page.new ≡ page.old) }
+    ensures called { Called (Surely (Names page.old found.new page.new)) handle.old.held.node result
+        handle.new.held.node }
+    ensures closed { handle.old.held.node ≡ None → (found.new ≡ found.old) × (page.new ≡ page.old) }
 {
-    let Some(mut held) = handle.take(alloc) else {
-        return status_of(Err(Refusal::Closed));
+    let Some(node) = handle.take(alloc) else {
+        return closed();
     };
-    held.victim(found, page);
-    *handle = Handle::of(held);
-    status_of(Ok(()))
+    put_page(node.victim(), found, page);
+    put_back(handle, node, Ok(()))
 }
 
-/// Writes the hottest pages, hottest first: as many as there is room for, or all, and their number.
+/// Writes the hottest pages of the history, hottest first, and their number: as many as there is
+/// room for, or all.
 ///
 /// # Errors
-/// 1 where an allocation failed. `pages` and `count` are as they were.
+/// 1: an allocation failed. `pages` and `count` are unchanged.
 #[unsafe(no_mangle)]
 pub extern "C" fn warm_list(
     alloc: Global,
@@ -225,23 +276,25 @@ pub extern "C" fn warm_list(
     count: &mut usize,
 ) -> i32
     ensures called { Called (Lists pages.old count.old pages.new count.new)
-        handle.old.slot.held result handle.new.slot.held }
-    ensures closed { handle.old.slot.held ≡ None
+        handle.old.held.node result handle.new.held.node }
+    ensures closed { handle.old.held.node ≡ None
         → (pages.new ≡ pages.old) × (count.new ≡ count.old) }
 {
-    let Some(mut held) = handle.take(alloc) else {
-        return status_of(Err(Refusal::Closed));
+    let Some(mut node) = handle.take(alloc) else {
+        return closed();
     };
-    let done = held.list(alloc, pages, count);
-    *handle = Handle::of(held);
-    status_of(done)
+    let done = node.list(alloc, pages, count);
+    put_back(handle, node, done)
 }
 
-/// Loads the hottest page that is in no frame, of as many as the pool has frames, and writes whether there was one, 1 or 0, and which;
-/// where there was none, `page` is as it was.
+/// Loads the hottest page that is in no frame, of as many of the hottest pages as the pool has
+/// frames, and writes whether there was one, 1 or 0, and which; `page` is unchanged where there was
+/// none.
 ///
 /// # Errors
-/// 1 where an allocation failed; 6 to 9, in the order of the pool's load. `found` and `page` are as they were.
+/// `found` and `page` are unchanged.
+/// - 1: an allocation failed.
+/// - 6 to 9, in the order of [`warm_pool::Pool::load`].
 #[unsafe(no_mangle)]
 pub extern "C" fn warm_step(
     alloc: Global,
@@ -250,21 +303,27 @@ pub extern "C" fn warm_step(
     page: &mut WarmPage,
 ) -> i32
     ensures called { Called (StepsWarmUp found.old page.old found.new page.new)
-        handle.old.slot.held result handle.new.slot.held }
-    ensures closed { handle.old.slot.held ≡ None → (found.new ≡ found.old) × (page.new ≡ page.old) }
+        handle.old.held.node result handle.new.held.node }
+    ensures closed { handle.old.held.node ≡ None → (found.new ≡ found.old) × (page.new ≡ page.old) }
 {
-    let Some(mut held) = handle.take(alloc) else {
-        return status_of(Err(Refusal::Closed));
+    let Some(mut node) = handle.take(alloc) else {
+        return closed();
     };
-    let done = held.step(found, page);
-    *handle = Handle::of(held);
-    status_of(done)
+    match node.step() {
+        Ok(loaded) => {
+            put_page(loaded, found, page);
+            put_back(handle, node, Ok(()))
+        }
+        Err(why) => put_back(handle, node, Err(why)),
+    }
 }
 
 /// Writes the frame with the digests of the history, and its length.
 ///
 /// # Errors
-/// 66 where it does not fit, with its length written; 1 where an allocation failed. The buffer is as it was.
+/// The buffer is unchanged.
+/// - 1: an allocation failed.
+/// - 66: the frame does not fit; its length is written.
 #[unsafe(no_mangle)]
 pub extern "C" fn warm_offer(
     alloc: Global,
@@ -273,22 +332,24 @@ pub extern "C" fn warm_offer(
     len: &mut usize,
 ) -> i32
     ensures called { Called (Sends Offer frame.old len.old frame.new len.new)
-        handle.old.slot.held result handle.new.slot.held }
-    ensures closed { handle.old.slot.held ≡ None → (frame.new ≡ frame.old) × (len.new ≡ len.old) }
+        handle.old.held.node result handle.new.held.node }
+    ensures closed { handle.old.held.node ≡ None → (frame.new ≡ frame.old) × (len.new ≡ len.old) }
 {
-    let Some(mut held) = handle.take(alloc) else {
-        return status_of(Err(Refusal::Closed));
+    let Some(mut node) = handle.take(alloc) else {
+        return closed();
     };
-    let done = held.offer(alloc, frame, len);
-    *handle = Handle::of(held);
-    status_of(done)
+    let done = node.offer(alloc, frame, len);
+    put_back(handle, node, done)
 }
 
-/// Writes the frame with the first 1000 entries of a bucket, or, where `has_after`, of those whose page is greater than `after`.
+/// Writes the frame with the first 1000 entries of a bucket, or, where `has_after`, of its entries
+/// whose page is greater than `after`; and its length.
 ///
 /// # Errors
-/// 68 where the bucket's number is none; 66 where the frame does not fit, with its length written; 1 where an allocation failed. The
-/// buffer is as it was.
+/// The buffer is unchanged.
+/// - 68: the bucket's number is not valid.
+/// - 1: an allocation failed.
+/// - 66: the frame does not fit; its length is written.
 #[unsafe(no_mangle)]
 pub extern "C" fn warm_send(
     alloc: Global,
@@ -301,52 +362,51 @@ pub extern "C" fn warm_send(
 ) -> i32
     ensures called { Called
         (SendsFromBucket bucket (page_if has_after after) frame.old len.old frame.new len.new)
-        handle.old.slot.held result handle.new.slot.held }
-    ensures closed { handle.old.slot.held ≡ None → (frame.new ≡ frame.old) × (len.new ≡ len.old) }
+        handle.old.held.node result handle.new.held.node }
+    ensures closed { handle.old.held.node ≡ None → (frame.new ≡ frame.old) × (len.new ≡ len.old) }
 {
-    let Some(mut held) = handle.take(alloc) else {
-        return status_of(Err(Refusal::Closed));
+    let Some(mut node) = handle.take(alloc) else {
+        return closed();
     };
-    let done = held.send(alloc, bucket, page_if(has_after, after), frame, len);
-    *handle = Handle::of(held);
-    status_of(done)
+    let done = node.send(alloc, bucket, page_if(has_after, after), frame, len);
+    put_back(handle, node, done)
 }
 
-/// Sets the latest time that a received frame may speak of: [`warm_receive`] refuses one whose horizon or a stamp is later. Of a handle
-/// that was just opened it is 2^64 - 1, so that no frame is refused.
+/// Sets the latest time that a received frame may speak of: [`warm_receive`] refuses a frame whose
+/// horizon or a stamp is later. Of a handle that was just opened it is 2^64 - 1, which refuses
+/// none.
 #[unsafe(no_mangle)]
 pub extern "C" fn warm_limit(alloc: Global, handle: &mut Handle, time: u64) -> i32
-    ensures { Called (Surely (Limits time)) handle.old.slot.held result handle.new.slot.held }
+    ensures { Called (Surely (Limits time)) handle.old.held.node result handle.new.held.node }
 {
-    let Some(mut held) = handle.take(alloc) else {
-        return status_of(Err(Refusal::Closed));
-    };
-    held.limit(time);
-    *handle = Handle::of(held);
-    status_of(Ok(()))
+    on_open(alloc, handle, |node| {
+        node.limit(time);
+        Ok(())
+    })
 }
 
-/// Takes in one whole frame that another replica sent. Its answers wait for [`warm_next_answer`]; those that waited are dropped.
+/// Receives one whole frame that another replica sent. Its answers wait for [`warm_next_answer`];
+/// those that waited are dropped.
 ///
 /// # Errors
-/// 34 to 42 where the bytes are no frame, by the first fault from left to right; 70 where its horizon is later than the limit, and 71
-/// where that is not, but a stamp is; 1 where an allocation failed. Nothing has changed, and what waited still waits.
+/// In this order, and 1 at any point where an allocation failed. Nothing has changed, and the
+/// answers that waited still wait.
+/// - 34 to 42: the bytes are no frame, by the first fault from left to right.
+/// - 70: the horizon is later than the limit.
+/// - 71: a stamp is later than the limit.
 #[unsafe(no_mangle)]
 pub extern "C" fn warm_receive(alloc: Global, handle: &mut Handle, frame: &[u8]) -> i32
-    ensures { Called (Receives frame.now) handle.old.slot.held result handle.new.slot.held }
+    ensures { Called (Receives frame.now) handle.old.held.node result handle.new.held.node }
 {
-    let Some(mut held) = handle.take(alloc) else {
-        return status_of(Err(Refusal::Closed));
-    };
-    let done = held.receive(alloc, frame);
-    *handle = Handle::of(held);
-    status_of(done)
+    on_open(alloc, handle, |node| node.receive(alloc, frame))
 }
 
 /// Writes the frame of the next answer that waits, and its length; a length of 0 where none waits.
 ///
 /// # Errors
-/// 66 where it does not fit, with its length written; 1 where an allocation failed. It is still the next, and the buffer is as it was.
+/// The answer is still the next, and the buffer is unchanged.
+/// - 1: an allocation failed.
+/// - 66: the frame does not fit; its length is written.
 #[unsafe(no_mangle)]
 pub extern "C" fn warm_next_answer(
     alloc: Global,
@@ -355,18 +415,18 @@ pub extern "C" fn warm_next_answer(
     len: &mut usize,
 ) -> i32
     ensures called { Called (GivesNext frame.old len.old frame.new len.new)
-        handle.old.slot.held result handle.new.slot.held }
-    ensures closed { handle.old.slot.held ≡ None → (frame.new ≡ frame.old) × (len.new ≡ len.old) }
+        handle.old.held.node result handle.new.held.node }
+    ensures closed { handle.old.held.node ≡ None → (frame.new ≡ frame.old) × (len.new ≡ len.old) }
 {
-    let Some(mut held) = handle.take(alloc) else {
-        return status_of(Err(Refusal::Closed));
+    let Some(mut node) = handle.take(alloc) else {
+        return closed();
     };
-    let done = held.next_answer(alloc, frame, len);
-    *handle = Handle::of(held);
-    status_of(done)
+    let done = node.next_answer(alloc, frame, len);
+    put_back(handle, node, done)
 }
 
-/// Forgets all stamps before this time, unless the horizon is later already, and writes the horizon.
+/// Raises the horizon to this time, unless it is later already: forgets all stamps before it, and
+/// writes the horizon from then on.
 #[unsafe(no_mangle)]
 pub extern "C" fn warm_horizon(
     alloc: Global,
@@ -374,85 +434,78 @@ pub extern "C" fn warm_horizon(
     time: u64,
     horizon: &mut u64,
 ) -> i32
-    ensures called { Called (Surely (Raises time horizon.new)) handle.old.slot.held result
-        handle.new.slot.held }
-    ensures closed { handle.old.slot.held ≡ None → horizon.new ≡ horizon.old }
+    ensures called { Called (Surely (Raises time horizon.new)) handle.old.held.node result
+        handle.new.held.node }
+    ensures closed { handle.old.held.node ≡ None → horizon.new ≡ horizon.old }
 {
-    let Some(mut held) = handle.take(alloc) else {
-        return status_of(Err(Refusal::Closed));
+    let Some(mut node) = handle.take(alloc) else {
+        return closed();
     };
-    held.raise(time, horizon);
-    *handle = Handle::of(held);
-    status_of(Ok(()))
+    *horizon = node.raise(time);
+    put_back(handle, node, Ok(()))
 }
 
-/// Writes every page that was written to back to its device, and flushes each device.
+/// Writes each dirty page back to its device, and flushes the unflushed devices.
 ///
 /// # Errors
-/// 12 at the first write or flush that fails. Of what a caller sees, counts of failures alone have changed.
+/// 12: a write or a flush failed. Of what a caller sees, only counts of failures have changed.
 #[unsafe(no_mangle)]
 pub extern "C" fn warm_write_back(alloc: Global, handle: &mut Handle) -> i32
-    ensures { Called WritesBack handle.old.slot.held result handle.new.slot.held }
+    ensures { Called WritesBack handle.old.held.node result handle.new.held.node }
 {
-    let Some(mut held) = handle.take(alloc) else {
-        return status_of(Err(Refusal::Closed));
-    };
-    let done = held.write_back();
-    *handle = Handle::of(held);
-    status_of(done)
+    on_open(alloc, handle, |node| node.write_back())
 }
 
 /// Writes how many pages the history knows.
 #[unsafe(no_mangle)]
 pub extern "C" fn warm_history_length(alloc: Global, handle: &mut Handle, number: &mut usize) -> i32
-    ensures called { Called (Surely (CountsPages number.new)) handle.old.slot.held result
-        handle.new.slot.held }
-    ensures closed { handle.old.slot.held ≡ None → number.new ≡ number.old }
+    ensures called { Called (Surely (CountsPages number.new)) handle.old.held.node result
+        handle.new.held.node }
+    ensures closed { handle.old.held.node ≡ None → number.new ≡ number.old }
 {
-    let Some(mut held) = handle.take(alloc) else {
-        return status_of(Err(Refusal::Closed));
+    let Some(node) = handle.take(alloc) else {
+        return closed();
     };
-    held.count(number);
-    *handle = Handle::of(held);
-    status_of(Ok(()))
+    *number = node.count();
+    put_back(handle, node, Ok(()))
 }
 
-/// Writes a dump of the history to the descriptor's file, from byte 0 on, and syncs it.
+/// Writes a dump of the history to the descriptor's file, from byte 0 on, and syncs it. The handle
+/// is unchanged.
 ///
 /// # Errors
-/// 82 where the file was not written or not synced; 1 where an allocation failed. The file may then hold any part of the dump. The
-/// handle is as it was in any case.
+/// The file may then hold any part of the dump.
+/// - 1: an allocation failed.
+/// - 82: the file was not written or not synced.
 #[unsafe(no_mangle)]
 pub extern "C" fn warm_save(alloc: Global, handle: &mut Handle, fd: i32) -> i32
-    ensures { Called Saves handle.old.slot.held result handle.new.slot.held }
+    ensures { Called Saves handle.old.held.node result handle.new.held.node }
 {
-    let Some(mut held) = handle.take(alloc) else {
-        return status_of(Err(Refusal::Closed));
-    };
-    let done = held.save(alloc, Descriptor::new(fd));
-    *handle = Handle::of(held);
-    status_of(done)
+    on_open(alloc, handle, |node| node.save(alloc, Descriptor::new(fd)))
 }
 
-/// Takes in the history of the dump that the first `length` bytes of the descriptor's file are, all or nothing.
+/// Reads the dump that the first `length` bytes of the descriptor's file are, and joins its
+/// history, all or nothing.
 ///
 /// # Errors
-/// 35 to 42 and 77 to 80 where the bytes are no dump, by the first fault from left to right; 81 where the file was not read; 1 where an
-/// allocation failed. Nothing has changed that a caller sees.
+/// Nothing that a caller sees has changed.
+/// - 35 to 42, 77 to 80: the bytes are no dump, by the first fault from left to right.
+/// - 81: the file was not read.
+/// - 1: an allocation failed.
 #[unsafe(no_mangle)]
 pub extern "C" fn warm_load(alloc: Global, handle: &mut Handle, fd: i32, length: u64) -> i32
-    ensures { Called (Loads None) handle.old.slot.held result handle.new.slot.held }
+    ensures { Called (Loads None) handle.old.held.node result handle.new.held.node }
 {
-    let Some(mut held) = handle.take(alloc) else {
-        return status_of(Err(Refusal::Closed));
-    };
-    let done = held.load(alloc, Descriptor::new(fd), length);
-    *handle = Handle::of(held);
-    status_of(done)
+    on_open(
+        alloc,
+        handle,
+        |node| node.load(alloc, Descriptor::new(fd), length),
+    )
 }
 
-/// Writes the name of a status, as many bytes of it as there is room for, and a zero byte after it where there is room left. Its length,
-/// without the zero, is written. What is no status is called `Unknown`. Answers 0.
+/// Writes the name of a status and a zero byte after it, as many bytes of both as there is room
+/// for, and the length of the name without the zero byte. Returns 0. The name of what is no status
+/// is `Unknown`.
 #[unsafe(no_mangle)]
 pub extern "C" fn warm_status_name(status: i32, name: &mut [u8], len: &mut usize) -> i32
     ensures text { name.new ≡ with_some (status_name status ++ 0 ∷ []) name.old }

@@ -1,12 +1,12 @@
-//! Making what an open handle holds.
+//! Creating the node that an open handle holds.
 ghost use Rattle.std.specs.Bool.{Decides};
 ghost use Rattle.std.specs.Prelude.{◌≡◌, ◌≤◌, length, map, IfErr, IfOk, OnOk};
 ghost use Rattle.warm_c.specs.FdParts.{fd_state};
-ghost use Rattle.warm_c.specs.Handles.{AllDiffer, AreDevices, DescriptorsDiffer, IsAsked, IsClash, IsUnmade, IsUnopened, open_request, fd_devices, opened_handle};
+ghost use Rattle.warm_c.specs.Handles.{AllDiffer, AreDevices, DescriptorsDiffer, MayOpen, IsClash, DevicesRefused, OpenRefused, open_request, fd_devices, opened_handle};
 
 use crate::descriptor::Descriptor;
 use crate::fd_device::FdDevice;
-use crate::held::Held;
+use crate::open_node::OpenNode;
 use crate::status::Refusal;
 use crate::values::WarmDevice;
 use std::alloc::{AllocError, Global};
@@ -35,7 +35,7 @@ fn files_differ(alloc: Global, files: Vec<u128>) -> Result<bool, AllocError>
     Ok(distinct.len() == count)
 }
 
-// The descriptors of these devices.
+// Lists the descriptors of these devices.
 fn fds_of(alloc: Global, devices: &[WarmDevice]) -> Result<Vec<i32>, AllocError>
     ensures { IfOk result (λ fds. fds.items ≡ map (λ d. d.fd) devices.now) }
 {
@@ -46,7 +46,7 @@ fn fds_of(alloc: Global, devices: &[WarmDevice]) -> Result<Vec<i32>, AllocError>
     Ok(fds)
 }
 
-// The identities of the files of these devices, of those to which the system gives one.
+// Lists the identities of the files of these devices, of those to which the system gives one.
 fn files_of(alloc: Global, devices: &[WarmDevice]) -> Result<Vec<u128>, AllocError>
     ensures { IfOk result (λ files. length files.items ≤ length devices.now) }
 {
@@ -75,7 +75,7 @@ fn check_apart(alloc: Global, devices: &[WarmDevice]) -> Result<(), Refusal>
     Ok(())
 }
 
-// The devices over these descriptors.
+// Creates the devices over these descriptors.
 fn devices_of(
     alloc: Global,
     page_size: usize,
@@ -86,7 +86,7 @@ fn devices_of(
     ensures few { IfOk result (λ made. length made.items ≤ MAX_DEVICES) }
     ensures are { OnOk result (AreDevices page_size devices.now) }
     ensures apart { OnOk result (DescriptorsDiffer devices.now) }
-    ensures refused { IfErr result (IsUnmade page_size devices.now) }
+    ensures refused { IfErr result (DevicesRefused page_size devices.now) }
 {
     if devices.len() > MAX_DEVICES {
         return Err(Refusal::Node(NodeFault::Pool(PoolFault::NoDevice)));
@@ -104,35 +104,38 @@ fn devices_of(
     Ok(made)
 }
 
-/// A node that was given nothing, over a pool without a page.
+/// Creates a node with an empty history, over a pool without a page.
 ///
 /// # Errors
-/// In this order: `BadReplica`; `Node`, with `NoDevice` where there are more devices than a pool takes, or the pages of one do not fit
-/// into what a file's offsets can name; `SameFile` where two devices have one descriptor, or one file by what the system says;
-/// `NewPool`, with why no pool is made; and `Node`, with `Memory`, wherever it comes.
+/// In this order; `Node`, with `Memory`, at any point.
+/// - `BadReplica`: the number is not valid.
+/// - `Node`, with `NoDevice`: there are more devices than a pool takes, or the pages of one do not
+///   fit into what a file's offsets can name.
+/// - `SameFile`: two devices have one descriptor, or one file by what the system says.
+/// - `NewPool`: no pool of so many frames, or of pages of this size, is made.
 pub fn open(
     alloc: Global,
     replica: u16,
     frames: usize,
     page_size: usize,
     devices: &[WarmDevice],
-) -> Result<Held, Refusal>
+) -> Result<OpenNode, Refusal>
     ensures opened { IfOk result (λ held.
         held ≡ opened_handle (open_request replica frames page_size devices.now)) }
-    ensures is_asked { OnOk result (IsAsked (open_request replica frames page_size devices.now)) }
-    ensures refused { IfErr result (IsUnopened (open_request replica frames page_size devices.now)) }
+    ensures may_open { OnOk result (MayOpen (open_request replica frames page_size devices.now)) }
+    ensures refused { IfErr result (OpenRefused (open_request replica frames page_size devices.now)) }
 {
     let Ok(replica) = ReplicaId::new(replica) else {
         return Err(Refusal::BadReplica);
     };
     let devices = devices_of(alloc, page_size, devices)?;
     match Pool::new(alloc, frames, page_size, devices) {
-        Ok(pool) => Ok(Held {
+        Ok(pool) => Ok(OpenNode {
             node: Node::new(alloc, replica, pool),
             answers: MessageList::of(Vec::new(alloc)),
             given: 0,
             limit: u64::MAX,
         }),
-        Err(unmade) => Err(Refusal::NewPool(unmade.fault)),
+        Err(error) => Err(Refusal::NewPool(error.fault)),
     }
 }

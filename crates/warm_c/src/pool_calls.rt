@@ -1,32 +1,19 @@
 //! The calls on the pool of an open handle.
-ghost use Rattle.warm_c.specs.Calls.{Names, Pins, ReadsPage, StepsWarmUp, Unpins, Writes, WritesBack};
-ghost use Rattle.warm_c.specs.Values.{IsOptionalPage};
+ghost use Rattle.std.specs.Prelude.{IfErr, IfOk};
+ghost use Rattle.warm_gossip.specs.declared.call.Call.TheVariants.{Victim, WarmStep};
+ghost use Rattle.warm_gossip.specs.declared.call.Reply.TheVariants.{Loaded, Page};
+ghost use Rattle.warm_c.specs.Calls.{Pins, ReadsPage, RefusedByNode, Replies, Unpins, Writes, WritesBack};
 
-use crate::held::Held;
+use crate::open_node::OpenNode;
 use crate::status::Refusal;
 use crate::values::{PinnedSlot, WarmPage, WarmSlot};
 use warm_stamps::PageId;
 
-// Writes whether there is a page, as a bool of C, and which; `page` is as it was where there is none.
-//
-// `found` is a number here, and not a `bool`: what a caller of C never wrote may be none, and is none of what this reads.
-fn put_page(given: Option<PageId>, found: &mut u8, page: &mut WarmPage)
-    ensures { IsOptionalPage given page.old found.new page.new }
-{
-    match given {
-        Some(given) => {
-            *found = 1;
-            *page = WarmPage::of(given);
-        }
-        None => *found = 0,
-    }
-}
-
-impl Held {
-    /// The node's [`warm_gossip::Node::pin`], whose slot is written.
+impl OpenNode {
+    /// Calls [`warm_gossip::Node::pin`], and writes the slot.
     ///
     /// # Errors
-    /// The node's own. The slot is then as it was.
+    /// `Node`: the node's own. The slot is unchanged.
     pub fn pin(&mut self, page: WarmPage, slot: &mut PinnedSlot) -> Result<(), Refusal>
         ensures { Pins page slot.old slot.new self.old result self.new }
     {
@@ -35,10 +22,10 @@ impl Held {
         Ok(())
     }
 
-    /// The node's [`warm_gossip::Node::unpin`].
+    /// Calls [`warm_gossip::Node::unpin`].
     ///
     /// # Errors
-    /// The node's own.
+    /// `Node`: the node's own.
     pub fn unpin(&mut self, slot: WarmSlot) -> Result<(), Refusal>
         ensures { Unpins slot self.old result self.new }
     {
@@ -46,10 +33,10 @@ impl Held {
         Ok(())
     }
 
-    /// The node's [`warm_gossip::Node::read_into`].
+    /// Calls [`warm_gossip::Node::read_into`].
     ///
     /// # Errors
-    /// The node's own. `into` is then as it was.
+    /// `Node`: the node's own. `into` is unchanged.
     pub fn read(&mut self, slot: WarmSlot, at: usize, into: &mut [u8]) -> Result<(), Refusal>
         ensures { ReadsPage slot at into.old into.new self.old result self.new }
     {
@@ -57,10 +44,10 @@ impl Held {
         Ok(())
     }
 
-    /// The node's [`warm_gossip::Node::write`].
+    /// Calls [`warm_gossip::Node::write`].
     ///
     /// # Errors
-    /// The node's own.
+    /// `Node`: the node's own.
     pub fn write(&mut self, slot: WarmSlot, at: usize, bytes: &[u8]) -> Result<(), Refusal>
         ensures { Writes slot at bytes.now self.old result self.new }
     {
@@ -68,29 +55,29 @@ impl Held {
         Ok(())
     }
 
-    /// The node's [`warm_gossip::Node::victim`]: whether there is one is written, and which.
-    pub fn victim(&mut self, found: &mut u8, page: &mut WarmPage)
-        ensures { Names page.old found.new page.new self.old self.new }
+    /// Calls [`warm_gossip::Node::victim`].
+    pub fn victim(&self) -> Option<PageId>
+        ensures { Replies Victim self.now (Page result) self.now }
     {
-        put_page(self.node.victim(), found, page);
+        self.node.victim()
     }
 
-    /// The node's [`warm_gossip::Node::warm_step`]: whether a page was loaded is written, and which.
+    /// Calls [`warm_gossip::Node::warm_step`], and returns the page that was loaded, if one was.
     ///
     /// # Errors
-    /// The node's own. `found` and `page` are then as they were.
-    pub fn step(&mut self, found: &mut u8, page: &mut WarmPage) -> Result<(), Refusal>
-        ensures { StepsWarmUp found.old page.old found.new page.new self.old result self.new }
+    /// `Node`: the node's own.
+    pub fn step(&mut self) -> Result<Option<PageId>, Refusal>
+        ensures loaded { IfOk result (λ page. Replies WarmStep self.old (Loaded page) self.new) }
+        ensures refused { IfErr result (λ why. RefusedByNode WarmStep self.old why self.new) }
     {
         let loaded = self.node.warm_step()?;
-        put_page(loaded, found, page);
-        Ok(())
+        Ok(loaded)
     }
 
-    /// The node's [`warm_gossip::Node::write_back`].
+    /// Calls [`warm_gossip::Node::write_back`].
     ///
     /// # Errors
-    /// The node's own.
+    /// `Node`: the node's own.
     pub fn write_back(&mut self) -> Result<(), Refusal>
         ensures { WritesBack self.old result self.new }
     {

@@ -1,14 +1,14 @@
 //! Why a call is refused, as a number and by name.
 ghost use Rattle.std.specs.Prelude.{◌≡◌, [], ◌∷◌, ◌++◌};
-ghost use Rattle.warm_c.specs.Statuses.{code_of, dump_code_of, frame_code_of, status_of};
-ghost use Rattle.warm_c.specs.StatusNames.{dump_name_at, frame_name_at, library_name_at, name_at, pool_name_at, status_name, NamesRefusals};
+ghost use Rattle.warm_c.specs.Statuses.{code_of, dump_code_of, frame_code_of, late_code_of, name_of, status_of};
+ghost use Rattle.warm_c.specs.StatusNames.{name_in, status_name, NamesRefusals};
 ghost use Rattle.warm_c.specs.Values.{with_some};
 
 use std::alloc::AllocError;
 use warm_files::DumpFault;
 use warm_frames::{FrameFault, TimeFault};
 use warm_gossip::NodeFault;
-use warm_pool::NewPoolFault;
+use warm_pool::{NewPoolFault, PoolFault};
 
 /// Why a call is refused. Each has a number, which is its status, and a name.
 #[derive(Clone, Copy)]
@@ -17,7 +17,7 @@ pub enum Refusal {
     Node(NodeFault),
     /// 1 to 3: why no pool is made.
     NewPool(NewPoolFault),
-    /// 1, or 34 to 42: why bytes are no frame; past memory it is the fault's own number and 32.
+    /// 1, or 34 to 42: why bytes are no frame; but for memory it is the fault's own number and 32.
     Frame(FrameFault),
     /// 64: the handle is closed.
     Closed,
@@ -31,10 +31,11 @@ pub enum Refusal {
     BadBucket,
     /// 69: two devices are of one file.
     SameFile,
-    /// 70 or 71: a frame speaks of a time later than the limit; it is the fault's own number and 69.
+    /// 70 or 71: a frame speaks of a time later than the limit; it is the fault's own number and
+    /// 69.
     Late(TimeFault),
-    /// 1, 35 to 42, or 77 to 82: why a dump is not written or not read. That of a frame in it is the frame's; others are the fault's
-    /// own number and 64.
+    /// 1, 35 to 42, or 77 to 82: why a dump is not written or not read. The fault of a frame in it
+    /// has the frame's number; others have the fault's own number and 64.
     Dump(DumpFault),
 }
 
@@ -100,7 +101,7 @@ impl From<DumpFault> for Refusal {
 }
 
 impl Refusal {
-    /// Its number.
+    /// Returns the number of the refusal.
     pub fn code(self) -> u8
         ensures { result ≡ code_of self }
     {
@@ -114,48 +115,60 @@ impl Refusal {
             Refusal::BadReplica => 67,
             Refusal::BadBucket => 68,
             Refusal::SameFile => 69,
-            Refusal::Late(TimeFault::LateHorizon) => 70,
-            Refusal::Late(TimeFault::LateStamp) => 71,
+            Refusal::Late(fault) => late_code(fault),
             Refusal::Dump(fault) => dump_code(fault),
+        }
+    }
+
+    /// Returns its name, as the variant is written; that of a fault of another crate is the fault's
+    /// own.
+    pub fn name(self) -> &'static str
+        ensures { result.now ≡ name_of self }
+    {
+        match self {
+            Refusal::Node(fault) => fault.name(),
+            Refusal::NewPool(fault) => fault.name(),
+            Refusal::Frame(fault) => fault.name(),
+            Refusal::Closed => "Closed",
+            Refusal::AlreadyOpen => "AlreadyOpen",
+            Refusal::BufferTooSmall => "BufferTooSmall",
+            Refusal::BadReplica => "BadReplica",
+            Refusal::BadBucket => "BadBucket",
+            Refusal::SameFile => "SameFile",
+            Refusal::Late(fault) => fault.name(),
+            Refusal::Dump(fault) => fault.name(),
         }
     }
 }
 
-// The number of a frame's fault among the statuses.
+// Returns the number of a frame's fault among the statuses.
 fn frame_code(fault: FrameFault) -> u8
     ensures { result ≡ frame_code_of fault }
 {
     match fault {
         FrameFault::Memory => 1,
-        FrameFault::Truncated => 34,
-        FrameFault::BadMagic => 35,
-        FrameFault::BadKind => 36,
-        FrameFault::BadSender => 37,
-        FrameFault::BadLength => 38,
-        FrameFault::BadCount => 39,
-        FrameFault::BadTag => 40,
-        FrameFault::BadStamp => 41,
-        FrameFault::BadOrder => 42,
-        FrameFault::Failed => 43,
+        fault => 32 + fault.code(),
     }
 }
 
-// The number of a dump's fault among the statuses.
+// Returns the number of a late time among the statuses.
+fn late_code(fault: TimeFault) -> u8
+    ensures { result ≡ late_code_of fault }
+{
+    69 + fault.code()
+}
+
+// Returns the number of a dump's fault among the statuses.
 fn dump_code(fault: DumpFault) -> u8
     ensures { result ≡ dump_code_of fault }
 {
     match fault {
         DumpFault::Frame(fault) => frame_code(fault),
-        DumpFault::CutShort => 77,
-        DumpFault::DigestsDiffer => 78,
-        DumpFault::HorizonsDiffer => 79,
-        DumpFault::MoreFollows => 80,
-        DumpFault::ReadFault => 81,
-        DumpFault::WriteFault => 82,
+        fault => 64 + fault.code(),
     }
 }
 
-/// The status of a result: 0, or the number of the refusal.
+/// Returns the status of a result: 0, or the number of the refusal.
 pub fn status_of(done: Result<(), Refusal>) -> i32
     ensures { result ≡ status_of done }
 {
@@ -165,104 +178,73 @@ pub fn status_of(done: Result<(), Refusal>) -> i32
     }
 }
 
-// The names of the statuses up to 13.
-fn pool_name(number: u32) -> &'static str
-    ensures { result.now ≡ pool_name_at number }
+// One refusal of each number, for the name of a number.
+static REFUSALS: [Refusal; 36] = [
+    Refusal::Node(NodeFault::Memory),
+    Refusal::NewPool(NewPoolFault::BadFrames),
+    Refusal::NewPool(NewPoolFault::SizeDiffers),
+    Refusal::Node(NodeFault::Pool(PoolFault::NoDevice)),
+    Refusal::Node(NodeFault::Pool(PoolFault::NoPage)),
+    Refusal::Node(NodeFault::Pool(PoolFault::AllFixed)),
+    Refusal::Node(NodeFault::Pool(PoolFault::ReadFault)),
+    Refusal::Node(NodeFault::Pool(PoolFault::WriteBack)),
+    Refusal::Node(NodeFault::Pool(PoolFault::FixesFull)),
+    Refusal::Node(NodeFault::Pool(PoolFault::OutOfPage)),
+    Refusal::Node(NodeFault::Pool(PoolFault::Fixed)),
+    Refusal::Node(NodeFault::Pool(PoolFault::Fault)),
+    Refusal::Node(NodeFault::StaleSlot),
+    Refusal::Frame(FrameFault::Truncated),
+    Refusal::Frame(FrameFault::BadMagic),
+    Refusal::Frame(FrameFault::BadKind),
+    Refusal::Frame(FrameFault::BadSender),
+    Refusal::Frame(FrameFault::BadLength),
+    Refusal::Frame(FrameFault::BadCount),
+    Refusal::Frame(FrameFault::BadTag),
+    Refusal::Frame(FrameFault::BadStamp),
+    Refusal::Frame(FrameFault::BadOrder),
+    Refusal::Closed,
+    Refusal::AlreadyOpen,
+    Refusal::BufferTooSmall,
+    Refusal::BadReplica,
+    Refusal::BadBucket,
+    Refusal::SameFile,
+    Refusal::Late(TimeFault::LateHorizon),
+    Refusal::Late(TimeFault::LateStamp),
+    Refusal::Dump(DumpFault::CutShort),
+    Refusal::Dump(DumpFault::DigestsDiffer),
+    Refusal::Dump(DumpFault::HorizonsDiffer),
+    Refusal::Dump(DumpFault::MoreFollows),
+    Refusal::Dump(DumpFault::ReadFault),
+    Refusal::Dump(DumpFault::WriteFault),
+];
+
+// Returns the name of the first of these refusals that has the number, or `Unknown`.
+fn name_in(refusals: &[Refusal], number: u32) -> &'static str
+    ensures { result.now ≡ name_in refusals.now number }
 {
-    match number {
-        0 => "Ok",
-        1 => "Memory",
-        2 => "BadFrames",
-        3 => "SizeDiffers",
-        4 => "NoDevice",
-        5 => "NoPage",
-        6 => "AllFixed",
-        7 => "ReadFault",
-        8 => "WriteBack",
-        9 => "FixesFull",
-        10 => "OutOfPage",
-        11 => "Fixed",
-        12 => "Fault",
-        13 => "StaleSlot",
-        _ => "Unknown",
+    for refusal in refusals {
+        if u32::from(refusal.code()) == number {
+            return refusal.name();
+        }
     }
+    "Unknown"
 }
 
-// The names of the statuses of frames, from 34 on.
-fn frame_name(number: u32) -> &'static str
-    ensures { result.now ≡ frame_name_at number }
-{
-    match number {
-        34 => "Truncated",
-        35 => "BadMagic",
-        36 => "BadKind",
-        37 => "BadSender",
-        38 => "BadLength",
-        39 => "BadCount",
-        40 => "BadTag",
-        41 => "BadStamp",
-        42 => "BadOrder",
-        _ => "Unknown",
-    }
-}
-
-// The names of the statuses of the library, from 64 on.
-fn library_name(number: u32) -> &'static str
-    ensures { result.now ≡ library_name_at number }
-{
-    match number {
-        64 => "Closed",
-        65 => "AlreadyOpen",
-        66 => "BufferTooSmall",
-        67 => "BadReplica",
-        68 => "BadBucket",
-        69 => "SameFile",
-        70 => "LateHorizon",
-        71 => "LateStamp",
-        _ => dump_name(number),
-    }
-}
-
-// The names of the statuses of dumps, from 77 on.
-fn dump_name(number: u32) -> &'static str
-    ensures { result.now ≡ dump_name_at number }
-{
-    match number {
-        77 => "CutShort",
-        78 => "DigestsDiffer",
-        79 => "HorizonsDiffer",
-        80 => "MoreFollows",
-        81 => "ReadFault",
-        82 => "WriteFault",
-        _ => "Unknown",
-    }
-}
-
-// The name of the status with this number.
-fn name_of_number(number: u32) -> &'static str
-    ensures { result.now ≡ name_at number }
-{
-    if number < 34 {
-        return pool_name(number);
-    }
-    if number < 64 {
-        return frame_name(number);
-    }
-    library_name(number)
-}
-
-/// The name of a status: `Ok`, that of its refusal, or `Unknown` for what is no status.
+/// Returns the name of a status: `Ok`, that of its refusal, or `Unknown` for what is no status.
 pub fn name_of_status(status: i32) -> &'static str
     ensures { result.now ≡ status_name status }
 {
     if status < 0 {
         return "Unknown";
     }
-    name_of_number(status as u32)
+    if status == 0 {
+        return "Ok";
+    }
+    name_in(&REFUSALS, status as u32)
 }
 
-/// A theorem: the name of a refusal's status is its own, as its crate spells it. `Failed` has none: no whole frame has that fault, so 43
-/// is no status.
+/// A theorem: the name of a refusal's status is its own, as its crate spells it. `Failed` has none:
+/// no whole frame has that fault, so 43 is no status.
 pub fn statuses_name_refusals()
     ensures { NamesRefusals }
 {}

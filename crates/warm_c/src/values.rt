@@ -1,11 +1,12 @@
 //! What crosses to C, beside numbers, bytes and a handle.
 ghost use Rattle.std.specs.Prelude.{◌≡◌};
-ghost use Rattle.warm_c.specs.Values.{c_page, c_slot, page_if, page_of_c, slot_of_c};
+ghost use Rattle.warm_c.specs.Values.{c_page, c_slot, page_if, page_of_c, slot_of_c, IsOptionalPage};
 
 use warm_pool::Slot;
 use warm_stamps::PageId;
 
-/// A page: a device, numbered from 0 in the order of the descriptors, and a page of it, counted from 0.
+/// A page: its device, numbered from 0 in the order of the devices of `warm_open`, and its number
+/// on that device, from 0.
 #[repr(C)]
 #[derive(Clone, Copy)]
 pub struct WarmPage {
@@ -39,9 +40,11 @@ pub struct WarmSlot {
     pub index: u32,
 }
 
-/// A slot as `warm_pin` writes it: to C it is a `WarmSlot`, whose index is the lower half of the index here.
+/// A slot as `warm_pin` writes it: to C it is a `WarmSlot`, whose index is the lower half of the
+/// index here.
 ///
-/// C passes a slot on by reads of eight bytes. A processor serves such a read at once from one write of eight, and not from two of four.
+/// C passes a slot on by reads of eight bytes. A processor serves such a read at once from one
+/// write of eight, and not from two of four.
 #[repr(C)]
 #[derive(Clone, Copy)]
 pub struct PinnedSlot {
@@ -51,7 +54,8 @@ pub struct PinnedSlot {
     pub index: u64,
 }
 
-/// A device: a file descriptor that is open for reading and writing, and how many pages its file may have.
+/// A device: a file descriptor that is open for reading and writing, and how many pages its file
+/// may have.
 #[repr(C)]
 #[derive(Clone, Copy)]
 pub struct WarmDevice {
@@ -62,7 +66,7 @@ pub struct WarmDevice {
 }
 
 impl WarmPage {
-    /// The page, for C.
+    /// Returns the page as C has it.
     pub fn of(page: PageId) -> WarmPage
         ensures { result ≡ c_page page }
     {
@@ -72,7 +76,7 @@ impl WarmPage {
         }
     }
 
-    /// The page, for the node.
+    /// Returns the page as the node has it.
     pub fn page(self) -> PageId
         ensures { result ≡ page_of_c self }
     {
@@ -84,7 +88,7 @@ impl WarmPage {
 }
 
 impl PinnedSlot {
-    /// The slot, for C.
+    /// Returns the slot as C has it.
     pub fn of(slot: Slot) -> PinnedSlot
         ensures { result ≡ c_slot slot }
     {
@@ -96,7 +100,7 @@ impl PinnedSlot {
 }
 
 impl WarmSlot {
-    /// The slot, for the node.
+    /// Returns the slot as the node has it.
     pub fn slot(self) -> Slot
         ensures { result ≡ slot_of_c self }
     {
@@ -107,9 +111,26 @@ impl WarmSlot {
     }
 }
 
-/// The page, where there is one: `page` means nothing where there is none.
+/// Returns the page, where there is one; `page` means nothing where there is none.
 pub fn page_if(is_there: bool, page: WarmPage) -> Option<PageId>
     ensures { result ≡ page_if is_there page }
 {
     if is_there { Some(page.page()) } else { None }
+}
+
+/// Writes whether there is a page, as a bool of C, and which; `page` is unchanged where there is
+/// none.
+///
+/// `found` is a number here, and not a `bool`: what a caller of C never wrote may be none, and is
+/// none of what this reads.
+pub fn put_page(given: Option<PageId>, found: &mut u8, page: &mut WarmPage)
+    ensures { IsOptionalPage given page.old found.new page.new }
+{
+    match given {
+        Some(given) => {
+            *found = 1;
+            *page = WarmPage::of(given);
+        }
+        None => *found = 0,
+    }
 }

@@ -11,11 +11,11 @@ use std::io::{self, ErrorKind, Write};
 /// How many names are tried for a draft.
 pub const MAX_NAMES: u64 = 16;
 
-/// A file that is being written, and not yet in place. It is removed where it is dropped.
+/// A file that is being written and is not yet in place. Its drop removes it.
 ///
-/// Its name is `.NUMBER.draft`, in the folder of the file that it is to replace; NUMBER has 16 hexadecimal digits. A process that is
-/// killed leaves it behind. No later draft reads, reuses or removes it, since each takes a name that is free; whoever finds it may
-/// remove it.
+/// Its name is `.NUMBER.draft`, in the folder of the file that it is to replace; NUMBER has 16
+/// hexadecimal digits. A process that is killed leaves it behind. No later draft reads, reuses or
+/// removes it, since each takes a name that is free; whoever finds it may remove it.
 pub struct Draft<'a, R: Files> {
     files: &'a R,
     // The path of the file that it is to replace.
@@ -32,7 +32,7 @@ fn failed(step: Step, error: io::Error) -> StoreFault
     StoreFault { step, error }
 }
 
-// Makes a draft by the first name that is free, of those from this number on.
+// Creates a draft by the first name that is free, of those from this number on.
 fn make_free<R: Files>(
     files: &R,
     alloc: Global,
@@ -71,14 +71,17 @@ fn put_in_place<R: Files>(
 }
 
 impl<'a, R: Files> Draft<'a, R> {
-    /// A draft of the file at `path`, which may be there or not. A symbolic link is followed: the file behind it is the one to be
-    /// replaced. The draft has the old file's permissions, not its owner.
+    /// Creates a draft of the file at `path`, which may exist or not. A symbolic link is followed:
+    /// the file behind it is the one to be replaced. The draft gets the old file's permissions, not
+    /// its owner.
     ///
-    /// The number picks the draft's name: drafts that are made at one time should have numbers far apart, as random ones are.
-    /// Where the name is taken the next number is tried, [`MAX_NAMES`] in all.
+    /// The number picks the draft's name: drafts that are created at one time should have numbers
+    /// far apart, as random ones are. Where the name is taken the next number is tried,
+    /// [`MAX_NAMES`] in all.
     ///
     /// # Errors
-    /// Of the steps `Target`, `Folder` and `Create`. No draft is left, and the old file is not touched.
+    /// In this order: the steps `Target`, `Folder` and `Create`. No draft is left, and the old file
+    /// is unchanged.
     pub fn create(
         files: &'a R,
         alloc: Global,
@@ -118,8 +121,10 @@ impl<'a, R: Files> Draft<'a, R> {
     /// Puts the draft in place: syncs it, renames it over the old file, and syncs their folder.
     ///
     /// # Errors
-    /// Of the steps `Sync` and `Rename`: the draft is removed, and the old file is as it was. Of the step `SyncFolder`: the new file
-    /// is in place, and a loss of power may bring the old one back.
+    /// In this order:
+    /// - The steps `Sync` and `Rename`: the draft is removed, and the old file is unchanged.
+    /// - The step `SyncFolder`: the new file is in place, and a loss of power may bring the old one
+    ///   back.
     pub fn commit(self) -> Result<(), StoreFault>
         ensures { IfErr result (λ why. IsOfPlacing why.step) }
     {

@@ -6,7 +6,8 @@ use thiserror::Error;
 /// What was being done.
 #[derive(Clone, Copy, Debug, PartialEq, Eq, Error)]
 pub enum Step {
-    /// Finding out what the path names: a folder, a device or anything else that is no regular file is not replaced.
+    /// Finding out what the path names: a folder, a device or anything else that is no regular
+    /// file is not replaced.
     #[error("cannot replace it")]
     Target,
     /// Opening the folder that the file is in.
@@ -21,7 +22,8 @@ pub enum Step {
     /// Renaming the draft over the old file.
     #[error("cannot rename the new file over it")]
     Rename,
-    /// Syncing the folder. The new file is in place, but a loss of power may bring the old one back.
+    /// Syncing the folder. The new file is in place, but a loss of power may bring the old one
+    /// back.
     #[error("the new file is in place, but its folder cannot be synced")]
     SyncFolder,
 }
@@ -32,6 +34,6 @@ pub enum Step {
 pub struct StoreFault {
     /// What was being done.
     pub step: Step,
-    /// What the system said of it.
+    /// The system's error.
     pub error: io::Error,
 }

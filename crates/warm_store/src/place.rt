@@ -63,7 +63,7 @@ pub fn folder_of(path: &str) -> &str {
     }
 }
 
-// Makes a draft in the folder, by a name that nothing there has.
+// Creates a draft in the folder, by a name that nothing there has.
 pub fn make_new<R: Files>(
     files: &R,
     alloc: Global,

@@ -195,7 +195,8 @@ impl<'a> Files for NotedFiles<'a> {
     }
 }
 
-// A file that is replaced. `None` where its bytes could not be written; else the step that failed, where one did.
+// Replaces a file. `None` where its bytes could not be written; else the step that failed, where
+// one did.
 fn replaced(alloc: Global, note: &Note) -> Option<Option<Step>> {
     let files = NotedFiles { note };
     let mut draft = match Draft::create(&files, alloc, "place/file", 7) {

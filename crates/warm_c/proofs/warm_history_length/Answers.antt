@@ -6,5 +6,5 @@ use Rattle.warm_c.proofs.warm_history_length.Goals as goal
 
 pub returns-clause-called : goal.returns-clause-called
 returns-clause-called c =
-    called (Surely (CountsPages c.count.new.number)) c.args.handle.now.slot.held c.of.result.slot.held (to_z w32 (of_z w32 c.status_of-2.result))
-    c.deref_mut.result.now c.count.new.self (Ok tt) (search rules) (search rules) c.count.ensures (search rules)
+    called (Surely (CountsPages c.count.result)) c.args.handle.now.held.node c.put_back.new.handle.held.node (to_z w32 (of_z w32 c.put_back.result))
+    c.deref.result.now c.deref.result.now (Ok tt) (search rules) (search rules) c.count.ensures (search rules)

@@ -6,5 +6,5 @@ use Rattle.warm_c.proofs.warm_horizon.Goals as goal
 
 pub returns-clause-called : goal.returns-clause-called
 returns-clause-called c =
-    called (Surely (Raises c.args.time c.raise.new.horizon)) c.args.handle.now.slot.held c.of.result.slot.held (to_z w32 (of_z w32 c.status_of-2.result))
+    called (Surely (Raises c.args.time c.raise.result)) c.args.handle.now.held.node c.put_back.new.handle.held.node (to_z w32 (of_z w32 c.put_back.result))
     c.deref_mut.result.now c.raise.new.self (Ok tt) (search rules) (search rules) c.raise.ensures (search rules)

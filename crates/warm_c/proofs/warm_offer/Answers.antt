@@ -6,5 +6,5 @@ use Rattle.warm_c.proofs.warm_offer.Goals as goal
 
 pub returns-clause-called : goal.returns-clause-called
 returns-clause-called c =
-    called (Sends Offer c.args.frame.now c.args.len.now c.offer-done.new.frame c.offer-done.new.len) c.args.handle.now.slot.held c.of.result.slot.held (to_z w32 (of_z w32 c.status_of-2.result))
-    c.deref_mut.result.now c.offer-done.new.self c.offer-done.result (search rules) (search rules) c.offer-done.ensures (search rules)
+    called (Sends Offer c.args.frame.now c.args.len.now c.offer-done.new.frame c.offer-done.new.len) c.args.handle.now.held.node c.put_back.new.handle.held.node
+    (to_z w32 (of_z w32 c.put_back.result)) c.deref_mut.result.now c.offer-done.new.self c.offer-done.result (search rules) (search rules) c.offer-done.ensures (search rules)

@@ -1,6 +1,6 @@
 use Rattle.std.proofs.Common.{◌<◌, ◌*◌, ◌^◌, List, Contains, pos, rules, subst, take_all}
 use Rattle.warm_c.specs.declared.values.WarmDevice.{WarmDevice}
-use Rattle.warm_c.proofs.Devices.{clash_unmade, contains_next, made_next}
+use Rattle.warm_c.proofs.Devices.{clash_refuses, contains_next, made_next}
 use Rattle.warm_c.proofs.opening.devices_of.Goals as goal
 
 pub loop-device-preserved : goal.loop-device-preserved
@@ -28,5 +28,5 @@ returns-in-Err c =
       few = tt;
       are = tt;
       apart = tt;
-      refused = clash_unmade c.args.page_size c.args.devices.now c.in-Err.why (record { few = c.loop-device.invariant.few; fit = fit }) c.in-Err.ensures.refused;
+      refused = clash_refuses c.args.page_size c.args.devices.now c.in-Err.why (record { few = c.loop-device.invariant.few; fit = fit }) c.in-Err.ensures.refused;
     }

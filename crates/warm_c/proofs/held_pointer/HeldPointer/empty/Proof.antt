@@ -1,35 +1,16 @@
 -- `empty` is made of nothing.
-use Rattle.std.proofs.Common.{◌≡◌, List, [], ◌∷◌, ◌++◌, refl, sym, subst}
-use mir.Syntax.{Fn}
-use mir.Val.{Val}
-use base.Logic.{SProp, ent, emp, id⊢}
-use base.Fml.{ftrue}
-use prog.Wp.{WpFn}
-use contract.Monad.{fact, fact_i}
-use contract.Running.{tables}
-use types.Kit.{‵, raw, ◌⊛◌, ◌$◌, ◌∵◌, !, qed, by, move, keep, use0, use1, split, fsplit, fjoin, fpack, feq_i, rewrite, suffices}
-use types.Part.{agg}
-use types.Run.{lit, no_more, and_then, returns, enter}
-use types.ByLocal.{alloc_all, pass_all, free_all, look_at, get, sets}
-use denote.RattleType.{Valss, owns}
-use denote.RawPtr.{null_ptr, ptr_val}
-use denote.Signature.{types_at, type_at}
-use denote.Steps.{nothing}
-use denote.Struct.Struct.{within}
-use denote.Struct.Owning.{shape, to}
-use denote.Triple.Entry.{alive}
-use denote.Triple.Walked.{Stays, stay_dropped, walk_of}
-use Rattle.core.proofs.alloc.Calls.{Goes-blank}
-use Rattle.std.proofs.raw_atomic.Walks.{proved_at, leaves}
+use Rattle.warm_c.proofs.Walking.{◌≡◌, List, [], ◌∷◌, ◌++◌, refl, sym, subst, Fn, Val, SProp, ent, emp, id⊢, ftrue, WpFn, fact, fact_i, tables, ‵}
+use Rattle.warm_c.proofs.Walking.{raw, ◌⊛◌, ◌$◌, ◌∵◌, !, qed, by, move, keep, use0, use1, split, fsplit, fjoin, fpack, feq_i, rewrite, suffices, agg}
+use Rattle.warm_c.proofs.Walking.{lit, no_more, and_then, returns, enter, alloc_all, pass_all, free_all, look_at, get, sets, Valss, owns, null_ptr}
+use Rattle.warm_c.proofs.Walking.{ptr_val, types_at, type_at, nothing, within, shape, to, alive, Stays, stay_dropped, walk_of, Goes-blank, proved_at}
+use Rattle.warm_c.proofs.Walking.{leaves, None}
 use Rattle.std.proofs.alloc.Global.TheLaws as heap_laws
-use Rattle.std.specs.contracts.alloc.Global as heap
-use Rattle.std.specs.Prelude.{None}
 use Rattle.warm_c.proofs.Erased.{first, bits, word, typed, bits_typed}
-use Rattle.warm_c.specs.contracts.slot.Slot as slot
-use Rattle.warm_c.specs.contracts.slot.Slot.empty.{ended, clauses, signature}
-use Rattle.warm_c.specs.contracts.slot.Slot.empty.Key.{name as #self}
-use Rattle.warm_c.proofs.slot.Slot.empty.Statement.{statement}
-use Rattle.warm_c.proofs.slot.Slot.empty.Code as code
+use Rattle.warm_c.specs.contracts.held_pointer.HeldPointer as pointer
+use Rattle.warm_c.specs.contracts.held_pointer.HeldPointer.empty.{ended, clauses, signature}
+use Rattle.warm_c.specs.contracts.held_pointer.HeldPointer.empty.Key.{name as #self}
+use Rattle.warm_c.proofs.held_pointer.HeldPointer.empty.Statement.{statement}
+use Rattle.warm_c.proofs.held_pointer.HeldPointer.empty.Code as code
 
 pub empty_spec : {M : Type 1} → statement M
 empty_spec 𝓤 𝓛 𝓜 𝓡 wired =
@@ -49,8 +30,8 @@ empty_spec 𝓤 𝓛 𝓜 𝓡 wired =
     let h = bits a in
     let w = word null_ptr a in
     let ws = heap_laws.lowers.val_is a z.0.4.0 are.0 in
-    let made : To.Denot = record { at = null_ptr; alloc = a; held = None } in
-    let Said : Type 0 = made.held ≡ None in
+    let made : To.Denot = record { at = null_ptr; alloc = a; node = None } in
+    let Said : Type 0 = made.node ≡ None in
     qed 𝓛 ((raw (alive 𝓛 signature z.0.0 z.0.1) ⊛ ‵ (owns (types_at signature.params z.0.0) z.0.3 z.0.4)) ∷ ‵ ftrue ∷ []) ∵
     split ! $ move ! (1 ∷ []) $ fsplit ! $
     rewrite ! 0 (λ (us : List Val). ‵ (From.own_val a us)) ws refl $
@@ -59,6 +40,6 @@ empty_spec 𝓤 𝓛 𝓜 𝓡 wired =
     sets ! (agg ! (and_then ! (lit ! tt) (and_then ! (get ! refl) (no_more !)))) refl (typed null_ptr a) $
     -- [the allocator; nothing; the tokens; nothing]
     nothing ! $ nothing ! $ move ! (2 ∷ 0 ∷ []) $ fjoin ! $ feq_i ! (List Val) (ptr_val null_ptr ∷ []) (ptr_val null_ptr ∷ []) refl $ fjoin ! $ feq_i ! (List Val) (w ∷ []) (w ∷ []) refl $ fjoin ! $
-    fpack ! (Valss (shape slot.the_type).fields) (within (shape slot.the_type) (to slot.the_type made) (w ∷ [])) (ptr_val null_ptr ∷ [], (h ∷ [], tt)) $ fjoin ! $
+    fpack ! (Valss (shape pointer.the_type).fields) (within (shape pointer.the_type) (to pointer.the_type made) (w ∷ [])) (ptr_val null_ptr ∷ [], (h ∷ [], tt)) $ fjoin ! $
     use1 𝓛 (‵ (To.own_val made (w ∷ []))) (id⊢ 𝓤 _) $ use0 𝓛 (raw (fact 𝓤 Said)) (fact_i 𝓤 Said (emp 𝓤) refl) $ nothing ! $ nothing ! $ fjoin ! $
     returns ! (look_at ! 0 refl) $ free_all ! refl $ keep ! (4 ∷ 0 ∷ 2 ∷ 1 ∷ []) $ by ! (leaves 𝓛 ended hs c z w made (tt, tt) (tt, tt))))

@@ -1,4 +1,5 @@
--- `from_box` hands the box to std, which gives back its pointer and its allocator, and these become the fields. What the box owned is theirs.
+-- `from_box` hands the box to std, which gives back its pointer and its allocator, and these become
+-- the fields. What the box owned is theirs.
 use Rattle.std.proofs.Common.{◌≡◌, List, [], ◌∷◌, ◌++◌, refl, sym, ap, subst}
 use mir.Syntax.{a_type, dcons, dnil}
 use mir.Raw.{raw as bare}
@@ -35,10 +36,10 @@ use Rattle.std.proofs.raw_atomic.Walks.{proved_at, leaves}
 use Rattle.std_alloc.specs.contracts.boxed.Box.into_raw_with_allocator as apart
 use Rattle.std_alloc.proofs.boxed.Box.into_raw_with_allocator.Met.{met}
 use Rattle.warm_c.proofs.Parts.{pair, pair_typed, pointer_is, closed}
-use Rattle.warm_c.specs.contracts.loose.Loose.from_box.{ended, clauses}
-use Rattle.warm_c.specs.contracts.loose.Loose.from_box.Key.{name as #self}
-use Rattle.warm_c.proofs.loose.Loose.from_box.Statement.{statement}
-use Rattle.warm_c.proofs.loose.Loose.from_box.Code as code
+use Rattle.warm_c.specs.contracts.raw_box.RawBox.from_box.{ended, clauses}
+use Rattle.warm_c.specs.contracts.raw_box.RawBox.from_box.Key.{name as #self}
+use Rattle.warm_c.proofs.raw_box.RawBox.from_box.Statement.{statement}
+use Rattle.warm_c.proofs.raw_box.RawBox.from_box.Code as code
 
 pub from_box_spec : {M : Type 1} → statement M
 from_box_spec 𝓤 𝓛 𝓜 𝓡 wired T A L LA g d dx dd allocator glue glued =

@@ -1,37 +1,18 @@
--- `of_loose` moves the fields: what is owned beside them stays.
-use Rattle.std.proofs.Common.{◌≡◌, List, [], ◌∷◌, ◌++◌, refl, sym, subst}
-use mir.Syntax.{Fn}
-use mir.Val.{Val}
-use base.Logic.{SProp, ent, emp, id⊢}
-use base.Fml.{ftrue}
-use prog.Wp.{WpFn}
-use contract.Monad.{fact, fact_i}
-use contract.Running.{tables}
-use types.Kit.{‵, raw, ◌⊛◌, ◌$◌, ◌∵◌, !, qed, by, move, keep, use0, use1, split, fsplit, fjoin, rewrite, suffices}
-use types.Part.{whole, sub, agg}
-use types.Run.{stop, fld, of_opd, no_more, and_then, returns, enter}
-use types.ByLocal.{alloc_all, pass_all, free_all, look_at, get, get_in, sets}
-use denote.RattleType.{owns}
-use denote.RawPtr.{Ptr}
-use denote.Signature.{types_at, type_at}
-use denote.Steps.{nothing}
-use denote.Triple.Entry.{alive}
-use denote.Triple.Walked.{Stays, stay_dropped, walk_of}
-use Rattle.core.proofs.alloc.Calls.{Goes-blank}
-use Rattle.core.proofs.atomic.Steps.{Ptr-Good}
-use Rattle.std.proofs.raw_atomic.Walks.{proved_at, leaves}
-use Rattle.std.proofs.alloc.Global.TheLaws as heap_laws
-use Rattle.std.specs.contracts.alloc.Global as heap
-use Rattle.std.specs.Prelude.{Some}
+-- `of_raw_box` moves the fields: what is owned beside them stays.
+use Rattle.warm_c.proofs.Walking.{◌≡◌, List, [], ◌∷◌, ◌++◌, refl, sym, subst, Fn, Val, SProp, ent, emp, id⊢, ftrue, WpFn, fact, fact_i, tables, ‵}
+use Rattle.warm_c.proofs.Walking.{raw, ◌⊛◌, ◌$◌, ◌∵◌, !, qed, by, move, keep, use0, use1, split, fsplit, fjoin, rewrite, suffices, whole, sub, agg}
+use Rattle.warm_c.proofs.Walking.{stop, fld, of_opd, no_more, and_then, returns, enter, alloc_all, pass_all, free_all, look_at, get, get_in, sets}
+use Rattle.warm_c.proofs.Walking.{owns, Ptr, types_at, type_at, nothing, alive, Stays, stay_dropped, walk_of, Goes-blank, Ptr-Good, proved_at, leaves}
+use Rattle.warm_c.proofs.Walking.{Some}
 use Rattle.warm_c.proofs.Erased.{first, word, word_of, typed, bits_typed}
-use Rattle.warm_c.specs.contracts.slot.Slot as slot
-use Rattle.warm_c.specs.contracts.slot.Slot.of_loose.{ended, clauses, signature}
-use Rattle.warm_c.specs.contracts.slot.Slot.of_loose.Key.{name as #self}
-use Rattle.warm_c.proofs.slot.Slot.of_loose.Statement.{statement}
-use Rattle.warm_c.proofs.slot.Slot.of_loose.Code as code
+use Rattle.warm_c.specs.contracts.held_pointer.HeldPointer as pointer
+use Rattle.warm_c.specs.contracts.held_pointer.HeldPointer.of_raw_box.{ended, clauses, signature}
+use Rattle.warm_c.specs.contracts.held_pointer.HeldPointer.of_raw_box.Key.{name as #self}
+use Rattle.warm_c.proofs.held_pointer.HeldPointer.of_raw_box.Statement.{statement}
+use Rattle.warm_c.proofs.held_pointer.HeldPointer.of_raw_box.Code as code
 
-pub of_loose_spec : {M : Type 1} → statement M
-of_loose_spec 𝓤 𝓛 𝓜 𝓡 wired =
+pub of_raw_box_spec : {M : Type 1} → statement M
+of_raw_box_spec 𝓤 𝓛 𝓜 𝓡 wired =
     let H = 𝓛.H in
     let 𝓣 = tables 𝓤 H 𝓜 𝓡 𝓡.env in
     let c = clauses 𝓛 𝓜.mem 𝓡.returns in
@@ -49,8 +30,8 @@ of_loose_spec 𝓤 𝓛 𝓜 𝓡 wired =
     let a = v.allocator in
     let w = word p a in
     let ws = word_of p a z.0.4.0 are.0.0 in
-    let made : To.Denot = record { at = p; alloc = a; held = Some v.content } in
-    let Said : Type 0 = made.held ≡ Some v.content in
+    let made : To.Denot = record { at = p; alloc = a; node = Some v.content } in
+    let Said : Type 0 = made.node ≡ Some v.content in
     qed 𝓛 ((raw (alive 𝓛 signature z.0.0 z.0.1) ⊛ ‵ (owns (types_at signature.params z.0.0) z.0.3 z.0.4)) ∷ ‵ ftrue ∷ []) ∵
     split ! $ move ! (1 ∷ []) $ fsplit ! $
     rewrite ! 0 (λ (us : List Val). ‵ (From.own_val v us)) ws refl $

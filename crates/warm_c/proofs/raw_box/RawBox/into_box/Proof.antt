@@ -34,10 +34,10 @@ use Rattle.std.proofs.raw_atomic.Walks.{proved_at, leaves}
 use Rattle.std_alloc.specs.contracts.boxed.Box.from_raw as made_of
 use Rattle.std_alloc.proofs.boxed.Box.from_raw.Met.{met}
 use Rattle.warm_c.proofs.Parts.{Apart, pair, pair_typed, opened}
-use Rattle.warm_c.specs.contracts.loose.Loose.into_box.{ended, clauses}
-use Rattle.warm_c.specs.contracts.loose.Loose.into_box.Key.{name as #self}
-use Rattle.warm_c.proofs.loose.Loose.into_box.Statement.{statement}
-use Rattle.warm_c.proofs.loose.Loose.into_box.Code as code
+use Rattle.warm_c.specs.contracts.raw_box.RawBox.into_box.{ended, clauses}
+use Rattle.warm_c.specs.contracts.raw_box.RawBox.into_box.Key.{name as #self}
+use Rattle.warm_c.proofs.raw_box.RawBox.into_box.Statement.{statement}
+use Rattle.warm_c.proofs.raw_box.RawBox.into_box.Code as code
 
 pub into_box_spec : {M : Type 1} → statement M
 into_box_spec 𝓤 𝓛 𝓜 𝓡 wired T A L LA g d dx dd allocator glue glued =
