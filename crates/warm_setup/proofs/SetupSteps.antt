@@ -1,15 +1,22 @@
 -- Going over the keys of a table, and over the elements of an array, up to the first fault.
-use Rattle.std.proofs.Common.{◌≡◌, ◌⊎◌, inl, inr, ℕ, List, [], ◌∷◌, ◌++◌, map, drop, get_or, length, ◌+◌, ◌<◌, ◌≤◌, append_assoc, append-nil, add-one, suc, drop-cons, Result, Ok, Err, String, Global, string_bytes, refl, sym, ap, ◌∙◌}
+use Rattle.std.proofs.Common.{◌≡◌, ◌⊎◌, inl, inr, ℕ, List, [], ◌∷◌, ◌++◌, map, drop, get_or, length, ◌+◌, ◌<◌, ◌≤◌, append_assoc, append-nil, add-one, suc, drop-cons, Result, Ok, Err, String, Global, string_bytes, refl, sym, ap, subst, ◌∙◌}
 use Rattle.std.proofs.lemmas.List.{drop_all}
+use Rattle.std.specs.Result.{IsErrAnd}
 use Rattle.toml.specs.Data.{Data}
 use Rattle.toml.specs.View.{view, members_view}
 use Rattle.toml.specs.declared.value.Value.{Value}
 use Rattle.warm_setup.specs.declared.setup.SetupFault.{SetupFault}
 use Rattle.warm_setup.specs.declared.setup.SetupFault.TheVariants.{Memory}
+use Rattle.warm_setup.specs.SetupFaults.{GivesMeaning}
 use Rattle.warm_setup.specs.Setups.{◌>>=◌, key_by_key, each}
 
 abbrev Entry : Type 0
 Entry = String Global × Value
+
+-- a fault that is returned as it is
+pub passed : {A B : Type 0} (seen : A → B) (meant : Result B SetupFault) (r : Result A SetupFault) (fault : SetupFault) → IsErrAnd r (λ f. f ≡ fault) → (fault ≡ Memory) ⊎ (meant ≡ Err fault) → GivesMeaning seen meant r
+passed seen meant (Ok value) fault is gives = absurd is
+passed seen meant (Err other) fault is gives = subst (λ f. (f ≡ Memory) ⊎ (meant ≡ Err f)) (sym is) gives
 
 module _ {A : Type 0} (take : A → List ℕ → Data → Result A SetupFault) (so_far : A) (entries rest : List Entry) (key : String Global) (value : Value) (text : List ℕ)
     (meant : Result A SetupFault) (is : entries ≡ (key, value) ∷ rest) (same : text ≡ string_bytes key) (ends : key_by_key take so_far (members_view entries) ≡ meant) where

@@ -1,4 +1,5 @@
--- Words in which clap's definition has no fault ask for `play`, `random` or `threads`: a subcommand is wanted, and `help` is a fault.
+-- Words in which clap's definition has no fault ask for `play`, `random` or `threads`: a subcommand
+-- is wanted, and `help` is a fault.
 use Rattle.std.proofs.Common.{◌≡◌, Err, ℕ, List, [], ◌∷◌, Bool, true, false, not, ◌&&◌, ◌||◌, cond, zero, suc, drop, subst, Option, Some, None, is_some, option_map, codes, refl, sym, ap, ◌⊎◌, inl, inr, ◌∙◌, true≢false}
 use Rattle.std.specs.Prelude.{bytes_eq, option_and_then, fold}
 use Rattle.std.proofs.lemmas.Slice.Eq.{bytes_eq-Decides}

@@ -22,6 +22,7 @@ abbrev pub status_of_command : CmdFault → ℕ
 status_of_command command.Memory = 1
 status_of_command (command.Refused error) = status_of_kind (kind_of error)
 
+-- the exit status of a run that ended so
 abbrev pub exit_status : Result (Unit {0}) ProgramFault → ℕ
 exit_status (Ok _) = 0
 exit_status (Err (Command fault)) = status_of_command fault
@@ -47,6 +48,7 @@ abbrev pub number_named : PlayFault → Option ℕ
 number_named (BadLine number) = Some number
 number_named _ = None
 
+-- what such a run writes to standard error, besides clap's own text
 abbrev pub error_line : Result (Unit {0}) ProgramFault → List ℕ
 error_line (Ok _) = []
 error_line (Err (Command fault)) = line_of_command fault

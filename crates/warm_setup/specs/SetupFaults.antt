@@ -17,7 +17,7 @@ name_of NotToml = codes "NotToml"
 name_of BadKey = codes "BadKey"
 name_of BadValue = codes "BadValue"
 
--- an allocation failure of TOML is the setup's `Memory`
+-- the setup's fault for one of TOML: `Memory` for an allocation failure, `NotToml` for any other
 abbrev pub IsTomlFault : Error → SetupFault → Type 0
 IsTomlFault error fault = ((fault ≡ Memory) × IsMemory error) ⊎ ((fault ≡ NotToml) × ¬ IsMemory error)
 

@@ -73,7 +73,7 @@ unfoldable pub number_in : ℕ → Text → Option ℕ
 number_in most text =
     if is_unsigned_in 0 most text then Some (digits_value 10 (without_leading_plus text)) else None
 
--- the number of an argument
+-- the number that the argument of this name has, where it has one up to `most`
 abbrev pub argument_number : ℕ → Text → List Row → Option ℕ
 argument_number most id rows = option_and_then (number_in most) (one_of id rows)
 

@@ -17,7 +17,8 @@ command_for (asked.Random seed events setup) =
     Random seed events (option_map (λ text. text.now) setup)
 command_for (asked.Threads file setup) = Threads file.now (option_map (λ text. text.now) setup)
 
--- an allocation failure of clap is the program's `Memory`
+-- the program's fault for one of clap: `Memory` for an allocation failure, else `Refused`, which
+-- keeps clap's own
 abbrev pub IsClapFault : Error → CmdFault → Type 0
 IsClapFault error Memory = kind_of error ≡ OutOfMemory
 IsClapFault error (Refused kept) = (kept ≡ error) × (kind_of error ≢ OutOfMemory)

@@ -1,4 +1,5 @@
-//! The command line: `warmplay play [FILE] [--setup FILE]`, `warmplay random --seed S --events N [--setup FILE]` and
+//! The command line: `warmplay play [FILE] [--setup FILE]`,
+//! `warmplay random --seed S --events N [--setup FILE]` and
 //! `warmplay threads FILE [--setup FILE]`.
 
 ghost use Rattle.std.specs.Prelude.{◌≡◌, IfOk, Some, map, option_map, option_and_then, codes, List, ℕ, ◌-◌, ◌^◌, false};
@@ -23,13 +24,14 @@ pub const MAX_EVENTS: u64 = 1_000_000;
 /// The command that the words request.
 #[derive(Debug, Drop)]
 pub enum Cmd {
-    /// To play the schedule in `file`, or standard input where there is none, with the setup in `setup`, or the defaults.
+    /// To play the schedule in `file`, or standard input where there is none, with the setup in
+    /// `setup`, or the defaults.
     Play {
         file: Option<PathText>,
         setup: Option<PathText>,
     },
-    /// To write the schedule of `events` lines, at most [`MAX_EVENTS`], that this seed gives with the setup in `setup`, or
-    /// the defaults.
+    /// To write the schedule of `events` lines, at most [`MAX_EVENTS`], that this seed gives with
+    /// the setup in `setup`, or the defaults.
     Random {
         seed: u64,
         events: u32,
@@ -173,6 +175,8 @@ fn threads_command<'a>(alloc: Global) -> Result<Command<'a>, AllocError>
     threads.arg(file)?.arg(setup_argument(alloc))
 }
 
+// The program with its commands. Each of the next three functions adds one command: in a function
+// that holds several at once, all of them are dropped at each return, and its proof takes minutes.
 fn play_alone<'a>(alloc: Global) -> Result<Command<'a>, AllocError>
     ensures app { IfOk result (λ c. app_of c ≡ with_play) }
     ensures local { IfOk result (λ c. (out-Command c).has_globals ≡ false) }

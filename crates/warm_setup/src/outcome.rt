@@ -185,7 +185,8 @@ fn number_of(fault: PlayFault) -> Option<u64>
 /// | the command line was refused | 2 | clap's text, and no line |
 /// | a file could not be opened, a device's among them | 1 | `warmplay: cannot open NAME` |
 /// | the setup was refused | 2 | `warmplay: setup: ` and the fault's name |
-/// | the play stopped, or an allocation for the arguments failed | 1 | `warmplay: ` and the fault's name; for a bad line its number follows |
+/// | the play stopped | 1 | `warmplay: ` and the fault's name; for a bad line its number follows |
+/// | an allocation for the arguments failed | 1 | `warmplay: Memory` |
 pub fn outcome_of<'a>(ended: &'a Result<(), ProgramFault>) -> Outcome<'a>
     ensures status { result.status ≡ exit_status ended.entry.now }
     ensures line { result.line ≡ error_line ended.entry.now }

@@ -1,8 +1,9 @@
 //! The setup file: the sizes of the world, and the devices of its replicas.
 //!
-//! A setup is a TOML document. Every key is optional: `buffer` (1 to 1024), `device` (an array of 1 to 16
-//! tables), `frames` (1 to 65536), `page_size` (1 to 65536), `replicas` (1 to 64) and `workers` (1 to 16). A
-//! device's table has `pages` (1 to 1048576), which it must have, and perhaps `path`, a text of at least one byte.
+//! A setup is a TOML document. Every key is optional: `buffer` (1 to 1024), `device` (an array of
+//! 1 to 16 tables), `frames` (1 to 65536), `page_size` (1 to 65536), `replicas` (1 to 64) and
+//! `workers` (1 to 16). A device's table has `pages` (1 to 1048576), which it must have, and perhaps
+//! `path`, a text of at least one byte.
 
 ghost use Rattle.std.specs.Prelude.{◌≡◌, ◌≤◌, ◌<◌, ℕ, IfOk, IfErr, Some, None, Ok, Err, map};
 ghost use Rattle.std.specs.List.{list_all};
@@ -24,8 +25,8 @@ use warm_refbuffer::MAX_CAPACITY;
 use warm_stamps::MAX_REPLICAS;
 use warm_world::{MAX_WORKERS, Setup};
 
-/// A device that each replica is to have: `pages` pages (1 to 1048576), kept in memory, or in the file that `path`,
-/// a dot and the replica's number name.
+/// A device that each replica is to have: `pages` pages (1 to 1048576), kept in memory, or in the
+/// file that `path`, a dot and the replica's number name.
 #[derive(Debug, Drop)]
 pub struct DeviceSpec {
     pub pages: u32,
@@ -187,10 +188,7 @@ fn device_keys(alloc: Global, table: &Table) -> Result<DeviceKeys, SetupFault>
         path: None,
     };
     for (key, value) in table {
-        match set_device_key(alloc, keys, key.as_str(), value) {
-            Ok(changed) => keys = changed,
-            Err(fault) => return Err(fault),
-        }
+        keys = set_device_key(alloc, keys, key.as_str(), value)?;
     }
     Ok(keys)
 }
@@ -218,11 +216,7 @@ fn each_device(alloc: Global, values: &[Value]) -> Result<Vec<DeviceSpec>, Setup
 {
     let mut devices = Vec::new(alloc);
     for value in values {
-        let found = match device(alloc, value) {
-            Ok(found) => found,
-            Err(fault) => return Err(fault),
-        };
-        devices.push(found)?;
+        devices.push(device(alloc, value)?)?;
     }
     Ok(devices)
 }
@@ -240,10 +234,7 @@ fn devices_of(alloc: Global, values: &[Value]) -> Result<Vec<DeviceSpec>, SetupF
     if !are_tables(values) {
         return Err(SetupFault::BadKey);
     }
-    if values.is_empty() {
-        return Err(SetupFault::BadValue);
-    }
-    if values.len() > MAX_LISTED_DEVICES {
+    if values.is_empty() || values.len() > MAX_LISTED_DEVICES {
         return Err(SetupFault::BadValue);
     }
     each_device(alloc, values)
@@ -323,10 +314,7 @@ fn setup_keys(alloc: Global, table: &Table) -> Result<SetupKeys, SetupFault>
         workers: 2,
     };
     for (key, value) in table {
-        match set_key(alloc, keys, key.as_str(), value) {
-            Ok(changed) => keys = changed,
-            Err(fault) => return Err(fault),
-        }
+        keys = set_key(alloc, keys, key.as_str(), value)?;
     }
     Ok(keys)
 }
@@ -346,7 +334,7 @@ fn one_device(alloc: Global) -> Result<Vec<DeviceSpec>, SetupFault>
 }
 
 // The setup and the devices that the settings name.
-fn made_from(keys: SetupKeys) -> (Setup, Vec<DeviceSpec>)
+fn setup_of_keys(keys: SetupKeys) -> (Setup, Vec<DeviceSpec>)
     requires { AreWithin keys }
     ensures { setup_and_devices result ≡ settings_of keys }
 {
@@ -362,7 +350,8 @@ fn made_from(keys: SetupKeys) -> (Setup, Vec<DeviceSpec>)
     }
 }
 
-/// The setup and the devices that a text means: each key's value, or its default where the text lacks the key.
+/// The setup and the devices that a text means: each key's value, or its default where the text
+/// lacks the key.
 ///
 /// Keys are read in the order of their bytes, the devices of `device` in their order, and a
 /// device's keys in the order of their bytes, its missing `pages` last; the first fault is
@@ -376,10 +365,11 @@ pub fn read_setup(alloc: Global, text: &str) -> Result<(Setup, Vec<DeviceSpec>),
 {
     let table = toml::table_from_str(alloc, text)?;
     let keys = setup_keys(alloc, &table)?;
-    Ok(made_from(keys))
+    Ok(setup_of_keys(keys))
 }
 
-/// The setup that a file's bytes hold: [`read_setup`] of the text where they are UTF-8, else [`SetupFault::NotToml`].
+/// The setup that a file's bytes hold: [`read_setup`] of the text where they are UTF-8, else
+/// [`SetupFault::NotToml`].
 pub fn read_setup_file(alloc: Global, bytes: &[u8]) -> Result<(Setup, Vec<DeviceSpec>), SetupFault>
     ensures text { IsUtf8 bytes.now
         → GivesMeaning setup_and_devices (setup_in (parse_document bytes.now)) result }

@@ -1,6 +1,7 @@
-//! `warmplay play [FILE] [--setup FILE]` plays a schedule, from a file or from standard input, to standard output.
-//! `warmplay random --seed S --events N [--setup FILE]` writes a schedule drawn at random.
-//! `warmplay threads FILE [--setup FILE]` plays a schedule of references and flushes by threads.
+//! `warmplay play [FILE] [--setup FILE]` plays a schedule, from a file or from standard input, to
+//! standard output. `warmplay random --seed S --events N [--setup FILE]` writes a schedule drawn at
+//! random. `warmplay threads FILE [--setup FILE]` plays a schedule of references and flushes by
+//! threads.
 #![tactic(auto)]
 
 use std::alloc::Global;
@@ -21,10 +22,10 @@ use warm_threads::play_threads;
 use warm_world::Setup;
 
 // The size of the output buffer for answers, in bytes.
-const GATHERED: usize = 65536;
+const OUTPUT_BUFFER_SIZE: usize = 65536;
 
 // The command of the program's arguments.
-fn asked(rt: &HostRuntime) -> Result<Cmd, ProgramFault> {
+fn parse_command(rt: &HostRuntime) -> Result<Cmd, ProgramFault> {
     let args = match env::args(rt) {
         Ok(args) => args,
         Err(error) => {
@@ -62,7 +63,7 @@ fn setup_in(
 
 // A device of a replica, in a box.
 #[derive(Drop)]
-enum Made {
+enum DeviceBox {
     Memory(Box<MemDevice>),
     File(Box<FileDevice>),
 }
@@ -72,14 +73,14 @@ fn no_memory() -> ProgramFault {
 }
 
 // A device in memory.
-fn in_memory(alloc: Global, pages: u32, page_size: usize) -> Result<Made, ProgramFault> {
+fn in_memory(alloc: Global, pages: u32, page_size: usize) -> Result<DeviceBox, ProgramFault> {
     let Ok(device) = MemDevice::new(alloc, u64::from(pages), page_size) else {
         return Err(no_memory());
     };
     let Ok(device) = Box::new(alloc, device) else {
         return Err(no_memory());
     };
-    Ok(Made::Memory(device))
+    Ok(DeviceBox::Memory(device))
 }
 
 // A device over the file of the replica, which is named where it cannot be opened.
@@ -89,7 +90,7 @@ fn in_file(
     page_size: usize,
     path: &PathText,
     replica: u16,
-) -> Result<Made, ProgramFault> {
+) -> Result<DeviceBox, ProgramFault> {
     let Ok(name) = path.of_replica(rt.alloc(), replica) else {
         return Err(no_memory());
     };
@@ -98,7 +99,7 @@ fn in_file(
             let Ok(device) = Box::new(rt.alloc(), device) else {
                 return Err(no_memory());
             };
-            Ok(Made::File(device))
+            Ok(DeviceBox::File(device))
         }
         Err(OpenFault::Memory) => Err(no_memory()),
         Err(OpenFault::Open) => Err(ProgramFault::CannotOpen(name)),
@@ -110,7 +111,7 @@ fn device_of(
     spec: &DeviceSpec,
     page_size: usize,
     replica: u16,
-) -> Result<Made, ProgramFault> {
+) -> Result<DeviceBox, ProgramFault> {
     match &spec.path {
         Some(path) => in_file(rt, spec.pages, page_size, path, replica),
         None => in_memory(rt.alloc(), spec.pages, page_size),
@@ -124,7 +125,8 @@ enum Player {
     Threads,
 }
 
-// Makes the devices, by replica and then by device, and plays to standard output through a buffer, which is flushed at the end.
+// Makes the devices, by replica and then by device, and plays to standard output through a buffer,
+// which is flushed at the end.
 fn play_over<T: Threads + Wait + Sync, R: Read>(
     rt: &HostRuntime,
     threads: &T,
@@ -142,14 +144,15 @@ fn play_over<T: Threads + Wait + Sync, R: Read>(
         let mut list: Vec<Box<dyn PageDevice + Send>> = Vec::new(rt.alloc());
         for spec in specs {
             let pushed = match device_of(rt, spec, page_size, place + 1)? {
-                Made::Memory(device) => list.push(device),
-                Made::File(device) => list.push(device),
+                DeviceBox::Memory(device) => list.push(device),
+                DeviceBox::File(device) => list.push(device),
             };
             pushed.map_err(|_| no_memory())?;
         }
         devices.push(list).map_err(|_| no_memory())?;
     }
-    let Ok(mut buffered) = BufWriter::with_capacity(rt.alloc(), GATHERED, rt.stdout()) else {
+    let Ok(mut buffered) = BufWriter::with_capacity(rt.alloc(), OUTPUT_BUFFER_SIZE, rt.stdout())
+    else {
         return Err(no_memory());
     };
     let played = match player {
@@ -191,15 +194,18 @@ fn play_file<T: Threads + Wait + Sync>(
 
 // Writes a schedule drawn at random through a buffer, which `random_schedule` flushes at the end.
 fn run_random(rt: &HostRuntime, seed: u64, events: u32, setup: Setup) -> Result<(), ProgramFault> {
-    let Ok(mut buffered) = BufWriter::with_capacity(rt.alloc(), GATHERED, rt.stdout()) else {
+    let Ok(mut buffered) = BufWriter::with_capacity(rt.alloc(), OUTPUT_BUFFER_SIZE, rt.stdout())
+    else {
         return Err(ProgramFault::Play(PlayFault::Memory));
     };
     random_schedule(&mut buffered, seed, events, &setup).map_err(ProgramFault::Play)
 }
 
-// Faults are found in this order: the command line, the setup file, its text, the schedule's file, the devices, the play.
+// Faults are found in this order: the command line, the setup file, its text, the schedule's file,
+// the devices, the play. `threads` is the runtime too: a function may start threads only with a
+// parameter that has the bounds for it, which a `HostRuntime` has in `main` alone.
 fn run<T: Threads + Wait + Sync>(rt: &HostRuntime, threads: &T) -> Result<(), ProgramFault> {
-    match asked(rt)? {
+    match parse_command(rt)? {
         Cmd::Play { file, setup } => {
             let (setup, specs) = setup_in(rt, setup)?;
             run_play(rt, threads, file, setup, specs.as_slice())
@@ -219,21 +225,22 @@ fn run<T: Threads + Wait + Sync>(rt: &HostRuntime, threads: &T) -> Result<(), Pr
     }
 }
 
-// Prints clap's own text where there is one: `true` where help was requested and could not be
-// written.
-fn is_help_lost(rt: &HostRuntime, ended: &Result<(), ProgramFault>) -> bool {
-    match ended {
-        Err(ProgramFault::Command(CmdFault::Refused(error))) => {
-            error.print(rt).is_err() && !error.use_stderr()
-        }
-        _ => false,
+// Prints clap's own text where there is one. An error where help was requested and could not be
+// written; where the text of a refusal could not be, only the status reports it.
+fn print_help(rt: &HostRuntime, ended: &Result<(), ProgramFault>) -> Result<(), PlayFault> {
+    let Err(ProgramFault::Command(CmdFault::Refused(error))) = ended else {
+        return Ok(());
+    };
+    if error.print(rt).is_err() && !error.use_stderr() {
+        return Err(PlayFault::WriteFault);
     }
+    Ok(())
 }
 
 fn main(rt: HostRuntime) -> ExitCode {
     let mut ended = run(&rt, &rt);
-    if is_help_lost(&rt, &ended) {
-        ended = Err(ProgramFault::Play(PlayFault::WriteFault));
+    if let Err(fault) = print_help(&rt, &ended) {
+        ended = Err(ProgramFault::Play(fault));
     }
     let outcome = outcome_of(&ended);
     // Where writing to standard error fails, only the status reports the fault.
