@@ -1,4 +1,5 @@
 """Dumps of histories, written and read from docs/FORMATS.md alone. It knows nothing of the programs that it is compared with.
+What of it prints and reads text is in texts.py.
 
 A history is a horizon and, for each page, its two latest stamps, the latest first. A page is a pair of a device and a number, a stamp
 a pair of a time and a replica.
@@ -41,6 +42,10 @@ class History:
         pages = {page: self.pages.get(page, []) + other.pages.get(page, []) for page in {*self.pages, *other.pages}}
         return History(max(self.horizon, other.horizon), pages)
 
+    def since(self, time):
+        """The history without the stamps before a time, where that is later than the horizon."""
+        return History(max(self.horizon, time), self.pages)
+
     def entries(self):
         return sorted(self.pages.items())
 
@@ -57,6 +62,27 @@ class Fault(Exception):
     def __init__(self, name, at=0):
         super().__init__(name, at)
         self.name, self.at = name, at
+
+
+SENTENCES = {
+    "BadMagic": "no frame begins here",
+    "BadKind": "a frame has neither entries nor digests",
+    "BadSender": "the sender of a frame is no replica",
+    "BadLength": "the length of a frame does not fit what it holds",
+    "BadCount": "a frame has too many entries",
+    "BadTag": "a page has neither one stamp nor two",
+    "BadStamp": "a stamp is of no replica, or two stamps are in the wrong order",
+    "BadOrder": "the pages of a frame are in the wrong order",
+    "CutShort": "it ends too early",
+    "DigestsDiffer": "the digests are not those of the entries",
+    "HorizonsDiffer": "a frame has another horizon than those before it",
+    "MoreFollows": "more bytes follow its end",
+}
+
+
+def refusal(file, fault):
+    """The line about a file that is no dump."""
+    return f"warmhist: {file}: not a dump: {SENTENCES[fault.name]} ({fault.name} at byte {fault.at})\n"
 
 
 # ---- writing

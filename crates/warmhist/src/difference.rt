@@ -6,57 +6,24 @@ use std::io::{self, Write};
 use warm_history::{Entry, History, PageHist};
 use warm_stamps::{PageId, Stamp};
 
+// The stamps of a page, the later one first.
+fn stamps(known: &PageHist) -> [Option<Stamp>; 2] {
+    match known {
+        PageHist::Once(last) => [Some(*last), None],
+        PageHist::Twice(two) => [Some(two.last()), Some(two.prev())],
+    }
+}
+
 // Whether the stamp is known.
 fn has(known: &Option<PageHist>, stamp: &Stamp) -> bool {
     match known {
         None => false,
-        Some(known) => has_one(known, stamp),
+        Some(known) => stamps(known).contains(&Some(*stamp)),
     }
 }
 
-fn has_one(known: &PageHist, stamp: &Stamp) -> bool {
-    match known {
-        PageHist::Once(last) => *last == *stamp,
-        PageHist::Twice(two) => has_two(&two.last(), &two.prev(), stamp),
-    }
-}
-
-fn has_two(last: &Stamp, prev: &Stamp, stamp: &Stamp) -> bool {
-    *last == *stamp || *prev == *stamp
-}
-
-// Whether all stamps of the join are known.
-fn has_all(known: &Option<PageHist>, joined: &PageHist) -> bool {
-    match joined {
-        PageHist::Once(last) => has(known, last),
-        PageHist::Twice(two) => has_both(known, &two.last(), &two.prev()),
-    }
-}
-
-fn has_both(known: &Option<PageHist>, last: &Stamp, prev: &Stamp) -> bool {
-    has(known, last) && has(known, prev)
-}
-
-// Writes the stamp, where it is not known.
-fn put_next<W: Write>(writer: &mut W, stamp: &Stamp, known: &Option<PageHist>) -> io::Result<()> {
-    if has(known, stamp) {
-        return Ok(());
-    }
-    write!(writer, " ")?;
-    put_stamp(writer, *stamp)
-}
-
-fn put_both<W: Write>(
-    writer: &mut W,
-    last: &Stamp,
-    prev: &Stamp,
-    known: &Option<PageHist>,
-) -> io::Result<()> {
-    put_next(writer, last, known)?;
-    put_next(writer, prev, known)
-}
-
-// The line of a page of the join, where the history that is `known` lacks a stamp of it. `false` where it lacks none.
+// Writes the line of a page of the join, where the history that is `known` lacks a stamp of it: the
+// stamps that it lacks. Gives whether it wrote one.
 fn put_unknown<W: Write>(
     writer: &mut W,
     sign: char,
@@ -64,17 +31,23 @@ fn put_unknown<W: Write>(
     joined: &PageHist,
     known: &Option<PageHist>,
 ) -> io::Result<bool> {
-    if has_all(known, joined) {
-        return Ok(false);
+    let mut begun = false;
+    for stamp in stamps(joined).iter().flatten() {
+        if has(known, stamp) {
+            continue;
+        }
+        if !begun {
+            write!(writer, "{sign} ")?;
+            put_page(writer, page)?;
+        }
+        begun = true;
+        write!(writer, " ")?;
+        put_stamp(writer, *stamp)?;
     }
-    write!(writer, "{sign} ")?;
-    put_page(writer, page)?;
-    match joined {
-        PageHist::Once(last) => put_next(writer, last, known)?,
-        PageHist::Twice(two) => put_both(writer, &two.last(), &two.prev(), known)?,
+    if begun {
+        writeln!(writer)?;
     }
-    writeln!(writer)?;
-    Ok(true)
+    Ok(begun)
 }
 
 // The line of a horizon that is later than the other. `false` where it is not.
@@ -86,8 +59,9 @@ fn put_horizon<W: Write>(writer: &mut W, sign: char, own: u64, other: u64) -> io
     Ok(true)
 }
 
-/// Writes what each history adds to the other: its horizon where that is later, and of each page the stamps that the join of both holds
-/// and the other does not. Gives whether it wrote a line, which it does exactly where the histories differ.
+/// Writes what each history adds to the other: its horizon where that is later, and of each page
+/// the stamps that the join of both holds and the other does not. Gives whether it wrote a line,
+/// which it does exactly where the histories differ.
 pub fn put_difference<'a, W: Write>(
     writer: &mut W,
     first: &History,
@@ -103,4 +77,26 @@ pub fn put_difference<'a, W: Write>(
         differ |= put_unknown(writer, '>', page, &hist, &first.get(page))?;
     }
     Ok(differ)
+}
+
+// Whether these two stamps, or this one, are what is known.
+fn is_known(known: &Option<PageHist>, hist: &PageHist) -> bool {
+    match known {
+        None => false,
+        Some(known) => stamps(known) == stamps(hist),
+    }
+}
+
+/// Whether the histories differ. It stops at the first page that shows it.
+pub fn differ(first: &History, second: &History) -> bool {
+    if first.horizon() != second.horizon() || first.len() != second.len() {
+        return true;
+    }
+    for entry in first.unordered() {
+        let Entry { page, hist } = entry;
+        if !is_known(&second.get(page), &hist) {
+            return true;
+        }
+    }
+    false
 }

@@ -11,8 +11,8 @@ const LOW_32: u64 = 0xFFFF_FFFF;
 
 const LOW_16: u64 = 0xFFFF;
 
-/// What the headers of a stream of frames say: it looks at each for the sender and the length, and at nothing else. Of a stream that
-/// is no dump it says nothing but how many bytes came.
+/// What the headers of a stream of frames say: it looks at each for the sender and the length, and
+/// at nothing else. Of a stream that is no dump it says nothing but how many bytes came.
 #[derive(Drop)]
 pub struct Headers {
     // How many bytes came.

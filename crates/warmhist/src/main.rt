@@ -1,22 +1,26 @@
-//! `warmhist` inspects, compares and joins dumps of histories. docs/FORMATS.md has its command line, what it prints, and its exit
-//! statuses.
+//! `warmhist` inspects, compares, joins and makes dumps of histories. docs/FORMATS.md has its
+//! command line, what it prints, and its exit statuses.
 #![tactic(auto)]
 
 mod difference;
+mod expected;
 mod failure;
 mod headers;
-mod joining;
+mod line;
+mod making;
 mod printing;
 mod progress;
 mod reading;
+mod text_reader;
 mod words;
+mod writing;
 
-use crate::difference::put_difference;
+use crate::difference::{differ, put_difference};
 use crate::failure::{Failure, report};
-use crate::joining::join_files;
-use crate::printing::{put_check, put_history, put_hottest};
+use crate::making::{join_files, make_file};
+use crate::printing::{put_check, put_history, put_hottest, put_text};
 use crate::reading::read_file;
-use crate::words::{Asked, asked_in, matches_of, reads_twice};
+use crate::words::{Asked, Joining, Lines, Making, asked_in, matches_of, reads_twice};
 use std::env;
 use std::io::{BufWriter, Stdout, Write};
 use std::process::ExitCode;
@@ -49,33 +53,65 @@ fn hot<'a>(rt: &'a HostRuntime, file: &'a str, count: usize) -> Result<u8, Failu
     Ok(DONE)
 }
 
-fn check<'a>(rt: &'a HostRuntime, file: &'a str) -> Result<u8, Failure<'a>> {
+fn text<'a>(rt: &'a HostRuntime, file: &'a str) -> Result<u8, Failure<'a>> {
     let dump = read_file(rt, file)?;
+    let mut writer = buffered(rt)?;
+    put_text(&mut writer, &dump.history)?;
+    writer.flush()?;
+    Ok(DONE)
+}
+
+fn check<'a>(rt: &'a HostRuntime, file: &'a str, lines: Lines) -> Result<u8, Failure<'a>> {
+    let dump = read_file(rt, file)?;
+    if lines == Lines::Quiet {
+        return Ok(DONE);
+    }
     let mut writer = buffered(rt)?;
     put_check(&mut writer, &dump)?;
     writer.flush()?;
     Ok(DONE)
 }
 
-fn diff<'a>(rt: &'a HostRuntime, first: &'a str, second: &'a str) -> Result<u8, Failure<'a>> {
+fn answer(differ: bool) -> u8 {
+    if differ { DIFFERENT } else { DONE }
+}
+
+fn diff<'a>(
+    rt: &'a HostRuntime,
+    first: &'a str,
+    second: &'a str,
+    lines: Lines,
+) -> Result<u8, Failure<'a>> {
     let first = read_file(rt, first)?;
     let second = read_file(rt, second)?;
+    if lines == Lines::Quiet {
+        return Ok(answer(differ(&first.history, &second.history)));
+    }
     let mut writer = buffered(rt)?;
     let differ = put_difference(&mut writer, &first.history, &second.history)?;
     writer.flush()?;
-    Ok(if differ { DIFFERENT } else { DONE })
+    Ok(answer(differ))
+}
+
+fn join<'a>(rt: &'a HostRuntime, joining: &Joining<'a>) -> Result<u8, Failure<'a>> {
+    join_files(rt, joining)?;
+    Ok(DONE)
+}
+
+fn make<'a>(rt: &'a HostRuntime, making: &Making<'a>) -> Result<u8, Failure<'a>> {
+    make_file(rt, making)?;
+    Ok(DONE)
 }
 
 fn done<'a>(rt: &'a HostRuntime, asked: &Asked<'a>) -> Result<u8, Failure<'a>> {
     match asked {
         Asked::Show(file) => show(rt, *file),
         Asked::Hot(file, count) => hot(rt, *file, *count),
-        Asked::Check(file) => check(rt, *file),
-        Asked::Diff(first, second) => diff(rt, *first, *second),
-        Asked::Join(joining) => {
-            join_files(rt, joining)?;
-            Ok(DONE)
-        }
+        Asked::Check(file, lines) => check(rt, *file, *lines),
+        Asked::Diff(first, second, lines) => diff(rt, *first, *second, *lines),
+        Asked::Join(joining) => join(rt, joining),
+        Asked::Text(file) => text(rt, *file),
+        Asked::Make(making) => make(rt, making),
     }
 }
 

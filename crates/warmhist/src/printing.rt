@@ -42,6 +42,12 @@ pub fn put_history<W: Write>(writer: &mut W, history: &History) -> io::Result<()
     writeln!(writer, "end {}", history.len())
 }
 
+/// Writes the history as text: its horizon, and then what [`put_history`] writes.
+pub fn put_text<W: Write>(writer: &mut W, history: &History) -> io::Result<()> {
+    writeln!(writer, "horizon {}", history.horizon())?;
+    put_history(writer, history)
+}
+
 /// Writes a line for each of the first pages of the warm-up list, hottest first, and their number.
 pub fn put_hottest<'a, W: Write>(
     alloc: Global,

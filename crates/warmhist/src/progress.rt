@@ -7,7 +7,8 @@ const STEP: u64 = 1 << 22;
 
 const MEGABYTE: u64 = 1_000_000;
 
-/// A line on standard error that says how far reading or writing is. It is shown where standard error is a terminal, and nowhere else.
+/// A line on standard error that says how far reading or writing is. It is shown where standard
+/// error is a terminal, and nowhere else.
 #[derive(Drop)]
 pub struct Progress<'a> {
     rt: &'a HostRuntime,

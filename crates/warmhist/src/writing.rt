@@ -1,9 +1,8 @@
-//! Joining dumps, and writing the dump of the join.
+//! Writing the dump of a history.
 
 use crate::failure::Failure;
 use crate::progress::Progress;
-use crate::reading::read_file;
-use crate::words::{DASH, Joining};
+use crate::words::{DASH, Output};
 use std::io::{self, BufWriter, ErrorKind, Write};
 use std::random::RandomSource;
 use warm_files::{DumpFault, write_dump};
@@ -100,28 +99,15 @@ fn store<'a>(
         .map_err(|fault| Failure::Unstored(name, fault))
 }
 
-// The join of all dumps.
-fn joined_of<'a>(rt: &'a HostRuntime, files: &[&'a str]) -> Result<History, Failure<'a>> {
-    let mut joined = History::new(rt.alloc());
-    for file in files {
-        let dump = read_file(rt, *file)?;
-        let _changed = joined.join(&dump.history)?;
-    }
-    Ok(joined)
-}
-
-/// Joins the dumps, and writes the dump of the join. All are read before anything is written.
-pub fn join_files<'a>(rt: &'a HostRuntime, joining: &Joining<'a>) -> Result<(), Failure<'a>> {
-    let history = joined_of(rt, joining.files.as_slice())?;
-    if joining.out == DASH {
+/// Writes the dump of the history.
+pub fn write_out<'a>(
+    rt: &'a HostRuntime,
+    output: &Output<'a>,
+    history: &History,
+) -> Result<(), Failure<'a>> {
+    if output.out == DASH {
         let mut buffered = BufWriter::new(rt.alloc(), rt.stdout())?;
-        return put_dump(
-            rt,
-            &mut buffered,
-            "standard output",
-            joining.sender,
-            &history,
-        );
+        return put_dump(rt, &mut buffered, "standard output", output.sender, history);
     }
-    store(rt, joining.out, joining.sender, &history)
+    store(rt, output.out, output.sender, history)
 }
