@@ -1,10 +1,11 @@
-//! Makes calls of a history whose digests are cached, one for each line of standard input. `scripts/hashed-buckets` counts what they
-//! hash.
+//! Makes calls of a history whose digests are cached, one for each line of standard input.
+//! `scripts/hashed-buckets` counts what they hash.
 //!
 //! - `ref NO TIME`: a reference to page NO of device 0, made by replica 1 at that time;
 //! - `raise TIME`: the horizon rises to that time;
 //! - `digests`: the digests of the buckets are computed, and `digests` is printed;
-//! - `since TIME`: the digests that the buckets would have at that horizon are computed, and `since` is printed.
+//! - `since TIME`: the digests that the buckets would have at that horizon are computed, and
+//!   `since` is printed.
 #![tactic(auto)]
 
 use anyhow::{Context, Result, bail};

@@ -1,4 +1,5 @@
-//! Dumps that are cut, changed or put together otherwise: which fault is found, and where, or that the history is the same.
+//! Dumps that are cut, changed or put together otherwise: which fault is found, and where, or that
+//! the history is the same.
 use crate::dumps::{
     FIRST, FRAME_1, REQUEST, SECOND, WHOLE, dump_of_four, dump_with, four_pages, put, read,
 };
@@ -42,7 +43,8 @@ fn each_beginning_is_cut_short(rt: HostRuntime) {
 // The header of the digests ends here.
 const HEADERS: usize = SECOND + 19;
 
-// Whether a value of the byte at a place, where it changes the byte, gives the history. None gives another.
+// Whether a value of the byte at a place, where it changes the byte, gives the history. None gives
+// another.
 fn is_accepted(
     rt: &impl Abort,
     alloc: Global,
@@ -67,7 +69,8 @@ fn is_accepted(
     value != own
 }
 
-// Each byte of the headers and of the entries is changed to each other value. Of a frame the sender alone may be another, of 63.
+// Each byte of the headers and of the entries is changed to each other value. Of a frame the sender
+// alone may be another, of 63.
 #[test]
 fn no_changed_byte_gives_another_history(rt: HostRuntime) {
     let history = four_pages(&rt, rt.alloc());
@@ -82,7 +85,8 @@ fn no_changed_byte_gives_another_history(rt: HostRuntime) {
     assert!(rt; count == 189);
 }
 
-// How many values of the byte at a place are refused since the digests are not those of the entries.
+// How many values of the byte at a place are refused since the digests are not those of the
+// entries.
 fn refused_at(alloc: Global, text: &mut Vec<u8>, place: usize) -> u64 {
     let own = text.get(place).copied().unwrap_or(0);
     let mut count = 0u64;
@@ -99,8 +103,8 @@ fn refused_at(alloc: Global, text: &mut Vec<u8>, place: usize) -> u64 {
     count
 }
 
-// Whether each byte of the digests of 16 buckets, from one on, has one value alone that is not refused. A test has a minute, and
-// reads a dump 131,072 times for these.
+// Whether each byte of the digests of 16 buckets, from one on, has one value alone that is not
+// refused. A test has a minute, and reads a dump 131,072 times for these.
 fn each_is_refused(rt: &impl Abort, alloc: Global, bucket: usize) -> bool {
     let mut text = dump_of_four(rt, alloc);
     let first = HEADERS.wrapping_add(bucket.wrapping_mul(DIGEST_SIZE));
@@ -133,7 +137,8 @@ fn changed_digests_of_buckets_48_to_63_are_refused(rt: HostRuntime) {
     assert!(rt; each_is_refused(&rt, rt.alloc(), 48));
 }
 
-// A place in the dump of the four pages, the byte that is put there, where the fault is found, and the fault.
+// A place in the dump of the four pages, the byte that is put there, where the fault is found, and
+// the fault.
 const FAULTS: [(usize, u8, usize, DumpFault); 14] = [
     (3, 0x33, 0, DumpFault::Frame(FrameFault::BadMagic)),
     (4, 4, 0, DumpFault::Frame(FrameFault::BadKind)),

@@ -110,8 +110,8 @@ fn takes_in_four(rt: &impl Abort, alloc: Global, digested: &mut DigestedHistory)
     assert!(rt; keeps(rt, digested, Pages::All));
 }
 
-// The cached digests follow the horizon as it rises, by a raise or by a message without entries, and
-// don't change for an earlier time.
+// The cached digests follow the horizon as it rises, by a raise or by a message without entries,
+// and don't change for an earlier time.
 fn follow_the_horizon(rt: &impl Abort, digested: &mut DigestedHistory) {
     digested.raise(20);
     assert!(rt; keeps(rt, digested, Pages::Since20));

@@ -1,4 +1,5 @@
-//! Readers that give bytes one by one, are interrupted or fail, and writers that take few bytes or fail: what a dump makes of them.
+//! Readers that give bytes one by one, are interrupted or fail, and writers that take few bytes or
+//! fail: what a dump makes of them.
 use crate::dumps::{FIRST, SECOND, WHOLE, dump_of_four, four_pages};
 use crate::histories::are_equal;
 use std::alloc::Global;

@@ -1,4 +1,5 @@
-//! Dumps: their bytes, as a program apart spells them (`checks/dumps/vectors`), and which bytes are dumps of one history.
+//! Dumps: their bytes, as a program apart spells them (`checks/dumps/vectors`), and which bytes are
+//! dumps of one history.
 use crate::digests::FOUR_PAGES;
 use crate::histories::are_equal;
 use sha2::{Digest, Sha256};
@@ -9,7 +10,8 @@ use warm_files::{DumpError, read_dump, write_dump};
 use warm_history::History;
 use warm_stamps::BUCKETS;
 
-// The header of the frame of entries of bucket 1, from replica 1 with horizon 0, and their count; then 0:1, 0:65 and 1:0.
+// The header of the frame of entries of bucket 1, from replica 1 with horizon 0, and their count;
+// then 0:1, 0:65 and 1:0.
 const HEADER_1: &str = "4c32473201000100000000000000000000004d00000003";
 
 const PAGE_0_1: &str = "000000000000000000010100000000000000050001";
@@ -72,7 +74,8 @@ fn put_sums(rt: &impl Abort, alloc: Global, text: &mut Vec<u8>) {
     }
 }
 
-/// The dump of the four pages with what is put between its frames of entries and before the digests.
+/// The dump of the four pages with what is put between its frames of entries and before the
+/// digests.
 pub fn dump_with(rt: &impl Abort, alloc: Global, between: &[&str], before: &[&str]) -> Vec<u8> {
     let mut text = Vec::new(alloc);
     put(rt, alloc, &mut text, &FRAME_1);

@@ -115,7 +115,8 @@ fn entries_come_with_a_horizon(rt: HostRuntime) {
     assert!(rt; is_known(&here, page(1), twice((20, 1), (19, 1))));
 }
 
-// Pages of several devices and buckets, in page order: each referenced at the time of its place in the list.
+// Pages of several devices and buckets, in page order: each referenced at the time of its place in
+// the list.
 const SPREAD: [SeenAt; 12] = [
     (0, 0, 0, 1),
     (0, 1, 1, 1),

@@ -1,6 +1,6 @@
-//! Tests of warm_history, warm_rank, warm_digest and warm_files: histories and their horizons, which
-//! buckets a call changes, which pages are evicted first and which a warm-up loads, the digests of
-//! their buckets, and histories as files.
+//! Tests of warm_history, warm_rank, warm_digest and warm_files: histories and their horizons,
+//! which buckets a call changes, which pages are evicted first and which a warm-up loads, the
+//! digests of their buckets, and histories as files.
 //!
 //! They use only public calls, and have a crate of their own so that the gate proves those
 //! libraries once, and not again with their tests.

@@ -1,4 +1,5 @@
-//! Which pages leave first by a history, the contest that finds the least key, and the list of a warm-up.
+//! Which pages leave first by a history, the contest that finds the least key, and the list of a
+//! warm-up.
 ghost use Rattle.std.specs.Prelude.{◌≡◌, ◌<◌, ◌≤◌, length};
 ghost use Rattle.warm_rank.specs.declared.TheConstants.{MAX_FRAMES};
 
@@ -29,7 +30,8 @@ fn are_hottest(
     pages.as_slice() == want && pages.into_vec().len() == want.len()
 }
 
-// Which of two pages leaves first as the horizon rises: both were referenced twice, then once, and then never.
+// Which of two pages leaves first as the horizon rises: both were referenced twice, then once, and
+// then never.
 #[test]
 fn a_raised_horizon_changes_which_page_leaves(rt: HostRuntime) {
     let given = [(0, 1, 1, 1), (0, 1, 100, 1), (0, 2, 50, 1), (0, 2, 60, 1)];
@@ -92,8 +94,8 @@ fn key_of_5() -> Option<RankKey> {
     Some(key_of(page(5), Some(once(10, 1))))
 }
 
-// A contest of the keys of 0:1 with stamps 2@1 and 1@1, of 0:5 with 10@1, and of 0:6 with 11@1: the least is cleared until none is
-// left. Then one key is in two slots.
+// A contest of the keys of 0:1 with stamps 2@1 and 1@1, of 0:5 with 10@1, and of 0:6 with 11@1: the
+// least is cleared until none is left. Then one key is in two slots.
 #[test]
 fn the_least_of_three_keys_is_found(rt: HostRuntime) {
     let mut contest = Contest::new(rt.alloc(), 3).expect(&rt, "memory for slots");

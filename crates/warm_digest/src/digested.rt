@@ -110,8 +110,8 @@ impl DigestedHistory {
     }
 
     /// Takes in all entries of another history, as [`History::join`] does: `AllocError` changes
-    /// nothing. It marks the buckets whose entries changed, including those that lost a stamp to the
-    /// horizon, and returns the set of them.
+    /// nothing. It marks the buckets whose entries changed, including those that lost a stamp to
+    /// the horizon, and returns the set of them.
     pub fn join(&mut self, other: &History) -> Result<BucketSet, AllocError>
         ensures exact { OnOk result (self.new.history ≡ join self.old.history other.now) }
         ensures changed { IfOk result
@@ -185,10 +185,11 @@ impl DigestedHistory {
     /// Nothing is forgotten. Where the horizon is not greater than the history's own, it is the
     /// same as [`DigestedHistory::digests`]. Otherwise each bucket is scanned up to its first older
     /// stamp. Only the buckets that have such a stamp, and the marked ones, are hashed: their
-    /// entries as they are read, without older stamps. Afterwards a bucket is marked exactly where it
-    /// was marked before and has such a stamp: its digest was computed without older stamps, and is
-    /// still to be computed with them. `AllocError` occurs only where the allocation of a buffer of
-    /// 4,096 bytes and one entry fails; the marks stay, and the next call computes the same digests.
+    /// entries as they are read, without older stamps. Afterwards a bucket is marked exactly where
+    /// it was marked before and has such a stamp: its digest was computed without older stamps, and
+    /// is still to be computed with them. `AllocError` occurs only where the allocation of a buffer
+    /// of 4,096 bytes and one entry fails; the marks stay, and the next call computes the same
+    /// digests.
     pub fn digests_at_horizon(&mut self, horizon: u64) -> Result<DigestTable, AllocError>
         ensures table { IfOk result (λ table. table ≡ digests_at_horizon horizon self.old.history) }
         ensures same { self.new.history ≡ self.old.history }

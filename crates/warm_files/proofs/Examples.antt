@@ -1,4 +1,5 @@
--- Worked rows, computed: which frames and bytes a small dump has, what they tell, and why no bytes are a dump.
+-- Worked rows, computed: which frames and bytes a small dump has, what they tell, and why no bytes
+-- are a dump.
 use Rattle.std.proofs.Common.{◌≡◌, List, ℕ, [], ◌∷◌, ◌++◌, refl, flat_map}
 use Rattle.sha2.specs.Sha256.{digest_bytes, sha256}
 use Rattle.warm_stamps.specs.declared.PageId.{PageId}

@@ -1,4 +1,5 @@
--- The numbers and names of the faults. A frame's fault keeps its own, 1 to 11, and those of dumps begin at 13.
+-- The numbers and names of the faults. A frame's fault keeps its own, 1 to 11, and those of dumps
+-- begin at 13.
 use Rattle.std.specs.Prelude.{ℕ, List, codes}
 use Rattle.warm_frames.specs.Faults.{fault_code, fault_name}
 use Rattle.warm_files.specs.declared.fault.DumpFault.{DumpFault}

@@ -28,9 +28,9 @@ abbrev pub references_at : Option ℕ → List Message → ReferenceSet
 references_at None messages = set_of_list []
 references_at (Some horizon) messages = references_in horizon messages
 
--- The text is the frames of messages of entries, and then a part of the next frame, which the decoder
--- holds. The history is that of the messages. The bytes read are counted, and the next frame starts
--- where the whole frames end.
+-- The text is the frames of messages of entries, and then a part of the next frame, which the
+-- decoder holds. The history is that of the messages. The bytes read are counted, and the next
+-- frame starts where the whole frames end.
 pub record HasBegun (text : List ℕ) (g : DumpReader) : Type 0 where
   pub messages : List Message
   pub begun : List ℕ

@@ -50,9 +50,9 @@ pub record Begins (text : List ℕ) (messages : List Message) (rest : List ℕ) 
   pub whole : text ≡ texts_of texts ++ rest
   pub each : EncodeAll texts messages
 
--- The text is a dump of the history: the frames of messages of entries, and then that of the digests,
--- all with the history's horizon, and nothing else. The messages give the history, and the digests
--- are its own. Any replica may have sent each message.
+-- The text is a dump of the history: the frames of messages of entries, and then that of the
+-- digests, all with the history's horizon, and nothing else. The messages give the history, and the
+-- digests are its own. Any replica may have sent each message.
 pub record IsDump (text : List ℕ) (h : HistoryView) : Type 0 where
   pub messages : List Message
   pub sender : ℕ
@@ -109,8 +109,8 @@ HasOtherDigests text at = (horizon : ℕ) × (messages : List Message) × (sende
 abbrev pub HasMore : List ℕ → ℕ → Type 0
 HasMore text at = (dump more : List ℕ) × (h : HistoryView) × (text ≡ dump ++ more) × (0 < length more) × (at ≡ length dump) × IsDump dump h
 
--- Why a text is refused, and behind how many bytes of whole frames. A failed allocation and a failed
--- read say nothing of the text. A reader answers no WriteFault.
+-- Why a text is refused, and behind how many bytes of whole frames. A failed allocation and a
+-- failed read say nothing of the text. A reader answers no WriteFault.
 abbrev pub IsDumpRefused : List ℕ → ℕ → DumpFault → Type 0
 IsDumpRefused text at (Frame frame_faults.Memory) = ⊤
 IsDumpRefused text at (Frame frame_faults.BadKind) = ShowsFrameFault text at frame_faults.BadKind ⊎ HasRequest text at

@@ -60,7 +60,8 @@ fn has_digests(alloc: Global, history: &History, table: &DigestTable) -> Result<
     Ok(own == *table)
 }
 
-// Whether these entries are of one bucket, where their pages ascend: the first and the last one are.
+// Whether these entries are of one bucket, where their pages ascend: the first and the last one
+// are.
 fn are_of_one_bucket(entries: &[Entry]) -> bool {
     let Some(first) = entries.first() else {
         return false;

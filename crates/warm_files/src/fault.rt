@@ -9,8 +9,9 @@ use warm_frames::FrameFault;
 /// Why a dump was not written or not read. As an error it shows its name ([`DumpFault::name`]).
 #[derive(Clone, Copy, Debug, PartialEq, Eq, Error)]
 pub enum DumpFault {
-    /// 1 to 11: the fault of a frame, with its number. `Memory` is any allocation failure. `BadKind`
-    /// is also a request where entries or digests are expected. `Truncated` and `Failed` do not occur.
+    /// 1 to 11: the fault of a frame, with its number. `Memory` is any allocation failure.
+    /// `BadKind` is also a request where entries or digests are expected. `Truncated` and `Failed`
+    /// do not occur.
     #[error("{0}")]
     Frame(FrameFault),
     /// 13: the bytes end before the digests do.
@@ -82,9 +83,9 @@ impl DumpFault {
 #[derive(Clone, Copy, Debug, PartialEq, Eq, Error)]
 #[error("{fault} at byte {at}")]
 pub struct DumpError {
-    /// The byte at which the whole frames before the fault end: the frame that shows the fault, or what
-    /// follows the dump, begins here. After an allocation failure or a failed read no contract says
-    /// it.
+    /// The byte at which the whole frames before the fault end: the frame that shows the fault, or
+    /// what follows the dump, begins here. After an allocation failure or a failed read no contract
+    /// says it.
     pub at: u64,
     /// Why.
     pub fault: DumpFault,

@@ -275,9 +275,9 @@ impl DumpReader {
 ///
 /// It takes memory for the history that it returns, for one message, its bytes and its entries, and
 /// for [`READ_SIZE`] bytes that are read at a time. Beside these, entries wait to be joined to the
-/// history together: at most as many as a message may have, or an eighth as many as the history has.
-/// Their list may keep capacity for as many again, and they are copied while they are joined. A
-/// history that was joined so takes less memory than one that takes the entries in message by
+/// history together: at most as many as a message may have, or an eighth as many as the history
+/// has. Their list may keep capacity for as many again, and they are copied while they are joined.
+/// A history that was joined so takes less memory than one that takes the entries in message by
 /// message.
 ///
 /// It is all or nothing: after a fault no memory is kept. A read that is interrupted is made again.

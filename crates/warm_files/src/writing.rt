@@ -15,7 +15,7 @@ use warm_digest::digests;
 use warm_frames::{EntryList, MAX_ENTRIES, Message, encode};
 use warm_history::laws::prove_is_history;
 use warm_history::{BucketEntries, Entry, History};
-use warm_stamps::{BUCKETS, Bucket, ReplicaId};
+use warm_stamps::{Bucket, ReplicaId};
 
 // Writes a message as a frame.
 fn write_message<W: Write>(
@@ -88,10 +88,7 @@ fn write_entries<W: Write>(
 {
     prove_is_history(history);
     let horizon = history.horizon();
-    for index in 0..BUCKETS {
-        let Some(bucket) = Bucket::new(index) else {
-            unreachable!()
-        };
+    for bucket in Bucket::all() {
         write_bucket(alloc, writer, sender, horizon, history.bucket(bucket))?;
     }
     Ok(())
@@ -117,9 +114,9 @@ fn write_digests<W: Write>(
     write_message(alloc, writer, &message)
 }
 
-/// Writes the history as a dump: the messages of its entries, bucket by bucket and each in page order,
-/// up to [`MAX_ENTRIES`] to a message, and then the message of its digests. Each has this sender and
-/// the history's horizon. Flushes the writer last.
+/// Writes the history as a dump: the messages of its entries, bucket by bucket and each in page
+/// order, up to [`MAX_ENTRIES`] to a message, and then the message of its digests. Each has this
+/// sender and the history's horizon. Flushes the writer last.
 ///
 /// A dump that was written reads back equal ([`crate::laws::dump_reads_back`]).
 ///

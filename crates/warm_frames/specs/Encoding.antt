@@ -51,7 +51,8 @@ encoding f = encoding_in Wide f
 abbrev pub AreNarrow : List Entry → Type 0
 AreNarrow es = AllByRecursion (λ e. e.page.no < 2 ^ 32) es
 
--- the format can hold the message: the narrow one holds no horizon, and only page numbers of 32 bits
+-- the format can hold the message: the narrow one holds no horizon, and only page numbers of 32
+-- bits
 abbrev pub CanHold : Format → Message → Type 0
 CanHold Wide f = ⊤
 CanHold Narrow (Entries sender horizon entries) = (horizon ≡ 0) × AreNarrow entries

@@ -265,6 +265,7 @@ Reserves reserved = (n : ℕ) × (0 < n) × (reserved ≡ Ok n)
 abbrev pub GivesReading : {X : Type 0} → Result X FrameFault → Result X FrameFault → Result ℕ FrameFault → Type 0
 GivesReading result read reserved = (result ≡ read) ⊎ ((result ≡ Err Memory) × Reserves reserved)
 
--- The message that the bytes encode, if they encode one, was returned, unless the allocation failed.
+-- The message that the bytes encode, if they encode one, was returned, unless the allocation
+-- failed.
 abbrev pub FindsEncoded : List ℕ → Result Message FrameFault → Type 0
 FindsEncoded bytes result = (message : Message) → Encodes bytes message → GivesReading result (Ok message) (reserved_by bytes)

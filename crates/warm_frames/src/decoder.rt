@@ -26,9 +26,9 @@ pub struct Fed {
 /// Decodes the frames of a stream, however the stream is cut into pieces.
 ///
 /// It returns a message as soon as the last byte of its frame is there. Until then it holds the
-/// bytes of the frame that has begun, and no others. After a fault it may still hold the bytes of that frame from
-/// earlier pieces, until it is dropped; it reads them no more and holds no further ones. Contracts
-/// see its state: inside a frame of which these bytes have come, or after a fault.
+/// bytes of the frame that has begun, and no others. After a fault it may still hold the bytes of
+/// that frame from earlier pieces, until it is dropped; it reads them no more and holds no further
+/// ones. Contracts see its state: inside a frame of which these bytes have come, or after a fault.
 #[derive(Debug, Drop)]
 pub struct Decoder {
     alloc: Global,

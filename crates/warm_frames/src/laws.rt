@@ -12,8 +12,8 @@ pub fn prefix_free()
     ensures { PrefixFree }
 {}
 
-/// The bytes that a decoder consumed, in any pieces, encode the messages that it returned, one after
-/// the other, and are then a part of the next frame.
+/// The bytes that a decoder consumed, in any pieces, encode the messages that it returned, one
+/// after the other, and are then a part of the next frame.
 pub fn in_pieces()
     ensures { InPieces }
 {}

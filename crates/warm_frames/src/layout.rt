@@ -1,8 +1,8 @@
 //! The layout of frames: the numbers that writing and reading share.
 //!
 //! A frame is the bytes of a message: a header and a body, one after the other. There are two
-//! formats: the wide one is written and read, the narrow one is only read. A number of more than one
-//! byte has its highest byte first. All sizes are in bytes.
+//! formats: the wide one is written and read, the narrow one is only read. A number of more than
+//! one byte has its highest byte first. All sizes are in bytes.
 //!
 //! | Header | Wide | Narrow |
 //! |---|---|---|
@@ -12,9 +12,9 @@
 //! | horizon | [`HORIZON_SIZE`] | none |
 //! | length of the body | [`LENGTH_SIZE`] | [`LENGTH_SIZE`] |
 //!
-//! The body of a frame of entries is their count ([`COUNT_SIZE`]) and the entries: each is a page, a
-//! tag and one or two stamps, the later one first. The body of a frame of digests is the digest of
-//! each bucket, and that of a request is a number with a bit for each bucket.
+//! The body of a frame of entries is their count ([`COUNT_SIZE`]) and the entries: each is a page,
+//! a tag and one or two stamps, the later one first. The body of a frame of digests is the digest
+//! of each bucket, and that of a request is a number with a bit for each bucket.
 use warm_stamps::BUCKETS;
 
 /// The magic number of the wide format: the letters `L2G2`.

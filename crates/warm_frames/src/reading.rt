@@ -158,7 +158,8 @@ fn body_at(format: Format, kind: Kind, bytes: &[u8]) -> Result<&[u8], FrameFault
 pub(crate) fn frame_size(bytes: &[u8]) -> Result<usize, FrameFault>
     ensures { result ≡ frame_size bytes.now }
 {
-    // Not `?`: the borrow checker has no rule for it where a tuple holds a `ReplicaId` and a reference.
+    // Not `?`: the borrow checker has no rule for it where a tuple holds a `ReplicaId` and a
+    // reference.
     let (format, kind, _, _, rest) = match start_at(bytes) {
         Ok(start) => start,
         Err(fault) => return Err(fault),
