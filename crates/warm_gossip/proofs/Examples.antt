@@ -30,7 +30,8 @@ at time replica = record { time = time; replica = replica }
 abbrev once : ℕ → Stamp → Entry
 once n stamp = record { page = record { dev = 0; no = n }; hist = Once stamp }
 
--- two pages of two buckets, which a replica sends in two messages; bucket 3 is empty, and gives none
+-- two pages of two buckets, which a replica sends in two messages; bucket 3 is empty, and gives
+-- none
 two_messages : requested_messages 1 (history_of_entries (once 1 (at 10 1) ∷ once 2 (at 11 2) ∷ [])) 14 ≡ Entries 1 0 (once 1 (at 10 1) ∷ []) ∷ Entries 1 0 (once 2 (at 11 2) ∷ []) ∷ []
 unfolding buckets_in
 two_messages = refl

@@ -1,5 +1,5 @@
--- What a history says of pages as before: of those of which it takes in no reference, where its horizon does not rise; and of all, where its
--- entries stay.
+-- What a history says of pages as before: of those of which it takes in no reference, where its
+-- horizon does not rise; and of all, where its entries stay.
 use Rattle.std.proofs.Common.{◌≡◌, ℕ, ◌≤◌, suc, false, List, [], ◌∷◌, ◌++◌, map, filter, length, max, Option, Some, None, IfSome, sym, ap, refl, ◌∙◌, arith}
 use Rattle.std.proofs.lemmas.List.{append-nil}
 use Rattle.std.specs.List.{Contains}

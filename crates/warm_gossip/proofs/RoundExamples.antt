@@ -25,7 +25,8 @@ standby = history_of_entries (two ∷ [])
 abbrev both : HistoryView
 both = history_of_entries (one ∷ two ∷ [])
 
--- what replica 2 answers to digests from which its own differ in the buckets 1 and 2, which is the request 6
+-- what replica 2 answers to digests from which its own differ in the buckets 1 and 2, which is the
+-- request 6
 abbrev asked : List Message
 asked = Entries 2 0 (two ∷ []) ∷ Want 2 0 6 ∷ []
 

@@ -84,7 +84,8 @@ abbrev CarriesEntries : Message → Type 0
 CarriesEntries (Entries sender horizon entries) = Unit {0}
 CarriesEntries other = ⊥
 
--- where messages of entries come, and then a request, the request alone is answered, from what is known in the end
+-- where messages of entries come, and then a request, the request alone is answered, from what is
+-- known in the end
 hears_request : (id sender horizon request : ℕ) (h : HistoryView) (messages answers : List Message) (new : HistoryView) → AllByRecursion CarriesEntries messages
     → Receives id h (messages ++ Want sender horizon request ∷ []) answers new → answers ≡ requested_messages id new request
 hears_request id sender horizon request h [] answers new all hears =

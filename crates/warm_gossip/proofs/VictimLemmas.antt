@@ -110,7 +110,8 @@ pinned : (h : HistoryView) (v w : PoolView) (p : PageId) (slot : Slot) → AddsF
 pinned h v w p slot (inl adds) = inl (fixes_change v w slot.index _ adds.there (ap (λ x. x.frames) adds.becomes))
 pinned h v w p slot (inr puts) = inr (p, 1, slot, puts)
 
--- the history is that of S, and any call but a restart has put one page into a frame, or left all where they were
+-- the history is that of S, and any call but a restart has put one page into a frame, or left all
+-- where they were
 abbrev pub Leads : ReferenceSet → Call → NodeView → NodeView → Type 0
 Leads S call old new = (new.history ≡ history S) × (call ≢ Restart → KeepsPages old.pool new.pool ⊎ PutsPage old.history old.pool new.pool)
 

@@ -1,4 +1,5 @@
--- A warm-up of as many steps as there are frames: no page of the list leaves, so each step passes one page more of the list.
+-- A warm-up of as many steps as there are frames: no page of the list leaves, so each step passes
+-- one page more of the list.
 use Rattle.std.proofs.Common.{◌≡◌, ◌≢◌, ◌⊎◌, ◌≤◌, ◌<◌, ◌+◌, ℕ, zero, suc, false, List, [], ◌∷◌, map, length, get_or, Option, Some, None, refl, sym, ap, subst, ◌∙◌, inl, inr, arith}
 use Rattle.std.specs.Bool.{Decides}
 use Rattle.std.specs.List.{Contains, cons_option}
@@ -71,8 +72,8 @@ has_same v w p same has = record { device = rw same has.device; number = rw same
 same_page : (p q : PageId) → Decides (eq_by_cmp page_cmp p q) (p ≡ q)
 same_page p q = (λ tied. page_order.same p q (is_equal (page_cmp p q) tied), λ is. ap (λ x. is_eq (page_cmp p x)) (sym is) ∙ ap is_eq (tied_itself page_order.total p))
 
--- Where every frame has a page and each page is in one frame, no list of as many pages as there are frames has all of these and one
--- more.
+-- Where every frame has a page and each page is in one frame, no list of as many pages as there are
+-- frames has all of these and one more.
 crowded : (v : PoolView) → PagesDiffer v → HasNoFreeFrame v → (q : PageId) → IsAbsent v q → (ps : List PageId) → length ps ≤ length v.frames → Contains ps q
     → ((i : ℕ) (r : PageId) → (frame_at v i).page ≡ Some r → Contains ps r) → ⊥
 crowded v differ full q absent ps few listed within =

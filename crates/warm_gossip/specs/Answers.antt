@@ -43,7 +43,8 @@ requested_messages id h request = flat_map (bucket_messages id h) (buckets_in re
 abbrev pub IsDiffering : List (List ℕ) → HistoryView → ℕ → Type 0
 IsDiffering digests h request = (bucket : ℕ) → bucket < BUCKETS → (bit_at request bucket ≡ 1) ↔ (digest_at digests bucket ≢ digest_at (digests_of (entries_of h)) bucket)
 
--- The answer to digests: the entries of the buckets that differ, and then a request for these; nothing where none differs.
+-- The answer to digests: the entries of the buckets that differ, and then a request for these;
+-- nothing where none differs.
 abbrev pub AnswersDigests : ℕ → HistoryView → List (List ℕ) → List Message → Type 0
 AnswersDigests id h digests messages = (request : ℕ) × (request < 2 ^ 64) × IsDiffering digests h request
     × (messages ≡ if request == 0 then [] else requested_messages id h request ++ Want id h.horizon request ∷ [])

@@ -18,7 +18,8 @@ last_page (e ∷ f ∷ es) = last_page (f ∷ es)
 abbrev pub piece_after : ReferenceSet → ℕ → ℕ → Option PageId → List Entry
 piece_after S bucket limit after = entries_of (history (carried S bucket after limit))
 
--- each piece is what is sent after the last page of the one before, and after the last piece no page is left
+-- each piece is what is sent after the last page of the one before, and after the last piece no
+-- page is left
 abbrev pub AreInTurn : ReferenceSet → ℕ → ℕ → Option PageId → List (List Entry) → Type 0
 AreInTurn S bucket limit after [] = piece_after S bucket limit after ≡ []
 AreInTurn S bucket limit after (piece ∷ others) =

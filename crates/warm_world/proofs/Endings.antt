@@ -58,7 +58,8 @@ module _ {A : Type 0} (g : A → NodeState) (xs : List A) (k : ℕ) (y : A) wher
 pub others_same : {A : Type 0} (g : A → NodeState) (xs : List A) (k : ℕ) (y : A) (j : ℕ) (other : NodeState) → j ≢ k → get_or (map g (set xs k y)) j other ≡ get_or (map g xs) j other
 others_same g xs k y j other apart = ap (λ nodes. get_or nodes j other) (map-set g xs k y) ∙ get_or-set_other (map g xs) k j (g y) other apart
 
--- what fails in a world that shows what it showed fails in that, and the pools were written back in order up to there
+-- what fails in a world that shows what it showed fails in that, and the pools were written back in
+-- order up to there
 pub fails_since : (old mid new : WorldView) (k : ℕ) (why : NodeFault) → mid ≡ old → (why ≡ Pool Fault) × FailsAtPlace k mid new → FinishFails old why new
 fails_since old mid new k why same did = (did.0, subst (λ w. FailsOf w new) same did.1.0)
 

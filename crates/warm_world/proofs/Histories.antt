@@ -1,4 +1,5 @@
--- What a history says stands for the references themselves: what is carried of them, what is answered of them, and how pages rank.
+-- What a history says stands for the references themselves: what is carried of them, what is
+-- answered of them, and how pages rank.
 use Rattle.std.proofs.Common.{◌≡◌, ℕ, List, [], ◌∷◌, ◌++◌, Option, None, map, refl, sym, ◌∙◌, ap, subst, cond, true, false, Bool, arith}
 use Rattle.std.specs.Prelude.{◌==◌}
 use Rattle.std.specs.List.{flat_map}
@@ -32,7 +33,8 @@ own_history S = same_hists (references_of (history S)) S (horizon-history S) (hi
 carried_alike : (S : ReferenceSet) (bucket : ℕ) (after : Option PageId) (limit : ℕ) → entries_of (history (carried (references_of (history S)) bucket after limit)) ≡ entries_of (history (carried S bucket after limit))
 carried_alike S bucket after limit = sym (history-carried (references_of (history S)) bucket after limit) ∙ rw (own_history S) (history-carried S bucket after limit)
 
--- what a node sends, and the digests that it offers, are those of the references for which its history stands
+-- what a node sends, and the digests that it offers, are those of the references for which its
+-- history stands
 pub sent_kept : (m : ModelState) (n : NodeView) (message : Message) (i bucket : ℕ) (after : Option PageId) → message ≡ sent n.id n.history bucket after → n ≡ node_of m i → message ≡ message_kept (References i (carried (reach_of m i) bucket after MAX_ENTRIES))
 sent_kept m n message i bucket after is node =
     let S = reach_of m i in

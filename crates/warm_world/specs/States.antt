@@ -41,7 +41,8 @@ no_replica = record { reach = set_of_list []; pending = []; pool = no_pool }
 abbrev pub replica : ModelState → ℕ → ReplicaState
 replica m k = slice_index_or m.replicas k no_replica
 
--- the references that reached the replica of a number, directly or through others, since its restart
+-- the references that reached the replica of a number, directly or through others, since its
+-- restart
 abbrev pub reach_of : ModelState → ℕ → ReferenceSet
 reach_of m i = (replica m (index_of_number i)).reach
 

@@ -51,8 +51,8 @@ pub enum Event {
     /// A replica writes back its pages, and then forgets its history, the references in its
     /// buffers, and which pages were resident. Its horizon is 0 again.
     Restart(u16),
-    /// A replica forgets all stamps before a time, and keeps that time as its horizon: replica, time. A time
-    /// that is not greater than its horizon changes nothing.
+    /// A replica forgets all stamps before a time, and keeps that time as its horizon: replica,
+    /// time. A time that is not greater than its horizon changes nothing.
     Horizon(u16, u64),
     /// A replica's history is requested.
     Show(u16),
@@ -82,7 +82,8 @@ pub enum Answer {
     Loaded(Option<PageId>),
     /// Horizon: the replica's horizon afterwards.
     Kept(u64),
-    /// The event was refused; nothing that a caller sees has changed but counts of devices' failures.
+    /// The event was refused; nothing that a caller sees has changed but counts of devices'
+    /// failures.
     Refused(WorldFault),
 }
 

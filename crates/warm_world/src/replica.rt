@@ -51,8 +51,8 @@ fn empty_buffers(alloc: Global, workers: u16, capacity: usize) -> Result<Vec<Ref
 }
 
 impl<D: PageDevice> Replica<D> {
-    /// A replica that no reference has reached, over a pool without a page. The devices' pages have the
-    /// setup's size.
+    /// A replica that no reference has reached, over a pool without a page. The devices' pages have
+    /// the setup's size.
     ///
     /// Fails where an allocation fails.
     pub(crate) fn new(
