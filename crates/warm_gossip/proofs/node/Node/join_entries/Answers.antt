@@ -17,6 +17,6 @@ pub invariant_of-self-2 : goal.invariant_of-self-2
 invariant_of-self-2 g c =
     let h = c.self.inside.history.history in
     let agrees = joined_agrees h c.args.horizon c.args.entries.now (omega (arith, c.if-own-horizon.false, c.horizon-own.ensures)) in (
-      rw c.history-3.ensures at (c.refresh.ensures.ranked h c.self.invariant.0 (rw (c.history-3.ensures, c.in_ok-changed.ensures.exact) agrees)),
+      rw c.history-2.ensures at (c.refresh.ensures.ranked h c.self.invariant.0 (rw (c.history-2.ensures, c.in_ok-changed.ensures.exact) agrees)),
       none_kept _ _ _ c.new.ensures,
     )
