@@ -106,15 +106,15 @@ history_of_nothing = refl
 
 -- a replica that no reference has reached, over a pool that was made so
 pub opened_stands : (s : Sizes) (devices : List DeviceState) (place id capacity workers frames size : ℕ) (n : NodeState) (p : PoolState) (bs : List Buffered)
-    → 1 ≤ capacity → capacity ≡ s.buffer → workers ≡ s.workers → frames ≡ s.frames → size ≡ s.page_size → id ≡ place + 1 → n ≡ opened_node id p → p ≡ pools.opened frames size devices
+    → 1 ≤ capacity → capacity ≡ s.buffer → workers ≡ s.workers → frames ≡ s.frames → size ≡ s.page_size → id ≡ place + 1 → n ≡ opened_node id p → p ≡ pools.fresh_pool frames size devices
     → bs ≡ replicate workers (buffered capacity []) → ReplicaStands s.buffer place (record { node = node_view n; buffers = bs }) (opened_over s devices)
 opened_stands s devices place id capacity workers frames size n p bs some of_capacity of_workers of_frames of_size number node made empty = record {
   has_capacity = omega (arith, some, of_capacity);
   node_is = ap node_view node
       ∙ ap (λ (q : PoolState). let v : NodeView = record { id = id; history = history_of_entries []; pool = view_of q } in v)
-      (made ∙ ap (λ k. pools.opened k size devices) of_frames ∙ ap (λ k. pools.opened s.frames k devices) of_size)
-      ∙ ap (λ (i : ℕ). let v : NodeView = record { id = i; history = history_of_entries []; pool = view_of (pools.opened s.frames s.page_size devices) } in v) number
-      ∙ ap (λ (h : HistoryView). let v : NodeView = record { id = place + 1; history = h; pool = view_of (pools.opened s.frames s.page_size devices) } in v) (sym history_of_nothing);
+      (made ∙ ap (λ k. pools.fresh_pool k size devices) of_frames ∙ ap (λ k. pools.fresh_pool s.frames k devices) of_size)
+      ∙ ap (λ (i : ℕ). let v : NodeView = record { id = i; history = history_of_entries []; pool = view_of (pools.fresh_pool s.frames s.page_size devices) } in v) number
+      ∙ ap (λ (h : HistoryView). let v : NodeView = record { id = place + 1; history = h; pool = view_of (pools.fresh_pool s.frames s.page_size devices) } in v) (sym history_of_nothing);
   buffers_are = empty ∙ ap (λ k. replicate workers (buffered k [])) of_capacity ∙ ap (λ k. replicate k (buffered s.buffer [])) of_workers ∙ sym (empty_buffers_are s.buffer s.workers);
 }
 

@@ -220,7 +220,7 @@ round_joins i j old new fits others round = elim (cases_eq (index_of_number i) (
     knows : known_to round.asked j ≡ history_after g (offer i h)
     knows = offer_heard.3.1
 
-    between : index_of_number i ≢ index_of_number j → node.GossipRound i j h g (known_to new i) (known_to new j)
+    between : index_of_number i ≢ index_of_number j → node.HistoryRound i j h g (known_to new i) (known_to new j)
     between other =
         let back : index_of_number j ≢ index_of_number i = λ same. other (sym same) in
         let before : known_to round.asked i ≡ h = ap history (first.others i other) ∙ knew i in

@@ -5,6 +5,7 @@ ghost use Rattle.warm_gossip.specs.declared.fault.NodeFault.TheVariants as node;
 ghost use Rattle.warm_world.specs.declared.event.WorldFault.TheVariants as fault;
 ghost use Rattle.warm_world.specs.declared.event.BadWorld.TheVariants as bad;
 ghost use Rattle.warm_world.specs.Next.{replica_of, worker_of, message_of};
+ghost use Rattle.warm_world.specs.Replicas.{answered};
 
 use crate::shown::ShownHistory;
 use std::alloc::AllocError;
@@ -192,6 +193,16 @@ impl From<AllocError> for BadWorld {
 
     fn from(_error: AllocError) -> BadWorld {
         BadWorld::Memory
+    }
+}
+
+/// The answer to an event for the result of a node's call.
+pub(crate) fn answer_of(made: Result<Answer, NodeFault>) -> Answer
+    ensures { result ≡ answered made }
+{
+    match made {
+        Ok(answer) => answer,
+        Err(why) => Answer::Refused(WorldFault::Node(why)),
     }
 }
 

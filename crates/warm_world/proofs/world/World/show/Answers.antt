@@ -7,7 +7,7 @@ use Rattle.warm_world.proofs.world.World.show.Goals as goal
 pub returns-in-Ok-new : goal.returns-in-Ok-new
 returns-in-Ok-new g c = λ m st.
     let event = Show c.args.i in
-    let node = node_at _ _ _ m event c.index.result.now st c.requires.named c.index.ensures in
+    let node = node_at _ _ _ m event c.index.result.now st c.requires.named (rw c.index_of_number.ensures at c.index.ensures) in
     record {
       new = m;
       next = (named_too _ m event st c.requires.named, (c.in-Ok-new.ensures ∙ c.in-Ok.ensures ∙ c.history.ensures ∙ ap (λ (v : NodeView). v.history) node, refl));
