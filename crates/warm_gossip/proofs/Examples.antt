@@ -1,18 +1,19 @@
--- Worked examples: pieces of lists, wanted buckets, and the history after a message, computed.
+-- Worked examples: chunks of lists, wanted buckets, and the history after a message, computed.
 use Rattle.std.proofs.Common.{◌≡◌, ℕ, [], ◌∷◌, None, refl}
 use Rattle.warm_stamps.specs.declared.Stamp.{Stamp}
 use Rattle.warm_history.specs.declared.hist.Entry.{Entry}
 use Rattle.warm_history.specs.declared.hist.PageHist.TheVariants.{Once, Twice}
 use Rattle.warm_history.specs.Histories.{history_of_entries, history_of_entries_at, history}
 use Rattle.warm_frames.specs.declared.message.Message.TheVariants.{Entries, Want}
-use Rattle.warm_gossip.specs.Answers.{buckets_in, requested_messages, pieces, sent, history_after}
+use Rattle.warm_frames.specs.Chunks.{chunks}
+use Rattle.warm_gossip.specs.Answers.{buckets_in, requested_messages, sent, history_after}
 
--- ---- pieces
+-- ---- chunks
 
-five_in_twos : pieces {A = ℕ} 2 (1 ∷ 2 ∷ 3 ∷ 4 ∷ 5 ∷ []) ≡ (1 ∷ 2 ∷ []) ∷ (3 ∷ 4 ∷ []) ∷ (5 ∷ []) ∷ []
+five_in_twos : chunks {A = ℕ} 2 (1 ∷ 2 ∷ 3 ∷ 4 ∷ 5 ∷ []) ≡ (1 ∷ 2 ∷ []) ∷ (3 ∷ 4 ∷ []) ∷ (5 ∷ []) ∷ []
 five_in_twos = refl
 
-four_in_twos : pieces {A = ℕ} 2 (1 ∷ 2 ∷ 3 ∷ 4 ∷ []) ≡ (1 ∷ 2 ∷ []) ∷ (3 ∷ 4 ∷ []) ∷ []
+four_in_twos : chunks {A = ℕ} 2 (1 ∷ 2 ∷ 3 ∷ 4 ∷ []) ≡ (1 ∷ 2 ∷ []) ∷ (3 ∷ 4 ∷ []) ∷ []
 four_in_twos = refl
 
 -- ---- messages

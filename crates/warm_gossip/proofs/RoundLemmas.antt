@@ -40,7 +40,8 @@ use Rattle.warm_digest.specs.BucketDigests.{digests_of}
 use Rattle.warm_digest.specs.Exchange.{Fits, IsCollision, IsDifferenceOf, in_buckets}
 use Rattle.warm_digest.proofs.CachedLemmas.{digest_is}
 use Rattle.warm_digest.proofs.ExchangeLemmas.{kept, hist-kept, joined_same, joined_none, exchange_joins}
-use Rattle.warm_gossip.specs.Answers.{pieces_of, pieces, entry_messages, bucket_messages, buckets_in, requested_messages, IsDiffering, refs_in, history_after}
+use Rattle.warm_frames.specs.Chunks.{chunks_of, chunks, entry_messages, bucket_messages}
+use Rattle.warm_gossip.specs.Answers.{buckets_in, requested_messages, IsDiffering, refs_in, history_after}
 use Rattle.warm_gossip.specs.Round.{Receives, HistoryRound, GossipRoundEnds, HistoryRoundJoins, OwnDigestsUnanswered, EntriesBringAll, offer}
 use Rattle.warm_gossip.proofs.AnswerLemmas.{if_other}
 use Rattle.warm_gossip.proofs.Ranks.{no_greater}
@@ -109,7 +110,7 @@ entries_in_messages P id horizon each (part ∷ parts) = (each part, entries_in_
 bucket_by_bucket : (P : Message → Type 0) (id : ℕ) (h : HistoryView) → ((part : List Entry) → P (Entries id h.horizon part)) → (buckets : List ℕ) → AllByRecursion P (flat_map (bucket_messages id h) buckets)
 bucket_by_bucket P id h each [] = tt
 bucket_by_bucket P id h each (bucket ∷ buckets) =
-    all_append P (bucket_messages id h bucket) (flat_map (bucket_messages id h) buckets) (entries_in_messages P id h.horizon each (pieces MAX_ENTRIES (bucket_entries bucket (entries_of h)))) (bucket_by_bucket P id h each buckets)
+    all_append P (bucket_messages id h bucket) (flat_map (bucket_messages id h) buckets) (entries_in_messages P id h.horizon each (chunks MAX_ENTRIES (bucket_entries bucket (entries_of h)))) (bucket_by_bucket P id h each buckets)
 
 wanted_carry : (id request : ℕ) (h : HistoryView) → AllByRecursion CarriesEntries (requested_messages id h request)
 wanted_carry id request h = bucket_by_bucket CarriesEntries id h (λ part. tt) (buckets_in request)
@@ -136,21 +137,21 @@ held_by-append : (es fs : List Entry) → references_of_entries (es ++ fs) ≡ r
 held_by-append [] fs = refl
 held_by-append (e ∷ es) fs = ap (λ t. references_of_entry e ++ t) (held_by-append es fs) ∙ sym (append_assoc (references_of_entry e) (references_of_entries es) (references_of_entries fs))
 
--- pieces together hold what the list holds
-pieces_hold : (id horizon size n : ℕ) (es : List Entry) → 0 < size → length es ≤ n → all_told (map (λ part. Entries id horizon part) (pieces_of size n es)) ≡ references_of_entries es
-pieces_hold id horizon size zero [] some few = refl
-pieces_hold id horizon size zero (e ∷ es) some few = absurd (omega (arith, few))
-pieces_hold id horizon size (suc n) [] some few = refl
-pieces_hold id horizon size (suc n) (e ∷ es) some few =
+-- chunks together hold what the list holds
+chunks_hold : (id horizon size n : ℕ) (es : List Entry) → 0 < size → length es ≤ n → all_told (map (λ part. Entries id horizon part) (chunks_of size n es)) ≡ references_of_entries es
+chunks_hold id horizon size zero [] some few = refl
+chunks_hold id horizon size zero (e ∷ es) some few = absurd (omega (arith, few))
+chunks_hold id horizon size (suc n) [] some few = refl
+chunks_hold id horizon size (suc n) (e ∷ es) some few =
     let front : List Entry = take size (e ∷ es) in
     let later : List Entry = drop size (e ∷ es) in
     let fewer : length later ≤ n = omega (arith, length-drop size (e ∷ es), some, few) in
-    ap (λ t. references_of_entries front ++ t) (pieces_hold id horizon size n later some fewer)
+    ap (λ t. references_of_entries front ++ t) (chunks_hold id horizon size n later some fewer)
     ∙ sym (held_by-append front later)
     ∙ ap references_of_entries (take-append-drop size (e ∷ es))
 
 entry_messages_hold : (id horizon : ℕ) (es : List Entry) → all_told (entry_messages id horizon es) ≡ references_of_entries es
-entry_messages_hold id horizon es = pieces_hold id horizon MAX_ENTRIES (length es) es (omega arith) (omega arith)
+entry_messages_hold id horizon es = chunks_hold id horizon MAX_ENTRIES (length es) es (omega arith) (omega arith)
 
 -- whether an entry is chosen by its page, or its references are, is the same
 kept_entry : (test : PageId → Bool) (page : PageId) (h : PageHist) → kept test (references_of_entry (record { page = page; hist = h })) ≡ cond (test page) (references_of_entry (record { page = page; hist = h })) []

@@ -4,7 +4,8 @@ ghost use Rattle.std.specs.Int.{bit_at};
 ghost use Rattle.warm_history.specs.Histories.{PagesAscend};
 ghost use Rattle.warm_history.specs.Losses.{bucket_at_horizon, raised};
 ghost use Rattle.warm_digest.specs.BucketDigests.{digests_at_horizon};
-ghost use Rattle.warm_gossip.specs.Answers.{AnswersDigests, entry_messages, requested_messages, refs_in};
+ghost use Rattle.warm_frames.specs.Chunks.{entry_messages};
+ghost use Rattle.warm_gossip.specs.Answers.{AnswersDigests, requested_messages};
 
 use std::alloc::{AllocError, Global};
 use warm_digest::{DigestedHistory, differing};
@@ -155,15 +156,4 @@ pub(crate) fn answer_to_digests(
 {
     let own = history.digests_at_horizon(horizon)?;
     answer_given(alloc, id, history.history(), horizon, &own, digests)
-}
-
-/// The horizon of a message.
-pub(crate) fn horizon_of(message: &Message) -> u64
-    ensures { result ≡ (refs_in message.now).horizon }
-{
-    match message {
-        Message::Entries { horizon, .. } => *horizon,
-        Message::Digest { horizon, .. } => *horizon,
-        Message::Want { horizon, .. } => *horizon,
-    }
 }

@@ -9,7 +9,7 @@ ghost use Rattle.warm_pool.specs.State.{RankedBy};
 ghost use Rattle.warm_pool.specs.View.{view_of};
 ghost use Rattle.warm_gossip.specs.Clauses.{Answered, DevicesAfter, DevicesAnswered, Goes, Joins, JoinsEntries, SameView, done};
 
-use crate::answers::{answer_to_digests, horizon_of, requested_messages};
+use crate::answers::{answer_to_digests, requested_messages};
 use crate::fault::NodeFault;
 use crate::node::Node;
 use crate::warm_step::WarmUp;
@@ -191,7 +191,7 @@ impl<D: PageDevice> Node<D> {
             return Ok(MessageList::of(Vec::new(self.alloc)));
         }
         let answers = self.answers(&message)?;
-        self.raise(horizon_of(&message));
+        self.raise(message.horizon());
         Ok(answers)
     }
 

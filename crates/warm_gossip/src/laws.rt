@@ -1,4 +1,4 @@
-//! Laws of nodes: the pieces in which a bucket is answered, a round of gossip, victims, warming up,
+//! Laws of nodes: the chunks in which a bucket is answered, a round of gossip, victims, warming up,
 //! batches of references, and the references that a list of calls gave a node.
 //!
 //! Each function changes nothing. Its contract is a theorem, which the crates above cite and a
@@ -9,7 +9,7 @@ ghost use Rattle.std.specs.List.{AllByRecursion};
 ghost use Rattle.warm_frames.specs.Entries.{IsEntry, IsHist};
 ghost use Rattle.warm_digest.specs.Exchange.{Fits};
 ghost use Rattle.warm_gossip.specs.Batches.{BatchesAreTaken};
-ghost use Rattle.warm_gossip.specs.Pieces.{PiecesInTurn};
+ghost use Rattle.warm_gossip.specs.Chunks.{ChunksInTurn};
 ghost use Rattle.warm_gossip.specs.Round.{EntriesBringAll, GossipRoundEnds, HistoryRoundJoins, NodesJoin, OwnDigestsUnanswered};
 ghost use Rattle.warm_gossip.specs.State.{node_view};
 ghost use Rattle.warm_gossip.specs.Given.{HistoryIsOfGiven};
@@ -21,12 +21,12 @@ use warm_devices::PageDevice;
 use warm_history::laws::{prove_stamps_descend, prove_is_history};
 use warm_history::{Entry, PageHist, Unordered};
 
-/// The pieces in which a bucket of a history is answered to digests or to a request are what
+/// The chunks in which a bucket of a history is answered to digests or to a request are what
 /// `Call::Send` gives of that bucket, one after the other: the first without a page to come after,
 /// each next after the last page of the one before, until no page is left. So each carries all
 /// references to its pages, for all references that the history stands for.
-pub fn pieces_in_turn()
-    ensures { PiecesInTurn }
+pub fn chunks_in_turn()
+    ensures { ChunksInTurn }
 {}
 
 /// A round of gossip: a replica offers the digests of its history to another, and each receives all

@@ -6,7 +6,7 @@ ghost use Rattle.warm_frames.specs.declared.message.Message.{Message};
 ghost use Rattle.warm_frames.specs.Encoding.{Encodes};
 ghost use Rattle.warm_gossip.specs.declared.call.Call.TheVariants.{Send, Receive};
 ghost use Rattle.warm_gossip.specs.declared.call.Reply.TheVariants.{Sent, Answers};
-ghost use Rattle.warm_gossip.specs.Pieces.{last_page};
+ghost use Rattle.warm_gossip.specs.Chunks.{last_page};
 ghost use Rattle.warm_threads.specs.Exchanges.{entries_in, IsReceipt, SendsAll, SendsBucket};
 ghost use Rattle.warm_threads.specs.Works.{LeadsBy};
 

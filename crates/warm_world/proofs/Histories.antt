@@ -16,11 +16,12 @@ use Rattle.warm_frames.specs.declared.layout.TheConstants.{MAX_ENTRIES}
 use Rattle.warm_frames.specs.declared.message.Message.{Message}
 use Rattle.warm_frames.specs.declared.message.Message.TheVariants.{Digest, Entries, Want}
 use Rattle.warm_digest.specs.BucketDigests.{digests_of}
-use Rattle.warm_gossip.specs.Answers.{AnswersDigests, IsAnswer, bucket_messages, buckets_in, pieces, sent, history_after, requested_messages}
-use Rattle.warm_gossip.specs.Pieces.{AreInTurn, last_page}
+use Rattle.warm_frames.specs.Chunks.{bucket_messages, chunks}
+use Rattle.warm_gossip.specs.Answers.{AnswersDigests, IsAnswer, buckets_in, sent, history_after, requested_messages}
+use Rattle.warm_gossip.specs.Chunks.{AreInTurn, last_page}
 use Rattle.warm_gossip.specs.Round.{offer}
 use Rattle.warm_gossip.specs.State.{NodeView}
-use Rattle.warm_gossip.proofs.PieceLemmas.{pieces_in_turn}
+use Rattle.warm_gossip.proofs.ChunkLemmas.{chunks_in_turn}
 use Rattle.warm_gossip.proofs.RoundLemmas.{entries_bring_all}
 use Rattle.warm_world.specs.States.{MessageRecord, ModelState, References, Digests, Request, node_of, reach_of}
 use Rattle.warm_world.specs.Answered.{AreAnswers, bucket_records, reach_after, records_of, requested_records}
@@ -52,16 +53,16 @@ offers_kept m n message i is node = is ∙ ap (λ (v : NodeView). offer v.id v.h
 
 -- ---- what a replica answers
 
-piece_messages : (i : ℕ) (S : ReferenceSet) (bucket : ℕ) (after : Option PageId) (ps : List (List Entry)) → AreInTurn S bucket MAX_ENTRIES after ps
+chunk_messages : (i : ℕ) (S : ReferenceSet) (bucket : ℕ) (after : Option PageId) (ps : List (List Entry)) → AreInTurn S bucket MAX_ENTRIES after ps
     → map (λ part. Entries i S.horizon part) ps ≡ map message_kept (records_of i S bucket after ps)
-piece_messages i S bucket after [] turn = refl
-piece_messages i S bucket after (piece ∷ others) turn =
-    rw (← turn.0) (ap (λ fs. Entries i S.horizon piece ∷ fs) (piece_messages i S bucket (last_page piece) others turn.2))
+chunk_messages i S bucket after [] turn = refl
+chunk_messages i S bucket after (chunk ∷ others) turn =
+    rw (← turn.0) (ap (λ fs. Entries i S.horizon chunk ∷ fs) (chunk_messages i S bucket (last_page chunk) others turn.2))
 
 bucket_kept : (i : ℕ) (S : ReferenceSet) (bucket : ℕ) → bucket_messages i (history S) bucket ≡ map message_kept (bucket_records i S bucket)
 bucket_kept i S bucket =
-    let parts = pieces MAX_ENTRIES (bucket_entries bucket (entries_of (history S))) in
-    ap (λ m. map (λ part. Entries i m part) parts) (horizon-history S) ∙ piece_messages i S bucket None parts (pieces_in_turn S bucket MAX_ENTRIES (omega arith))
+    let parts = chunks MAX_ENTRIES (bucket_entries bucket (entries_of (history S))) in
+    ap (λ m. map (λ part. Entries i m part) parts) (horizon-history S) ∙ chunk_messages i S bucket None parts (chunks_in_turn S bucket MAX_ENTRIES (omega arith))
 
 buckets_kept : (i : ℕ) (S : ReferenceSet) (bs : List ℕ) → flat_map (bucket_messages i (history S)) bs ≡ map message_kept (flat_map (bucket_records i S) bs)
 buckets_kept i S [] = refl

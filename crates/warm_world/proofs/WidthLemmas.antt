@@ -28,7 +28,7 @@ use Rattle.warm_frames.specs.Entries.{IsEntry, IsHist}
 use Rattle.warm_digest.specs.Exchange.{Fits}
 use Rattle.warm_pool.specs.View.{PoolView}
 use Rattle.warm_gossip.specs.Answers.{buckets_in}
-use Rattle.warm_gossip.specs.Pieces.{last_page}
+use Rattle.warm_gossip.specs.Chunks.{last_page}
 use Rattle.warm_gossip.specs.declared.call.Call.{Call}
 use Rattle.warm_gossip.specs.declared.call.Reply.{Reply}
 use Rattle.warm_gossip.specs.declared.call.Reply.TheVariants as reply

@@ -6,7 +6,8 @@ use Rattle.warm_history.specs.ReferenceSets.{with_horizon}
 use Rattle.warm_history.specs.Histories.{history, references_of}
 use Rattle.warm_history.specs.Losses.{raised}
 use Rattle.warm_history.proofs.HistoryLemmas.{IsHistory-history}
-use Rattle.warm_gossip.proofs.AnswerLemmas.{all_below, bucket_rises, unwanted_more, wanted_more}
+use Rattle.warm_frames.proofs.ChunkLemmas.{bucket_ascends}
+use Rattle.warm_gossip.proofs.AnswerLemmas.{all_below, unwanted_more, wanted_more}
 use Rattle.warm_gossip.proofs.answers.requested_messages.Goals as goal
 
 pub loop-index-preserved-then-not-is_wanted : goal.loop-index-preserved-then-not-is_wanted
@@ -17,7 +18,7 @@ loop-index-preserved-then-not-is_wanted c =
 pub push_messages-requires : goal.push_messages-requires
 push_messages-requires c =
     let S = with_horizon c.args.horizon (references_of c.args.history.now) in
-    bucket_rises c.in-Some.bucket (history S) c.deref.result.now (c.deref.ensures.value ∙ c.in_ok-entries.ensures) (IsHistory-history S)
+    bucket_ascends c.in-Some.bucket (history S) c.deref.result.now (c.deref.ensures.value ∙ c.in_ok-entries.ensures) (IsHistory-history S)
 
 pub loop-index-preserved : goal.loop-index-preserved
 loop-index-preserved c =
