@@ -47,10 +47,10 @@ joined : history_after (history_of_entries (once 1 (at 20 1) ∷ [])) (Entries 2
 unfolding history
 joined = refl
 
--- a request teaches nothing but its horizon
-nothing_taught : history_after (history_of_entries (once 1 (at 20 1) ∷ [])) (Want 2 20 6) ≡ history_of_entries_at 20 (once 1 (at 20 1) ∷ [])
+-- a request brings nothing but its horizon
+only_the_horizon : history_after (history_of_entries (once 1 (at 20 1) ∷ [])) (Want 2 20 6) ≡ history_of_entries_at 20 (once 1 (at 20 1) ∷ [])
 unfolding history
-nothing_taught = refl
+only_the_horizon = refl
 
 -- and what is older than that is forgotten
 older_forgotten : history_after (history_of_entries (once 1 (at 20 1) ∷ once 2 (at 21 1) ∷ [])) (Want 2 21 6) ≡ history_of_entries_at 21 (once 2 (at 21 1) ∷ [])

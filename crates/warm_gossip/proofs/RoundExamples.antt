@@ -38,9 +38,9 @@ asked_is = refl
 abbrev given : List Message
 given = Entries 1 0 (one ∷ []) ∷ Entries 1 0 (two ∷ []) ∷ []
 
-heard : Receives 1 primary asked given both
+received : Receives 1 primary asked given both
 unfolding history buckets_in
-heard = ([], given, refl, (given, [], refl, (refl, refl), refl), refl)
+received = ([], given, refl, (given, [], refl, (refl, refl), refl), refl)
 
 -- and replica 2 has nothing to say to these
 back : Receives 2 standby given [] both
@@ -71,9 +71,9 @@ asked_later_is = refl
 abbrev given_later : List Message
 given_later = Entries 1 11 (two ∷ []) ∷ []
 
-heard_later : Receives 1 primary asked_later given_later later
+received_later : Receives 1 primary asked_later given_later later
 unfolding history buckets_in
-heard_later = ([], given_later, refl, (given_later, [], refl, (refl, refl), refl), refl)
+received_later = ([], given_later, refl, (given_later, [], refl, (refl, refl), refl), refl)
 
 back_later : Receives 2 later given_later [] later
 unfolding history

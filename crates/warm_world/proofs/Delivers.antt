@@ -19,9 +19,9 @@ use Rattle.warm_world.specs.Views.{ReplicaView}
 use Rattle.warm_world.specs.States.{ModelState, ReplicaState, add_records, reach_of, record_at, replica, set_replica}
 use Rattle.warm_world.specs.Answered.{reach_after}
 use Rattle.warm_world.specs.Next.{IsNamed}
-use Rattle.warm_world.specs.Stands.{ReplicaStands, SpellsRecord, StandsFor, Stepped, message_kept, view_shape}
-use Rattle.warm_world.proofs.Messages.{messages_join, spells_kept}
-use Rattle.warm_world.proofs.Histories.{answer_records, taught_heard}
+use Rattle.warm_world.specs.Stands.{ReplicaStands, EncodesRecord, StandsFor, Stepped, message_kept, view_shape}
+use Rattle.warm_world.proofs.Messages.{messages_join, encodes_kept}
+use Rattle.warm_world.proofs.Histories.{answer_records, history_after_reach}
 use Rattle.warm_world.proofs.Pairs.{Pairwise-nil, Pairwise-of}
 use Rattle.warm_world.proofs.Worlds.{named_too, node_at, place_in, replica_changes, stands_at, world}
 
@@ -46,7 +46,7 @@ module _ {A : Type 0} (f : A → ReplicaView) (xs : List A) (messages : List (Li
       → f y ≡ record (f x) { node = n } → KeepsAll messages answers messages'
       → count ≡ length answers → first ≡ if count == 0 then 0 else length messages' - count + 1
       → Stepped m (Deliver j k) (Took count first) (record (world f xs messages (set xs (index_of_number j) y)) { messages = messages' })
-  delivered m j k count first x y message answers n messages' st named is spelled answer learns becomes keeps many from =
+  delivered m j k count first x y message answers n messages' st named is of_record answer joins becomes keeps many from =
       let p = index_of_number j in
       let kept = record_at m (index_of_number k) in
       let lt = place_in f xs messages (Deliver j k) named in
@@ -54,22 +54,22 @@ module _ {A : Type 0} (f : A → ReplicaView) (xs : List A) (messages : List (Li
       let S = reach_of m j in
       let node = node_at f xs messages m (Deliver j k) x st named is in
       let asked : IsAnswer j (history S) (message_kept kept) answers =
-      subst (λ g. IsAnswer j (history S) g answers) spelled (subst (λ (n : NodeView). IsAnswer n.id n.history message answers) node answer) in
+      subst (λ g. IsAnswer j (history S) g answers) of_record (subst (λ (n : NodeView). IsAnswer n.id n.history message answers) node answer) in
       let rs = answer_records j S kept answers asked in
       let r : ReplicaState = record (replica m p) { reach = reach_after S kept } in
-      let learned : history_after (f x).node.history message ≡ history (reach_after S kept) = ap (λ (n : NodeView). history_after n.history message) node ∙ ap (history_after (history S)) spelled ∙ taught_heard S kept in
+      let joined : history_after (f x).node.history message ≡ history (reach_after S kept) = ap (λ (n : NodeView). history_after n.history message) node ∙ ap (history_after (history S)) of_record ∙ history_after_reach S kept in
       let stands : ReplicaStands m.capacity p (f y) r = record {
         has_capacity = here.has_capacity;
-        node_is = ap (λ (s : ReplicaView). s.node) becomes ∙ learns ∙ ap (λ (h : HistoryView). let v : NodeView = record (f x).node { history = h } in v) learned
+        node_is = ap (λ (s : ReplicaView). s.node) becomes ∙ joins ∙ ap (λ (h : HistoryView). let v : NodeView = record (f x).node { history = h } in v) joined
             ∙ ap (λ (u : NodeView). let v : NodeView = record u { history = history (reach_after S kept) } in v) here.node_is;
         buffers_are = ap (λ (s : ReplicaView). s.buffers) becomes ∙ here.buffers_are;
       } in
       let changed = replica_changes f xs messages m p y r st lt stands in
-      let spell = Pairwise-of EncodesMessage SpellsRecord message_kept keeps.0 rs.added (λ bytes one codes. spells_kept bytes (message_kept one) one refl codes)
+      let coded = Pairwise-of EncodesMessage EncodesRecord message_kept keeps.0 rs.added (λ bytes one codes. encodes_kept bytes (message_kept one) one refl codes)
       (subst (Pairwise (λ _ bytes g. EncodesMessage bytes g) keeps.0) rs.are keeps.1) in
       let all : length answers ≡ length rs.added = ap length rs.are ∙ length-map rs.added message_kept in
       let counted : length messages' - count ≡ length m.records =
-      omega (arith, ap length keeps.2, length-append messages keeps.0, spell.same_length, st.messages.same_length, all, many) in
+      omega (arith, ap length keeps.2, length-append messages keeps.0, coded.same_length, st.messages.same_length, all, many) in
       record {
         new = add_records (set_replica m p r) rs.added;
         next = (
@@ -82,7 +82,7 @@ module _ {A : Type 0} (f : A → ReplicaView) (xs : List A) (messages : List (Li
             becomes = refl;
           },
         );
-        stands = rw keeps.2 (messages_join (world f xs messages (set xs p y)) (set_replica m p r) keeps.0 rs.added changed spell);
+        stands = rw keeps.2 (messages_join (world f xs messages (set xs p y)) (set_replica m p r) keeps.0 rs.added changed coded);
       }
 
   -- entries come: they have no answer
@@ -92,10 +92,10 @@ module _ {A : Type 0} (f : A → ReplicaView) (xs : List A) (messages : List (Li
       → n ≡ record (f x).node { history = history_after (f x).node.history message }
       → f y ≡ record (f x) { node = n }
       → Stepped m (Deliver j k) (Took 0 0) (world f xs messages (set xs (index_of_number j) y))
-  taken m j k sender horizon es x y message answers n st named is spelled entries answered learns becomes =
+  taken m j k sender horizon es x y message answers n st named is of_record entries answered joins becomes =
       let none = unanswered (f x).node.id sender horizon (f x).node.history es message answers entries answered in
       let keeps : KeepsAll messages [] messages = ([], Pairwise-nil (λ _ bytes one. EncodesMessage bytes one), sym (append-nil messages)) in
-      delivered m j k 0 0 x y message answers n messages st named is spelled answered learns becomes (subst (λ fs. KeepsAll messages fs messages) (sym none) keeps) (sym (ap length none)) refl
+      delivered m j k 0 0 x y message answers n messages st named is of_record answered joins becomes (subst (λ fs. KeepsAll messages fs messages) (sym none) keeps) (sym (ap length none)) refl
 
   -- digests or a request come, and their answers are stored: then the horizon rises
   pub raised_after : (m : ModelState) (j k : ℕ) (x y z : A) (message : Message) (answers : List Message) (messages' : List (List ℕ)) (answer : Answer)
@@ -104,12 +104,12 @@ module _ {A : Type 0} (f : A → ReplicaView) (xs : List A) (messages : List (Li
       → f y ≡ f x → f z ≡ record (f y) { node = record (f y).node { history = history (with_horizon (horizon_in message) (references_of (f y).node.history)) } }
       → StoresAnswers messages answers answer messages'
       → Stepped m (Deliver j k) answer (record (world f xs messages (set (set xs (index_of_number j) y) (index_of_number j) z)) { messages = messages' })
-  raised_after m j k x y z message answers messages' (Took count first) st named is spelled other answered same becomes kept =
+  raised_after m j k x y z message answers messages' (Took count first) st named is of_record other answered same becomes kept =
       let n : NodeView = record (f x).node { history = history_after (f x).node.history message } in
       let horizon = horizon_in message in
       let shows : f z ≡ record (f x) { node = n } =
       becomes
       ∙ ap (λ (r : ReplicaView). let s : ReplicaView = record r { node = record r.node { history = history (with_horizon horizon (references_of r.node.history)) } } in s) same
       ∙ ap (λ (h : HistoryView). let s : ReplicaView = record (f x) { node = record (f x).node { history = h } } in s) (sym (horizon_alone (f x).node.history message other)) in
-      rw (set-set xs (index_of_number j) y z) (delivered m j k count first x z message answers n messages' st named is spelled answered refl shows kept.0 kept.1 kept.2)
-  raised_after m j k x y z message answers messages' answer st named is spelled other answered same becomes kept = absurd kept
+      rw (set-set xs (index_of_number j) y z) (delivered m j k count first x z message answers n messages' st named is of_record answered refl shows kept.0 kept.1 kept.2)
+  raised_after m j k x y z message answers messages' answer st named is of_record other answered same becomes kept = absurd kept

@@ -73,10 +73,10 @@ pub wanted_kept : (i : ℕ) (S : ReferenceSet) (request : ℕ) → requested_mes
 wanted_kept i S request = buckets_kept i S (buckets_in request)
 
 -- the history of a replica after it received a record's message
-pub taught_heard : (S : ReferenceSet) (kept : MessageRecord) → history_after (history S) (message_kept kept) ≡ history (reach_after S kept)
-taught_heard S (References sender rs) = entries_bring_all sender S rs
-taught_heard S (Digests sender horizon digests) = history_first S (record { horizon = horizon; given = [] })
-taught_heard S (Request sender horizon request) = history_first S (record { horizon = horizon; given = [] })
+pub history_after_reach : (S : ReferenceSet) (kept : MessageRecord) → history_after (history S) (message_kept kept) ≡ history (reach_after S kept)
+history_after_reach S (References sender rs) = entries_bring_all sender S rs
+history_after_reach S (Digests sender horizon digests) = history_first S (record { horizon = horizon; given = [] })
+history_after_reach S (Request sender horizon request) = history_first S (record { horizon = horizon; given = [] })
 
 -- The records of what a replica answers to a record's message.
 pub record RecordsOf (i : ℕ) (S : ReferenceSet) (kept : MessageRecord) (messages : List Message) : Type 0 where
@@ -98,12 +98,12 @@ answer_records i S (Request sender horizon request) messages are =
     record {
       added = requested_records i T request;
       answers = refl;
-      are = are ∙ ap (λ h. requested_messages i h request) (taught_heard S (Request sender horizon request)) ∙ wanted_kept i T request;
+      are = are ∙ ap (λ h. requested_messages i h request) (history_after_reach S (Request sender horizon request)) ∙ wanted_kept i T request;
     }
 answer_records i S (Digests sender horizon digests) messages answer =
     let kept = Digests sender horizon digests in
     let T = reach_after S kept in
-    let here : AnswersDigests i (history T) digests messages = subst (λ h. AnswersDigests i h digests messages) (taught_heard S kept) answer in
+    let here : AnswersDigests i (history T) digests messages = subst (λ h. AnswersDigests i h digests messages) (history_after_reach S kept) answer in
     let request = here.0 in
     record {
       added = cond (request == 0) [] (requested_records i T request ++ Request i T.horizon request ∷ []);

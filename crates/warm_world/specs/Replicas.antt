@@ -37,9 +37,9 @@ abbrev pub SomeReply : NodeView → Option Call → Option Reply → NodeView �
 SomeReply old (Some call) (Some reply) new = Step old call reply new
 SomeReply old call reply new = ⊥
 
--- the bytes spell the message, and decoding them gives it
+-- the bytes encode the message, and decoding them gives it
 pub record EncodesMessage (bytes : List ℕ) (message : Message) : Type 0 where
-  pub spells : Encodes bytes message
+  pub encodes : Encodes bytes message
   pub exact : bytes ≡ encoding message
 
 -- the message is stored after the others, and its number is the answer; or its allocation failed

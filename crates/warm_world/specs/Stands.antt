@@ -24,23 +24,23 @@ use Rattle.warm_world.specs.Next.{Next, Run, Shape}
 abbrev pub buffered : ℕ → List Reference → Buffered
 buffered capacity refs = record { refs = refs; capacity = capacity }
 
--- a replica, by its place, has the history of the references that reached it, the pool of the
+-- a replica, by its index, has the history of the references that reached it, the pool of the
 -- model, and the pending references in its buffers
-pub record ReplicaStands (capacity index_of_number : ℕ) (r : ReplicaView) (m : ReplicaState) : Type 0 where
+pub record ReplicaStands (capacity index : ℕ) (r : ReplicaView) (m : ReplicaState) : Type 0 where
   pub has_capacity : 0 < capacity
-  pub node_is : r.node ≡ record { id = index_of_number + 1; history = history m.reach; pool = m.pool }
+  pub node_is : r.node ≡ record { id = index + 1; history = history m.reach; pool = m.pool }
   pub buffers_are : r.buffers ≡ map (buffered capacity) m.pending
 
 -- for every model state that a replica with this capacity stood for, it now stands for the changed
 -- state
 abbrev pub Becomes : ℕ → ReplicaView → ReplicaView → (ReplicaState → ReplicaState) → Type 0
 Becomes capacity old new change =
-    (index_of_number : ℕ) (m : ReplicaState) → ReplicaStands capacity index_of_number old m → ReplicaStands capacity index_of_number new (change m)
+    (index : ℕ) (m : ReplicaState) → ReplicaStands capacity index old m → ReplicaStands capacity index new (change m)
 
 -- in every model state that a replica stands for, the buffer of the worker is full
 abbrev pub IsBufferFull : ReplicaView → ℕ → Type 0
 IsBufferFull r worker =
-    (capacity index_of_number : ℕ) (m : ReplicaState) → ReplicaStands capacity index_of_number r m → capacity ≤ length (pending m worker)
+    (capacity index : ℕ) (m : ReplicaState) → ReplicaStands capacity index r m → capacity ≤ length (pending m worker)
 
 -- the message that a record is of: from its sender, with the horizon, the page histories of the
 -- references that it brings, or digests, or a request
@@ -49,15 +49,15 @@ message_kept (References sender refs) = Entries sender refs.horizon (entries_of 
 message_kept (Digests sender horizon digests) = Digest sender horizon digests
 message_kept (Request sender horizon request) = Want sender horizon request
 
--- the bytes of a stored message spell its record's message, and decoding them gives it
-pub record SpellsRecord (bytes : List ℕ) (kept : MessageRecord) : Type 0 where
-  pub spells : Encodes bytes (message_kept kept)
+-- the bytes of a stored message encode its record's message, and decoding them gives it
+pub record EncodesRecord (bytes : List ℕ) (kept : MessageRecord) : Type 0 where
+  pub encodes : Encodes bytes (message_kept kept)
   pub exact : bytes ≡ encoding (message_kept kept)
 
 -- the world stands for the model state: replica by replica, and message by message
 pub record StandsFor (w : WorldView) (m : ModelState) : Type 0 where
   pub replicas : Pairwise (ReplicaStands m.capacity) w.replicas m.replicas
-  pub messages : Pairwise (λ _ bytes kept. SpellsRecord bytes kept) w.messages m.records
+  pub messages : Pairwise (λ _ bytes kept. EncodesRecord bytes kept) w.messages m.records
 
 -- what an event can name in a world
 abbrev pub view_shape : WorldView → Shape

@@ -111,7 +111,7 @@ impl<D: PageDevice> World<D> {
         ensures { Steps (world_view self.old) (Event.Deliver j k) (answered result)
             (world_view self.new) }
     {
-        // The bytes spell a message, so nothing but an allocation can fail.
+        // The bytes encode a message, so nothing but an allocation can fail.
         let Ok(message) = decode(self.alloc, &self.messages[index_of_number(k)]) else {
             return Err(NodeFault::Memory);
         };

@@ -6,7 +6,7 @@ ghost use Rattle.warm_world.specs.Lists.{IsNumber, Pairwise, index_of_number};
 ghost use Rattle.warm_world.specs.States.{opened_over, opening};
 ghost use Rattle.warm_pool.specs.declared.fault.PoolFault.TheVariants.{Fault};
 ghost use Rattle.warm_gossip.specs.declared.fault.NodeFault.TheVariants.{Pool};
-ghost use Rattle.warm_world.specs.Opening.{AreFew, AreFitting, AreSized, FailsAtPlace, FinishFails, NewWorldRefused, StopsInOrder};
+ghost use Rattle.warm_world.specs.Opening.{AreFew, AreFitting, AreSized, FailsAtIndex, FinishFails, NewWorldRefused, StopsInOrder};
 ghost use Rattle.warm_world.specs.Next.{IsNamed, IsMissing};
 ghost use Rattle.warm_world.specs.Replicas.{answered};
 ghost use Rattle.warm_world.specs.Views.{listed, world_view, replica_view};
@@ -289,14 +289,14 @@ impl<D: PageDevice> World<D> {
         Ok(())
     }
 
-    // Writes back the pages of the replica at a place.
+    // Writes back the pages of the replica at an index.
     fn write_back(&mut self, k: usize) -> Result<(), NodeFault>
         requires there { k < length self.old.replicas.items }
         ensures same { OnOk result (world_view self.new ≡ world_view self.old) }
         ensures settled { IsSettledBefore k self.old
             → OnOk result (IsSettledBefore (k + 1) self.new) }
         ensures refused { IfErr result (λ why. (why ≡ Pool Fault)
-            × FailsAtPlace k (world_view self.old) (world_view self.new)) }
+            × FailsAtIndex k (world_view self.old) (world_view self.new)) }
         ensures others { AreSameBut k self.old self.new }
         ensures many { length self.new.replicas.items ≡ length self.old.replicas.items }
     {
