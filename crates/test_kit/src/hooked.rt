@@ -4,7 +4,7 @@ ghost use Rattle.std.specs.Prelude.{◌≡◌, IfOk, length};
 use std::alloc::{AllocError, Global};
 use warm_devices::{DeviceFault, MemDevice, PageDevice};
 
-/// What a test observes of a [`HookedDevice`] device; a hook may also delay a call. No contract says what
+/// What a test observes of a [`HookedDevice`]; a hook may also delay a call. No contract says what
 /// a hook does.
 pub trait Hooks: Drop {
     /// A page is about to be read. The device forwards the call when this returns.

@@ -25,7 +25,8 @@ abbrev pub RemembersFailure : Result (Unit {0}) DeviceFault → FileDevice → F
 RemembersFailure result old new =
     MatchResult result (λ _. (flush_failed old ≡ false) × (flush_failed new ≡ false)) (λ _. flush_failed new ≡ true)
 
--- Where a flush has failed before, what is unflushed stays so. A flush that fails here is remembered.
+-- Where a flush has failed before, what is unflushed stays so. A flush that fails here is
+-- remembered.
 pub record SettlesUnlessFailed (old new : FileDevice) : Type 0 where
   pub refused : IsTrue (flush_failed old) → SameWaiting (file_state old) (file_state new)
   pub remembered : flush_failed new ≡ (flush_failed old || (file_state new).waiting)

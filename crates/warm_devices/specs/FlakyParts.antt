@@ -35,7 +35,8 @@ StopsWhenDue old new = calls_left old ≡ 1 → inner_of new ≡ inner_of old
 abbrev pub may_fail : DeviceState → DeviceState
 may_fail d = record d { failures = min d.failures (2 ^ 64 - 1); unfailing = false }
 
--- the write that is to fail fills the page with EE (hexadecimal), over an unfailing and honest device
+-- the write that is to fail fills the page with EE (hexadecimal), over an unfailing and honest
+-- device
 abbrev pub TearsWhenDue : {D : Type 0} {g : Ghosts D} → ℕ → Flaky D g → Flaky D g → Type 0
 TearsWhenDue {D} {g} page old new =
     calls_left old ≡ 1 → IsTrue (g.state old.inner).unfailing → IsTrue (g.state old.inner).honest

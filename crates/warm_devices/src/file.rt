@@ -159,7 +159,8 @@ impl PageDevice for FileDevice {
         ensures contents { (file_state self.new).contents ≡ (file_state self.old).contents }
         ensures remembered { RemembersFailure result self.old self.new }
     {
-        // The system may have dropped the pages of a failed sync: the next one says nothing of them.
+        // The system may have dropped the pages of a failed sync: the next one says nothing of
+        // them.
         if self.flush_failed || self.file.sync_all().is_err() {
             self.flush_failed = true;
             self.failures = self.failures.saturating_add(1);

@@ -20,7 +20,7 @@ use Rattle.warm_history.proofs.HistoryLemmas.{some_named}
 use Rattle.warm_rank.specs.Keys.{rank_key, key_cmp}
 use Rattle.warm_rank.specs.Ranking.{eviction_cmp, IsBefore, hottest_pages}
 use Rattle.warm_rank.proofs.KeyLemmas.{keys_order_pages}
-use Rattle.warm_rank.proofs.LeavingLemmas.{eviction_order}
+use Rattle.warm_rank.proofs.EvictionLemmas.{eviction_order}
 
 -- ---- the items of a list
 

@@ -16,7 +16,7 @@ use Rattle.warm_history.specs.Histories.{HistoryView, IsHistory, pages, referenc
 use Rattle.warm_history.proofs.JoinLemmas.{history_of_own_references}
 use Rattle.warm_rank.specs.Ranking.{IsBefore, IsVictim, eviction_cmp, hottest_pages}
 use Rattle.warm_rank.specs.WarmUp.{IsWarmUp}
-use Rattle.warm_rank.proofs.LeavingLemmas.{eviction_is_order, eviction_order}
+use Rattle.warm_rank.proofs.EvictionLemmas.{eviction_is_order, eviction_order}
 use Rattle.warm_pool.specs.declared.slot.Slot.{Slot}
 use Rattle.warm_pool.specs.View.{PoolView, frame_at, IsResident, unfixed_pages}
 use Rattle.warm_pool.specs.Pinning.{Pinned, PutsIn}

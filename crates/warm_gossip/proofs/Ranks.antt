@@ -23,7 +23,7 @@ use Rattle.warm_history.proofs.HistoryLemmas.{hist_refs-history, references-refs
 use Rattle.warm_history.proofs.JoinLemmas.{history_of_own_references}
 use Rattle.warm_rank.specs.Keys.{rank_key}
 use Rattle.warm_rank.specs.WarmUp.{IsWarmUp}
-use Rattle.warm_rank.proofs.LeavingLemmas.{truncation_keeps_order, rank_alike}
+use Rattle.warm_rank.proofs.EvictionLemmas.{truncation_keeps_order, rank_alike}
 use Rattle.warm_pool.specs.Frames.{nth_frame}
 use Rattle.warm_pool.specs.Refreshing.{AgreeOutside}
 use Rattle.warm_pool.specs.State.{PoolState, RankedBy}
@@ -84,7 +84,7 @@ ranked_by_entries s h g alike ranked i =
 -- and have the same warm-up lists
 list_of_entries : (h g : HistoryView) (n : ℕ) (ps : List PageId) → IsHistory h → ((p : PageId) → hist (references_of h) p ≡ hist (references_of g) p) → IsWarmUp h n ps → IsWarmUp g n ps
 list_of_entries h g n ps whole alike hottest S stands =
-    hottest (references_of h) (sym (history_of_own_references h whole)) ∙ (rank_alike (references_of h) (references_of g) alike).warm_alike n ∙ (truncation_keeps_order g S stands).warm_alike n
+    hottest (references_of h) (sym (history_of_own_references h whole)) ∙ (rank_alike (references_of h) (references_of g) alike).hottest_alike n ∙ (truncation_keeps_order g S stands).hottest_alike n
 
 -- what is kept of a warm-up
 warming_by_entries : (h g : HistoryView) (v : PoolView) (x : WarmUp) → IsHistory h → ((p : PageId) → hist (references_of h) p ≡ hist (references_of g) p) → IsWarming h v x → IsWarming g v x

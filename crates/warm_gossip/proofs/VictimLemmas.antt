@@ -6,7 +6,7 @@ use Rattle.warm_history.specs.Histories.{HistoryView, StandsFor, history, histor
 use Rattle.warm_history.proofs.JoinLemmas.{history_first}
 use Rattle.warm_rank.specs.Ranking.{IsVictim}
 use Rattle.warm_rank.specs.Laws.{IsFarthest}
-use Rattle.warm_rank.proofs.LeavingLemmas.{truncation_keeps_order}
+use Rattle.warm_rank.proofs.EvictionLemmas.{truncation_keeps_order}
 use Rattle.warm_rank.proofs.VictimLemmas.{victim_is_farthest}
 use Rattle.warm_pool.specs.declared.slot.Slot.{Slot}
 use Rattle.warm_pool.specs.declared.fault.PoolFault.{PoolFault}
@@ -189,10 +189,10 @@ victims_are_farthest S old new call reply stands step = record {
 
 pub victim_over : (h : HistoryView) (S : ReferenceSet) → StandsFor h S → (U : List PageId) (v : Option PageId) → IsVictim (references_of h) U v → IsVictim S U v
 victim_over h S stands U None none = none
-victim_over h S stands U (Some v) victim = (victim.0, λ q has other. sym ((truncation_keeps_order h S stands).leave_alike v q) ∙ victim.1 q has other)
+victim_over h S stands U (Some v) victim = (victim.0, λ q has other. sym ((truncation_keeps_order h S stands).evicted_alike v q) ∙ victim.1 q has other)
 
 pub replies_are_over_references : RepliesAreOverReferences
 replies_are_over_references S old new stands = record {
   victim = λ v step. victim_over old.history S stands (unfixed_pages old.pool) v step.0;
-  hottest = λ n ps step. step.0 ∙ (truncation_keeps_order old.history S stands).warm_alike n;
+  hottest = λ n ps step. step.0 ∙ (truncation_keeps_order old.history S stands).hottest_alike n;
 }

@@ -20,7 +20,7 @@ use Rattle.warm_history.specs.ReferenceSets.{ReferenceSet}
 use Rattle.warm_history.specs.Histories.{HistoryView, StandsFor, pages}
 use Rattle.warm_rank.specs.Laws.{pages_in}
 use Rattle.warm_rank.specs.Ranking.{IsVictim, eviction_cmp, hottest_pages}
-use Rattle.warm_rank.proofs.LeavingLemmas.{truncation_keeps_order}
+use Rattle.warm_rank.proofs.EvictionLemmas.{truncation_keeps_order}
 use Rattle.warm_pool.specs.declared.slot.Slot.{Slot}
 use Rattle.warm_pool.specs.State.{PoolState, IsPool}
 use Rattle.warm_pool.specs.View.{PoolView, FrameView, frame_at, is_page, HasPage, IsResident, IsAbsent, IsUnfixed, unfixed_page, unfixed_pages, view_of}
@@ -165,7 +165,7 @@ record Advances (S : ReferenceSet) (n k : ℕ) (old new : NodeView) : Type 0 whe
 -- the page to load next is one of the list
 next_listed : (S : ReferenceSet) (n : ℕ) (s : NodeView) (next : Option PageId) → IsWarming S n s → IsNextWarm s next → IsFirstLoadable s.pool (hottest_pages S n) next
 next_listed S n s next warming first =
-    subst (λ ps. IsFirstLoadable s.pool ps next) ((truncation_keeps_order s.history S warming.stands).warm_alike (length s.pool.frames) ∙ ap (hottest_pages S) warming.count) first
+    subst (λ ps. IsFirstLoadable s.pool ps next) ((truncation_keeps_order s.history S warming.stands).hottest_alike (length s.pool.frames) ∙ ap (hottest_pages S) warming.count) first
 
 advance : (S : ReferenceSet) (n k : ℕ) (old new : NodeView) (loaded : Option PageId) → IsWarming S n old → Step old WarmStep (Loaded loaded) new → IsPast (hottest_pages S n) k old.pool → Advances S n k old new
 advance S n k old new None warming step past = record {

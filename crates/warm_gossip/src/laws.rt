@@ -98,7 +98,7 @@ pub fn batches_are_taken()
 pub fn node_pages_differ<D: PageDevice>(node: &Node<D>)
     ensures { PagesDiffer (node_view node.now).pool }
 {
-    node.pool().is_pool();
+    node.pool().prove_is_pool();
 }
 
 /// The numbers in a node's history are within their widths, as the types of its entries imply. It

@@ -1,4 +1,5 @@
--- Frames as they are kept: their pages, their statuses and the rest of each, in lists of one length.
+-- Frames as they are stored: their pages, their statuses and the rest of each, in lists of one
+-- length.
 use Rattle.std.proofs.Common.{◌≡◌, ◌≢◌, ℕ, zero, suc, ◌<◌, List, [], ◌∷◌, length, map, set, get_or, replicate, Option, Some, None, refl, sym, ◌∙◌, ap, subst, arith}
 use Rattle.std.proofs.lemmas.List.{map-set, set-get_or, length-map, length-set, length-replicate, get_or_read}
 use Rattle.warm_stamps.specs.declared.PageId.{PageId}

@@ -12,6 +12,7 @@ pub mod Loads
 pub mod MoveLemmas
 pub mod Opens
 pub mod Pins
+pub mod PlacedLemmas
 pub mod PlaceLemmas
 pub mod PoolSteps
 pub mod RelinkLemmas

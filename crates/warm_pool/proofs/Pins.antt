@@ -1,5 +1,5 @@
 -- The effect of a pin and a load, from their steps.
-use Rattle.std.proofs.Common.{◌≡◌, ℕ, ◌+◌, ◌-◌, ◌^◌, ◌<◌, false, List, length, map, set, Some, Result, OnErr, IfErr, sym, ◌∙◌, ap, subst, inl, inr, arith}
+use Rattle.std.proofs.Common.{◌≡◌, ℕ, ◌+◌, ◌-◌, ◌^◌, ◌<◌, false, List, [], length, map, set, Some, Result, OnErr, IfErr, sym, ◌∙◌, ap, subst, inl, inr, arith}
 use Rattle.std.specs.Option.{option_map}
 use Rattle.std.proofs.lemmas.List.{map-set, get_or-set_same, length-set, length-map}
 use Rattle.warm_stamps.specs.declared.PageId.{PageId}
@@ -7,15 +7,17 @@ use Rattle.warm_history.specs.Histories.{HistoryView, hist, references_of}
 use Rattle.warm_rank.specs.declared.RankKey.{RankKey}
 use Rattle.warm_rank.specs.Keys.{rank_key}
 use Rattle.warm_pool.specs.declared.slot.Slot.{Slot}
+use Rattle.warm_pool.specs.declared.slot.Placed.{Placed}
 use Rattle.warm_pool.specs.declared.fault.PoolFault.{PoolFault}
 use Rattle.warm_pool.specs.declared.fault.PoolFault.TheVariants.{NoDevice, NoPage, AllFixed, ReadFault, WriteBack, FixesFull}
-use Rattle.warm_pool.specs.Frames.{nth_frame}
+use Rattle.warm_pool.specs.Frames.{FrameState, nth_frame, fresh_frame}
 use Rattle.warm_pool.specs.State.{PoolState, RankedBy, IsNowhere}
 use Rattle.warm_pool.specs.View.{frame_view, view_of, PoolView, FrameView, frame_at, HasPage, IsAbsent, Holds}
 use Rattle.warm_pool.specs.Keeping.{SameButFailures}
-use Rattle.warm_pool.specs.Pinning.{IsFrameToLoad, PutsIn, PutRefused, LoadRefused, PinRefused, LoadsInto, LoadFails}
+use Rattle.warm_pool.specs.Pinning.{IsFrameToLoad, PutsIn, PutRefused, LoadRefused, PinRefused, LoadsInto, LoadFails, current_slot, AddsFix}
 use Rattle.warm_pool.proofs.Bytes.{frame_seen, absent_seen}
 use Rattle.warm_pool.proofs.Keeps.{ranked_set}
+use Rattle.warm_pool.proofs.PoolSteps.{slot_seen}
 use Rattle.warm_pool.proofs.FlushLemmas.{if_err}
 
 -- nothing but counts of failures has changed
@@ -62,8 +64,21 @@ loaded_puts s t i p key n l h away place gen is room = record {
   contents = l.contents;
 }
 
+-- the slot of a frame of which the page has one more pin
+pub fixed_slot : {s t : PoolState} {slot : Slot} (v : PoolView) (i : ℕ) → s ≡ t → slot ≡ current_slot t i → (p : PageId) → AddsFix (view_of s) p (current_slot s i) v → AddsFix (view_of s) p slot v
+fixed_slot {s} v i seen is p adds = subst (λ x. AddsFix (view_of s) p x v) (sym (slot_seen i seen is)) adds
+
+-- the slot of a frame into which a page was loaded
+pub loaded_slot : (s t : PoolState) (i : ℕ) (p : PageId) (key : RankKey) (n : ℕ) → LoadsInto s i p key n t → i < length s.frames
+    → (slot : Slot) → slot ≡ current_slot t i
+    → (gen : ℕ) → gen ≡ (nth_frame s.frames i).generation → slot ≡ record { index = i; generation = gen + 1 }
+loaded_slot s t i p key n l there slot is gen was =
+    let came : FrameState = record { page = Some p; key = Some key; generation = (nth_frame s.frames i).generation + 1; fixes = n; dirty = false; bytes = l.bytes } in
+    is ∙ ap (λ (g : ℕ). let x : Slot = record { index = i; generation = g } in x)
+    (ap (λ fs. (nth_frame fs i).generation) l.frames ∙ ap (λ f. f.generation) (get_or-set_same s.frames i came (fresh_frame []) there) ∙ ap (λ g. g + 1) (sym was))
+
 -- a page that was loaded with a pin is held
-placed_there : (h : HistoryView) (v : PoolView) (i : ℕ) → IsFrameToLoad h v (Some i) → i < length v.frames
+pub placed_there : (h : HistoryView) (v : PoolView) (i : ℕ) → IsFrameToLoad h v (Some i) → i < length v.frames
 placed_there h v i (inl free) = free.there
 placed_there h v i (inr left) = left.there
 
@@ -97,21 +112,21 @@ put_stays h old p new why x = absurd x
 
 -- the outcome of a pin, from that of its last step
 module _ (s t : PoolState) (h : HistoryView) (p : PageId) (has : HasPage (view_of s) p) where
-  pub load_put_refused : IsNowhere s.frames p → (r : Result Slot PoolFault) → IfErr r (λ why. PutRefused h (view_of s) p why (view_of t)) → IfErr r (λ why. LoadRefused h (view_of s) p why (view_of t))
+  pub load_put_refused : IsNowhere s.frames p → (r : Result Placed PoolFault) → IfErr r (λ why. PutRefused h (view_of s) p why (view_of t)) → IfErr r (λ why. LoadRefused h (view_of s) p why (view_of t))
   load_put_refused away r x = if_err _ _ r x (load_refused h (view_of s) p (view_of t) has (absent_seen s p away))
 
-  pub pin_put_refused : IsNowhere s.frames p → (r : Result Slot PoolFault) → IfErr r (λ why. PutRefused h (view_of s) p why (view_of t)) → IfErr r (λ why. PinRefused h (view_of s) p why (view_of t))
+  pub pin_put_refused : IsNowhere s.frames p → (r : Result Placed PoolFault) → IfErr r (λ why. PutRefused h (view_of s) p why (view_of t)) → IfErr r (λ why. PinRefused h (view_of s) p why (view_of t))
   pin_put_refused away r x = if_err _ _ r (load_put_refused away r x) (pin_refused h (view_of s) p (view_of t))
 
-  pub stays_put : (r : Result Slot PoolFault) → IfErr r (λ why. PutRefused h (view_of s) p why (view_of t)) → OnErr r (SameButFailures (view_of s) (view_of t))
+  pub stays_put : (r : Result Placed PoolFault) → IfErr r (λ why. PutRefused h (view_of s) p why (view_of t)) → OnErr r (SameButFailures (view_of s) (view_of t))
   stays_put r x = if_err _ _ r x (put_stays h (view_of s) p (view_of t))
 
 -- a page with the greatest pin count
 pub pin_full : (s t : PoolState) (h : HistoryView) (p : PageId) (i : ℕ) → HasPage (view_of s) p → i < length s.frames → (nth_frame s.frames i).page ≡ Some p
-    → (r : Result Slot PoolFault) → IfErr r (λ why. (why ≡ FixesFull) × ((nth_frame s.frames i).fixes ≡ 2 ^ 32 - 1) × (t ≡ s)) → IfErr r (λ why. PinRefused h (view_of s) p why (view_of t))
+    → (r : Result Placed PoolFault) → IfErr r (λ why. (why ≡ FixesFull) × ((nth_frame s.frames i).fixes ≡ 2 ^ 32 - 1) × (t ≡ s)) → IfErr r (λ why. PinRefused h (view_of s) p why (view_of t))
 pin_full s t h p i has there holds r x = if_err _ _ r x (λ why full. subst (λ y. PinRefused h (view_of s) p y (view_of t)) (sym full.0)
     (inl (has, record { frame = i; there = subst (λ m. i < m) (sym (length-map s.frames frame_view)) there; resident = ap (λ f. f.page) (frame_seen s i) ∙ holds; full = ap (λ f. f.fixes) (frame_seen s i) ∙ full.1 }, ap view_of full.2)))
 
-pub full_stays : (s t : PoolState) (i : ℕ) (r : Result Slot PoolFault)
+pub full_stays : (s t : PoolState) (i : ℕ) (r : Result Placed PoolFault)
     → IfErr r (λ why. (why ≡ FixesFull) × ((nth_frame s.frames i).fixes ≡ 2 ^ 32 - 1) × (t ≡ s)) → OnErr r (SameButFailures (view_of s) (view_of t))
 full_stays s t i r x = if_err _ _ r x (λ why full. stays_by (view_of s) (view_of t) (view_of s).failures (ap view_of full.2))

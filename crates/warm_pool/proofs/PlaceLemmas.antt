@@ -3,9 +3,9 @@ use Rattle.std.proofs.Common.{◌≡◌, ◌≢◌, ℕ, zero, suc, ◌+◌, ◌
 use Rattle.std.proofs.lemmas.List.{length-set, length-map, length-replicate, get_or-map, get_or-replicate, get_or_read, map-set, set-set}
 use Rattle.std.proofs.lemmas.Bool.{cases_eq, cases_lt}
 use Rattle.warm_stamps.specs.declared.PageId.{PageId}
-use Rattle.warm_pool.specs.Chains.{IsFirstFrom, AreChains, AreInTurn, AreLinked, chain_of, chains_of, hash_of, mixed, page_in}
+use Rattle.warm_pool.specs.Chains.{IsFirstFrom, AreChains, AreInTurn, AreLinked, chain_of, chains_of, hash_of, mix_of, page_in}
 use Rattle.warm_pool.proofs.ChainLemmas.{link_first}
-use Rattle.warm_pool.specs.Residents.{IsFirstFree}
+use Rattle.warm_pool.specs.PageTable.{IsFirstFree}
 
 pub count_chains : (pages : List (Option PageId)) → length (chains_of pages) ≡ length pages
 count_chains pages = length-map pages (chain_of (length pages))
@@ -21,7 +21,7 @@ in_range (held ∷ pages) (suc frame) page is = let lt = in_range pages frame pa
 
 -- a page's hash has 32 bits
 pub hash_low : (page : PageId) → hash_of page < 4294967296
-unfolding hash_of mixed
+unfolding hash_of mix_of
 hash_low page = omega arith
 
 -- pages have other chains than frames without one

@@ -1,5 +1,5 @@
 -- The frame of a page, the frame into which a page is loaded, and the page that is evicted for it.
-use Rattle.std.proofs.Common.{◌≡◌, ◌≢◌, ℕ, ◌<◌, ◌≤◌, ◌==◌, cond, true, false, List, [], length, map, get_or, Option, Some, None, IsSome, IfSome, refl, sym, ◌∙◌, ap, subst, inl, inr}
+use Rattle.std.proofs.Common.{◌≡◌, ◌≢◌, ◌↔◌, ℕ, ◌<◌, ◌≤◌, ◌==◌, cond, Bool, true, false, IsTrue, List, [], length, map, get_or, Option, Some, None, IsSome, IfSome, Result, Ok, Err, OnOk, OnErr, is_some, is_ok, refl, sym, ◌∙◌, ap, subst, inl, inr}
 use Rattle.std.specs.Option.{option_map}
 use Rattle.std.proofs.Math.ListN.{get_or-map as mapped}
 use Rattle.std.proofs.lemmas.Bool.{cases_eq, cases_lt, ne_eqb, eq-eqb}
@@ -13,10 +13,11 @@ use Rattle.warm_rank.specs.Laws.{keys_over}
 use Rattle.warm_rank.specs.Slots.{IsLeast}
 use Rattle.warm_rank.proofs.SlotLemmas.{least_key_is_victim}
 use Rattle.warm_pool.specs.Frames.{FrameState, nth_frame, fresh_frame, eviction_key}
-use Rattle.warm_pool.specs.Residents.{IsPlaceOf, IsFirstFree}
+use Rattle.warm_pool.specs.PageTable.{IsPlaceOf, IsFirstFree}
 use Rattle.warm_pool.specs.State.{PoolState, IsPool, RankedBy, IsNowhere, nth_device}
 use Rattle.warm_pool.specs.View.{frame_view, device_view, view_of, device_at, frame_at, HasPage, IsResident, unfixed_page, unfixed_pages}
-use Rattle.warm_pool.specs.Pinning.{HasNoFreeFrame, IsLeastFree, IsFrameToLoad}
+use Rattle.warm_pool.specs.declared.slot.Slot.{Slot}
+use Rattle.warm_pool.specs.Pinning.{HasNoFreeFrame, IsLeastFree, IsFrameToLoad, current_slot}
 use Rattle.warm_pool.proofs.Bytes.{frame_seen, device_seen}
 
 -- the same of a pool that is seen as v
@@ -70,6 +71,16 @@ seen_resident {s} w p i h = record {
 
 pub seen_nowhere : {s : PoolState} → IsPool s → (p : PageId) → IsPlaceOf (map (λ f. f.page) s.frames) p None → IsResident (view_of s) p → ⊥
 seen_nowhere {s} w p h r = found_nowhere w p h r.frame (sym (ap (λ f. f.page) (frame_seen s r.frame)) ∙ r.holds)
+
+pub found_iff : {s : PoolState} → IsPool s → (p : PageId) (found : Option ℕ) → IsPlaceOf (map (λ f. f.page) s.frames) p found
+    → (t : Bool) → t ≡ is_some found → IsTrue t ↔ IsResident (view_of s) p
+found_iff {s} w p (Some i) h t is = (λ _. seen_resident w p i h, λ _. is)
+found_iff {s} w p None h t is = (λ yes. absurd (cc), λ r. absurd (seen_nowhere w p h r))
+
+-- what holds exactly where a check succeeds
+pub ok_iff : {T E : Type 0} (r : Result T E) (P : Type 0) → OnOk r P → OnErr r (P → ⊥) → (t : Bool) → t ≡ is_ok r → IsTrue t ↔ P
+ok_iff (Ok x) P holds fails t is = (λ _. holds, λ _. is)
+ok_iff (Err e) P holds fails t is = (λ yes. absurd (cc), λ p. absurd (fails p))
 
 -- the pages that compete, and their ranks
 abbrev pub competing : List FrameState → List (Option PageId)
@@ -164,6 +175,10 @@ least_if keys P holds (Some i) l = holds i l
 
 pub seen_there : {s : PoolState} → IsPool s → (i : ℕ) → i < length s.frames → i < length (view_of s).frames
 seen_there {s} w i h = subst (λ m. i < m) (sym (length-map s.frames frame_view)) h
+
+-- the slot of a frame, of a pool that is seen as v
+pub slot_seen : {s v : PoolState} {slot : Slot} (i : ℕ) → s ≡ v → slot ≡ current_slot v i → slot ≡ current_slot s i
+slot_seen {slot = slot} i seen is = subst (λ x. slot ≡ current_slot x i) (sym seen) is
 
 -- what a caller sees of a frame that was read
 pub seen_generation : {s : PoolState} → IsPool s → (i : ℕ) {n : ℕ} → n ≡ (nth_frame s.frames i).generation → n ≡ (frame_at (view_of s) i).generation

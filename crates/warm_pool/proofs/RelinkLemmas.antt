@@ -3,7 +3,7 @@
 use Rattle.std.proofs.Common.{◌≡◌, ℕ, zero, suc, ◌<◌, List, [], ◌∷◌, length, get_or, set, replicate, sym, ap, refl, ◌∙◌, subst, Option, None, arith}
 use Rattle.std.proofs.lemmas.List.{length-replicate, get_or-replicate}
 use Rattle.warm_stamps.specs.declared.PageId.{PageId}
-use Rattle.warm_pool.specs.Chains.{IsFirstFrom, AreChains, IsLastBelow, chain_of, chains_of, page_in}
+use Rattle.warm_pool.specs.Chains.{IsFirstFrom, AreChains, IsPredecessor, chain_of, chains_of, page_in}
 use Rattle.warm_pool.proofs.PlaceLemmas.{chain_at, count_chains}
 
 -- the chain of each frame while those before frame n are in none
@@ -53,7 +53,7 @@ none_yet frames heads next room none same =
     }
 
 -- a frame comes first in its chain while no frame below it is in one
-pub comes_before_all : (frames : List ℕ) (frame out chain : ℕ) → frame < length frames → chain < out → IsLastBelow (linked_from (suc frame) out frames) chain frame None
+pub comes_before_all : (frames : List ℕ) (frame out chain : ℕ) → frame < length frames → chain < out → IsPredecessor (linked_from (suc frame) out frames) chain frame None
 comes_before_all frames frame out chain lt in_heads = record {
   below = omega arith;
   is_of = tt;

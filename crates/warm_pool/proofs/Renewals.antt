@@ -14,7 +14,7 @@ use Rattle.warm_pool.specs.Frames.{FrameState, FramesState, nth_frame, fresh_fra
 use Rattle.warm_pool.specs.State.{PoolState, IsPool, RankedBy, IsNowhere}
 use Rattle.warm_pool.specs.View.{is_page, frame_view, view_of, PoolView, FrameView}
 use Rattle.warm_pool.specs.Keeping.{KeepsBytes}
-use Rattle.warm_pool.specs.Refreshing.{AgreeOutside, Renews, RenewsFrame, RenewsNamed}
+use Rattle.warm_pool.specs.Refreshing.{AgreeOutside, UpdatesRank, UpdatesRankIn, UpdatesNamedRanks}
 use Rattle.warm_pool.proofs.Slots.{at_set}
 use Rattle.warm_pool.proofs.Bytes.{page_found, found_page}
 use Rattle.warm_pool.proofs.KeepingLemmas.{same_bytes, more_bytes}
@@ -36,8 +36,8 @@ module _ (old new : FramesState) {spare : ℕ} {devices : List DeviceState} (w :
       ∙ ap (λ (fs : List FrameView). let v : PoolView = record (view_of (pool_from old spare devices)) { frames = fs } in v)
       (ap (set (map frame_view old.frames) i) (sym (mapped frame_view old.frames i (fresh_frame []))) ∙ set-get_or (map frame_view old.frames) i (frame_view (fresh_frame [])))
 
-  pub renews : Renews (pool_from old spare devices) p key (pool_from new spare devices)
-  renews = subst (λ x. Renews (pool_from old spare devices) p key (pool_from x spare devices)) (sym is) (record {
+  pub renews : UpdatesRank (pool_from old spare devices) p key (pool_from new spare devices)
+  renews = subst (λ x. UpdatesRank (pool_from old spare devices) p key (pool_from x spare devices)) (sym is) (record {
     pages = at_set (fresh_frame []) (λ j x. x.page ≡ (nth_frame old.frames j).page) old.frames i (record (nth_frame old.frames i) { key = Some k }) there refl (λ j ne. refl);
     here = at_set (fresh_frame []) (λ j x. (nth_frame old.frames j).page ≡ Some p → x.key ≡ Some key) old.frames i (record (nth_frame old.frames i) { key = Some k }) there
         (λ e. ap Some k_is) (λ j ne e. absurd (ne (w.once j i p e holds)));
@@ -45,7 +45,7 @@ module _ (old new : FramesState) {spare : ℕ} {devices : List DeviceState} (w :
         (λ n. absurd (n holds)) (λ j ne n. refl);
   })
 
-pub renews_none : {s : PoolState} → IsPool s → (p : PageId) (key : RankKey) → IsNowhere s.frames p → Renews s p key s
+pub renews_none : {s : PoolState} → IsPool s → (p : PageId) (key : RankKey) → IsNowhere s.frames p → UpdatesRank s p key s
 renews_none {s} w p key away = record { pages = λ i. refl; here = λ i e. absurd (away i e); others = λ i n. refl }
 
 -- the first k of the pages were renewed
@@ -68,7 +68,7 @@ page_cases p q = elim (cases_Bool (is_page q (Some p))) [
 ]
 
 pub one_renewed : {s t u : PoolState} (h : HistoryView) (pages : List PageId) (k : ℕ) (q : PageId) → Renewed s t h pages k → k < length pages → ((d : PageId) → get_or pages k d ≡ q)
-    → view_of u ≡ view_of t → KeepsBytes t u → Renews t q (rank_key q (hist (references_of h) q)) u → Renewed s u h pages (k + 1)
+    → view_of u ≡ view_of t → KeepsBytes t u → UpdatesRank t q (rank_key q (hist (references_of h) q)) u → Renewed s u h pages (k + 1)
 one_renewed {s} {t} {u} h pages k q r low at same kept n = record {
   same = same ∙ r.same;
   kept = more_bytes s t u r.kept kept;
@@ -113,7 +113,7 @@ all_renewed {s} {t} h pages k r all g ranked agree i = of_page (nth_frame s.fram
         below j lt = omega arith
 
 -- after all of them each of them that is resident has its rank
-pub each_renewed : {s t : PoolState} (h : HistoryView) (pages : List PageId) (k : ℕ) → Renewed s t h pages k → length pages ≤ k → RenewsNamed pages h t
+pub each_renewed : {s t : PoolState} (h : HistoryView) (pages : List PageId) (k : ℕ) → Renewed s t h pages k → length pages ≤ k → UpdatesNamedRanks pages h t
 each_renewed {s} {t} h pages k r all i p holds named = elim (r.keys i p (sym (r.held i) ∙ holds)) [
   | inl new ↦ new
   | inr old ↦ absurd (old.1 named.0 (below named.0 named.1) named.2)
@@ -124,7 +124,7 @@ each_renewed {s} {t} h pages k r all i p holds named = elim (r.keys i p (sym (r.
 
 -- the same where items name the pages
 pub named_renewed : {A : Type 0} {s t u : PoolState} (h : HistoryView) (named : A → PageId) (items : List A) (k : ℕ) (item : A) {q : PageId} → Renewed s t h (map named items) k → k < length items
-    → item ≡ get_or items k item → q ≡ named item → view_of u ≡ view_of t → KeepsBytes t u → Renews t q (rank_key q (hist (references_of h) q)) u → Renewed s u h (map named items) (k + 1)
+    → item ≡ get_or items k item → q ≡ named item → view_of u ≡ view_of t → KeepsBytes t u → UpdatesRank t q (rank_key q (hist (references_of h) q)) u → Renewed s u h (map named items) (k + 1)
 named_renewed h named items k item {q} r low is names =
     one_renewed h (map named items) k q r (omega (arith, low, length-map items named)) (λ d. get_or-map named items k item d low ∙ ap named (sym is) ∙ sym names)
 
@@ -132,7 +132,7 @@ pub all_named : {A : Type 0} {s t : PoolState} (h : HistoryView) (named : A → 
     → (g : HistoryView) → RankedBy s g → AgreeOutside (map named items) g h → RankedBy t h
 all_named h named items k r all = all_renewed h (map named items) k r (omega (arith, all, length-map items named))
 
-pub each_named : {A : Type 0} {s t : PoolState} (h : HistoryView) (named : A → PageId) (items : List A) (k : ℕ) → Renewed s t h (map named items) k → length items ≤ k → RenewsNamed (map named items) h t
+pub each_named : {A : Type 0} {s t : PoolState} (h : HistoryView) (named : A → PageId) (items : List A) (k : ℕ) → Renewed s t h (map named items) k → length items ≤ k → UpdatesNamedRanks (map named items) h t
 each_named h named items k r all = each_renewed h (map named items) k r (omega (arith, all, length-map items named))
 
 -- the pages of the first k frames were renewed
@@ -146,14 +146,14 @@ pub none_first : (s : PoolState) (h : HistoryView) → RenewedFirst s s h 0
 none_first s h = record { same = refl; kept = same_bytes s; count = refl; keys = λ i lt. absurd (omega (arith, lt)) }
 
 -- the page in a frame is renewed, or there is none
-pub frame_renewed : {s u : PoolState} (at : ℕ) (h : HistoryView) (q : PageId) → IsPool s → (nth_frame s.frames at).page ≡ Some q → Renews s q (rank_key q (hist (references_of h) q)) u → RenewsFrame s at h u
+pub frame_renewed : {s u : PoolState} (at : ℕ) (h : HistoryView) (q : PageId) → IsPool s → (nth_frame s.frames at).page ≡ Some q → UpdatesRank s q (rank_key q (hist (references_of h) q)) u → UpdatesRankIn s at h u
 frame_renewed {s} {u} at h q w there n = record {
   pages = n.pages;
   here = n.here at there ∙ sym (ap (option_map (λ p. rank_key p (hist (references_of h) p))) (n.pages at ∙ there));
   others = λ i apart. n.others i (λ o. apart (w.once i at q o there));
 }
 
-pub frame_bare : {s : PoolState} (at : ℕ) (h : HistoryView) → IsPool s → (nth_frame s.frames at).page ≡ None → RenewsFrame s at h s
+pub frame_bare : {s : PoolState} (at : ℕ) (h : HistoryView) → IsPool s → (nth_frame s.frames at).page ≡ None → UpdatesRankIn s at h s
 frame_bare {s} at h w none = record {
   pages = λ i. refl;
   here = (w.bare at none).0 ∙ sym (ap (option_map (λ p. rank_key p (hist (references_of h) p))) none);
@@ -161,7 +161,7 @@ frame_bare {s} at h w none = record {
 }
 
 -- one frame more
-pub next_first : {s t u : PoolState} (h : HistoryView) (k : ℕ) → RenewedFirst s t h k → view_of u ≡ view_of t → KeepsBytes t u → RenewsFrame t k h u → RenewedFirst s u h (k + 1)
+pub next_first : {s t u : PoolState} (h : HistoryView) (k : ℕ) → RenewedFirst s t h k → view_of u ≡ view_of t → KeepsBytes t u → UpdatesRankIn t k h u → RenewedFirst s u h (k + 1)
 next_first {s} {t} {u} h k r same kept n = record {
   same = same ∙ r.same;
   kept = more_bytes s t u r.kept kept;

@@ -8,44 +8,45 @@ use Rattle.warm_rank.specs.Slots.{key_while, keys_while}
 use Rattle.warm_pool.specs.Chains.{page_in}
 use Rattle.warm_pool.specs.declared.frame.Status.{Status}
 use Rattle.warm_pool.specs.Frames.{FrameState, FrameBody, FramesState, AreTied, nth_frame, cleaned, vacated, frame_of, frames_of, eviction_key}
-use Rattle.warm_pool.specs.WritingBack.{is_chosen, cleaned_chosen}
-use Rattle.warm_pool.specs.Retiring.{AreClean, clear_if, vacate_if, vacated_chosen}
+use Rattle.warm_pool.specs.WritingBack.{selects, cleaned_selected}
+use Rattle.warm_pool.specs.Retiring.{AreClean, clear_if, vacate_if, vacated_selected}
 use Rattle.warm_pool.proofs.Slots.{bare_key}
 use Rattle.warm_pool.proofs.FrameParts.{kept}
 use Rattle.warm_pool.proofs.ClosingLemmas.{nth_page}
+use Rattle.warm_pool.specs.declared.selection.Devices.{Devices}
 
 -- One frame more
 
 -- the pages of the frames after the selected ones of the first n were cleared
-abbrev pub cleared_to : Option ℕ → ℕ → List (Option PageId) → List (Option PageId)
+abbrev pub cleared_to : Devices → ℕ → List (Option PageId) → List (Option PageId)
 cleared_to which n pages = map (clear_if which) (take n pages) ++ drop n pages
 
-pub length-cleared_to : (which : Option ℕ) (n : ℕ) (pages : List (Option PageId)) → length (cleared_to which n pages) ≡ length pages
+pub length-cleared_to : (which : Devices) (n : ℕ) (pages : List (Option PageId)) → length (cleared_to which n pages) ≡ length pages
 length-cleared_to which zero pages = refl
 length-cleared_to which (suc n) [] = refl
 length-cleared_to which (suc n) (page ∷ pages) = ap suc (length-cleared_to which n pages)
 
 -- the current frame, as its page is selected or not
-pub one_gone : (which : Option ℕ) (at : ℕ) (pages : List (Option PageId)) → at < length pages → is_chosen which (page_in (cleared_to which at pages) at) ≡ true → set (cleared_to which at pages) at None ≡ cleared_to which (suc at) pages
+pub one_gone : (which : Devices) (at : ℕ) (pages : List (Option PageId)) → at < length pages → selects which (page_in (cleared_to which at pages) at) ≡ true → set (cleared_to which at pages) at None ≡ cleared_to which (suc at) pages
 one_gone which at [] lt is = absurd (omega arith)
 one_gone which zero (page ∷ pages) lt is = ap (λ t. cond t None page ∷ pages) (sym is)
 one_gone which (suc at) (page ∷ pages) lt is = ap (λ rest. clear_if which page ∷ rest) (one_gone which at pages (omega arith) is)
 
-pub one_stays : (which : Option ℕ) (at : ℕ) (pages : List (Option PageId)) → at < length pages → is_chosen which (page_in (cleared_to which at pages) at) ≡ false → cleared_to which at pages ≡ cleared_to which (suc at) pages
+pub one_stays : (which : Devices) (at : ℕ) (pages : List (Option PageId)) → at < length pages → selects which (page_in (cleared_to which at pages) at) ≡ false → cleared_to which at pages ≡ cleared_to which (suc at) pages
 one_stays which at [] lt isnt = absurd (omega arith)
 one_stays which zero (page ∷ pages) lt isnt = ap (λ t. cond t None page ∷ pages) (sym isnt)
 one_stays which (suc at) (page ∷ pages) lt isnt = ap (λ rest. clear_if which page ∷ rest) (one_stays which at pages (omega arith) isnt)
 
 -- Frames of which pages were taken
 
-one_cleared : (which : Option ℕ) (page : Option PageId) (status : Status) (body : FrameBody) → (IsTrue (is_chosen which page) → status.dirty ≡ false) → frame_of (clear_if which page) status body ≡ vacate_if which (frame_of page status body)
-one_cleared which page status body = elim (is_chosen which page) as (λ t. (IsTrue t → status.dirty ≡ false) → frame_of (cond t None page) status body ≡ cond t (vacated (frame_of page status body)) (frame_of page status body)) [
+one_cleared : (which : Devices) (page : Option PageId) (status : Status) (body : FrameBody) → (IsTrue (selects which page) → status.dirty ≡ false) → frame_of (clear_if which page) status body ≡ vacate_if which (frame_of page status body)
+one_cleared which page status body = elim (selects which page) as (λ t. (IsTrue t → status.dirty ≡ false) → frame_of (cond t None page) status body ≡ cond t (vacated (frame_of page status body)) (frame_of page status body)) [
   | true ↦ λ clean. ap (λ dirty. record (frame_of None status body) { dirty = dirty }) (clean refl)
   | false ↦ λ clean. refl
 ]
 
-all_cleared : (which : Option ℕ) (ps : List (Option PageId)) (ss : List Status) (bs : List FrameBody) → length ss ≡ length ps → length bs ≡ length ps → AreClean which (frames_of ps ss bs)
-    → frames_of (map (clear_if which) ps) ss bs ≡ vacated_chosen which (frames_of ps ss bs)
+all_cleared : (which : Devices) (ps : List (Option PageId)) (ss : List Status) (bs : List FrameBody) → length ss ≡ length ps → length bs ≡ length ps → AreClean which (frames_of ps ss bs)
+    → frames_of (map (clear_if which) ps) ss bs ≡ vacated_selected which (frames_of ps ss bs)
 all_cleared which [] ss bs h k clean = refl
 all_cleared which (p ∷ ps) [] bs h k clean = absurd (omega arith)
 all_cleared which (p ∷ ps) (s ∷ ss) [] h k clean = absurd (omega arith)
@@ -53,17 +54,17 @@ all_cleared which (p ∷ ps) (s ∷ ss) (b ∷ bs) h k clean =
     ap₂ (λ (f : FrameState) (rest : List FrameState). f ∷ rest) (one_cleared which p s b (clean 0)) (all_cleared which ps ss bs (omega arith) (omega arith) (λ i. clean (suc i)))
 
 -- what competes among them
-one_competes : (which : Option ℕ) (page : Option PageId) (status : Status) (body : FrameBody) → key_while (clear_if which page) (eviction_key (frame_of page status body)) ≡ eviction_key (frame_of (clear_if which page) status body)
-one_competes which None status body = elim (is_chosen which None) as (λ t. key_while (let left : Option PageId = cond t None None in left) (eviction_key (frame_of None status body)) ≡ eviction_key (frame_of (cond t None None) status body)) [
+one_competes : (which : Devices) (page : Option PageId) (status : Status) (body : FrameBody) → key_while (clear_if which page) (eviction_key (frame_of page status body)) ≡ eviction_key (frame_of (clear_if which page) status body)
+one_competes which None status body = elim (selects which None) as (λ t. key_while (let left : Option PageId = cond t None None in left) (eviction_key (frame_of None status body)) ≡ eviction_key (frame_of (cond t None None) status body)) [
   | true ↦ sym (bare_key status.fixes None)
   | false ↦ sym (bare_key status.fixes None)
 ]
-one_competes which (Some page) status body = elim (is_chosen which (Some page)) as (λ t. key_while (cond t None (Some page)) (eviction_key (frame_of (Some page) status body)) ≡ eviction_key (frame_of (cond t None (Some page)) status body)) [
+one_competes which (Some page) status body = elim (selects which (Some page)) as (λ t. key_while (cond t None (Some page)) (eviction_key (frame_of (Some page) status body)) ≡ eviction_key (frame_of (cond t None (Some page)) status body)) [
   | true ↦ sym (bare_key status.fixes None)
   | false ↦ refl
 ]
 
-all_compete : (which : Option ℕ) (ps : List (Option PageId)) (ss : List Status) (bs : List FrameBody) → length ss ≡ length ps → length bs ≡ length ps
+all_compete : (which : Devices) (ps : List (Option PageId)) (ss : List Status) (bs : List FrameBody) → length ss ≡ length ps → length bs ≡ length ps
     → keys_while (map (clear_if which) ps) (map eviction_key (frames_of ps ss bs)) ≡ map eviction_key (frames_of (map (clear_if which) ps) ss bs)
 all_compete which [] ss bs h k = refl
 all_compete which (p ∷ ps) [] bs h k = absurd (omega arith)
@@ -71,12 +72,12 @@ all_compete which (p ∷ ps) (s ∷ ss) [] h k = absurd (omega arith)
 all_compete which (p ∷ ps) (s ∷ ss) (b ∷ bs) h k =
     ap₂ (λ (key : Option RankKey) (rest : List (Option RankKey)). key ∷ rest) (one_competes which p s b) (all_compete which ps ss bs (omega arith) (omega arith))
 
-module _ {ps ps' : List (Option PageId)} {ss : List Status} {bs : List FrameBody} {contest : List (Option RankKey)} {size : ℕ} {v : FramesState} (which : Option ℕ) (tied : AreTied ps ss bs contest) (seen : kept size ps ss bs ≡ v) (clear : ps' ≡ map (clear_if which) ps) where
-  pub vacated_seen : AreClean which v.frames → kept size ps' ss bs ≡ record v { frames = vacated_chosen which v.frames }
+module _ {ps ps' : List (Option PageId)} {ss : List Status} {bs : List FrameBody} {contest : List (Option RankKey)} {size : ℕ} {v : FramesState} (which : Devices) (tied : AreTied ps ss bs contest) (seen : kept size ps ss bs ≡ v) (clear : ps' ≡ map (clear_if which) ps) where
+  pub vacated_seen : AreClean which v.frames → kept size ps' ss bs ≡ record v { frames = vacated_selected which v.frames }
   vacated_seen clean =
       ap (λ pages. kept size pages ss bs) clear
       ∙ ap (λ frames. record { page_size = size; frames = frames }) (all_cleared which ps ss bs tied.status_each tied.body_each (subst (λ w. AreClean which w.frames) (sym seen) clean))
-      ∙ ap (λ (w : FramesState). let left : FramesState = record w { frames = vacated_chosen which w.frames } in left) seen
+      ∙ ap (λ (w : FramesState). let left : FramesState = record w { frames = vacated_selected which w.frames } in left) seen
 
   pub vacated_tied : {contest' : List (Option RankKey)} → contest' ≡ keys_while ps' contest → AreTied ps' ss bs contest'
   vacated_tied told =
@@ -90,12 +91,12 @@ module _ {ps ps' : List (Option PageId)} {ss : List Status} {bs : List FrameBody
 
 -- Frames whose pages were written back
 
-nth_clean : (which : Option ℕ) (frames : List FrameState) (i : ℕ) → IsTrue (is_chosen which (nth_frame frames i).page) → (nth_frame (cleaned_chosen which (length frames) frames) i).dirty ≡ false
+nth_clean : (which : Devices) (frames : List FrameState) (i : ℕ) → IsTrue (selects which (nth_frame frames i).page) → (nth_frame (cleaned_selected which (length frames) frames) i).dirty ≡ false
 nth_clean which [] i is = refl
 nth_clean which (f ∷ frames) zero is = ap (λ t. (cond t (cleaned f) f).dirty) is
 nth_clean which (f ∷ frames) (suc i) is = nth_clean which frames i is
 
-pub clean_to : (which : Option ℕ) (old new : List FrameState) → new ≡ cleaned_chosen which (length old) old → AreClean which new
-clean_to which old new becomes i chosen =
+pub clean_to : (which : Devices) (old new : List FrameState) → new ≡ cleaned_selected which (length old) old → AreClean which new
+clean_to which old new becomes i selected =
     let page : (nth_frame new i).page ≡ (nth_frame old i).page = ap (λ frames. (nth_frame frames i).page) becomes ∙ nth_page which (length old) old i in
-    ap (λ frames. (nth_frame frames i).dirty) becomes ∙ nth_clean which old i (subst (λ held. IsTrue (is_chosen which held)) page chosen)
+    ap (λ frames. (nth_frame frames i).dirty) becomes ∙ nth_clean which old i (subst (λ held. IsTrue (selects which held)) page selected)

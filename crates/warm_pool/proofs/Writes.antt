@@ -10,9 +10,9 @@ use Rattle.warm_pool.specs.declared.slot.Slot.{Slot}
 use Rattle.warm_pool.specs.Frames.{FrameState, FramesState, nth_frame, fresh_frame}
 use Rattle.warm_pool.specs.State.{PoolState, IsPool, RankedBy, nth_device}
 use Rattle.warm_pool.specs.View.{stored, is_page, bytes_in, frame_view, device_view, view_of, PoolView, FrameView, frame_at, contents_at, Holds}
-use Rattle.warm_pool.specs.PageBytes.{patched, Written, IsRead, MakesDirty}
+use Rattle.warm_pool.specs.PageBytes.{patched, Written, IsLent, IsRead, MakesDirty}
 use Rattle.warm_pool.proofs.Bytes.{page_found, bytes_held, contents_seen, frame_seen, device_seen}
-use Rattle.warm_pool.proofs.Keeps.{Fits, pool_from, set_keeps_pool, ranked_set, held_some}
+use Rattle.warm_pool.proofs.Keeps.{Fits, pool_from, set_keeps_pool, ranked_set, held_some, held_there}
 use Rattle.warm_pool.proofs.PoolSteps.{some_page}
 
 pub length-patched : (old : List ℕ) (at : ℕ) (put : List ℕ) → at + length put ≤ length old → length (patched old at put) ≡ length old
@@ -107,16 +107,25 @@ module _ (old new : FramesState) {spare : ℕ} {devices : List DeviceState} (w :
           ∙ bytes_held (pool_from (after old i at put) spare devices) i p (stored devices p) written_pool (ap (λ f. f.page) after_frame ∙ e)
           ∙ ap (λ f. f.bytes) after_frame
 
--- bytes that were read of a pinned page
-pub read_seen : {s : PoolState} → IsPool s → (slot : Slot) → Holds (view_of s) slot → (at : ℕ) (got src : List ℕ) (n m : ℕ)
-    → src ≡ (nth_frame s.frames slot.index).bytes → got ≡ take m (drop at src) → m ≡ n → length got ≡ n → at + n ≤ s.page_size → IsRead (view_of s) slot at got
-read_seen {s} w slot h at got src n m src_is got_is m_is len within =
+-- the bytes of a pinned page, lent and read
+pub lent_seen : {s : PoolState} → IsPool s → (slot : Slot) → Holds (view_of s) slot → (bytes : List ℕ) → bytes ≡ (nth_frame s.frames slot.index).bytes
+    → IsLent (view_of s) slot bytes
+lent_seen {s} w slot h bytes is =
     let page = some_page (nth_frame s.frames slot.index).page (held_some w slot h) in
     let seen : contents_at (view_of s) page.0 ≡ (nth_frame s.frames slot.index).bytes =
     contents_seen s page.0 (w.has_device slot.index page.0 page.1) (w.has_page slot.index page.0 page.1) ∙ bytes_held s slot.index page.0 (stored s.devices page.0) w page.1 in
     record {
       page = page.0;
       holds = ap (λ f. f.page) (frame_seen s slot.index) ∙ page.1;
-      within = subst (λ k. at + k ≤ s.page_size) (sym len) within;
-      bytes = got_is ∙ ap (λ k. take k (drop at src)) (m_is ∙ sym len) ∙ ap (λ l. take (length got) (drop at l)) (src_is ∙ sym seen);
+      size = ap length is ∙ w.frame_size slot.index (held_there w slot h);
+      all = is ∙ sym seen;
     }
+
+pub read_lent : (v : PoolView) (slot : Slot) (at : ℕ) (got src : List ℕ) (n m : ℕ) → IsLent v slot src
+    → got ≡ take m (drop at src) → m ≡ n → length got ≡ n → at + n ≤ v.page_size → IsRead v slot at got
+read_lent v slot at got src n m lent got_is m_is len within = record {
+  page = lent.page;
+  holds = lent.holds;
+  within = subst (λ k. at + k ≤ v.page_size) (sym len) within;
+  bytes = got_is ∙ ap (λ k. take k (drop at src)) (m_is ∙ sym len) ∙ ap (λ l. take (length got) (drop at l)) lent.all;
+}

@@ -10,13 +10,15 @@ page_in pages frame = slice_index_or pages frame None
 
 -- The hash of a page
 
--- mixes 32 bits: the upper half is added to the lower one, then an odd factor carries each bit up
-unfoldable pub mixed : ℕ → ℕ
-mixed x = ((x + x / 65536) % 4294967296 * 2246822507) % 4294967296
+-- Mixes 32 bits: the upper half is added to the lower one, then an odd factor carries each bit up,
+-- the first one of the finalizer of MurmurHash3 for 32 bits (Appleby).
+unfoldable pub mix_of : ℕ → ℕ
+mix_of x = ((x + x / 0x10000) % 0x100000000 * 0x85EBCA6B) % 0x100000000
 
--- the page's number and that of its device hashed to 32 bits
+-- The page's number and that of its device hashed to 32 bits. The factors are 2^32 divided by the
+-- golden ratio (Knuth), the least prime above 10^9, and the second prime of xxHash (Collet).
 unfoldable pub hash_of : PageId → ℕ
-hash_of page = mixed (mixed ((page.no % 4294967296 * 2654435769 + page.no / 4294967296 * 1000000007 + page.dev * 2246822519) % 4294967296))
+hash_of page = mix_of (mix_of ((page.no % 0x100000000 * 0x9E3779B9 + page.no / 0x100000000 * 0x3B9ACA07 + page.dev * 0x85EBCA77) % 0x100000000))
 
 -- Chains
 
@@ -24,7 +26,7 @@ hash_of page = mixed (mixed ((page.no % 4294967296 * 2654435769 + page.no / 4294
 -- their hash, and the frames without a page are in the last
 unfoldable pub chain_of : ℕ → Option PageId → ℕ
 chain_of n None = n
-chain_of n (Some page) = hash_of page * n / 4294967296
+chain_of n (Some page) = hash_of page * n / 0x100000000
 
 -- the chain of each frame
 abbrev pub chains_of : List (Option PageId) → List ℕ
@@ -56,7 +58,7 @@ IsOf frames chain None = Unit {0}
 IsOf frames chain (Some frame) = (frame < length frames) × (slice_index frames frame ≡ chain)
 
 -- the last frame of a chain before a frame; none where there is none
-pub record IsLastBelow (frames : List ℕ) (chain frame : ℕ) (last : Option ℕ) : Type 0 where
+pub record IsPredecessor (frames : List ℕ) (chain frame : ℕ) (last : Option ℕ) : Type 0 where
   pub below : after last ≤ frame
   pub is_of : IsOf frames chain last
   pub between : (other : ℕ) → after last ≤ other → other < frame → slice_index frames other ≢ chain
@@ -67,17 +69,17 @@ link_after heads next chain None = slice_index heads chain
 link_after heads next chain (Some frame) = slice_index next frame
 
 -- the links after the one after `last` is set to a frame
-abbrev pub heads_led : List ℕ → ℕ → Option ℕ → ℕ → List ℕ
-heads_led heads chain None to = set heads chain to
-heads_led heads chain (Some frame) to = heads
+abbrev pub heads_with_link : List ℕ → ℕ → Option ℕ → ℕ → List ℕ
+heads_with_link heads chain None to = set heads chain to
+heads_with_link heads chain (Some frame) to = heads
 
-abbrev pub next_led : List ℕ → Option ℕ → ℕ → List ℕ
-next_led next None to = next
-next_led next (Some frame) to = set next frame to
+abbrev pub next_with_link : List ℕ → Option ℕ → ℕ → List ℕ
+next_with_link next None to = next
+next_with_link next (Some frame) to = set next frame to
 
 -- the frames' chains after one frame is removed from its chain
-abbrev pub loose : List ℕ → ℕ → List ℕ → List ℕ
-loose frames frame heads = set frames frame (length heads)
+abbrev pub chains_without : List ℕ → ℕ → List ℕ → List ℕ
+chains_without frames frame heads = set frames frame (length heads)
 
 -- the pages of frames and the chains over them
 pub record AreLinked (pages : List (Option PageId)) (heads next : List ℕ) : Type 0 where

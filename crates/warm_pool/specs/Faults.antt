@@ -1,4 +1,5 @@
--- The numbers and names of the refusals of a pool: why none was made, and why a call of one was refused.
+-- The numbers and names of the refusals of a pool: why none was made, and why a call of one was
+-- refused.
 use Rattle.std.specs.Prelude.{ℕ, List, codes}
 use Rattle.warm_pool.specs.declared.fault.NewPoolFault.{NewPoolFault}
 use Rattle.warm_pool.specs.declared.fault.NewPoolFault.TheVariants as new

@@ -1,7 +1,7 @@
 pub mod Frames
 pub mod FrameSteps
 pub mod Chains
-pub mod Residents
+pub mod PageTable
 pub mod State
 pub mod View
 pub mod Keeping

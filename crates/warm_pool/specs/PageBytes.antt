@@ -9,6 +9,13 @@ use Rattle.warm_pool.specs.State.{PoolState}
 use Rattle.warm_pool.specs.View.{PoolView, frame_at, contents_at, HasPage}
 use Rattle.warm_pool.specs.Keeping.{KeepsOthers}
 
+-- the bytes lent are all those of the slot's page
+pub record IsLent (v : PoolView) (slot : Slot) (bytes : List ℕ) : Type 0 where
+  pub page : PageId
+  pub holds : (frame_at v slot.index).page ≡ Some page
+  pub size : length bytes ≡ v.page_size
+  pub all : bytes ≡ contents_at v page
+
 -- the bytes read are those of the slot's page from `at` on
 pub record IsRead (v : PoolView) (slot : Slot) (at : ℕ) (got : List ℕ) : Type 0 where
   pub page : PageId

@@ -1,11 +1,12 @@
 -- Pinning and loading: the frame for a page, the effect of a successful call, why a call is
 -- refused, and the steps of both.
-use Rattle.std.specs.Prelude.{ℕ, ◌≡◌, ◌≢◌, ◌<◌, ◌≤◌, false, List, [], length, Option, Some, None, ◌⊎◌, ◌+◌, ◌-◌, ◌^◌, true, set, Result, IfOk}
+use Rattle.std.specs.Prelude.{ℕ, ◌≡◌, ◌↔◌, ◌≢◌, ◌<◌, ◌≤◌, false, List, [], length, Option, Some, None, ◌⊎◌, ◌+◌, ◌-◌, ◌^◌, true, set, Result, IfOk}
 use Rattle.warm_stamps.specs.declared.PageId.{PageId}
 use Rattle.warm_history.specs.Histories.{HistoryView, references_of}
 use Rattle.warm_pool.specs.Frames.{nth_frame}
 use Rattle.warm_rank.specs.Ranking.{IsVictim}
 use Rattle.warm_pool.specs.declared.slot.Slot.{Slot}
+use Rattle.warm_pool.specs.declared.slot.Placed.{Placed}
 use Rattle.warm_pool.specs.declared.fault.PoolFault.{PoolFault}
 use Rattle.warm_pool.specs.declared.fault.PoolFault.TheVariants.{NoDevice, NoPage, AllFixed, ReadFault, WriteBack, FixesFull}
 use Rattle.warm_rank.specs.declared.RankKey.{RankKey}
@@ -48,6 +49,10 @@ IsNextVictim s page = (h : HistoryView) → RankedBy s h → IsVictim (reference
 
 -- The effect of a successful call
 
+-- the slot of a frame's current page
+abbrev pub current_slot : PoolState → ℕ → Slot
+current_slot s i = record { index = i; generation = (nth_frame s.frames i).generation }
+
 -- the page is in the slot's frame, and has one more pin
 pub record AddsFix (old : PoolView) (p : PageId) (slot : Slot) (new : PoolView) : Type 0 where
   pub there : slot.index < length old.frames
@@ -77,6 +82,14 @@ Pinned h old p slot new = HasPage old p × (AddsFix old p slot new ⊎ PutsIn h 
 
 abbrev pub Loaded : HistoryView → PoolView → PageId → Slot → PoolView → Type 0
 Loaded h old p slot new = HasPage old p × (StaysIn old p slot new ⊎ PutsIn h old p 0 slot new)
+
+-- The page that was evicted is the one that was resident and is in no frame now; none where each
+-- page that was resident still is. No page is evicted for a resident one, and for another one only
+-- the page in the slot's frame is.
+pub record IsPlaced (old : PoolView) (p : PageId) (placed : Placed) (new : PoolView) : Type 0 where
+  pub left : (q : PageId) → (placed.evicted ≡ Some q) ↔ (IsResident old q × IsAbsent new q)
+  pub resident : IsResident old p → placed.evicted ≡ None
+  pub absent : IsAbsent old p → placed.evicted ≡ (frame_at old placed.slot.index).page
 
 -- the pool after the slot's page lost one pin
 abbrev pub unpinned : PoolView → Slot → PoolView
@@ -145,9 +158,9 @@ LeavesDevices h old p why new = new.devices ≡ old.devices
 -- The steps of both
 
 -- the page of the frame has one more pin; or its pin count is the greatest, and nothing has changed
-abbrev pub FixesPage : PoolState → ℕ → Result Slot PoolFault → PoolState → Type 0
+abbrev pub FixesPage : PoolState → ℕ → Result Placed PoolFault → PoolState → Type 0
 FixesPage old i result new =
-    (p : PageId) → (nth_frame old.frames i).page ≡ Some p → IfOk result (λ slot. AddsFix (view_of old) p slot (view_of new))
+    (p : PageId) → (nth_frame old.frames i).page ≡ Some p → IfOk result (λ placed. AddsFix (view_of old) p placed.slot (view_of new))
 
 abbrev pub FixRefused : PoolState → ℕ → PoolFault → PoolState → Type 0
 FixRefused old i fault new = (fault ≡ FixesFull) × ((nth_frame old.frames i).fixes ≡ 2 ^ 32 - 1) × (new ≡ old)

@@ -9,7 +9,9 @@ use Rattle.warm_pool.specs.declared.fault.PoolFault.TheVariants.{SizeDiffers, No
 use Rattle.warm_pool.specs.State.{PoolState, nth_device}
 use Rattle.warm_pool.specs.View.{FrameView, PoolView, frame_at, contents_at, device_view, view_of, HasPage, IsFixed, IsUnfixed}
 use Rattle.warm_pool.specs.Keeping.{FailsAt, KeepsContents}
-use Rattle.warm_pool.specs.WritingBack.{WriteBackFails, is_on, is_chosen, PutsAllDown}
+use Rattle.warm_pool.specs.WritingBack.{WriteBackFails, is_on, selects, WritesBackAll}
+use Rattle.warm_pool.specs.declared.selection.Devices.{Devices}
+use Rattle.warm_pool.specs.declared.selection.Devices.TheVariants.{One}
 
 -- Emptying and closing
 
@@ -70,40 +72,40 @@ KeepsElsewhere dev old new = (i : ℕ) → is_on dev (nth_frame old.frames i).pa
 
 -- The steps of both
 
-abbrev pub vacate_if : Option ℕ → FrameState → FrameState
-vacate_if which f = if is_chosen which f.page then vacated f else f
+abbrev pub vacate_if : Devices → FrameState → FrameState
+vacate_if which f = if selects which f.page then vacated f else f
 
 -- the frames, with the selected ones vacated
-abbrev pub vacated_chosen : Option ℕ → List FrameState → List FrameState
-vacated_chosen which frames = map (vacate_if which) frames
+abbrev pub vacated_selected : Devices → List FrameState → List FrameState
+vacated_selected which frames = map (vacate_if which) frames
 
 -- the page of a frame after the selected frames are vacated
-abbrev pub clear_if : Option ℕ → Option PageId → Option PageId
-clear_if which page = if is_chosen which page then None else page
+abbrev pub clear_if : Devices → Option PageId → Option PageId
+clear_if which page = if selects which page then None else page
 
 -- a selected frame has a pinned page; or none has
-pub record IsFixedIn (which : Option ℕ) (frames : List FrameState) : Type 0 where
+pub record IsFixedIn (which : Devices) (frames : List FrameState) : Type 0 where
   pub frame : ℕ
   pub there : frame < length frames
-  pub chosen : IsTrue (is_chosen which (nth_frame frames frame).page)
+  pub selected : IsTrue (selects which (nth_frame frames frame).page)
   pub fixed : 0 < (nth_frame frames frame).fixes
 
-abbrev pub AreUnfixed : Option ℕ → List FrameState → Type 0
-AreUnfixed which frames = (i : ℕ) → IsTrue (is_chosen which (nth_frame frames i).page) → (nth_frame frames i).fixes ≡ 0
+abbrev pub AreUnfixed : Devices → List FrameState → Type 0
+AreUnfixed which frames = (i : ℕ) → IsTrue (selects which (nth_frame frames i).page) → (nth_frame frames i).fixes ≡ 0
 
 -- each selected frame is clean
-abbrev pub AreClean : Option ℕ → List FrameState → Type 0
-AreClean which frames = (i : ℕ) → IsTrue (is_chosen which (nth_frame frames i).page) → (nth_frame frames i).dirty ≡ false
+abbrev pub AreClean : Devices → List FrameState → Type 0
+AreClean which frames = (i : ℕ) → IsTrue (selects which (nth_frame frames i).page) → (nth_frame frames i).dirty ≡ false
 
 -- device dev may be replaced by one with pages of this size: none of its pages is pinned, they were
 -- written back, and it is flushed
-pub record MakesWay (old : PoolState) (dev page_size : ℕ) (new : PoolState) : Type 0 where
+pub record PreparesRetire (old : PoolState) (dev page_size : ℕ) (new : PoolState) : Type 0 where
   pub there : dev < length old.devices
   pub size : page_size ≡ old.page_size
-  pub unfixed : AreUnfixed (Some dev) old.frames
-  pub down : PutsAllDown (Some dev) old new
+  pub unfixed : AreUnfixed (One dev) old.frames
+  pub down : WritesBackAll (One dev) old new
   pub quiet : (nth_device new.devices dev).waiting ≡ false
 
 -- the pool after another device has replaced device dev
 abbrev pub retired : PoolState → ℕ → DeviceState → PoolState
-retired s dev device = record s { frames = vacated_chosen (Some dev) s.frames; devices = set s.devices dev device }
+retired s dev device = record s { frames = vacated_selected (One dev) s.frames; devices = set s.devices dev device }

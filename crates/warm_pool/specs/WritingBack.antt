@@ -6,6 +6,8 @@ use Rattle.warm_pool.specs.Frames.{FrameState, nth_frame, cleaned}
 use Rattle.warm_pool.specs.State.{PoolState, nth_device, IsNowhere}
 use Rattle.warm_pool.specs.View.{stored, view_of}
 use Rattle.warm_pool.specs.Keeping.{FailsAt}
+use Rattle.warm_pool.specs.declared.selection.Devices.{Devices}
+use Rattle.warm_pool.specs.declared.selection.Devices.TheVariants.{All, One}
 
 -- All pages
 
@@ -67,43 +69,43 @@ is_on dev None = false
 is_on dev (Some p) = p.dev == dev
 
 -- whether a frame with this page is selected: all frames are, where no device is named
-abbrev pub is_chosen : Option ℕ → Option PageId → Bool
-is_chosen None page = true
-is_chosen (Some dev) page = is_on dev page
+abbrev pub selects : Devices → Option PageId → Bool
+selects All page = true
+selects (One dev) page = is_on dev page
 
-abbrev pub clean_if : Option ℕ → FrameState → FrameState
-clean_if which f = if is_chosen which f.page then cleaned f else f
+abbrev pub clean_if : Devices → FrameState → FrameState
+clean_if which f = if selects which f.page then cleaned f else f
 
 -- the frames, with the selected ones of the first n clean
-abbrev pub cleaned_chosen : Option ℕ → ℕ → List FrameState → List FrameState
-cleaned_chosen which n frames = map (clean_if which) (take n frames) ++ drop n frames
+abbrev pub cleaned_selected : Devices → ℕ → List FrameState → List FrameState
+cleaned_selected which n frames = map (clean_if which) (take n frames) ++ drop n frames
 
 -- the pages of frames were written back, and nothing has changed for a caller
-pub record PutsDown (frames : List FrameState) (old new : PoolState) : Type 0 where
+pub record WritesBack (frames : List FrameState) (old new : PoolState) : Type 0 where
   pub becomes : new.frames ≡ frames
   pub devices : KeptDevices old.frames old.devices new.devices
   pub failures : map (λ d. d.failures) new.devices ≡ map (λ d. d.failures) old.devices
   pub same : (new.page_size ≡ old.page_size) × (new.spare ≡ old.spare)
 
 -- the pages of all selected frames were written back; that of one frame was, where it is selected
-abbrev pub PutsAllDown : Option ℕ → PoolState → PoolState → Type 0
-PutsAllDown which old new = PutsDown (cleaned_chosen which (length old.frames) old.frames) old new
+abbrev pub WritesBackAll : Devices → PoolState → PoolState → Type 0
+WritesBackAll which old new = WritesBack (cleaned_selected which (length old.frames) old.frames) old new
 
-abbrev pub PutsOneDown : Option ℕ → PoolState → ℕ → PoolState → Type 0
-PutsOneDown which old i new = PutsDown (set old.frames i (clean_if which (nth_frame old.frames i))) old new
+abbrev pub WritesBackOne : Devices → PoolState → ℕ → PoolState → Type 0
+WritesBackOne which old i new = WritesBack (set old.frames i (clean_if which (nth_frame old.frames i))) old new
 
 -- the write of the page of a selected frame failed
-abbrev pub ChosenFails : Option ℕ → PoolState → ℕ → PoolState → Type 0
-ChosenFails which old i new = IsTrue (is_chosen which (nth_frame old.frames i).page) × CleanFails old i new
+abbrev pub SelectedFails : Devices → PoolState → ℕ → PoolState → Type 0
+SelectedFails which old i new = IsTrue (selects which (nth_frame old.frames i).page) × CleanFails old i new
 
 -- the write of the page of one selected frame failed, those of the selected frames before it
 -- succeeded
-pub record StopsAt (which : Option ℕ) (old new : PoolState) : Type 0 where
+pub record StopsAt (which : Devices) (old new : PoolState) : Type 0 where
   pub frame : ℕ
   pub page : PageId
   pub there : frame < length old.frames
   pub holds : (nth_frame old.frames frame).page ≡ Some page
-  pub chosen : IsTrue (is_chosen which (Some page))
+  pub selected : IsTrue (selects which (Some page))
   pub dirty : IsTrue (nth_frame old.frames frame).dirty
-  pub frames : new.frames ≡ cleaned_chosen which frame old.frames
+  pub frames : new.frames ≡ cleaned_selected which frame old.frames
   pub fails : FailsAt (view_of old) page.dev (view_of new)

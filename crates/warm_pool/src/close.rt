@@ -1,19 +1,20 @@
 //! Writing back a pool's pages, and emptying the pool.
-ghost use Rattle.std.specs.Prelude.{◌≡◌, ◌<◌, length, true, false, Some, None, Option, OnOk, OnErr, IfErr, MatchBool};
+ghost use Rattle.std.specs.Prelude.{◌≡◌, ◌<◌, length, true, false, OnOk, OnErr, IfErr, MatchBool};
 ghost use Rattle.warm_devices.specs.Device.{DeviceState};
 ghost use Rattle.warm_pool.specs.State.{IsSettled, IsRankedByAll, nth_device};
 ghost use Rattle.warm_pool.specs.View.{IsUnfixed, view_of};
 ghost use Rattle.warm_pool.specs.Keeping.{FailsAt, KeepsRanks};
-ghost use Rattle.warm_pool.specs.WritingBack.{WriteBackFails, PutsAllDown, PutsOneDown, ChosenFails, StopsAt, clean_if};
-ghost use Rattle.warm_pool.specs.Retiring.{EmptyRefused, Emptied, RetireRefused, Retired, AreUnfixed, AreClean, IsFixedIn, KeepsElsewhere, MakesWay, retired};
+ghost use Rattle.warm_pool.specs.WritingBack.{WriteBackFails, WritesBackAll, WritesBackOne, SelectedFails, StopsAt, clean_if};
+ghost use Rattle.warm_pool.specs.Retiring.{EmptyRefused, Emptied, RetireRefused, Retired, AreUnfixed, AreClean, IsFixedIn, KeepsElsewhere, PreparesRetire, retired};
 ghost use Rattle.warm_pool.specs.Flushes.{NoneWaits};
 ghost use Rattle.warm_pool.specs.declared.fault.PoolFault.TheVariants.{Fault};
+ghost use Rattle.warm_pool.specs.declared.selection.Devices.TheVariants.{All, One};
 
 use crate::fault::{PoolFault, RetireError};
 use crate::flush::{exchange, flush_all, flush_device, let_all_go};
 use crate::frames::Frames;
 use crate::pool::{Pool, write_back};
-use crate::residents::is_chosen;
+use crate::selection::Devices;
 use std::fmt;
 use thiserror::Error;
 use warm_devices::{DeviceFault, PageDevice};
@@ -69,8 +70,8 @@ impl<D: PageDevice> Pool<D> {
         ensures refused { IfErr result (λ fault. EmptyRefused
             self.old fault self.new) }
     {
-        self.put_down()?;
-        self.frames.vacate_chosen(None);
+        self.write_back_unpinned()?;
+        self.frames.vacate_selected(Devices::All);
         Ok(())
     }
 
@@ -87,7 +88,7 @@ impl<D: PageDevice> Pool<D> {
         ensures ranked { IfErr result (λ unclosed. KeepsRanks
             self unclosed.pool) }
     {
-        match self.put_down() {
+        match self.write_back_unpinned() {
             Ok(()) => {
                 let_all_go(self.into_devices());
                 Ok(())
@@ -118,9 +119,9 @@ impl<D: PageDevice> Pool<D> {
         ensures elsewhere { KeepsElsewhere dev self.old self.new }
         ensures ranked { KeepsRanks self.old self.new }
     {
-        match self.make_way(dev, device.page_size()) {
+        match self.prepare_retire(dev, device.page_size()) {
             Ok(()) => {
-                self.take_in(dev, device);
+                self.install_device(dev, device);
                 Ok(())
             }
             Err(fault) => Err(RetireError { fault, device }),
@@ -129,8 +130,8 @@ impl<D: PageDevice> Pool<D> {
 
     // Writes back the pages of a device and flushes it, where a device with pages of this size may
     // replace it.
-    fn make_way(&mut self, dev: u16, page_size: usize) -> Result<(), PoolFault>
-        ensures way { OnOk result (MakesWay
+    fn prepare_retire(&mut self, dev: u16, page_size: usize) -> Result<(), PoolFault>
+        ensures way { OnOk result (PreparesRetire
             self.old dev page_size self.new) }
         ensures refused { IfErr result (λ fault. (device : DeviceState) → device.page_size
             ≡ page_size → RetireRefused (view_of self.old) dev device fault
@@ -144,7 +145,7 @@ impl<D: PageDevice> Pool<D> {
         if page_size != self.frames.page_size() {
             return Err(PoolFault::SizeDiffers);
         }
-        if is_fixed(&self.frames, Some(dev)) {
+        if is_fixed(&self.frames, Devices::One(dev)) {
             return Err(PoolFault::Fixed);
         }
         match self.settle_device(dev) {
@@ -156,7 +157,7 @@ impl<D: PageDevice> Pool<D> {
     // Writes back the pages of one device and flushes it.
     fn settle_device(&mut self, dev: u16) -> Result<(), DeviceFault>
         requires there { dev < length self.old.devices }
-        ensures down { OnOk result (PutsAllDown (Some dev)
+        ensures down { OnOk result (WritesBackAll (One dev)
             self.old self.new) }
         ensures flushed { OnOk result ((nth_device
             self.new.devices dev).waiting ≡ false) }
@@ -164,36 +165,36 @@ impl<D: PageDevice> Pool<D> {
         ensures elsewhere { KeepsElsewhere dev self.old self.new }
         ensures ranked { KeepsRanks self.old self.new }
     {
-        self.clean_chosen(Some(dev))?;
+        self.clean_selected(Devices::One(dev))?;
         flush_device(&mut self.devices, dev as usize)?;
         Ok(())
     }
 
     // Replaces a flushed device, and evicts its pages.
-    fn take_in(&mut self, dev: u16, device: D)
+    fn install_device(&mut self, dev: u16, device: D)
         requires there { dev < length self.old.devices }
-        requires clean { AreClean (Some dev) self.old.frames }
-        requires unfixed { AreUnfixed (Some dev) self.old.frames }
+        requires clean { AreClean (One dev) self.old.frames }
+        requires unfixed { AreUnfixed (One dev) self.old.frames }
         requires quiet { (nth_device self.old.devices dev).waiting ≡ false }
         requires sized { (D.state device).page_size ≡ self.old.page_size }
         ensures { self.new ≡ retired
             self.old dev (D.state device) }
     {
-        self.frames.vacate_chosen(Some(dev));
+        self.frames.vacate_selected(Devices::One(dev));
         exchange(&mut self.devices, dev as usize, device);
     }
 
     // Writes back all pages and flushes all devices, where no page is pinned.
-    fn put_down(&mut self) -> Result<(), PoolFault>
-        ensures unfixed { OnOk result (AreUnfixed None self.old.frames) }
-        ensures down { OnOk result (PutsAllDown None
+    fn write_back_unpinned(&mut self) -> Result<(), PoolFault>
+        ensures unfixed { OnOk result (AreUnfixed All self.old.frames) }
+        ensures down { OnOk result (WritesBackAll All
             self.old self.new) }
         ensures flushed { OnOk result (NoneWaits self.new.devices) }
         ensures refused { IfErr result (λ fault. EmptyRefused
             self.old fault self.new) }
         ensures ranked { KeepsRanks self.old self.new }
     {
-        if is_fixed(&self.frames, None) {
+        if is_fixed(&self.frames, Devices::All) {
             return Err(PoolFault::Fixed);
         }
         match self.settle() {
@@ -204,21 +205,21 @@ impl<D: PageDevice> Pool<D> {
 
     // Writes back all pages and flushes all devices.
     fn settle(&mut self) -> Result<(), DeviceFault>
-        ensures down { OnOk result (PutsAllDown None
+        ensures down { OnOk result (WritesBackAll All
             self.old self.new) }
         ensures flushed { OnOk result (NoneWaits self.new.devices) }
         ensures stopped { OnErr result (WriteBackFails
             self.old self.new) }
         ensures ranked { KeepsRanks self.old self.new }
     {
-        self.clean_chosen(None)?;
+        self.clean_selected(Devices::All)?;
         flush_all(&mut self.devices)?;
         Ok(())
     }
 
     // Writes back the pages of the selected frames.
-    fn clean_chosen(&mut self, which: Option<u16>) -> Result<(), DeviceFault>
-        ensures down { OnOk result (PutsAllDown which
+    fn clean_selected(&mut self, which: Devices) -> Result<(), DeviceFault>
+        ensures down { OnOk result (WritesBackAll which
             self.old self.new) }
         ensures stopped { OnErr result (StopsAt which
             self.old self.new) }
@@ -230,14 +231,14 @@ impl<D: PageDevice> Pool<D> {
     }
 
     // Writes back the page of a frame, where it is selected.
-    fn clean_if(&mut self, at: usize, which: Option<u16>) -> Result<(), DeviceFault>
+    fn clean_if(&mut self, at: usize, which: Devices) -> Result<(), DeviceFault>
         requires there { at < length self.old.frames }
-        ensures down { OnOk result (PutsOneDown which
+        ensures down { OnOk result (WritesBackOne which
             self.old at self.new) }
-        ensures failed { OnErr result (ChosenFails which
+        ensures failed { OnErr result (SelectedFails which
             self.old at self.new) }
     {
-        if !is_chosen(which, self.frames.page(at)) {
+        if !which.selects(self.frames.page(at)) {
             return Ok(());
         }
         write_back(&mut self.frames, &mut self.devices, at)
@@ -245,12 +246,12 @@ impl<D: PageDevice> Pool<D> {
 }
 
 // Whether a selected frame has a pinned page.
-fn is_fixed(frames: &Frames, which: Option<u16>) -> bool
+fn is_fixed(frames: &Frames, which: Devices) -> bool
     ensures { MatchBool result (IsFixedIn which frames.now.frames)
         (AreUnfixed which frames.now.frames) }
 {
     for at in 0..frames.len() {
-        if frames.fixes(at) > 0 && is_chosen(which, frames.page(at)) {
+        if frames.fixes(at) > 0 && which.selects(frames.page(at)) {
             return true;
         }
     }

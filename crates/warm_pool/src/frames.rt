@@ -5,11 +5,12 @@ ghost use Rattle.warm_rank.specs.Slots.{IsLeast};
 ghost use Rattle.warm_pool.specs.Frames.{nth_frame, fresh_body, unused_status, eviction_key, key_unless_fixed, cleaned};
 ghost use Rattle.warm_pool.specs.FrameSteps.{fresh_frames, fresh_bodies, pages_held, changed_at, fixed, unfixed, ranked, loaded_frame, filled_body, written};
 ghost use Rattle.warm_pool.specs.PageBytes.{patched};
-ghost use Rattle.warm_pool.specs.Residents.{IsPlaceOf, IsFirstFree};
-ghost use Rattle.warm_pool.specs.Retiring.{AreClean, vacated_chosen};
+ghost use Rattle.warm_pool.specs.PageTable.{IsPlaceOf, IsFirstFree};
+ghost use Rattle.warm_pool.specs.Retiring.{AreClean, vacated_selected};
 
 use crate::frame::{Frame, Status};
-use crate::residents::Residents;
+use crate::page_table::PageTable;
+use crate::selection::Devices;
 use std::alloc::{AllocError, Global};
 use std::marker::Model;
 use std::mem;
@@ -23,7 +24,7 @@ use warm_stamps::PageId;
 #[derive(Drop)]
 pub(crate) struct Frames {
     page_size: usize,
-    residents: Residents,
+    page_table: PageTable,
     statuses: Vec<Status>,
     frames: Vec<Frame>,
     contest: Contest,
@@ -36,10 +37,10 @@ impl Model for Frames {
 
     ghost view = { λ f. record {
       page_size = f.page_size;
-      frames = frames_of f.residents f.statuses.items f.frames.items;
+      frames = frames_of f.page_table f.statuses.items f.frames.items;
     } };
 
-    ghost invariant = { λ f. AreTied f.residents f.statuses.items f.frames.items f.contest };
+    ghost invariant = { λ f. AreTied f.page_table f.statuses.items f.frames.items f.contest };
 }
 
 impl Frames {
@@ -49,13 +50,13 @@ impl Frames {
         requires few { frames ≤ MAX_FRAMES }
         ensures { IfOk result (λ made. made ≡ fresh_frames frames page_size) }
     {
-        let residents = Residents::new(alloc, frames)?;
+        let page_table = PageTable::new(alloc, frames)?;
         let statuses = unused(alloc, frames)?;
         let bodies = fresh_frames(alloc, frames, page_size)?;
         let contest = Contest::new(alloc, frames)?;
         Ok(Frames {
             page_size,
-            residents,
+            page_table,
             statuses,
             frames: bodies,
             contest,
@@ -81,7 +82,7 @@ impl Frames {
         requires { at < length self.now.frames }
         ensures { result ≡ (nth_frame self.now.frames at).page }
     {
-        self.residents.page(at)
+        self.page_table.page(at)
     }
 
     /// The pin count of the page in a frame.
@@ -121,14 +122,14 @@ impl Frames {
     pub(crate) fn find(&self, page: PageId) -> Option<usize>
         ensures { IsPlaceOf (pages_held self.now.frames) page result }
     {
-        self.residents.find(page)
+        self.page_table.find(page)
     }
 
     /// The first frame without a page.
     pub(crate) fn first_free(&self) -> Option<usize>
         ensures { IsFirstFree (pages_held self.now.frames) result }
     {
-        self.residents.first_free()
+        self.page_table.first_free()
     }
 
     /// The frame of the least rank among those of unpinned pages.
@@ -175,7 +176,7 @@ impl Frames {
     }
 
     /// Loads a page with this pin count into a frame, and swaps the frame's bytes with these.
-    pub(crate) fn put(
+    pub(crate) fn install(
         &mut self,
         at: usize,
         page: PageId,
@@ -185,7 +186,8 @@ impl Frames {
     )
         requires there { at < length self.old.frames }
         requires below { (nth_frame self.old.frames at).generation < 2 ^ 64 - 1 }
-        ensures frames { self.new ≡ changed_at self.old at (loaded_frame page key fixes bytes.old.items) }
+        ensures frames { self.new
+            ≡ changed_at self.old at (loaded_frame page key fixes bytes.old.items) }
         ensures given { bytes.new.items ≡ (nth_frame self.old.frames at).bytes }
     {
         let frame = &mut self.frames[at];
@@ -195,7 +197,7 @@ impl Frames {
             fixes,
             dirty: false,
         };
-        self.residents.set(at, Some(page));
+        self.page_table.set(at, Some(page));
         self.contest.set(at, key);
     }
 
@@ -221,12 +223,12 @@ impl Frames {
 
     /// Evicts the pages of the selected frames, each of which is clean. Generations and bytes are
     /// unchanged. The cost is linear in the number of frames.
-    pub(crate) fn vacate_chosen(&mut self, which: Option<u16>)
+    pub(crate) fn vacate_selected(&mut self, which: Devices)
         requires { AreClean which self.old.frames }
-        ensures { self.new ≡ record self.old { frames = vacated_chosen which self.old.frames } }
+        ensures { self.new ≡ record self.old { frames = vacated_selected which self.old.frames } }
     {
-        self.residents.clear_chosen(which);
-        self.contest.clear_vacant(self.residents.pages());
+        self.page_table.clear_selected(which);
+        self.contest.clear_vacant(self.page_table.pages());
     }
 }
 

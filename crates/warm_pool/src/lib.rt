@@ -27,16 +27,17 @@ mod frame;
 mod frames;
 pub mod laws;
 mod named;
+mod page_table;
 mod pool;
-mod residents;
+mod selection;
 mod slot;
 
 pub use close::CloseError;
 pub use device_list::all_sized;
-pub use fault::{NewPoolFault, PoolFault, NewPoolError, RetireError};
+pub use fault::{NewPoolError, NewPoolFault, PoolFault, RetireError};
 pub use named::NamesPage;
 pub use pool::Pool;
-pub use slot::Slot;
+pub use slot::{Placed, Slot};
 
 /// The maximum number of devices of a pool: a page names its device in 16 bits.
 pub const MAX_DEVICES: usize = 65_536;

@@ -10,17 +10,17 @@ ghost use Rattle.warm_pool.specs.View.{view_of, HasPage, IsResident, Holds};
 ghost use Rattle.warm_pool.specs.Keeping.{SameButFailures, KeepsRanks, KeepsBytes, KeepsFrames, KeepsOthers};
 ghost use Rattle.warm_pool.specs.Opening.{IsUpTo, IsSize, NewPoolRefused};
 ghost use Rattle.warm_pool.specs.WritingBack.{Cleans, CleanFails};
-ghost use Rattle.warm_pool.specs.Pinning.{Pinned, PinRefused, Loaded, LoadRefused, PutsIn, PutRefused, unpinned, IsNextVictim, LoadsInto, LoadFails, FixesPage, FixRefused, IsNextFrameToLoad, TakesFrame, LeavesDevices};
-ghost use Rattle.warm_pool.specs.PageBytes.{IsRead, ReadRefused, Written, WriteRefused, MakesDirty};
-ghost use Rattle.warm_pool.specs.Refreshing.{Renews, RenewsFrame, RenewsNamed, RefreshesRanks, KeepsOtherRanks};
+ghost use Rattle.warm_pool.specs.Pinning.{Pinned, PinRefused, Loaded, IsPlaced, LoadRefused, PutsIn, PutRefused, unpinned, current_slot, IsNextVictim, LoadsInto, LoadFails, FixesPage, FixRefused, IsNextFrameToLoad, TakesFrame, LeavesDevices};
+ghost use Rattle.warm_pool.specs.PageBytes.{IsLent, IsRead, ReadRefused, Written, WriteRefused, MakesDirty};
+ghost use Rattle.warm_pool.specs.Refreshing.{UpdatesRank, UpdatesRankIn, UpdatesNamedRanks, RefreshesRanks, KeepsOtherRanks};
 ghost use Rattle.warm_pool.specs.declared.fault.PoolFault.TheVariants.{OutOfPage, FixesFull};
 
 use crate::MAX_DEVICES;
 use crate::device_list::{all_sized, pages_of, read_page, write_page};
-use crate::fault::{NewPoolFault, PoolFault, NewPoolError};
+use crate::fault::{NewPoolError, NewPoolFault, PoolFault};
 use crate::frames::Frames;
 use crate::named::NamesPage;
-use crate::slot::Slot;
+use crate::slot::{Placed, Slot};
 use std::alloc::Global;
 use std::marker::Model;
 use warm_devices::{DeviceFault, MAX_PAGE_SIZE, PageDevice};
@@ -32,9 +32,9 @@ use warm_stamps::PageId;
 /// A buffer pool: frames that hold pages of devices.
 ///
 /// Contracts see a pool as plain data that always satisfies the invariant of pools (`IsPool`:
-/// [`Pool::is_pool`]). What a caller sees is its `view_of`. A pool is *ranked by* a history where
-/// the rank of each resident page is the one that the history gives it. A pool without a page is
-/// ranked by every history.
+/// [`Pool::prove_is_pool`]). What a caller sees is its `view_of`. A pool is *ranked by* a history
+/// where the rank of each resident page is the one that the history gives it. A pool without a page
+/// is ranked by every history.
 ///
 /// A pool that is dropped settles its devices by their own drops, but loses the contents of its
 /// dirty frames: close it instead.
@@ -110,7 +110,7 @@ impl<D: PageDevice> Pool<D> {
             (map D.state devices.items) unmade.fault
             × (unmade.devices.items ≡ devices.items)) }
     {
-        match parts(alloc, frames, page_size, &devices) {
+        match allocate(alloc, frames, page_size, &devices) {
             Ok((frames, spare)) => Ok(Pool {
                 frames,
                 devices,
@@ -121,7 +121,7 @@ impl<D: PageDevice> Pool<D> {
     }
 
     /// A theorem, for a caller that needs it: the invariant of pools. It does nothing at run time.
-    pub fn is_pool(&self)
+    pub fn prove_is_pool(&self)
         ensures { IsPool self.now }
     {
         // Reading a field brings the type's invariant into the proof; it costs nothing.
@@ -146,20 +146,14 @@ impl<D: PageDevice> Pool<D> {
     pub fn has(&self, page: PageId) -> bool
         ensures { IsTrue result ↔ HasPage (view_of self.now) page }
     {
-        match self.check(page) {
-            Ok(()) => true,
-            Err(_) => false,
-        }
+        self.check(page).is_ok()
     }
 
     /// Whether the page is in a frame.
     pub fn resident(&self, page: PageId) -> bool
         ensures { IsTrue result ↔ IsResident (view_of self.now) page }
     {
-        match self.frames.find(page) {
-            Some(_) => true,
-            None => false,
-        }
+        self.frames.find(page).is_some()
     }
 
     /// Whether the slot's frame is pinned, and no other page was loaded into it since the slot was
@@ -206,10 +200,37 @@ impl<D: PageDevice> Pool<D> {
         ensures devices { IfErr result (λ fault. LeavesDevices history.now
             self.old page fault self.new) }
     {
+        let placed = self.pin_placed(page, history)?;
+        Ok(placed.slot)
+    }
+
+    /// Pins a page as [`Pool::pin`] does, and says which page was evicted for it.
+    ///
+    /// # Errors
+    /// Those of [`Pool::pin`], in the same order and with the same effects.
+    pub fn pin_placed(&mut self, page: PageId, history: &History) -> Result<Placed, PoolFault>
+        requires ranked { RankedBy self.old history.now }
+        ensures ranked { RankedBy self.new history.now }
+        ensures pinned { IfOk result (λ placed. Pinned history.now
+            (view_of self.old) page placed.slot (view_of self.new)) }
+        ensures evicted { IfOk result (λ placed. IsPlaced
+            (view_of self.old) page placed (view_of self.new)) }
+        ensures holds { IfOk result (λ placed. Holds (view_of self.new) placed.slot) }
+        ensures frame { IfOk result (λ placed. TakesFrame
+            self.old page placed.slot self.new) }
+        ensures refused { IfErr result (λ fault. PinRefused history.now
+            (view_of self.old) page fault (view_of self.new)) }
+        ensures stays { OnErr result (SameButFailures
+            (view_of self.old) (view_of self.new)) }
+        ensures frames { OnErr result (KeepsFrames
+            self.old self.new) }
+        ensures devices { IfErr result (λ fault. LeavesDevices history.now
+            self.old page fault self.new) }
+    {
         self.check(page)?;
         match self.frames.find(page) {
             Some(at) => self.add_fix(at),
-            None => self.bring(page, history, 1),
+            None => self.load_absent(page, history, 1),
         }
     }
 
@@ -235,16 +256,42 @@ impl<D: PageDevice> Pool<D> {
         ensures devices { IfErr result (λ fault. LeavesDevices history.now
             self.old page fault self.new) }
     {
+        let placed = self.load_placed(page, history)?;
+        Ok(placed.slot)
+    }
+
+    /// Loads a page as [`Pool::load`] does, and says which page was evicted for it.
+    ///
+    /// # Errors
+    /// Those of [`Pool::load`], in the same order and with the same effects.
+    pub fn load_placed(&mut self, page: PageId, history: &History) -> Result<Placed, PoolFault>
+        requires ranked { RankedBy self.old history.now }
+        ensures ranked { RankedBy self.new history.now }
+        ensures loaded { IfOk result (λ placed. Loaded history.now
+            (view_of self.old) page placed.slot (view_of self.new)) }
+        ensures evicted { IfOk result (λ placed. IsPlaced
+            (view_of self.old) page placed (view_of self.new)) }
+        ensures frame { IfOk result (λ placed. TakesFrame
+            self.old page placed.slot self.new) }
+        ensures refused { IfErr result (λ fault. LoadRefused history.now
+            (view_of self.old) page fault (view_of self.new)) }
+        ensures stays { OnErr result (SameButFailures
+            (view_of self.old) (view_of self.new)) }
+        ensures frames { OnErr result (KeepsFrames
+            self.old self.new) }
+        ensures devices { IfErr result (λ fault. LeavesDevices history.now
+            self.old page fault self.new) }
+    {
         self.check(page)?;
         match self.frames.find(page) {
             Some(at) => {
-                let generation = self.frames.generation(at);
-                Ok(Slot {
-                    index: at as u32,
-                    generation,
+                let slot = self.slot_at(at);
+                Ok(Placed {
+                    slot,
+                    evicted: None,
                 })
             }
-            None => self.bring(page, history, 0),
+            None => self.load_absent(page, history, 0),
         }
     }
 
@@ -254,9 +301,7 @@ impl<D: PageDevice> Pool<D> {
     pub fn victim(&self) -> Option<PageId>
         ensures { IsNextVictim self.now result }
     {
-        let Some(at) = self.frames.least() else {
-            return None;
-        };
+        let at = self.frames.least()?;
         self.frames.page(at)
     }
 
@@ -269,6 +314,22 @@ impl<D: PageDevice> Pool<D> {
         ensures kept { KeepsBytes self.old self.new }
     {
         self.frames.unfix(slot.index as usize);
+    }
+
+    /// All bytes of the slot's page. Nothing is copied.
+    pub fn bytes(&self, slot: Slot) -> &[u8]
+        requires holds { Holds (view_of self.now) slot }
+        ensures { IsLent (view_of self.now) slot result.now }
+    {
+        self.frames.bytes(slot.index as usize)
+    }
+
+    /// Whether `len` bytes from `at` on are within a page.
+    pub fn is_within(&self, at: usize, len: usize) -> bool
+        ensures { IsTrue result ↔ (at + len ≤ (view_of self.now).page_size) }
+    {
+        let size = self.page_size();
+        at <= size && len <= size - at
     }
 
     /// Reads bytes of the slot's page, from `at` on, into the whole of `into`.
@@ -285,7 +346,7 @@ impl<D: PageDevice> Pool<D> {
         if !self.is_within(at, into.len()) {
             return Err(PoolFault::OutOfPage);
         }
-        let bytes = self.frames.bytes(slot.index as usize);
+        let bytes = self.bytes(slot);
         into.copy_from_slice(&bytes[at..at + into.len()]);
         Ok(())
     }
@@ -318,13 +379,13 @@ impl<D: PageDevice> Pool<D> {
     pub fn refresh<T: NamesPage>(&mut self, history: &History, items: &[T])
         ensures ranked { RefreshesRanks (map T.named items.now) history.now
             self.old self.new }
-        ensures renewed { RenewsNamed (map T.named items.now) history.now self.new }
+        ensures renewed { UpdatesNamedRanks (map T.named items.now) history.now self.new }
         ensures others { KeepsOtherRanks (map T.named items.now) self.old self.new }
         ensures same { view_of self.new ≡ view_of self.old }
         ensures kept { KeepsBytes self.old self.new }
     {
         for item in items {
-            self.renew(history, item.named());
+            self.update_rank(history, item.named());
         }
     }
 
@@ -335,32 +396,32 @@ impl<D: PageDevice> Pool<D> {
         ensures kept { KeepsBytes self.old self.new }
     {
         for at in 0..self.frames.len() {
-            self.renew_at(history, at);
+            self.update_rank_in(history, at);
         }
     }
 
     // Updates the rank of the page in a frame, if there is one.
-    fn renew_at(&mut self, history: &History, at: usize)
+    fn update_rank_in(&mut self, history: &History, at: usize)
         requires there { at < length self.old.frames }
         ensures same { view_of self.new ≡ view_of self.old }
         ensures kept { KeepsBytes self.old self.new }
-        ensures keys { RenewsFrame self.old at history.now self.new }
+        ensures keys { UpdatesRankIn self.old at history.now self.new }
     {
         let Some(page) = self.frames.page(at) else {
             return;
         };
-        self.renew(history, page);
+        self.update_rank(history, page);
     }
 
     // Updates the rank of a page, where it is resident.
-    fn renew(&mut self, history: &History, page: PageId)
+    fn update_rank(&mut self, history: &History, page: PageId)
         ensures same { view_of self.new ≡ view_of self.old }
         ensures kept { KeepsBytes self.old self.new }
-        ensures keys { Renews self.old page
+        ensures keys { UpdatesRank self.old page
             (rank_key page (hist (references_of history.now) page)) self.new }
     {
         if let Some(at) = self.frames.find(page) {
-            let key = known_key(history, page);
+            let key = rank_of(history, page);
             self.frames.rank(at, key);
         }
     }
@@ -384,41 +445,46 @@ impl<D: PageDevice> Pool<D> {
         Ok(())
     }
 
-    // Whether `len` bytes from `at` on are within a page.
-    fn is_within(&self, at: usize, len: usize) -> bool
-        ensures { IsTrue result ↔ (at + len ≤ (view_of self.now).page_size) }
+    // The slot of a frame's current page.
+    fn slot_at(&self, at: usize) -> Slot
+        requires { at < length self.now.frames }
+        ensures { result ≡ current_slot self.now at }
     {
-        let size = self.page_size();
-        at <= size && len <= size - at
+        let generation = self.frames.generation(at);
+        Slot {
+            index: at as u32,
+            generation,
+        }
     }
 
-    // Adds a pin to a resident page.
-    fn add_fix(&mut self, at: usize) -> Result<Slot, PoolFault>
+    // Adds a pin to a resident page. No page is evicted for it.
+    fn add_fix(&mut self, at: usize) -> Result<Placed, PoolFault>
         requires there { at < length self.old.frames }
         requires held { (nth_frame self.old.frames at).page ≢ None }
         ensures ranked { KeepsRanks self.old self.new }
         ensures fixed { FixesPage
             self.old at result self.new }
-        ensures holds { IfOk result (λ slot. Holds (view_of self.new) slot) }
+        ensures evicted { IfOk result (λ placed. placed.evicted ≡ None) }
+        ensures holds { IfOk result (λ placed. Holds (view_of self.new) placed.slot) }
         ensures kept { KeepsBytes self.old self.new }
-        ensures others { IfOk result (λ slot. KeepsOthers slot.index
+        ensures others { IfOk result (λ placed. KeepsOthers placed.slot.index
             self.old self.new) }
         ensures refused { IfErr result (λ fault. FixRefused
             self.old at fault self.new) }
     {
-        let generation = self.frames.generation(at);
+        let slot = self.slot_at(at);
         if self.frames.fixes(at) < u32::MAX {
             self.frames.fix(at);
-            return Ok(Slot {
-                index: at as u32,
-                generation,
+            return Ok(Placed {
+                slot,
+                evicted: None,
             });
         }
         Err(PoolFault::FixesFull)
     }
 
     // The frame into which a page is loaded.
-    fn place(&self) -> Option<usize>
+    fn frame_to_load(&self) -> Option<usize>
         ensures place { IsNextFrameToLoad self.now result }
         ensures there { IfSome result (λ at. at < length self.now.frames) }
         ensures unfixed { IfSome result (λ at. (nth_frame
@@ -431,16 +497,23 @@ impl<D: PageDevice> Pool<D> {
     }
 
     // Loads a page that is in no frame, with this pin count.
-    fn bring(&mut self, page: PageId, history: &History, fixes: u32) -> Result<Slot, PoolFault>
+    fn load_absent(
+        &mut self,
+        page: PageId,
+        history: &History,
+        fixes: u32,
+    ) -> Result<Placed, PoolFault>
         requires ranked { RankedBy self.old history.now }
         requires known { HasPage (view_of self.old) page }
         requires absent { IsNowhere self.old.frames page }
         ensures ranked { RankedBy self.new history.now }
-        ensures put { IfOk result (λ slot. PutsIn history.now
-            (view_of self.old) page fixes slot
+        ensures put { IfOk result (λ placed. PutsIn history.now
+            (view_of self.old) page fixes placed.slot
             (view_of self.new)) }
-        ensures frame { IfOk result (λ slot. TakesFrame
-            self.old page slot self.new) }
+        ensures evicted { IfOk result (λ placed. placed.evicted
+            ≡ (nth_frame self.old.frames placed.slot.index).page) }
+        ensures frame { IfOk result (λ placed. TakesFrame
+            self.old page placed.slot self.new) }
         ensures refused { IfErr result (λ fault. PutRefused history.now
             (view_of self.old) page fault (view_of self.new)) }
         ensures frames { OnErr result (KeepsFrames
@@ -448,17 +521,15 @@ impl<D: PageDevice> Pool<D> {
         ensures devices { IfErr result (λ fault. LeavesDevices history.now
             self.old page fault self.new) }
     {
-        let Some(at) = self.place() else {
+        let Some(at) = self.frame_to_load() else {
             return Err(PoolFault::AllFixed);
         };
-        let generation = self.frames.generation(at);
-        if generation < u64::MAX {
-            let key = known_key(history, page);
+        let evicted = self.frames.page(at);
+        if self.frames.generation(at) < u64::MAX {
+            let key = rank_of(history, page);
             self.load_into(at, page, key, fixes)?;
-            return Ok(Slot {
-                index: at as u32,
-                generation: generation + 1,
-            });
+            let slot = self.slot_at(at);
+            return Ok(Placed { slot, evicted });
         }
         Err(PoolFault::FixesFull)
     }
@@ -488,7 +559,7 @@ impl<D: PageDevice> Pool<D> {
         if write_back(&mut self.frames, &mut self.devices, at).is_err() {
             return Err(PoolFault::WriteBack);
         }
-        self.frames.put(at, page, key, fixes, &mut self.spare);
+        self.frames.install(at, page, key, fixes, &mut self.spare);
         Ok(())
     }
 }
@@ -519,15 +590,13 @@ pub(crate) fn write_back<D: PageDevice>(
     if !frames.is_dirty(at) {
         return Ok(());
     }
-    if write_page(devices, page, frames.bytes(at)).is_err() {
-        return Err(DeviceFault::Write);
-    }
+    write_page(devices, page, frames.bytes(at))?;
     frames.clean(at);
     Ok(())
 }
 
-// The frames and the spare buffer of a pool over these devices.
-fn parts<D: PageDevice>(
+// Allocates the frames and the spare buffer of a pool over these devices.
+fn allocate<D: PageDevice>(
     alloc: Global,
     frames: usize,
     page_size: usize,
@@ -565,7 +634,7 @@ fn check_shape<D: PageDevice>(
 }
 
 // The rank that the history gives a page.
-fn known_key(history: &History, page: PageId) -> RankKey
+fn rank_of(history: &History, page: PageId) -> RankKey
     ensures { result ≡ rank_key page (hist (references_of history.now) page) }
 {
     // The rank is over the references that the history holds: their history is this history.

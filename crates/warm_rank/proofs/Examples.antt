@@ -1,4 +1,4 @@
--- Distances, the order in which pages leave, victims and warm-up lists, computed on small lists of references.
+-- Distances, the eviction order, victims and warm-up lists, computed on small sets of references.
 use Rattle.std.proofs.Common.{◌≡◌, ◌≢◌, ℕ, zero, suc, [], ◌∷◌, refl, sym, subst, Some, None, arith}
 use Rattle.std.specs.List.{Contains}
 use Rattle.std.specs.declared.cmp.Ordering.TheVariants.{Less}
@@ -30,7 +30,8 @@ scan_first_infinite = refl
 scan_second_infinite : dist scan (page 6) ≡ None
 scan_second_infinite = refl
 
--- the scan is given in the order of its stamps: three places from its end to the last but one reference to the page
+-- the scan is given in the order of its stamps: three places from its end to the last but one
+-- reference to the page
 scan_rises : StampsAscend (references scan)
 scan_rises = ((refl, (refl, (refl, tt))), ((refl, (refl, tt)), ((refl, tt), (tt, tt))))
 
@@ -48,23 +49,23 @@ three_times = refl
 told_twice : dist (set_of_list (seen 5 10 ∷ seen 1 2 ∷ []) ∪ scan) (page 1) ≡ Some 3
 told_twice = refl
 
--- the scan leaves first, its older page before the other
-scan_leaves : eviction_cmp scan (page 6) (page 1) ≡ Less
+-- the scan is evicted first, its older page before the other
+scan_is_evicted_first : eviction_cmp scan (page 6) (page 1) ≡ Less
 unfolding eviction_cmp
-scan_leaves = refl
+scan_is_evicted_first = refl
 
-older_leaves : eviction_cmp scan (page 5) (page 6) ≡ Less
+older_is_evicted_first : eviction_cmp scan (page 5) (page 6) ≡ Less
 unfolding eviction_cmp
-older_leaves = refl
+older_is_evicted_first = refl
 
--- a page without a reference leaves before them, and of two such pages the lesser
-unknown_leaves : eviction_cmp scan (page 7) (page 5) ≡ Less
+-- a page without a reference is evicted before them, and of two such pages the lesser
+unknown_is_evicted_first : eviction_cmp scan (page 7) (page 5) ≡ Less
 unfolding eviction_cmp
-unknown_leaves = refl
+unknown_is_evicted_first = refl
 
-lesser_unknown_leaves : eviction_cmp scan (page 7) (page 8) ≡ Less
+lesser_unknown_is_evicted_first : eviction_cmp scan (page 7) (page 8) ≡ Less
 unfolding eviction_cmp
-lesser_unknown_leaves = refl
+lesser_unknown_is_evicted_first = refl
 
 scan_victim : IsVictim scan (page 1 ∷ page 5 ∷ page 6 ∷ []) (Some (page 5))
 unfolding eviction_cmp
@@ -76,7 +77,8 @@ scan_victim = ((1, omega arith, refl), before)
     before q (suc (suc zero), lt, is) differ = subst (IsBefore scan (page 5)) is refl
     before q (suc (suc (suc k)), lt, is) differ = absurd (omega arith)
 
--- ---- two pages that were referenced twice: the one whose references lie farther apart leaves, though it was referenced last
+-- ---- two pages that were referenced twice: the one whose references lie farther apart is evicted,
+-- though it was referenced last
 
 abbrev apart : ReferenceSet
 apart = set_of_list (seen 1 1 ∷ seen 1 100 ∷ seen 2 50 ∷ seen 2 60 ∷ [])
@@ -87,9 +89,9 @@ apart_distance_1 = refl
 apart_distance_2 : dist apart (page 2) ≡ Some 2
 apart_distance_2 = refl
 
-farther_leaves : eviction_cmp apart (page 1) (page 2) ≡ Less
+farther_is_evicted_first : eviction_cmp apart (page 1) (page 2) ≡ Less
 unfolding eviction_cmp
-farther_leaves = refl
+farther_is_evicted_first = refl
 
 apart_victim : IsVictim apart (page 1 ∷ page 2 ∷ []) (Some (page 1))
 unfolding eviction_cmp

@@ -1,4 +1,4 @@
--- The order of keys, and that it is the order in which their pages leave.
+-- The order of keys, and that it is the eviction order of their pages.
 use Rattle.std.proofs.Common.{◌≡◌, ℕ, List, [], ◌∷◌, sym, ap, refl, ◌∙◌, subst, Option, Some, None, inl, inr}
 use Rattle.std.specs.Option.{option_cmp}
 use Rattle.std.specs.Cmp.{IsTotalOrder}
@@ -21,7 +21,7 @@ use Rattle.warm_rank.specs.declared.RankKey.TheVariants.{Never, Once, Twice}
 use Rattle.warm_rank.specs.contracts.RankKeyOrd.TheImpl as derived
 use Rattle.warm_rank.specs.Keys.{rank_key, key_cmp, ranked_page}
 use Rattle.warm_rank.specs.Ranking.{distance_from, first, farther_cmp, older_cmp, eviction_cmp}
-use Rattle.warm_rank.specs.Laws.{KeysRank}
+use Rattle.warm_rank.specs.Laws.{KeysOrderPages}
 use Rattle.warm_rank.proofs.Counting.{IsStampOf, counts_rank, stamps_of}
 
 -- ---- keys and distances
@@ -38,7 +38,7 @@ ranks S p q (a ∷ a' ∷ xs) [] of_x of_y = refl
 ranks S p q (a ∷ a' ∷ xs) (b ∷ []) of_x of_y = refl
 ranks S p q (a ∷ a' ∷ xs) (b ∷ b' ∷ ys) of_x of_y = ap (λ o. ordering_then o (ordering_then (stamp_cmp a b) (page_cmp p q))) (sym (counts_rank S a' b' (of_x a' (inr (inl refl))) (of_y b' (inr (inl refl)))))
 
-pub keys_order_pages : KeysRank
+pub keys_order_pages : KeysOrderPages
 unfolding eviction_cmp
 keys_order_pages S p q = ranks S p q (stamps S p) (stamps S q) (stamps_of S p) (stamps_of S q)
 

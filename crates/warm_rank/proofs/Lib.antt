@@ -1,7 +1,7 @@
 pub mod Counting
 mod Examples
 pub mod KeyLemmas
-pub mod LeavingLemmas
+pub mod EvictionLemmas
 pub mod PackedLemmas
 pub mod PlacesBack
 pub mod SetKeyLemmas

@@ -86,7 +86,8 @@ distance_in-older r rs (a ∷ b ∷ ss) below =
 not_one : (n : ℕ) → (suc (suc n) == 1) ≡ false
 not_one n = grind (arith, nat_tests)
 
--- a reference to the page, older than all its stamps, is the last but one where the page has one stamp
+-- a reference to the page, older than all its stamps, is the last but one where the page has one
+-- stamp
 distance_in-last : (r : Reference) (rs : List Reference) (ss : List Stamp) → AllByRecursion (λ s. stamp_cmp r.stamp s.stamp ≡ Less) rs → ((t : Stamp) → Has ss t → stamp_cmp r.stamp t ≡ Less)
     → distance_in (r ∷ rs) (ss ++ r.stamp ∷ []) ≡ cond (length ss == 1) (Some (length rs)) (distance_in rs ss)
 distance_in-last r rs [] above below = refl

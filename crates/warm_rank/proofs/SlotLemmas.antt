@@ -15,7 +15,7 @@ use Rattle.warm_rank.specs.Ranking.{eviction_cmp, IsBefore, IsVictim}
 use Rattle.warm_rank.specs.Slots.{key_at, set_first_cmp, slot_cmp, ComesFirst}
 use Rattle.warm_rank.specs.Laws.{keys_over, pages_in, LeastKeyIsVictim}
 use Rattle.warm_rank.proofs.KeyLemmas.{keys_order_pages}
-use Rattle.warm_rank.proofs.LeavingLemmas.{eviction_order}
+use Rattle.warm_rank.proofs.EvictionLemmas.{eviction_order}
 
 -- the key over S of the page p
 abbrev key_over : ReferenceSet → PageId → RankKey
@@ -61,7 +61,7 @@ slot_of (None ∷ slots) p has = slot_later None slots p (slot_of slots p has)
 slot_of (Some q ∷ slots) p (zero, lt, is) = (0, omega arith, ap Some is)
 slot_of (Some q ∷ slots) p (suc k, lt, is) = slot_later (Some q) slots p (slot_of slots p (k, omega arith, is))
 
--- the page p of the first slot leaves before the page q of another
+-- the page p of the first slot is evicted before the page q of another
 before : (S : ReferenceSet) (slots : List (Option PageId)) (s t : ℕ) (p q : PageId) → key_at slots s ≡ Some p → key_at slots t ≡ Some q → q ≢ p → slot_cmp key_cmp (keys_over S slots) s t ≡ Less → IsBefore S p q
 before S slots s t p q is_p is_q differ less =
     let key_p : key_at (keys_over S slots) s ≡ Some (key_over S p) = key_at-keys_over S slots s ∙ ap (option_map (key_over S)) is_p in

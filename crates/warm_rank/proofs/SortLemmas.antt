@@ -1,4 +1,5 @@
--- The greatest items of a list without ties: a part that no other item is above, sorted and turned round.
+-- The greatest items of a list without ties: a part that no other item is above, sorted and turned
+-- round.
 use Rattle.std.proofs.Common.{◌≡◌, ℕ, suc, ◌+◌, ◌<◌, ◌≤◌, true, false, cond, List, [], ◌∷◌, ◌++◌, length, get_or, reverse, add-one, sym, ap, refl, ◌∙◌, subst, inl, inr, ◌⊎◌, arith}
 use Rattle.std.specs.List.{AllByRecursion, count_by}
 use Rattle.std.specs.List.Sorted.{IsPermutation, IsSorted, IsSplitAround}
@@ -78,10 +79,10 @@ module _ {A : Type 0} (cmp : A → A → Ordering) (order : IsStrictOrder cmp) w
   no_ties_tail : (x : A) (xs : List A) → HasNoTies cmp (x ∷ xs) → HasNoTies cmp xs
   no_ties_tail x xs once y = let step = ties-append y (x ∷ []) xs in omega (arith, once y)
 
-  pub rising_from_sorted : (xs : List A) → HasNoTies cmp xs → IsSorted cmp xs → IsAscending cmp xs
-  rising_from_sorted [] once sorted = tt
-  rising_from_sorted (x ∷ xs) once sorted =
-      (above_first x xs (λ j lt. sorted_far (λ a b. is_lt (cmp a b)) (ranks_by order.total (λ a. a)) (x ∷ xs) sorted 0 (suc j) x (omega arith) (omega arith)) none, rising_from_sorted xs (no_ties_tail x xs once) (λ k d low lt. tail k d (sorted (suc k) d (omega arith) (omega arith))))
+  pub ascending_from_sorted : (xs : List A) → HasNoTies cmp xs → IsSorted cmp xs → IsAscending cmp xs
+  ascending_from_sorted [] once sorted = tt
+  ascending_from_sorted (x ∷ xs) once sorted =
+      (above_first x xs (λ j lt. sorted_far (λ a b. is_lt (cmp a b)) (ranks_by order.total (λ a. a)) (x ∷ xs) sorted 0 (suc j) x (omega arith) (omega arith)) none, ascending_from_sorted xs (no_ties_tail x xs once) (λ k d low lt. tail k d (sorted (suc k) d (omega arith) (omega arith))))
     where
       none : ties cmp x xs ≡ 0
       none = omega (arith, once x, ties-here x x xs (tied_itself order.total x))
@@ -89,13 +90,13 @@ module _ {A : Type 0} (cmp : A → A → Ordering) (order : IsStrictOrder cmp) w
       tail : (k : ℕ) (d : A) → is_lt (cmp (get_or (x ∷ xs) (suc k + 1) d) (get_or (x ∷ xs) (suc k) d)) ≡ false → is_lt (cmp (get_or xs (k + 1) d) (get_or xs k d)) ≡ false
       tail k d is = rw add-one (rw add-one at is)
 
-  rising_last : (xs : List A) (y : A) → IsAscending cmp xs → AllByRecursion (λ x. cmp x y ≡ Less) xs → IsAscending cmp (xs ++ y ∷ [])
-  rising_last [] y rising below = (tt, tt)
-  rising_last (x ∷ xs) y rising below = (all_append (λ z. cmp x z ≡ Less) xs (y ∷ []) rising.0 (below.0, tt), rising_last xs y rising.1 below.1)
+  ascending_last : (xs : List A) (y : A) → IsAscending cmp xs → AllByRecursion (λ x. cmp x y ≡ Less) xs → IsAscending cmp (xs ++ y ∷ [])
+  ascending_last [] y rising below = (tt, tt)
+  ascending_last (x ∷ xs) y rising below = (all_append (λ z. cmp x z ≡ Less) xs (y ∷ []) rising.0 (below.0, tt), ascending_last xs y rising.1 below.1)
 
   -- ---- the distinct items of lesser and of greater ones
 
-  -- rising items that are all below the others come first
+  -- ascending items that are all below the others come first
   pub distinct-append : (xs ys : List A) → IsAscending cmp xs → AllByRecursion (λ x. AllByRecursion (λ y. cmp x y ≡ Less) ys) xs → distinct cmp (xs ++ ys) ≡ xs ++ distinct cmp ys
   distinct-append [] ys rising below = refl
   distinct-append (x ∷ xs) ys rising below =
@@ -103,11 +104,11 @@ module _ {A : Type 0} (cmp : A → A → Ordering) (order : IsStrictOrder cmp) w
       ∙ insert_below cmp order x (xs ++ distinct cmp ys) (all_append (λ z. cmp x z ≡ Less) xs (distinct cmp ys) rising.0 (below_distinct cmp order x ys below.0))
 
 module _ {A : Type 0} (cmp : A → A → Ordering) (order : IsStrictOrder cmp) where
-  rising_reverse : (xs : List A) → IsAscending cmp xs → IsAscending (flip_args cmp) (reverse xs)
-  rising_reverse [] rising = tt
-  rising_reverse (x ∷ xs) rising =
+  descending_reverse : (xs : List A) → IsAscending cmp xs → IsAscending (flip_args cmp) (reverse xs)
+  descending_reverse [] rising = tt
+  descending_reverse (x ∷ xs) rising =
       subst (IsAscending (flip_args cmp)) (sym (reverse-append (x ∷ []) xs))
-      (rising_last (flip_args cmp) (IsStrictOrder-flip cmp order) (reverse xs) x (rising_reverse xs rising.1) (all_reverse (λ y. cmp x y ≡ Less) xs rising.0))
+      (ascending_last (flip_args cmp) (IsStrictOrder-flip cmp order) (reverse xs) x (descending_reverse xs rising.1) (all_reverse (λ y. cmp x y ≡ Less) xs rising.0))
 
   same_items : (x : A) (xs ys : List A) → ties cmp x xs ≡ ties cmp x ys → Has xs x → Has ys x
   same_items x xs ys same has = let some = ties_from_has cmp order x xs has in has_from_ties cmp order x ys (omega arith)
@@ -125,9 +126,10 @@ module _ {A : Type 0} (cmp : A → A → Ordering) (order : IsStrictOrder cmp) w
       absurd (omega (arith, once r, ties-permutation cmp order r xs (rest ++ top) parted, ties-append cmp order r rest top)))
       (λ more. let no : true ≡ false = sym (ap is_lt (flipped cmp order r t Greater more)) ∙ above r t has_r has_t in absurd (cc))
 
-  -- a list without ties, of which no item of top is below one of rest: its distinct items falling
-  pub distinct-falling : (xs rest top sorted : List A) → HasNoTies cmp xs → IsPermutation xs (rest ++ top) → IsAbove cmp rest top → IsPermutation top sorted → IsSorted cmp sorted → distinct (flip_args cmp) xs ≡ reverse sorted ++ distinct (flip_args cmp) rest
-  distinct-falling xs rest top sorted once parted above moved in_order =
+  -- a list without ties, of which no item of top is below one of rest: its distinct items,
+  -- descending
+  pub distinct-descending : (xs rest top sorted : List A) → HasNoTies cmp xs → IsPermutation xs (rest ++ top) → IsAbove cmp rest top → IsPermutation top sorted → IsSorted cmp sorted → distinct (flip_args cmp) xs ≡ reverse sorted ++ distinct (flip_args cmp) rest
+  distinct-descending xs rest top sorted once parted above moved in_order =
       let order_back : IsStrictOrder (flip_args cmp) = IsStrictOrder-flip cmp order in
       distinct_same (flip_args cmp) order_back xs (reverse sorted ++ rest) (λ x has. same_items x xs (reverse sorted ++ rest) (sym (counts x)) has) (λ x has. same_items x (reverse sorted ++ rest) xs (counts x) has)
       ∙ distinct-append (flip_args cmp) order_back (reverse sorted) rest falls below
@@ -142,7 +144,7 @@ module _ {A : Type 0} (cmp : A → A → Ordering) (order : IsStrictOrder cmp) w
       once_sorted x = omega (arith, once x, ties-permutation cmp order x top sorted moved, ties-append cmp order x rest top, ties-permutation cmp order x xs (rest ++ top) parted)
 
       falls : IsAscending (flip_args cmp) (reverse sorted)
-      falls = rising_reverse sorted (rising_from_sorted cmp order sorted once_sorted in_order)
+      falls = descending_reverse sorted (ascending_from_sorted cmp order sorted once_sorted in_order)
 
       below : AllByRecursion (λ t. AllByRecursion (λ r. cmp r t ≡ Less) rest) (reverse sorted)
       below = all_of_has (λ t. AllByRecursion (λ r. cmp r t ≡ Less) rest) (reverse sorted) (λ t has_t.

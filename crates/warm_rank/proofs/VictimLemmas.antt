@@ -13,7 +13,7 @@ use Rattle.warm_stamps.proofs.StampLemmas.{page_order}
 use Rattle.warm_history.specs.ReferenceSets.{ReferenceSet}
 use Rattle.warm_rank.specs.Ranking.{dist, latest, eviction_cmp, farther_cmp, older_cmp, IsBefore}
 use Rattle.warm_rank.specs.Laws.{IsNotFarther, VictimIsFarthest}
-use Rattle.warm_rank.proofs.LeavingLemmas.{truncation_keeps_order}
+use Rattle.warm_rank.proofs.EvictionLemmas.{truncation_keeps_order}
 
 -- what does not come after the other in the order of distances is not less far
 not_farther : (x y : Option ℕ) → (farther_cmp x y ≡ Greater → ⊥) → IsNotFarther y x
@@ -26,7 +26,7 @@ never_greater Less later less is = absurd (cc)
 never_greater Equal later less is = absurd (cc)
 never_greater Greater later less is = absurd (cc)
 
--- a page that leaves before another is not less far
+-- a page that is evicted before another is not less far
 before_is_farther : (S : ReferenceSet) (p q : PageId) → IsBefore S p q → IsNotFarther (dist S q) (dist S p)
 unfolding eviction_cmp
 before_is_farther S p q before =
@@ -49,6 +49,6 @@ victim_is_farthest h S stands U v victim =
       one_of = victim.0;
       farthest = λ p has. elim (same_or_not p v) [
         | inl is ↦ subst (λ x. IsNotFarther (dist S x) (dist S v)) (sym is) (itself (dist S v))
-        | inr other ↦ before_is_farther S v p (sym (alike.leave_alike v p) ∙ victim.1 p has other)
+        | inr other ↦ before_is_farther S v p (sym (alike.evicted_alike v p) ∙ victim.1 p has other)
       ];
     }

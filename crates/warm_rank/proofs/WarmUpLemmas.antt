@@ -26,7 +26,7 @@ use Rattle.warm_rank.specs.Packed.{packed_key, packed_keys, packed_page, packed_
 use Rattle.warm_rank.specs.Ranking.{eviction_cmp, hottest_pages}
 use Rattle.warm_rank.proofs.KeyLemmas.{keys_order_pages, page_of-rank_key}
 use Rattle.warm_rank.proofs.PackedLemmas.{packed_compares, packed_keeps_page, packed_order}
-use Rattle.warm_rank.proofs.SortLemmas.{ties, ties-here, ties-other, HasNoTies, IsAbove, distinct-falling, above_from_split}
+use Rattle.warm_rank.proofs.SortLemmas.{ties, ties-here, ties-other, HasNoTies, IsAbove, distinct-descending, above_from_split}
 
 insert-map : {A B : Type 0} (f : A → B) (c : A → A → Ordering) (d : B → B → Ordering) → ((x y : A) → d (f x) (f y) ≡ c x y) → (x : A) (ys : List A) → insert_distinct d (f x) (map f ys) ≡ map f (insert_distinct c x ys)
 insert-map f c d agree x [] = refl
@@ -128,7 +128,7 @@ all_of (x ∷ xs) (suc n) short = ap (λ t. x ∷ t) (all_of xs n (omega arith))
 warm_from_parts : (S : ReferenceSet) (n : ℕ) (rest top sorted : List PackedKey) → IsPermutation (packed_keys (history S)) (rest ++ top) → IsAbove packed_cmp rest top → IsPermutation top sorted → IsSorted packed_cmp sorted
     → take n (reverse sorted ++ distinct (flip_args packed_cmp) rest) ≡ reverse sorted → map packed_page (reverse sorted) ≡ hottest_pages S n
 warm_from_parts S n rest top sorted parted above moved in_order first =
-    ap (map packed_page) (sym first ∙ ap (take n) (sym (distinct-falling packed_cmp packed_order (packed_keys (history S)) rest top sorted (history_has_no_ties S) parted above moved in_order)))
+    ap (map packed_page) (sym first ∙ ap (take n) (sym (distinct-descending packed_cmp packed_order (packed_keys (history S)) rest top sorted (history_has_no_ties S) parted above moved in_order)))
     ∙ warm_from_keys S n
 
 -- the n greatest of a history's keys in any order

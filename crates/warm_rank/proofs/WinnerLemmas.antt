@@ -239,7 +239,8 @@ module _ {K : Type 0} (cmp : K → K → Ordering) where
         let low : 0 < p / 2 = omega (arith, le, is, some) in
         child_holds p path low (holds_below k (p / 2) j c (path_up (length keys + slot) p path) is some half high holds)
 
-    -- where the match at p has the winner that it had, which is not the slot, all above it stay played
+    -- where the match at p has the winner that it had, which is not the slot, all above it stay
+    -- played
     pub stays_played : (key : Option K) (new : List ℕ) (p : ℕ) → IsOnPath (length keys + slot) p → get_or nodes p 0 ≢ slot → ((j : ℕ) → j < 2 * p → get_or new j 0 ≡ get_or nodes j 0) → HasLeaves (length (set keys slot key)) new → IsPlayedBut cmp (set keys slot key) new p → IsTree cmp (set keys slot key) new
     stays_played key new p path other same shape rest = record {
       shape = shape;

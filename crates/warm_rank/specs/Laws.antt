@@ -17,30 +17,30 @@ use Rattle.warm_rank.specs.Slots.{key_at, IsLeast}
 abbrev pub DistanceIsPlacesBack : Type 0
 DistanceIsPlacesBack = (S : ReferenceSet) (p : PageId) → StampsAscend (references S) → dist S p ≡ places_back (references S) p
 
--- of two pages, the one with the lesser key leaves first: keys compare as their pages do
-abbrev pub KeysRank : Type 0
-KeysRank = (S : ReferenceSet) (p q : PageId) → key_cmp (rank_key p (hist S p)) (rank_key q (hist S q)) ≡ eviction_cmp S p q
+-- of two pages, the one with the lesser key is evicted first: keys compare as their pages do
+abbrev pub KeysOrderPages : Type 0
+KeysOrderPages = (S : ReferenceSet) (p q : PageId) → key_cmp (rank_key p (hist S p)) (rank_key q (hist S q)) ≡ eviction_cmp S p q
 
--- of two different pages exactly one leaves before the other: the order is total, transitive and
--- irreflexive
+-- of two different pages exactly one is evicted before the other: the order is total, transitive
+-- and irreflexive
 pub record OrdersPages (S : ReferenceSet) : Type 0 where
   pub total : (p q : PageId) → p ≢ q → IsBefore S p q ⊎ IsBefore S q p
   pub transitive : (p q r : PageId) → IsBefore S p q → IsBefore S q r → IsBefore S p r
   pub irreflexive : (p : PageId) → IsBefore S p p → ⊥
 
-abbrev pub LeavingIsOrder : Type 0
-LeavingIsOrder = (S : ReferenceSet) → OrdersPages S
+abbrev pub EvictionIsOrder : Type 0
+EvictionIsOrder = (S : ReferenceSet) → OrdersPages S
 
--- over both sets any two pages leave in the same order, and the warm-up lists are the same
+-- over both sets any two pages are evicted in the same order, and the warm-up lists are the same
 pub record RankAlike (S T : ReferenceSet) : Type 0 where
-  pub leave_alike : (p q : PageId) → eviction_cmp S p q ≡ eviction_cmp T p q
-  pub warm_alike : (n : ℕ) → hottest_pages S n ≡ hottest_pages T n
+  pub evicted_alike : (p q : PageId) → eviction_cmp S p q ≡ eviction_cmp T p q
+  pub hottest_alike : (n : ℕ) → hottest_pages S n ≡ hottest_pages T n
 
 -- the references that a history holds rank pages as those for which it stands do
-abbrev pub OrderKept : Type 0
-OrderKept = (h : HistoryView) (S : ReferenceSet) → StandsFor h S → RankAlike (references_of h) S
+abbrev pub TruncationKeepsOrder : Type 0
+TruncationKeepsOrder = (h : HistoryView) (S : ReferenceSet) → StandsFor h S → RankAlike (references_of h) S
 
--- lists of the same references rank pages alike
+-- sets of the same references rank pages alike
 abbrev pub SameReferencesRankAlike : Type 0
 SameReferencesRankAlike = (S T : ReferenceSet) → SameReferences S T → RankAlike S T
 
@@ -71,6 +71,7 @@ pub record IsFarthest (S : ReferenceSet) (U : List PageId) (v : PageId) : Type 0
   pub one_of : Contains U v
   pub farthest : (p : PageId) → Contains U p → IsNotFarther (dist S p) (dist S v)
 
--- the victim over what a history holds is one of the pages farthest back over all references for which it stands
+-- the victim over what a history holds is one of the pages farthest back over all references for
+-- which it stands
 abbrev pub VictimIsFarthest : Type 0
 VictimIsFarthest = (h : HistoryView) (S : ReferenceSet) → StandsFor h S → (U : List PageId) (v : PageId) → IsVictim (references_of h) U (Some v) → IsFarthest S U v

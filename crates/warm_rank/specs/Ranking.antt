@@ -1,4 +1,4 @@
--- In which order pages leave: by backward 2-distance, counted over a list of references.
+-- The order in which pages are evicted: by backward 2-distance, counted over a set of references.
 use Rattle.std.specs.Prelude.{◌≡◌, ◌≢◌, ℕ, List, [], ◌∷◌, Option, Some, None, count_by, take, Contains, MatchOption}
 use Rattle.std.specs.Option.{option_cmp}
 use Rattle.std.specs.Ordering.{is_lt, nat_cmp, on, then_cmp, flip_args}
@@ -43,18 +43,19 @@ farther_cmp = option_cmp (flip_args nat_cmp)
 abbrev pub older_cmp : Option Stamp → Option Stamp → Ordering
 older_cmp = option_cmp stamp_cmp
 
--- the order in which pages leave: the greatest distance first, of equal ones the oldest latest stamp, then the least page
+-- the eviction order: the greatest distance first, of equal ones the oldest latest stamp, then the
+-- least page
 unfoldable pub eviction_cmp : ReferenceSet → PageId → PageId → Ordering
 eviction_cmp S = then_cmp (on (dist S) farther_cmp) (then_cmp (on (latest S) older_cmp) page_cmp)
 
--- the page p leaves before the page q
+-- the page p is evicted before the page q
 abbrev pub IsBefore : ReferenceSet → PageId → PageId → Type 0
 IsBefore S p q = eviction_cmp S p q ≡ Less
 
--- the page of U that leaves before every other page of U; none where U is empty
+-- the page of U that is evicted before every other page of U; none where U is empty
 abbrev pub IsVictim : ReferenceSet → List PageId → Option PageId → Type 0
 IsVictim S U victim = MatchOption victim (U ≡ []) (λ p. Contains U p × ((q : PageId) → Contains U q → q ≢ p → IsBefore S p q))
 
--- the n pages named in S that leave last, the last of all first
+-- the n pages named in S that are evicted last, the last of all first
 abbrev pub hottest_pages : ReferenceSet → ℕ → List PageId
 hottest_pages S n = take n (distinct (flip_args (eviction_cmp S)) (pages S))

@@ -1,9 +1,8 @@
-//! The laws of the eviction order, in which pages leave. Each is a function without a body, whose
-//! contract is the law.
+//! The laws of the eviction order. Each is a function without a body, whose contract is the law.
 ghost use Rattle.std.specs.Prelude.{◌≡◌};
 ghost use Rattle.warm_rank.specs.declared.RankKey.{RankKey};
 ghost use Rattle.warm_rank.specs.Keys.{key_cmp};
-ghost use Rattle.warm_rank.specs.Laws.{DistanceIsPlacesBack, KeysRank, LeavingIsOrder, LeastKeyIsVictim, OrderKept, SameReferencesRankAlike, VictimIsFarthest};
+ghost use Rattle.warm_rank.specs.Laws.{DistanceIsPlacesBack, KeysOrderPages, EvictionIsOrder, LeastKeyIsVictim, TruncationKeepsOrder, SameReferencesRankAlike, VictimIsFarthest};
 
 use crate::RankKey;
 
@@ -18,14 +17,15 @@ pub fn distance_is_places_back()
     ensures { DistanceIsPlacesBack }
 {}
 
-/// Keys compare as their pages leave: of two pages, the one with the lesser key leaves first.
+/// Keys compare in the eviction order of their pages: of two pages, the one with the lesser key is
+/// evicted first.
 pub fn keys_order_pages()
-    ensures { KeysRank }
+    ensures { KeysOrderPages }
 {}
 
-/// The order in which pages leave is total on pages that differ.
+/// The eviction order is total on pages that differ.
 pub fn eviction_is_order()
-    ensures { LeavingIsOrder }
+    ensures { EvictionIsOrder }
 {}
 
 /// The page in the slot of the least key is the victim among the pages in the slots.
@@ -33,12 +33,13 @@ pub fn least_key_is_victim()
     ensures { LeastKeyIsVictim }
 {}
 
-/// The two stamps of each page that a history keeps rank pages, and list them for a warm-up, as all references do.
+/// The two stamps of each page that a history keeps rank pages, and list them for a warm-up, as all
+/// references do.
 pub fn truncation_keeps_order()
-    ensures { OrderKept }
+    ensures { TruncationKeepsOrder }
 {}
 
-/// Lists of the same references rank pages alike and have the same warm-up lists.
+/// Sets of the same references rank pages alike and have the same warm-up lists.
 pub fn same_references_rank_alike()
     ensures { SameReferencesRankAlike }
 {}

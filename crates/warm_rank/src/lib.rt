@@ -2,13 +2,13 @@
 //! after a failover.
 //!
 //! The policy is LRU-2 (O'Neil, O'Neil, Weikum, "The LRU-K Page Replacement Algorithm For Database
-//! Disk Buffering", SIGMOD 1993): the page of the greatest backward 2-distance leaves first. The
-//! definitions count that distance over a list of references; the code compares a [`RankKey`] made
-//! of the two stamps that a history keeps, and the laws show that the two orders are the same.
+//! Disk Buffering", SIGMOD 1993): the page of the greatest backward 2-distance is evicted first.
+//! The definitions count that distance over a set of references; the code compares a [`RankKey`]
+//! made of the two stamps that a history keeps, and the laws show that the two orders are the same.
 //!
 //! - [`key_of`] gives the key of a page, [`eviction_order`] compares two pages.
 //! - [`Contest`] keeps a key for each slot of a pool and finds the slot of the least key.
-//! - [`warm_list`] lists the pages that leave last, the hottest first.
+//! - [`warm_list`] lists the pages that are evicted last, the hottest first.
 #![tactic(auto)]
 
 ghost use Rattle.std.specs.Prelude.{◌≡◌, Some};
@@ -33,11 +33,13 @@ pub use warm_up::warm_list;
 /// The maximum number of slots of a contest, and so of frames of a pool.
 pub const MAX_FRAMES: usize = 65_536;
 
-/// The rank of a page, by its two latest stamps. Of two pages, the one with the lesser key leaves first.
+/// The rank of a page, by its two latest stamps. Of two pages, the one with the lesser key is
+/// evicted first.
 ///
-/// The derived order is the eviction order: pages that were never referenced, by page; then pages that were referenced
-/// once, by that stamp, then page; then pages that were referenced twice or more, by the second latest stamp, then the
-/// latest, then page. [`key_of`] makes the key of a page.
+/// The derived order is the eviction order: pages that were never referenced, by page; then pages
+/// that were referenced once, by that stamp, then page; then pages that were referenced twice or
+/// more, by the second latest stamp, then the latest, then page. [`key_of`] makes the key of a
+/// page.
 #[derive(Debug, Clone, Copy, PartialEq, Eq, PartialOrd, Ord)]
 pub enum RankKey {
     /// A page without a known reference.
@@ -97,7 +99,7 @@ fn key_of_referenced(page: PageId, hist: PageHist) -> RankKey
     }
 }
 
-/// Which of two pages leaves first: `Less` where `page` does, `Greater` where `other` does, `Equal`
+/// Which of two pages is evicted first: `Less` where `page` is, `Greater` where `other` is, `Equal`
 /// where they are the same page. Allocation-free.
 pub fn eviction_order(history: &History, page: PageId, other: PageId) -> Ordering
     ensures { (S : ReferenceSet) → StandsFor history.now S → result ≡ eviction_cmp S page other }

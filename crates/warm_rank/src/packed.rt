@@ -6,7 +6,10 @@ ghost use Rattle.std.specs.Prelude.{◌≡◌};
 ghost use Rattle.warm_rank.specs.Packed.{packed_key, packed_page};
 
 use crate::RankKey;
-use warm_stamps::PageId;
+use warm_stamps::{PageId, Stamp};
+
+// The fields of a stamp that isn't known.
+const UNKNOWN: (u64, u16) = (0, 0);
 
 /// The rank of a page. Its order is that of [`RankKey`].
 // Rust compares the fields in this order. A stamp that isn't known is 0 in both its fields.
@@ -27,33 +30,11 @@ impl PackedKey {
         ensures { result ≡ packed_key key }
     {
         match key {
-            RankKey::Never { page } => PackedKey {
-                stamps: 0,
-                older_time: 0,
-                older_replica: 0,
-                later_time: 0,
-                later_replica: 0,
-                dev: page.dev,
-                no: page.no,
-            },
-            RankKey::Once { last, page } => PackedKey {
-                stamps: 1,
-                older_time: last.time,
-                older_replica: last.replica.get(),
-                later_time: 0,
-                later_replica: 0,
-                dev: page.dev,
-                no: page.no,
-            },
-            RankKey::Twice { prev, last, page } => PackedKey {
-                stamps: 2,
-                older_time: prev.time,
-                older_replica: prev.replica.get(),
-                later_time: last.time,
-                later_replica: last.replica.get(),
-                dev: page.dev,
-                no: page.no,
-            },
+            RankKey::Never { page } => packed(0, UNKNOWN, UNKNOWN, page),
+            RankKey::Once { last, page } => packed(1, fields_of(last), UNKNOWN, page),
+            RankKey::Twice { prev, last, page } => {
+                packed(2, fields_of(prev), fields_of(last), page)
+            }
         }
     }
 
@@ -65,5 +46,35 @@ impl PackedKey {
             dev: self.dev,
             no: self.no,
         }
+    }
+}
+
+// The time and the replica of a stamp.
+fn fields_of(stamp: Stamp) -> (u64, u16)
+    ensures { result ≡ (stamp.time, stamp.replica) }
+{
+    (stamp.time, stamp.replica.get())
+}
+
+// The key with this number of known stamps, the fields of both, and this page.
+fn packed(stamps: u8, older: (u64, u16), later: (u64, u16), page: PageId) -> PackedKey
+    ensures { result ≡ record {
+      stamps = stamps;
+      older_time = older.0;
+      older_replica = older.1;
+      later_time = later.0;
+      later_replica = later.1;
+      dev = page.dev;
+      no = page.no;
+    } }
+{
+    PackedKey {
+        stamps,
+        older_time: older.0,
+        older_replica: older.1,
+        later_time: later.0,
+        later_replica: later.1,
+        dev: page.dev,
+        no: page.no,
     }
 }

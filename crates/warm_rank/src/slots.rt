@@ -10,7 +10,8 @@ use std::alloc::{AllocError, Global};
 use std::marker::Model;
 use warm_stamps::PageId;
 
-/// Slots that each may have a key, and the slot of the least of them. Contracts see the list of the keys.
+/// Slots that each may have a key, and the slot of the least of them. Contracts see the list of the
+/// keys.
 ///
 /// A pool sets the key of a slot whose page may be evicted; the least key is then that of the
 /// victim. All memory is allocated when the contest is made. It is a winner tree (Knuth, The Art of

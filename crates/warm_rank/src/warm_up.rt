@@ -11,7 +11,8 @@ use std::alloc::{AllocError, Global};
 use warm_history::{Entry, History, Unordered};
 use warm_stamps::PageId;
 
-/// The warm-up list: the `n` pages of a history that leave last, the hottest first; all pages where it has fewer.
+/// The warm-up list: the `n` pages of a history that are evicted last, the hottest first; all pages
+/// where it has fewer.
 ///
 /// Time grows with the number of pages, and with `n log n`.
 ///
@@ -21,16 +22,14 @@ pub fn warm_list(alloc: Global, history: &History, n: usize) -> Result<Vec<PageI
     ensures { IfOk result (λ pages. IsWarmUp history.now n pages.items) }
 {
     let mut keys = keys_of(alloc, history)?;
-    let pages = hottest_pages(alloc, &mut keys, n)?;
-    Ok(pages)
+    hottest_pages(alloc, &mut keys, n)
 }
 
 // The keys of all entries, in any order.
 fn keys_of(alloc: Global, history: &History) -> Result<Vec<PackedKey>, AllocError>
     ensures { IfOk result (λ keys. IsPermutation (packed_keys history.now) keys.items) }
 {
-    let keys = keys_of_entries(alloc, history.len(), history.unordered())?;
-    Ok(keys)
+    keys_of_entries(alloc, history.len(), history.unordered())
 }
 
 // The keys of entries; capacity for `count` of them is allocated first.
@@ -61,9 +60,9 @@ fn hottest_pages(alloc: Global, keys: &mut [PackedKey], n: usize) -> Result<Vec<
     ensures { IfOk result (λ pages. IsWarmUpOfKeys keys.old n pages.items) }
 {
     if n < keys.len() {
-        return falling_pages(alloc, greatest(keys, n));
+        return descending_pages(alloc, greatest(keys, n));
     }
-    falling_pages(alloc, keys)
+    descending_pages(alloc, keys)
 }
 
 // The n greatest items, in any order.
@@ -77,7 +76,7 @@ fn greatest<K: Ord>(items: &mut [K], n: usize) -> &mut [K]
 }
 
 // The pages of the keys, that of the greatest key first; the keys are sorted.
-fn falling_pages(alloc: Global, keys: &mut [PackedKey]) -> Result<Vec<PageId>, AllocError>
+fn descending_pages(alloc: Global, keys: &mut [PackedKey]) -> Result<Vec<PageId>, AllocError>
     ensures same_keys { IsPermutation keys.old keys.new }
     ensures sorted { IsSorted packed_cmp keys.new }
     ensures pages { IfOk result (λ pages. pages.items ≡ map packed_page (reverse keys.new)) }

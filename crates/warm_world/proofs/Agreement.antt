@@ -4,7 +4,7 @@ use Rattle.std.proofs.lemmas.List.{get_or-map}
 use Rattle.warm_history.specs.Histories.{entries_of, history_of_entries, history}
 use Rattle.warm_history.specs.References.{SameReferences}
 use Rattle.warm_history.proofs.SetLemmas.{history_of_set}
-use Rattle.warm_rank.proofs.LeavingLemmas.{same_references_rank_alike}
+use Rattle.warm_rank.proofs.EvictionLemmas.{same_references_rank_alike}
 use Rattle.warm_gossip.specs.State.{NodeView}
 use Rattle.warm_world.specs.Views.{ReplicaView, WorldView}
 use Rattle.warm_world.specs.Lists.{index_of_number}

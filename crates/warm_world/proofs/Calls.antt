@@ -2,7 +2,7 @@
 use Rattle.std.proofs.Common.{◌≡◌, ℕ, List, ap, refl, ◌∙◌}
 use Rattle.std.proofs.lemmas.List.{set-get_or}
 use Rattle.warm_history.specs.Histories.{history}
-use Rattle.warm_rank.proofs.LeavingLemmas.{truncation_keeps_order}
+use Rattle.warm_rank.proofs.EvictionLemmas.{truncation_keeps_order}
 use Rattle.warm_gossip.specs.declared.fault.NodeFault.TheVariants as node
 use Rattle.warm_gossip.specs.State.{NodeView}
 use Rattle.warm_pool.specs.View.{PoolView}
@@ -33,7 +33,7 @@ next_of_reply old (Restart i) answer new named r = absurd r
 next_of_reply old (Horizon i time) answer new named r = absurd r
 next_of_reply old (Show i) answer new named r = absurd r
 next_of_reply old (Warm i n) (Refused (Node node.Memory)) new named r = (named, unchanged old new i r.0 r.1 r.2)
-next_of_reply old (Warm i n) (Pages pages) new named r = (named, (r.1.0 ∙ (truncation_keeps_order (history (reach_of old i)) (reach_of old i) refl).warm_alike n, unchanged old new i r.0 r.1.1 r.2))
+next_of_reply old (Warm i n) (Pages pages) new named r = (named, (r.1.0 ∙ (truncation_keeps_order (history (reach_of old i)) (reach_of old i) refl).hottest_alike n, unchanged old new i r.0 r.1.1 r.2))
 next_of_reply old event (Refused NoSuchReplica) new named r = absurd r
 next_of_reply old event (Refused NoSuchWorker) new named r = absurd r
 next_of_reply old event (Refused NoSuchFrame) new named r = absurd r

@@ -98,6 +98,6 @@ fn prove_pools<D: PageDevice>(replicas: &[Replica<D>])
     ensures { ArePools (map (λ r. r.node) replicas.now) }
 {
     for replica in replicas {
-        replica.node.pool().is_pool();
+        replica.node.pool().prove_is_pool();
     }
 }

@@ -8,8 +8,8 @@ use warm_history::History;
 use warm_pool::Pool;
 use warm_stamps::PageId;
 
-// Both pages were referenced twice, page 1 first and last. Since 60 page 1 was referenced at 100 and page 2 at 60, and since 101
-// neither was.
+// Both pages were referenced twice, page 1 first and last. Since 60 page 1 was referenced at 100
+// and page 2 at 60, and since 101 neither was.
 const BOTH: [SeenAt; 4] = [(0, 1, 1, 1), (0, 1, 100, 1), (0, 2, 50, 1), (0, 2, 60, 1)];
 
 // Raises the horizon, and then updates all ranks.

@@ -1,7 +1,7 @@
 use Rattle.std.proofs.Common.{◌≡◌, ℕ, ◌<◌, IsTrue}
 use Rattle.warm_pool.specs.Frames.{nth_frame}
-use Rattle.warm_pool.specs.WritingBack.{is_chosen}
+use Rattle.warm_pool.specs.WritingBack.{selects}
 use Rattle.warm_pool.proofs.close.is_fixed.Given as goal
 
 abbrev pub invariant-loop-at : goal.invariant-loop-at
-invariant-loop-at l = (i : ℕ) → i < l.at → IsTrue (is_chosen l.which (nth_frame l.frames.frames i).page) → (nth_frame l.frames.frames i).fixes ≡ 0
+invariant-loop-at l = (i : ℕ) → i < l.at → IsTrue (selects l.which (nth_frame l.frames.frames i).page) → (nth_frame l.frames.frames i).fixes ≡ 0

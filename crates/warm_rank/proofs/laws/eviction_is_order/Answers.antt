@@ -1,4 +1,4 @@
-use Rattle.warm_rank.proofs.LeavingLemmas.{eviction_is_order}
+use Rattle.warm_rank.proofs.EvictionLemmas.{eviction_is_order}
 use Rattle.warm_rank.proofs.laws.eviction_is_order.Goals as goal
 
 pub returns : goal.returns

@@ -1,4 +1,4 @@
-use Rattle.warm_rank.proofs.LeavingLemmas.{truncation_keeps_order}
+use Rattle.warm_rank.proofs.EvictionLemmas.{truncation_keeps_order}
 use Rattle.warm_rank.proofs.laws.truncation_keeps_order.Goals as goal
 
 pub returns : goal.returns

@@ -9,15 +9,15 @@ use Rattle.warm_rank.proofs.warm_up.hottest_pages.Goals as goal
 pub returns-then-n-keys : goal.returns-then-n-keys
 returns-then-n-keys c =
     let top = c.greatest.result.now in
-    let sorted = c.falling_pages.new.keys in
+    let sorted = c.descending_pages.new.keys in
     let great : AreGreatest packed_cmp c.args.keys.now c.args.n top = subst (λ cmp. AreGreatest cmp c.args.keys.now c.args.n top) derived_packed c.greatest.ensures in
-    IfOk-weaker c.falling_pages.result _ _
-    (λ pages is_pages S given. is_pages ∙ warm_from_greatest S c.args.n c.args.keys.now top sorted given great c.falling_pages.ensures.same_keys c.falling_pages.ensures.sorted)
-    c.falling_pages.ensures.pages
+    IfOk-weaker c.descending_pages.result _ _
+    (λ pages is_pages S given. is_pages ∙ warm_from_greatest S c.args.n c.args.keys.now top sorted given great c.descending_pages.ensures.same_keys c.descending_pages.ensures.sorted)
+    c.descending_pages.ensures.pages
 
 pub returns : goal.returns
 returns c =
-    let sorted = c.falling_pages-2.new.keys in
-    IfOk-weaker c.falling_pages-2.result _ _
-    (λ pages is_pages S given. is_pages ∙ warm_from_all S c.args.n c.args.keys.now sorted given (omega arith) c.falling_pages-2.ensures.same_keys c.falling_pages-2.ensures.sorted)
-    c.falling_pages-2.ensures.pages
+    let sorted = c.descending_pages-2.new.keys in
+    IfOk-weaker c.descending_pages-2.result _ _
+    (λ pages is_pages S given. is_pages ∙ warm_from_all S c.args.n c.args.keys.now sorted given (omega arith) c.descending_pages-2.ensures.same_keys c.descending_pages-2.ensures.sorted)
+    c.descending_pages-2.ensures.pages

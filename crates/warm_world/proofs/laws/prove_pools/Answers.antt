@@ -13,5 +13,5 @@ loop-replica-preserved g c = λ k other low. elim (cases_lt k c.loop-replica.rep
       let here : get_or (map (λ r. r.node) c.args.replicas.now) c.loop-replica.replica-index other ≡ c.replica-item.result.node =
       get_or-map (λ r. r.node) c.args.replicas.now c.loop-replica.replica-index c.replica-item.result other c.loop-replica-test.true ∙ ap (λ r. r.node) (sym c.replica-item.is) in
       subst (λ i. IsPool (get_or (map (λ r. r.node) c.args.replicas.now) i other).pool) (sym same)
-      (subst (λ (n : NodeState). IsPool n.pool) (sym here) (subst IsPool c.pool.ensures c.is_pool.ensures))
+      (subst (λ (n : NodeState). IsPool n.pool) (sym here) (subst IsPool c.pool.ensures c.prove_is_pool.ensures))
 ]

@@ -1,5 +1,5 @@
 use Rattle.std.proofs.Common.{subst}
-use Rattle.warm_pool.specs.Residents.{IsPlaceOf}
+use Rattle.warm_pool.specs.PageTable.{IsPlaceOf}
 use Rattle.warm_pool.proofs.FrameParts.{seen_pages}
 use Rattle.warm_pool.proofs.frames.Frames.find.Goals as goal
 

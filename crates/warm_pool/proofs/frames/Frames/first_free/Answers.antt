@@ -1,5 +1,5 @@
 use Rattle.std.proofs.Common.{subst}
-use Rattle.warm_pool.specs.Residents.{IsFirstFree}
+use Rattle.warm_pool.specs.PageTable.{IsFirstFree}
 use Rattle.warm_pool.proofs.FrameParts.{seen_pages}
 use Rattle.warm_pool.proofs.frames.Frames.first_free.Goals as goal
 

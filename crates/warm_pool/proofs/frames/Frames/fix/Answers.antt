@@ -16,7 +16,7 @@ overflow_add-status c =
 
 pub invariant_of-self : goal.invariant_of-self
 invariant_of-self c =
-    let page = get_or c.self.inside.residents c.args.at None in
+    let page = get_or c.self.inside.page_table c.args.at None in
     let body = get_or c.self.inside.frames.items c.args.at (fresh_body []) in
     stay_tied c.self.invariant (record { pages = page_stays _ c.args.at; statuses = refl; bodies = body_stays _ c.args.at })
     (c.set.ensures ∙ ap (set c.self.inside.contest c.args.at) (sym (fixed_key c.index_mut-status.result.now.fixes (rank_in page body.key))))
@@ -24,7 +24,7 @@ invariant_of-self c =
 pub returns : goal.returns
 returns c =
     let is = status_is c.self.invariant c.self.view_is c.args.at c.requires.there c.index_mut-status.result.now c.index_mut-status.ensures.value in
-    let page = get_or c.self.inside.residents c.args.at None in
+    let page = get_or c.self.inside.page_table c.args.at None in
     let body = get_or c.self.inside.frames.items c.args.at (fresh_body []) in
     becomes c.self.invariant c.self.view_is c.args.at c.requires.there (record { pages = page_stays _ c.args.at; statuses = refl; bodies = body_stays _ c.args.at })
     fixed (ap (λ s. frame_of page (record s { fixes = s.fixes + 1 }) body) is)

@@ -19,7 +19,7 @@ index_mut-status-requires c = has_status c.self.invariant c.self.view_is c.args.
 
 pub invariant_of-self : goal.invariant_of-self
 invariant_of-self c =
-    let page = get_or c.self.inside.residents c.args.at None in
+    let page = get_or c.self.inside.page_table c.args.at None in
     let status = get_or c.self.inside.statuses.items c.args.at unused_status in
     let now = c.index_mut-status.result.now in
     let status_now = status_is c.self.invariant c.self.view_is c.args.at c.requires.there now c.index_mut-status.ensures.value in
@@ -31,7 +31,7 @@ invariant_of-self c =
 
 pub returns : goal.returns
 returns c =
-    let page = get_or c.self.inside.residents c.args.at None in
+    let page = get_or c.self.inside.page_table c.args.at None in
     let status = get_or c.self.inside.statuses.items c.args.at unused_status in
     let now = c.index_mut-status.result.now in
     let status_now = status_is c.self.invariant c.self.view_is c.args.at c.requires.there now c.index_mut-status.ensures.value in

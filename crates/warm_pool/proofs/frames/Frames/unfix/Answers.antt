@@ -18,7 +18,7 @@ index-requires c = has_body c.self.invariant c.self.view_is c.args.at c.requires
 
 pub invariant_of-self : goal.invariant_of-self
 invariant_of-self c =
-    let page = get_or c.self.inside.residents c.args.at None in
+    let page = get_or c.self.inside.page_table c.args.at None in
     let body = get_or c.self.inside.frames.items c.args.at (fresh_body []) in
     let fixes = c.index_mut-status.result.now.fixes - 1 in
     let is = body_is c.self.invariant c.self.view_is c.args.at c.requires.there _ c.index.result.now refl c.index.ensures in
@@ -30,7 +30,7 @@ invariant_of-self c =
 pub returns : goal.returns
 returns c =
     let is = status_is c.self.invariant c.self.view_is c.args.at c.requires.there c.index_mut-status.result.now c.index_mut-status.ensures.value in
-    let page = get_or c.self.inside.residents c.args.at None in
+    let page = get_or c.self.inside.page_table c.args.at None in
     let body = get_or c.self.inside.frames.items c.args.at (fresh_body []) in
     becomes c.self.invariant c.self.view_is c.args.at c.requires.there (record { pages = page_stays _ c.args.at; statuses = refl; bodies = body_stays _ c.args.at })
     unfixed (ap (λ s. frame_of page (record s { fixes = s.fixes - 1 }) body) is)

@@ -4,12 +4,12 @@ use Rattle.warm_pool.proofs.Loads.{ok_if_no_err, err_if, on_ok, on_err}
 use Rattle.warm_pool.proofs.Arrivals.{fetched_in, fetched_pool, fetch_failed, leave_failed, still_there, still_below, still_size, arrived_pool, loads_into}
 use Rattle.warm_pool.proofs.pool.Pool.load_into.Goals as goal
 
-pub put-requires-clause-there : goal.put-requires-clause-there
-put-requires-clause-there g c =
+pub install-requires-clause-there : goal.install-requires-clause-there
+install-requires-clause-there g c =
     still_there (fetched_in c.args.at c.self.view_is c.self.invariant c.requires.there c.read_page.ensures.len c.requires.device c.requires.known c.requires.absent c.read_page.ensures.call) (ok_if_no_err _ c.if-is_err.ensures.value) c.write_back.new.frames c.write_back.ensures.fit (on_ok _ (ok_if_no_err _ c.if-is_err-2.ensures.value) c.write_back.ensures.done)
 
-pub put-requires-clause-below : goal.put-requires-clause-below
-put-requires-clause-below g c =
+pub install-requires-clause-below : goal.install-requires-clause-below
+install-requires-clause-below g c =
     still_below (fetched_in c.args.at c.self.view_is c.self.invariant c.requires.there c.read_page.ensures.len c.requires.device c.requires.known c.requires.absent c.read_page.ensures.call) (ok_if_no_err _ c.if-is_err.ensures.value) c.write_back.new.frames c.write_back.ensures.fit (on_ok _ (ok_if_no_err _ c.if-is_err-2.ensures.value) c.write_back.ensures.done) _ (subst (λ s. (nth_frame s.frames c.args.at).generation < 18446744073709551615) (sym c.self.view_is) c.requires.below)
 
 pub returns-then-is_err-clause-refused : goal.returns-then-is_err-clause-refused
@@ -26,8 +26,8 @@ returns-then-is_err-2-clause-refused g c = rw (← c.self.view_is) (
 
 pub invariant_of-self-2 : goal.invariant_of-self-2
 invariant_of-self-2 g c =
-    arrived_pool (fetched_in c.args.at c.self.view_is c.self.invariant c.requires.there c.read_page.ensures.len c.requires.device c.requires.known c.requires.absent c.read_page.ensures.call) (ok_if_no_err _ c.if-is_err.ensures.value) c.write_back.new.frames c.write_back.ensures.fit (on_ok _ (ok_if_no_err _ c.if-is_err-2.ensures.value) c.write_back.ensures.done) c.args.key c.args.fixes c.read_page.new.into.items refl c.put.new.self _ c.put.ensures.frames (ap length c.put.ensures.given ∙ still_size (fetched_in c.args.at c.self.view_is c.self.invariant c.requires.there c.read_page.ensures.len c.requires.device c.requires.known c.requires.absent c.read_page.ensures.call) (ok_if_no_err _ c.if-is_err.ensures.value) c.write_back.new.frames c.write_back.ensures.fit (on_ok _ (ok_if_no_err _ c.if-is_err-2.ensures.value) c.write_back.ensures.done))
+    arrived_pool (fetched_in c.args.at c.self.view_is c.self.invariant c.requires.there c.read_page.ensures.len c.requires.device c.requires.known c.requires.absent c.read_page.ensures.call) (ok_if_no_err _ c.if-is_err.ensures.value) c.write_back.new.frames c.write_back.ensures.fit (on_ok _ (ok_if_no_err _ c.if-is_err-2.ensures.value) c.write_back.ensures.done) c.args.key c.args.fixes c.read_page.new.into.items refl c.install.new.self _ c.install.ensures.frames (ap length c.install.ensures.given ∙ still_size (fetched_in c.args.at c.self.view_is c.self.invariant c.requires.there c.read_page.ensures.len c.requires.device c.requires.known c.requires.absent c.read_page.ensures.call) (ok_if_no_err _ c.if-is_err.ensures.value) c.write_back.new.frames c.write_back.ensures.fit (on_ok _ (ok_if_no_err _ c.if-is_err-2.ensures.value) c.write_back.ensures.done))
 
 pub returns-clause-put : goal.returns-clause-put
 returns-clause-put g c = rw (← c.self.view_is) (
-    loads_into (fetched_in c.args.at c.self.view_is c.self.invariant c.requires.there c.read_page.ensures.len c.requires.device c.requires.known c.requires.absent c.read_page.ensures.call) (ok_if_no_err _ c.if-is_err.ensures.value) c.write_back.new.frames c.write_back.ensures.fit (on_ok _ (ok_if_no_err _ c.if-is_err-2.ensures.value) c.write_back.ensures.done) c.args.key c.args.fixes c.read_page.new.into.items refl c.put.new.self _ c.put.ensures.frames)
+    loads_into (fetched_in c.args.at c.self.view_is c.self.invariant c.requires.there c.read_page.ensures.len c.requires.device c.requires.known c.requires.absent c.read_page.ensures.call) (ok_if_no_err _ c.if-is_err.ensures.value) c.write_back.new.frames c.write_back.ensures.fit (on_ok _ (ok_if_no_err _ c.if-is_err-2.ensures.value) c.write_back.ensures.done) c.args.key c.args.fixes c.read_page.new.into.items refl c.install.new.self _ c.install.ensures.frames)

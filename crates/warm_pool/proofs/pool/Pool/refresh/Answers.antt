@@ -6,7 +6,7 @@ loop-item-init g c = none_renewed _ _ _
 
 pub loop-item-preserved : goal.loop-item-preserved
 loop-item-preserved g c =
-    named_renewed _ g.T.NamesPage.named _ _ _ c.loop-item.invariant c.loop-item-test.true c.item-item.is c.named.ensures c.renew.ensures.same c.renew.ensures.kept c.renew.ensures.keys
+    named_renewed _ g.T.NamesPage.named _ _ _ c.loop-item.invariant c.loop-item-test.true c.item-item.is c.named.ensures c.update_rank.ensures.same c.update_rank.ensures.kept c.update_rank.ensures.keys
 
 pub returns-clause-ranked : goal.returns-clause-ranked
 returns-clause-ranked g c history ranked agree =

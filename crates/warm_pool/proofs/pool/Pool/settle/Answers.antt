@@ -1,22 +1,23 @@
-use Rattle.std.proofs.Common.{None, refl, arith}
+use Rattle.std.proofs.Common.{refl, arith}
 use Rattle.std.proofs.lemmas.List.{length-map}
 use Rattle.warm_pool.proofs.FlushLemmas.{on_err}
 use Rattle.warm_pool.proofs.SettleLemmas.{ranked_to, seen_down, flush_down, flushed_alike, flushed_failures, flushed_quiet, stopped_alike, flush_stops_at, alike_kept}
 use Rattle.warm_pool.proofs.Keeps.{devices_keep_pool}
+use Rattle.warm_pool.specs.declared.selection.Devices.TheVariants.{All}
 use Rattle.warm_pool.proofs.pool.Pool.settle.Goals as goal
 
-pub returns-in_err-clean_chosen-clause-ranked : goal.returns-in_err-clean_chosen-clause-ranked
-returns-in_err-clean_chosen-clause-ranked g c = λ h ranked. let stopped = c.in_err-clean_chosen.ensures.stopped in ranked_to None stopped.frame _ _ h stopped.frames ranked
+pub returns-in_err-clean_selected-clause-ranked : goal.returns-in_err-clean_selected-clause-ranked
+returns-in_err-clean_selected-clause-ranked g c = λ h ranked. let stopped = c.in_err-clean_selected.ensures.stopped in ranked_to All stopped.frame _ _ h stopped.frames ranked
 
 pub invariant_of-self : goal.invariant_of-self
 invariant_of-self g c = devices_keep_pool _ _ (alike_kept _ _ _ (stopped_alike _ _ c.in_err-flush_all.ensures.stopped)) c.self.invariant
 
 pub returns-in_err-flush_all-clause-stopped : goal.returns-in_err-flush_all-clause-stopped
 returns-in_err-flush_all-clause-stopped g c =
-    on_err _ _ (flush_stops_at _ _ _ c.in_err-flush_all.ensures.stopped (seen_down c.self.view_is c.in_ok-clean_chosen.ensures.down) refl (refl, refl))
+    on_err _ _ (flush_stops_at _ _ _ c.in_err-flush_all.ensures.stopped (seen_down c.self.view_is c.in_ok-clean_selected.ensures.down) refl (refl, refl))
 
 pub returns-in_err-flush_all-clause-ranked : goal.returns-in_err-flush_all-clause-ranked
-returns-in_err-flush_all-clause-ranked g c = λ h ranked. ranked_to None _ _ _ h (seen_down c.self.view_is c.in_ok-clean_chosen.ensures.down).becomes ranked
+returns-in_err-flush_all-clause-ranked g c = λ h ranked. ranked_to All _ _ _ h (seen_down c.self.view_is c.in_ok-clean_selected.ensures.down).becomes ranked
 
 pub invariant_of-self-2 : goal.invariant_of-self-2
 invariant_of-self-2 g c = devices_keep_pool _ _ (alike_kept _ _ _ (flushed_alike _ _ _ c.in_ok-flush_all.ensures.flushed)) c.self.invariant
@@ -24,10 +25,10 @@ invariant_of-self-2 g c = devices_keep_pool _ _ (alike_kept _ _ _ (flushed_alike
 pub returns-clause-down : goal.returns-clause-down
 returns-clause-down g c =
     let flushed = c.in_ok-flush_all.ensures.flushed in
-    flush_down None _ _ _ _ (seen_down c.self.view_is c.in_ok-clean_chosen.ensures.down) refl (refl, refl) (flushed_alike _ _ _ flushed) (flushed_failures _ _ _ flushed)
+    flush_down All _ _ _ _ (seen_down c.self.view_is c.in_ok-clean_selected.ensures.down) refl (refl, refl) (flushed_alike _ _ _ flushed) (flushed_failures _ _ _ flushed)
 
 pub returns-clause-flushed : goal.returns-clause-flushed
 returns-clause-flushed g c = flushed_quiet _ _ _ (rw length-map (omega arith)) c.in_ok-flush_all.ensures.flushed
 
 pub returns-clause-ranked : goal.returns-clause-ranked
-returns-clause-ranked g c = λ h ranked. ranked_to None _ _ _ h (seen_down c.self.view_is c.in_ok-clean_chosen.ensures.down).becomes ranked
+returns-clause-ranked g c = λ h ranked. ranked_to All _ _ _ h (seen_down c.self.view_is c.in_ok-clean_selected.ensures.down).becomes ranked

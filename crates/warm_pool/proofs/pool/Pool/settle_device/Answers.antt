@@ -1,44 +1,45 @@
-use Rattle.std.proofs.Common.{Some, refl}
+use Rattle.std.proofs.Common.{refl}
 use Rattle.warm_pool.proofs.FlushLemmas.{on_err}
 use Rattle.warm_pool.proofs.Keeps.{devices_keep_pool}
 use Rattle.warm_pool.proofs.SettleLemmas.{ranked_to, seen_down}
 use Rattle.warm_pool.proofs.RetireLemmas.{down_there, flush_one_down, flush_one_fails, one_kept, elsewhere_cleaned}
+use Rattle.warm_pool.specs.declared.selection.Devices.TheVariants.{One}
 use Rattle.warm_pool.proofs.pool.Pool.settle_device.Goals as goal
 
-pub returns-in_err-clean_chosen-clause-ranked : goal.returns-in_err-clean_chosen-clause-ranked
-returns-in_err-clean_chosen-clause-ranked g c = λ h ranked. let stopped = c.in_err-clean_chosen.ensures.stopped in ranked_to (Some c.args.dev) stopped.frame _ _ h stopped.frames ranked
+pub returns-in_err-clean_selected-clause-ranked : goal.returns-in_err-clean_selected-clause-ranked
+returns-in_err-clean_selected-clause-ranked g c = λ h ranked. let stopped = c.in_err-clean_selected.ensures.stopped in ranked_to (One c.args.dev) stopped.frame _ _ h stopped.frames ranked
 
 pub invariant_of-self : goal.invariant_of-self
 invariant_of-self g c =
     let call = c.in_err-flush_device.ensures in
-    devices_keep_pool _ _ (one_kept _ _ _ c.args.dev call.after (down_there (seen_down c.self.view_is c.in_ok-clean_chosen.ensures.down) c.requires.there) call.becomes call.failed.shape call.failed.contents) c.self.invariant
+    devices_keep_pool _ _ (one_kept _ _ _ c.args.dev call.after (down_there (seen_down c.self.view_is c.in_ok-clean_selected.ensures.down) c.requires.there) call.becomes call.failed.shape call.failed.contents) c.self.invariant
 
 pub returns-in_err-flush_device-clause-stopped : goal.returns-in_err-flush_device-clause-stopped
 returns-in_err-flush_device-clause-stopped g c =
     let call = c.in_err-flush_device.ensures in
-    on_err _ _ (flush_one_fails (Some c.args.dev) _ _ _ _ c.args.dev call.after (seen_down c.self.view_is c.in_ok-clean_chosen.ensures.down) c.requires.there refl (refl, refl) call.becomes call.failed)
+    on_err _ _ (flush_one_fails (One c.args.dev) _ _ _ _ c.args.dev call.after (seen_down c.self.view_is c.in_ok-clean_selected.ensures.down) c.requires.there refl (refl, refl) call.becomes call.failed)
 
 pub returns-in_err-flush_device-clause-ranked : goal.returns-in_err-flush_device-clause-ranked
-returns-in_err-flush_device-clause-ranked g c = λ h ranked. ranked_to (Some c.args.dev) _ _ _ h (seen_down c.self.view_is c.in_ok-clean_chosen.ensures.down).becomes ranked
+returns-in_err-flush_device-clause-ranked g c = λ h ranked. ranked_to (One c.args.dev) _ _ _ h (seen_down c.self.view_is c.in_ok-clean_selected.ensures.down).becomes ranked
 
 pub invariant_of-self-2 : goal.invariant_of-self-2
 invariant_of-self-2 g c =
     let call = c.in_ok-flush_device.ensures in
-    devices_keep_pool _ _ (one_kept _ _ _ c.args.dev call.after (down_there (seen_down c.self.view_is c.in_ok-clean_chosen.ensures.down) c.requires.there) call.becomes call.done.shape call.done.contents) c.self.invariant
+    devices_keep_pool _ _ (one_kept _ _ _ c.args.dev call.after (down_there (seen_down c.self.view_is c.in_ok-clean_selected.ensures.down) c.requires.there) call.becomes call.done.shape call.done.contents) c.self.invariant
 
 pub returns-clause-down : goal.returns-clause-down
 returns-clause-down g c =
     let call = c.in_ok-flush_device.ensures in
-    flush_one_down (Some c.args.dev) _ _ _ _ c.args.dev call.after (seen_down c.self.view_is c.in_ok-clean_chosen.ensures.down) c.requires.there refl (refl, refl) call.becomes call.done
+    flush_one_down (One c.args.dev) _ _ _ _ c.args.dev call.after (seen_down c.self.view_is c.in_ok-clean_selected.ensures.down) c.requires.there refl (refl, refl) call.becomes call.done
 
 pub returns-clause-ranked : goal.returns-clause-ranked
-returns-clause-ranked g c = λ h ranked. ranked_to (Some c.args.dev) _ _ _ h (seen_down c.self.view_is c.in_ok-clean_chosen.ensures.down).becomes ranked
+returns-clause-ranked g c = λ h ranked. ranked_to (One c.args.dev) _ _ _ h (seen_down c.self.view_is c.in_ok-clean_selected.ensures.down).becomes ranked
 
-pub returns-in_err-clean_chosen-clause-elsewhere : goal.returns-in_err-clean_chosen-clause-elsewhere
-returns-in_err-clean_chosen-clause-elsewhere g c = let stopped = c.in_err-clean_chosen.ensures.stopped in elsewhere_cleaned c.args.dev stopped.frame _ _ stopped.frames
+pub returns-in_err-clean_selected-clause-elsewhere : goal.returns-in_err-clean_selected-clause-elsewhere
+returns-in_err-clean_selected-clause-elsewhere g c = let stopped = c.in_err-clean_selected.ensures.stopped in elsewhere_cleaned c.args.dev stopped.frame _ _ stopped.frames
 
 pub returns-in_err-flush_device-clause-elsewhere : goal.returns-in_err-flush_device-clause-elsewhere
-returns-in_err-flush_device-clause-elsewhere g c = elsewhere_cleaned c.args.dev _ _ _ (seen_down c.self.view_is c.in_ok-clean_chosen.ensures.down).becomes
+returns-in_err-flush_device-clause-elsewhere g c = elsewhere_cleaned c.args.dev _ _ _ (seen_down c.self.view_is c.in_ok-clean_selected.ensures.down).becomes
 
 pub returns-clause-elsewhere : goal.returns-clause-elsewhere
-returns-clause-elsewhere g c = elsewhere_cleaned c.args.dev _ _ _ (seen_down c.self.view_is c.in_ok-clean_chosen.ensures.down).becomes
+returns-clause-elsewhere g c = elsewhere_cleaned c.args.dev _ _ _ (seen_down c.self.view_is c.in_ok-clean_selected.ensures.down).becomes

@@ -4,8 +4,8 @@ use Rattle.warm_rank.specs.Ranking.{IsVictim}
 use Rattle.warm_pool.proofs.PoolSteps.{none_leaves, one_leaves}
 use Rattle.warm_pool.proofs.pool.Pool.victim.Goals as goal
 
-pub returns-in_default : goal.returns-in_default
-returns-in_default g c = rw (← c.self.view_is) (λ h r. none_leaves c.self.invariant h r c.in_default.ensures)
+pub returns-in_err-at : goal.returns-in_err-at
+returns-in_err-at g c = rw (← c.self.view_is) (λ h r. subst (IsVictim (references_of h) _) (sym c.from_residual.ensures) (none_leaves c.self.invariant h r c.in_err-at.ensures))
 
 pub returns : goal.returns
-returns g c = rw (← c.self.view_is) (λ h r. subst (IsVictim (references_of h) _) (sym c.page.ensures) (one_leaves c.self.invariant h r c.in-Some.at c.in-Some.ensures))
+returns g c = rw (← c.self.view_is) (λ h r. subst (IsVictim (references_of h) _) (sym c.page.ensures) (one_leaves c.self.invariant h r c.in_ok-at.at c.in_ok-at.ensures))

@@ -1,0 +1,13 @@
+use Rattle.std.proofs.Common.{◌≡◌, ◌<◌, length, sym, subst}
+use Rattle.warm_pool.specs.Retiring.{AreUnfixed}
+use Rattle.warm_pool.proofs.RetireLemmas.{took_in}
+use Rattle.warm_pool.specs.declared.selection.Devices.TheVariants.{One}
+use Rattle.warm_pool.proofs.pool.Pool.install_device.Goals as goal
+
+pub invariant_of-self : goal.invariant_of-self
+invariant_of-self g c =
+    took_in c.self.inside.frames c.vacate_selected.new.self _ _ _ c.args.dev _ c.self.invariant
+    (subst (λ s. c.args.dev < length s.devices) (sym c.self.view_is) c.requires.there)
+    (subst (λ s. (g.D.PageDevice.state c.args.device).page_size ≡ s.page_size) (sym c.self.view_is) c.requires.sized)
+    (subst (λ s. AreUnfixed (One c.args.dev) s.frames) (sym c.self.view_is) c.requires.unfixed)
+    c.vacate_selected.ensures c.exchange.ensures

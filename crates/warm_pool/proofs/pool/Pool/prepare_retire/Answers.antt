@@ -1,0 +1,37 @@
+use Rattle.std.proofs.Common.{◌∙◌, length, arith, ap, refl, sym, subst}
+use Rattle.std.proofs.lemmas.List.{length-map}
+use Rattle.warm_pool.specs.Retiring.{AreUnfixed}
+use Rattle.warm_pool.proofs.RetireLemmas.{fixed_on, may_retire}
+use Rattle.warm_pool.specs.declared.selection.Devices.TheVariants.{One}
+use Rattle.warm_pool.proofs.pool.Pool.prepare_retire.Goals as goal
+
+pub returns-in-Err-clause-refused : goal.returns-in-Err-clause-refused
+returns-in-Err-clause-refused g c = λ device size.
+    let there = ap (λ s. length s.devices) (sym c.self.view_is) in (
+      may_retire c.args.self.now c.args.dev device (rw there (rw length-map (omega arith)))
+          (size ∙ c.if-page_size.false ∙ c.page_size.ensures ∙ ap (λ s. s.page_size) c.self.view_is)
+          (subst (λ s. AreUnfixed (One c.args.dev) s.frames) c.self.view_is c.if-is_fixed.ensures),
+      c.in-Err.ensures.stopped,
+    )
+
+pub returns-then-dev-len-clause-refused : goal.returns-then-dev-len-clause-refused
+returns-then-dev-len-clause-refused g c = rw (← c.self.view_is) (λ device size. (simp length-map (omega arith), refl))
+
+pub returns-then-page_size-clause-refused : goal.returns-then-page_size-clause-refused
+returns-then-page_size-clause-refused g c = rw (← c.self.view_is) (λ device size.
+    (simp length-map (omega arith), (λ same. c.if-page_size.true (sym size ∙ same ∙ sym c.page_size.ensures)), refl))
+
+pub returns-then-is_fixed-clause-refused : goal.returns-then-is_fixed-clause-refused
+returns-then-is_fixed-clause-refused g c = rw (← c.self.view_is) (λ device size.
+    (simp length-map (omega arith), size ∙ c.if-page_size.false ∙ c.page_size.ensures, fixed_on _ c.args.dev c.self.invariant c.if-is_fixed.ensures, refl))
+
+pub returns-in-Ok-clause-way : goal.returns-in-Ok-clause-way
+returns-in-Ok-clause-way g c =
+    let there = ap (λ s. length s.devices) (sym c.self.view_is) in
+    record {
+      there = rw there (rw length-map (omega arith));
+      size = c.if-page_size.false ∙ c.page_size.ensures ∙ ap (λ s. s.page_size) c.self.view_is;
+      unfixed = subst (λ s. AreUnfixed (One c.args.dev) s.frames) c.self.view_is c.if-is_fixed.ensures;
+      down = c.in-Ok.ensures.down;
+      quiet = c.in-Ok.ensures.flushed;
+    }

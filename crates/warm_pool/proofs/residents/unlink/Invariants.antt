@@ -1,4 +1,0 @@
-use Rattle.warm_pool.proofs.residents.unlink.Given as goal
-
-abbrev pub ghost-last_below : goal.ghost-last_below
-ghost-last_below g a = g.frames
