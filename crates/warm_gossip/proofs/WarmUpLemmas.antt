@@ -43,7 +43,7 @@ pub held_or_not : (p : PageId) (o : Option PageId) → (o ≡ Some p) ⊎ (o ≢
 held_or_not p o = elim (cases_Bool (is_page p o)) [ inl is ↦ inl (page_found p o is) | inr is ↦ inr (λ held. absurd (false≢true (sym is ∙ found_page p o held))) ]
 
 -- a page is in a frame, or in none
-resident_or_absent : (v : PoolView) (p : PageId) → IsResident v p ⊎ IsAbsent v p
+pub resident_or_absent : (v : PoolView) (p : PageId) → IsResident v p ⊎ IsAbsent v p
 resident_or_absent v p = elim (go v.frames) [ inl (k, lt, is) ↦ inl (record { frame = k; there = lt; holds = is }) | inr none ↦ inr none ]
   where
     first : (f : FrameView) (fs : List FrameView) → f.page ≢ Some p → ((k : ℕ) → (get_or fs k no_frame).page ≢ Some p) → (k : ℕ) → (get_or (f ∷ fs) k no_frame).page ≢ Some p

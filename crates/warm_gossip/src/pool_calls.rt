@@ -1,11 +1,9 @@
 //! The calls on a node's pool.
-ghost use Rattle.std.specs.Prelude.{◌≡◌, ◌↔◌, length, IfErr, IfOk, IsTrue, OnErr, OnOk};
+ghost use Rattle.std.specs.Prelude.{◌≡◌, length, IfErr, OnErr, OnOk};
 ghost use Rattle.warm_pool.specs.State.{IsSettled};
 ghost use Rattle.warm_gossip.specs.declared.call.Call.TheVariants.{Pin, Unpin, Read, Write, Victim, Restart};
 ghost use Rattle.warm_gossip.specs.declared.call.Reply.TheVariants.{Pinned, Bytes, Page};
 ghost use Rattle.warm_gossip.specs.Clauses.{Answered, DevicesAnswered, Goes, ReadIntoFails, SameView, NodeWriteBackFails, done};
-ghost use Rattle.warm_gossip.specs.State.{node_view};
-ghost use Rattle.warm_gossip.specs.Step.{IsWithinPage};
 
 use crate::fault::NodeFault;
 use crate::node::Node;
@@ -27,8 +25,9 @@ impl<D: PageDevice> Node<D> {
         ensures step { Answered self.old (Pin page) Pinned result self.new }
         ensures devices { DevicesAnswered self.old (Pin page) Pinned result self.new }
     {
-        self.warm_up.passed = passed_at_pin(&self.pool, self.warm_up.passed, page);
-        Ok(self.pool.pin(page, self.history.history())?)
+        let placed = self.pool.pin_placed(page, self.history.history())?;
+        self.warm_up.passed = passed_at_pin(self.warm_up.passed, placed.evicted);
+        Ok(placed.slot)
     }
 
     /// Removes a pin: the call `Unpin`. Allocation-free.
@@ -56,7 +55,7 @@ impl<D: PageDevice> Node<D> {
         if !self.pool.holds(slot) {
             return Err(NodeFault::StaleSlot);
         }
-        if !self.is_within(at, len) {
+        if !self.pool.is_within(at, len) {
             return Err(NodeFault::Pool(PoolFault::OutOfPage));
         }
         let mut bytes = Vec::from_elem(self.alloc, 0, len)?;
@@ -80,14 +79,6 @@ impl<D: PageDevice> Node<D> {
         }
         self.pool.read(slot, at, into)?;
         Ok(())
-    }
-
-    // Whether `len` bytes from `at` on are within a page.
-    fn is_within(&self, at: usize, len: usize) -> bool
-        ensures { IsTrue result ↔ IsWithinPage (node_view self.now) at len }
-    {
-        let size = self.pool.page_size();
-        at <= size && len <= size - at
     }
 
     /// Writes bytes into the slot's page, from `at` on: the call `Write`. Allocation-free.

@@ -15,7 +15,7 @@ abbrev pub nodes_over : Sizes → ℕ → List (List DeviceState) → List NodeS
 nodes_over s i [] = []
 nodes_over s i (devices ∷ rest) = node_over s i devices ∷ nodes_over s (i + 1) rest
 
--- valid devices for nodes of these sizes: a list for each replica, with pages of the size, none with
--- more devices than a page can name
+-- valid devices for nodes of these sizes: a list for each replica, with pages of the size, none
+-- with more devices than a page can name
 abbrev pub AreUsable : Sizes → List (List DeviceState) → Type 0
 AreUsable s devices = AreFitting s devices × AreFew devices

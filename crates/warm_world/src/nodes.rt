@@ -25,8 +25,9 @@ fn are_few<D: PageDevice>(devices: &[Vec<D>]) -> bool
     true
 }
 
-/// Whether nodes of a setup can be made over these lists of devices: one list for each replica, each
-/// of at most [`warm_pool::MAX_DEVICES`] devices, whose pages have the setup's size. Allocation-free.
+/// Whether nodes of a setup can be made over these lists of devices: one list for each replica,
+/// each of at most [`warm_pool::MAX_DEVICES`] devices, whose pages have the setup's size.
+/// Allocation-free.
 pub fn are_usable<D: PageDevice>(setup: Setup, devices: &[Vec<D>]) -> bool
     ensures { IsTrue result ↔ AreUsable setup (listed D.state devices.now) }
 {
