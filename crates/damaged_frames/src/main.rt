@@ -71,7 +71,7 @@ fn put_message<W: Write>(
             sender,
             request,
             ..
-        } => write!(writer, " want {} {}", sender.get(), request)?,
+        } => write!(writer, " want {} {}", sender.get(), request.bits())?,
     }
     if encode(alloc, message)?.as_slice() == bytes {
         write!(writer, " same")?;

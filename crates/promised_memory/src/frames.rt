@@ -34,7 +34,12 @@ fn is_nothing(alloc: Global, bytes: &[u8], since: u64) -> bool {
 }
 
 fn is_request(alloc: Global, bytes: &[u8], since: u64) -> bool {
-    matches!(decode(alloc, bytes), Ok(Message::Want { horizon, request: 6, .. }) if horizon == since)
+    match decode(alloc, bytes) {
+        Ok(Message::Want {
+            horizon, request, ..
+        }) => horizon == since && request.bits() == 6,
+        _ => false,
+    }
 }
 
 fn is_digests(alloc: Global, bytes: &[u8], since: u64) -> bool {

@@ -9,7 +9,7 @@ use warm_devices::MemDevice;
 use warm_digest::{DigestedHistory, Digests};
 use warm_gossip::{Call, Node, Reply};
 use warm_history::History;
-use warm_stamps::{Bucket, PageId, Reference, ReplicaId, Stamp};
+use warm_stamps::{Bucket, BucketSet, PageId, Reference, ReplicaId, Stamp};
 
 // The number of frames of the node. Its history has as many pages.
 const FRAMES: usize = 2;
@@ -142,7 +142,7 @@ impl Kept {
         )?;
         takes_none(rt, "renew of no bucket")?;
         met.holds(
-            digests.renew(history.history(), 0).is_ok(),
+            digests.renew(history.history(), BucketSet::new()).is_ok(),
             "a renewal of nothing is refused",
         )
     }

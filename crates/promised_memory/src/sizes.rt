@@ -13,7 +13,7 @@ use warm_history::{Entry, History};
 use warm_pool::Slot;
 use warm_rank::{Contest, warm_list};
 use warm_refbuffer::RefBuffer;
-use warm_stamps::{Bucket, PageId, RefList, Reference, ReplicaId, Stamp};
+use warm_stamps::{Bucket, BucketSet, PageId, RefList, Reference, ReplicaId, Stamp};
 
 // The number of pages of a history, and of entries of a frame.
 const PAGES: u64 = 1000;
@@ -190,7 +190,7 @@ fn taught<P: Print>(rt: &P, node: &mut Node<MemDevice>, batch: RefList) -> Resul
     let request = Message::Want {
         sender: replica()?,
         horizon: 0,
-        request: 1,
+        request: BucketSet::from_bits(1),
     };
     asked(
         rt,

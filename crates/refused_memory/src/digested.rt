@@ -6,6 +6,7 @@ use std::alloc::Global;
 use warm_digest::{DigestedHistory, Digests, digests};
 use warm_frames::DigestTable;
 use warm_history::History;
+use warm_stamps::BucketSet;
 
 fn taken(met: &mut Met, alloc: Global, history: &History) -> Result<DigestTable, Ended> {
     let len = history.len();
@@ -25,13 +26,13 @@ fn renewed(met: &mut Met, alloc: Global, whole: &DigestTable) -> Result<(), Ende
     let history = history_of_pages(alloc, 0, 9, 10)?;
     let mut kept = Digests::new(alloc);
     let before = kept.table();
-    if kept.renew(&history, 0x1FF).is_err() {
+    if kept.renew(&history, BucketSet::from_bits(0x1FF)).is_err() {
         met.refuse(
             kept.table() == before,
             "a refused renewal changes no digest",
         )?;
         met.holds(
-            kept.renew(&history, 0x1FF).is_ok(),
+            kept.renew(&history, BucketSet::from_bits(0x1FF)).is_ok(),
             "a renewal is refused again",
         )?;
     }

@@ -9,7 +9,7 @@ use warm_frames::{DIGEST_SIZE, DigestTable, Message};
 use warm_gossip::{Call, Node, NodeFault, Reply};
 use warm_history::PageHist;
 use warm_pool::{MAX_DEVICES, NewPoolFault, Pool, Slot};
-use warm_stamps::{BUCKETS, Bucket, ByteList, PageId, RefList};
+use warm_stamps::{BUCKETS, Bucket, BucketSet, ByteList, PageId, RefList};
 
 // A node of two frames over a device of 8 pages. A refused pool gives the device back, and is made
 // again over it.
@@ -113,7 +113,7 @@ fn digest(horizon: u64) -> Result<Message, Ended> {
 // A request for buckets 1 and 2, by replica 2 with this horizon.
 fn request(horizon: u64) -> Result<Message, Ended> {
     let sender = replica(2)?;
-    let request = 6;
+    let request = BucketSet::from_bits(6);
     Ok(Message::Want {
         sender,
         horizon,

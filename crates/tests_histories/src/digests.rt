@@ -6,6 +6,7 @@ use test_kit::{SeenAt, bucket, history_of, references};
 use warm_digest::{DigestedHistory, Digests, differing, digests};
 use warm_frames::DigestTable;
 use warm_history::History;
+use warm_stamps::BucketSet;
 
 // SHA-256 of the empty byte string.
 const OF_NOTHING: [u8; 32] = [
@@ -109,7 +110,7 @@ fn takes_in_four(rt: &impl Abort, alloc: Global, digested: &mut DigestedHistory)
     assert!(rt; keeps(rt, digested, Pages::All));
 }
 
-// The cached digests follow the horizon as it rises, by a raise or by a frame without entries, and
+// The cached digests follow the horizon as it rises, by a raise or by a message without entries, and
 // don't change for an earlier time.
 fn follow_the_horizon(rt: &impl Abort, digested: &mut DigestedHistory) {
     digested.raise(20);
@@ -139,25 +140,26 @@ fn kept_digests_follow_the_horizon(rt: HostRuntime) {
 fn differing_buckets_are_set_bits(rt: HostRuntime) {
     let empty = digests_of(&rt, rt.alloc(), &[]);
     let one_page = digests_of(&rt, rt.alloc(), &[(0, 1, 10, 1)]);
-    assert!(rt; differing(&one_page, &empty) == 2);
-    assert!(rt; differing(&one_page, &one_page) == 0);
+    assert!(rt; differing(&one_page, &empty).bits() == 2);
+    assert!(rt; differing(&one_page, &one_page).is_empty());
     let more = [(0, 1, 10, 1), (0, 63, 10, 1), (64, 0, 10, 1)];
     let more = digests_of(&rt, rt.alloc(), &more);
-    assert!(rt; differing(&more, &one_page) == 0x8000_0000_0000_0001);
+    assert!(rt; differing(&more, &one_page).bits() == 0x8000_0000_0000_0001);
     let all = DigestTable::of([[0; 32]; 64]);
-    assert!(rt; differing(&all, &more) == u64::MAX);
+    assert!(rt; differing(&all, &more) == BucketSet::all());
 }
 
 #[test]
 fn a_renewal_is_of_the_buckets_asked_for(rt: HostRuntime) {
     let history = history_of(rt.alloc(), &FOUR_PAGES).expect(&rt, "memory for a history");
     let mut kept = Digests::new(rt.alloc());
-    kept.renew(&history, 2)
+    kept.renew(&history, BucketSet::from_bits(2))
         .expect(&rt, "memory for the digests");
     assert!(rt; has_digests(&kept.table(), Pages::OfBucket1));
-    kept.renew(&history, 0).expect(&rt, "nothing to renew");
+    kept.renew(&history, BucketSet::new())
+        .expect(&rt, "nothing to renew");
     assert!(rt; has_digests(&kept.table(), Pages::OfBucket1));
-    kept.renew(&history, u64::MAX)
+    kept.renew(&history, BucketSet::all())
         .expect(&rt, "memory for the digests");
     assert!(rt; has_digests(&kept.table(), Pages::All));
 }

@@ -22,7 +22,7 @@ use warm_frames::{EntryList, Message, MessageList, encode};
 use warm_gossip::{Call, Node, NodeFault, Reply};
 use warm_history::{History, PageHist};
 use warm_pool::{Pool, PoolFault, Slot};
-use warm_stamps::{ByteList, PageId, RefList};
+use warm_stamps::{BucketSet, ByteList, PageId, RefList};
 
 const fn slot(index: u32, generation: u64) -> Slot {
     Slot { index, generation }
@@ -180,7 +180,7 @@ fn message_of(rt: &impl Abort, alloc: Global, sent: Sent) -> Message {
         Sent::Request(horizon, request) => Message::Want {
             sender,
             horizon,
-            request,
+            request: BucketSet::from_bits(request),
         },
     }
 }

@@ -181,7 +181,7 @@ pub(crate) fn brings_request<R: Wait + Abort>(
     else {
         return false;
     };
-    sender.get() == 1 && horizon == 0 && request == wanted
+    sender.get() == 1 && horizon == 0 && request.bits() == wanted
 }
 
 // Whether these are entries and a request with these bytes, both for replica 9.

@@ -1,5 +1,5 @@
 -- Digests that are kept, and renewed bucket by bucket.
-use Rattle.std.proofs.Common.{◌≡◌, inl, inr, ℕ, ◌<◌, ◌^◌, List, [], length, min, ◌-◌, sym, ap, ◌∙◌, arith}
+use Rattle.std.proofs.Common.{◌≡◌, inl, inr, ℕ, ◌<◌, ◌^◌, List, [], length, min, ◌-◌, sym, ap, subst, ◌∙◌, arith}
 use Rattle.std.specs.Prelude.{bit_and, bit_or}
 use Rattle.std.specs.Int.{bit_at, bit_not, w64}
 use Rattle.std.proofs.lemmas.Bool.{cases_eq}
@@ -24,9 +24,9 @@ both_clear : (a b i : ℕ) → bit_at (bit_or a b) i ≡ 0 → (bit_at a i ≡ 0
 both_clear a b i clear = let is = bit_at_or a b i in (omega (arith, is, clear), omega (arith, is, clear))
 
 -- the digests that are not marked stay right where the buckets are marked whose entries change
-pub kept_as_marked : (es fs : List Entry) (old changed : ℕ) (digests : List (List ℕ)) → AreCurrent old es digests → MarksChanged es fs changed → AreCurrent (bit_or old changed) fs digests
-kept_as_marked es fs old changed digests kept marks bucket low clear =
-    let both = both_clear old changed bucket clear in
+pub kept_as_marked : (es fs : List Entry) (old changed now : ℕ) (digests : List (List ℕ)) → now ≡ bit_or old changed → AreCurrent old es digests → MarksChanged es fs changed → AreCurrent now fs digests
+kept_as_marked es fs old changed now digests is kept marks bucket low clear =
+    let both = both_clear old changed bucket (subst (λ (n : ℕ). bit_at n bucket ≡ 0) is clear) in
     kept bucket low both.0 ∙ sym (ap digest_from ((marks bucket low).1 both.1))
 
 -- ---- renewed digests
@@ -50,18 +50,18 @@ all_right changed h old new count kept has same = all_done new h count (λ bucke
 ])
 
 -- digests that were all renewed are all right
-pub all_renewed : (h : List Entry) (digests : List (List ℕ)) → length digests ≡ BUCKETS → HasDigestsOf 18446744073709551615 h digests → digests ≡ digests_of h
-all_renewed h digests count has = all_done digests h count (λ bucket low. has bucket low (bit_at_ones 64 bucket low))
+pub all_renewed : (all : ℕ) (h : List Entry) (digests : List (List ℕ)) → all ≡ 2 ^ 64 - 1 → length digests ≡ BUCKETS → HasDigestsOf all h digests → digests ≡ digests_of h
+all_renewed all h digests is count has = all_done digests h count (λ bucket low. has bucket low (ap (λ (n : ℕ). bit_at n bucket) is ∙ bit_at_ones 64 bucket low))
 
 -- ---- digests at a horizon
 
 -- of the changed buckets those are renewed that lose nothing: the others stay marked
-pub others_right : (changed lost : ℕ) (h : List Entry) (old new : List (List ℕ)) → lost < 2 ^ 64 → AreCurrent changed h old → HasDigestsOf (bit_and changed (bit_not w64 lost)) h new → SameDigestsOutside (bit_and changed (bit_not w64 lost)) old new
-    → AreCurrent (bit_and changed lost) h new
-others_right changed lost h old new fits kept has same bucket low clear =
-    let buckets = bit_and changed (bit_not w64 lost) in
+pub others_right : (changed lost buckets now : ℕ) (h : List Entry) (old new : List (List ℕ)) → lost < 2 ^ 64 → buckets ≡ bit_and changed (bit_not w64 lost) → now ≡ bit_and changed lost → AreCurrent changed h old → HasDigestsOf buckets h new → SameDigestsOutside buckets old new
+    → AreCurrent now h new
+others_right changed lost buckets now h old new fits part stay kept has same bucket low now_clear =
+    let clear : bit_at (bit_and changed lost) bucket ≡ 0 = subst (λ (n : ℕ). bit_at n bucket ≡ 0) stay now_clear in
     let not_lost : bit_at (bit_not w64 lost) bucket ≡ 1 - bit_at lost bucket = bit_at_not w64 lost bucket fits low in
-    let chosen : bit_at buckets bucket ≡ min (bit_at changed bucket) (1 - bit_at lost bucket) = bit_at_and changed (bit_not w64 lost) bucket ∙ ap (min (bit_at changed bucket)) not_lost in
+    let chosen : bit_at buckets bucket ≡ min (bit_at changed bucket) (1 - bit_at lost bucket) = ap (λ (n : ℕ). bit_at n bucket) part ∙ bit_at_and changed (bit_not w64 lost) bucket ∙ ap (min (bit_at changed bucket)) not_lost in
     let left : min (bit_at changed bucket) (bit_at lost bucket) ≡ 0 = sym (bit_at_and changed lost bucket) ∙ clear in
     elim (cases_eq (bit_at changed bucket) 0) [
       | inl unchanged ↦ (let out : bit_at buckets bucket ≡ 0 = omega (arith, chosen, unchanged) in same bucket low out ∙ kept bucket low unchanged)
@@ -69,11 +69,11 @@ others_right changed lost h old new fits kept has same bucket low clear =
     ]
 
 -- digests of a history, with those that it would have at a horizon of the buckets that lose something there
-pub all_at_horizon : (changed lost horizon : ℕ) (h : HistoryView) (own table : List (List ℕ)) → length table ≡ BUCKETS → AreCurrent (bit_and changed lost) (entries_of h) own → MarksLosing horizon h lost
+pub all_at_horizon : (changed lost now horizon : ℕ) (h : HistoryView) (own table : List (List ℕ)) → length table ≡ BUCKETS → now ≡ bit_and changed lost → AreCurrent now (entries_of h) own → MarksLosing horizon h lost
     → HasDigestsOf lost (entries_of (raised horizon h)) table → SameDigestsOutside lost own table → table ≡ digests_at_horizon horizon h
-all_at_horizon changed lost horizon h own table count kept loses has same = all_done table (entries_of (raised horizon h)) count (λ bucket low. elim (cases_eq (bit_at lost bucket) 1) [
+all_at_horizon changed lost now horizon h own table count stay kept loses has same = all_done table (entries_of (raised horizon h)) count (λ bucket low. elim (cases_eq (bit_at lost bucket) 1) [
   | inl set ↦ has bucket low set
   | inr clear ↦ (let zero_is : bit_at lost bucket ≡ 0 = omega (arith, bit_at-lt lost bucket, clear) in
-      let both : bit_at (bit_and changed lost) bucket ≡ 0 = bit_at_and changed lost bucket ∙ omega (arith, zero_is) in
+      let both : bit_at now bucket ≡ 0 = ap (λ (n : ℕ). bit_at n bucket) stay ∙ bit_at_and changed lost bucket ∙ omega (arith, zero_is) in
       same bucket low zero_is ∙ kept bucket low both ∙ sym (ap digest_from ((loses bucket low).1 zero_is)))
 ])

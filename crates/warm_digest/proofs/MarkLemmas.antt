@@ -11,14 +11,14 @@ use Rattle.warm_history.specs.Losses.{MarksLosing, raised}
 use Rattle.warm_digest.specs.CachedDigests.{MarksChanges, StaysMarked}
 
 -- the buckets are marked whose entries change
-pub marks_changes : (h g : HistoryView) (old changed : ℕ) → MarksChanged (entries_of h) (entries_of g) changed → MarksChanges (record { history = h; marked = old }) (record { history = g; marked = bit_or old changed })
-marks_changes h g old changed tells bucket low =
-    let is = bit_at_or old changed bucket in
+pub marks_changes : (h g : HistoryView) (old changed now : ℕ) → now ≡ bit_or old changed → MarksChanged (entries_of h) (entries_of g) changed → MarksChanges (record { history = h; marked = old }) (record { history = g; marked = now })
+marks_changes h g old changed now both tells bucket low =
+    let is = ap (λ (n : ℕ). bit_at n bucket) both ∙ bit_at_or old changed bucket in
     let old_lt = bit_at-lt old bucket in
     let changed_lt = bit_at-lt changed bucket in (
-      (λ now. elim (cases_eq (bit_at old bucket) 1) [
+      (λ set. elim (cases_eq (bit_at old bucket) 1) [
         | inl was ↦ inl was
-        | inr other ↦ inr ((tells bucket low).0 (omega (arith, is, now, other, old_lt)))
+        | inr other ↦ inr ((tells bucket low).0 (omega (arith, is, set, other, old_lt)))
       ]),
       (λ before. elim before [
         | inl was ↦ omega (arith, is, was, changed_lt)
@@ -30,15 +30,15 @@ marks_changes h g old changed tells bucket low =
     )
 
 -- of the marked buckets those stay so that lose something
-pub losing_stay : (horizon : ℕ) (h : HistoryView) (old lost : ℕ) → MarksLosing horizon h lost → StaysMarked horizon h old (bit_and old lost)
-losing_stay horizon h old lost loses bucket low =
-    let is = bit_at_and old lost bucket in
+pub losing_stay : (horizon : ℕ) (h : HistoryView) (old lost now : ℕ) → now ≡ bit_and old lost → MarksLosing horizon h lost → StaysMarked horizon h old now
+losing_stay horizon h old lost now both loses bucket low =
+    let is = ap (λ (n : ℕ). bit_at n bucket) both ∙ bit_at_and old lost bucket in
     let old_lt = bit_at-lt old bucket in
     let lost_lt = bit_at-lt lost bucket in (
-      (λ now. (omega (arith, is, now, old_lt, lost_lt), (loses bucket low).0 (omega (arith, is, now, old_lt, lost_lt)))),
-      (λ both. elim (cases_eq (bit_at lost bucket) 1) [
-        | inl set ↦ omega (arith, is, set, both.0)
-        | inr clear ↦ absurd (both.1 ((loses bucket low).1 (omega (arith, clear, lost_lt))))
+      (λ one. (omega (arith, is, one, old_lt, lost_lt), (loses bucket low).0 (omega (arith, is, one, old_lt, lost_lt)))),
+      (λ was. elim (cases_eq (bit_at lost bucket) 1) [
+        | inl set ↦ omega (arith, is, set, was.0)
+        | inr clear ↦ absurd (was.1 ((loses bucket low).1 (omega (arith, clear, lost_lt))))
       ]),
     )
 

@@ -1,5 +1,4 @@
-//! Cached digests, recomputed only for the buckets that changed. A set of buckets is a number of 64
-//! bits: bit b, of value 2^b, is set where bucket b is in the set.
+//! Cached digests, recomputed only for the buckets that changed.
 ghost use Rattle.std.specs.Prelude.{◌≡◌, ◌++◌, ℕ, List, [], length, IfOk, IsOk, OnOk, OnErr};
 ghost use Rattle.sha2.specs.Sha256.{sha256};
 ghost use Rattle.warm_stamps.specs.declared.TheConstants.{BUCKETS};
@@ -16,7 +15,7 @@ use std::marker::Model;
 use warm_frames::{DIGEST_SIZE, DigestTable, MAX_ENTRY_SIZE, put_entry};
 use warm_history::laws::prove_is_history;
 use warm_history::{CutEntries, Entry, History};
-use warm_stamps::{BUCKETS, Bucket};
+use warm_stamps::{BUCKETS, Bucket, BucketSet};
 
 // The hasher is given the bytes of entries once they are as many as this, so that it hashes whole
 // blocks where they are: given one entry at a time, it takes a tenth longer. Twice as many gain
@@ -63,18 +62,17 @@ impl Digests {
     }
 
     /// Recomputes the digests of these buckets from this history; every other digest is unchanged.
-    /// Bit b of `buckets`, of value 2^b, is set for bucket b.
     ///
     /// Costs a scan of the entries of these buckets, and hashing their bytes. For an empty set it
     /// costs nothing and never fails. `AllocError` occurs only where the allocation of a buffer of
     /// 4,096 bytes and one entry fails, and changes nothing.
-    pub fn renew(&mut self, history: &History, buckets: u64) -> Result<(), AllocError>
+    pub fn renew(&mut self, history: &History, buckets: BucketSet) -> Result<(), AllocError>
         ensures wanted { OnOk result (HasDigestsOf buckets (entries_of history.now) self.new) }
         ensures others { OnOk result (SameDigestsOutside buckets self.old self.new) }
         ensures err { OnErr result (self.new ≡ self.old) }
         ensures free { buckets ≡ 0 → IsOk result }
     {
-        if buckets == 0 {
+        if buckets.is_empty() {
             return Ok(());
         }
         // Nothing is older than the horizon, so digests since time 0 are digests of all entries.
@@ -89,7 +87,7 @@ impl Digests {
         &self,
         history: &History,
         horizon: u64,
-        buckets: u64,
+        buckets: BucketSet,
     ) -> Result<DigestTable, AllocError>
         ensures wanted { IfOk result
             (HasDigestsOf buckets (entries_of (raised horizon history.now))) }
@@ -97,7 +95,7 @@ impl Digests {
         ensures count { IfOk result (λ table. length table ≡ BUCKETS) }
         ensures free { buckets ≡ 0 → IsOk result }
     {
-        if buckets == 0 {
+        if buckets.is_empty() {
             return Ok(self.table());
         }
         let digests = renewed(self.alloc, self.digests, history, horizon, buckets)?;
@@ -140,18 +138,15 @@ fn renewed(
     mut digests: [[u8; DIGEST_SIZE]; BUCKETS as usize],
     history: &History,
     horizon: u64,
-    buckets: u64,
+    buckets: BucketSet,
 ) -> Result<[[u8; DIGEST_SIZE]; BUCKETS as usize], AllocError>
     ensures wanted { IfOk result (HasDigestsOf buckets (entries_of (raised horizon history.now))) }
     ensures others { IfOk result (SameDigestsOutside buckets digests) }
 {
     let mut buffer = Vec::with_capacity(alloc, HASHED_SIZE + MAX_ENTRY_SIZE)?;
-    for index in 0..BUCKETS {
-        if (buckets >> index) % 2 == 1 {
-            let Some(bucket) = Bucket::new(index) else {
-                unreachable!()
-            };
-            digests[usize::from(index)] = digest_of(
+    for bucket in Bucket::all() {
+        if buckets.contains(bucket) {
+            digests[usize::from(bucket.get())] = digest_of(
                 history.bucket_at_horizon(bucket, horizon),
                 &mut buffer,
             )?;

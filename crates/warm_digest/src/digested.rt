@@ -11,7 +11,7 @@ use std::alloc::{AllocError, Global};
 use std::marker::Model;
 use warm_frames::DigestTable;
 use warm_history::{Entry, History};
-use warm_stamps::Reference;
+use warm_stamps::{BucketSet, Reference};
 
 /// A history whose bucket digests are cached: a bucket whose entries change is marked, which is
 /// allocation-free, and [`DigestedHistory::digests`] recomputes only the digests of the marked
@@ -24,7 +24,7 @@ pub struct DigestedHistory {
     history: History,
     digests: Digests,
     // The buckets of which an entry may have changed since their digest was computed.
-    changed: u64,
+    changed: BucketSet,
 }
 
 // Written by hand, so that an owner makes one call on each exit path (see `History`).
@@ -63,7 +63,7 @@ impl DigestedHistory {
             alloc,
             history: History::new(alloc),
             digests: Digests::new(alloc),
-            changed: 0,
+            changed: BucketSet::new(),
         }
     }
 
@@ -75,9 +75,8 @@ impl DigestedHistory {
     }
 
     /// Takes in references, as [`History::absorb`] does: `AllocError` changes nothing. It marks the
-    /// buckets whose entries changed, and returns the set of them: bit b, of value 2^b, is set for
-    /// bucket b.
-    pub fn absorb(&mut self, batch: &[Reference]) -> Result<u64, AllocError>
+    /// buckets whose entries changed, and returns the set of them.
+    pub fn absorb(&mut self, batch: &[Reference]) -> Result<BucketSet, AllocError>
         ensures exact { OnOk result
             (self.new.history ≡ history (references_of self.old.history ∪ set_of_list batch.now)) }
         ensures changed { IfOk result
@@ -88,14 +87,14 @@ impl DigestedHistory {
         ensures err { OnErr result (self.new ≡ self.old) }
     {
         let changed = self.history.absorb(batch)?;
-        self.changed |= changed;
+        self.changed = self.changed.union(changed);
         Ok(changed)
     }
 
     /// Takes in these entries, as [`History::join_entries`] does: `AllocError` changes nothing. It
     /// marks the buckets whose entries changed, including those that lost a stamp to the horizon,
     /// and returns the set of them.
-    pub fn join_entries(&mut self, horizon: u64, more: &[Entry]) -> Result<u64, AllocError>
+    pub fn join_entries(&mut self, horizon: u64, more: &[Entry]) -> Result<BucketSet, AllocError>
         ensures exact { OnOk result
             (self.new.history ≡ join self.old.history (history_of_entries_at horizon more.now)) }
         ensures changed { IfOk result
@@ -106,14 +105,14 @@ impl DigestedHistory {
         ensures err { OnErr result (self.new ≡ self.old) }
     {
         let changed = self.history.join_entries(horizon, more)?;
-        self.changed |= changed;
+        self.changed = self.changed.union(changed);
         Ok(changed)
     }
 
     /// Takes in all entries of another history, as [`History::join`] does: `AllocError` changes
     /// nothing. It marks the buckets whose entries changed, including those that lost a stamp to the
     /// horizon, and returns the set of them.
-    pub fn join(&mut self, other: &History) -> Result<u64, AllocError>
+    pub fn join(&mut self, other: &History) -> Result<BucketSet, AllocError>
         ensures exact { OnOk result (self.new.history ≡ join self.old.history other.now) }
         ensures changed { IfOk result
             (MarksChanged (entries_of self.old.history) (entries_of self.new.history)) }
@@ -123,7 +122,7 @@ impl DigestedHistory {
         ensures err { OnErr result (self.new ≡ self.old) }
     {
         let changed = self.history.join(other)?;
-        self.changed |= changed;
+        self.changed = self.changed.union(changed);
         Ok(changed)
     }
 
@@ -139,7 +138,7 @@ impl DigestedHistory {
     ///
     /// Where the time is later than the horizon, finding them costs one more scan of each bucket,
     /// up to its first older stamp.
-    pub fn raise(&mut self, time: u64) -> u64
+    pub fn raise(&mut self, time: u64) -> BucketSet
         ensures exact { self.new.history ≡ history (with_horizon time (references_of self.old.history)) }
         ensures changed { MarksChanged (entries_of self.old.history)
             (entries_of self.new.history) result }
@@ -149,7 +148,7 @@ impl DigestedHistory {
     {
         let lost = self.history.losing(time);
         self.history.raise(time);
-        self.changed |= lost;
+        self.changed = self.changed.union(lost);
         lost
     }
 
@@ -160,7 +159,7 @@ impl DigestedHistory {
     {
         self.history = History::new(self.alloc);
         self.digests = Digests::new(self.alloc);
-        self.changed = 0;
+        self.changed = BucketSet::new();
     }
 
     /// The digests of the buckets. Afterwards no bucket is marked.
@@ -176,7 +175,7 @@ impl DigestedHistory {
         ensures free { self.old.marked ≡ 0 → IsOk result }
     {
         self.digests.renew(&self.history, self.changed)?;
-        self.changed = 0;
+        self.changed = BucketSet::new();
         Ok(self.digests.table())
     }
 
@@ -202,9 +201,10 @@ impl DigestedHistory {
             return self.digests();
         }
         let lost = self.history.losing(horizon);
-        self.digests.renew(&self.history, self.changed & !lost)?;
+        self.digests
+            .renew(&self.history, self.changed.difference(lost))?;
         let table = self.digests.table_at_horizon(&self.history, horizon, lost)?;
-        self.changed &= lost;
+        self.changed = self.changed.intersection(lost);
         Ok(table)
     }
 }

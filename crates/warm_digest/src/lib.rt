@@ -19,7 +19,7 @@ pub use digested::DigestedHistory;
 use std::alloc::{AllocError, Global};
 use warm_frames::DigestTable;
 use warm_history::History;
-use warm_stamps::{BUCKETS, Bucket};
+use warm_stamps::{Bucket, BucketSet};
 
 /// The digests of a history's buckets, all recomputed. It scans the history once, bucket by bucket.
 ///
@@ -28,21 +28,19 @@ pub fn digests(alloc: Global, history: &History) -> Result<DigestTable, AllocErr
     ensures { IfOk result (λ table. table ≡ digests_of (entries_of history.now)) }
 {
     let mut digests = Digests::new(alloc);
-    digests.renew(history, u64::MAX)?;
+    digests.renew(history, BucketSet::all())?;
     Ok(digests.table())
 }
 
-/// The buckets at which two tables differ, as a set: bit b, of value 2^b, is set exactly where the
-/// digests of bucket b differ. Allocation-free.
-pub fn differing(left: &DigestTable, right: &DigestTable) -> u64
+/// The buckets whose digests differ between two tables. Allocation-free.
+pub fn differing(left: &DigestTable, right: &DigestTable) -> BucketSet
     ensures { MarksDiffering result left.now right.now }
 {
-    let mut buckets: u64 = 0;
-    for index in 0..BUCKETS {
-        let Some(bucket) = Bucket::new(index) else {
-            unreachable!()
-        };
-        buckets |= u64::from(left.digest(bucket) != right.digest(bucket)) << index;
+    let mut buckets = BucketSet::new();
+    for bucket in Bucket::all() {
+        if left.digest(bucket) != right.digest(bucket) {
+            buckets = buckets.with(bucket);
+        }
     }
     buckets
 }

@@ -18,7 +18,7 @@ use Rattle.warm_frames.specs.declared.fault.FrameFault.TheVariants as frame_faul
 use Rattle.warm_frames.specs.declared.message.Message.{Message}
 use Rattle.warm_frames.specs.declared.message.Message.TheVariants.{Entries, Digest, Want}
 use Rattle.warm_frames.specs.Pieces.{DecoderState, Inside, IsIncomplete, Breaks, FeedStep, EncodeAll, texts_of}
-use Rattle.warm_frames.specs.Pieces.{TakesPiece as TakesBytes}
+use Rattle.warm_frames.specs.Pieces.{TakesPiece}
 use Rattle.warm_frames.specs.Reading.{read_frame}
 use Rattle.warm_frames.specs.Encoding.{Encodes}
 use Rattle.warm_frames.proofs.FrameLemmas.{frame_read}
@@ -251,9 +251,9 @@ takes_placed (Digest sender horizon digests) old new at takes = takes
 takes_placed (Want sender horizon request) old new at takes = takes
 
 -- what a feed did, of a decoder inside a frame
-fed_inside : (piece : List ℕ) (fed : Fed) (frame : Option Message) (old next : DecoderState) → FeedStep old piece (Ok fed) next → fed.message ≡ frame → (b : List ℕ) → old ≡ Inside b → TakesBytes b piece fed.taken frame next
+fed_inside : (piece : List ℕ) (fed : Fed) (frame : Option Message) (old next : DecoderState) → FeedStep old piece (Ok fed) next → fed.message ≡ frame → (b : List ℕ) → old ≡ Inside b → TakesPiece b piece fed.taken frame next
 fed_inside piece fed frame old next feeds is b inside =
-    subst (λ (o : Option Message). TakesBytes b piece fed.taken o next) is (subst (λ (d : DecoderState). FeedStep d piece (Ok fed) next) inside feeds)
+    subst (λ (o : Option Message). TakesPiece b piece fed.taken o next) is (subst (λ (d : DecoderState). FeedStep d piece (Ok fed) next) inside feeds)
 
 pub part_read : (seen piece : List ℕ) (fed : Fed) (old new : DumpReader) → HasBegun seen old → FeedStep old.decoder piece (Ok fed) new.decoder → fed.message ≡ None
     → new.history ≡ old.history → new.horizon ≡ old.horizon → new.complete ≡ false → new.bytes_read ≡ old.bytes_read + fed.taken → new.frame_start ≡ old.frame_start → HasRead (seen ++ take fed.taken piece) new

@@ -11,7 +11,7 @@ use crate::reading::message_in;
 use crate::writing::{digest_text, entries_text, want_text};
 use std::alloc::{AllocError, Global};
 use std::marker::Model;
-use warm_stamps::{Items, ReplicaId};
+use warm_stamps::{BucketSet, Items, ReplicaId};
 
 /// What one replica sends another. Its bytes are a *frame*: [`encode`] writes them, and [`decode`]
 /// reads them.
@@ -41,8 +41,8 @@ pub enum Message {
         sender: ReplicaId,
         /// The sender's horizon: the time before which it forgot stamps.
         horizon: u64,
-        /// The buckets: bit b, of value 2^b, requests bucket b.
-        request: u64,
+        /// The buckets whose entries are requested.
+        request: BucketSet,
     },
 }
 

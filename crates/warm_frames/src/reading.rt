@@ -17,7 +17,7 @@ use crate::layout::{
 use crate::message::Message;
 use std::alloc::Global;
 use warm_history::{Entry, PageHist, Two};
-use warm_stamps::{PageId, ReplicaId, Stamp, page_from, page_from_narrow, stamp_from};
+use warm_stamps::{BucketSet, PageId, ReplicaId, Stamp, page_from, page_from_narrow, stamp_from};
 
 // The kinds of frames, numbered from 1.
 #[derive(Clone, Copy)]
@@ -158,6 +158,7 @@ fn body_at(format: Format, kind: Kind, bytes: &[u8]) -> Result<&[u8], FrameFault
 pub(crate) fn frame_size(bytes: &[u8]) -> Result<usize, FrameFault>
     ensures { result ≡ frame_size bytes.now }
 {
+    // Not `?`: the borrow checker has no rule for it where a tuple holds a `ReplicaId` and a reference.
     let (format, kind, _, _, rest) = match start_at(bytes) {
         Ok(start) => start,
         Err(fault) => return Err(fault),
@@ -268,6 +269,7 @@ fn entries_at<'a>(
     let mut before = None;
     let mut rest = bytes;
     for _ in 0..count {
+        // Not `?`: the proof names the exit of each fault.
         let (page, tag, after) = match start_of_entry(format, before, rest) {
             Ok(start) => start,
             Err(fault) => return Err(fault),
@@ -341,6 +343,7 @@ fn digests_of(body: &[u8]) -> Result<DigestTable, FrameFault>
 pub(crate) fn message_in(alloc: Global, bytes: &[u8]) -> Result<Message, FrameFault>
     ensures { GivesReading result (read_frame bytes.now) (reserved_by bytes.now) }
 {
+    // Not `?`, as in `frame_size`.
     let (format, kind, sender, horizon, rest) = match start_at(bytes) {
         Ok(start) => start,
         Err(fault) => return Err(fault),
@@ -364,11 +367,11 @@ pub(crate) fn message_in(alloc: Global, bytes: &[u8]) -> Result<Message, FrameFa
             })
         }
         Kind::Want => {
-            let (request, _) = u64_at(body, FrameFault::BadLength)?;
+            let (bits, _) = u64_at(body, FrameFault::BadLength)?;
             Ok(Message::Want {
                 sender,
                 horizon,
-                request,
+                request: BucketSet::from_bits(bits),
             })
         }
     }

@@ -15,7 +15,7 @@ use crate::layout::{
 };
 use std::alloc::{AllocError, Global};
 use warm_history::{Entry, PageHist};
-use warm_stamps::{PageId, ReplicaId, Stamp};
+use warm_stamps::{BucketSet, PageId, ReplicaId, Stamp};
 
 // The header of a frame, with capacity for a body of this length.
 fn header(
@@ -168,11 +168,11 @@ pub(crate) fn want_text(
     alloc: Global,
     sender: ReplicaId,
     horizon: u64,
-    request: u64,
+    request: BucketSet,
 ) -> Result<Vec<u8>, AllocError>
     ensures { IfOk result (λ text. EncodesIn Wide text.items (messages.Want sender horizon request)) }
 {
     let mut text = header(alloc, WANT_KIND, sender, horizon, REQUEST_SIZE as u32)?;
-    text.extend_from_slice(&request.to_be_bytes())?;
+    text.extend_from_slice(&request.bits().to_be_bytes())?;
     Ok(text)
 }

@@ -1,31 +1,76 @@
-use Rattle.std.proofs.Common.{◌≡◌, ◌≢◌, ◌↔◌, ℕ, Bool, true, false, List, ap, arith, refl, subst, sym, not, true≢false, ◌∙◌}
-use Rattle.std.specs.Prelude.{bytes_eq}
-use Rattle.std.specs.Int.{from_bool}
+use Rattle.std.proofs.Common.{◌≡◌, ◌≢◌, ◌↔◌, ◌≤◌, ◌<◌, ◌+◌, ◌^◌, ◌∷◌, ◌++◌, [], ℕ, Bool, true, false, List, length, arith, ap, subst, sym, not, true≢false, ◌∙◌}
+use Rattle.std.specs.Prelude.{bit_or, bytes_eq}
+use Rattle.std.specs.Int.{bit_at}
+use Rattle.std.proofs.lemmas.Nat.Bits.{bit_at-zero}
 use Rattle.std.proofs.lemmas.Slice.Eq.{bytes_eq-Decides}
-use Rattle.warm_history.proofs.BucketSets.{seen_more, rest_more}
+use Rattle.warm_stamps.proofs.BucketLemmas.{Visited, visited, all_visited, seen_with, seen_without, rest_with}
 use Rattle.warm_frames.specs.Digests.{digest_at}
 use Rattle.warm_digest.proofs.differing.Goals as goal
 
--- a bit is given exactly where two digests differ
-is_set : (x y : List ℕ) (n : ℕ) → n ≡ from_bool (not (bytes_eq x y)) → (n ≡ 1) ↔ (x ≢ y)
-is_set x y n is = go (bytes_eq x y) refl is
-  where
-    go : (b : Bool) → bytes_eq x y ≡ b → n ≡ from_bool (not b) → (n ≡ 1) ↔ (x ≢ y)
-    go true e is = ((λ one same. absurd (omega (arith, one, is))), (λ differ. absurd (differ ((bytes_eq-Decides x y).0 e))))
-    go false e is = ((λ one same. true≢false (sym ((bytes_eq-Decides x y).1 same) ∙ e)), (λ differ. is))
+-- two digests differ where the test says so
+differ : (x y : List ℕ) (b : Bool) → b ≡ not (bytes_eq x y) → b ≡ true → x ≢ y
+differ x y b is set same = true≢false (sym set ∙ is ∙ ap not ((bytes_eq-Decides x y).1 same))
 
-pub loop-index-preserved : goal.loop-index-preserved
-loop-index-preserved c =
-    let so_far = c.loop-index.invariant in
-    let index = c.loop-index.index in
-    let left = c.args.left.now in
-    let right = c.args.right.now in
-    let given = c.from.ensures ∙ ap from_bool c.ne.ensures in
-    let here = is_set c.digest.result c.digest-in-loop-index.result c.from.result given in
-    let both = subst (λ x. (c.from.result ≡ 1) ↔ (x ≢ c.digest-in-loop-index.result)) (c.digest.ensures ∙ ap (digest_at left) c.in-Some.ensures.value) here in
+alike : (x y : List ℕ) (b : Bool) → b ≡ not (bytes_eq x y) → b ≡ false → x ≡ y
+alike x y b is clear = (bytes_eq-Decides x y).0 (not_false (bytes_eq x y) (sym is ∙ clear))
+  where
+    not_false : (t : Bool) → not t ≡ false → t ≡ true
+    not_false true e = λ i. true
+    not_false false e = absurd (true≢false e)
+
+-- what is said of the buckets so far
+abbrev Says : List (List ℕ) → List (List ℕ) → ℕ → ℕ → Type 0
+Says left right bucket bit = (bit ≡ 1) ↔ (digest_at left bucket ≢ digest_at right bucket)
+
+abbrev Seen : (ℕ → ℕ → Type 0) → ℕ → ℕ → Type 0
+Seen P buckets count = (bucket : ℕ) → bucket < count → P bucket (bit_at buckets bucket)
+
+abbrev Clear : ℕ → ℕ → Type 0
+Clear buckets count = (bucket : ℕ) → count ≤ bucket → bit_at buckets bucket ≡ 0
+
+pub loop-bucket-init : goal.loop-bucket-init
+loop-bucket-init c = record {
+  split = c.into_iter-bucket-iterator.ensures.into_iter_gives ∙ c.all-bucket-items.ensures;
+  seen = λ bucket before. absurd (omega (arith, before));
+  rest = λ bucket above. ap (λ (n : ℕ). bit_at n bucket) c.new-buckets.ensures ∙ bit_at-zero bucket;
+}
+
+-- a bucket whose digests differ is put in
+pub loop-bucket-preserved-then-ne : goal.loop-bucket-preserved-then-ne
+loop-bucket-preserved-then-ne c =
+    let so_far = c.loop-bucket.invariant in
+    let P = Says c.args.left.now c.args.right.now in
+    let b : ℕ = c.in-Some.bucket in
+    let more = bit_or c.loop-bucket.buckets (2 ^ b) in
+    let v : Visited c.loop-bucket.yielded c.next.new.self b = visited c.loop-bucket.yielded c.loop-bucket.bucket-iterator c.next.new.self b so_far.split c.in-Some.ensures.steps in
+    let here : P b 1 = ((λ one same. differ c.digest.result c.digest-in-loop-bucket.result c.ne.result c.ne.ensures c.if-ne.true (c.digest.ensures ∙ same ∙ sym c.digest-in-loop-bucket.ensures)), λ other. (λ i. 1)) in
+    let seen : Seen P more (b + 1) = seen_with P c.loop-bucket.buckets b here (subst (Seen P c.loop-bucket.buckets) (sym v.at) so_far.seen) in
+    let rest : Clear more (b + 1) = rest_with c.loop-bucket.buckets b (subst (Clear c.loop-bucket.buckets) (sym v.at) so_far.rest) in
+    let is : more ≡ c.with-buckets.result = sym c.with-buckets.ensures in
     record {
-      seen = seen_more (λ b bit. (bit ≡ 1) ↔ (digest_at left b ≢ digest_at right b)) c.loop-index.buckets index c.from.result (not (bytes_eq c.digest.result c.digest-in-loop-index.result)) c.loop-index-test.true given
-          (so_far.rest index (omega arith))
-          (subst (λ y. (c.from.result ≡ 1) ↔ (digest_at left index ≢ y)) (c.digest-in-loop-index.ensures ∙ ap (digest_at right) c.in-Some.ensures.value) both) so_far.seen;
-      rest = rest_more c.loop-index.buckets index c.from.result c.ne.result c.loop-index-test.true c.from.ensures so_far.rest;
+      split = v.split;
+      seen = subst (λ (n : ℕ). Seen P n (length (c.loop-bucket.yielded ++ b ∷ []))) is (subst (Seen P more) (sym v.longer) seen);
+      rest = subst (λ (n : ℕ). Clear n (length (c.loop-bucket.yielded ++ b ∷ []))) is (subst (Clear more) (sym v.longer) rest);
     }
+
+-- one whose digests are alike is left out
+pub loop-bucket-preserved : goal.loop-bucket-preserved
+loop-bucket-preserved c =
+    let so_far = c.loop-bucket.invariant in
+    let P = Says c.args.left.now c.args.right.now in
+    let b : ℕ = c.in-Some.bucket in
+    let set = c.loop-bucket.buckets in
+    let v : Visited c.loop-bucket.yielded c.next.new.self b = visited c.loop-bucket.yielded c.loop-bucket.bucket-iterator c.next.new.self b so_far.split c.in-Some.ensures.steps in
+    let here : P b 0 = ((λ one. absurd (omega (arith, one))), λ other. absurd (other (sym c.digest.ensures ∙ alike c.digest.result c.digest-in-loop-bucket.result c.ne.result c.ne.ensures c.if-ne.false ∙ c.digest-in-loop-bucket.ensures))) in
+    let clear : bit_at set b ≡ 0 = so_far.rest b (omega (arith, v.at)) in
+    let seen : Seen P set (b + 1) = seen_without P set b here clear (subst (Seen P set) (sym v.at) so_far.seen) in
+    record {
+      split = v.split;
+      seen = subst (Seen P set) (sym v.longer) seen;
+      rest = λ bucket above. so_far.rest bucket (omega (arith, above, v.longer, v.at));
+    }
+
+pub returns : goal.returns
+returns c =
+    let all : length c.loop-bucket.yielded ≡ 64 = all_visited c.loop-bucket.yielded c.loop-bucket.bucket-iterator c.loop-bucket.invariant.split c.in-None.ensures.steps.0 in
+    λ bucket low. c.loop-bucket.invariant.seen bucket (omega (arith, low, all))

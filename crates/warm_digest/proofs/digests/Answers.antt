@@ -4,4 +4,4 @@ use Rattle.warm_digest.proofs.CachedLemmas.{all_renewed}
 use Rattle.warm_digest.proofs.digests.Goals as goal
 
 pub returns : goal.returns
-returns c = c.table.ensures.value ∙ all_renewed (entries_of c.args.history.now) _ c.table.ensures.count c.in_ok-renew.ensures.wanted
+returns c = c.table.ensures.value ∙ all_renewed c.all.result (entries_of c.args.history.now) _ c.all.ensures c.table.ensures.count c.in_ok-renew.ensures.wanted

@@ -1,5 +1,4 @@
 use Rattle.std.proofs.Common.{◌≡◌, subst}
-use Rattle.std.specs.Prelude.{bit_or}
 use Rattle.warm_history.specs.Changes.{MarksChanged}
 use Rattle.warm_history.specs.Histories.{entries_of}
 use Rattle.warm_digest.specs.CachedDigests.{DigestedView, MarksChanges}
@@ -9,7 +8,7 @@ use Rattle.warm_digest.proofs.digested.DigestedHistory.absorb.Goals as goal
 
 pub invariant_of-self-2 : goal.invariant_of-self-2
 invariant_of-self-2 c =
-    kept_as_marked (entries_of c.self.inside.history) (entries_of c.absorb.new.self) c.self.inside.changed c.in_ok-changed.changed c.self.inside.digests c.self.invariant c.in_ok-changed.ensures.changed
+    kept_as_marked (entries_of c.self.inside.history) (entries_of c.absorb.new.self) c.self.inside.changed c.in_ok-changed.changed c.union-self-inside.result c.self.inside.digests c.union-self-inside.ensures c.self.invariant c.in_ok-changed.ensures.changed
 
 pub returns-clause-changed : goal.returns-clause-changed
 returns-clause-changed c =
@@ -23,5 +22,5 @@ returns-clause-marks c =
     let old = c.self.inside.changed in
     let g = c.absorb.new.self in
     let changed = c.in_ok-changed.changed in
-    subst (λ (v : DigestedView). MarksChanges v (record { history = g; marked = bit_or old changed })) c.self.view_is
-    (marks_changes c.self.inside.history g old changed c.in_ok-changed.ensures.changed)
+    subst (λ (v : DigestedView). MarksChanges v (record { history = g; marked = c.union-self-inside.result })) c.self.view_is
+    (marks_changes c.self.inside.history g old changed c.union-self-inside.result c.union-self-inside.ensures c.in_ok-changed.ensures.changed)

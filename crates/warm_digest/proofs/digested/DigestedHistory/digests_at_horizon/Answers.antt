@@ -1,5 +1,4 @@
 use Rattle.std.proofs.Common.{◌≡◌, ◌≤◌, IfOk, subst, sym, arith}
-use Rattle.std.specs.Prelude.{bit_and}
 use Rattle.warm_history.specs.Histories.{HistoryView, entries_of}
 use Rattle.warm_history.specs.Losses.{raised}
 use Rattle.warm_history.proofs.JoinLemmas.{raised_to_no_later}
@@ -11,13 +10,13 @@ use Rattle.warm_digest.proofs.digested.DigestedHistory.digests_at_horizon.Goals 
 
 pub invariant_of-self-2 : goal.invariant_of-self-2
 invariant_of-self-2 c =
-    others_right c.self.inside.changed c.losing-lost.result (entries_of c.self.inside.history) c.self.inside.digests c.renew.new.self (omega arith) c.self.invariant c.in_ok-renew.ensures.wanted c.in_ok-renew.ensures.others
+    others_right c.self.inside.changed c.losing-lost.result c.difference.result c.intersection-self-inside.result (entries_of c.self.inside.history) c.self.inside.digests c.renew.new.self (omega arith) c.difference.ensures c.intersection-self-inside.ensures c.self.invariant c.in_ok-renew.ensures.wanted c.in_ok-renew.ensures.others
 
 pub returns-clause-table : goal.returns-clause-table
 returns-clause-table c =
     let given = c.in_ok-table in
     subst (λ (v : DigestedView). given.table ≡ digests_at_horizon c.args.horizon v.history) c.self.view_is
-    (all_at_horizon c.self.inside.changed c.losing-lost.result c.args.horizon c.self.inside.history c.renew.new.self given.table given.ensures.count (invariant_of-self-2 c) c.losing-lost.ensures.lost given.ensures.wanted given.ensures.others)
+    (all_at_horizon c.self.inside.changed c.losing-lost.result c.intersection-self-inside.result c.args.horizon c.self.inside.history c.renew.new.self given.table given.ensures.count c.intersection-self-inside.ensures (invariant_of-self-2 c) c.losing-lost.ensures.lost given.ensures.wanted given.ensures.others)
 
 -- at no later horizon than its own a history is raised to itself
 pub returns-then-horizon-clause-table : goal.returns-then-horizon-clause-table
@@ -38,5 +37,5 @@ pub returns-clause-marks : goal.returns-clause-marks
 returns-clause-marks c =
     let old = c.self.inside.changed in
     let lost = c.losing-lost.result in
-    subst (λ (v : DigestedView). StaysMarked c.args.horizon v.history v.marked (bit_and old lost)) c.self.view_is
-    (losing_stay c.args.horizon c.self.inside.history old lost c.losing-lost.ensures.lost)
+    subst (λ (v : DigestedView). StaysMarked c.args.horizon v.history v.marked c.intersection-self-inside.result) c.self.view_is
+    (losing_stay c.args.horizon c.self.inside.history old lost c.intersection-self-inside.result c.intersection-self-inside.ensures c.losing-lost.ensures.lost)

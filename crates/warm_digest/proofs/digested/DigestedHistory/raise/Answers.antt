@@ -1,5 +1,4 @@
 use Rattle.std.proofs.Common.{◌≡◌, ap, subst, sym, ◌∙◌}
-use Rattle.std.specs.Prelude.{bit_or}
 use Rattle.warm_history.specs.Changes.{MarksChanged}
 use Rattle.warm_history.specs.Histories.{HistoryView, entries_of}
 use Rattle.warm_digest.specs.CachedDigests.{DigestedView, MarksChanges}
@@ -11,7 +10,7 @@ pub invariant_of-self : goal.invariant_of-self
 invariant_of-self c =
     let es = entries_of c.self.inside.history in
     let lost = c.losing-lost.result in
-    kept_as_marked es (entries_of c.raise.new.self) c.self.inside.changed lost c.self.inside.digests c.self.invariant
+    kept_as_marked es (entries_of c.raise.new.self) c.self.inside.changed lost c.union-self-inside.result c.self.inside.digests c.union-self-inside.ensures c.self.invariant
     (subst (λ (h : HistoryView). MarksChanged es (entries_of h) lost) (sym c.raise.ensures.exact) c.losing-lost.ensures.lost)
 
 pub returns-clause-changed : goal.returns-clause-changed
@@ -30,5 +29,5 @@ returns-clause-marks c =
     let es = entries_of c.self.inside.history in
     let g = c.raise.new.self in
     let lost = c.losing-lost.result in
-    subst (λ (v : DigestedView). MarksChanges v (record { history = g; marked = bit_or old lost })) c.self.view_is
-    (marks_changes c.self.inside.history g old lost (subst (λ (h : HistoryView). MarksChanged es (entries_of h) lost) (sym c.raise.ensures.exact) c.losing-lost.ensures.lost))
+    subst (λ (v : DigestedView). MarksChanges v (record { history = g; marked = c.union-self-inside.result })) c.self.view_is
+    (marks_changes c.self.inside.history g old lost c.union-self-inside.result c.union-self-inside.ensures (subst (λ (h : HistoryView). MarksChanged es (entries_of h) lost) (sym c.raise.ensures.exact) c.losing-lost.ensures.lost))
