@@ -1,11 +1,9 @@
--- Wanted buckets, and the messages that are made of them.
-use Rattle.std.proofs.Common.{◌≡◌, ◌^◌, ◌≢◌, ◌↔◌, ℕ, ◌+◌, ◌<◌, Bool, true, false, cond, List, [], ◌∷◌, ◌++◌, filter, refl, sym, ap, subst, ◌∙◌, append-nil, map-id, arith, flat_map, if◌then◌else◌}
+-- The messages of requested buckets, and the answer to digests.
+use Rattle.std.proofs.Common.{◌≡◌, ◌^◌, ◌≢◌, ◌↔◌, ℕ, ◌<◌, Bool, List, [], ◌∷◌, ◌++◌, sym, ap, subst, ◌∙◌, append-nil, flat_map, if◌then◌else◌}
 use Rattle.std.specs.Prelude.{◌==◌}
 use Rattle.std.specs.Int.{bit_at}
-use Rattle.std.specs.List.{range_with_len}
 use Rattle.std.proofs.lemmas.Bool.{ne_eqb}
 use Rattle.std.proofs.lemmas.List.Concat.{flat_map-append}
-use Rattle.std.proofs.lemmas.List.FromFn.{filter_of_map_range_with_len_more}
 use Rattle.warm_stamps.specs.declared.TheConstants.{BUCKETS}
 use Rattle.warm_history.specs.Histories.{HistoryView, entries_of}
 use Rattle.warm_frames.specs.declared.message.Message.{Message}
@@ -13,45 +11,14 @@ use Rattle.warm_frames.specs.declared.message.Message.TheVariants.{Want}
 use Rattle.warm_frames.specs.Digests.{digest_at}
 use Rattle.warm_digest.specs.BucketDigests.{digests_of}
 use Rattle.warm_frames.specs.Chunks.{bucket_messages}
-use Rattle.warm_gossip.specs.Answers.{buckets_in, requested_messages, IsDiffering, AnswersDigests}
+use Rattle.warm_gossip.specs.Answers.{requested_messages, IsDiffering, AnswersDigests}
 
--- ---- messages of wanted buckets
+-- ---- messages of requested buckets
 
--- one number more is chosen or not
-chosen_more : (p : ℕ → Bool) (n : ℕ) → filter p (range_with_len 0 (n + 1)) ≡ filter p (range_with_len 0 n) ++ cond (p n) (n ∷ []) []
-chosen_more p n =
-    ap (filter p) (sym (map-id (range_with_len 0 (n + 1))))
-    ∙ filter_of_map_range_with_len_more p (λ k. k) 0 n n (omega arith)
-    ∙ ap (λ ks. filter p ks ++ cond (p n) (n ∷ []) []) (map-id (range_with_len 0 n))
-
--- the wanted buckets below n
-abbrev buckets_below : ℕ → ℕ → List ℕ
-buckets_below request n = filter (λ bucket. bit_at request bucket == 1) (range_with_len 0 n)
-
--- in messages
-abbrev pub messages_below : ℕ → HistoryView → ℕ → ℕ → List Message
-messages_below id h request n = flat_map (bucket_messages id h) (buckets_below request n)
-
--- a bucket adds its messages where it is wanted
-pub wanted_more : (id request bucket : ℕ) (h : HistoryView) → (bit_at request bucket == 1) ≡ true → messages_below id h request bucket ++ bucket_messages id h bucket ≡ messages_below id h request (bucket + 1)
-wanted_more id request bucket h set =
-    let more : buckets_below request (bucket + 1) ≡ buckets_below request bucket ++ bucket ∷ [] =
-    chosen_more (λ b. bit_at request b == 1) bucket ∙ ap (λ (t : Bool). buckets_below request bucket ++ cond t (bucket ∷ []) []) set in
-    sym (ap (flat_map (bucket_messages id h)) more
-    ∙ flat_map-append (bucket_messages id h) (buckets_below request bucket) (bucket ∷ [])
-    ∙ ap (λ fs. messages_below id h request bucket ++ fs) (append-nil (bucket_messages id h bucket)))
-
--- and none where it is not
-pub unwanted_more : (id request bucket : ℕ) (h : HistoryView) → (bit_at request bucket == 1) ≡ false → messages_below id h request bucket ≡ messages_below id h request (bucket + 1)
-unwanted_more id request bucket h clear =
-    let same : buckets_below request (bucket + 1) ≡ buckets_below request bucket ++ [] =
-    chosen_more (λ b. bit_at request b == 1) bucket ∙ ap (λ (t : Bool). buckets_below request bucket ++ cond t (bucket ∷ []) []) clear in
-    sym (ap (flat_map (bucket_messages id h)) (same ∙ append-nil (buckets_below request bucket)))
-
--- below the number of buckets are all
-pub all_below : (id request : ℕ) (h : HistoryView) → messages_below id h request BUCKETS ≡ requested_messages id h request
-unfolding buckets_in
-all_below id request h = refl
+-- one bucket more adds its messages
+pub one_bucket_more : (id : ℕ) (h : HistoryView) (so_far : List ℕ) (bucket : ℕ) → flat_map (bucket_messages id h) so_far ++ bucket_messages id h bucket ≡ flat_map (bucket_messages id h) (so_far ++ bucket ∷ [])
+one_bucket_more id h so_far bucket =
+    sym (flat_map-append (bucket_messages id h) so_far (bucket ∷ []) ∙ ap (λ fs. flat_map (bucket_messages id h) so_far ++ fs) (append-nil (bucket_messages id h bucket)))
 
 -- ---- answers to digests
 

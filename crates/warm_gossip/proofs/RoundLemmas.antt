@@ -41,7 +41,8 @@ use Rattle.warm_digest.specs.Exchange.{Fits, IsCollision, IsDifferenceOf, in_buc
 use Rattle.warm_digest.proofs.CachedLemmas.{digest_is}
 use Rattle.warm_digest.proofs.ExchangeLemmas.{kept, hist-kept, joined_same, joined_none, exchange_joins}
 use Rattle.warm_frames.specs.Chunks.{chunks_of, chunks, entry_messages, bucket_messages}
-use Rattle.warm_gossip.specs.Answers.{buckets_in, requested_messages, IsDiffering, refs_in, history_after}
+use Rattle.warm_stamps.specs.Buckets.{buckets_in}
+use Rattle.warm_gossip.specs.Answers.{requested_messages, IsDiffering, refs_in, history_after}
 use Rattle.warm_gossip.specs.Round.{Receives, HistoryRound, GossipRoundEnds, HistoryRoundJoins, OwnDigestsUnanswered, EntriesBringAll, offer}
 use Rattle.warm_gossip.proofs.AnswerLemmas.{if_other}
 use Rattle.warm_gossip.proofs.Ranks.{no_greater}
@@ -210,7 +211,6 @@ hist-buckets R (bucket ∷ buckets) p =
     cases false false = refl
 
 any_bucket : (request : ℕ) (p : PageId) → list_any (λ bucket. page_bucket p == bucket) (buckets_in request) ≡ (bit_at request (page_bucket p) == 1)
-unfolding buckets_in
 any_bucket request p =
     let n : ℕ = page_bucket p in
     let there : Contains (range_with_len 0 BUCKETS) n = (n, omega arith, get_or-range_with_len 0 BUCKETS n n (omega arith) ∙ omega arith) in

@@ -1,9 +1,10 @@
 -- The messages that a node sends, and its answers to a message.
-use Rattle.std.specs.Prelude.{◌≡◌, ◌^◌, ◌≢◌, ◌↔◌, ℕ, ◌==◌, ◌<◌, List, [], ◌∷◌, ◌++◌, filter, Option, if◌then◌else◌}
-use Rattle.std.specs.List.{flat_map, range_with_len}
+use Rattle.std.specs.Prelude.{◌≡◌, ◌^◌, ◌≢◌, ◌↔◌, ℕ, ◌==◌, ◌<◌, List, [], ◌∷◌, ◌++◌, Option, if◌then◌else◌}
+use Rattle.std.specs.List.{flat_map}
 use Rattle.std.specs.Int.{bit_at}
 use Rattle.warm_stamps.specs.declared.PageId.{PageId}
 use Rattle.warm_stamps.specs.declared.TheConstants.{BUCKETS}
+use Rattle.warm_stamps.specs.Buckets.{buckets_in}
 use Rattle.warm_history.specs.ReferenceSets.{ReferenceSet, ◌∪◌}
 use Rattle.warm_history.specs.Histories.{HistoryView, entries_of, history_of_entries_at, history, references_of}
 use Rattle.warm_history.specs.Carried.{carried}
@@ -14,11 +15,7 @@ use Rattle.warm_frames.specs.declared.message.Message.TheVariants.{Entries, Dige
 use Rattle.warm_frames.specs.Digests.{digest_at}
 use Rattle.warm_digest.specs.BucketDigests.{digests_of}
 
--- the buckets whose bit is set, in rising order
-unfoldable pub buckets_in : ℕ → List ℕ
-buckets_in request = filter (λ bucket. bit_at request bucket == 1) (range_with_len 0 BUCKETS)
-
--- the buckets of the history whose bit is set, in messages
+-- the requested buckets of the history, in messages
 abbrev pub requested_messages : ℕ → HistoryView → ℕ → List Message
 requested_messages id h request = flat_map (bucket_messages id h) (buckets_in request)
 

@@ -17,7 +17,8 @@ use Rattle.warm_frames.specs.declared.message.Message.{Message}
 use Rattle.warm_frames.specs.declared.message.Message.TheVariants.{Digest, Entries, Want}
 use Rattle.warm_digest.specs.BucketDigests.{digests_of}
 use Rattle.warm_frames.specs.Chunks.{bucket_messages, chunks}
-use Rattle.warm_gossip.specs.Answers.{AnswersDigests, IsAnswer, buckets_in, sent, history_after, requested_messages}
+use Rattle.warm_stamps.specs.Buckets.{buckets_in}
+use Rattle.warm_gossip.specs.Answers.{AnswersDigests, IsAnswer, sent, history_after, requested_messages}
 use Rattle.warm_gossip.specs.Chunks.{AreInTurn, last_page}
 use Rattle.warm_gossip.specs.Round.{offer}
 use Rattle.warm_gossip.specs.State.{NodeView}

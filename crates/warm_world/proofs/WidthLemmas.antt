@@ -7,7 +7,7 @@ use Rattle.std.proofs.lemmas.List.{length-map, length-set}
 use Rattle.warm_stamps.specs.declared.PageId.{PageId}
 use Rattle.warm_stamps.specs.declared.Reference.{Reference}
 use Rattle.warm_stamps.specs.declared.TheConstants.{MAX_REPLICAS}
-use Rattle.warm_gossip.specs.Answers.{buckets_in}
+use Rattle.warm_stamps.specs.Buckets.{buckets_in}
 use Rattle.warm_stamps.specs.Stamps.{page_cmp}
 use Rattle.warm_stamps.proofs.DistinctLemmas.{all_append, all_filter}
 use Rattle.warm_history.specs.declared.hist.Entry.{Entry}

@@ -8,7 +8,8 @@ use Rattle.warm_history.specs.Histories.{entries_of, history}
 use Rattle.warm_history.specs.Carried.{bucket_entries, carried}
 use Rattle.warm_frames.specs.declared.layout.TheConstants.{MAX_ENTRIES}
 use Rattle.warm_frames.specs.Chunks.{chunks}
-use Rattle.warm_gossip.specs.Answers.{buckets_in, IsDiffering}
+use Rattle.warm_stamps.specs.Buckets.{buckets_in}
+use Rattle.warm_gossip.specs.Answers.{IsDiffering}
 use Rattle.warm_gossip.specs.Chunks.{last_page}
 use Rattle.warm_world.specs.States.{MessageRecord, References, Digests, Request}
 
