@@ -3,8 +3,8 @@ use Rattle.std.proofs.lemmas.List.{length-append}
 use Rattle.warm_world.proofs.Openings.{count, few_here, node_more}
 use Rattle.warm_world.proofs.nodes.nodes_over.Goals as goal
 
-pub node_over-requires-in-loop-list : goal.node_over-requires-in-loop-list
-node_over-requires-in-loop-list g c = record { few = few_here _ c.loop-list.yielded _ c.in-Some.list c.args.devices.items (ap (λ r. c.loop-list.yielded ++ r) (sym c.in-Some.ensures.steps.0) ∙ c.loop-list.invariant.rest) c.requires.usable.1 }
+pub node_over-requires : goal.node_over-requires
+node_over-requires g c = record { few = few_here _ c.loop-list.yielded _ c.in-Some.list c.args.devices.items (ap (λ r. c.loop-list.yielded ++ r) (sym c.in-Some.ensures.steps.0) ∙ c.loop-list.invariant.rest) c.requires.usable.1 }
 
 pub loop-list-init : goal.loop-list-init
 loop-list-init g c =
@@ -21,7 +21,7 @@ pub loop-list-preserved : goal.loop-list-preserved
 loop-list-preserved g c =
     let so_far = c.loop-list.yielded in
     let list = c.in-Some.list in
-    let number : c.in-Ok.id ≡ 1 + length so_far = omega (arith, c.in-Ok.ensures.value, c.len-in-loop-list.ensures, c.loop-list.nodes.ok.0, c.loop-list.invariant.count) in
+    let number : c.in-Ok.id ≡ 1 + length so_far = omega (arith, c.in-Ok.ensures.value, c.len.ensures, c.loop-list.nodes.ok.0, c.loop-list.invariant.count) in
     record {
       rest = append_assoc so_far (list ∷ []) c.next.new.self.rest.items ∙ (ap (λ r. so_far ++ r) (sym c.in-Some.ensures.steps.0) ∙ c.loop-list.invariant.rest);
       count = ap length c.push_reserved.ensures.items ∙ omega (arith, length-append c.loop-list.nodes.items (c.in_ok-node.node ∷ []), length-append so_far (list ∷ []), c.loop-list.invariant.count);

@@ -4,5 +4,5 @@ use Rattle.warm_world.proofs.replica.Replica.new.Goals as goal
 
 pub returns : goal.returns
 returns g c = λ place number.
-    opened_stands c.args.setup _ place _ _ _ _ _ _ c.buffer.ensures.limits.from_one c.buffer.ensures.value c.workers.ensures.value
+    opened_stands c.args.setup _ place _ _ _ _ _ c.buffer.ensures.limits.from_one c.buffer.ensures.value c.workers.ensures.value
     number c.in_ok-node.ensures c.in_ok-buffers.ensures

@@ -25,8 +25,8 @@ returns-in_err-receive g c =
     no_memory _ _ _ m (Deliver c.args.j c.args.k) c.index_mut.result.now _ why st c.requires.named at
     (ap (λ (n : NodeView). let r : ReplicaView = record { node = n; buffers = c.index_mut.result.now.buffers.items } in r) refused.1) refused.0 (λ named here. (named, refl)))
 
-pub returns-in_ok-receive : goal.returns-in_ok-receive
-returns-in_ok-receive g c = rw c.index_of_number-at.ensures (λ m st.
+pub returns-in-Entries : goal.returns-in-Entries
+returns-in-Entries g c = rw c.index_of_number-at.ensures (λ m st.
     let at = rw c.index_of_number-at.ensures at c.index_mut.ensures.value in
     let read = rw c.index_of_number.ensures at c.index.ensures in
     let found = decoded_is _ m c.args.k c.args.self.now.messages.items c.index.result.now _ c.decode.result c.in-Ok.message st refl c.requires.named.message_there read c.deref.ensures.value c.decode.ensures.only c.in-Ok.is in
@@ -63,7 +63,7 @@ returns g c = rw c.index_of_number-at.ensures (λ m st.
     let becomes = ap (λ (n : NodeView). let r : ReplicaView = record { node = n; buffers = c.index_mut-3.result.now.buffers.items } in r) risen
     ∙ ap (λ (r : ReplicaView). let s : ReplicaView = record r { node = record r.node { history = history (with_horizon (horizon_in c.in-Ok.message) (references_of r.node.history)) } } in s) (ap replica_view there) in
     raised_after _ _ _ m c.args.j c.args.k _ _ _ c.in-Ok.message c.as_slice.result.now _ c.in_ok-answer.answer
-    st c.requires.named at found c.in_default.not-Entries
+    st c.requires.named at found c.in_default-message.not-Entries
     (subst (λ fs. IsAnswer c.index_mut-2.result.now.node.id c.index_mut-2.result.now.node.history c.in-Ok.message fs) (sym c.as_slice.ensures) c.in_ok-answers.ensures.answers)
     (ap (λ (n : NodeView). let r : ReplicaView = record { node = n; buffers = c.index_mut-2.result.now.buffers.items } in r) c.in_ok-answers.ensures.same)
     becomes c.in_ok-answer.ensures.ok)
