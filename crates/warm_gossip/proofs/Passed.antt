@@ -1,6 +1,5 @@
 -- Which pages of a warm-up stay passed while the pool changes.
-use Rattle.std.proofs.Common.{◌≡◌, ◌≢◌, ℕ, zero, suc, ◌+◌, ◌<◌, ◌≤◌, List, [], ◌∷◌, length, set, get_or, Option, Some, None, IfSome, refl, sym, ap, subst, ◌∙◌, inl, inr, arith}
-use Rattle.std.specs.List.{Contains}
+use Rattle.std.proofs.Common.{◌≡◌, ◌≢◌, ℕ, zero, suc, ◌+◌, ◌<◌, ◌≤◌, List, [], ◌∷◌, length, get_or, Option, Some, None, IfSome, refl, sym, ap, subst, ◌∙◌, inl, inr, arith}
 use Rattle.std.specs.Ordering.{flip_args}
 use Rattle.std.specs.declared.cmp.Ordering.{Ordering}
 use Rattle.std.specs.declared.cmp.Ordering.TheVariants.{Less}
@@ -14,40 +13,31 @@ use Rattle.warm_stamps.proofs.StampLemmas.{IsStrictOrder-flip}
 use Rattle.warm_history.specs.ReferenceSets.{ReferenceSet}
 use Rattle.warm_history.specs.Histories.{HistoryView, IsHistory, pages, references_of}
 use Rattle.warm_history.proofs.JoinLemmas.{history_of_own_references}
-use Rattle.warm_rank.specs.Ranking.{IsBefore, IsVictim, eviction_cmp, hottest_pages}
+use Rattle.warm_rank.specs.Ranking.{IsBefore, eviction_cmp, hottest_pages}
 use Rattle.warm_rank.specs.WarmUp.{IsWarmUp}
 use Rattle.warm_rank.proofs.EvictionLemmas.{eviction_is_order, eviction_order}
+use Rattle.warm_pool.specs.declared.slot.Placed.{Placed}
 use Rattle.warm_pool.specs.declared.slot.Slot.{Slot}
-use Rattle.warm_pool.specs.View.{PoolView, frame_at, IsResident, unfixed_pages}
-use Rattle.warm_pool.specs.Pinning.{Pinned, PutsIn}
+use Rattle.warm_pool.specs.View.{PoolView, frame_at}
+use Rattle.warm_pool.specs.Pinning.{IsPlaced, Pinned, PutsIn}
 use Rattle.warm_gossip.specs.declared.warm_step.WarmUp.{WarmUp}
 use Rattle.warm_gossip.specs.Step.{IsFirstLoadable, IsLoadable, nth_page}
 use Rattle.warm_gossip.specs.WarmingUp.{IsNoneBefore, IsPast, IsUnderWay, IsWarming, PassedAtLoad, PassedAtPin}
 use Rattle.warm_gossip.proofs.HottestLemmas.{all_has, contains_has}
-use Rattle.warm_gossip.proofs.VictimLemmas.{KeepsPages, fixes_change, frames_after, victim_left}
-use Rattle.warm_gossip.proofs.WarmUpLemmas.{came_in, frames_count, has_same, held_or_not}
+use Rattle.warm_gossip.proofs.VictimLemmas.{frames_after}
+use Rattle.warm_gossip.proofs.WarmUpLemmas.{came_in, frames_count, has_same, resident_or_absent}
 
--- ---- where no page moves
-
--- every frame has the page that it had, and a device has the pages that it had
-record KeepsPlaces (v w : PoolView) : Type 0 where
-  devices : w.devices ≡ v.devices
-  count : length w.frames ≡ length v.frames
-  pages : KeepsPages v w
-
--- one frame has another pin count
-fixes_differ : (v w : PoolView) (k n : ℕ) → k < length v.frames → w ≡ record v { frames = set v.frames k (record (frame_at v k) { fixes = n }) } → KeepsPlaces v w
-fixes_differ v w k n there becomes = record {
-  devices = ap (λ x. x.devices) becomes;
-  count = ap (λ x. length x.frames) becomes ∙ length-set v.frames k _;
-  pages = fixes_change v w k n there (ap (λ x. x.frames) becomes);
-}
+-- ---- where no page is evicted
 
 -- then the passed pages stay passed
-under_way : (h : HistoryView) (v w : PoolView) (ps : List PageId) (n : ℕ) → KeepsPlaces v w → IsUnderWay h v ps n → IsUnderWay h w ps n
-under_way h v w ps n places under = record {
-  hottest = subst (λ k. IsWarmUp h k ps) (sym places.count) under.hottest;
-  past = λ j before there loadable. under.past j before there (has_same w v (nth_page ps j) (sym places.devices) loadable.0, λ i held. loadable.1 i (places.pages i ∙ held));
+stay_passed : (h : HistoryView) (v w : PoolView) (p : PageId) (placed : Placed) (ps : List PageId) (n : ℕ) → w.devices ≡ v.devices → length w.frames ≡ length v.frames
+    → IsPlaced v p placed w → placed.evicted ≡ None → IsUnderWay h v ps n → IsUnderWay h w ps n
+stay_passed h v w p placed ps n devices count is none under = record {
+  hottest = subst (λ k. IsWarmUp h k ps) (sym count) under.hottest;
+  past = λ j before there loadable. elim (resident_or_absent v (nth_page ps j)) [
+    | inl resident ↦ let never : None ≡ Some (nth_page ps j) = sym none ∙ (is.left (nth_page ps j)).1 (resident, loadable.1) in absurd (cc)
+    | inr absent ↦ under.past j before there (has_same w v (nth_page ps j) (sym devices) loadable.0, absent)
+  ];
 }
 
 -- ---- the pages that are kept, if any are
@@ -63,20 +53,20 @@ none_kept h v x none = subst (λ o. IfSome o (λ ps. IsUnderWay h v ps.items x.p
 -- ---- pins
 
 -- a page that is pinned leaves the pages passed that are passed still
-at_pin : (h : HistoryView) (v w : PoolView) (p : PageId) (ps : List PageId) (m n : ℕ) → length w.frames ≡ length v.frames → (IsResident v p → KeepsPlaces v w)
-    → PassedAtPin v p m n → IsUnderWay h v ps m → IsUnderWay h w ps n
-at_pin h v w p ps m n count stays (inl none) under = record {
+at_pin : (h : HistoryView) (v w : PoolView) (p : PageId) (placed : Placed) (ps : List PageId) (m n : ℕ) → w.devices ≡ v.devices → length w.frames ≡ length v.frames
+    → IsPlaced v p placed w → PassedAtPin placed.evicted m n → IsUnderWay h v ps m → IsUnderWay h w ps n
+at_pin h v w p placed ps m n devices count is (inl none) under = record {
   hottest = subst (λ k. IsWarmUp h k ps) (sym count) under.hottest;
   past = λ j before. absurd (omega (arith, none, before));
 }
-at_pin h v w p ps m n count stays (inr (resident, same)) under = under_way h v w ps n (stays resident) (subst (IsUnderWay h v ps) (sym same) under)
+at_pin h v w p placed ps m n devices count is (inr (none, same)) under = stay_passed h v w p placed ps n devices count is none (subst (IsUnderWay h v ps) (sym same) under)
 
-pub pinned : (h : HistoryView) (v w : PoolView) (p : PageId) (slot : Slot) (x : WarmUp) (n : ℕ) → PassedAtPin v p x.passed n → Pinned h v p slot w → IsWarming h v x → IsWarming h w (record x { passed = n })
-pinned h v w p slot x n passed (has, adds_or_puts) = elim adds_or_puts [
+pub pinned : (h : HistoryView) (v w : PoolView) (p : PageId) (placed : Placed) (x : WarmUp) (n : ℕ) → PassedAtPin placed.evicted x.passed n → Pinned h v p placed.slot w → IsPlaced v p placed w
+    → IsWarming h v x → IsWarming h w (record x { passed = n })
+pinned h v w p placed x n passed (has, adds_or_puts) is = elim adds_or_puts [
   | inl adds ↦
-      let places = fixes_differ v w slot.index _ adds.there adds.becomes in
-      where_kept h v w x n (λ ps. at_pin h v w p ps x.passed n places.count (λ resident. places) passed)
-  | inr puts ↦ where_kept h v w x n (λ ps. at_pin h v w p ps x.passed n (frames_count puts) (λ resident. absurd (puts.absent resident.frame resident.holds)) passed)
+      where_kept h v w x n (λ ps. at_pin h v w p placed ps x.passed n (ap (λ y. y.devices) adds.becomes) (ap (λ y. length y.frames) adds.becomes ∙ length-set v.frames placed.slot.index _) is passed)
+  | inr puts ↦ where_kept h v w x n (λ ps. at_pin h v w p placed ps x.passed n (ap (λ y. y.devices) puts.becomes) (frames_count puts) is passed)
 ]
 
 -- ---- steps of the warm-up
@@ -97,21 +87,10 @@ leaves_later S n ps is j i before there =
     let rising : IsAscending falls (hottest_pages S n) = rising_take falls n (distinct falls (pages S)) (distinct_rises falls (IsStrictOrder-flip (eviction_cmp S) (eviction_order S)) (pages S)) in
     rises_at falls ps (record { dev = 0; no = 0 }) (subst (IsAscending falls) (sym is) rising) j i before there
 
--- no other page than the victim leaves before all others
-one_victim : (S : ReferenceSet) (U : List PageId) (v : Option PageId) (q : PageId) → IsVictim S U v → IsVictim S U (Some q) → v ≡ Some q
-one_victim S U None q none victim = let no : Contains [] q = subst (λ ps. Contains ps q) none victim.0 in absurd (omega (arith, no.1))
-one_victim S U (Some r) q first second = elim (held_or_not r (Some q)) [
-  | inl is ↦ sym is
-  | inr other ↦
-      let order = eviction_is_order S in
-      let back : IsBefore S q r = second.1 r first.0 (λ is. other (ap Some (sym is))) in
-      absurd (order.irreflexive q (order.transitive q r q back (first.1 q second.0 (λ is. other (ap Some is)))))
-]
-
 -- a page that is loaded is passed too, where it evicted none of those before it
-pub loaded : (h : HistoryView) (v w : PoolView) (ps : List PageId) (slot : Slot) (victim : Option PageId) (at n : ℕ) → IsHistory h → at < length ps → IsUnderWay h v ps at
-    → PutsIn h v (nth_page ps at) 0 slot w → IsVictim (references_of h) (unfixed_pages v) victim → PassedAtLoad h w (nth_page ps at) victim at n → IsUnderWay h w ps n
-loaded h v w ps slot victim at n whole there under puts is_victim moves = record {
+pub loaded : (h : HistoryView) (v w : PoolView) (ps : List PageId) (slot : Slot) (evicted : Option PageId) (at n : ℕ) → IsHistory h → at < length ps → IsUnderWay h v ps at
+    → PutsIn h v (nth_page ps at) 0 slot w → evicted ≡ (frame_at v slot.index).page → PassedAtLoad h (nth_page ps at) evicted at n → IsUnderWay h w ps n
+loaded h v w ps slot evicted at n whole there under puts is moves = record {
   hottest = subst (λ k. IsWarmUp h k ps) (sym (frames_count puts)) under.hottest;
   past = elim moves [ inl none ↦ λ j before. absurd (omega (arith, none, before)) | inr (next, none_before) ↦ past next none_before ];
 }
@@ -122,23 +101,22 @@ loaded h v w ps slot victim at n whole there under puts is_victim moves = record
     devices : w.devices ≡ v.devices
     devices = ap (λ x. x.devices) puts.becomes
 
-    -- the evicted page comes first in the list, so it leaves after the loaded one
-    put_out : IsNoneBefore h w (nth_page ps at) victim → (j : ℕ) → j < at → IsLoadable w (nth_page ps j) → (frame_at v slot.index).page ≡ Some (nth_page ps j) → ⊥
-    put_out none_before j before loadable held =
+    -- a page before the loaded one in the list leaves after it, so it was not evicted
+    put_out : IsNoneBefore h (nth_page ps at) evicted → (j : ℕ) → j < at → (frame_at v slot.index).page ≡ Some (nth_page ps j) → ⊥
+    put_out none_before j before held =
         let q = nth_page ps j in
-        let left = victim_left puts q held in
-        let gone = subst (IsNoneBefore h w (nth_page ps at)) (one_victim S (unfixed_pages v) victim q is_victim left.1) none_before in
+        let first : IsBefore S q (nth_page ps at) = subst (IsNoneBefore h (nth_page ps at)) (is ∙ held) none_before in
         let order = eviction_is_order S in
         let later = leaves_later S (length v.frames) ps (under.hottest S (sym (history_of_own_references h whole))) j at before there in
-        elim gone [ inl resident ↦ loadable.1 resident.frame resident.holds | inr first ↦ order.irreflexive q (order.transitive q (nth_page ps at) q first later) ]
+        order.irreflexive q (order.transitive q (nth_page ps at) q first later)
 
-    past : n ≡ at + 1 → IsNoneBefore h w (nth_page ps at) victim → IsPast ps n w
+    past : n ≡ at + 1 → IsNoneBefore h (nth_page ps at) evicted → IsPast ps n w
     past next none_before j before within loadable = elim (cases_order j at) [
       | inl same ↦ loadable.1 slot.index (came_in puts ∙ ap (λ i. Some (nth_page ps i)) (sym same))
       | inr (inl first) ↦ under.past j first within (
         has_same w v (nth_page ps j) (sym devices) loadable.0,
         λ i held. frames_after puts (λ k f. (frame_at v k).page ≡ Some (nth_page ps j) → f.page ≢ Some (nth_page ps j) → ⊥)
-            (λ here gone. put_out none_before j first loadable here) (λ k other here gone. gone here) i held (loadable.1 i),
+            (λ here gone. put_out none_before j first here) (λ k other here gone. gone here) i held (loadable.1 i),
       )
       | inr (inr after) ↦ absurd (omega (arith, next, after, before))
     ]

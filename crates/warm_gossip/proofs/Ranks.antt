@@ -1,5 +1,5 @@
--- What a history says of pages as before: of those of which it takes in no reference, where its horizon does not rise; and of all, where its
--- entries stay.
+-- What a history says of pages as before: of those of which it takes in no reference, where its
+-- horizon does not rise; and of all, where its entries stay.
 use Rattle.std.proofs.Common.{◌≡◌, ℕ, ◌≤◌, suc, false, List, [], ◌∷◌, ◌++◌, map, filter, length, max, Option, Some, None, IfSome, sym, ap, refl, ◌∙◌, arith}
 use Rattle.std.proofs.lemmas.List.{append-nil}
 use Rattle.std.specs.List.{Contains}
@@ -35,18 +35,18 @@ pub differs : (q p : PageId) → (q ≡ p → ⊥) → is_eq (page_cmp q p) ≡ 
 differs q p apart = by_cases (page_cmp q p) _ (λ less. ap is_eq less) (λ tied. absurd (apart (page_order.same q p tied))) (λ more. ap is_eq more)
 
 -- no stamp is of a page that no reference is to
-untold : (T : List Reference) (p : PageId) → (Contains (map (λ r. r.page) T) p → ⊥) → told T p ≡ []
-untold [] p unnamed = refl
-untold (r ∷ T) p unnamed =
-    rw (differs r.page p (λ is. unnamed (0, omega arith, is))) (untold T p (λ has. unnamed (suc has.0, omega arith, has.2)))
+ungiven : (T : List Reference) (p : PageId) → (Contains (map (λ r. r.page) T) p → ⊥) → told T p ≡ []
+ungiven [] p unnamed = refl
+ungiven (r ∷ T) p unnamed =
+    rw (differs r.page p (λ is. unnamed (0, omega arith, is))) (ungiven T p (λ has. unnamed (suc has.0, omega arith, has.2)))
 
 -- nor a page without an entry
-untold_entries : (es : List Entry) (p : PageId) → (Contains (map (λ e. e.page) es) p → ⊥) → told (list_references_of es) p ≡ []
-untold_entries [] p unnamed = refl
-untold_entries (e ∷ es) p unnamed =
+ungiven_entries : (es : List Entry) (p : PageId) → (Contains (map (λ e. e.page) es) p → ⊥) → told (list_references_of es) p ≡ []
+ungiven_entries [] p unnamed = refl
+ungiven_entries (e ∷ es) p unnamed =
     told-append (references_of_entry e) (list_references_of es) p
     ∙ ap (λ ss. ss ++ told (list_references_of es) p) (told_entry e.page e.hist p)
-    ∙ (rw (differs e.page p (λ is. unnamed (0, omega arith, is))) (untold_entries es p (λ has. unnamed (suc has.0, omega arith, has.2))))
+    ∙ (rw (differs e.page p (λ is. unnamed (0, omega arith, is))) (ungiven_entries es p (λ has. unnamed (suc has.0, omega arith, has.2))))
 
 pub no_greater : (a b : ℕ) → b ≤ a → max a b ≡ a
 no_greater a b le = omega (arith, le)
@@ -62,11 +62,11 @@ hist_as_before S T p le none =
 
 -- a history that takes references in agrees with itself outside their pages
 pub absorbed_agrees : (h : HistoryView) (batch : List Reference) → AgreeOutside (map (λ r. r.page) batch) h (history (references_of h ∪ set_of_list batch))
-absorbed_agrees h batch p unnamed = hist_as_before (references_of h) (set_of_list batch) p (omega arith) (untold batch p unnamed)
+absorbed_agrees h batch p unnamed = hist_as_before (references_of h) (set_of_list batch) p (omega arith) (ungiven batch p unnamed)
 
 -- and one that takes entries in, of no later horizon, outside the pages of these
 pub joined_agrees : (h : HistoryView) (horizon : ℕ) (es : List Entry) → horizon ≤ h.horizon → AgreeOutside (map (λ e. e.page) es) h (history (references_of h ∪ references_of (history_of_entries_at horizon es)))
-joined_agrees h horizon es le p unnamed = hist_as_before (references_of h) (references_of (history_of_entries_at horizon es)) p le (untold_entries es p unnamed)
+joined_agrees h horizon es le p unnamed = hist_as_before (references_of h) (references_of (history_of_entries_at horizon es)) p le (ungiven_entries es p unnamed)
 
 -- ---- the same entries at another horizon
 

@@ -6,7 +6,8 @@ use Rattle.warm_history.specs.declared.hist.PageHist.TheVariants.{Once}
 use Rattle.warm_history.specs.Histories.{HistoryView, history_of_entries, history_of_entries_at, history, join}
 use Rattle.warm_frames.specs.declared.message.Message.{Message}
 use Rattle.warm_frames.specs.declared.message.Message.TheVariants.{Entries, Want}
-use Rattle.warm_gossip.specs.Answers.{buckets_in, history_after, requested_messages}
+use Rattle.warm_stamps.specs.Buckets.{buckets_in}
+use Rattle.warm_gossip.specs.Answers.{history_after, requested_messages}
 use Rattle.warm_gossip.specs.Round.{Receives, offer}
 
 -- the page 0:1, referenced at 10 by replica 1, and the page 0:2, referenced at 11 by replica 2
@@ -25,21 +26,21 @@ standby = history_of_entries (two ∷ [])
 abbrev both : HistoryView
 both = history_of_entries (one ∷ two ∷ [])
 
--- what replica 2 answers to digests from which its own differ in the buckets 1 and 2, which is the request 6
+-- what replica 2 answers to digests from which its own differ in the buckets 1 and 2, which is the
+-- request 6
 abbrev asked : List Message
 asked = Entries 2 0 (two ∷ []) ∷ Want 2 0 6 ∷ []
 
 asked_is : requested_messages 2 standby 6 ++ Want 2 0 6 ∷ [] ≡ asked
-unfolding buckets_in
 asked_is = refl
 
 -- the answer of replica 1 to that: both pages, since it now knows both
 abbrev given : List Message
 given = Entries 1 0 (one ∷ []) ∷ Entries 1 0 (two ∷ []) ∷ []
 
-heard : Receives 1 primary asked given both
-unfolding history buckets_in
-heard = ([], given, refl, (given, [], refl, (refl, refl), refl), refl)
+received : Receives 1 primary asked given both
+unfolding history
+received = ([], given, refl, (given, [], refl, (refl, refl), refl), refl)
 
 -- and replica 2 has nothing to say to these
 back : Receives 2 standby given [] both
@@ -64,15 +65,14 @@ abbrev asked_later : List Message
 asked_later = Entries 2 11 (two ∷ []) ∷ Want 2 11 6 ∷ []
 
 asked_later_is : requested_messages 2 later 6 ++ Want 2 11 6 ∷ [] ≡ asked_later
-unfolding buckets_in
 asked_later_is = refl
 
 abbrev given_later : List Message
 given_later = Entries 1 11 (two ∷ []) ∷ []
 
-heard_later : Receives 1 primary asked_later given_later later
-unfolding history buckets_in
-heard_later = ([], given_later, refl, (given_later, [], refl, (refl, refl), refl), refl)
+received_later : Receives 1 primary asked_later given_later later
+unfolding history
+received_later = ([], given_later, refl, (given_later, [], refl, (refl, refl), refl), refl)
 
 back_later : Receives 2 later given_later [] later
 unfolding history

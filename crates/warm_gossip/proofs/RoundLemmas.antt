@@ -1,4 +1,4 @@
--- What a replica learns from messages one after the other, and the result of a round of gossip.
+-- What a replica receives in messages one after the other, and the result of a round of gossip.
 use Rattle.std.proofs.Common.{◌≡◌, ◌^◌, ◌⊎◌, inl, inr, ℕ, zero, suc, ◌<◌, ◌≤◌, Bool, true, false, ◌&&◌, ◌||◌, cond, List, [], ◌∷◌, ◌++◌, length, take, drop, map, filter, max, None, refl, sym, ap, subst, ◌∙◌, append_assoc, arith, flat_map, if◌then◌else◌}
 use Rattle.std.specs.Prelude.{◌==◌, ◌≢◌}
 use Rattle.std.specs.Cmp.{nat_eq_equiv}
@@ -40,7 +40,9 @@ use Rattle.warm_digest.specs.BucketDigests.{digests_of}
 use Rattle.warm_digest.specs.Exchange.{Fits, IsCollision, IsDifferenceOf, in_buckets}
 use Rattle.warm_digest.proofs.CachedLemmas.{digest_is}
 use Rattle.warm_digest.proofs.ExchangeLemmas.{kept, hist-kept, joined_same, joined_none, exchange_joins}
-use Rattle.warm_gossip.specs.Answers.{pieces_of, pieces, entry_messages, bucket_messages, buckets_in, requested_messages, IsDiffering, refs_in, history_after}
+use Rattle.warm_frames.specs.Chunks.{chunks_of, chunks, entry_messages, bucket_messages}
+use Rattle.warm_stamps.specs.Buckets.{buckets_in}
+use Rattle.warm_gossip.specs.Answers.{requested_messages, IsDiffering, refs_in, history_after}
 use Rattle.warm_gossip.specs.Round.{Receives, HistoryRound, GossipRoundEnds, HistoryRoundJoins, OwnDigestsUnanswered, EntriesBringAll, offer}
 use Rattle.warm_gossip.proofs.AnswerLemmas.{if_other}
 use Rattle.warm_gossip.proofs.Ranks.{no_greater}
@@ -53,24 +55,24 @@ all_refs [] = set_of_list []
 all_refs (message ∷ messages) = refs_in message ∪ all_refs messages
 
 -- the references alone
-abbrev told_in : Message → List Reference
-told_in message = (refs_in message).given
+abbrev given_in : Message → List Reference
+given_in message = (refs_in message).given
 
-abbrev pub all_told : List Message → List Reference
-all_told messages = flat_map told_in messages
+abbrev pub all_given : List Message → List Reference
+all_given messages = flat_map given_in messages
 
-told-all : (messages : List Message) → (all_refs messages).given ≡ all_told messages
-told-all [] = refl
-told-all (message ∷ messages) = ap (λ t. told_in message ++ t) (told-all messages)
+given-all : (messages : List Message) → (all_refs messages).given ≡ all_given messages
+given-all [] = refl
+given-all (message ∷ messages) = ap (λ t. given_in message ++ t) (given-all messages)
 
 none_more : (S : ReferenceSet) → S ∪ set_of_list [] ≡ S
 none_more S = λ i. record { horizon = no_greater S.horizon 0 (omega arith) i; given = append-nil S.given i }
 
--- messages that come one after the other teach all that they bring
-pub hears_refs : (id : ℕ) (S : ReferenceSet) (messages answers : List Message) (new : HistoryView) → Receives id (history S) messages answers new → new ≡ history (S ∪ all_refs messages)
-hears_refs id S [] answers new hears = hears.1 ∙ ap history (sym (none_more S))
-hears_refs id S (message ∷ messages) answers new hears =
-    hears_refs id (S ∪ refs_in message) messages hears.1 new (subst (λ h. Receives id h messages hears.1 new) (history_first S (refs_in message)) hears.3)
+-- messages that come one after the other bring all that each brings
+pub receives_refs : (id : ℕ) (S : ReferenceSet) (messages answers : List Message) (new : HistoryView) → Receives id (history S) messages answers new → new ≡ history (S ∪ all_refs messages)
+receives_refs id S [] answers new receives = receives.1 ∙ ap history (sym (none_more S))
+receives_refs id S (message ∷ messages) answers new receives =
+    receives_refs id (S ∪ refs_in message) messages receives.1 new (subst (λ h. Receives id h messages receives.1 new) (history_first S (refs_in message)) receives.3)
     ∙ ap history (both_assoc S (refs_in message) (all_refs messages))
 
 pub entries_bring_all : EntriesBringAll
@@ -84,21 +86,22 @@ abbrev CarriesEntries : Message → Type 0
 CarriesEntries (Entries sender horizon entries) = Unit {0}
 CarriesEntries other = ⊥
 
--- where messages of entries come, and then a request, the request alone is answered, from what is known in the end
-hears_request : (id sender horizon request : ℕ) (h : HistoryView) (messages answers : List Message) (new : HistoryView) → AllByRecursion CarriesEntries messages
+-- where messages of entries come, and then a request, the request alone is answered, from what is
+-- known in the end
+receives_request : (id sender horizon request : ℕ) (h : HistoryView) (messages answers : List Message) (new : HistoryView) → AllByRecursion CarriesEntries messages
     → Receives id h (messages ++ Want sender horizon request ∷ []) answers new → answers ≡ requested_messages id new request
-hears_request id sender horizon request h [] answers new all hears =
-    hears.4 ∙ ap (λ t. hears.0 ++ t) hears.3.0 ∙ append-nil hears.0 ∙ hears.2 ∙ ap (λ (k : HistoryView). requested_messages id k request) (sym hears.3.1)
-hears_request id sender horizon request h (Entries from time entries ∷ messages) answers new all hears =
-    hears.4 ∙ ap (λ t. t ++ hears.1) hears.2 ∙ hears_request id sender horizon request (history_after h (Entries from time entries)) messages hears.1 new all.1 hears.3
-hears_request id sender horizon request h (other ∷ messages) answers new all hears = absurd all.0
+receives_request id sender horizon request h [] answers new all receives =
+    receives.4 ∙ ap (λ t. receives.0 ++ t) receives.3.0 ∙ append-nil receives.0 ∙ receives.2 ∙ ap (λ (k : HistoryView). requested_messages id k request) (sym receives.3.1)
+receives_request id sender horizon request h (Entries from time entries ∷ messages) answers new all receives =
+    receives.4 ∙ ap (λ t. t ++ receives.1) receives.2 ∙ receives_request id sender horizon request (history_after h (Entries from time entries)) messages receives.1 new all.1 receives.3
+receives_request id sender horizon request h (other ∷ messages) answers new all receives = absurd all.0
 
 -- where messages of entries come alone, there is no answer
 none_answered : (id : ℕ) (h : HistoryView) (messages answers : List Message) (new : HistoryView) → AllByRecursion CarriesEntries messages → Receives id h messages answers new → answers ≡ []
-none_answered id h [] answers new all hears = hears.0
-none_answered id h (Entries sender horizon entries ∷ messages) answers new all hears =
-    hears.4 ∙ ap (λ t. t ++ hears.1) hears.2 ∙ none_answered id (history_after h (Entries sender horizon entries)) messages hears.1 new all.1 hears.3
-none_answered id h (other ∷ messages) answers new all hears = absurd all.0
+none_answered id h [] answers new all receives = receives.0
+none_answered id h (Entries sender horizon entries ∷ messages) answers new all receives =
+    receives.4 ∙ ap (λ t. t ++ receives.1) receives.2 ∙ none_answered id (history_after h (Entries sender horizon entries)) messages receives.1 new all.1 receives.3
+none_answered id h (other ∷ messages) answers new all receives = absurd all.0
 
 -- what is true of messages of entries is true of the messages of buckets
 entries_in_messages : (P : Message → Type 0) (id horizon : ℕ) → ((part : List Entry) → P (Entries id horizon part)) → (parts : List (List Entry)) → AllByRecursion P (map (λ part. Entries id horizon part) parts)
@@ -108,7 +111,7 @@ entries_in_messages P id horizon each (part ∷ parts) = (each part, entries_in_
 bucket_by_bucket : (P : Message → Type 0) (id : ℕ) (h : HistoryView) → ((part : List Entry) → P (Entries id h.horizon part)) → (buckets : List ℕ) → AllByRecursion P (flat_map (bucket_messages id h) buckets)
 bucket_by_bucket P id h each [] = tt
 bucket_by_bucket P id h each (bucket ∷ buckets) =
-    all_append P (bucket_messages id h bucket) (flat_map (bucket_messages id h) buckets) (entries_in_messages P id h.horizon each (pieces MAX_ENTRIES (bucket_entries bucket (entries_of h)))) (bucket_by_bucket P id h each buckets)
+    all_append P (bucket_messages id h bucket) (flat_map (bucket_messages id h) buckets) (entries_in_messages P id h.horizon each (chunks MAX_ENTRIES (bucket_entries bucket (entries_of h)))) (bucket_by_bucket P id h each buckets)
 
 wanted_carry : (id request : ℕ) (h : HistoryView) → AllByRecursion CarriesEntries (requested_messages id h request)
 wanted_carry id request h = bucket_by_bucket CarriesEntries id h (λ part. tt) (buckets_in request)
@@ -135,21 +138,21 @@ held_by-append : (es fs : List Entry) → references_of_entries (es ++ fs) ≡ r
 held_by-append [] fs = refl
 held_by-append (e ∷ es) fs = ap (λ t. references_of_entry e ++ t) (held_by-append es fs) ∙ sym (append_assoc (references_of_entry e) (references_of_entries es) (references_of_entries fs))
 
--- pieces together hold what the list holds
-pieces_hold : (id horizon size n : ℕ) (es : List Entry) → 0 < size → length es ≤ n → all_told (map (λ part. Entries id horizon part) (pieces_of size n es)) ≡ references_of_entries es
-pieces_hold id horizon size zero [] some few = refl
-pieces_hold id horizon size zero (e ∷ es) some few = absurd (omega (arith, few))
-pieces_hold id horizon size (suc n) [] some few = refl
-pieces_hold id horizon size (suc n) (e ∷ es) some few =
+-- chunks together hold what the list holds
+chunks_hold : (id horizon size n : ℕ) (es : List Entry) → 0 < size → length es ≤ n → all_given (map (λ part. Entries id horizon part) (chunks_of size n es)) ≡ references_of_entries es
+chunks_hold id horizon size zero [] some few = refl
+chunks_hold id horizon size zero (e ∷ es) some few = absurd (omega (arith, few))
+chunks_hold id horizon size (suc n) [] some few = refl
+chunks_hold id horizon size (suc n) (e ∷ es) some few =
     let front : List Entry = take size (e ∷ es) in
     let later : List Entry = drop size (e ∷ es) in
     let fewer : length later ≤ n = omega (arith, length-drop size (e ∷ es), some, few) in
-    ap (λ t. references_of_entries front ++ t) (pieces_hold id horizon size n later some fewer)
+    ap (λ t. references_of_entries front ++ t) (chunks_hold id horizon size n later some fewer)
     ∙ sym (held_by-append front later)
     ∙ ap references_of_entries (take-append-drop size (e ∷ es))
 
-entry_messages_hold : (id horizon : ℕ) (es : List Entry) → all_told (entry_messages id horizon es) ≡ references_of_entries es
-entry_messages_hold id horizon es = pieces_hold id horizon MAX_ENTRIES (length es) es (omega arith) (omega arith)
+entry_messages_hold : (id horizon : ℕ) (es : List Entry) → all_given (entry_messages id horizon es) ≡ references_of_entries es
+entry_messages_hold id horizon es = chunks_hold id horizon MAX_ENTRIES (length es) es (omega arith) (omega arith)
 
 -- whether an entry is chosen by its page, or its references are, is the same
 kept_entry : (test : PageId → Bool) (page : PageId) (h : PageHist) → kept test (references_of_entry (record { page = page; hist = h })) ≡ cond (test page) (references_of_entry (record { page = page; hist = h })) []
@@ -179,11 +182,11 @@ held_by-filter test (e ∷ es) =
 abbrev of_bucket : List Reference → ℕ → List Reference
 of_bucket R bucket = kept (λ p. page_bucket p == bucket) R
 
-buckets_hold : (id : ℕ) (h : HistoryView) (buckets : List ℕ) → all_told (flat_map (bucket_messages id h) buckets) ≡ flat_map (of_bucket (references_of_entries (entries_of h))) buckets
+buckets_hold : (id : ℕ) (h : HistoryView) (buckets : List ℕ) → all_given (flat_map (bucket_messages id h) buckets) ≡ flat_map (of_bucket (references_of_entries (entries_of h))) buckets
 buckets_hold id h [] = refl
 buckets_hold id h (bucket ∷ buckets) =
-    flat_map-append told_in (bucket_messages id h bucket) (flat_map (bucket_messages id h) buckets)
-    ∙ ap (λ t. t ++ all_told (flat_map (bucket_messages id h) buckets)) (entry_messages_hold id h.horizon (bucket_entries bucket (entries_of h)) ∙ held_by-filter (λ p. page_bucket p == bucket) (entries_of h))
+    flat_map-append given_in (bucket_messages id h bucket) (flat_map (bucket_messages id h) buckets)
+    ∙ ap (λ t. t ++ all_given (flat_map (bucket_messages id h) buckets)) (entry_messages_hold id h.horizon (bucket_entries bucket (entries_of h)) ∙ held_by-filter (λ p. page_bucket p == bucket) (entries_of h))
     ∙ ap (λ t. of_bucket (references_of_entries (entries_of h)) bucket ++ t) (buckets_hold id h buckets)
 
 -- ---- what they say of each page
@@ -208,7 +211,6 @@ hist-buckets R (bucket ∷ buckets) p =
     cases false false = refl
 
 any_bucket : (request : ℕ) (p : PageId) → list_any (λ bucket. page_bucket p == bucket) (buckets_in request) ≡ (bit_at request (page_bucket p) == 1)
-unfolding buckets_in
 any_bucket request p =
     let n : ℕ = page_bucket p in
     let there : Contains (range_with_len 0 BUCKETS) n = (n, omega arith, get_or-range_with_len 0 BUCKETS n n (omega arith) ∙ omega arith) in
@@ -221,7 +223,7 @@ abbrev in_request : ℕ → PageId → Bool
 in_request request p = bit_at request (page_bucket p) == 1
 
 -- wanted messages say of each page what the references of the wanted buckets do
-hist-wanted : (id request : ℕ) (h : HistoryView) (p : PageId) → list_hist (all_told (requested_messages id h request)) p ≡ list_hist (kept (in_request request) (references_of_entries (entries_of h))) p
+hist-wanted : (id request : ℕ) (h : HistoryView) (p : PageId) → list_hist (all_given (requested_messages id h request)) p ≡ list_hist (kept (in_request request) (references_of_entries (entries_of h))) p
 hist-wanted id request h p =
     ap (λ (R : List Reference). list_hist R p) (buckets_hold id h (buckets_in request))
     ∙ hist-buckets (references_of_entries (entries_of h)) (buckets_in request) p
@@ -255,14 +257,14 @@ hist_back request S T p =
     cases false = refl
 
 -- sets that, united with S, agree on each page and have the same horizon, have one history with it
-told_alike : (S A B : ReferenceSet) → max S.horizon A.horizon ≡ max S.horizon B.horizon → ((p : PageId) → list_hist (S.given ++ A.given) p ≡ list_hist (S.given ++ B.given) p) → history (S ∪ A) ≡ history (S ∪ B)
-told_alike S A B horizons alike = same_hists (S ∪ A) (S ∪ B) horizons (λ p.
+given_alike : (S A B : ReferenceSet) → max S.horizon A.horizon ≡ max S.horizon B.horizon → ((p : PageId) → list_hist (S.given ++ A.given) p ≡ list_hist (S.given ++ B.given) p) → history (S ∪ A) ≡ history (S ∪ B)
+given_alike S A B horizons alike = same_hists (S ∪ A) (S ∪ B) horizons (λ p.
     ap (λ m. list_hist (references_from m (S.given ++ A.given)) p) horizons
     ∙ kept_alike (max S.horizon B.horizon) (S.given ++ A.given) (S.given ++ B.given) alike p)
 
 -- and so where the second alone says the same
 second_alike : (S A B : ReferenceSet) → max S.horizon A.horizon ≡ max S.horizon B.horizon → ((p : PageId) → list_hist A.given p ≡ list_hist B.given p) → history (S ∪ A) ≡ history (S ∪ B)
-second_alike S A B horizons alike = told_alike S A B horizons (λ p. hist-append S.given A.given p ∙ ap (joined (list_hist S.given p)) (alike p) ∙ sym (hist-append S.given B.given p))
+second_alike S A B horizons alike = given_alike S A B horizons (λ p. hist-append S.given A.given p ∙ ap (joined (list_hist S.given p)) (alike p) ∙ sym (hist-append S.given B.given p))
 
 -- the request of i, and the answer of j, of the buckets of the request
 abbrev Exchanged : ℕ → HistoryView → HistoryView → HistoryView → HistoryView → Type 0
@@ -273,21 +275,21 @@ abbrev asking : ℕ → HistoryView → ℕ → List Message
 asking j g request = requested_messages j g request ++ Want j g.horizon request ∷ []
 
 -- i takes in what j has of these buckets
-first_taught : (i j request : ℕ) (h g : HistoryView) (given : List Message) (h' : HistoryView) → IsHistory h → Receives i h (asking j g request) given h' → h' ≡ history (references_of h ∪ in_buckets request (references_of g))
-first_taught i j request h g given h' whole heard =
+first_after : (i j request : ℕ) (h g : HistoryView) (given : List Message) (h' : HistoryView) → IsHistory h → Receives i h (asking j g request) given h' → h' ≡ history (references_of h ∪ in_buckets request (references_of g))
+first_after i j request h g given h' whole received =
     let S = references_of h in
     let messages : List Message = requested_messages j g request in
     let last : Message = Want j g.horizon request in
     let A : ReferenceSet = all_refs (messages ++ last ∷ []) in
-    let told : A.given ≡ all_told messages = told-all (messages ++ last ∷ []) ∙ flat_map-append told_in messages (last ∷ []) ∙ append-nil (all_told messages) in
+    let told : A.given ≡ all_given messages = given-all (messages ++ last ∷ []) ∙ flat_map-append given_in messages (last ∷ []) ∙ append-nil (all_given messages) in
     let at : A.horizon ≡ g.horizon = at_last g.horizon messages last (wanted_at j request g) refl in
-    hears_refs i S (messages ++ last ∷ []) given h' (subst (λ k. Receives i k (messages ++ last ∷ []) given h') (sym (history_of_own_references h whole)) heard)
+    receives_refs i S (messages ++ last ∷ []) given h' (subst (λ k. Receives i k (messages ++ last ∷ []) given h') (sym (history_of_own_references h whole)) received)
     ∙ second_alike S A (in_buckets request (references_of g)) (ap (max h.horizon) at) (λ p. ap (λ (R : List Reference). list_hist R p) told ∙ hist-wanted j request g p)
 
 -- and j receives what i then has of them, which for j is no more than what i had before
-second_taught : (i j request : ℕ) (h g : HistoryView) (given last : List Message) (h' g' : HistoryView) → IsHistory g → h.horizon ≤ g.horizon → h' ≡ history (references_of h ∪ in_buckets request (references_of g))
+second_after : (i j request : ℕ) (h g : HistoryView) (given last : List Message) (h' g' : HistoryView) → IsHistory g → h.horizon ≤ g.horizon → h' ≡ history (references_of h ∪ in_buckets request (references_of g))
     → given ≡ requested_messages i h' request → Receives j g given last g' → g' ≡ history (references_of g ∪ in_buckets request (references_of h))
-second_taught i j request h g given last h' g' whole le is answered back =
+second_after i j request h g given last h' g' whole le is answered back =
     let S = references_of h in
     let T = references_of g in
     let test = in_request request in
@@ -299,23 +301,23 @@ second_taught i j request h g given last h' g' whole le is answered back =
     let entries : entries_of h' ≡ list_history (references X) = ap entries_of is ∙ entries-history X in
     let low : G.horizon ≤ h'.horizon = at_most h'.horizon given (subst (AllByRecursion (IsAt h'.horizon)) (sym answered) (wanted_at i request h')) in
     let told : (p : PageId) → list_hist G.given p ≡ list_hist B.given p = λ p.
-    ap (λ (R : List Reference). list_hist R p) (told-all given ∙ ap all_told answered)
+    ap (λ (R : List Reference). list_hist R p) (given-all given ∙ ap all_given answered)
     ∙ hist-wanted i request h' p
     ∙ hist-kept test (references_of_entries (entries_of h')) p
     ∙ ap (λ x. cond (test p) x None) (ap (λ es. list_hist (references_of_entries es) p) entries ∙ hist_refs-history (references X) p)
     ∙ sym (hist-kept test (references X) p)
     ∙ ap (λ (R : List Reference). list_hist R p) (sym (references-those (λ r. test r.page) X)) in
-    hears_refs j T given last g' (subst (λ k. Receives j k given last g') (sym (history_of_own_references g whole)) back)
+    receives_refs j T given last g' (subst (λ k. Receives j k given last g') (sym (history_of_own_references g whole)) back)
     ∙ second_alike T G B (omega (arith, le, low, horizon)) told
     ∙ history_alike T T B Z refl refl (λ p. refl) (λ p. ap (λ (R : List Reference). list_hist R p) (kept-references Z))
-    ∙ told_alike T Z (in_buckets request S) (omega (arith, le)) (λ p. hist_back request S.given T.given p)
+    ∙ given_alike T Z (in_buckets request S) (omega (arith, le)) (λ p. hist_back request S.given T.given p)
 
 exchanged : (i j request : ℕ) (h g : HistoryView) (given last : List Message) (h' g' : HistoryView) → IsHistory h → IsHistory g → h.horizon ≤ g.horizon
     → Receives i h (asking j g request) given h' → Receives j g given last g' → Exchanged request h g h' g'
-exchanged i j request h g given last h' g' whole other le heard back =
-    let first = first_taught i j request h g given h' whole heard in
-    let answered = hears_request i j g.horizon request h (requested_messages j g request) given h' (wanted_carry j request g) heard in
-    (first, second_taught i j request h g given last h' g' other le first answered back)
+exchanged i j request h g given last h' g' whole other le received back =
+    let first = first_after i j request h g given h' whole received in
+    let answered = receives_request i j g.horizon request h (requested_messages j g request) given h' (wanted_carry j request g) received in
+    (first, second_after i j request h g given last h' g' other le first answered back)
 
 -- no bucket is in the request 0
 none_wanted : (S : List Reference) → kept (in_request 0) S ≡ []
@@ -431,12 +433,12 @@ asked i j h g h' g' round =
     elim (cases_eq request 0) [
       | inl none ↦
           let nothing : round.asked ≡ [] = round.offered.3 ∙ if_zero request [] (asking j k request) none in
-          let first : Receives i h [] round.given h' = subst (λ messages. Receives i h messages round.given h') nothing round.heard in
+          let first : Receives i h [] round.given h' = subst (λ messages. Receives i h messages round.given h') nothing round.received in
           let second : Receives j k [] round.last g' = subst (λ messages. Receives j k messages round.last g') first.0 round.back in
           inl (none, nothing, second.0, first.1, second.1)
       | inr some ↦
           let all : round.asked ≡ asking j k request = round.offered.3 ∙ if_other request [] (asking j k request) some in
-          inr (subst (λ messages. Receives i h messages round.given h') all round.heard, round.back)
+          inr (subst (λ messages. Receives i h messages round.given h') all round.received, round.back)
     ]
 
 -- both have the entries of one history, which is all that j has and, where messages were requested,
@@ -457,8 +459,8 @@ both_join i j request h g h' g' messages given last whole other le fits others d
             inl (ap entries_of first ∙ same ∙ ap entries_of all, second ∙ all, λ some. absurd (some nothing))
       ]
     ]
-both_join i j request h g h' g' messages given last whole other le fits others differ (inr (heard, back)) =
-    let done = exchanged i j request h g given last h' g' whole other le heard back in
+both_join i j request h g h' g' messages given last whole other le fits others differ (inr (received, back)) =
+    let done = exchanged i j request h g given last h' g' whole other le received back in
     elim (exchange_gives g h other whole others fits request (other_way request h g differ)) [
       | inr c ↦ inr (collision_too g h c)
       | inl first ↦ elim (exchange_gives h g whole other fits others request differ) [
@@ -484,6 +486,6 @@ gossip_round_ends i j h g h' g' whole round = elim (asked i j h g h' g' round) [
   | inr some ↦
       let request : ℕ = round.offered.0 in
       let k : HistoryView = history_after g (offer i h) in
-      let given : round.given ≡ requested_messages i h' request = hears_request i j k.horizon request h (requested_messages j k request) round.given h' (wanted_carry j request k) some.0 in
+      let given : round.given ≡ requested_messages i h' request = receives_request i j k.horizon request h (requested_messages j k request) round.given h' (wanted_carry j request k) some.0 in
       none_answered j k round.given round.last g' (subst (AllByRecursion CarriesEntries) (sym given) (wanted_carry i request h')) some.1
 ]

@@ -110,7 +110,8 @@ pinned : (h : HistoryView) (v w : PoolView) (p : PageId) (slot : Slot) → AddsF
 pinned h v w p slot (inl adds) = inl (fixes_change v w slot.index _ adds.there (ap (λ x. x.frames) adds.becomes))
 pinned h v w p slot (inr puts) = inr (p, 1, slot, puts)
 
--- the history is that of S, and any call but a restart has put one page into a frame, or left all where they were
+-- the history is that of S, and any call but a restart has put one page into a frame, or left all
+-- where they were
 abbrev pub Leads : ReferenceSet → Call → NodeView → NodeView → Type 0
 Leads S call old new = (new.history ≡ history S) × (call ≢ Restart → KeepsPages old.pool new.pool ⊎ PutsPage old.history old.pool new.pool)
 
@@ -120,17 +121,17 @@ leads_alone S call old new is (alone, keeps) = (ap (λ n. n.history) alone ∙ i
 leads_same : (S : ReferenceSet) (call : Call) (old new : NodeView) → old.history ≡ history S → new ≡ old → Leads S call old new
 leads_same S call old new is same = leads_alone S call old new is (none_changed old new same)
 
-leads_taught : (S T : ReferenceSet) (call : Call) (old new : NodeView) → old.history ≡ history S → new ≡ record old { history = history (references_of old.history ∪ T) } → Leads (S ∪ T) call old new
-leads_taught S T call old new is step =
+leads_with : (S T : ReferenceSet) (call : Call) (old new : NodeView) → old.history ≡ history S → new ≡ record old { history = history (references_of old.history ∪ T) } → Leads (S ∪ T) call old new
+leads_with S T call old new is step =
     (ap (λ n. n.history) step ∙ ap (λ h. history (references_of h ∪ T)) is ∙ history_first S T, λ other. inl (same_pool old.pool new.pool (ap (λ n. n.pool) step)))
 
 -- a call leads to the history of the references given before and of those that it gives
 pub step_leads : (S : ReferenceSet) (call : Call) (reply : Reply) (old new : NodeView) → old.history ≡ history S → Step old call reply new → Leads (given_by_call S call reply) call old new
-step_leads S (Absorb batch) Done old new is step = leads_taught S (set_of_list batch) (Absorb batch) old new is step
+step_leads S (Absorb batch) Done old new is step = leads_with S (set_of_list batch) (Absorb batch) old new is step
 step_leads S (Send bucket after) (Sent message) old new is step = leads_same S (Send bucket after) old new is step.1
 step_leads S Offer (Sent message) old new is step = leads_same S Offer old new is step.1
-step_leads S (Receive message) (Answers messages) old new is step = leads_taught S (refs_in message) (Receive message) old new is step.1
-step_leads S (Horizon time) (Kept horizon) old new is step = leads_taught S (record { horizon = time; given = [] }) (Horizon time) old new is step.0
+step_leads S (Receive message) (Answers messages) old new is step = leads_with S (refs_in message) (Receive message) old new is step.1
+step_leads S (Horizon time) (Kept horizon) old new is step = leads_with S (record { horizon = time; given = [] }) (Horizon time) old new is step.0
 step_leads S (Pin p) (Pinned slot) old new is step = (ap (λ n. n.history) step.0 ∙ is, λ other. pinned old.history old.pool new.pool p slot step.1.1)
 step_leads S (Unpin slot) Done old new is step = (ap (λ n. n.history) step.1 ∙ is, λ other. inl (fixes_change old.pool new.pool slot.index _ step.0.there (ap (λ n. n.pool.frames) step.1)))
 step_leads S (Read slot at len) (Bytes bytes) old new is step = leads_same S (Read slot at len) old new is step.3

@@ -1,4 +1,5 @@
--- A warm-up of as many steps as there are frames: no page of the list leaves, so each step passes one page more of the list.
+-- A warm-up of as many steps as there are frames: no page of the list leaves, so each step passes
+-- one page more of the list.
 use Rattle.std.proofs.Common.{◌≡◌, ◌≢◌, ◌⊎◌, ◌≤◌, ◌<◌, ◌+◌, ℕ, zero, suc, false, List, [], ◌∷◌, map, length, get_or, Option, Some, None, refl, sym, ap, subst, ◌∙◌, inl, inr, arith}
 use Rattle.std.specs.Bool.{Decides}
 use Rattle.std.specs.List.{Contains, cons_option}
@@ -42,7 +43,7 @@ pub held_or_not : (p : PageId) (o : Option PageId) → (o ≡ Some p) ⊎ (o ≢
 held_or_not p o = elim (cases_Bool (is_page p o)) [ inl is ↦ inl (page_found p o is) | inr is ↦ inr (λ held. absurd (false≢true (sym is ∙ found_page p o held))) ]
 
 -- a page is in a frame, or in none
-resident_or_absent : (v : PoolView) (p : PageId) → IsResident v p ⊎ IsAbsent v p
+pub resident_or_absent : (v : PoolView) (p : PageId) → IsResident v p ⊎ IsAbsent v p
 resident_or_absent v p = elim (go v.frames) [ inl (k, lt, is) ↦ inl (record { frame = k; there = lt; holds = is }) | inr none ↦ inr none ]
   where
     first : (f : FrameView) (fs : List FrameView) → f.page ≢ Some p → ((k : ℕ) → (get_or fs k no_frame).page ≢ Some p) → (k : ℕ) → (get_or (f ∷ fs) k no_frame).page ≢ Some p
@@ -71,8 +72,8 @@ has_same v w p same has = record { device = rw same has.device; number = rw same
 same_page : (p q : PageId) → Decides (eq_by_cmp page_cmp p q) (p ≡ q)
 same_page p q = (λ tied. page_order.same p q (is_equal (page_cmp p q) tied), λ is. ap (λ x. is_eq (page_cmp p x)) (sym is) ∙ ap is_eq (tied_itself page_order.total p))
 
--- Where every frame has a page and each page is in one frame, no list of as many pages as there are frames has all of these and one
--- more.
+-- Where every frame has a page and each page is in one frame, no list of as many pages as there are
+-- frames has all of these and one more.
 crowded : (v : PoolView) → PagesDiffer v → HasNoFreeFrame v → (q : PageId) → IsAbsent v q → (ps : List PageId) → length ps ≤ length v.frames → Contains ps q
     → ((i : ℕ) (r : PageId) → (frame_at v i).page ≡ Some r → Contains ps r) → ⊥
 crowded v differ full q absent ps few listed within =

@@ -1,41 +1,21 @@
 -- The messages that a node sends, and its answers to a message.
-use Rattle.std.specs.Prelude.{◌≡◌, ◌^◌, ◌≢◌, ◌↔◌, ℕ, zero, suc, ◌==◌, ◌<◌, List, [], ◌∷◌, ◌++◌, length, take, drop, map, filter, Option, if◌then◌else◌}
-use Rattle.std.specs.List.{flat_map, range_with_len}
+use Rattle.std.specs.Prelude.{◌≡◌, ◌^◌, ◌≢◌, ◌↔◌, ℕ, ◌==◌, ◌<◌, List, [], ◌∷◌, ◌++◌, Option, if◌then◌else◌}
+use Rattle.std.specs.List.{flat_map}
 use Rattle.std.specs.Int.{bit_at}
 use Rattle.warm_stamps.specs.declared.PageId.{PageId}
 use Rattle.warm_stamps.specs.declared.TheConstants.{BUCKETS}
-use Rattle.warm_history.specs.declared.hist.Entry.{Entry}
+use Rattle.warm_stamps.specs.Buckets.{buckets_in}
 use Rattle.warm_history.specs.ReferenceSets.{ReferenceSet, ◌∪◌}
 use Rattle.warm_history.specs.Histories.{HistoryView, entries_of, history_of_entries_at, history, references_of}
-use Rattle.warm_history.specs.Carried.{bucket_entries, carried}
+use Rattle.warm_history.specs.Carried.{carried}
+use Rattle.warm_frames.specs.Chunks.{bucket_messages}
 use Rattle.warm_frames.specs.declared.layout.TheConstants.{MAX_ENTRIES}
 use Rattle.warm_frames.specs.declared.message.Message.{Message}
 use Rattle.warm_frames.specs.declared.message.Message.TheVariants.{Entries, Digest, Want}
 use Rattle.warm_frames.specs.Digests.{digest_at}
 use Rattle.warm_digest.specs.BucketDigests.{digests_of}
 
--- the list in pieces of `size` items, of which the last may be shorter
-abbrev pub pieces_of : {A : Type 0} → ℕ → ℕ → List A → List (List A)
-pieces_of size zero xs = []
-pieces_of size (suc n) [] = []
-pieces_of size (suc n) (x ∷ xs) = take size (x ∷ xs) ∷ pieces_of size n (drop size (x ∷ xs))
-
-abbrev pub pieces : {A : Type 0} → ℕ → List A → List (List A)
-pieces size xs = pieces_of size (length xs) xs
-
--- the entries, in messages of MAX_ENTRIES entries each but the last, each with this horizon
-abbrev pub entry_messages : ℕ → ℕ → List Entry → List Message
-entry_messages id horizon es = map (λ part. Entries id horizon part) (pieces MAX_ENTRIES es)
-
--- a bucket of the history in messages; none where it is empty
-abbrev pub bucket_messages : ℕ → HistoryView → ℕ → List Message
-bucket_messages id h bucket = entry_messages id h.horizon (bucket_entries bucket (entries_of h))
-
--- the buckets whose bit is set, in rising order
-unfoldable pub buckets_in : ℕ → List ℕ
-buckets_in request = filter (λ bucket. bit_at request bucket == 1) (range_with_len 0 BUCKETS)
-
--- the buckets of the history whose bit is set, in messages
+-- the requested buckets of the history, in messages
 abbrev pub requested_messages : ℕ → HistoryView → ℕ → List Message
 requested_messages id h request = flat_map (bucket_messages id h) (buckets_in request)
 
@@ -43,7 +23,8 @@ requested_messages id h request = flat_map (bucket_messages id h) (buckets_in re
 abbrev pub IsDiffering : List (List ℕ) → HistoryView → ℕ → Type 0
 IsDiffering digests h request = (bucket : ℕ) → bucket < BUCKETS → (bit_at request bucket ≡ 1) ↔ (digest_at digests bucket ≢ digest_at (digests_of (entries_of h)) bucket)
 
--- The answer to digests: the entries of the buckets that differ, and then a request for these; nothing where none differs.
+-- The answer to digests: the entries of the buckets that differ, and then a request for these;
+-- nothing where none differs.
 abbrev pub AnswersDigests : ℕ → HistoryView → List (List ℕ) → List Message → Type 0
 AnswersDigests id h digests messages = (request : ℕ) × (request < 2 ^ 64) × IsDiffering digests h request
     × (messages ≡ if request == 0 then [] else requested_messages id h request ++ Want id h.horizon request ∷ [])

@@ -11,7 +11,7 @@ use Rattle.warm_pool.specs.State.{IsSettled}
 use Rattle.warm_pool.specs.WritingBack as writing_back
 use Rattle.warm_pool.specs.declared.slot.Slot.{Slot}
 use Rattle.warm_gossip.specs.declared.call.Call.{Call}
-use Rattle.warm_gossip.specs.declared.call.Call.TheVariants.{Pin, Read, Write, WarmStep, Restart}
+use Rattle.warm_gossip.specs.declared.call.Call.TheVariants.{Absorb, Pin, Read, Write, WarmStep, Restart}
 use Rattle.warm_gossip.specs.declared.call.Reply.{Reply}
 use Rattle.warm_gossip.specs.declared.call.Reply.TheVariants.{Done, Pinned, Loaded, Refused}
 use Rattle.warm_gossip.specs.declared.fault.NodeFault.{NodeFault}
@@ -22,6 +22,11 @@ use Rattle.warm_gossip.specs.Step.{IsFailed, IsNextWarm, OnPool, Step}
 -- the step of this call with this reply leads from the old node to the new one
 abbrev pub Goes : NodeState → Call → Reply → NodeState → Type 0
 Goes old call reply new = Step (node_view old) call reply (node_view new)
+
+-- any call but one that absorbs references
+abbrev pub IsOtherThanAbsorb : Call → Type 0
+IsOtherThanAbsorb (Absorb batch) = ⊥
+IsOtherThanAbsorb call = Unit {0}
 
 -- the reply to a call without a result
 abbrev pub done : {A : Type 0} → A → Reply
@@ -73,7 +78,8 @@ abbrev pub DevicesAnswered : {T : Type 0} → NodeState → Call → (T → Repl
 DevicesAnswered old call reply (Ok given) new = DevicesAfter old call (reply given) new
 DevicesAnswered old call reply (Err why) new = DevicesAfter old call (Refused why) new
 
--- why no bytes were read into a buffer, which is as it was: a call that reads as many is refused so, though never for memory
+-- why no bytes were read into a buffer, which is as it was: a call that reads as many is refused
+-- so, though never for memory
 abbrev pub ReadIntoFails : NodeState → Slot → ℕ → List ℕ → NodeFault → List ℕ → Type 0
 ReadIntoFails s slot at old Memory new = ⊥
 ReadIntoFails s slot at old why new = Goes s (Read slot at (length old)) (Refused why) s × (new ≡ old)

@@ -1,7 +1,7 @@
 pub mod Faults
 pub mod State
 pub mod Answers
-pub mod Pieces
+pub mod Chunks
 pub mod Round
 pub mod Step
 pub mod WarmingUp

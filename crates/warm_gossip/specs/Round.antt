@@ -27,7 +27,7 @@ pub record HistoryRound (i j : ℕ) (h g h' g' : HistoryView) : Type 0 where
   pub given : List Message
   pub last : List Message
   pub offered : IsAnswer j g (offer i h) asked
-  pub heard : Receives i h asked given h'
+  pub received : Receives i h asked given h'
   pub back : Receives j (history_after g (offer i h)) given last g'
 
 -- After a round both histories have the entries of the join of the two before; that of j has its

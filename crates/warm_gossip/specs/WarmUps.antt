@@ -32,7 +32,8 @@ abbrev pub WarmStepKeepsHottest : Type 0
 WarmStepKeepsHottest = (S : ReferenceSet) (old new : NodeView) (reply : Reply) → StandsFor old.history S → PagesDiffer old.pool → IsUnfixed old.pool
     → Step old WarmStep reply new → (p : PageId) → Contains (hottest_pages S (length old.pool.frames)) p → IsEvicted old.pool new.pool p → ⊥
 
--- after as many steps as there are frames, all of the hottest pages that the devices have are resident
+-- after as many steps as there are frames, all of the hottest pages that the devices have are
+-- resident
 abbrev pub StepsLoad : ReferenceSet → NodeView → NodeView → Type 0
 StepsLoad S old new = WarmSteps (length old.pool.frames) old new → (p : PageId) → IsHot S old.pool p → IsResident new.pool p
 

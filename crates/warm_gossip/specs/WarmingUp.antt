@@ -4,7 +4,7 @@ use Rattle.warm_stamps.specs.declared.PageId.{PageId}
 use Rattle.warm_history.specs.Histories.{HistoryView, references_of}
 use Rattle.warm_rank.specs.Ranking.{IsBefore}
 use Rattle.warm_rank.specs.WarmUp.{IsWarmUp}
-use Rattle.warm_pool.specs.View.{PoolView, IsResident}
+use Rattle.warm_pool.specs.View.{PoolView}
 use Rattle.warm_gossip.specs.declared.warm_step.WarmUp.{WarmUp}
 use Rattle.warm_gossip.specs.Step.{IsLoadable, nth_page}
 
@@ -21,17 +21,16 @@ pub record IsUnderWay (h : HistoryView) (v : PoolView) (pages : List PageId) (pa
 abbrev pub IsWarming : HistoryView → PoolView → WarmUp → Type 0
 IsWarming h v warm_up = IfSome warm_up.pages (λ pages. IsUnderWay h v pages.items warm_up.passed)
 
--- after a pin of the page: the count of passed pages is 0, or the page was resident and the count
--- is unchanged
-abbrev pub PassedAtPin : PoolView → PageId → ℕ → ℕ → Type 0
-PassedAtPin v p old new = (new ≡ 0) ⊎ (IsResident v p × (new ≡ old))
+-- after a pin: the count of passed pages is 0, or no page was evicted and the count is unchanged
+abbrev pub PassedAtPin : Option PageId → ℕ → ℕ → Type 0
+PassedAtPin evicted old new = (new ≡ 0) ⊎ ((evicted ≡ None) × (new ≡ old))
 
--- there was no victim, or it is still resident, or it leaves before this page: so it is not among
--- the pages before this one in the list
-abbrev pub IsNoneBefore : HistoryView → PoolView → PageId → Option PageId → Type 0
-IsNoneBefore h v p None = Unit {0}
-IsNoneBefore h v p (Some victim) = IsResident v victim ⊎ IsBefore (references_of h) victim p
+-- no page was evicted, or one that leaves before this page: so it is not among the pages before this
+-- one in the list
+abbrev pub IsNoneBefore : HistoryView → PageId → Option PageId → Type 0
+IsNoneBefore h p None = Unit {0}
+IsNoneBefore h p (Some evicted) = IsBefore (references_of h) evicted p
 
 -- the loaded page is passed too, unless the page that it evicted may be among those before it
-abbrev pub PassedAtLoad : HistoryView → PoolView → PageId → Option PageId → ℕ → ℕ → Type 0
-PassedAtLoad h v p victim at new = (new ≡ 0) ⊎ ((new ≡ at + 1) × IsNoneBefore h v p victim)
+abbrev pub PassedAtLoad : HistoryView → PageId → Option PageId → ℕ → ℕ → Type 0
+PassedAtLoad h p evicted at new = (new ≡ 0) ⊎ ((new ≡ at + 1) × IsNoneBefore h p evicted)

@@ -1,16 +1,16 @@
 //! The answers of a node to digests and to a request.
-ghost use Rattle.std.specs.Prelude.{◌≡◌, ◌==◌, ◌≤◌, ◌++◌, length, IfOk, OnOk};
-ghost use Rattle.std.specs.Int.{bit_at};
+ghost use Rattle.std.specs.Prelude.{◌≡◌, ◌≤◌, ◌++◌, length, IfOk, OnOk};
 ghost use Rattle.warm_history.specs.Histories.{PagesAscend};
 ghost use Rattle.warm_history.specs.Losses.{bucket_at_horizon, raised};
 ghost use Rattle.warm_digest.specs.BucketDigests.{digests_at_horizon};
-ghost use Rattle.warm_gossip.specs.Answers.{AnswersDigests, entry_messages, requested_messages, refs_in};
+ghost use Rattle.warm_frames.specs.Chunks.{entry_messages};
+ghost use Rattle.warm_gossip.specs.Answers.{AnswersDigests, requested_messages};
 
 use std::alloc::{AllocError, Global};
 use warm_digest::{DigestedHistory, differing};
 use warm_frames::{DigestTable, EntryList, MAX_ENTRIES, Message};
 use warm_history::{Entry, History};
-use warm_stamps::{BUCKETS, Bucket, ReplicaId};
+use warm_stamps::{Bucket, BucketSet, ReplicaId};
 
 // A message of these entries.
 fn message_of(
@@ -53,13 +53,6 @@ fn push_messages(
     Ok(())
 }
 
-// Whether the bit of the bucket is set.
-fn is_wanted(request: u64, bucket: Bucket) -> bool
-    ensures { result ≡ (bit_at request bucket == 1) }
-{
-    (request >> bucket.get()) % 2 == 1
-}
-
 // The greater of the history's horizon and this one.
 fn greater(history: &History, horizon: u64) -> u64
     ensures { result ≡ (raised horizon history.now).horizon }
@@ -79,9 +72,9 @@ fn listed(
     history.bucket_at_horizon(bucket, horizon).collect(alloc)
 }
 
-/// The entries of the buckets whose bit is set in the request, at the greater of the horizon and
-/// the history's own, bucket by bucket in rising order and each in page order, in messages of up to
-/// 1000. It costs a scan of the wanted buckets: older stamps are skipped as they are read.
+/// The entries of the requested buckets, at the greater of the horizon and the history's own, bucket
+/// by bucket in rising order and each in page order, in messages of up to 1000. It costs a scan of
+/// these buckets: older stamps are skipped as they are read.
 ///
 /// `AllocError` occurs only where an allocation fails.
 pub(crate) fn requested_messages(
@@ -89,20 +82,14 @@ pub(crate) fn requested_messages(
     id: ReplicaId,
     history: &History,
     horizon: u64,
-    request: u64,
+    request: BucketSet,
 ) -> Result<Vec<Message>, AllocError>
     ensures { IfOk result (λ messages. messages.items
         ≡ requested_messages id (raised horizon history.now) request) }
 {
     let kept_from = greater(history, horizon);
     let mut messages = Vec::new(alloc);
-    for index in 0..BUCKETS {
-        let Some(bucket) = Bucket::new(index) else {
-            unreachable!()
-        };
-        if !is_wanted(request, bucket) {
-            continue;
-        }
+    for bucket in request.iter() {
         let entries = listed(alloc, history, horizon, bucket)?;
         push_messages(alloc, &mut messages, id, kept_from, &entries)?;
     }
@@ -124,7 +111,9 @@ fn answer_given(
         AnswersDigests id (raised horizon history.now) digests.now messages.items) }
 {
     let request = differing(digests, own);
-    if request == 0 {
+    // The request is a number of 64 bits.
+    let _bits = request.bits();
+    if request.is_empty() {
         return Ok(Vec::new(alloc));
     }
     let mut messages = requested_messages(alloc, id, history, horizon, request)?;
@@ -155,15 +144,4 @@ pub(crate) fn answer_to_digests(
 {
     let own = history.digests_at_horizon(horizon)?;
     answer_given(alloc, id, history.history(), horizon, &own, digests)
-}
-
-/// The horizon of a message.
-pub(crate) fn horizon_of(message: &Message) -> u64
-    ensures { result ≡ (refs_in message.now).horizon }
-{
-    match message {
-        Message::Entries { horizon, .. } => *horizon,
-        Message::Digest { horizon, .. } => *horizon,
-        Message::Want { horizon, .. } => *horizon,
-    }
 }

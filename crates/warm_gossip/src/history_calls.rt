@@ -1,13 +1,15 @@
 //! The calls on a node's history.
-ghost use Rattle.std.specs.Prelude.{◌≡◌, IfErr, IfOk, OnOk};
+ghost use Rattle.std.specs.Prelude.{◌≡◌, IfErr, IfOk, None, OnOk};
 ghost use Rattle.warm_gossip.specs.declared.call.Call.TheVariants.{Absorb, Send, Offer, Receive, Horizon, WarmList};
 ghost use Rattle.warm_gossip.specs.declared.call.Reply.TheVariants.{Sent, Answers, Kept, Pages};
 ghost use Rattle.warm_gossip.specs.declared.fault.NodeFault.TheVariants.{Memory};
 ghost use Rattle.warm_gossip.specs.Answers.{IsAnswer};
 ghost use Rattle.warm_pool.specs.Keeping.{KeepsBytes};
+ghost use Rattle.warm_pool.specs.State.{RankedBy};
+ghost use Rattle.warm_pool.specs.View.{view_of};
 ghost use Rattle.warm_gossip.specs.Clauses.{Answered, DevicesAfter, DevicesAnswered, Goes, Joins, JoinsEntries, SameView, done};
 
-use crate::answers::{answer_to_digests, horizon_of, requested_messages};
+use crate::answers::{answer_to_digests, requested_messages};
 use crate::fault::NodeFault;
 use crate::node::Node;
 use crate::warm_step::WarmUp;
@@ -15,8 +17,22 @@ use warm_devices::PageDevice;
 use warm_frames::{EntryList, MAX_ENTRIES, Message, MessageList};
 use warm_history::laws::prove_is_history;
 use warm_history::{Entry, History};
+use warm_pool::Pool;
 use warm_rank::warm_list;
 use warm_stamps::{Bucket, PageId, PageList, Reference};
+
+// Where any entries of a node's history may have changed: the warm-up list, which is of the entries
+// before, is dropped, and all resident pages are ranked again. The node is not whole until then, so
+// this is a function of its parts.
+fn entries_changed<D: PageDevice>(history: &History, pool: &mut Pool<D>, warm_up: &mut WarmUp)
+    ensures ranked { RankedBy pool.new history.now }
+    ensures same { view_of pool.new ≡ view_of pool.old }
+    ensures kept { KeepsBytes pool.old pool.new }
+    ensures dropped { warm_up.new.pages ≡ None }
+{
+    *warm_up = WarmUp::new();
+    pool.refresh_all(history);
+}
 
 impl<D: PageDevice> Node<D> {
     /// Adds references to the history: the call `Absorb`.
@@ -41,22 +57,23 @@ impl<D: PageDevice> Node<D> {
 
     /// Takes entries into the history. Where no entry changes, digests and the warm-up list stay
     /// cached, and no page is ranked again.
-    pub(crate) fn learn(&mut self, horizon: u64, entries: &[Entry]) -> Result<(), NodeFault>
-        ensures learnt { OnOk result (JoinsEntries self.old horizon entries.now self.new) }
+    pub(crate) fn join_entries(&mut self, horizon: u64, entries: &[Entry]) -> Result<(), NodeFault>
+        ensures joined { OnOk result (JoinsEntries self.old horizon entries.now self.new) }
         ensures refused { IfErr result (λ why. (why ≡ Memory) × SameView self.old self.new) }
         ensures devices { KeepsBytes self.old.pool self.new.pool }
     {
-        let own = self.history.history().horizon();
+        // A history ranks pages by its entries alone.
+        prove_is_history(self.history.history());
+        let own = self.history.horizon();
         let changed = self.history.join_entries(horizon, entries)?;
-        // The same entries rank pages alike at any horizon.
         if changed == 0 {
             return Ok(());
         }
-        self.warm_up = WarmUp::new();
         if own < horizon {
-            self.pool.refresh_all(self.history.history());
+            entries_changed(self.history.history(), &mut self.pool, &mut self.warm_up);
             return Ok(());
         }
+        self.warm_up = WarmUp::new();
         self.pool.refresh(self.history.history(), entries);
         Ok(())
     }
@@ -78,12 +95,10 @@ impl<D: PageDevice> Node<D> {
         // A history ranks pages by its entries alone.
         prove_is_history(self.history.history());
         let changed = self.history.join(other)?;
-        // The same entries rank pages alike at any horizon.
         if changed == 0 {
             return Ok(());
         }
-        self.warm_up = WarmUp::new();
-        self.pool.refresh_all(self.history.history());
+        entries_changed(self.history.history(), &mut self.pool, &mut self.warm_up);
         Ok(())
     }
 
@@ -97,17 +112,17 @@ impl<D: PageDevice> Node<D> {
         ensures step { Goes self.old (Horizon time) (Kept result) self.new }
         ensures devices { DevicesAfter self.old (Horizon time) (Kept result) self.new }
     {
-        let own = self.history.history().horizon();
+        // A history ranks pages by its entries alone.
+        prove_is_history(self.history.history());
+        let own = self.history.horizon();
         if time <= own {
             return own;
         }
         let lost = self.history.raise(time);
-        // The same entries rank pages alike at any horizon.
         if lost == 0 {
             return self.history.horizon();
         }
-        self.warm_up = WarmUp::new();
-        self.pool.refresh_all(self.history.history());
+        entries_changed(self.history.history(), &mut self.pool, &mut self.warm_up);
         self.history.horizon()
     }
 
@@ -172,11 +187,11 @@ impl<D: PageDevice> Node<D> {
             ..
         } = message
         {
-            self.learn(horizon, entries.as_slice())?;
+            self.join_entries(horizon, entries.as_slice())?;
             return Ok(MessageList::of(Vec::new(self.alloc)));
         }
         let answers = self.answers(&message)?;
-        self.raise(horizon_of(&message));
+        self.raise(message.horizon());
         Ok(answers)
     }
 

@@ -1,4 +1,4 @@
-//! Laws of nodes: the pieces in which a bucket is answered, a round of gossip, victims, warming up,
+//! Laws of nodes: the chunks in which a bucket is answered, a round of gossip, victims, warming up,
 //! batches of references, and the references that a list of calls gave a node.
 //!
 //! Each function changes nothing. Its contract is a theorem, which the crates above cite and a
@@ -9,7 +9,7 @@ ghost use Rattle.std.specs.List.{AllByRecursion};
 ghost use Rattle.warm_frames.specs.Entries.{IsEntry, IsHist};
 ghost use Rattle.warm_digest.specs.Exchange.{Fits};
 ghost use Rattle.warm_gossip.specs.Batches.{BatchesAreTaken};
-ghost use Rattle.warm_gossip.specs.Pieces.{PiecesInTurn};
+ghost use Rattle.warm_gossip.specs.Chunks.{ChunksInTurn};
 ghost use Rattle.warm_gossip.specs.Round.{EntriesBringAll, GossipRoundEnds, HistoryRoundJoins, NodesJoin, OwnDigestsUnanswered};
 ghost use Rattle.warm_gossip.specs.State.{node_view};
 ghost use Rattle.warm_gossip.specs.Given.{HistoryIsOfGiven};
@@ -21,19 +21,19 @@ use warm_devices::PageDevice;
 use warm_history::laws::{prove_stamps_descend, prove_is_history};
 use warm_history::{Entry, PageHist, Unordered};
 
-/// The pieces in which a bucket of a history is answered to digests or to a request are what
+/// The chunks in which a bucket of a history is answered to digests or to a request are what
 /// `Call::Send` gives of that bucket, one after the other: the first without a page to come after,
 /// each next after the last page of the one before, until no page is left. So each carries all
 /// references to its pages, for all references that the history stands for.
-pub fn pieces_in_turn()
-    ensures { PiecesInTurn }
+pub fn chunks_in_turn()
+    ensures { ChunksInTurn }
 {}
 
 /// A round of gossip: a replica offers the digests of its history to another, and each receives all
-/// answers of the other, until both have answered. Afterwards both histories have the entries of the
-/// join of the two before. The second has the join's horizon, the later one; the first has it where
-/// the second answered the offer. Or two different texts of one bucket, one of each replica, have
-/// the same SHA-256 digest: that of the second replica at the later horizon.
+/// answers of the other, until both have answered. Afterwards both histories have the entries of
+/// the join of the two before. The second has the join's horizon, the later one; the first has it
+/// where the second answered the offer. Or two different texts of one bucket, one of each replica,
+/// have the same SHA-256 digest: that of the second replica at the later horizon.
 pub fn gossip_round_joins()
     ensures { HistoryRoundJoins }
 {}
@@ -55,8 +55,8 @@ pub fn entries_bring_all()
     ensures { EntriesBringAll }
 {}
 
-/// The victim that a node names, and the hottest pages that it lists, are those over all references for which its
-/// history stands: the two stamps of each page that it keeps are enough.
+/// The victim that a node names, and the hottest pages that it lists, are those over all references
+/// for which its history stands: the two stamps of each page that it keeps are enough.
 pub fn replies_are_over_references()
     ensures { RepliesAreOverReferences }
 {}
@@ -106,7 +106,7 @@ pub fn node_pages_differ<D: PageDevice>(node: &Node<D>)
 pub fn node_fits<D: PageDevice>(node: &Node<D>)
     ensures { Fits node.now.history }
 {
-    are_entries(node.history().unordered());
+    prove_entries(node.history().unordered());
 }
 
 /// [`gossip_round_joins`] for two given nodes, of any round that they then have. It scans the
@@ -128,21 +128,21 @@ pub fn node_warms_up<D: PageDevice>(node: &Node<D>)
 }
 
 // What the types of entries imply of them.
-fn are_entries(entries: Unordered<'_>)
+fn prove_entries(entries: Unordered<'_>)
     ensures { AllByRecursion IsEntry entries.entry }
 {
     for entry in entries {
-        is_entry(entry);
+        prove_entry(entry);
     }
 }
 
-fn is_entry(entry: Entry)
+fn prove_entry(entry: Entry)
     ensures { IsEntry entry }
 {
-    is_hist(entry.hist);
+    prove_hist(entry.hist);
 }
 
-fn is_hist(hist: PageHist)
+fn prove_hist(hist: PageHist)
     ensures { IsHist hist }
 {
     if let PageHist::Twice(two) = hist {

@@ -5,8 +5,8 @@ use std::marker::Model;
 use warm_devices::PageDevice;
 use warm_turn::Machine;
 
-/// The state of a node that threads share: what a caller sees of it. No value of the type is made; contracts see it as a
-/// `NodeView`.
+/// The state of a node that threads share: what a caller sees of it. No value of the type is made;
+/// contracts see it as a `NodeView`.
 pub struct ViewOfNode {
     _none: (),
 }

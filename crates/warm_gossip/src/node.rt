@@ -2,7 +2,7 @@
 ghost use Rattle.std.specs.Prelude.{◌≡◌};
 ghost use Rattle.warm_pool.specs.State.{IsRankedByAll};
 ghost use Rattle.warm_gossip.specs.State.{opened_node};
-ghost use Rattle.warm_gossip.specs.Clauses.{Answered, DevicesAfter, DevicesAnswered, Goes};
+ghost use Rattle.warm_gossip.specs.Clauses.{Answered, DevicesAfter, DevicesAnswered, Goes, IsOtherThanAbsorb};
 
 use crate::call::{Call, Reply};
 use crate::fault::NodeFault;
@@ -130,16 +130,14 @@ impl<D: PageDevice> Node<D> {
         }
     }
 
-    // Answers a call, or returns why it is refused.
+    // Answers any other call than `Absorb`, or returns why it is refused.
     fn answer(&mut self, call: Call) -> Result<Reply, NodeFault>
+        requires other { IsOtherThanAbsorb call }
         ensures step { Answered self.old call (λ reply. reply) result self.new }
         ensures devices { DevicesAnswered self.old call (λ reply. reply) result self.new }
     {
         match call {
-            Call::Absorb(batch) => {
-                self.absorb(batch.as_slice())?;
-                Ok(Reply::Done)
-            }
+            Call::Absorb(_) => unreachable!(),
             Call::Send { bucket, after } => Ok(Reply::Sent(self.send(bucket, after)?)),
             Call::Offer => Ok(Reply::Sent(self.offer()?)),
             Call::Receive(message) => Ok(Reply::Answers(self.receive(message)?)),

@@ -1,11 +1,9 @@
 //! The calls on a node's pool.
-ghost use Rattle.std.specs.Prelude.{◌≡◌, ◌↔◌, length, IfErr, IfOk, IsTrue, OnErr, OnOk};
+ghost use Rattle.std.specs.Prelude.{◌≡◌, length, IfErr, OnErr, OnOk};
 ghost use Rattle.warm_pool.specs.State.{IsSettled};
 ghost use Rattle.warm_gossip.specs.declared.call.Call.TheVariants.{Pin, Unpin, Read, Write, Victim, Restart};
 ghost use Rattle.warm_gossip.specs.declared.call.Reply.TheVariants.{Pinned, Bytes, Page};
 ghost use Rattle.warm_gossip.specs.Clauses.{Answered, DevicesAnswered, Goes, ReadIntoFails, SameView, NodeWriteBackFails, done};
-ghost use Rattle.warm_gossip.specs.State.{node_view};
-ghost use Rattle.warm_gossip.specs.Step.{IsWithinPage};
 
 use crate::fault::NodeFault;
 use crate::node::Node;
@@ -27,8 +25,9 @@ impl<D: PageDevice> Node<D> {
         ensures step { Answered self.old (Pin page) Pinned result self.new }
         ensures devices { DevicesAnswered self.old (Pin page) Pinned result self.new }
     {
-        self.warm_up.passed = passed_at_pin(&self.pool, self.warm_up.passed, page);
-        Ok(self.pool.pin(page, self.history.history())?)
+        let placed = self.pool.pin_placed(page, self.history.history())?;
+        self.warm_up.passed = passed_at_pin(self.warm_up.passed, placed.evicted);
+        Ok(placed.slot)
     }
 
     /// Removes a pin: the call `Unpin`. Allocation-free.
@@ -48,16 +47,15 @@ impl<D: PageDevice> Node<D> {
 
     /// Reads `len` bytes of the slot's page, from `at` on: the call `Read`.
     ///
-    /// # Errors
-    /// In this order: `StaleSlot`, where the slot doesn't hold its page; `Pool(OutOfPage)`, where the bytes reach beyond its end;
-    /// `Memory`.
+    /// # Errors In this order: `StaleSlot`, where the slot doesn't hold its page;
+    /// `Pool(OutOfPage)`, where the bytes reach beyond its end; `Memory`.
     pub fn read(&self, slot: Slot, at: usize, len: usize) -> Result<ByteList, NodeFault>
         ensures { Answered self.now (Read slot at len) Bytes result self.now }
     {
         if !self.pool.holds(slot) {
             return Err(NodeFault::StaleSlot);
         }
-        if !self.is_within(at, len) {
+        if !self.pool.is_within(at, len) {
             return Err(NodeFault::Pool(PoolFault::OutOfPage));
         }
         let mut bytes = Vec::from_elem(self.alloc, 0, len)?;
@@ -65,11 +63,11 @@ impl<D: PageDevice> Node<D> {
         Ok(ByteList::of(bytes))
     }
 
-    /// Reads bytes of the slot's page, from `at` on, into the whole of `into`: the call `Read` of that length. Allocation-free.
+    /// Reads bytes of the slot's page, from `at` on, into the whole of `into`: the call `Read` of
+    /// that length. Allocation-free.
     ///
-    /// # Errors
-    /// In this order: `StaleSlot`, where the slot doesn't hold its page; `Pool(OutOfPage)`, where the bytes reach beyond its end.
-    /// `into` is then as it was.
+    /// # Errors In this order: `StaleSlot`, where the slot doesn't hold its page;
+    /// `Pool(OutOfPage)`, where the bytes reach beyond its end. `into` is then as it was.
     pub fn read_into(&self, slot: Slot, at: usize, into: &mut [u8]) -> Result<(), NodeFault>
         ensures read { OnOk result (Goes self.now (Read slot at (length into.old)) (Bytes into.new)
             self.now) }
@@ -83,19 +81,10 @@ impl<D: PageDevice> Node<D> {
         Ok(())
     }
 
-    // Whether `len` bytes from `at` on are within a page.
-    fn is_within(&self, at: usize, len: usize) -> bool
-        ensures { IsTrue result ↔ IsWithinPage (node_view self.now) at len }
-    {
-        let size = self.pool.page_size();
-        at <= size && len <= size - at
-    }
-
     /// Writes bytes into the slot's page, from `at` on: the call `Write`. Allocation-free.
     ///
-    /// # Errors
-    /// In this order: `StaleSlot`, where the slot doesn't hold its page; `Pool(OutOfPage)`, where the bytes reach beyond its end.
-    /// Nothing has changed.
+    /// # Errors In this order: `StaleSlot`, where the slot doesn't hold its page;
+    /// `Pool(OutOfPage)`, where the bytes reach beyond its end. Nothing has changed.
     pub fn write(&mut self, slot: Slot, at: usize, bytes: &[u8]) -> Result<(), NodeFault>
         ensures step { Answered self.old (Write slot at bytes.now) done result self.new }
         ensures devices { DevicesAnswered self.old (Write slot at bytes.now) done result self.new }

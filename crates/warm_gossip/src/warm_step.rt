@@ -48,8 +48,8 @@ impl<D: PageDevice> Node<D> {
     /// cached until an entry of the history changes or the node restarts. A step that finds the
     /// list cached is allocation-free, and looks up pages from where the last step stopped until it
     /// finds one to load. So a whole warm-up looks up each page once, provided that no passed page
-    /// is evicted: after a pin that loads a page, or a step that evicts a page of the list, the
-    /// next step begins with the hottest page again.
+    /// is evicted: after a pin that evicts a page, or a step that evicts a page of the list, the next
+    /// step begins with the hottest page again.
     ///
     /// # Errors
     /// `Memory`: the allocation of the list of the hottest pages failed; the next step tries again.
@@ -76,9 +76,8 @@ impl<D: PageDevice> Node<D> {
             pages: Some(pages),
             passed: at,
         };
-        let victim = self.pool.victim();
-        self.pool.load(page, self.history.history())?;
-        self.warm_up.passed = passed_at_load(&self.pool, self.history.history(), at, page, victim);
+        let placed = self.pool.load_placed(page, self.history.history())?;
+        self.warm_up.passed = passed_at_load(self.history.history(), at, page, placed.evicted);
         Ok(Some(page))
     }
 }
@@ -128,37 +127,28 @@ fn is_loadable<D: PageDevice>(pool: &Pool<D>, page: PageId) -> bool
 
 // The number of passed pages after this page, which has the index `at`, was loaded: it is passed
 // too, unless it evicted one of those before it. Pages before it in the list leave after it.
-fn passed_at_load<D: PageDevice>(
-    pool: &Pool<D>,
-    history: &History,
-    at: usize,
-    page: PageId,
-    victim: Option<PageId>,
-) -> usize
+fn passed_at_load(history: &History, at: usize, page: PageId, evicted: Option<PageId>) -> usize
     requires { at < usize.MAX }
-    ensures { PassedAtLoad history.now (view_of pool.now) page victim at result }
+    ensures { PassedAtLoad history.now page evicted at result }
 {
-    let Some(victim) = victim else {
+    let Some(evicted) = evicted else {
         return at + 1;
     };
-    if pool.resident(victim) {
-        return at + 1;
-    }
     // The order is over the references that the history holds: their history is this history.
     prove_is_history(history);
-    match eviction_order(history, victim, page) {
+    match eviction_order(history, evicted, page) {
         Ordering::Less => at + 1,
         Ordering::Equal | Ordering::Greater => 0,
     }
 }
 
-/// The number of pages that are still passed after this page is pinned: 0 where the page is loaded,
-/// since it may evict one of them.
-pub(crate) fn passed_at_pin<D: PageDevice>(pool: &Pool<D>, passed: usize, page: PageId) -> usize
-    ensures { PassedAtPin (view_of pool.now) page passed result }
+/// The number of pages that are still passed after a pin: 0 where it evicted a page, which may be
+/// one of them.
+pub(crate) fn passed_at_pin(passed: usize, evicted: Option<PageId>) -> usize
+    ensures { PassedAtPin evicted passed result }
 {
-    if passed == 0 || pool.resident(page) {
-        return passed;
+    match evicted {
+        Some(_) => 0,
+        None => passed,
     }
-    0
 }

@@ -8,7 +8,7 @@ use Rattle.warm_gossip.specs.declared.fault.NodeFault.TheVariants.{Pool}
 use Rattle.warm_gossip.specs.State.{NodeState, NodeView, empty_node}
 use Rattle.warm_gossip.specs.Step.{IsFailed, OnPool}
 use Rattle.warm_pool.specs.declared.fault.PoolFault.TheVariants.{Fault}
-use Rattle.warm_world.specs.Opening.{FailsAtPlace, FailsOf, FinishFails, StopsInOrder, with_pool}
+use Rattle.warm_world.specs.Opening.{FailsAtIndex, FailsOf, FinishFails, StopsInOrder, with_pool}
 use Rattle.warm_pool.specs.State.{IsSettled}
 use Rattle.warm_world.specs.declared.world.World.{World}
 use Rattle.warm_world.specs.Views.{AreSameBut, AreSameFrom, AreSettledBefore, IsSettledBefore, ReplicaView, WorldView, world_view}
@@ -23,7 +23,7 @@ module _ {A : Type 0} (f : A → ReplicaView) (xs : List A) (messages : List (Li
   same_if (Ok done) lt is alike same = world_stays f xs messages k x y lt is (rw (← same, ← alike) refl)
   same_if (Err why) lt is alike same = tt
 
-  failed : k < length xs → x ≡ get_or xs k x → (f y).buffers ≡ (f x).buffers → OnPool IsFailed (f x).node (f y).node → FailsAtPlace k (world f xs messages xs) (world f xs messages (set xs k y))
+  failed : k < length xs → x ≡ get_or xs k x → (f y).buffers ≡ (f x).buffers → OnPool IsFailed (f x).node (f y).node → FailsAtIndex k (world f xs messages xs) (world f xs messages (set xs k y))
   failed lt is alike did = let fails : FailsOf (world f xs messages xs) (world f xs messages (set xs k y)) = record {
     replica = k;
     there = subst (λ n. k < n) (sym (length-map xs f)) lt;
@@ -38,7 +38,7 @@ module _ {A : Type 0} (f : A → ReplicaView) (xs : List A) (messages : List (Li
 
   -- where writing back has failed, it has for this replica
   pub fails_if : {T : Type 0} (result : Result T NodeFault) → k < length xs → x ≡ get_or xs k x → (f y).buffers ≡ (f x).buffers
-      → IfErr result (λ why. (why ≡ Pool Fault) × OnPool IsFailed (f x).node (f y).node) → IfErr result (λ why. (why ≡ Pool Fault) × FailsAtPlace k (world f xs messages xs) (world f xs messages (set xs k y)))
+      → IfErr result (λ why. (why ≡ Pool Fault) × OnPool IsFailed (f x).node (f y).node) → IfErr result (λ why. (why ≡ Pool Fault) × FailsAtIndex k (world f xs messages xs) (world f xs messages (set xs k y)))
   fails_if (Ok done) lt is alike did = tt
   fails_if (Err why) lt is alike did = (did.0, failed lt is alike did.1)
 
@@ -58,14 +58,15 @@ module _ {A : Type 0} (g : A → NodeState) (xs : List A) (k : ℕ) (y : A) wher
 pub others_same : {A : Type 0} (g : A → NodeState) (xs : List A) (k : ℕ) (y : A) (j : ℕ) (other : NodeState) → j ≢ k → get_or (map g (set xs k y)) j other ≡ get_or (map g xs) j other
 others_same g xs k y j other apart = ap (λ nodes. get_or nodes j other) (map-set g xs k y) ∙ get_or-set_other (map g xs) k j (g y) other apart
 
--- what fails in a world that shows what it showed fails in that, and the pools were written back in order up to there
-pub fails_since : (old mid new : WorldView) (k : ℕ) (why : NodeFault) → mid ≡ old → (why ≡ Pool Fault) × FailsAtPlace k mid new → FinishFails old why new
+-- what fails in a world that shows what it showed fails in that, and the pools were written back in
+-- order up to there
+pub fails_since : (old mid new : WorldView) (k : ℕ) (why : NodeFault) → mid ≡ old → (why ≡ Pool Fault) × FailsAtIndex k mid new → FinishFails old why new
 fails_since old mid new k why same did = (did.0, subst (λ w. FailsOf w new) same did.1.0)
 
 pub stops_in_order : {D : Type 0} (old mid new : World D) (k : ℕ) → world_view mid ≡ world_view old → IsSettledBefore k mid → AreSameFrom k old mid → AreSameBut k mid new
-    → FailsAtPlace k (world_view mid) (world_view new) → StopsInOrder old new
+    → FailsAtIndex k (world_view mid) (world_view new) → StopsInOrder old new
 stops_in_order old mid new k same settled later kept did =
-    let at : FailsAtPlace k (world_view old) (world_view new) = subst (λ w. FailsAtPlace k w (world_view new)) same did in
+    let at : FailsAtIndex k (world_view old) (world_view new) = subst (λ w. FailsAtIndex k w (world_view new)) same did in
     let here : k ≡ at.0.replica = sym at.1 in
     let before : IsSettledBefore k new = λ j other low. subst (λ (n : NodeState). IsSettled n.pool) (sym (kept j other (λ e. absurd (omega (arith, low, e))))) (settled j other low) in
     let after : AreSameFrom (k + 1) old new = λ j other low. kept j other (λ e. absurd (omega (arith, low, e))) ∙ later j other (omega (arith, low)) in

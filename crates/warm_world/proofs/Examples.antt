@@ -44,11 +44,13 @@ flush_moves = refl
 restart_forgets : restarted no_pool (one_worker (at 10 1 ∷ []) (at 20 1 ∷ [])) ≡ one_worker [] []
 restart_forgets = refl
 
--- a message of bucket 1 brings all references to the page 0:1, not only the two that its entry shows
+-- a message of bucket 1 brings all references to the page 0:1, not only the two that its entry
+-- shows
 all_are_carried : carried (set_of_list (at 10 1 ∷ at 20 1 ∷ at 30 1 ∷ [])) 1 None 1000 ≡ set_of_list (at 10 1 ∷ at 20 1 ∷ at 30 1 ∷ [])
 all_are_carried = refl
 
--- one replica has the page at 10 and 20, the other at 15 and 30: each delivered to the other, both know 30@2 and 20@1
+-- one replica has the page at 10 and 20, the other at 15 and 30: each delivered to the other, both
+-- know 30@2 and 20@1
 first_hears : history (reach_after (one_worker (at 10 1 ∷ at 20 1 ∷ []) []).reach (References 2 (set_of_list (at 15 2 ∷ at 30 2 ∷ [])))) ≡ history_of_entries (known (at 30 2) (at 20 1) ∷ [])
 unfolding history
 first_hears = refl
@@ -58,11 +60,12 @@ unfolding history
 second_hears = refl
 
 -- after a restart a replica receives again what it had sent
-hears_again : history (reach_after (restarted no_pool (one_worker (at 10 1 ∷ []) (at 20 1 ∷ []))).reach (References 2 (set_of_list (at 10 1 ∷ [])))) ≡ history_of_entries ((let e : Entry = record { page = record { dev = 0; no = 1 }; hist = Once (at 10 1).stamp } in e) ∷ [])
+receives_again : history (reach_after (restarted no_pool (one_worker (at 10 1 ∷ []) (at 20 1 ∷ []))).reach (References 2 (set_of_list (at 10 1 ∷ [])))) ≡ history_of_entries ((let e : Entry = record { page = record { dev = 0; no = 1 }; hist = Once (at 10 1).stamp } in e) ∷ [])
 unfolding history
-hears_again = refl
+receives_again = refl
 
--- what a replica sends of bucket 1, answering a request: one message, which brings both references to the page 0:1
+-- what a replica sends of bucket 1, answering a request: one message, which brings both references
+-- to the page 0:1
 bucket_in_one_message : bucket_records 2 (set_of_list (at 10 1 ∷ at 20 1 ∷ [])) 1 ≡ References 2 (set_of_list (at 10 1 ∷ at 20 1 ∷ [])) ∷ []
 unfolding history
 bucket_in_one_message = refl
@@ -72,9 +75,9 @@ empty_bucket_in_none : bucket_records 2 (set_of_list (at 10 1 ∷ [])) 3 ≡ []
 unfolding history
 empty_bucket_in_none = refl
 
--- a request without a horizon teaches nothing, and references are taken in
-request_teaches_nothing : reach_after (set_of_list (at 10 1 ∷ [])) (Request 2 0 6) ≡ set_of_list (at 10 1 ∷ [])
-request_teaches_nothing = refl
+-- a request without a horizon brings nothing, and references are taken in
+request_brings_nothing : reach_after (set_of_list (at 10 1 ∷ [])) (Request 2 0 6) ≡ set_of_list (at 10 1 ∷ [])
+request_brings_nothing = refl
 
 references_are_heard : reach_after (set_of_list (at 10 1 ∷ [])) (References 2 (set_of_list (at 20 2 ∷ []))) ≡ set_of_list (at 10 1 ∷ at 20 2 ∷ [])
 references_are_heard = refl

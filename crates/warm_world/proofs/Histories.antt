@@ -1,4 +1,5 @@
--- What a history says stands for the references themselves: what is carried of them, what is answered of them, and how pages rank.
+-- What a history says stands for the references themselves: what is carried of them, what is
+-- answered of them, and how pages rank.
 use Rattle.std.proofs.Common.{◌≡◌, ℕ, List, [], ◌∷◌, ◌++◌, Option, None, map, refl, sym, ◌∙◌, ap, subst, cond, true, false, Bool, arith}
 use Rattle.std.specs.Prelude.{◌==◌}
 use Rattle.std.specs.List.{flat_map}
@@ -15,11 +16,13 @@ use Rattle.warm_frames.specs.declared.layout.TheConstants.{MAX_ENTRIES}
 use Rattle.warm_frames.specs.declared.message.Message.{Message}
 use Rattle.warm_frames.specs.declared.message.Message.TheVariants.{Digest, Entries, Want}
 use Rattle.warm_digest.specs.BucketDigests.{digests_of}
-use Rattle.warm_gossip.specs.Answers.{AnswersDigests, IsAnswer, bucket_messages, buckets_in, pieces, sent, history_after, requested_messages}
-use Rattle.warm_gossip.specs.Pieces.{AreInTurn, last_page}
+use Rattle.warm_frames.specs.Chunks.{bucket_messages, chunks}
+use Rattle.warm_stamps.specs.Buckets.{buckets_in}
+use Rattle.warm_gossip.specs.Answers.{AnswersDigests, IsAnswer, sent, history_after, requested_messages}
+use Rattle.warm_gossip.specs.Chunks.{AreInTurn, last_page}
 use Rattle.warm_gossip.specs.Round.{offer}
 use Rattle.warm_gossip.specs.State.{NodeView}
-use Rattle.warm_gossip.proofs.PieceLemmas.{pieces_in_turn}
+use Rattle.warm_gossip.proofs.ChunkLemmas.{chunks_in_turn}
 use Rattle.warm_gossip.proofs.RoundLemmas.{entries_bring_all}
 use Rattle.warm_world.specs.States.{MessageRecord, ModelState, References, Digests, Request, node_of, reach_of}
 use Rattle.warm_world.specs.Answered.{AreAnswers, bucket_records, reach_after, records_of, requested_records}
@@ -32,7 +35,8 @@ own_history S = same_hists (references_of (history S)) S (horizon-history S) (hi
 carried_alike : (S : ReferenceSet) (bucket : ℕ) (after : Option PageId) (limit : ℕ) → entries_of (history (carried (references_of (history S)) bucket after limit)) ≡ entries_of (history (carried S bucket after limit))
 carried_alike S bucket after limit = sym (history-carried (references_of (history S)) bucket after limit) ∙ rw (own_history S) (history-carried S bucket after limit)
 
--- what a node sends, and the digests that it offers, are those of the references for which its history stands
+-- what a node sends, and the digests that it offers, are those of the references for which its
+-- history stands
 pub sent_kept : (m : ModelState) (n : NodeView) (message : Message) (i bucket : ℕ) (after : Option PageId) → message ≡ sent n.id n.history bucket after → n ≡ node_of m i → message ≡ message_kept (References i (carried (reach_of m i) bucket after MAX_ENTRIES))
 sent_kept m n message i bucket after is node =
     let S = reach_of m i in
@@ -50,16 +54,16 @@ offers_kept m n message i is node = is ∙ ap (λ (v : NodeView). offer v.id v.h
 
 -- ---- what a replica answers
 
-piece_messages : (i : ℕ) (S : ReferenceSet) (bucket : ℕ) (after : Option PageId) (ps : List (List Entry)) → AreInTurn S bucket MAX_ENTRIES after ps
+chunk_messages : (i : ℕ) (S : ReferenceSet) (bucket : ℕ) (after : Option PageId) (ps : List (List Entry)) → AreInTurn S bucket MAX_ENTRIES after ps
     → map (λ part. Entries i S.horizon part) ps ≡ map message_kept (records_of i S bucket after ps)
-piece_messages i S bucket after [] turn = refl
-piece_messages i S bucket after (piece ∷ others) turn =
-    rw (← turn.0) (ap (λ fs. Entries i S.horizon piece ∷ fs) (piece_messages i S bucket (last_page piece) others turn.2))
+chunk_messages i S bucket after [] turn = refl
+chunk_messages i S bucket after (chunk ∷ others) turn =
+    rw (← turn.0) (ap (λ fs. Entries i S.horizon chunk ∷ fs) (chunk_messages i S bucket (last_page chunk) others turn.2))
 
 bucket_kept : (i : ℕ) (S : ReferenceSet) (bucket : ℕ) → bucket_messages i (history S) bucket ≡ map message_kept (bucket_records i S bucket)
 bucket_kept i S bucket =
-    let parts = pieces MAX_ENTRIES (bucket_entries bucket (entries_of (history S))) in
-    ap (λ m. map (λ part. Entries i m part) parts) (horizon-history S) ∙ piece_messages i S bucket None parts (pieces_in_turn S bucket MAX_ENTRIES (omega arith))
+    let parts = chunks MAX_ENTRIES (bucket_entries bucket (entries_of (history S))) in
+    ap (λ m. map (λ part. Entries i m part) parts) (horizon-history S) ∙ chunk_messages i S bucket None parts (chunks_in_turn S bucket MAX_ENTRIES (omega arith))
 
 buckets_kept : (i : ℕ) (S : ReferenceSet) (bs : List ℕ) → flat_map (bucket_messages i (history S)) bs ≡ map message_kept (flat_map (bucket_records i S) bs)
 buckets_kept i S [] = refl
@@ -70,10 +74,10 @@ pub wanted_kept : (i : ℕ) (S : ReferenceSet) (request : ℕ) → requested_mes
 wanted_kept i S request = buckets_kept i S (buckets_in request)
 
 -- the history of a replica after it received a record's message
-pub taught_heard : (S : ReferenceSet) (kept : MessageRecord) → history_after (history S) (message_kept kept) ≡ history (reach_after S kept)
-taught_heard S (References sender rs) = entries_bring_all sender S rs
-taught_heard S (Digests sender horizon digests) = history_first S (record { horizon = horizon; given = [] })
-taught_heard S (Request sender horizon request) = history_first S (record { horizon = horizon; given = [] })
+pub history_after_reach : (S : ReferenceSet) (kept : MessageRecord) → history_after (history S) (message_kept kept) ≡ history (reach_after S kept)
+history_after_reach S (References sender rs) = entries_bring_all sender S rs
+history_after_reach S (Digests sender horizon digests) = history_first S (record { horizon = horizon; given = [] })
+history_after_reach S (Request sender horizon request) = history_first S (record { horizon = horizon; given = [] })
 
 -- The records of what a replica answers to a record's message.
 pub record RecordsOf (i : ℕ) (S : ReferenceSet) (kept : MessageRecord) (messages : List Message) : Type 0 where
@@ -95,12 +99,12 @@ answer_records i S (Request sender horizon request) messages are =
     record {
       added = requested_records i T request;
       answers = refl;
-      are = are ∙ ap (λ h. requested_messages i h request) (taught_heard S (Request sender horizon request)) ∙ wanted_kept i T request;
+      are = are ∙ ap (λ h. requested_messages i h request) (history_after_reach S (Request sender horizon request)) ∙ wanted_kept i T request;
     }
 answer_records i S (Digests sender horizon digests) messages answer =
     let kept = Digests sender horizon digests in
     let T = reach_after S kept in
-    let here : AnswersDigests i (history T) digests messages = subst (λ h. AnswersDigests i h digests messages) (taught_heard S kept) answer in
+    let here : AnswersDigests i (history T) digests messages = subst (λ h. AnswersDigests i h digests messages) (history_after_reach S kept) answer in
     let request = here.0 in
     record {
       added = cond (request == 0) [] (requested_records i T request ++ Request i T.horizon request ∷ []);

@@ -1,4 +1,4 @@
--- Stored messages, and the records that they spell.
+-- Stored messages, and the records that they encode.
 use Rattle.std.proofs.Common.{◌≡◌, ℕ, ◌+◌, ◌<◌, ◌++◌, List, [], ◌∷◌, length, map, take, get_or, Result, Ok, Err, inl, inr, refl, sym, ◌∙◌, ap, subst, arith}
 use Rattle.std.proofs.lemmas.List.{get_or-map, length-append, map-append, take_more, length-map}
 use Rattle.std.specs.Global.{Vec}
@@ -18,7 +18,7 @@ use Rattle.warm_world.specs.Views.{WorldView}
 use Rattle.warm_world.specs.States.{ModelState, MessageRecord, add_records, record_at, References}
 use Rattle.warm_history.specs.ReferenceSets.{set_of_list}
 use Rattle.warm_world.specs.Next.{Next}
-use Rattle.warm_world.specs.Stands.{SpellsRecord, StandsFor, Stepped, message_kept}
+use Rattle.warm_world.specs.Stands.{EncodesRecord, StandsFor, Stepped, message_kept}
 use Rattle.warm_world.proofs.Pairs.{Pairwise-append, Pairwise-push}
 
 -- one message more is encoded
@@ -29,13 +29,13 @@ encoded_more all all' v fs i f so_far lt is more here =
     rw (more, map-append items all (v ∷ []), take_more fs i f lt)
     (Pairwise-push (λ _ bytes message. EncodesMessage bytes message) (map items all) (take i fs) v.items (get_or fs i f) so_far (subst (EncodesMessage v.items) is here))
 
--- the bytes of a record's message spell the record
-pub spells_kept : (bytes : List ℕ) (message : Message) (kept : MessageRecord) → message ≡ message_kept kept → EncodesMessage bytes message → SpellsRecord bytes kept
-spells_kept bytes message kept is codes = record { spells = subst (Encodes bytes) is codes.spells; exact = codes.exact ∙ ap encoding is }
+-- the bytes of a record's message encode the record
+pub encodes_kept : (bytes : List ℕ) (message : Message) (kept : MessageRecord) → message ≡ message_kept kept → EncodesMessage bytes message → EncodesRecord bytes kept
+encodes_kept bytes message kept is codes = record { encodes = subst (Encodes bytes) is codes.encodes; exact = codes.exact ∙ ap encoding is }
 
 -- messages are kept after the others
-pub messages_join : (w : WorldView) (m : ModelState) (added : List (List ℕ)) (rs : List MessageRecord) → StandsFor w m → Pairwise (λ _ bytes kept. SpellsRecord bytes kept) added rs → StandsFor (record w { messages = w.messages ++ added }) (add_records m rs)
-messages_join w m added rs st spell = record { replicas = st.replicas; messages = Pairwise-append SpellsRecord w.messages added m.records rs st.messages spell }
+pub messages_join : (w : WorldView) (m : ModelState) (added : List (List ℕ)) (rs : List MessageRecord) → StandsFor w m → Pairwise (λ _ bytes kept. EncodesRecord bytes kept) added rs → StandsFor (record w { messages = w.messages ++ added }) (add_records m rs)
+messages_join w m added rs st coded = record { replicas = st.replicas; messages = Pairwise-append EncodesRecord w.messages added m.records rs st.messages coded }
 
 -- what is decoded of the bytes of a number is the message of the record of that number
 pub decoded_is : (w : WorldView) (m : ModelState) (k : ℕ) (vs : List (Vec ℕ)) (v : Vec ℕ) (bytes : List ℕ) (result : Result Message FrameFault) (message : Message) → StandsFor w m
@@ -46,8 +46,8 @@ decoded_is w m k vs v bytes result message st are number is same finds found =
     let lt_vs : index_of_number k < length vs = omega (arith, lt, ap length are, length-map vs (λ (b : Vec ℕ). b.items)) in
     let at : get_or w.messages (index_of_number k) v.items ≡ bytes =
     ap (λ fs. get_or fs (index_of_number k) v.items) are ∙ get_or-map (λ (b : Vec ℕ). b.items) vs (index_of_number k) v v.items lt_vs ∙ ap (λ (b : Vec ℕ). b.items) (sym is) ∙ sym same in
-    let spells : Encodes bytes (message_kept kept) = subst (λ b. Encodes b (message_kept kept)) at (st.messages.each (index_of_number k) v.items (References 0 (set_of_list [])) lt).spells in
-    elim (finds (message_kept kept) spells) [
+    let encodes : Encodes bytes (message_kept kept) = subst (λ b. Encodes b (message_kept kept)) at (st.messages.each (index_of_number k) v.items (References 0 (set_of_list [])) lt).encodes in
+    elim (finds (message_kept kept) encodes) [
       | inl read ↦ let both : Ok message ≡ Ok (message_kept kept) = sym found ∙ read in cc
       | inr refused ↦ let never : Ok message ≡ Err FrameMemory = sym found ∙ refused.0 in absurd (cc)
     ]
@@ -57,13 +57,13 @@ pub kept_one : (w w' : WorldView) (m : ModelState) (event : Event) (message : Me
     → ((k : ℕ) (new : ModelState) → k ≡ length new.records → new ≡ add_records m (kept ∷ []) → Next m event (FrameNo k) new)
     → Next m event (Refused (Node Memory)) m → Stepped m event answer w'
 kept_one w w' m event message (FrameNo k) kept st is keeps next none =
-    let spells = spells_kept keeps.0 message kept is keeps.1 in
+    let encodes = encodes_kept keeps.0 message kept is keeps.1 in
     let number : k ≡ length (m.records ++ kept ∷ []) =
     keeps.2 ∙ ap (λ (v : WorldView). length v.messages) keeps.3 ∙ omega (arith, length-append w.messages (keeps.0 ∷ []), length-append m.records (kept ∷ []), st.messages.same_length) in
     record {
       new = add_records m (kept ∷ []);
       next = next k (add_records m (kept ∷ [])) number refl;
-      stands = rw keeps.3 (record { replicas = st.replicas; messages = Pairwise-push (λ _ b r. SpellsRecord b r) w.messages m.records keeps.0 kept st.messages spells });
+      stands = rw keeps.3 (record { replicas = st.replicas; messages = Pairwise-push (λ _ b r. EncodesRecord b r) w.messages m.records keeps.0 kept st.messages encodes });
     }
 kept_one w w' m event message (Refused (Node Memory)) kept st is keeps next none = record { new = m; next = none; stands = subst (λ v. StandsFor v m) (sym keeps) st }
 kept_one w w' m event message answer kept st is keeps next none = absurd keeps

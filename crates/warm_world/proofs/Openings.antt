@@ -1,13 +1,16 @@
 -- Lists of devices, and a replica over each.
-use Rattle.std.proofs.Common.{◌≡◌, ℕ, ◌+◌, ◌<◌, ◌≤◌, ◌++◌, List, [], ◌∷◌, length, map, get_or, sym, ◌∙◌, ap, subst, inl, inr, arith}
+use Rattle.std.proofs.Common.{◌≡◌, ℕ, zero, suc, ◌+◌, ◌<◌, ◌≤◌, ◌++◌, List, [], ◌∷◌, length, map, get_or, refl, sym, ◌∙◌, ap, subst, inl, inr, arith}
 use Rattle.std.specs.Global.{Vec}
+use Rattle.std.specs.List.{All}
 use Rattle.std.proofs.Math.Seq.{get_or-append_seam}
 use Rattle.std.proofs.lemmas.Bool.{cases_lt}
 use Rattle.std.proofs.lemmas.List.{get_or-map, length-append, length-map, map-append}
 use Rattle.warm_devices.specs.Device.{DeviceState}
 use Rattle.warm_pool.specs.declared.TheConstants.{MAX_DEVICES}
 use Rattle.warm_pool.specs.DeviceCalls.{AreOfSize}
+use Rattle.warm_gossip.specs.State.{NodeState}
 use Rattle.warm_world.specs.Lists.{Pairwise}
+use Rattle.warm_world.specs.Nodes.{AreUsable, node_over, nodes_over}
 use Rattle.warm_world.specs.Opening.{AreFew, AreSized, devices_at}
 use Rattle.warm_world.specs.Views.{ReplicaView}
 use Rattle.warm_world.specs.Sizes.{Sizes}
@@ -75,3 +78,38 @@ module _ {B : Type 0} (f : B → DeviceState) where
       rw (more, map-append g rs (r ∷ []), map-append (λ (ds : Vec B). map f ds.items) so_far (v ∷ []), map-append (opened_over s) (shown so_far) (map f v.items ∷ []))
       (Pairwise-push (ReplicaStands s.buffer) (map g rs) (map (opened_over s) (shown so_far)) (g r) (opened_over s (map f v.items)) stand
       (subst (λ n. ReplicaStands s.buffer n (g r) (opened_over s (map f v.items))) (sym (length-map rs g)) here))
+
+  -- ---- nodes over lists
+
+  -- lists of devices that a page can name
+  pub few_shown : (lists : List (Vec B)) → All (λ v. length v.items ≤ MAX_DEVICES) lists → AreFew (shown lists)
+  few_shown [] few k low = absurd (omega (arith, low))
+  few_shown (v ∷ vs) few zero low =
+      let here : length v.items ≤ MAX_DEVICES = few 0 v (omega arith) in
+      omega (arith, here, length-map v.items f)
+  few_shown (v ∷ vs) few (suc k) low = few_shown vs (λ j d less. few (suc j) d (omega (arith, less))) k (omega (arith, low))
+
+  pub few_of_shown : (lists : List (Vec B)) → AreFew (shown lists) → All (λ v. length v.items ≤ MAX_DEVICES) lists
+  few_of_shown [] few k d low = absurd (omega (arith, low))
+  few_of_shown (v ∷ vs) few zero d low =
+      let here : length (map f v.items) ≤ MAX_DEVICES = few 0 (omega arith) in
+      omega (arith, here, length-map v.items f)
+  few_of_shown (v ∷ vs) few (suc k) d low = few_of_shown vs (λ j less. few (suc j) (omega (arith, less))) k d (omega (arith, low))
+
+  pub usable_lists : (s : Sizes) (lists : List (Vec B)) (size : ℕ) → length lists ≡ s.replicas → size ≡ s.page_size → AreSized size (shown lists) → All (λ v. length v.items ≤ MAX_DEVICES) lists → AreUsable s (shown lists)
+  usable_lists s lists size many same sized few = ((count lists ∙ many, subst (λ (n : ℕ). AreSized n (shown lists)) same sized), few_shown lists few)
+
+  -- a node over one list more
+  nodes_more : (s : Sizes) (n m : ℕ) (so_far : List (List DeviceState)) (devices : List DeviceState) → m ≡ n + length so_far → nodes_over s n (so_far ++ devices ∷ []) ≡ nodes_over s n so_far ++ node_over s m devices ∷ []
+  nodes_more s n m [] devices is =
+      let same : n ≡ m = omega (arith, is) in
+      ap (λ (k : ℕ). node_over s k devices ∷ []) same
+  nodes_more s n m (first ∷ rest) devices is = ap (λ (nodes : List NodeState). node_over s n first ∷ nodes) (nodes_more s (n + 1) m rest devices (omega (arith, is)))
+
+  pub node_more : (s : Sizes) (m : ℕ) (nodes nodes' : List NodeState) (node : NodeState) (so_far : List (Vec B)) (v : Vec B) → nodes' ≡ nodes ++ node ∷ [] → m ≡ 1 + length so_far
+      → node ≡ node_over s m (map f v.items) → nodes ≡ nodes_over s 1 (shown so_far) → nodes' ≡ nodes_over s 1 (shown (so_far ++ v ∷ []))
+  node_more s m nodes nodes' node so_far v more number here before =
+      let many : m ≡ 1 + length (shown so_far) = omega (arith, number, count so_far) in
+      let all : nodes_over s 1 (shown (so_far ++ v ∷ [])) ≡ nodes_over s 1 (shown so_far) ++ node_over s m (map f v.items) ∷ [] =
+      ap (λ (lists : List (List DeviceState)). nodes_over s 1 lists) (map-append (λ (ds : Vec B). map f ds.items) so_far (v ∷ [])) ∙ nodes_more s 1 m (shown so_far) (map f v.items) many in
+      rw (more, all, before, here) refl

@@ -13,10 +13,10 @@ use Rattle.warm_history.specs.Histories.{HistoryView, history, history_of_entrie
 use Rattle.warm_history.proofs.HistoryLemmas.{horizon-history}
 use Rattle.warm_history.proofs.JoinLemmas.{history_first}
 use Rattle.warm_devices.specs.Device.{DeviceState}
-use Rattle.warm_pool.specs.State.{PoolState}
-use Rattle.warm_pool.specs.State as pools
+use Rattle.warm_pool.specs.State.{fresh_pool}
 use Rattle.warm_pool.specs.View.{PoolView, view_of}
-use Rattle.warm_gossip.specs.State.{NodeState, NodeView, node_view, opened_node}
+use Rattle.warm_gossip.specs.State.{NodeState, NodeView, node_view}
+use Rattle.warm_world.specs.Nodes.{node_over}
 use Rattle.warm_world.specs.Sizes.{Sizes}
 use Rattle.warm_world.specs.Views.{ReplicaView}
 use Rattle.warm_refbuffer.specs.declared.Full.{Full}
@@ -104,17 +104,15 @@ history_of_nothing : history (set_of_list []) ≡ history_of_entries []
 unfolding history
 history_of_nothing = refl
 
--- a replica that no reference has reached, over a pool that was made so
-pub opened_stands : (s : Sizes) (devices : List DeviceState) (place id capacity workers frames size : ℕ) (n : NodeState) (p : PoolState) (bs : List Buffered)
-    → 1 ≤ capacity → capacity ≡ s.buffer → workers ≡ s.workers → frames ≡ s.frames → size ≡ s.page_size → id ≡ place + 1 → n ≡ opened_node id p → p ≡ pools.fresh_pool frames size devices
+-- a replica that no reference has reached, with a node that was made so
+pub opened_stands : (s : Sizes) (devices : List DeviceState) (place id capacity workers : ℕ) (n : NodeState) (bs : List Buffered)
+    → 1 ≤ capacity → capacity ≡ s.buffer → workers ≡ s.workers → id ≡ place + 1 → n ≡ node_over s id devices
     → bs ≡ replicate workers (buffered capacity []) → ReplicaStands s.buffer place (record { node = node_view n; buffers = bs }) (opened_over s devices)
-opened_stands s devices place id capacity workers frames size n p bs some of_capacity of_workers of_frames of_size number node made empty = record {
+opened_stands s devices place id capacity workers n bs some of_capacity of_workers number node empty = record {
   has_capacity = omega (arith, some, of_capacity);
   node_is = ap node_view node
-      ∙ ap (λ (q : PoolState). let v : NodeView = record { id = id; history = history_of_entries []; pool = view_of q } in v)
-      (made ∙ ap (λ k. pools.fresh_pool k size devices) of_frames ∙ ap (λ k. pools.fresh_pool s.frames k devices) of_size)
-      ∙ ap (λ (i : ℕ). let v : NodeView = record { id = i; history = history_of_entries []; pool = view_of (pools.fresh_pool s.frames s.page_size devices) } in v) number
-      ∙ ap (λ (h : HistoryView). let v : NodeView = record { id = place + 1; history = h; pool = view_of (pools.fresh_pool s.frames s.page_size devices) } in v) (sym history_of_nothing);
+      ∙ ap (λ (i : ℕ). let v : NodeView = record { id = i; history = history_of_entries []; pool = view_of (fresh_pool s.frames s.page_size devices) } in v) number
+      ∙ ap (λ (h : HistoryView). let v : NodeView = record { id = place + 1; history = h; pool = view_of (fresh_pool s.frames s.page_size devices) } in v) (sym history_of_nothing);
   buffers_are = empty ∙ ap (λ k. replicate workers (buffered k [])) of_capacity ∙ ap (λ k. replicate k (buffered s.buffer [])) of_workers ∙ sym (empty_buffers_are s.buffer s.workers);
 }
 

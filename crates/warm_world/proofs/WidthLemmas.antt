@@ -1,34 +1,25 @@
 -- Numbers stay within their widths.
 use Rattle.std.proofs.Common.{◌≡◌, ℕ, zero, suc, ◌≤◌, ◌<◌, ◌^◌, max, Bool, true, false, List, [], ◌∷◌, ◌++◌, length, map, Option, Some, None, sym, subst, arith, flat_map, if◌then◌else◌}
 use Rattle.std.specs.Prelude.{◌==◌, nat_le, replicate, slice_index_or, slice_set}
-use Rattle.std.specs.List.{AllByRecursion, cons_option, list_any}
-use Rattle.std.specs.Option.{option_map}
-use Rattle.std.specs.Ordering.{is_eq, flip_args}
-use Rattle.std.specs.declared.cmp.Ordering.{Ordering}
+use Rattle.std.specs.List.{AllByRecursion, list_any}
+use Rattle.std.specs.Ordering.{is_eq}
 use Rattle.std.proofs.lemmas.List.{length-map, length-set}
 use Rattle.warm_stamps.specs.declared.PageId.{PageId}
-use Rattle.warm_stamps.specs.declared.Stamp.{Stamp}
 use Rattle.warm_stamps.specs.declared.Reference.{Reference}
 use Rattle.warm_stamps.specs.declared.TheConstants.{MAX_REPLICAS}
-use Rattle.warm_stamps.specs.Bytes.{IsPage, IsStamp}
-use Rattle.warm_stamps.specs.Stamps.{stamp_cmp, page_cmp}
-use Rattle.warm_stamps.specs.Distinct.{insert_distinct, distinct, IsAscending}
-use Rattle.warm_stamps.proofs.DistinctLemmas.{by_cases, all_append, all_filter, distinct_rises}
-use Rattle.warm_stamps.proofs.StampLemmas.{stamp_order, IsStrictOrder-flip}
-use Rattle.warm_history.specs.declared.hist.PageHist.{PageHist}
+use Rattle.warm_stamps.specs.Buckets.{buckets_in}
+use Rattle.warm_stamps.specs.Stamps.{page_cmp}
+use Rattle.warm_stamps.proofs.DistinctLemmas.{all_append, all_filter}
 use Rattle.warm_history.specs.declared.hist.Entry.{Entry}
 use Rattle.warm_history.specs.ReferenceSets.{ReferenceSet, is_kept, references, set_of_list, ◌∪◌}
-use Rattle.warm_history.specs.Histories.{references_to, stamps, first_two, hist, pages, history}
 use Rattle.warm_history.specs.Carried.{carried, pages_carried}
 use Rattle.warm_history.proofs.CarriedLemmas.{references-those}
 use Rattle.warm_history.proofs.HistoryLemmas.{references-both}
-use Rattle.warm_history.proofs.ListHistoryLemmas.{entries}
 use Rattle.warm_frames.specs.declared.layout.TheConstants.{MAX_ENTRIES}
-use Rattle.warm_frames.specs.Entries.{IsEntry, IsHist}
-use Rattle.warm_digest.specs.Exchange.{Fits}
+use Rattle.warm_digest.specs.Exchange.{IsReference, AreReferences}
+use Rattle.warm_digest.proofs.FitLemmas.{history_fits}
 use Rattle.warm_pool.specs.View.{PoolView}
-use Rattle.warm_gossip.specs.Answers.{buckets_in}
-use Rattle.warm_gossip.specs.Pieces.{last_page}
+use Rattle.warm_gossip.specs.Chunks.{last_page}
 use Rattle.warm_gossip.specs.declared.call.Call.{Call}
 use Rattle.warm_gossip.specs.declared.call.Reply.{Reply}
 use Rattle.warm_gossip.specs.declared.call.Reply.TheVariants as reply
@@ -43,7 +34,7 @@ use Rattle.warm_world.specs.Lists.{index_of_number}
 use Rattle.warm_world.specs.States.{ModelState, ReplicaState, MessageRecord, References, Digests, Request, no_replica, replica, reach_of, set_replica, set_pool, record_at, add_records, pending, flushed, put_last, raised_replica, referred, restarted, opened_over}
 use Rattle.warm_world.specs.Answered.{records_of, bucket_records, requested_records, AreAnswers, reach_after, refs_of}
 use Rattle.warm_world.specs.Next.{Next, Delivered, Effect, RefusesEvent, SomeNodeReplies, IsNamed, call_of, replica_of, reply_of, shape, stamped}
-use Rattle.warm_world.specs.Widths.{IsReference, AreReferences, EventFits, ReachFits, ReplicaFits, RecordFits, ModelFits, OpeningFits, RunsFit, HistoriesFit}
+use Rattle.warm_world.specs.Widths.{EventFits, ReachFits, ReplicaFits, RecordFits, ModelFits, OpeningFits, RunsFit, HistoriesFit}
 
 -- ---- lists
 
@@ -64,51 +55,6 @@ all_map P f (x ∷ xs) each = (each x, all_map P f xs each)
 all_replicate : {A : Type 0} (P : A → Type 0) (n : ℕ) (x : A) → P x → AllByRecursion P (replicate n x)
 all_replicate P zero x own = tt
 all_replicate P (suc n) x own = (own, all_replicate P n x own)
-
--- ---- histories of references that fit
-
-all_insert : {A : Type 0} (P : A → Type 0) (cmp : A → A → Ordering) (x : A) (ys : List A) → P x → AllByRecursion P ys → AllByRecursion P (insert_distinct cmp x ys)
-all_insert P cmp x [] own all = (own, tt)
-all_insert P cmp x (y ∷ ys) own all = by_cases (cmp x y) _
-    (λ less. rw less (own, all))
-    (λ tied. rw tied all)
-    (λ more. rw more (all.0, all_insert P cmp x ys own all.1))
-
-all_distinct : {A : Type 0} (P : A → Type 0) (cmp : A → A → Ordering) (xs : List A) → AllByRecursion P xs → AllByRecursion P (distinct cmp xs)
-all_distinct P cmp [] all = tt
-all_distinct P cmp (x ∷ xs) all = all_insert P cmp x (distinct cmp xs) all.0 (all_distinct P cmp xs all.1)
-
-all_mapped : {A B : Type 0} (P : A → Type 0) (Q : B → Type 0) (f : A → B) (xs : List A) → ((x : A) → P x → Q (f x)) → AllByRecursion P xs → AllByRecursion Q (map f xs)
-all_mapped P Q f [] each all = tt
-all_mapped P Q f (x ∷ xs) each all = (each x all.0, all_mapped P Q f xs each all.1)
-
--- the stamps of a page's history, if it has one, are valid
-abbrev FitsIfAny : Option PageHist → Type 0
-FitsIfAny None = Unit {0}
-FitsIfAny (Some h) = IsHist h
-
-first_two_fit : (ss : List Stamp) → IsAscending (flip_args stamp_cmp) ss → AllByRecursion IsStamp ss → FitsIfAny (first_two ss)
-first_two_fit [] falls all = tt
-first_two_fit (a ∷ []) falls all = all.0
-first_two_fit (a ∷ b ∷ ss) falls all = (all.0, all.1.0, falls.0.0)
-
-hist_fits : (S : ReferenceSet) (p : PageId) → AreReferences (references S) → FitsIfAny (hist S p)
-hist_fits S p all =
-    let falls = flip_args stamp_cmp in
-    let listed = map (λ (r : Reference). r.stamp) (references_to S p) in
-    first_two_fit (stamps S p) (distinct_rises falls (IsStrictOrder-flip stamp_cmp stamp_order) listed)
-    (all_distinct IsStamp falls listed (all_mapped IsReference IsStamp (λ r. r.stamp) (references_to S p) (λ r own. own.stamp) (all_filter IsReference (λ r. is_eq (page_cmp r.page p)) (references S) all)))
-
-entries_fit : (f : PageId → Option PageHist) (ps : List PageId) → ((p : PageId) → FitsIfAny (f p)) → AllByRecursion IsPage ps → AllByRecursion IsEntry (entries f ps)
-entries_fit f [] each all = tt
-entries_fit f (p ∷ ps) each all = elim (f p) as (λ x. FitsIfAny x → AllByRecursion IsEntry (cons_option (option_map (λ h. record { page = p; hist = h }) x) (entries f ps))) [
-  | None ↦ λ fit. entries_fit f ps each all.1
-  | Some h ↦ λ fit. (record { page = all.0; hist = fit }, entries_fit f ps each all.1)
-] (each p)
-
-history_fits : (S : ReferenceSet) → AreReferences (references S) → Fits (history S)
-unfolding history
-history_fits S all = entries_fit (hist S) (pages S) (λ p. hist_fits S p all) (all_distinct IsPage page_cmp (map (λ (r : Reference). r.page) (references S)) (all_mapped IsReference IsPage (λ r. r.page) (references S) (λ r own. own.page) all))
 
 -- ---- reference sets that fit
 

@@ -57,7 +57,7 @@ replica_there m event named = omega (arith, named.replica_there.from_one, named.
 pub replica_set_at : (m : ModelState) (event : Event) (r : ReplicaState) → IsNamed (shape m) event → replica (set_replica m (index_of_number (replica_of event)) r) (index_of_number (replica_of event)) ≡ r
 replica_set_at m event r named = get_or-set_same m.replicas (index_of_number (replica_of event)) r no_replica (replica_there m event named)
 
--- what a replica at a place shows
+-- what a replica at an index shows
 pub shown_at : {A : Type 0} (f : A → ReplicaView) (xs : List A) (k : ℕ) (x : A) (other : ReplicaView) → k < length xs → x ≡ get_or xs k x → get_or (map f xs) k other ≡ f x
 shown_at f xs k x other lt is = get_or-map f xs k x other lt ∙ ap f (sym is)
 
@@ -66,7 +66,7 @@ module _ {A : Type 0} (f : A → ReplicaView) (xs : List A) (messages : List (Li
   abbrev pub world : List A → WorldView
   world ys = record { replicas = map f ys; messages = messages }
 
-  -- where the replica at a place shows what it showed, so does the world
+  -- where the replica at an index shows what it showed, so does the world
   pub world_stays : (k : ℕ) (x y : A) → k < length xs → x ≡ get_or xs k x → f y ≡ f x → world (set xs k y) ≡ world xs
   world_stays k x y lt is same = ap (λ (rs : List ReplicaView). let w : WorldView = record { replicas = rs; messages = messages } in w)
       (map-set f xs k y ∙ ap (set (map f xs) k) (same ∙ sym (shown_at f xs k x (f x) lt is)) ∙ set-get_or (map f xs) k (f x))
@@ -87,7 +87,7 @@ module _ {A : Type 0} (f : A → ReplicaView) (xs : List A) (messages : List (Li
       → IsNumber w (get_or (map (λ (r : ReplicaView). length r.buffers) (map f xs)) (index_of_number i) 0) → index_of_number w < length (f x).buffers
   worker_in i w x there is number = omega (arith, number.from_one, number.in_range, workers_at i x there is)
 
-  -- the replica at a place stands for that of the model
+  -- the replica at an index stands for that of the model
   pub stands_at : (m : ModelState) (k : ℕ) (x : A) → StandsFor (world xs) m → k < length xs → x ≡ get_or xs k x → ReplicaStands m.capacity k (f x) (replica m k)
   stands_at m k x st lt is =
       subst (λ r. ReplicaStands m.capacity k r (replica m k)) (shown_at f xs k x (f x) lt is) (st.replicas.each k (f x) no_replica (subst (λ n. k < n) (sym (length-map xs f)) lt))

@@ -7,20 +7,22 @@ use Rattle.warm_history.specs.ReferenceSets.{ReferenceSet, ◌∪◌}
 use Rattle.warm_history.specs.Histories.{entries_of, history}
 use Rattle.warm_history.specs.Carried.{bucket_entries, carried}
 use Rattle.warm_frames.specs.declared.layout.TheConstants.{MAX_ENTRIES}
-use Rattle.warm_gossip.specs.Answers.{buckets_in, pieces, IsDiffering}
-use Rattle.warm_gossip.specs.Pieces.{last_page}
+use Rattle.warm_frames.specs.Chunks.{chunks}
+use Rattle.warm_stamps.specs.Buckets.{buckets_in}
+use Rattle.warm_gossip.specs.Answers.{IsDiffering}
+use Rattle.warm_gossip.specs.Chunks.{last_page}
 use Rattle.warm_world.specs.States.{MessageRecord, References, Digests, Request}
 
--- the pieces of a bucket, one after the other: each brings all references of S to its pages
+-- the chunks of a bucket, one after the other: each brings all references of S to its pages
 abbrev pub records_of : ℕ → ReferenceSet → ℕ → Option PageId → List (List Entry) → List MessageRecord
 records_of i S bucket after [] = []
-records_of i S bucket after (piece ∷ others) =
-    References i (carried S bucket after MAX_ENTRIES) ∷ records_of i S bucket (last_page piece) others
+records_of i S bucket after (chunk ∷ others) =
+    References i (carried S bucket after MAX_ENTRIES) ∷ records_of i S bucket (last_page chunk) others
 
 -- what a replica that S reached sends of a bucket, in messages that are all full but the last
 abbrev pub bucket_records : ℕ → ReferenceSet → ℕ → List MessageRecord
 bucket_records i S bucket =
-    records_of i S bucket None (pieces MAX_ENTRIES (bucket_entries bucket (entries_of (history S))))
+    records_of i S bucket None (chunks MAX_ENTRIES (bucket_entries bucket (entries_of (history S))))
 
 -- the same, for the buckets whose bit is set, one after the other
 abbrev pub requested_records : ℕ → ReferenceSet → ℕ → List MessageRecord

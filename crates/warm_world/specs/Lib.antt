@@ -8,6 +8,7 @@ pub mod Next
 pub mod Views
 pub mod Replicas
 pub mod Opening
+pub mod Nodes
 pub mod Stands
 pub mod Widths
 pub mod Rounds

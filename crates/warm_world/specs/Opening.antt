@@ -14,7 +14,7 @@ use Rattle.warm_world.specs.declared.world.World.{World}
 use Rattle.warm_world.specs.Views.{AreSameFrom, IsSettledBefore, ReplicaView, WorldView, world_view}
 use Rattle.warm_world.specs.Sizes.{Sizes}
 
--- the devices of the replica at a place
+-- the devices of the replica at an index
 abbrev pub devices_at : List (List DeviceState) → ℕ → List DeviceState
 devices_at devices k = slice_index_or devices k []
 
@@ -52,9 +52,9 @@ pub record FailsOf (old : WorldView) (new : WorldView) : Type 0 where
 abbrev pub FinishFails : WorldView → NodeFault → WorldView → Type 0
 FinishFails old why new = (why ≡ Pool Fault) × FailsOf old new
 
--- the same, for the replica at this place
-abbrev pub FailsAtPlace : ℕ → WorldView → WorldView → Type 0
-FailsAtPlace k old new = (fails : FailsOf old new) × (fails.replica ≡ k)
+-- the same, for the replica at this index
+abbrev pub FailsAtIndex : ℕ → WorldView → WorldView → Type 0
+FailsAtIndex k old new = (fails : FailsOf old new) × (fails.replica ≡ k)
 
 -- The pools are written back in the order of replicas: those before the one that fails are settled,
 -- and those after it are unchanged.

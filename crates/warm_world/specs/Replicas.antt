@@ -1,9 +1,8 @@
 -- The changes of a replica, and of the stored messages.
-use Rattle.std.specs.Prelude.{◌≡◌, ◌≢◌, ◌==◌, ◌+◌, ◌-◌, if◌then◌else◌, ℕ, List, [], ◌∷◌, ◌++◌, length, map, Option, Some, None, Result, Ok, Err}
+use Rattle.std.specs.Prelude.{◌≡◌, ◌==◌, ◌+◌, ◌-◌, if◌then◌else◌, ℕ, List, ◌∷◌, [], ◌++◌, length, map, Option, Some, Result, Ok, Err}
 use Rattle.warm_history.specs.Histories.{history_of_entries}
 use Rattle.warm_refbuffer.specs.Buffered.{cleared}
 use Rattle.warm_frames.specs.declared.message.Message.{Message}
-use Rattle.warm_frames.specs.declared.message.Message.TheVariants.{Entries, Digest, Want}
 use Rattle.warm_frames.specs.Encoding.{encoding, Encodes}
 use Rattle.warm_pool.specs.View.{PoolView}
 use Rattle.warm_pool.specs.Retiring.{Emptied}
@@ -38,16 +37,9 @@ abbrev pub SomeReply : NodeView → Option Call → Option Reply → NodeView �
 SomeReply old (Some call) (Some reply) new = Step old call reply new
 SomeReply old call reply new = ⊥
 
--- the horizon to which digests or a request raise a replica; none for entries, whose horizon is
--- taken in with them
-abbrev pub raised_to : Message → Option ℕ
-raised_to (Entries sender horizon entries) = None
-raised_to (Digest sender horizon digests) = Some horizon
-raised_to (Want sender horizon request) = Some horizon
-
--- the bytes spell the message, and decoding them gives it
+-- the bytes encode the message, and decoding them gives it
 pub record EncodesMessage (bytes : List ℕ) (message : Message) : Type 0 where
-  pub spells : Encodes bytes message
+  pub encodes : Encodes bytes message
   pub exact : bytes ≡ encoding message
 
 -- the message is stored after the others, and its number is the answer; or its allocation failed
@@ -61,10 +53,9 @@ Keeps old message answer new = ⊥
 abbrev pub KeepsAll : List (List ℕ) → List Message → List (List ℕ) → Type 0
 KeepsAll old messages new = (added : List (List ℕ)) × Pairwise (λ _ bytes message. EncodesMessage bytes message) added messages × (new ≡ old ++ added)
 
--- The messages that answer a delivered one are stored after the others, and numbered after these;
--- or their allocation failed.
+-- the messages that answer a delivered one are stored after the others, and the answer says how
+-- many they are and which number the first has
 abbrev pub StoresAnswers : List (List ℕ) → List Message → Answer → List (List ℕ) → Type 0
 StoresAnswers old messages (Took count first) new =
     KeepsAll old messages new × (count ≡ length messages) × (first ≡ if count == 0 then 0 else length new - count + 1)
-StoresAnswers old messages (Refused (Node Memory)) new = (messages ≢ []) × (new ≡ old)
 StoresAnswers old messages answer new = ⊥

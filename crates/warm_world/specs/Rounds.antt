@@ -50,16 +50,16 @@ known_to m i = history (reach_of m i)
 abbrev pub joined_history : ℕ → ℕ → ModelState → HistoryView
 joined_history i j m = join (known_to m i) (known_to m j)
 
--- Both replicas have the entries of the join of their histories before. The second has its horizon too, the greater one, and so has
--- the first if the second answered a message.
+-- Both replicas have the entries of the join of their histories before. The second has its horizon
+-- too, the greater one, and so has the first if the second answered a message.
 pub record AreJoined {i j : ℕ} {old new : ModelState} (round : GossipRound i j old new) : Type 0 where
   pub first : entries_of (known_to new i) ≡ entries_of (joined_history i j old)
   pub second : known_to new j ≡ joined_history i j old
   pub raised : round.asked.records ≢ round.offered.records → known_to new i ≡ joined_history i j old
 
 -- After a round both histories have the entries of the join of the two before (AreJoined), or two
--- different texts of one bucket have the same SHA-256 digest: one text of the first replica, and one
--- of the second at the greater horizon.
+-- different texts of one bucket have the same SHA-256 digest: one text of the first replica, and
+-- one of the second at the greater horizon.
 abbrev pub GossipRoundJoins : Type 0
 GossipRoundJoins = (i j : ℕ) (old new : ModelState) → ModelFits old → (round : GossipRound i j old new)
     → AreJoined round ⊎ IsCollision (known_to old i) (history (with_horizon (reach_of old i).horizon (reach_of old j)))

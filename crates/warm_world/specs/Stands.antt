@@ -24,40 +24,40 @@ use Rattle.warm_world.specs.Next.{Next, Run, Shape}
 abbrev pub buffered : ℕ → List Reference → Buffered
 buffered capacity refs = record { refs = refs; capacity = capacity }
 
--- a replica, by its place, has the history of the references that reached it, the pool of the
+-- a replica, by its index, has the history of the references that reached it, the pool of the
 -- model, and the pending references in its buffers
-pub record ReplicaStands (capacity index_of_number : ℕ) (r : ReplicaView) (m : ReplicaState) : Type 0 where
+pub record ReplicaStands (capacity index : ℕ) (r : ReplicaView) (m : ReplicaState) : Type 0 where
   pub has_capacity : 0 < capacity
-  pub node_is : r.node ≡ record { id = index_of_number + 1; history = history m.reach; pool = m.pool }
+  pub node_is : r.node ≡ record { id = index + 1; history = history m.reach; pool = m.pool }
   pub buffers_are : r.buffers ≡ map (buffered capacity) m.pending
 
 -- for every model state that a replica with this capacity stood for, it now stands for the changed
 -- state
 abbrev pub Becomes : ℕ → ReplicaView → ReplicaView → (ReplicaState → ReplicaState) → Type 0
 Becomes capacity old new change =
-    (index_of_number : ℕ) (m : ReplicaState) → ReplicaStands capacity index_of_number old m → ReplicaStands capacity index_of_number new (change m)
+    (index : ℕ) (m : ReplicaState) → ReplicaStands capacity index old m → ReplicaStands capacity index new (change m)
 
 -- in every model state that a replica stands for, the buffer of the worker is full
 abbrev pub IsBufferFull : ReplicaView → ℕ → Type 0
 IsBufferFull r worker =
-    (capacity index_of_number : ℕ) (m : ReplicaState) → ReplicaStands capacity index_of_number r m → capacity ≤ length (pending m worker)
+    (capacity index : ℕ) (m : ReplicaState) → ReplicaStands capacity index r m → capacity ≤ length (pending m worker)
 
--- the message that a record is of: from its sender, with the horizon, the page histories of the references that it brings, or digests, or a
--- request
+-- the message that a record is of: from its sender, with the horizon, the page histories of the
+-- references that it brings, or digests, or a request
 abbrev pub message_kept : MessageRecord → Message
 message_kept (References sender refs) = Entries sender refs.horizon (entries_of (history refs))
 message_kept (Digests sender horizon digests) = Digest sender horizon digests
 message_kept (Request sender horizon request) = Want sender horizon request
 
--- the bytes of a stored message spell its record's message, and decoding them gives it
-pub record SpellsRecord (bytes : List ℕ) (kept : MessageRecord) : Type 0 where
-  pub spells : Encodes bytes (message_kept kept)
+-- the bytes of a stored message encode its record's message, and decoding them gives it
+pub record EncodesRecord (bytes : List ℕ) (kept : MessageRecord) : Type 0 where
+  pub encodes : Encodes bytes (message_kept kept)
   pub exact : bytes ≡ encoding (message_kept kept)
 
 -- the world stands for the model state: replica by replica, and message by message
 pub record StandsFor (w : WorldView) (m : ModelState) : Type 0 where
   pub replicas : Pairwise (ReplicaStands m.capacity) w.replicas m.replicas
-  pub messages : Pairwise (λ _ bytes kept. SpellsRecord bytes kept) w.messages m.records
+  pub messages : Pairwise (λ _ bytes kept. EncodesRecord bytes kept) w.messages m.records
 
 -- what an event can name in a world
 abbrev pub view_shape : WorldView → Shape
@@ -77,8 +77,8 @@ pub record Stepped (old : ModelState) (event : Event) (answer : Answer) (w : Wor
 abbrev pub Steps : WorldView → Event → Answer → WorldView → Type 0
 Steps old event answer new = (m : ModelState) → StandsFor old m → Stepped m event answer new
 
--- for every model state that the world stood for, it now stands for that state with one more failure counted at a device of one
--- replica, and nothing else changed
+-- for every model state that the world stood for, it now stands for that state with one more
+-- failure counted at a device of one replica, and nothing else changed
 abbrev pub CountsFailure : WorldView → WorldView → Type 0
 CountsFailure old new = (m : ModelState) → StandsFor old m
     → (k : ℕ) × (pool : PoolView) × (k < length m.replicas) × IsFailed (replica m k).pool pool × StandsFor new (set_replica m k (record (replica m k) { pool = pool }))
@@ -87,13 +87,13 @@ CountsFailure old new = (m : ModelState) → StandsFor old m
 abbrev pub history_of : WorldView → ℕ → HistoryView
 history_of w i = slice_index_or (map (λ r. r.node.history) w.replicas) (index_of_number i) (history_of_entries [])
 
--- each replica's history is exactly the two latest stamps, not older than its horizon, of every page among the references that
--- reached it
+-- each replica's history is exactly the two latest stamps, not older than its horizon, of every
+-- page among the references that reached it
 abbrev pub HistoriesAreExact : WorldView → ModelState → Type 0
 HistoriesAreExact w m = (i : ℕ) → IsNumber i (length m.replicas) → history_of w i ≡ history (reach_of m i)
 
--- two histories have the same entries, and the references that reached the replicas rank pages alike: any two pages leave in the
--- same order, and the warm-up lists of any length are the same
+-- two histories have the same entries, and the references that reached the replicas rank pages
+-- alike: any two pages leave in the same order, and the warm-up lists of any length are the same
 pub record Agree (w : WorldView) (m : ModelState) (i j : ℕ) : Type 0 where
   pub histories : entries_of (history_of w i) ≡ entries_of (history_of w j)
   pub ranking : RankAlike (reach_of m i) (reach_of m j)
@@ -151,12 +151,14 @@ Runs old events answers new = (m : ModelState) → StandsFor old m → Ran m eve
 
 -- Laws over runs
 
--- in the state, the references that reached two replicas have the same two latest stamps of each page, and rank pages alike
+-- in the state, the references that reached two replicas have the same two latest stamps of each
+-- page, and rank pages alike
 pub record Alike (m : ModelState) (i j : ℕ) : Type 0 where
   pub histories : entries_of (history (reach_of m i)) ≡ entries_of (history (reach_of m j))
   pub ranking : RankAlike (reach_of m i) (reach_of m j)
 
--- each victim of the run is right, and in the state that it leads to, replicas that keep the same references agree
+-- each victim of the run is right, and in the state that it leads to, replicas that keep the same
+-- references agree
 pub record IsRightRun (old : ModelState) (events : List Event) (answers : List Answer) (new : ModelState) (run : Run old events answers new) : Type 0 where
   pub agree : (i j : ℕ) → SameReferences (reach_of new i) (reach_of new j) → Alike new i j
   pub victims : EachVictim old events answers new run

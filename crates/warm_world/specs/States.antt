@@ -37,11 +37,12 @@ no_pool = record { page_size = 0; devices = []; frames = []; contents = []; fail
 abbrev pub no_replica : ReplicaState
 no_replica = record { reach = set_of_list []; pending = []; pool = no_pool }
 
--- the replica at a place
+-- the replica at an index
 abbrev pub replica : ModelState → ℕ → ReplicaState
 replica m k = slice_index_or m.replicas k no_replica
 
--- the references that reached the replica of a number, directly or through others, since its restart
+-- the references that reached the replica of a number, directly or through others, since its
+-- restart
 abbrev pub reach_of : ModelState → ℕ → ReferenceSet
 reach_of m i = (replica m (index_of_number i)).reach
 
@@ -53,7 +54,7 @@ pool_of m i = (replica m (index_of_number i)).pool
 abbrev pub node_of : ModelState → ℕ → NodeView
 node_of m i = record { id = i; history = history (reach_of m i); pool = pool_of m i }
 
--- the replica at a place is changed, and nothing else
+-- the replica at an index is changed, and nothing else
 abbrev pub set_replica : ModelState → ℕ → ReplicaState → ModelState
 set_replica m k r = record m { replicas = slice_set m.replicas k r }
 
@@ -61,7 +62,7 @@ set_replica m k r = record m { replicas = slice_set m.replicas k r }
 abbrev pub set_pool : ModelState → ℕ → PoolView → ModelState
 set_pool m i pool = set_replica m (index_of_number i) (record (replica m (index_of_number i)) { pool = pool })
 
--- the record at a place
+-- the record at an index
 abbrev pub record_at : ModelState → ℕ → MessageRecord
 record_at m k = slice_index_or m.records k (References 0 (set_of_list []))
 
@@ -69,7 +70,7 @@ record_at m k = slice_index_or m.records k (References 0 (set_of_list []))
 abbrev pub add_records : ModelState → List MessageRecord → ModelState
 add_records m rs = record m { records = m.records ++ rs }
 
--- the references pending in the buffer of the worker at a place
+-- the references pending in the buffer of the worker at an index
 abbrev pub pending : ReplicaState → ℕ → List Reference
 pending r k = slice_index_or r.pending k []
 

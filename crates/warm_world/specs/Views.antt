@@ -33,7 +33,7 @@ world_view w = record {
 abbrev pub listed : {D : Type 0} → (D → DeviceState) → List (Vec D) → List (List DeviceState)
 listed state lists = map (λ ds. map state ds.items) lists
 
--- of the nodes before a place no frame is dirty, and no device is unflushed
+-- of the nodes before an index no frame is dirty, and no device is unflushed
 abbrev pub AreSettledBefore : ℕ → List NodeState → Type 0
 AreSettledBefore k nodes = (j : ℕ) (other : NodeState) → j < k → IsSettled (slice_index_or nodes j other).pool
 
@@ -44,11 +44,11 @@ IsSettledBefore k w = AreSettledBefore k (map (λ r. r.node) w.replicas.items)
 abbrev pub IsAtRest : {D : Type 0} → World D → Type 0
 IsAtRest w = IsSettledBefore (length w.replicas.items) w
 
--- the node at a place
+-- the node at an index
 abbrev pub node_at : {D : Type 0} → World D → ℕ → NodeState → NodeState
 node_at w j other = slice_index_or (map (λ r. r.node) w.replicas.items) j other
 
--- the nodes from this place on are unchanged; all nodes but that at this place are unchanged
+-- the nodes from this index on are unchanged; all nodes but that at this index are unchanged
 abbrev pub AreSameFrom : {D : Type 0} → ℕ → World D → World D → Type 0
 AreSameFrom k old new = (j : ℕ) (other : NodeState) → k ≤ j → node_at new j other ≡ node_at old j other
 

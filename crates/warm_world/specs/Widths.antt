@@ -1,13 +1,12 @@
 -- Numbers within the widths of their types: of events, and so of all that reaches replicas.
 use Rattle.std.specs.Prelude.{ℕ, ◌<◌, ◌≤◌, ◌^◌, List, length}
 use Rattle.std.specs.List.{AllByRecursion}
-use Rattle.warm_stamps.specs.declared.Reference.{Reference}
 use Rattle.warm_stamps.specs.declared.TheConstants.{MAX_REPLICAS}
-use Rattle.warm_stamps.specs.Bytes.{IsPage, IsStamp}
+use Rattle.warm_stamps.specs.Bytes.{IsPage}
 use Rattle.warm_history.specs.ReferenceSets.{ReferenceSet, references}
 use Rattle.warm_history.specs.Histories.{history}
 use Rattle.warm_devices.specs.Device.{DeviceState}
-use Rattle.warm_digest.specs.Exchange.{Fits}
+use Rattle.warm_digest.specs.Exchange.{AreReferences, Fits}
 use Rattle.warm_world.specs.declared.event.Event.{Event}
 use Rattle.warm_world.specs.declared.event.Event.TheVariants.{Refer, Horizon}
 use Rattle.warm_world.specs.declared.event.Answer.{Answer}
@@ -15,14 +14,6 @@ use Rattle.warm_world.specs.Sizes.{Sizes}
 use Rattle.warm_world.specs.States.{ModelState, ReplicaState, MessageRecord, reach_of, opening}
 use Rattle.warm_world.specs.Answered.{refs_of}
 use Rattle.warm_world.specs.Next.{Run}
-
--- a valid page with a valid stamp
-pub record IsReference (r : Reference) : Type 0 where
-  pub page : IsPage r.page
-  pub stamp : IsStamp r.stamp
-
-abbrev pub AreReferences : List Reference → Type 0
-AreReferences rs = AllByRecursion IsReference rs
 
 -- an event's page and time are within their widths
 abbrev pub EventFits : Event → Type 0

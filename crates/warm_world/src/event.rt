@@ -5,6 +5,7 @@ ghost use Rattle.warm_gossip.specs.declared.fault.NodeFault.TheVariants as node;
 ghost use Rattle.warm_world.specs.declared.event.WorldFault.TheVariants as fault;
 ghost use Rattle.warm_world.specs.declared.event.BadWorld.TheVariants as bad;
 ghost use Rattle.warm_world.specs.Next.{replica_of, worker_of, message_of};
+ghost use Rattle.warm_world.specs.Replicas.{answered};
 
 use crate::shown::ShownHistory;
 use std::alloc::AllocError;
@@ -51,8 +52,8 @@ pub enum Event {
     /// A replica writes back its pages, and then forgets its history, the references in its
     /// buffers, and which pages were resident. Its horizon is 0 again.
     Restart(u16),
-    /// A replica forgets all stamps before a time, and keeps that time as its horizon: replica, time. A time
-    /// that is not greater than its horizon changes nothing.
+    /// A replica forgets all stamps before a time, and keeps that time as its horizon: replica,
+    /// time. A time that is not greater than its horizon changes nothing.
     Horizon(u16, u64),
     /// A replica's history is requested.
     Show(u16),
@@ -82,7 +83,8 @@ pub enum Answer {
     Loaded(Option<PageId>),
     /// Horizon: the replica's horizon afterwards.
     Kept(u64),
-    /// The event was refused; nothing that a caller sees has changed but counts of devices' failures.
+    /// The event was refused; nothing that a caller sees has changed but counts of devices'
+    /// failures.
     Refused(WorldFault),
 }
 
@@ -191,6 +193,16 @@ impl From<AllocError> for BadWorld {
 
     fn from(_error: AllocError) -> BadWorld {
         BadWorld::Memory
+    }
+}
+
+/// The answer to an event for the result of a node's call.
+pub(crate) fn answer_of(made: Result<Answer, NodeFault>) -> Answer
+    ensures { result ≡ answered made }
+{
+    match made {
+        Ok(answer) => answer,
+        Err(why) => Answer::Refused(WorldFault::Node(why)),
     }
 }
 

@@ -2,13 +2,13 @@
 ghost use Rattle.std.specs.Prelude.{◌≡◌, [], map, OnOk, OnErr, IfOk, IsOk};
 ghost use Rattle.warm_world.specs.Next.{IsNamed};
 ghost use Rattle.warm_world.specs.Lists.{Pairwise};
-ghost use Rattle.warm_world.specs.Replicas.{EncodesMessage, Keeps, KeepsAll, StoresAnswers, raised_to};
+ghost use Rattle.warm_world.specs.Replicas.{EncodesMessage, Keeps, KeepsAll, StoresAnswers, answered};
 ghost use Rattle.warm_world.specs.Views.{world_view};
 ghost use Rattle.warm_world.specs.Stands.{view_shape, Steps};
 
-use crate::event::{Answer, Event, WorldFault};
+use crate::event::{Answer, Event};
 use crate::shown::ShownHistory;
-use crate::world::World;
+use crate::world::{World, index_of_number};
 use std::alloc::{AllocError, Global};
 use warm_devices::PageDevice;
 use warm_frames::{Message, decode, encode};
@@ -28,114 +28,105 @@ fn encoded(alloc: Global, messages: &[Message]) -> Result<Vec<Vec<u8>>, AllocErr
 }
 
 // Stores the messages after the others, all of them or none; for no messages it is allocation-free.
-fn keep_all(alloc: Global, kept: &mut Vec<Vec<u8>>, messages: &[Message]) -> Result<(), AllocError>
-    ensures ok { OnOk result (KeepsAll (map (λ f. f.items) kept.old.items) messages.now
-        (map (λ f. f.items) kept.new.items)) }
-    ensures err { OnErr result (kept.new.items ≡ kept.old.items) }
+fn store_all(
+    alloc: Global,
+    stored: &mut Vec<Vec<u8>>,
+    messages: &[Message],
+) -> Result<(), AllocError>
+    ensures ok { OnOk result (KeepsAll (map (λ f. f.items) stored.old.items) messages.now
+        (map (λ f. f.items) stored.new.items)) }
+    ensures err { OnErr result (stored.new.items ≡ stored.old.items) }
     ensures none { messages.now ≡ [] → IsOk result }
 {
     if messages.is_empty() {
         return Ok(());
     }
     let mut added = encoded(alloc, messages)?;
-    kept.append(&mut added)?;
+    stored.append(&mut added)?;
     Ok(())
 }
 
-// Stores the messages that answer a delivered one, numbered after the others.
-fn took(alloc: Global, kept: &mut Vec<Vec<u8>>, messages: &[Message]) -> Answer
-    ensures { StoresAnswers (map (λ f. f.items) kept.old.items) messages.now result
-        (map (λ f. f.items) kept.new.items) }
+// Stores the messages that answer a delivered one, numbered after the others, and returns the
+// event's answer.
+fn store_answers(
+    alloc: Global,
+    stored: &mut Vec<Vec<u8>>,
+    messages: &[Message],
+) -> Result<Answer, AllocError>
+    ensures ok { IfOk result (λ answer. StoresAnswers (map (λ f. f.items) stored.old.items)
+        messages.now answer (map (λ f. f.items) stored.new.items)) }
+    ensures err { OnErr result (stored.new.items ≡ stored.old.items) }
 {
-    if let Err(error) = keep_all(alloc, kept, messages) {
-        return Answer::Refused(error.into());
-    }
+    store_all(alloc, stored, messages)?;
     let count = messages.len();
     if count == 0 {
-        return Answer::Took { count: 0, first: 0 };
+        return Ok(Answer::Took { count: 0, first: 0 });
     }
-    let first = kept.len() - count + 1;
-    Answer::Took {
+    let first = stored.len() - count + 1;
+    Ok(Answer::Took {
         count: count as u64,
         first: first as u64,
-    }
-}
-
-// The horizon to which digests or a request raise the replica that receives them; none for entries,
-// whose horizon is taken in with them.
-fn horizon_raised(message: &Message) -> Option<u64>
-    ensures { result ≡ raised_to message.now }
-{
-    match message {
-        Message::Entries { .. } => None,
-        Message::Digest { horizon, .. } => Some(*horizon),
-        Message::Want { horizon, .. } => Some(*horizon),
-    }
+    })
 }
 
 impl<D: PageDevice> World<D> {
     // Stores a message after the others.
-    fn keep(&mut self, message: &Message) -> Answer
-        ensures { Keeps (world_view self.old) message.now result (world_view self.new) }
+    fn store(&mut self, message: &Message) -> Result<Answer, NodeFault>
+        ensures { Keeps (world_view self.old) message.now (answered result) (world_view self.new) }
     {
         let Ok(bytes) = encode(self.alloc, message) else {
-            return Answer::Refused(WorldFault::Node(NodeFault::Memory));
+            return Err(NodeFault::Memory);
         };
         let Ok(()) = self.messages.push(bytes) else {
-            return Answer::Refused(WorldFault::Node(NodeFault::Memory));
+            return Err(NodeFault::Memory);
         };
-        Answer::FrameNo(self.messages.len() as u64)
+        Ok(Answer::FrameNo(self.messages.len() as u64))
     }
 
-    pub(crate) fn send(&mut self, i: u16, bucket: Bucket, after: Option<PageId>) -> Answer
+    pub(crate) fn send(
+        &mut self,
+        i: u16,
+        bucket: Bucket,
+        after: Option<PageId>,
+    ) -> Result<Answer, NodeFault>
         requires named { IsNamed (view_shape (world_view self.old)) (Event.Send i bucket after) }
-        ensures { Steps (world_view self.old) (Event.Send i bucket after) result
+        ensures { Steps (world_view self.old) (Event.Send i bucket after) (answered result)
             (world_view self.new) }
     {
-        match self.replicas[i as usize - 1].node.send(bucket, after) {
-            Ok(message) => self.keep(&message),
-            Err(why) => Answer::Refused(why.into()),
-        }
+        let message = self.replicas[index_of_number(i as u64)].node.send(bucket, after)?;
+        self.store(&message)
     }
 
-    pub(crate) fn offer(&mut self, i: u16) -> Answer
+    pub(crate) fn offer(&mut self, i: u16) -> Result<Answer, NodeFault>
         requires named { IsNamed (view_shape (world_view self.old)) (Event.Offer i) }
-        ensures { Steps (world_view self.old) (Event.Offer i) result (world_view self.new) }
-    {
-        match self.replicas[i as usize - 1].node.offer() {
-            Ok(message) => self.keep(&message),
-            Err(why) => Answer::Refused(why.into()),
-        }
-    }
-
-    pub(crate) fn deliver(&mut self, j: u16, k: u64) -> Answer
-        requires named { IsNamed (view_shape (world_view self.old)) (Event.Deliver j k) }
-        ensures { Steps (world_view self.old) (Event.Deliver j k) result
+        ensures { Steps (world_view self.old) (Event.Offer i) (answered result)
             (world_view self.new) }
     {
-        // The bytes spell a message, so nothing but an allocation can fail.
-        let Ok(message) = decode(self.alloc, &self.messages[k as usize - 1]) else {
-            return Answer::Refused(WorldFault::Node(NodeFault::Memory));
+        let message = self.replicas[index_of_number(i as u64)].node.offer()?;
+        self.store(&message)
+    }
+
+    pub(crate) fn deliver(&mut self, j: u16, k: u64) -> Result<Answer, NodeFault>
+        requires named { IsNamed (view_shape (world_view self.old)) (Event.Deliver j k) }
+        ensures { Steps (world_view self.old) (Event.Deliver j k) (answered result)
+            (world_view self.new) }
+    {
+        // The bytes encode a message, so nothing but an allocation can fail.
+        let Ok(message) = decode(self.alloc, &self.messages[index_of_number(k)]) else {
+            return Err(NodeFault::Memory);
         };
-        let Some(horizon) = horizon_raised(&message) else {
+        let at = index_of_number(j as u64);
+        if let Message::Entries { .. } = message {
             // Entries are not answered, so there is nothing to store.
-            return match self.replicas[j as usize - 1].node.receive(message) {
-                Ok(answers) => took(self.alloc, &mut self.messages, answers.as_slice()),
-                Err(why) => Answer::Refused(why.into()),
-            };
-        };
-        let answers = match self.replicas[j as usize - 1].node.answers(&message) {
-            Ok(answers) => answers,
-            Err(why) => return Answer::Refused(why.into()),
-        };
+            self.replicas[at].node.receive(message)?;
+            return Ok(Answer::Took { count: 0, first: 0 });
+        }
+        let answers = self.replicas[at].node.answers(&message)?;
         // The horizon rises only after the answers are stored, so nothing has happened where
         // storing one fails.
-        let answer = took(self.alloc, &mut self.messages, answers.as_slice());
-        let Answer::Took { .. } = &answer else {
-            return answer;
-        };
-        self.replicas[j as usize - 1].node.raise(horizon);
-        answer
+        let answer = store_answers(self.alloc, &mut self.messages, answers.as_slice())?;
+        self.replicas[at].node.raise(message.horizon());
+        Ok(answer)
     }
 
     /// Raises a replica's horizon to a time, unless it is later already.
@@ -143,19 +134,16 @@ impl<D: PageDevice> World<D> {
         requires named { IsNamed (view_shape (world_view self.old)) (Event.Horizon i time) }
         ensures { Steps (world_view self.old) (Event.Horizon i time) result (world_view self.new) }
     {
-        Answer::Kept(self.replicas[i as usize - 1].node.raise(time))
+        Answer::Kept(self.replicas[index_of_number(i as u64)].node.raise(time))
     }
 
-    pub(crate) fn show(&self, i: u16) -> Answer
+    pub(crate) fn show(&self, i: u16) -> Result<Answer, NodeFault>
         requires named { IsNamed (view_shape (world_view self.now)) (Event.Show i) }
-        ensures { Steps (world_view self.now) (Event.Show i) result (world_view self.now) }
+        ensures { Steps (world_view self.now) (Event.Show i) (answered result)
+            (world_view self.now) }
     {
-        let Ok(copied) = self.replicas[i as usize - 1].node.history().copy() else {
-            return Answer::Refused(WorldFault::Node(NodeFault::Memory));
-        };
-        match ShownHistory::new(self.alloc, copied) {
-            Ok(shown) => Answer::Shown(shown),
-            Err(error) => Answer::Refused(error.into()),
-        }
+        let copied = self.replicas[index_of_number(i as u64)].node.history().copy()?;
+        let shown = ShownHistory::new(self.alloc, copied)?;
+        Ok(Answer::Shown(shown))
     }
 }

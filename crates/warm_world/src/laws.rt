@@ -90,11 +90,11 @@ pub fn warm_up_loads()
 pub fn pools_differ<D: PageDevice>(world: &World<D>)
     ensures { ShowsPoolsDiffer (world_view world.now) }
 {
-    are_pools(&world.replicas);
+    prove_pools(&world.replicas);
 }
 
 // Each of the pools satisfies the invariant of pools, as its type implies.
-fn are_pools<D: PageDevice>(replicas: &[Replica<D>])
+fn prove_pools<D: PageDevice>(replicas: &[Replica<D>])
     ensures { ArePools (map (λ r. r.node) replicas.now) }
 {
     for replica in replicas {

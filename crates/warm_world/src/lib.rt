@@ -15,6 +15,7 @@
 mod event;
 mod gossip;
 pub mod laws;
+mod nodes;
 mod pool_events;
 mod replica;
 mod setup;
@@ -22,6 +23,7 @@ mod shown;
 mod world;
 
 pub use event::{Answer, BadWorld, Event, WorldFault};
+pub use nodes::{are_usable, nodes_over};
 pub use setup::{BadSetup, Setup};
 pub use shown::ShownHistory;
 pub use world::{World, are_sized};

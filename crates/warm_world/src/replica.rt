@@ -12,11 +12,11 @@ ghost use Rattle.warm_world.specs.Stands.{buffered, ReplicaStands, Becomes, IsBu
 ghost use Rattle.warm_refbuffer.specs.Buffered.{cleared};
 ghost use Rattle.warm_world.specs.Replicas.{Restarts};
 
+use crate::nodes::node_over;
 use crate::setup::Setup;
 use std::alloc::{AllocError, Global};
 use warm_devices::PageDevice;
 use warm_gossip::{Node, NodeFault};
-use warm_pool::Pool;
 use warm_refbuffer::{BufferFault, RefBuffer};
 use warm_stamps::{PageId, Reference, ReplicaId, Stamp};
 
@@ -51,8 +51,8 @@ fn empty_buffers(alloc: Global, workers: u16, capacity: usize) -> Result<Vec<Ref
 }
 
 impl<D: PageDevice> Replica<D> {
-    /// A replica that no reference has reached, over a pool without a page. The devices' pages have the
-    /// setup's size.
+    /// A replica that no reference has reached, over a pool without a page. The devices' pages have
+    /// the setup's size.
     ///
     /// Fails where an allocation fails.
     pub(crate) fn new(
@@ -62,20 +62,13 @@ impl<D: PageDevice> Replica<D> {
         devices: Vec<D>,
     ) -> Result<Self, AllocError>
         requires { length devices.items ≤ MAX_DEVICES }
-        ensures { (place : ℕ) → id ≡ place + 1
-            → IfOk result (λ r. ReplicaStands setup.buffer place (replica_view r)
+        ensures { (index : ℕ) → id ≡ index + 1
+            → IfOk result (λ r. ReplicaStands setup.buffer index (replica_view r)
             (opened_over setup (map D.state devices.items))) }
     {
-        let frames = setup.frames() as usize;
-        let page_size = setup.page_size() as usize;
-        let Ok(pool) = Pool::new(alloc, frames, page_size, devices) else {
-            return Err(AllocError);
-        };
+        let node = node_over(alloc, id, setup, devices)?;
         let buffers = empty_buffers(alloc, setup.workers(), setup.buffer() as usize)?;
-        Ok(Replica {
-            node: Node::new(alloc, id, pool),
-            buffers,
-        })
+        Ok(Replica { node, buffers })
     }
 
     /// Flushes a worker's buffer into the node.

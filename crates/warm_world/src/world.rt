@@ -6,13 +6,14 @@ ghost use Rattle.warm_world.specs.Lists.{IsNumber, Pairwise, index_of_number};
 ghost use Rattle.warm_world.specs.States.{opened_over, opening};
 ghost use Rattle.warm_pool.specs.declared.fault.PoolFault.TheVariants.{Fault};
 ghost use Rattle.warm_gossip.specs.declared.fault.NodeFault.TheVariants.{Pool};
-ghost use Rattle.warm_world.specs.Opening.{AreFew, AreFitting, AreSized, FailsAtPlace, FinishFails, NewWorldRefused, StopsInOrder};
+ghost use Rattle.warm_world.specs.Opening.{AreFew, AreFitting, AreSized, FailsAtIndex, FinishFails, NewWorldRefused, StopsInOrder};
 ghost use Rattle.warm_world.specs.Next.{IsNamed, IsMissing};
+ghost use Rattle.warm_world.specs.Replicas.{answered};
 ghost use Rattle.warm_world.specs.Views.{listed, world_view, replica_view};
 ghost use Rattle.warm_world.specs.Views.{AreSameBut, IsAtRest, IsSettledBefore};
 ghost use Rattle.warm_world.specs.Stands.{CountsFailure, ReplicaStands, view_shape, StandsFor, Steps, Runs};
 
-use crate::event::{Answer, BadWorld, Event, WorldFault};
+use crate::event::{Answer, BadWorld, Event, WorldFault, answer_of};
 use crate::pool_events::ask;
 use crate::replica::Replica;
 use crate::setup::Setup;
@@ -52,6 +53,14 @@ fn is_number(number: u64, count: usize) -> bool
     ensures { IsTrue result ↔ IsNumber number count }
 {
     0 < number && number <= count as u64
+}
+
+/// The index of the item of a number, since numbers count from 1.
+pub(crate) fn index_of_number(number: u64) -> usize
+    requires { 0 < number }
+    ensures { result ≡ index_of_number number }
+{
+    number as usize - 1
 }
 
 /// Whether each device of each list has pages of this size: what [`World::new`] requires of its
@@ -135,7 +144,7 @@ impl<D: PageDevice> World<D> {
         requires { IsNumber i (length (view_shape (world_view self.now)).workers) }
         ensures { result ≡ slice_index_or (view_shape (world_view self.now)).workers (index_of_number i) 0 }
     {
-        self.replicas[i as usize - 1].buffers.len()
+        self.replicas[index_of_number(i as u64)].buffers.len()
     }
 
     // The number of messages sent.
@@ -168,36 +177,53 @@ impl<D: PageDevice> World<D> {
         Ok(())
     }
 
-    fn refer(&mut self, i: u16, w: u16, page: PageId, time: u64) -> Answer
+    fn refer(&mut self, i: u16, w: u16, page: PageId, time: u64) -> Result<Answer, NodeFault>
         requires named { IsNamed (view_shape (world_view self.old)) (Event.Refer i w page time) }
-        ensures { Steps (world_view self.old) (Event.Refer i w page time) result
+        ensures { Steps (world_view self.old) (Event.Refer i w page time) (answered result)
             (world_view self.new) }
     {
-        let worker = w as usize - 1;
-        match self.replicas[i as usize - 1].refer(worker, page, time) {
-            Ok(()) => Answer::Done,
-            Err(why) => Answer::Refused(why.into()),
-        }
+        let worker = index_of_number(w as u64);
+        self.replicas[index_of_number(i as u64)].refer(worker, page, time)?;
+        Ok(Answer::Done)
     }
 
-    fn flush(&mut self, i: u16, w: u16) -> Answer
+    fn flush(&mut self, i: u16, w: u16) -> Result<Answer, NodeFault>
         requires named { IsNamed (view_shape (world_view self.old)) (Event.Flush i w) }
-        ensures { Steps (world_view self.old) (Event.Flush i w) result (world_view self.new) }
+        ensures { Steps (world_view self.old) (Event.Flush i w) (answered result)
+            (world_view self.new) }
     {
-        let worker = w as usize - 1;
-        match self.replicas[i as usize - 1].flush(worker) {
-            Ok(()) => Answer::Done,
-            Err(why) => Answer::Refused(why.into()),
-        }
+        let worker = index_of_number(w as u64);
+        self.replicas[index_of_number(i as u64)].flush(worker)?;
+        Ok(Answer::Done)
     }
 
-    fn restart(&mut self, i: u16) -> Answer
+    fn restart(&mut self, i: u16) -> Result<Answer, NodeFault>
         requires named { IsNamed (view_shape (world_view self.old)) (Event.Restart i) }
-        ensures { Steps (world_view self.old) (Event.Restart i) result (world_view self.new) }
+        ensures { Steps (world_view self.old) (Event.Restart i) (answered result)
+            (world_view self.new) }
     {
-        match self.replicas[i as usize - 1].restart() {
-            Ok(()) => Answer::Done,
-            Err(why) => Answer::Refused(why.into()),
+        self.replicas[index_of_number(i as u64)].restart()?;
+        Ok(Answer::Done)
+    }
+
+    // Answers an event of which everything that it names exists, or returns why a node refuses it.
+    fn answer(&mut self, event: Event) -> Result<Answer, NodeFault>
+        requires named { IsNamed (view_shape (world_view self.old)) event }
+        ensures { Steps (world_view self.old) event (answered result) (world_view self.new) }
+    {
+        match event {
+            Event::Refer(i, w, page, time) => self.refer(i, w, page, time),
+            Event::Flush(i, w) => self.flush(i, w),
+            Event::Send(i, bucket, after) => self.send(i, bucket, after),
+            Event::Offer(i) => self.offer(i),
+            Event::Deliver(j, k) => self.deliver(j, k),
+            Event::Restart(i) => self.restart(i),
+            Event::Horizon(i, time) => Ok(self.horizon(i, time)),
+            Event::Show(i) => self.show(i),
+            of_pool => {
+                let i = of_pool.replica();
+                ask(&mut self.replicas[index_of_number(i as u64)].node, of_pool)
+            }
         }
     }
 
@@ -210,23 +236,7 @@ impl<D: PageDevice> World<D> {
         if let Err(fault) = self.check(&event) {
             return Answer::Refused(fault);
         }
-        match event {
-            Event::Refer(i, w, page, time) => self.refer(i, w, page, time),
-            Event::Flush(i, w) => self.flush(i, w),
-            Event::Send(i, bucket, after) => self.send(i, bucket, after),
-            Event::Offer(i) => self.offer(i),
-            Event::Deliver(j, k) => self.deliver(j, k),
-            Event::Restart(i) => self.restart(i),
-            Event::Horizon(i, time) => self.horizon(i, time),
-            Event::Show(i) => self.show(i),
-            of_pool => {
-                let i = of_pool.replica();
-                match ask(&mut self.replicas[i as usize - 1].node, of_pool) {
-                    Ok(answer) => answer,
-                    Err(why) => Answer::Refused(why.into()),
-                }
-            }
-        }
+        answer_of(self.answer(event))
     }
 
     /// Answers a list of events, one after another. For every model state that the world stands
@@ -279,14 +289,14 @@ impl<D: PageDevice> World<D> {
         Ok(())
     }
 
-    // Writes back the pages of the replica at a place.
+    // Writes back the pages of the replica at an index.
     fn write_back(&mut self, k: usize) -> Result<(), NodeFault>
         requires there { k < length self.old.replicas.items }
         ensures same { OnOk result (world_view self.new ≡ world_view self.old) }
         ensures settled { IsSettledBefore k self.old
             → OnOk result (IsSettledBefore (k + 1) self.new) }
         ensures refused { IfErr result (λ why. (why ≡ Pool Fault)
-            × FailsAtPlace k (world_view self.old) (world_view self.new)) }
+            × FailsAtIndex k (world_view self.old) (world_view self.new)) }
         ensures others { AreSameBut k self.old self.new }
         ensures many { length self.new.replicas.items ≡ length self.old.replicas.items }
     {

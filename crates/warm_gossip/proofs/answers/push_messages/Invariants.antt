@@ -1,6 +1,6 @@
 use Rattle.std.proofs.Common.{◌≡◌, ◌++◌, length}
 use Rattle.warm_history.specs.Histories.{PagesAscend}
-use Rattle.warm_gossip.specs.Answers.{entry_messages}
+use Rattle.warm_frames.specs.Chunks.{entry_messages}
 use Rattle.warm_gossip.proofs.answers.push_messages.Given as goal
 
 -- the messages of what is left would make it whole

@@ -6,4 +6,4 @@ use Rattle.warm_gossip.proofs.FitLemmas.{in_other_order}
 use Rattle.warm_gossip.proofs.laws.node_fits.Goals as goal
 
 pub returns : goal.returns
-returns g c = subst Fits c.history.ensures (in_other_order IsEntry (entries_of c.history.result.now) c.unordered.result c.unordered.ensures c.are_entries.ensures)
+returns g c = subst Fits c.history.ensures (in_other_order IsEntry (entries_of c.history.result.now) c.unordered.result c.unordered.ensures c.prove_entries.ensures)

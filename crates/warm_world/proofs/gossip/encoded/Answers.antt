@@ -11,7 +11,7 @@ loop-message-init c = rw c.in_ok-all.ensures.items (Pairwise-nil (λ _ bytes mes
 pub loop-message-preserved : goal.loop-message-preserved
 loop-message-preserved c =
     encoded_more c.loop-message.all.items _ c.in_ok-encode.field-0 c.args.messages.now c.loop-message.message-index c.message-item.result c.loop-message.invariant
-    (omega (arith, c.loop-message-test.true)) c.message-item.is c.in_ok-push.ensures.items (record { spells = c.in_ok-encode.ensures.encodes; exact = c.in_ok-encode.ensures.exact })
+    (omega (arith, c.loop-message-test.true)) c.message-item.is c.in_ok-push.ensures.items (record { encodes = c.in_ok-encode.ensures.encodes; exact = c.in_ok-encode.ensures.exact })
 
 pub returns : goal.returns
 returns c =

@@ -20,9 +20,9 @@ returns-then-at-len-clause-step g c =
     let past = subst (λ xs. IsPast xs c.first_loadable-at.result v) c.deref.ensures.value c.first_loadable-at.ensures.past in
     rw (← c.self.view_is) (next_warm v c.self.inside.history.history ps None whole under.hottest (none_left v ps c.first_loadable-at.result past (omega (arith, len, c.if-at-len.true))), refl)
 
-pub returns-in_err-load-clause-step : goal.returns-in_err-load-clause-step
-returns-in_err-load-clause-step g c =
-    let given = err_from_is_err_and c.from_residual-in_err-load.result c.from_residual-in_err-load.ensures.1 in
+pub returns-in_err-placed-clause-step : goal.returns-in_err-placed-clause-step
+returns-in_err-placed-clause-step g c =
+    let given = err_from_is_err_and c.from_residual-in_err-placed.result c.from_residual-in_err-placed.ensures.1 in
     let v = view_of c.self.inside.pool in
     let at = c.first_loadable-at.result in
     let ps = c.in_ok-pages.pages.items in
@@ -36,12 +36,12 @@ returns-in_err-load-clause-step g c =
     rw (given.1, given.2, ← c.self.view_is) (
       c.index-page.result.now,
       next_is v c.self.inside.history.history ps _ _ whole under.hottest (first_there v ps at past there loadable) page_is,
-      (refl, load_refused_in _ _ c.in_err-load.field-0.0 (subst (IsLoadable v) page_is loadable) (rw c.history-2.ensures at c.in_err-load.ensures.refused)),
+      (refl, load_refused_in _ _ c.in_err-placed.field-0.0 (subst (IsLoadable v) page_is loadable) (rw c.history-2.ensures at c.in_err-placed.ensures.refused)),
     )
 
-pub returns-in_err-load-clause-devices : goal.returns-in_err-load-clause-devices
-returns-in_err-load-clause-devices g c =
-    let given = err_from_is_err_and c.from_residual-in_err-load.result c.from_residual-in_err-load.ensures.1 in
+pub returns-in_err-placed-clause-devices : goal.returns-in_err-placed-clause-devices
+returns-in_err-placed-clause-devices g c =
+    let given = err_from_is_err_and c.from_residual-in_err-placed.result c.from_residual-in_err-placed.ensures.1 in
     let v = view_of c.self.inside.pool in
     let at = c.first_loadable-at.result in
     let ps = c.in_ok-pages.pages.items in
@@ -55,7 +55,7 @@ returns-in_err-load-clause-devices g c =
     rw (given.1, given.2, ← c.self.view_is) (
       c.index-page.result.now,
       next_is v c.self.inside.history.history ps _ _ whole under.hottest (first_there v ps at past there loadable) page_is,
-      (c.in_err-load.ensures.frames, rw c.history-2.ensures at c.in_err-load.ensures.devices),
+      (c.in_err-placed.ensures.frames, rw c.history-2.ensures at c.in_err-placed.ensures.devices),
     )
 
 pub returns-clause-step : goal.returns-clause-step
@@ -72,17 +72,17 @@ returns-clause-step g c =
     let loadable = subst (λ xs. IsLoadable v (nth_page xs at)) c.deref.ensures.value (c.first_loadable-at.ensures.there (omega (arith, there, ap length c.deref.ensures.value))) in
     rw (← c.self.view_is) (
       next_is v c.self.inside.history.history ps _ _ whole under.hottest (first_there v ps at past there loadable) page_is,
-      (refl, (_, loaded_in (subst (IsLoadable v) page_is loadable) (rw c.history-2.ensures at c.in_ok-load.ensures.loaded))),
+      (refl, (_, loaded_in (subst (IsLoadable v) page_is loadable) (rw c.history-2.ensures at c.in_ok-placed.ensures.loaded))),
     )
 
 pub returns-clause-devices : goal.returns-clause-devices
-returns-clause-devices g c = rw (← c.self.view_is) (c.in_ok-load.field-0, c.in_ok-load.ensures.frame)
+returns-clause-devices g c = rw (← c.self.view_is) (c.in_ok-placed.placed.slot, c.in_ok-placed.ensures.frame)
 
 pub invariant_of-self-2 : goal.invariant_of-self-2
 invariant_of-self-2 g c =
     let h = c.self.inside.history.history in
     let v = view_of c.self.inside.pool in
-    let w = view_of c.load.new.self in
+    let w = view_of c.load_placed.new.self in
     let at = c.first_loadable-at.result in
     let ps = c.in_ok-pages.pages.items in
     let len : c.len.result ≡ length ps = c.len.ensures ∙ sym c.deref.ensures.len ∙ ap length c.deref.ensures.value in
@@ -92,8 +92,9 @@ invariant_of-self-2 g c =
     let under = subst (λ (x : HistoryView). IsUnderWay x v ps c.take_pages.new.warm_up.passed) c.history-history.ensures c.in_ok-pages.ensures.pages in
     let past = subst (λ xs. IsPast xs at v) c.deref.ensures.value c.first_loadable-at.ensures.past in
     let loadable = subst (λ xs. IsLoadable v (nth_page xs at)) c.deref.ensures.value (c.first_loadable-at.ensures.there (omega (arith, there, ap length c.deref.ensures.value))) in
-    let puts = subst (λ p. PutsIn h v p 0 c.in_ok-load.field-0 w) (sym page_is) (loaded_in (subst (IsLoadable v) page_is loadable) (rw c.history-2.ensures at c.in_ok-load.ensures.loaded)) in
-    let moves = subst (λ p. PassedAtLoad h w p c.victim-victim.result at c.passed_at_load-self-inside.result) (sym page_is) (rw c.history-3.ensures at c.passed_at_load-self-inside.ensures) in (
-      rw c.history-2.ensures at c.load.ensures.ranked,
-      loaded h v w ps c.in_ok-load.field-0 c.victim-victim.result at c.passed_at_load-self-inside.result whole there (record { hottest = under.hottest; past = past }) puts (c.victim-victim.ensures h c.self.invariant.0) moves,
+    let puts = subst (λ p. PutsIn h v p 0 c.in_ok-placed.placed.slot w) (sym page_is) (loaded_in (subst (IsLoadable v) page_is loadable) (rw c.history-2.ensures at c.in_ok-placed.ensures.loaded)) in
+    let moves = subst (λ p. PassedAtLoad h p c.in_ok-placed.placed.evicted at c.passed_at_load-self-inside.result) (sym page_is) (rw c.history-3.ensures at c.passed_at_load-self-inside.ensures) in (
+      rw c.history-2.ensures at c.load_placed.ensures.ranked,
+      loaded h v w ps c.in_ok-placed.placed.slot c.in_ok-placed.placed.evicted at c.passed_at_load-self-inside.result whole there (record { hottest = under.hottest; past = past }) puts
+      (c.in_ok-placed.ensures.evicted.absent (subst (IsLoadable v) page_is loadable).1) moves,
     )

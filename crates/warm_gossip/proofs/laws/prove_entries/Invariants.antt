@@ -1,7 +1,7 @@
 use Rattle.std.proofs.Common.{◌≡◌, ◌++◌}
 use Rattle.std.specs.List.{AllByRecursion}
 use Rattle.warm_frames.specs.Entries.{IsEntry}
-use Rattle.warm_gossip.proofs.laws.are_entries.Given as goal
+use Rattle.warm_gossip.proofs.laws.prove_entries.Given as goal
 
 -- the entries so far are valid
 abbrev pub invariant-loop-entry : goal.invariant-loop-entry

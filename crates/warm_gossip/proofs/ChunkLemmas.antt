@@ -1,4 +1,4 @@
--- What comes after the last page of a piece is what the next pieces are made of.
+-- What comes after the last page of a chunk is what the next chunks are made of.
 use Rattle.std.proofs.Common.{◌≡◌, ℕ, zero, suc, ◌≤◌, Bool, true, false, ◌&&◌, cond, List, [], ◌∷◌, length, take, drop, filter, Option, Some, None, refl, sym, ap, subst, ◌∙◌, arith}
 use Rattle.std.specs.Prelude.{◌==◌}
 use Rattle.std.specs.List.{AllByRecursion}
@@ -22,8 +22,8 @@ use Rattle.warm_history.specs.Carried.{bucket_entries, comes_after, is_next_in_b
 use Rattle.warm_history.proofs.HistoryLemmas.{IsHistory-history}
 use Rattle.warm_history.proofs.CarriedLemmas.{history-carried}
 use Rattle.warm_frames.proofs.FieldLemmas.{less_is}
-use Rattle.warm_gossip.specs.Answers.{pieces_of}
-use Rattle.warm_gossip.specs.Pieces.{last_page, piece_after, AreInTurn, PiecesInTurn}
+use Rattle.warm_frames.specs.Chunks.{chunks_of}
+use Rattle.warm_gossip.specs.Chunks.{last_page, chunk_after, AreInTurn, ChunksInTurn}
 
 -- the entries whose page comes after the given one
 abbrev later : Option PageId → List Entry → List Entry
@@ -82,16 +82,16 @@ all_chosen bucket after es = recursion_from_All (λ e. comes_after after e.page 
 chosen-first : (bucket : ℕ) (es : List Entry) → bucket_entries bucket es ≡ chosen bucket None es
 chosen-first bucket es = filter_agree (λ e. page_bucket e.page == bucket) (λ e. is_next_in_bucket bucket None e.page) (λ e. sym (and-true (page_bucket e.page == bucket))) es
 
--- ---- pieces
+-- ---- chunks
 
 -- what is sent is the first part of what is chosen
-piece_is : (S : ReferenceSet) (bucket limit : ℕ) (after : Option PageId) (es : List Entry) → es ≡ chosen bucket after (entries_of (history S)) → piece_after S bucket limit after ≡ take limit es
-piece_is S bucket limit after es is = sym (history-carried S bucket after limit) ∙ ap (take limit) (sym is)
+chunk_is : (S : ReferenceSet) (bucket limit : ℕ) (after : Option PageId) (es : List Entry) → es ≡ chosen bucket after (entries_of (history S)) → chunk_after S bucket limit after ≡ take limit es
+chunk_is S bucket limit after es is = sym (history-carried S bucket after limit) ∙ ap (take limit) (sym is)
 
-in_turn_from : (S : ReferenceSet) (bucket size n : ℕ) (after : Option PageId) (es : List Entry) → es ≡ chosen bucket after (entries_of (history S)) → length es ≤ n → AreInTurn S bucket (suc size) after (pieces_of (suc size) n es)
-in_turn_from S bucket size zero after [] is few = piece_is S bucket (suc size) after [] is ∙ take-nil (suc size)
+in_turn_from : (S : ReferenceSet) (bucket size n : ℕ) (after : Option PageId) (es : List Entry) → es ≡ chosen bucket after (entries_of (history S)) → length es ≤ n → AreInTurn S bucket (suc size) after (chunks_of (suc size) n es)
+in_turn_from S bucket size zero after [] is few = chunk_is S bucket (suc size) after [] is ∙ take-nil (suc size)
 in_turn_from S bucket size zero after (x ∷ xs) is few = absurd (omega (arith, few))
-in_turn_from S bucket size (suc n) after [] is few = piece_is S bucket (suc size) after [] is ∙ take-nil (suc size)
+in_turn_from S bucket size (suc n) after [] is few = chunk_is S bucket (suc size) after [] is ∙ take-nil (suc size)
 in_turn_from S bucket size (suc n) after (x ∷ xs) is few =
     let es : List Entry = x ∷ xs in
     let all = entries_of (history S) in
@@ -105,10 +105,10 @@ in_turn_from S bucket size (suc n) after (x ∷ xs) is few =
     ∙ sym (chosen-later bucket after last.0 last.2 all)
     ∙ sym (ap (λ q. chosen bucket q all) last.1) in
     let fewer : length (drop (suc size) es) ≤ n = omega (arith, length-drop (suc size) es) in
-    (sym (piece_is S bucket (suc size) after es is), omega arith, in_turn_from S bucket size n (last_page (take (suc size) es)) (drop (suc size) es) others fewer)
+    (sym (chunk_is S bucket (suc size) after es is), omega arith, in_turn_from S bucket size n (last_page (take (suc size) es)) (drop (suc size) es) others fewer)
 
-pub pieces_in_turn : PiecesInTurn
-pieces_in_turn S bucket zero some = absurd (omega (arith, some))
-pieces_in_turn S bucket (suc size) some =
+pub chunks_in_turn : ChunksInTurn
+chunks_in_turn S bucket zero some = absurd (omega (arith, some))
+chunks_in_turn S bucket (suc size) some =
     let es = bucket_entries bucket (entries_of (history S)) in
     in_turn_from S bucket size (length es) None es (chosen-first bucket (entries_of (history S))) (omega arith)

@@ -1,7 +1,7 @@
 use Rattle.std.proofs.Common.{ℕ, ◌<◌, get_or, map}
 use Rattle.warm_pool.specs.State.{IsPool}
 use Rattle.warm_gossip.specs.State.{NodeState}
-use Rattle.warm_world.proofs.laws.are_pools.Given as goal
+use Rattle.warm_world.proofs.laws.prove_pools.Given as goal
 
 -- so are those so far
 abbrev pub invariant-loop-replica : goal.invariant-loop-replica

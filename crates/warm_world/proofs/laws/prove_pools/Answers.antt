@@ -3,7 +3,7 @@ use Rattle.std.proofs.lemmas.Bool.{cases_lt}
 use Rattle.std.proofs.lemmas.List.{get_or-map}
 use Rattle.warm_pool.specs.State.{IsPool}
 use Rattle.warm_gossip.specs.State.{NodeState}
-use Rattle.warm_world.proofs.laws.are_pools.Goals as goal
+use Rattle.warm_world.proofs.laws.prove_pools.Goals as goal
 
 pub loop-replica-preserved : goal.loop-replica-preserved
 loop-replica-preserved g c = λ k other low. elim (cases_lt k c.loop-replica.replica-index) [

@@ -1,4 +1,4 @@
--- Worked examples: a bucket of three pages in pieces of two, and what Send gives of it, computed.
+-- Worked examples: a bucket of three pages in chunks of two, and what Send gives of it, computed.
 use Rattle.std.proofs.Common.{◌≡◌, ℕ, [], ◌∷◌, None, Some, refl}
 use Rattle.warm_stamps.specs.declared.PageId.{PageId}
 use Rattle.warm_stamps.specs.declared.Stamp.{Stamp}
@@ -8,8 +8,8 @@ use Rattle.warm_history.specs.declared.hist.PageHist.TheVariants.{Once, Twice}
 use Rattle.warm_history.specs.ReferenceSets.{ReferenceSet, set_of_list}
 use Rattle.warm_history.specs.Histories.{entries_of, history}
 use Rattle.warm_history.specs.Carried.{bucket_entries}
-use Rattle.warm_gossip.specs.Answers.{pieces}
-use Rattle.warm_gossip.specs.Pieces.{piece_after, last_page}
+use Rattle.warm_frames.specs.Chunks.{chunks}
+use Rattle.warm_gossip.specs.Chunks.{chunk_after, last_page}
 
 abbrev page : ℕ → PageId
 page n = record { dev = 0; no = n }
@@ -30,21 +30,21 @@ once n time = record { page = page n; hist = Once (at time) }
 abbrev twice : ℕ → ℕ → ℕ → Entry
 twice n last prev = record { page = page n; hist = Twice (record { last = at last; prev = at prev }) }
 
-in_pieces : pieces 2 (bucket_entries 1 (entries_of (history four))) ≡ (once 1 40 ∷ twice 65 50 20 ∷ []) ∷ (once 129 10 ∷ []) ∷ []
+in_chunks : chunks 2 (bucket_entries 1 (entries_of (history four))) ≡ (once 1 40 ∷ twice 65 50 20 ∷ []) ∷ (once 129 10 ∷ []) ∷ []
 unfolding history
-in_pieces = refl
+in_chunks = refl
 
-first_piece : piece_after four 1 2 None ≡ once 1 40 ∷ twice 65 50 20 ∷ []
+first_chunk : chunk_after four 1 2 None ≡ once 1 40 ∷ twice 65 50 20 ∷ []
 unfolding history
-first_piece = refl
+first_chunk = refl
 
 first_ends : last_page (once 1 40 ∷ twice 65 50 20 ∷ []) ≡ Some (page 65)
 first_ends = refl
 
-second_piece : piece_after four 1 2 (Some (page 65)) ≡ once 129 10 ∷ []
+second_chunk : chunk_after four 1 2 (Some (page 65)) ≡ once 129 10 ∷ []
 unfolding history
-second_piece = refl
+second_chunk = refl
 
-nothing_left : piece_after four 1 2 (Some (page 129)) ≡ []
+nothing_left : chunk_after four 1 2 (Some (page 129)) ≡ []
 unfolding history
 nothing_left = refl

@@ -1,14 +1,14 @@
-use Rattle.std.proofs.Common.{ap, subst, sym, ◌∙◌, arith}
-use Rattle.warm_history.specs.Histories.{HistoryView, IsHistory}
+use Rattle.std.proofs.Common.{subst, sym, arith}
+use Rattle.warm_history.specs.Histories.{IsHistory}
 use Rattle.warm_history.proofs.HistoryLemmas.{IsHistory-history}
 use Rattle.warm_gossip.proofs.Passed.{none_kept}
 use Rattle.warm_gossip.proofs.Ranks.{joined_agrees, kept_by_entries}
-use Rattle.warm_gossip.proofs.node.Node.learn.Goals as goal
+use Rattle.warm_gossip.proofs.node.Node.join_entries.Goals as goal
 
 -- no entry changes
 pub invariant_of-self-then-changed-eq0 : goal.invariant_of-self-then-changed-eq0
 invariant_of-self-then-changed-eq0 g c =
-    let whole = subst IsHistory c.history.ensures c.horizon-own.ensures.whole in
+    let whole = subst IsHistory c.history.ensures c.prove_is_history.ensures in
     let later = subst IsHistory (sym c.in_ok-changed.ensures.exact) (IsHistory-history _) in
     kept_by_entries c.self.inside.pool c.self.inside.history.history _ c.self.inside.warm_up whole later (c.in_ok-changed.ensures.none (omega (arith, c.if-changed-eq0.true))) c.self.invariant
 
@@ -16,7 +16,7 @@ invariant_of-self-then-changed-eq0 g c =
 pub invariant_of-self-2 : goal.invariant_of-self-2
 invariant_of-self-2 g c =
     let h = c.self.inside.history.history in
-    let agrees = joined_agrees h c.args.horizon c.args.entries.now (omega (arith, c.if-own-horizon.false, c.horizon-own.ensures.value ∙ ap (λ (x : HistoryView). x.horizon) c.history.ensures)) in (
+    let agrees = joined_agrees h c.args.horizon c.args.entries.now (omega (arith, c.if-own-horizon.false, c.horizon-own.ensures)) in (
       rw c.history-2.ensures at (c.refresh.ensures.ranked h c.self.invariant.0 (rw (c.history-2.ensures, c.in_ok-changed.ensures.exact) agrees)),
       none_kept _ _ _ c.new.ensures,
     )
