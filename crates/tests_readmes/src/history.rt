@@ -3,7 +3,7 @@ use anyhow::Result;
 use std::alloc::Global;
 use std::process::Abort;
 use warm_history::{History, PageHist};
-use warm_stamps::{PageId, Reference, ReplicaId, Stamp};
+use warm_stamps::{BucketSet, PageId, Reference, ReplicaId, Stamp, bucket_of};
 
 fn one_call(rt: &impl Abort, alloc: Global) -> Result<()> {
     let page = PageId { dev: 0, no: 1 };
@@ -17,7 +17,8 @@ fn one_call(rt: &impl Abort, alloc: Global) -> Result<()> {
         stamp: Stamp { time: 20, replica },
     };
     let mut history = History::new(alloc);
-    assert!(rt; history.absorb(&[late, early])? == 0b10); // bucket 1 has changed
+    let changed = history.absorb(&[late, early])?;
+    assert!(rt; changed == BucketSet::new().with(bucket_of(page)));
     history.raise(15); // stamps before 15 are forgotten
     assert!(rt; history.get(page) == Some(PageHist::Once(late.stamp)));
     Ok(())
