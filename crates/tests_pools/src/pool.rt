@@ -19,7 +19,7 @@ use std::process::Abort;
 use test_kit::{alone, both, flaky, memory, page, page_on};
 use warm_devices::{MemDevice, PageDevice};
 use warm_history::History;
-use warm_pool::{NewPoolFault, Pool, PoolFault, Slot, RetireError};
+use warm_pool::{NewPoolFault, Pool, PoolFault, RetireError, Slot};
 use warm_stamps::PageId;
 
 const fn slot(index: u32, generation: u64) -> Slot {
