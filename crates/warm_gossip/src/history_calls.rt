@@ -47,7 +47,7 @@ impl<D: PageDevice> Node<D> {
         ensures devices { DevicesAnswered self.old (Absorb batch.now) done result self.new }
     {
         let changed = self.history.absorb(batch)?;
-        if changed == 0 {
+        if changed.is_empty() {
             return Ok(());
         }
         self.warm_up = WarmUp::new();
@@ -66,7 +66,7 @@ impl<D: PageDevice> Node<D> {
         prove_is_history(self.history.history());
         let own = self.history.horizon();
         let changed = self.history.join_entries(horizon, entries)?;
-        if changed == 0 {
+        if changed.is_empty() {
             return Ok(());
         }
         if own < horizon {
@@ -95,7 +95,7 @@ impl<D: PageDevice> Node<D> {
         // A history ranks pages by its entries alone.
         prove_is_history(self.history.history());
         let changed = self.history.join(other)?;
-        if changed == 0 {
+        if changed.is_empty() {
             return Ok(());
         }
         entries_changed(self.history.history(), &mut self.pool, &mut self.warm_up);
@@ -119,7 +119,7 @@ impl<D: PageDevice> Node<D> {
             return own;
         }
         let lost = self.history.raise(time);
-        if lost == 0 {
+        if lost.is_empty() {
             return self.history.horizon();
         }
         entries_changed(self.history.history(), &mut self.pool, &mut self.warm_up);

@@ -1,4 +1,5 @@
-use Rattle.std.proofs.Common.{subst, sym, arith}
+use Rattle.std.proofs.Common.{subst, sym, ◌∙◌, arith}
+use Rattle.std.proofs.lemmas.Bool.{eqb-true}
 use Rattle.warm_history.specs.Histories.{IsHistory}
 use Rattle.warm_history.proofs.HistoryLemmas.{IsHistory-history}
 use Rattle.warm_history.proofs.JoinLemmas.{raised_to_no_later}
@@ -18,4 +19,4 @@ pub invariant_of-self : goal.invariant_of-self
 invariant_of-self g c =
     let whole = subst IsHistory c.history.ensures c.prove_is_history.ensures in
     let later = subst IsHistory (sym c.raise-lost.ensures.exact) (IsHistory-history _) in
-    kept_by_entries c.self.inside.pool c.self.inside.history.history _ c.self.inside.warm_up whole later (c.raise-lost.ensures.none (omega (arith, c.if-lost-eq0.true))) c.self.invariant
+    kept_by_entries c.self.inside.pool c.self.inside.history.history _ c.self.inside.warm_up whole later (c.raise-lost.ensures.none (eqb-true _ _ (sym c.is_empty.ensures ∙ c.if-is_empty.true))) c.self.invariant
