@@ -1,26 +1,18 @@
 -- The messages of a history, chunk by chunk and bucket by bucket, and their text.
-use Rattle.std.proofs.Common.{◌≡◌, ℕ, zero, suc, ◌+◌, ◌-◌, ◌<◌, ◌≤◌, List, [], ◌∷◌, ◌++◌, length, take, drop, map, Option, refl, sym, ap, subst, ◌∙◌, append_assoc, append-nil, map-id, arith, flat_map}
+use Rattle.std.proofs.Common.{◌≡◌, ℕ, ◌+◌, ◌<◌, ◌≤◌, List, [], ◌∷◌, ◌++◌, length, take, drop, Option, sym, ap, subst, ◌∙◌, append_assoc, append-nil, map-id, arith, flat_map}
 use Rattle.std.specs.Io.KnownBytes.{Appends}
 use Rattle.std.specs.List.{range_with_len}
-use Rattle.std.specs.Ordering.{on}
 use Rattle.std.proofs.KnownBytes.{Appends-trans}
 use Rattle.std.proofs.lemmas.List.Concat.{flat_map-append, flat_map-cons}
 use Rattle.std.proofs.lemmas.List.FromFn.{map-range_with_len_more}
 use Rattle.std.proofs.lemmas.List.{length-drop, length-take, take_at, drop_at, take_all, drop_all}
-use Rattle.warm_stamps.specs.Distinct.{IsAscending}
-use Rattle.warm_stamps.specs.Stamps.{page_cmp}
-use Rattle.warm_stamps.proofs.DistinctLemmas.{rising_filter, rising_take}
 use Rattle.warm_history.specs.declared.hist.Entry.{Entry}
 use Rattle.warm_history.specs.Carried.{bucket_entries}
-use Rattle.warm_history.specs.Histories.{HistoryView, PagesAscend, IsHistory, entries_of}
+use Rattle.warm_history.specs.Histories.{HistoryView, entries_of}
 use Rattle.warm_frames.specs.declared.layout.TheConstants.{MAX_ENTRIES}
 use Rattle.warm_frames.specs.declared.message.Message.{Message}
 use Rattle.warm_frames.specs.declared.message.Message.TheVariants.{Entries}
-use Rattle.warm_frames.specs.Entries.{FitsInFrame}
 use Rattle.warm_frames.specs.Encoding.{encoding}
-use Rattle.warm_stamps.specs.Buckets.{page_bucket}
-use Rattle.std.specs.Prelude.{◌==◌}
-use Rattle.std.specs.declared.cmp.Ordering.{Ordering}
 use Rattle.warm_frames.specs.Chunks.{entry_messages, bucket_messages}
 use Rattle.warm_frames.proofs.ChunkLemmas.{entry_messages-cons}
 use Rattle.warm_files.specs.Dumps.{text_of}

@@ -1,28 +1,13 @@
 -- The history of a dump has valid entries, since its messages have none but such.
-use Rattle.std.proofs.Common.{ℕ, List, [], ◌∷◌, ◌++◌, map, Option, Some, None, sym, subst}
-use Rattle.std.specs.List.{AllByRecursion, cons_option}
-use Rattle.std.specs.Option.{option_map}
-use Rattle.std.specs.Ordering.{is_eq, flip_args}
-use Rattle.std.specs.declared.cmp.Ordering.{Ordering}
+use Rattle.std.proofs.Common.{ℕ, List, [], ◌∷◌, ◌++◌, sym, subst}
+use Rattle.std.specs.List.{AllByRecursion}
 use Rattle.std.proofs.lemmas.List.Concat.{flat_map-cons}
-use Rattle.warm_stamps.specs.declared.PageId.{PageId}
-use Rattle.warm_stamps.specs.declared.Stamp.{Stamp}
-use Rattle.warm_stamps.specs.declared.Reference.{Reference}
-use Rattle.warm_stamps.specs.Bytes.{IsPage, IsStamp}
-use Rattle.warm_stamps.specs.Stamps.{stamp_cmp, page_cmp}
-use Rattle.warm_stamps.specs.Distinct.{insert_distinct, distinct, IsAscending}
-use Rattle.warm_stamps.proofs.DistinctLemmas.{by_cases, all_append, all_filter, distinct_rises}
-use Rattle.warm_stamps.proofs.StampLemmas.{stamp_order, IsStrictOrder-flip}
-use Rattle.warm_history.specs.declared.hist.PageHist.{PageHist}
-use Rattle.warm_history.specs.declared.hist.PageHist.TheVariants.{Once, Twice}
-use Rattle.warm_history.specs.declared.hist.Entry.{Entry}
-use Rattle.warm_history.specs.ListHistories.{references_of_entry}
-use Rattle.warm_history.specs.ReferenceSets.{ReferenceSet, is_kept, references}
-use Rattle.warm_history.specs.Histories.{HistoryView, references_of_entries, references_to, stamps, first_two, hist, pages, history}
-use Rattle.warm_history.proofs.ListHistoryLemmas.{entries}
+use Rattle.warm_stamps.proofs.DistinctLemmas.{all_append, all_filter}
+use Rattle.warm_history.specs.ReferenceSets.{is_kept}
+use Rattle.warm_history.specs.Histories.{HistoryView, references_of_entries}
 use Rattle.warm_frames.specs.declared.message.Message.{Message}
 use Rattle.warm_frames.specs.declared.message.Message.TheVariants.{Entries, Digest, Want}
-use Rattle.warm_frames.specs.Entries.{IsEntry, IsHist}
+use Rattle.warm_frames.specs.Entries.{IsEntry}
 use Rattle.warm_frames.specs.Pieces.{EncodeAll}
 use Rattle.warm_frames.specs.Encoding.{IsValidMessage}
 use Rattle.warm_digest.specs.Exchange.{IsReference, Fits}

@@ -1,10 +1,10 @@
 -- Messages that begin a text, beside those that encode all of it.
-use Rattle.std.proofs.Common.{◌≡◌, ℕ, ◌<◌, ◌≤◌, List, [], ◌∷◌, ◌++◌, length, take, drop, refl, sym, ap, subst, ◌∙◌, append_assoc, append-nil, ⊎_elim, arith}
+use Rattle.std.proofs.Common.{◌≡◌, ℕ, ◌<◌, List, [], ◌∷◌, ◌++◌, length, drop, refl, sym, ap, subst, ◌∙◌, append_assoc, append-nil, arith}
 use Rattle.std.specs.List.{AllByRecursion}
-use Rattle.std.proofs.lemmas.List.{take_at, drop_at, take-append-drop, take-append-le}
+use Rattle.std.proofs.lemmas.List.{drop_at}
 use Rattle.warm_frames.specs.declared.message.Message.{Message}
 use Rattle.warm_frames.specs.declared.message.Message.TheVariants.{Entries, Digest, Want}
-use Rattle.warm_frames.specs.Pieces.{IsIncomplete, EncodeAll, texts_of, Splits}
+use Rattle.warm_frames.specs.Pieces.{EncodeAll, texts_of, Splits}
 use Rattle.warm_frames.specs.Encoding.{Encodes}
 use Rattle.warm_frames.proofs.FrameLemmas.{encoding_is_injective}
 use Rattle.warm_frames.proofs.StreamLemmas.{nothing_is_part, no_empty_frame, first_text}

@@ -1,4 +1,4 @@
-use Rattle.std.proofs.Common.{◌≡◌, ap, ◌∙◌}
+use Rattle.std.proofs.Common.{ap, ◌∙◌}
 use Rattle.warm_history.specs.Histories.{HistoryView, history_of_entries_at, join}
 use Rattle.warm_files.proofs.BuilderLemmas.{taken}
 use Rattle.warm_files.proofs.EndLemmas.{on_ok}
