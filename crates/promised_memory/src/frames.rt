@@ -35,9 +35,13 @@ fn is_nothing(alloc: Global, bytes: &[u8], since: u64) -> bool {
 
 fn is_request(alloc: Global, bytes: &[u8], since: u64) -> bool {
     match decode(alloc, bytes) {
-        Ok(Message::Want {
-            horizon, request, ..
-        }) => horizon == since && request.bits() == 6,
+        Ok(
+            Message::Want {
+                horizon,
+                request,
+                ..
+            },
+        ) => horizon == since && request.bits() == 6,
         _ => false,
     }
 }

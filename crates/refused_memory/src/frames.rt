@@ -39,7 +39,10 @@ fn encoded(met: &mut Met, alloc: Global, message: &Message, wanted: &[u8]) -> Re
             bytes
         }
     };
-    met.holds(bytes.as_slice() == wanted, "a message is written in one way")
+    met.holds(
+        bytes.as_slice() == wanted,
+        "a message is written in one way",
+    )
 }
 
 // Feeds a piece that lies in the frame. A refusal consumes nothing, so the same piece is fed again.

@@ -11,8 +11,8 @@ use warm_frames::{DIGEST_SIZE, DigestTable, Message, encode};
 use warm_gossip::{Call, Node, NodeFault, Reply};
 use warm_refbuffer::RefBuffer;
 use warm_replica::{
-    BoxedCall, FlushFault, Job, MAX_JOBS, Mail, MailReport, MemPost, NoGate, Post, Replica, Replies,
-    RunFault, Step, StepReply, Worker, mail_loop, run_workers,
+    BoxedCall, FlushFault, Job, MAX_JOBS, Mail, MailReport, MemPost, NoGate, Post, Replica,
+    Replies, RunFault, Step, StepReply, Worker, mail_loop, run_workers,
 };
 use warm_stamps::{BUCKETS, ByteList, PageId, ReplicaId};
 use warm_turn::{Memory, Pass, Turn};

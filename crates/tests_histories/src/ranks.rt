@@ -8,7 +8,7 @@ use std::cmp::Ordering;
 use std::process::Abort;
 use test_kit::{history_of, once, page, seen, twice};
 use warm_history::History;
-use warm_rank::{Contest, RankKey, key_of, eviction_order, warm_list};
+use warm_rank::{Contest, RankKey, eviction_order, key_of, warm_list};
 use warm_stamps::{PageId, PageList};
 
 fn leaves_first(history: &History, first: u64, second: u64) -> bool {

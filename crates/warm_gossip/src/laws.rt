@@ -18,7 +18,7 @@ ghost use Rattle.warm_gossip.specs.WarmUps.{NodeWarmsUp, PagesDiffer, WarmStepKe
 
 use crate::node::Node;
 use warm_devices::PageDevice;
-use warm_history::laws::{prove_stamps_descend, prove_is_history};
+use warm_history::laws::{prove_is_history, prove_stamps_descend};
 use warm_history::{Entry, PageHist, Unordered};
 
 /// The chunks in which a bucket of a history is answered to digests or to a request are what

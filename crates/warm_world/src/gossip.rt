@@ -93,7 +93,9 @@ impl<D: PageDevice> World<D> {
         ensures { Steps (world_view self.old) (Event.Send i bucket after) (answered result)
             (world_view self.new) }
     {
-        let message = self.replicas[index_of_number(i as u64)].node.send(bucket, after)?;
+        let message = self.replicas[index_of_number(i as u64)]
+            .node
+            .send(bucket, after)?;
         self.store(&message)
     }
 
@@ -142,7 +144,10 @@ impl<D: PageDevice> World<D> {
         ensures { Steps (world_view self.now) (Event.Show i) (answered result)
             (world_view self.now) }
     {
-        let copied = self.replicas[index_of_number(i as u64)].node.history().copy()?;
+        let copied = self.replicas[index_of_number(i as u64)]
+            .node
+            .history()
+            .copy()?;
         let shown = ShownHistory::new(self.alloc, copied)?;
         Ok(Answer::Shown(shown))
     }

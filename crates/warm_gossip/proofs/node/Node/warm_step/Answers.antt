@@ -96,5 +96,5 @@ invariant_of-self-2 g c =
     let moves = subst (λ p. PassedAtLoad h p c.in_ok-placed.placed.evicted at c.passed_at_load-self-inside.result) (sym page_is) (rw c.history-3.ensures at c.passed_at_load-self-inside.ensures) in (
       rw c.history-2.ensures at c.load_placed.ensures.ranked,
       loaded h v w ps c.in_ok-placed.placed.slot c.in_ok-placed.placed.evicted at c.passed_at_load-self-inside.result whole there (record { hottest = under.hottest; past = past }) puts
-      (c.in_ok-placed.ensures.evicted.absent (subst (IsLoadable v) page_is loadable).1) moves,
+          (c.in_ok-placed.ensures.evicted.absent (subst (IsLoadable v) page_is loadable).1) moves,
     )
