@@ -5,13 +5,14 @@ use Rattle.std.specs.Int.{bit_at}
 use Rattle.std.proofs.lemmas.Bool.{ne_eqb}
 use Rattle.std.proofs.lemmas.List.Concat.{flat_map-append}
 use Rattle.warm_stamps.specs.declared.TheConstants.{BUCKETS}
+use Rattle.warm_stamps.specs.Buckets.{buckets_in}
 use Rattle.warm_history.specs.Histories.{HistoryView, entries_of}
 use Rattle.warm_frames.specs.declared.message.Message.{Message}
 use Rattle.warm_frames.specs.declared.message.Message.TheVariants.{Want}
 use Rattle.warm_frames.specs.Digests.{digest_at}
 use Rattle.warm_digest.specs.BucketDigests.{digests_of}
 use Rattle.warm_frames.specs.Chunks.{bucket_messages}
-use Rattle.warm_gossip.specs.Answers.{requested_messages, IsDiffering, AnswersDigests}
+use Rattle.warm_gossip.specs.Answers.{requested_buckets, requested_messages, IsDiffering, AnswersDigests}
 
 -- ---- messages of requested buckets
 
@@ -19,6 +20,11 @@ use Rattle.warm_gossip.specs.Answers.{requested_messages, IsDiffering, AnswersDi
 pub one_bucket_more : (id : ℕ) (h : HistoryView) (so_far : List ℕ) (bucket : ℕ) → flat_map (bucket_messages id h) so_far ++ bucket_messages id h bucket ≡ flat_map (bucket_messages id h) (so_far ++ bucket ∷ [])
 one_bucket_more id h so_far bucket =
     sym (flat_map-append (bucket_messages id h) so_far (bucket ∷ []) ∙ ap (λ fs. flat_map (bucket_messages id h) so_far ++ fs) (append-nil (bucket_messages id h bucket)))
+
+-- where none is left, all are there
+pub all_requested : (id request : ℕ) (h : HistoryView) (so_far left : List ℕ) → so_far ++ left ≡ buckets_in request → left ≡ [] → flat_map (bucket_messages id h) so_far ≡ requested_messages id h request
+unfolding requested_buckets
+all_requested id request h so_far left rest none = ap (flat_map (bucket_messages id h)) (sym (append-nil so_far) ∙ ap (λ bs. so_far ++ bs) (sym none) ∙ rest)
 
 -- ---- answers to digests
 

@@ -6,8 +6,7 @@ use Rattle.warm_history.specs.declared.hist.PageHist.TheVariants.{Once, Twice}
 use Rattle.warm_history.specs.Histories.{history_of_entries, history_of_entries_at, history}
 use Rattle.warm_frames.specs.declared.message.Message.TheVariants.{Entries, Want}
 use Rattle.warm_frames.specs.Chunks.{chunks}
-use Rattle.warm_stamps.specs.Buckets.{buckets_in}
-use Rattle.warm_gossip.specs.Answers.{requested_messages, sent, history_after}
+use Rattle.warm_gossip.specs.Answers.{requested_buckets, requested_messages, sent, history_after}
 
 -- ---- chunks
 
@@ -20,7 +19,8 @@ four_in_twos = refl
 -- ---- messages
 
 -- the request 6 has the bits 1 and 2
-wanted_buckets : buckets_in 6 ≡ 1 ∷ 2 ∷ []
+wanted_buckets : requested_buckets 6 ≡ 1 ∷ 2 ∷ []
+unfolding requested_buckets
 wanted_buckets = refl
 
 -- a stamp of a replica
@@ -34,6 +34,7 @@ once n stamp = record { page = record { dev = 0; no = n }; hist = Once stamp }
 -- two pages of two buckets, which a replica sends in two messages; bucket 3 is empty, and gives
 -- none
 two_messages : requested_messages 1 (history_of_entries (once 1 (at 10 1) ∷ once 2 (at 11 2) ∷ [])) 14 ≡ Entries 1 0 (once 1 (at 10 1) ∷ []) ∷ Entries 1 0 (once 2 (at 11 2) ∷ []) ∷ []
+unfolding requested_buckets
 two_messages = refl
 
 -- an empty bucket that is requested alone is sent as a message without entries

@@ -6,8 +6,7 @@ use Rattle.warm_history.specs.declared.hist.PageHist.TheVariants.{Once}
 use Rattle.warm_history.specs.Histories.{HistoryView, history_of_entries, history_of_entries_at, history, join}
 use Rattle.warm_frames.specs.declared.message.Message.{Message}
 use Rattle.warm_frames.specs.declared.message.Message.TheVariants.{Entries, Want}
-use Rattle.warm_stamps.specs.Buckets.{buckets_in}
-use Rattle.warm_gossip.specs.Answers.{history_after, requested_messages}
+use Rattle.warm_gossip.specs.Answers.{requested_buckets, history_after, requested_messages}
 use Rattle.warm_gossip.specs.Round.{Receives, offer}
 
 -- the page 0:1, referenced at 10 by replica 1, and the page 0:2, referenced at 11 by replica 2
@@ -32,6 +31,7 @@ abbrev asked : List Message
 asked = Entries 2 0 (two ∷ []) ∷ Want 2 0 6 ∷ []
 
 asked_is : requested_messages 2 standby 6 ++ Want 2 0 6 ∷ [] ≡ asked
+unfolding requested_buckets
 asked_is = refl
 
 -- the answer of replica 1 to that: both pages, since it now knows both
@@ -39,7 +39,7 @@ abbrev given : List Message
 given = Entries 1 0 (one ∷ []) ∷ Entries 1 0 (two ∷ []) ∷ []
 
 received : Receives 1 primary asked given both
-unfolding history
+unfolding history requested_buckets
 received = ([], given, refl, (given, [], refl, (refl, refl), refl), refl)
 
 -- and replica 2 has nothing to say to these
@@ -65,13 +65,14 @@ abbrev asked_later : List Message
 asked_later = Entries 2 11 (two ∷ []) ∷ Want 2 11 6 ∷ []
 
 asked_later_is : requested_messages 2 later 6 ++ Want 2 11 6 ∷ [] ≡ asked_later
+unfolding requested_buckets
 asked_later_is = refl
 
 abbrev given_later : List Message
 given_later = Entries 1 11 (two ∷ []) ∷ []
 
 received_later : Receives 1 primary asked_later given_later later
-unfolding history
+unfolding history requested_buckets
 received_later = ([], given_later, refl, (given_later, [], refl, (refl, refl), refl), refl)
 
 back_later : Receives 2 later given_later [] later

@@ -41,8 +41,7 @@ use Rattle.warm_digest.specs.Exchange.{Fits, IsCollision, IsDifferenceOf, in_buc
 use Rattle.warm_digest.proofs.CachedLemmas.{digest_is}
 use Rattle.warm_digest.proofs.ExchangeLemmas.{kept, hist-kept, joined_same, joined_none, exchange_joins}
 use Rattle.warm_frames.specs.Chunks.{chunks_of, chunks, entry_messages, bucket_messages}
-use Rattle.warm_stamps.specs.Buckets.{buckets_in}
-use Rattle.warm_gossip.specs.Answers.{requested_messages, IsDiffering, refs_in, history_after}
+use Rattle.warm_gossip.specs.Answers.{requested_buckets, requested_messages, IsDiffering, refs_in, history_after}
 use Rattle.warm_gossip.specs.Round.{Receives, HistoryRound, GossipRoundEnds, HistoryRoundJoins, OwnDigestsUnanswered, EntriesBringAll, offer}
 use Rattle.warm_gossip.proofs.AnswerLemmas.{if_other}
 use Rattle.warm_gossip.proofs.Ranks.{no_greater}
@@ -114,7 +113,7 @@ bucket_by_bucket P id h each (bucket ∷ buckets) =
     all_append P (bucket_messages id h bucket) (flat_map (bucket_messages id h) buckets) (entries_in_messages P id h.horizon each (chunks MAX_ENTRIES (bucket_entries bucket (entries_of h)))) (bucket_by_bucket P id h each buckets)
 
 wanted_carry : (id request : ℕ) (h : HistoryView) → AllByRecursion CarriesEntries (requested_messages id h request)
-wanted_carry id request h = bucket_by_bucket CarriesEntries id h (λ part. tt) (buckets_in request)
+wanted_carry id request h = bucket_by_bucket CarriesEntries id h (λ part. tt) (requested_buckets request)
 
 -- ---- their horizons
 
@@ -122,7 +121,7 @@ abbrev IsAt : ℕ → Message → Type 0
 IsAt horizon message = (refs_in message).horizon ≡ horizon
 
 wanted_at : (id request : ℕ) (h : HistoryView) → AllByRecursion (IsAt h.horizon) (requested_messages id h request)
-wanted_at id request h = bucket_by_bucket (IsAt h.horizon) id h (λ part. refl) (buckets_in request)
+wanted_at id request h = bucket_by_bucket (IsAt h.horizon) id h (λ part. refl) (requested_buckets request)
 
 at_most : (horizon : ℕ) (messages : List Message) → AllByRecursion (IsAt horizon) messages → (all_refs messages).horizon ≤ horizon
 at_most horizon [] all = omega arith
@@ -210,7 +209,8 @@ hist-buckets R (bucket ∷ buckets) p =
     cases false true = none_joined R p
     cases false false = refl
 
-any_bucket : (request : ℕ) (p : PageId) → list_any (λ bucket. page_bucket p == bucket) (buckets_in request) ≡ (bit_at request (page_bucket p) == 1)
+any_bucket : (request : ℕ) (p : PageId) → list_any (λ bucket. page_bucket p == bucket) (requested_buckets request) ≡ (bit_at request (page_bucket p) == 1)
+unfolding requested_buckets
 any_bucket request p =
     let n : ℕ = page_bucket p in
     let there : Contains (range_with_len 0 BUCKETS) n = (n, omega arith, get_or-range_with_len 0 BUCKETS n n (omega arith) ∙ omega arith) in
@@ -225,8 +225,8 @@ in_request request p = bit_at request (page_bucket p) == 1
 -- wanted messages say of each page what the references of the wanted buckets do
 hist-wanted : (id request : ℕ) (h : HistoryView) (p : PageId) → list_hist (all_given (requested_messages id h request)) p ≡ list_hist (kept (in_request request) (references_of_entries (entries_of h))) p
 hist-wanted id request h p =
-    ap (λ (R : List Reference). list_hist R p) (buckets_hold id h (buckets_in request))
-    ∙ hist-buckets (references_of_entries (entries_of h)) (buckets_in request) p
+    ap (λ (R : List Reference). list_hist R p) (buckets_hold id h (requested_buckets request))
+    ∙ hist-buckets (references_of_entries (entries_of h)) (requested_buckets request) p
     ∙ ap (λ b. cond b (list_hist (references_of_entries (entries_of h)) p) None) (any_bucket request p)
     ∙ sym (hist-kept (in_request request) (references_of_entries (entries_of h)) p)
 

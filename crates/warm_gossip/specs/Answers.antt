@@ -15,9 +15,13 @@ use Rattle.warm_frames.specs.declared.message.Message.TheVariants.{Entries, Dige
 use Rattle.warm_frames.specs.Digests.{digest_at}
 use Rattle.warm_digest.specs.BucketDigests.{digests_of}
 
+-- the requested buckets, in rising order: a proof says where it computes them
+unfoldable pub requested_buckets : ℕ → List ℕ
+requested_buckets request = buckets_in request
+
 -- the requested buckets of the history, in messages
 abbrev pub requested_messages : ℕ → HistoryView → ℕ → List Message
-requested_messages id h request = flat_map (bucket_messages id h) (buckets_in request)
+requested_messages id h request = flat_map (bucket_messages id h) (requested_buckets request)
 
 -- the set of the buckets whose digests differ from the history's
 abbrev pub IsDiffering : List (List ℕ) → HistoryView → ℕ → Type 0

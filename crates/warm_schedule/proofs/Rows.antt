@@ -14,8 +14,7 @@ use Rattle.warm_history.specs.declared.hist.PageHist.TheVariants.{Once, Twice}
 use Rattle.warm_pool.specs.declared.fault.PoolFault.TheVariants.{NoPage}
 use Rattle.warm_pool.specs.Retiring.{Emptied}
 use Rattle.warm_pool.specs.View.{PoolView}
-use Rattle.warm_stamps.specs.Buckets.{buckets_in}
-use Rattle.warm_gossip.specs.Answers.{IsDiffering}
+use Rattle.warm_gossip.specs.Answers.{IsDiffering, requested_buckets}
 use Rattle.warm_gossip.specs.declared.fault.NodeFault.TheVariants.{Pool}
 use Rattle.warm_world.specs.Lists.{IsNumber}
 use Rattle.warm_world.specs.States.{ModelState, ReplicaState, MessageRecord, References, Digests, Request, no_pool}
@@ -257,7 +256,7 @@ requested_table =
     ∷ []
 
 requested : (digests : List (List ℕ)) → IsDiffering digests (history_of_entries_at 50 []) 2 → Printed (both (has 0 (at 1 10 1 ∷ [])) (has 50 (at 1 10 1 ∷ [])) (entry_frame ∷ Digests 1 0 digests ∷ [])) (codes "deliver 2 2\ndeliver 1 3\nshow 1\nhorizon 1 0") (codes "took 1 from 3\ntook 0\nend 0\nhorizon 50\n") (both (has 50 (at 1 10 1 ∷ [])) (has 50 (at 1 10 1 ∷ [])) (entry_frame ∷ Digests 1 0 digests ∷ request_frame ∷ []))
-unfolding meaning line_of commands words number_up_to number_field deliver_of horizon_of show_of history buckets_in digits
+unfolding meaning line_of commands words number_up_to number_field deliver_of horizon_of show_of history requested_buckets digits
 requested digests differ = printed (both (has 0 (at 1 10 1 ∷ [])) (has 50 (at 1 10 1 ∷ [])) (entry_frame ∷ Digests 1 0 digests ∷ [])) (both (has 50 (at 1 10 1 ∷ [])) (has 50 (at 1 10 1 ∷ [])) (entry_frame ∷ Digests 1 0 digests ∷ request_frame ∷ [])) 1 requested_table (
   both (has 0 (at 1 10 1 ∷ [])) (has 50 (at 1 10 1 ∷ [])) (entry_frame ∷ Digests 1 0 digests ∷ request_frame ∷ []),
   inl (Took 1 3, (record { replica_there = number 2 _ (omega arith) (omega arith); worker_there = tt; message_there = number 2 _ (omega arith) (omega arith) }, record { added = request_frame ∷ []; answers = (2, omega arith, differ, refl); many = refl; from = refl; becomes = refl }), refl),

@@ -17,8 +17,7 @@ use Rattle.warm_frames.specs.declared.message.Message.{Message}
 use Rattle.warm_frames.specs.declared.message.Message.TheVariants.{Digest, Entries, Want}
 use Rattle.warm_digest.specs.BucketDigests.{digests_of}
 use Rattle.warm_frames.specs.Chunks.{bucket_messages, chunks}
-use Rattle.warm_stamps.specs.Buckets.{buckets_in}
-use Rattle.warm_gossip.specs.Answers.{AnswersDigests, IsAnswer, sent, history_after, requested_messages}
+use Rattle.warm_gossip.specs.Answers.{AnswersDigests, IsAnswer, requested_buckets, sent, history_after, requested_messages}
 use Rattle.warm_gossip.specs.Chunks.{AreInTurn, last_page}
 use Rattle.warm_gossip.specs.Round.{offer}
 use Rattle.warm_gossip.specs.State.{NodeView}
@@ -71,7 +70,7 @@ buckets_kept i S (b ∷ bs) =
     rw (bucket_kept i S b, buckets_kept i S bs) (sym (map-append message_kept (bucket_records i S b) (flat_map (bucket_records i S) bs)))
 
 pub wanted_kept : (i : ℕ) (S : ReferenceSet) (request : ℕ) → requested_messages i (history S) request ≡ map message_kept (requested_records i S request)
-wanted_kept i S request = buckets_kept i S (buckets_in request)
+wanted_kept i S request = buckets_kept i S (requested_buckets request)
 
 -- the history of a replica after it received a record's message
 pub history_after_reach : (S : ReferenceSet) (kept : MessageRecord) → history_after (history S) (message_kept kept) ≡ history (reach_after S kept)

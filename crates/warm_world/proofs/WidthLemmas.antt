@@ -7,7 +7,7 @@ use Rattle.std.proofs.lemmas.List.{length-map, length-set}
 use Rattle.warm_stamps.specs.declared.PageId.{PageId}
 use Rattle.warm_stamps.specs.declared.Reference.{Reference}
 use Rattle.warm_stamps.specs.declared.TheConstants.{MAX_REPLICAS}
-use Rattle.warm_stamps.specs.Buckets.{buckets_in}
+use Rattle.warm_gossip.specs.Answers.{requested_buckets}
 use Rattle.warm_stamps.specs.Stamps.{page_cmp}
 use Rattle.warm_stamps.proofs.DistinctLemmas.{all_append, all_filter}
 use Rattle.warm_history.specs.declared.hist.Entry.{Entry}
@@ -147,7 +147,7 @@ buckets_fit i S (bucket ∷ buckets) all =
     all_append RecordFits (bucket_records i S bucket) (flat_map (bucket_records i S) buckets) (records_fit i S bucket None _ all) (buckets_fit i S buckets all)
 
 wanted_fit : (i : ℕ) (S : ReferenceSet) (request : ℕ) → ReachFits S → AllByRecursion RecordFits (requested_records i S request)
-wanted_fit i S request all = buckets_fit i S (buckets_in request) all
+wanted_fit i S request all = buckets_fit i S (requested_buckets request) all
 
 asking_fits : (i : ℕ) (S : ReferenceSet) (request : ℕ) (none : Bool) → ReachFits S → AllByRecursion RecordFits (if none then [] else requested_records i S request ++ Request i S.horizon request ∷ [])
 asking_fits i S request true all = tt

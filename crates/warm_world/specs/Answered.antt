@@ -8,8 +8,7 @@ use Rattle.warm_history.specs.Histories.{entries_of, history}
 use Rattle.warm_history.specs.Carried.{bucket_entries, carried}
 use Rattle.warm_frames.specs.declared.layout.TheConstants.{MAX_ENTRIES}
 use Rattle.warm_frames.specs.Chunks.{chunks}
-use Rattle.warm_stamps.specs.Buckets.{buckets_in}
-use Rattle.warm_gossip.specs.Answers.{IsDiffering}
+use Rattle.warm_gossip.specs.Answers.{requested_buckets, IsDiffering}
 use Rattle.warm_gossip.specs.Chunks.{last_page}
 use Rattle.warm_world.specs.States.{MessageRecord, References, Digests, Request}
 
@@ -26,7 +25,7 @@ bucket_records i S bucket =
 
 -- the same, for the buckets whose bit is set, one after the other
 abbrev pub requested_records : ℕ → ReferenceSet → ℕ → List MessageRecord
-requested_records i S request = flat_map (bucket_records i S) (buckets_in request)
+requested_records i S request = flat_map (bucket_records i S) (requested_buckets request)
 
 -- the references that a message brings, with its sender's horizon
 abbrev pub refs_of : MessageRecord → ReferenceSet

@@ -8,5 +8,5 @@ pub returns : goal.returns
 returns c =
     let h = raised c.args.horizon c.args.history.now in
     let some = eqb-false c.differing-request.result 0 (sym c.is_empty.ensures ∙ c.if-is_empty.false) in
-    some_differ c.args.id c.args.digests.now c.args.own.now h c.push.new.self.items c.differing-request.result (omega (arith, c.bits-_bits.ensures.below, c.bits-_bits.ensures.value)) c.requires c.differing-request.ensures some
+    some_differ c.args.id c.args.digests.now c.args.own.now h c.push.new.self.items c.differing-request.result (omega (arith, c.bits-bits.ensures.below, c.bits-bits.ensures.value)) c.requires c.differing-request.ensures some
     (rw (c.in_ok-push.ensures.items, c.in_ok-messages.ensures, c.greater-horizon.ensures) refl)

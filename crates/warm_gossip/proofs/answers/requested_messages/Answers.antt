@@ -6,7 +6,7 @@ use Rattle.warm_history.specs.Losses.{raised}
 use Rattle.warm_history.proofs.HistoryLemmas.{IsHistory-history}
 use Rattle.warm_frames.specs.Chunks.{bucket_messages}
 use Rattle.warm_frames.proofs.ChunkLemmas.{bucket_ascends}
-use Rattle.warm_gossip.proofs.AnswerLemmas.{one_bucket_more}
+use Rattle.warm_gossip.proofs.AnswerLemmas.{all_requested, one_bucket_more}
 use Rattle.warm_gossip.proofs.answers.requested_messages.Goals as goal
 
 pub push_messages-requires : goal.push_messages-requires
@@ -23,3 +23,8 @@ loop-bucket-preserved c =
       so_far = rw (c.in_ok-push_messages.ensures, c.loop-bucket.invariant.so_far, c.greater-kept_from.ensures, c.deref.ensures.value, c.in_ok-entries.ensures)
           (one_bucket_more c.args.id (raised c.args.horizon c.args.history.now) so_far bucket);
     }
+
+pub returns : goal.returns
+returns c =
+    c.loop-bucket.invariant.so_far
+    ∙ all_requested c.args.id c.args.request (raised c.args.horizon c.args.history.now) c.loop-bucket.yielded c.loop-bucket.bucket-iterator c.loop-bucket.invariant.rest c.in-None.ensures.steps.0

@@ -7,6 +7,6 @@ use Rattle.warm_gossip.proofs.answers.requested_messages.Given as goal
 -- the messages of the buckets so far
 abbrev pub invariant-loop-bucket : goal.invariant-loop-bucket
 invariant-loop-bucket l = record {
-  rest : l.yielded ++ l.bucket-iterator ≡ buckets_in l.request;
+  rest : l.yielded ++ l.bucket-iterator ≡ buckets_in l.fn.request;
   so_far : l.messages.items ≡ flat_map (bucket_messages l.id (raised l.horizon l.history)) l.yielded;
 }
