@@ -40,16 +40,14 @@ if_ok_then P Q (Ok x) f h = f x h
 if_ok_then P Q (Err e) f h = h
 
 -- the values of results that are all Ok
-pub values_of_ok : {A T E : Type 0} (P : A → Result T E → Type 0) (xs : List A) (results : List (Result T E)) (ys : List T)
-    → Pairs P xs results → Pairs (λ r t. r ≡ Ok t) results ys → Pairs (λ x t. P x (Ok t)) xs ys
-values_of_ok P xs results ys = pairs_then P (λ r t. r ≡ Ok t) (λ x t. P x (Ok t)) (λ x r t h is. subst (λ q. P x q) is h) xs results ys
+values_of_ok : {A T E : Type 0} (P : A → T → Type 0) (xs : List A) (results : List (Result T E)) (ys : List T)
+    → Pairs (λ x r. IfOk r (P x)) xs results → Pairs (λ r t. r ≡ Ok t) results ys → Pairs P xs ys
+values_of_ok P xs results ys = pairs_then (λ x r. IfOk r (P x)) (λ r t. r ≡ Ok t) P (λ x r t h is. subst (λ q. IfOk q (P x)) is h) xs results ys
 
--- pairs of which more is known
-pub pairs_map : {A B : Type 0} (P Q : A → B → Type 0) → ((a : A) (b : B) → P a b → Q a b) → (xs : List A) (ys : List B) → Pairs P xs ys → Pairs Q xs ys
-pairs_map P Q f [] [] h = tt
-pairs_map P Q f (a ∷ xs) (b ∷ ys) h = (f a b h.0, pairs_map P Q f xs ys h.1)
-pairs_map P Q f [] (b ∷ ys) h = absurd h
-pairs_map P Q f (a ∷ xs) [] h = absurd h
+-- the same where all are Ok
+pub values_if_ok : {A T E : Type 0} (P : A → T → Type 0) (xs : List A) (results : List (Result T E)) (r : Result (Vec T) E)
+    → Pairs (λ x r. IfOk r (P x)) xs results → IfOk r (λ v. Pairs (λ r t. r ≡ Ok t) results v.items) → IfOk r (λ v. Pairs P xs v.items)
+values_if_ok P xs results r h = if_ok_then (λ v. Pairs (λ r t. r ≡ Ok t) results v.items) (λ v. Pairs P xs v.items) r (λ v. values_of_ok P xs results v.items h)
 
 -- of a list read off another
 pub all_mapped : {A B : Type 0} (f : A → B) (Q : B → Type 0) (xs : List A) (ys : List B) → map f xs ≡ ys → All Q ys → All (λ x. Q (f x)) xs

@@ -4,7 +4,6 @@ pub mod Numbers
 pub mod Steps
 pub mod Plans
 pub mod Exchanges
-pub mod Phases
 pub mod Works
 pub mod Opened
 pub mod Shown

@@ -2,12 +2,10 @@
 ghost use Rattle.std.specs.Prelude.{◌≡◌, ◌≢◌, ◌↔◌, ◌≤◌, length, map};
 ghost use Rattle.std.specs.Prelude.{IfErr, IfOk, IfSome, IsNone, Err, Ok};
 ghost use Rattle.std.specs.List.{All};
-ghost use Rattle.std.specs.Fork.{AcceptsJobs};
 ghost use Rattle.warm_replica.specs.declared.fan.TheConstants.{MAX_JOBS};
 ghost use Rattle.warm_replica.specs.Pairs.{Pairs};
 ghost use Rattle.warm_threads.specs.declared.fault.ReplicaRunFault.TheVariants.{Closed};
 ghost use Rattle.warm_threads.specs.Exchanges.{IsReceipt, SendsAll};
-ghost use Rattle.warm_threads.specs.Phases.{PhaseGave};
 ghost use Rattle.warm_threads.specs.Works.{LeadsBy, Went, Works};
 
 use crate::exchange::{SharedMail, hear_all, send_all};
@@ -128,18 +126,56 @@ fn all_or_first_error<T: Drop>(
     Ok(all)
 }
 
-// Has each item of a list go through a phase, in a thread of its own where one can be made. It ends
-// when all have.
-fn each<
-    T: Send + Drop,
-    U: Send + Drop,
-    R: Threads + Sync,
-    F: Fn(T) -> Result<U, ReplicaRunFault> + Sync,
->(rt: &R, alloc: Global, list: Vec<T>, phase: &F) -> Result<Vec<U>, ReplicaRunFault>
-    requires { AcceptsJobs F.Fn phase.now list.items }
-    ensures { IfOk result (λ v. Pairs (PhaseGave F.Fn phase.now) list.items v.items) }
+// All workers of all replicas do their jobs at the same time.
+fn all_work<M: BatchMachine + Send + Drop, R: Threads + Wait + Sync>(
+    rt: &R,
+    alloc: Global,
+    runs: Vec<ReplicaRun<M>>,
+) -> Result<Vec<ReplicaRun<M>>, ReplicaRunFault>
+    requires few { All (λ r. length r.jobs.items ≤ MAX_JOBS) runs.items }
+    ensures { IfOk result (λ v. Pairs (λ r next. Works M.goes r.jobs.items
+        (M.view r.machine) (M.view next.machine)) runs.items v.items) }
 {
-    let done = thread::map_vec(rt, list, phase)?;
+    let phase = move |run: ReplicaRun<M>| -> Result<ReplicaRun<M>, ReplicaRunFault>
+        requires { length run.jobs.items ≤ MAX_JOBS }
+        ensures { IfOk result (λ next. Works M.goes run.jobs.items
+            (M.view run.machine) (M.view next.machine)) }
+    { run.work(rt, alloc) };
+    let done = thread::map_vec(rt, runs, &phase)?;
+    all_or_first_error(alloc, done)
+}
+
+// Each sends its whole history.
+fn all_send<M: BatchMachine + Send + Drop, R: Threads + Wait + Sync>(
+    rt: &R,
+    alloc: Global,
+    runs: Vec<ReplicaRun<M>>,
+) -> Result<Vec<ReplicaRun<M>>, ReplicaRunFault>
+    ensures { IfOk result (λ v. Pairs (λ r next. LeadsBy M.goes SendsAll
+        (M.view r.machine) (M.view next.machine)) runs.items v.items) }
+{
+    let phase = move |run: ReplicaRun<M>| -> Result<ReplicaRun<M>, ReplicaRunFault>
+        ensures { IfOk result (λ next. LeadsBy M.goes SendsAll
+            (M.view run.machine) (M.view next.machine)) }
+    { run.send(rt, alloc) };
+    let done = thread::map_vec(rt, runs, &phase)?;
+    all_or_first_error(alloc, done)
+}
+
+// Each receives all that the others have sent.
+fn all_receive<M: BatchMachine + Send + Drop, R: Threads + Wait + Sync>(
+    rt: &R,
+    alloc: Global,
+    runs: Vec<ReplicaRun<M>>,
+) -> Result<Vec<M>, ReplicaRunFault>
+    ensures { IfOk result (λ v. Pairs (λ r m. LeadsBy M.goes (All IsReceipt)
+        (M.view r.machine) (M.view m)) runs.items v.items) }
+{
+    let phase = move |run: ReplicaRun<M>| -> Result<M, ReplicaRunFault>
+        ensures { IfOk result
+            (λ m. LeadsBy M.goes (All IsReceipt) (M.view run.machine) (M.view m)) }
+    { run.receive(rt, alloc) };
+    let done = thread::map_vec(rt, runs, &phase)?;
     all_or_first_error(alloc, done)
 }
 
@@ -226,20 +262,7 @@ pub(crate) fn run_all<M: BatchMachine + Send + Drop, R: Threads + Wait + Sync>(
         (map M.view v.items)) }
 {
     let runs = runs_of(alloc, machines, jobs)?;
-    let do_work = move |run: ReplicaRun<M>| -> Result<ReplicaRun<M>, ReplicaRunFault>
-        requires { length run.jobs.items ≤ MAX_JOBS }
-        ensures { IfOk result (λ next. Works M.goes run.jobs.items
-            (M.view run.machine) (M.view next.machine)) }
-    { run.work(rt, alloc) };
-    let worked = each(rt, alloc, runs, &do_work)?;
-    let do_send = move |run: ReplicaRun<M>| -> Result<ReplicaRun<M>, ReplicaRunFault>
-        ensures { IfOk result (λ next. LeadsBy M.goes SendsAll
-            (M.view run.machine) (M.view next.machine)) }
-    { run.send(rt, alloc) };
-    let sent = each(rt, alloc, worked, &do_send)?;
-    let do_receive = move |run: ReplicaRun<M>| -> Result<M, ReplicaRunFault>
-        ensures { IfOk result (λ m. LeadsBy M.goes (All IsReceipt)
-            (M.view run.machine) (M.view m)) }
-    { run.receive(rt, alloc) };
-    each(rt, alloc, sent, &do_receive)
+    let worked = all_work(rt, alloc, runs)?;
+    let sent = all_send(rt, alloc, worked)?;
+    all_receive(rt, alloc, sent)
 }
