@@ -6,7 +6,6 @@ pub mod Plans
 pub mod Exchanges
 pub mod Phases
 pub mod Works
-pub mod Opened
 pub mod Shown
 pub mod Played
 pub mod Refusals
