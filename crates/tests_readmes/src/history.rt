@@ -8,19 +8,16 @@ use warm_stamps::{BucketSet, PageId, Reference, ReplicaId, Stamp, bucket_of};
 fn one_call(rt: &impl Abort, alloc: Global) -> Result<()> {
     let page = PageId { dev: 0, no: 1 };
     let replica = ReplicaId::new(1)?;
-    let early = Reference {
-        page,
-        stamp: Stamp { time: 10, replica },
-    };
-    let late = Reference {
-        page,
-        stamp: Stamp { time: 20, replica },
-    };
+    let (early, late) = (Stamp { time: 10, replica }, Stamp { time: 20, replica });
+    let batch = [
+        Reference { page, stamp: late },
+        Reference { page, stamp: early },
+    ];
     let mut history = History::new(alloc);
-    let changed = history.absorb(&[late, early])?;
+    let changed = history.absorb(&batch)?;
     assert!(rt; changed == BucketSet::new().with(bucket_of(page)));
     history.raise(15); // stamps before 15 are forgotten
-    assert!(rt; history.get(page) == Some(PageHist::Once(late.stamp)));
+    assert!(rt; history.get(page) == Some(PageHist::Once(late)));
     Ok(())
 }
 
