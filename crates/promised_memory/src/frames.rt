@@ -34,16 +34,14 @@ fn is_nothing(alloc: Global, bytes: &[u8], since: u64) -> bool {
 }
 
 fn is_request(alloc: Global, bytes: &[u8], since: u64) -> bool {
-    match decode(alloc, bytes) {
-        Ok(
-            Message::Want {
-                horizon,
-                request,
-                ..
-            },
-        ) => horizon == since && request.bits() == 6,
-        _ => false,
-    }
+    let Ok(message) = decode(alloc, bytes) else {
+        return false;
+    };
+    let buckets = match &message {
+        Message::Want { request, .. } => request.bits(),
+        _ => return false,
+    };
+    message.horizon() == since && buckets == 6
 }
 
 fn is_digests(alloc: Global, bytes: &[u8], since: u64) -> bool {

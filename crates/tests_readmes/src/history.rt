@@ -2,22 +2,26 @@
 use anyhow::Result;
 use std::alloc::Global;
 use std::process::Abort;
-use warm_history::{History, PageHist};
+use test_kit::once;
+use warm_history::History;
 use warm_stamps::{BucketSet, PageId, Reference, ReplicaId, Stamp, bucket_of};
 
 fn one_call(rt: &impl Abort, alloc: Global) -> Result<()> {
     let page = PageId { dev: 0, no: 1 };
     let replica = ReplicaId::new(1)?;
-    let (early, late) = (Stamp { time: 10, replica }, Stamp { time: 20, replica });
-    let batch = [
-        Reference { page, stamp: late },
-        Reference { page, stamp: early },
-    ];
+    let early = Reference {
+        page,
+        stamp: Stamp { time: 10, replica },
+    };
+    let late = Reference {
+        page,
+        stamp: Stamp { time: 20, replica },
+    };
     let mut history = History::new(alloc);
-    let changed = history.absorb(&batch)?;
+    let changed = history.absorb(&[late, early])?;
     assert!(rt; changed == BucketSet::new().with(bucket_of(page)));
     history.raise(15); // stamps before 15 are forgotten
-    assert!(rt; history.get(page) == Some(PageHist::Once(late)));
+    assert!(rt; history.get(page) == Some(once(20, 1)));
     Ok(())
 }
 
