@@ -27,3 +27,4 @@ pub mod RunPairs
 pub mod BucketParts
 pub mod MergeIterLemmas
 pub mod SetLemmas
+pub mod PackedLemmas

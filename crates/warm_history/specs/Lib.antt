@@ -15,3 +15,4 @@ pub mod Runs
 pub mod Merges
 pub mod Cuts
 pub mod Undo
+pub mod PackedHists

@@ -11,8 +11,8 @@ ghost use Rattle.warm_history.specs.BucketMaps.{all_pairs, pairs_of_maps, pairs_
 ghost use Rattle.warm_history.specs.Runs.{with_pairs};
 ghost use Rattle.warm_history.specs.Undo.{put_back, notes_of, Undoes};
 
-use crate::hist::{PageHist, join_hist, keep_cut, prove_two_latest};
 use crate::map_key::bucket_of_key;
+use crate::packed::{Packed, keep_cut, merge_into, prove_two_latest};
 use std::alloc::{AllocError, Global};
 use std::array;
 use std::collections::BTreeMap;
@@ -32,13 +32,13 @@ pub(crate) const MAX_PAIRS: usize = 1 << 58;
 #[derive(Debug, Clone, Copy)]
 pub(crate) struct UndoNote {
     key: u128,
-    pub(crate) hist: Option<PageHist>,
+    pub(crate) hist: Option<Packed>,
 }
 
 // The values at keys, in the order of the keys: one map per bucket.
 #[derive(Debug, Drop)]
 pub(crate) struct BucketMaps {
-    maps: [BTreeMap<u128, PageHist>; MAPS],
+    maps: [BTreeMap<u128, Packed>; MAPS],
 }
 
 impl Model for BucketMaps {
@@ -81,7 +81,7 @@ impl BucketMaps {
     }
 
     // The map of the bucket of this number.
-    pub(crate) fn map_of(&self, number: u8) -> &BTreeMap<u128, PageHist>
+    pub(crate) fn map_of(&self, number: u8) -> &BTreeMap<u128, Packed>
         requires { number < BUCKETS }
         ensures { HoldsBucket number result.now.entries self.now }
     {
@@ -102,7 +102,7 @@ impl BucketMaps {
     }
 
     // The value at a key.
-    pub(crate) fn get(&self, key: u128) -> Option<PageHist>
+    pub(crate) fn get(&self, key: u128) -> Option<Packed>
         requires { IsMapKey key }
         ensures { result ≡ found key self.now }
     {
@@ -117,7 +117,7 @@ impl BucketMaps {
     pub(crate) fn record(
         &mut self,
         key: u128,
-        more: PageHist,
+        more: Packed,
         likely_new: bool,
     ) -> Result<Option<UndoNote>, AllocError>
         requires key { IsMapKey key }
@@ -145,7 +145,7 @@ impl BucketMaps {
         &mut self,
         alloc: Global,
         number: u8,
-        pairs: Vec<(u128, PageHist)>,
+        pairs: Vec<(u128, Packed)>,
     ) -> Result<(), AllocError>
         requires number { number < BUCKETS }
         requires free { HoldsBucket number [] self.old }
@@ -180,8 +180,8 @@ impl BucketMaps {
 // Iterates over all pairs: those left of the current map, then those of the other maps.
 #[derive(Debug, Drop)]
 pub(crate) struct EachPair<'a> {
-    here: Range<'a, u128, PageHist>,
-    rest: &'a [BTreeMap<u128, PageHist>],
+    here: Range<'a, u128, Packed>,
+    rest: &'a [BTreeMap<u128, Packed>],
 }
 
 impl<'a> Model for EachPair<'a> {
@@ -196,22 +196,22 @@ impl<'a> Model for EachPair<'a> {
 impl<'a> Iterator for EachPair<'a> {
     ghost use Rattle.std.specs.Iterator.{YieldsFirst, item_count};
 
-    type Item = (u128, PageHist);
+    type Item = (u128, Packed);
 
     ghost next_gives = { YieldsFirst (λ pairs. pairs) };
 
     ghost remaining = { item_count (λ pairs. pairs) };
 
-    fn next(&mut self) -> Option<(u128, PageHist)> {
+    fn next(&mut self) -> Option<(u128, Packed)> {
         next_pair(&mut self.here, &mut self.rest)
     }
 }
 
 // The first of the pairs that are left; empty maps are skipped.
 fn next_pair<'a>(
-    here: &mut Range<'a, u128, PageHist>,
-    rest: &mut &'a [BTreeMap<u128, PageHist>],
-) -> Option<(u128, PageHist)>
+    here: &mut Range<'a, u128, Packed>,
+    rest: &mut &'a [BTreeMap<u128, Packed>],
+) -> Option<(u128, Packed)>
     ensures { YieldsFirst (λ pairs. pairs)
         (pairs_left here.old rest.old.now) result (pairs_left here.new rest.new.now) }
 {
@@ -226,7 +226,7 @@ fn next_pair<'a>(
 }
 
 // The number of pairs in the maps, where the count does not overflow.
-fn count_all(maps: &[BTreeMap<u128, PageHist>]) -> usize
+fn count_all(maps: &[BTreeMap<u128, Packed>]) -> usize
     requires { length (all_pairs (pairs_of_maps maps.now)) < 2 ^ 64 }
     ensures { result ≡ length (all_pairs (pairs_of_maps maps.now)) }
 {
@@ -238,10 +238,7 @@ fn count_all(maps: &[BTreeMap<u128, PageHist>]) -> usize
 }
 
 // The map of pairs at rising keys. All its nodes are full, but for the last ones.
-fn map_from(
-    alloc: Global,
-    pairs: Vec<(u128, PageHist)>,
-) -> Result<BTreeMap<u128, PageHist>, AllocError>
+fn map_from(alloc: Global, pairs: Vec<(u128, Packed)>) -> Result<BTreeMap<u128, Packed>, AllocError>
     requires { KeysAscend pairs.items }
     ensures same { IfOk result (λ map. map.entries ≡ pairs.items) }
     ensures small { IfOk result (λ map. length map.entries < MAX_PAIRS) }
@@ -256,9 +253,9 @@ fn map_from(
 
 // Takes in the given stamps of the page at a key of the map's own bucket.
 fn record_in(
-    map: &mut BTreeMap<u128, PageHist>,
+    map: &mut BTreeMap<u128, Packed>,
     key: u128,
-    more: PageHist,
+    more: Packed,
     likely_new: bool,
 ) -> Result<Option<UndoNote>, AllocError>
     requires { KeysAscend map.old.entries }
@@ -275,9 +272,9 @@ fn record_in(
 // The same for a page that is likely new: it is inserted at once, which costs one descent of the
 // map where it is new and two where it is known.
 fn record_likely_new(
-    map: &mut BTreeMap<u128, PageHist>,
+    map: &mut BTreeMap<u128, Packed>,
     key: u128,
-    more: PageHist,
+    more: Packed,
 ) -> Result<Option<UndoNote>, AllocError>
     requires rise { KeysAscend map.old.entries }
     requires few { length map.old.entries + 1 < MAX_PAIRS }
@@ -303,9 +300,9 @@ fn record_likely_new(
 // The same for a page that is likely known: it is looked up first, which costs one descent of the
 // map where it is known and two where it is new.
 fn record_likely_known(
-    map: &mut BTreeMap<u128, PageHist>,
+    map: &mut BTreeMap<u128, Packed>,
     key: u128,
-    more: PageHist,
+    more: Packed,
 ) -> Result<Option<UndoNote>, AllocError>
     requires { KeysAscend map.old.entries }
     ensures ok { IfOk result (λ note. RecordsStamps map.old.entries key more note map.new.entries) }
@@ -327,23 +324,7 @@ fn record_likely_known(
     Ok(Some(UndoNote { key, hist: None }))
 }
 
-// Merges more stamps into the value of a page, and returns the old value where it changes.
-fn merge_into(known: &mut PageHist, more: PageHist) -> Option<PageHist>
-    ensures now { Some known.new ≡ latest_of (hist_stamps more ++ hist_stamps known.old) }
-    ensures before { IfSome result (λ h. h ≡ known.old) }
-    ensures differs { IfSome result (λ h. h ≢ known.new) }
-    ensures same { IfNone result (known.new ≡ known.old) }
-{
-    let before = *known;
-    let now = join_hist(more, before);
-    if now == before {
-        return None;
-    }
-    *known = now;
-    Some(before)
-}
-
-fn forget_all(maps: &mut [BTreeMap<u128, PageHist>], horizon: u64)
+fn forget_all(maps: &mut [BTreeMap<u128, Packed>], horizon: u64)
     ensures { pairs_of_maps maps.new ≡ map (cut_at horizon) (pairs_of_maps maps.old) }
 {
     for map in maps.iter_mut() {
@@ -351,13 +332,13 @@ fn forget_all(maps: &mut [BTreeMap<u128, PageHist>], horizon: u64)
     }
 }
 
-fn forget_in(map: &mut BTreeMap<u128, PageHist>, horizon: u64)
+fn forget_in(map: &mut BTreeMap<u128, Packed>, horizon: u64)
     ensures { map.new.entries ≡ cut_at horizon map.old.entries }
 {
     map.retain(|_, hist| keep_cut(hist, horizon));
 }
 
-fn put_back_in(map: &mut BTreeMap<u128, PageHist>, note: UndoNote)
+fn put_back_in(map: &mut BTreeMap<u128, Packed>, note: UndoNote)
     ensures { map.new.entries ≡ put_back note.key note.hist map.old.entries }
 {
     let key = note.key;

@@ -1,12 +1,11 @@
 //! The history of one page: its latest stamp, or its two latest.
-ghost use Rattle.std.specs.Prelude.{◌≡◌, ◌↔◌, [], ◌∷◌, ◌++◌, filter, cond, IsTrue};
+ghost use Rattle.std.specs.Prelude.{◌≡◌, ◌↔◌, [], ◌∷◌, ◌++◌, filter, IsTrue};
 ghost use Rattle.warm_history.specs.ListHistories.{latest_of, hist_stamps, known_stamps};
 ghost use Rattle.warm_history.specs.ReferenceSets.{is_kept};
 ghost use Rattle.warm_history.specs.Histories.{IsKept, PagesAscend};
 ghost use Rattle.warm_history.specs.KeptEntries.{kept_hist};
 ghost use Rattle.warm_stamps.specs.Stamps.{stamp_cmp};
 
-use crate::laws::prove_stamps_descend;
 use std::cmp::Ordering;
 use std::marker::Model;
 use warm_stamps::{PageId, Stamp};
@@ -184,25 +183,4 @@ fn cut_both(two: Two, horizon: u64) -> Option<PageHist>
         return Some(PageHist::Once(last));
     }
     Some(PageHist::Twice(two))
-}
-
-// Forgets the stamps older than the horizon, and returns whether one is left.
-pub(crate) fn keep_cut(hist: &mut PageHist, horizon: u64) -> bool
-    ensures { cond result (Some hist.new) None ≡ kept_hist horizon hist.old }
-{
-    let Some(left) = hist.cut_before(horizon) else {
-        return false;
-    };
-    *hist = left;
-    true
-}
-
-// The stamps of a page's history descend, so they are the two latest of themselves. It costs
-// nothing at run time.
-pub(crate) fn prove_two_latest(more: &PageHist)
-    ensures { Some more.now ≡ latest_of (hist_stamps more.now ++ known_stamps None) }
-{
-    if let PageHist::Twice(two) = *more {
-        prove_stamps_descend(two);
-    }
 }

@@ -12,6 +12,7 @@ use crate::cut::{CutEntries, losing, none_older};
 use crate::hist::{Entry, PageHist};
 use crate::map_key::page_of_key;
 use crate::merge_iter::{MergedEntries, Source, later_pairs, merged_entries, next_entry};
+use crate::packed::Packed;
 use crate::take_in::{lookup, raise, take_entries, take_pairs, take_references};
 use std::alloc::{AllocError, Global};
 use std::collections::btree_map::Range;
@@ -360,7 +361,7 @@ impl<'a> Iterator for Entries<'a> {
 /// Contracts see it as the list of the entries that are left.
 #[derive(Debug, Drop)]
 pub struct BucketEntries<'a> {
-    left: Range<'a, u128, PageHist>,
+    left: Range<'a, u128, Packed>,
 }
 
 impl<'a> Model for BucketEntries<'a> {
@@ -418,7 +419,7 @@ impl<'a> Iterator for Unordered<'a> {
         let (key, hist) = self.left.next()?;
         Some(Entry {
             page: page_of_key(key),
-            hist,
+            hist: hist.get(),
         })
     }
 }

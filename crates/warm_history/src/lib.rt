@@ -17,6 +17,7 @@ mod history;
 pub mod laws;
 mod map_key;
 mod merge_iter;
+mod packed;
 mod runs;
 mod take_in;
 

@@ -13,8 +13,9 @@ ghost use Rattle.warm_history.specs.Merges.{bucket_iter_left, two_left, four_lef
 ghost use Rattle.warm_history.specs.Merges.{first_of, rest_of, merge, both_left, merge_iter_left, of_buckets, is_later, later_of_bucket};
 
 use crate::bucket_maps::BucketMaps;
-use crate::hist::{Entry, PageHist};
+use crate::hist::Entry;
 use crate::map_key::{first_key, key_in, page_of_key};
+use crate::packed::Packed;
 use std::collections::btree_map::Range;
 use std::ops::Bound;
 use warm_stamps::PageId;
@@ -24,7 +25,7 @@ pub(crate) fn later_pairs(
     maps: &BucketMaps,
     number: u8,
     after: Option<PageId>,
-) -> Range<'_, u128, PageHist>
+) -> Range<'_, u128, Packed>
     requires bucket { number < BUCKETS }
     requires kept { AreKept maps.now }
     ensures { as_entries result ≡ later_of_bucket number after (kept maps.now) }
@@ -38,13 +39,13 @@ pub(crate) fn later_pairs(
 }
 
 // The first of the entries that are left.
-pub(crate) fn next_entry(left: &mut Range<'_, u128, PageHist>) -> Option<Entry>
+pub(crate) fn next_entry(left: &mut Range<'_, u128, Packed>) -> Option<Entry>
     ensures { YieldsFirst (λ (left : _). as_entries left) left.old result left.new }
 {
     let (key, hist) = left.next()?;
     Some(Entry {
         page: page_of_key(*key),
-        hist: *hist,
+        hist: hist.get(),
     })
 }
 
@@ -69,7 +70,7 @@ pub(crate) trait Source: Drop {
 #[derive(Drop)]
 pub(crate) struct BucketIter<'a> {
     first: Option<Entry>,
-    later: Range<'a, u128, PageHist>,
+    later: Range<'a, u128, Packed>,
 }
 
 impl<'a> Source for BucketIter<'a> {

@@ -10,8 +10,9 @@ ghost use Rattle.warm_history.specs.MapPairs.{AreKept, kept, TakesEntries};
 ghost use Rattle.warm_stamps.specs.declared.TheConstants.{BUCKETS};
 
 use crate::bucket_maps::BucketMaps;
-use crate::hist::{Entry, PageHist, prove_two_latest};
+use crate::hist::Entry;
 use crate::map_key::{first_key, key_of_page};
+use crate::packed::{Packed, prove_two_latest};
 use std::alloc::{AllocError, Global};
 use warm_stamps::{Bucket, BucketSet, bucket_of};
 
@@ -83,7 +84,7 @@ fn recent_pairs(
     alloc: Global,
     horizon: u64,
     run: &[Entry],
-) -> Result<Vec<(u128, PageHist)>, AllocError>
+) -> Result<Vec<(u128, Packed)>, AllocError>
     ensures { IfOk result (λ pairs. pairs.items ≡ run_pairs horizon run.now) }
 {
     let mut pairs = Vec::with_capacity(alloc, run.len())?;
@@ -95,13 +96,13 @@ fn recent_pairs(
 
 // Adds the pair of an entry, if any of its stamps is left.
 fn push_recent(
-    pairs: &mut Vec<(u128, PageHist)>,
+    pairs: &mut Vec<(u128, Packed)>,
     horizon: u64,
     entry: &Entry,
 ) -> Result<(), AllocError>
     ensures { OnOk result (pairs.new.items ≡ pairs.old.items ++ pair_of_entry horizon entry.now) }
 {
-    let Some(recent) = entry.hist.cut_before(horizon) else {
+    let Some(recent) = Packed::new(entry.hist).cut_before(horizon) else {
         return Ok(());
     };
     prove_two_latest(&recent);

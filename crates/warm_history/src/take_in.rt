@@ -23,6 +23,7 @@ ghost use Rattle.warm_history.specs.Undo.{undone, LeadsBack};
 use crate::bucket_maps::{BucketMaps, UndoNote};
 use crate::hist::{Entry, PageHist};
 use crate::map_key::{key_of_page, page_of_key};
+use crate::packed::Packed;
 use crate::runs::{bucket_to_fill, take_run};
 use std::alloc::{AllocError, Global};
 use warm_stamps::{BucketSet, PageId, Reference, bucket_of};
@@ -42,7 +43,8 @@ pub(crate) fn lookup(maps: &BucketMaps, page: PageId) -> Option<PageHist>
     ensures known { result ≡ found (key_of_page page) maps.now }
     ensures back { page_of_key (key_of_page page) ≡ page }
 {
-    maps.get(key_of_page(page))
+    let packed = maps.get(key_of_page(page))?;
+    Some(packed.get())
 }
 
 // Takes in all references that are not older than the horizon or, where an allocation fails, none.
@@ -125,7 +127,7 @@ fn take(
     maps: &mut BucketMaps,
     undo: &mut Vec<UndoNote>,
     key: u128,
-    more: PageHist,
+    more: Packed,
     likely_new: bool,
 ) -> Result<Outcome, AllocError>
     requires key { IsMapKey key }
@@ -157,7 +159,7 @@ fn take_recent(
     undo: &mut Vec<UndoNote>,
     horizon: u64,
     key: u128,
-    more: PageHist,
+    more: Packed,
     likely_new: bool,
 ) -> Result<Outcome, AllocError>
     requires key { IsMapKey key }
@@ -195,7 +197,7 @@ fn take_each_reference(
     let mut is_new = false;
     for reference in batch {
         let key = key_of_page(reference.page);
-        let more = PageHist::Once(reference.stamp);
+        let more = Packed::once(reference.stamp);
         let taken = take_recent(maps, undo, horizon, key, more, is_new)?;
         changed = changed.union(taken.changed);
         is_new = taken.is_new;
@@ -219,7 +221,8 @@ fn take_each_entry(
     let mut is_new = false;
     for entry in more {
         let key = key_of_page(entry.page);
-        let taken = take_recent(maps, undo, horizon, key, entry.hist, is_new)?;
+        let more = Packed::new(entry.hist);
+        let taken = take_recent(maps, undo, horizon, key, more, is_new)?;
         changed = changed.union(taken.changed);
         is_new = taken.is_new;
     }
