@@ -19,6 +19,7 @@ mod map_key;
 mod merge_iter;
 mod runs;
 mod take_in;
+mod walk;
 
 pub use cut::CutEntries;
 pub use hist::{Entry, PageHist, Two, is_sorted_by_page, join_hist};
