@@ -24,6 +24,9 @@ pub mod BucketSteps
 pub mod BucketCounts
 pub mod RunLemmas
 pub mod RunPairs
+pub mod WalkLemmas
+pub mod MergedLemmas
+pub mod MergedBuckets
 pub mod BucketParts
 pub mod MergeIterLemmas
 pub mod SetLemmas

@@ -102,7 +102,7 @@ above_insert q p h (e ∷ pairs) less all = by_cases (nat_cmp p e.0) _
     (λ pe. rw pe all)
     (λ pe. rw pe (all.0, above_insert q p h pairs less all.1))
 
-rising_insert : (p : ℕ) (h : PageHist) (pairs : MapPairs) → KeysAscend pairs → KeysAscend (insert_entry nat_cmp pairs p h)
+pub rising_insert : (p : ℕ) (h : PageHist) (pairs : MapPairs) → KeysAscend pairs → KeysAscend (insert_entry nat_cmp pairs p h)
 rising_insert p h [] rising = (tt, tt)
 rising_insert p h (e ∷ pairs) rising = by_cases (nat_cmp p e.0) _
     (λ pe. rw pe ((pe, below_all p e.0 pairs pe rising.0), rising))

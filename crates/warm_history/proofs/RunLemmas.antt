@@ -4,7 +4,7 @@ use Rattle.std.specs.Int.{bit_at}
 use Rattle.std.specs.Prelude.{bit_or}
 use Rattle.std.specs.List.{AllByRecursion}
 use Rattle.std.specs.BTreeMap.{insert_entry}
-use Rattle.std.specs.Ordering.{is_eq, nat_cmp}
+use Rattle.std.specs.Ordering.{flip_args, nat_cmp}
 use Rattle.std.specs.declared.cmp.Ordering.TheVariants.{Less}
 use Rattle.std.proofs.lemmas.Bool.{cases_eq}
 use Rattle.std.proofs.lemmas.List.{append-nil}
@@ -21,15 +21,20 @@ use Rattle.warm_history.specs.ListHistories.{first_two, latest_of, hist_stamps, 
 use Rattle.warm_history.specs.ReferenceSets.{is_kept, references_from}
 use Rattle.warm_history.specs.MapKeys.{first_key, key_of_page, page_of_key, IsMapKey}
 use Rattle.warm_history.specs.MapPairs.{MapPairs, kept, AreKept, references_at, TakesEntries, TakesRecent, TakesStamps}
-use Rattle.warm_history.specs.BucketMaps.{LiesIn, HoldsBucket, found}
+use Rattle.warm_history.specs.BucketMaps.{LiesIn, found}
 use Rattle.warm_history.specs.Runs.{RiseWithin, at_key, run_pairs, with_pairs}
+use Rattle.warm_history.specs.Walks.{joined_with, joined_pairs, merged, DiffersAt}
 use Rattle.warm_history.proofs.ListHistoryLemmas.{hist_swap}
 use Rattle.warm_history.proofs.ListJoinLemmas.{history_alike, history_first, history_of_own_references}
-use Rattle.warm_history.proofs.MapKeyOrder.{nat_order}
-use Rattle.warm_history.proofs.MapPairLemmas.{AreKeys, IsHistory-kept, exact_pair, kept_more, found_inserted}
+use Rattle.warm_history.proofs.MapPairLemmas.{AreKeys, IsHistory-kept, exact_pair, kept_more, no_later}
 use Rattle.warm_history.proofs.RecentLemmas.{takes_none, takes_some, recent_more}
 use Rattle.warm_history.proofs.ChangeLemmas.{others_stay, lies_in, own_bucket, changes_at, in_it, not_in_it}
-use Rattle.warm_history.proofs.RunPairs.{AreAbove, run_above, found_free}
+use Rattle.warm_history.proofs.RunPairs.{AreAbove, run_above}
+use Rattle.warm_history.proofs.MergedLemmas.{found_with}
+use Rattle.warm_history.proofs.MergedBuckets.{all_at, joined_all}
+use Rattle.warm_history.proofs.EntryLemmas.{latest_of_first}
+use Rattle.warm_stamps.specs.Distinct.{insert_distinct, distinct}
+use Rattle.std.specs.Option.{option_or}
 
 -- ---- the stamps that a horizon leaves
 
@@ -55,22 +60,29 @@ some_latest (Twice two) = by_cases (stamp_cmp two.prev two.last) _
     (λ tied. (Once two.prev, rw tied refl))
     (λ more. (Twice (record { last = two.prev; prev = two.last }), rw more refl))
 
+-- beside others too
+first_some : (s : Stamp) (ss : List Stamp) → (k : PageHist) × (Some k ≡ first_two (s ∷ ss))
+first_some s [] = (Once s, refl)
+first_some s (t ∷ ss) = (Twice (record { last = s; prev = t }), refl)
+
+put_some : (s : Stamp) (ss : List Stamp) → (k : PageHist) × (Some k ≡ first_two (insert_distinct (flip_args stamp_cmp) s ss))
+put_some s [] = (Once s, refl)
+put_some s (t ∷ ss) = by_cases (stamp_cmp t s) _
+    (λ less. let some = first_some s (t ∷ ss) in rw less some)
+    (λ tied. let some = first_some t ss in rw tied some)
+    (λ more. let some = first_some t (insert_distinct (flip_args stamp_cmp) s ss) in rw more some)
+
+some_joined : (h : PageHist) (ss : List Stamp) → (k : PageHist) × (Some k ≡ latest_of (hist_stamps h ++ ss))
+some_joined (Once last) ss = put_some last (distinct (flip_args stamp_cmp) ss)
+some_joined (Twice two) ss = put_some two.last (distinct (flip_args stamp_cmp) (two.prev ∷ ss))
+
 -- ---- one entry more
 
--- what is found at a key below is found still
-found_below : (p q : ℕ) (h : PageHist) (pairs : MapPairs) → nat_cmp p q ≡ Less → found p (insert_entry nat_cmp pairs q h) ≡ found p pairs
-found_below p q h [] less = rw less refl
-found_below p q h (e ∷ pairs) less = by_cases (nat_cmp q e.0) _
-    (λ qe. rw qe (rw less refl))
-    (λ qe.
-    let same : q ≡ e.0 = nat_order.same q e.0 qe in
-    let under : nat_cmp p e.0 ≡ Less = subst (λ k. nat_cmp p k ≡ Less) same less in
-    rw qe (rw under refl))
-    (λ qe. rw qe (ap (cond (is_eq (nat_cmp p e.0)) (Some e.1)) (found_below p q h pairs less)))
-
-none_filled : (p : ℕ) (old run : MapPairs) → AreAbove p run → found p old ≡ None → found p (with_pairs old run) ≡ None
-none_filled p old [] all none = none
-none_filled p old (e ∷ run) all none = found_below p e.0 e.1 (with_pairs old run) all.0 ∙ none_filled p old run all.1 none
+-- what is found at a key below those of a run is found still
+found_under : (p : ℕ) (old run : MapPairs) → AreAbove p run → found p (merged old run) ≡ found p old
+found_under p old run above =
+    found_with p old (joined_pairs old run)
+    ∙ ap (λ x. option_or x (found p old)) (no_later p (joined_pairs old run) (joined_all (λ k. nat_cmp p k ≡ Less) old run above))
 
 takes_first : (m : ℕ) (old mid new : MapPairs) (e : Entry) (es : List Entry) → page_of_key (key_of_page e.page) ≡ e.page → TakesEntries m old es mid → TakesRecent m mid (key_of_page e.page) e.hist new → TakesEntries m old (e ∷ es) new
 takes_first m old mid new e es back exact takes =
@@ -97,15 +109,19 @@ pub record TakesRun (m number : ℕ) (old : MapPairs) (es : List Entry) (new : M
 bucket_is : (number p : ℕ) → IsMapKey p → LiesIn number p → page_bucket (page_of_key p) ≡ number
 bucket_is number p is lies = own_bucket p is ∙ sym (lies_in number p lies.0 lies.1)
 
-adds : (m number : ℕ) (old mid : MapPairs) (e : Entry) (es : List Entry) (more h : PageHist) → page_of_key (key_of_page e.page) ≡ e.page → LiesIn number (key_of_page e.page) → hist_stamps more ≡ filter (is_kept m) (hist_stamps e.hist) → Some h ≡ latest_of (hist_stamps more) → found (key_of_page e.page) mid ≡ None → TakesRun m number old es mid
-    → TakesRun m number old (e ∷ es) (insert_entry nat_cmp mid (key_of_page e.page) h)
-adds m number old mid e es more h back lies stamps latest none run =
+adds : (m number : ℕ) (old mid : MapPairs) (e : Entry) (es : List Entry) (more h k : PageHist) → page_of_key (key_of_page e.page) ≡ e.page → LiesIn number (key_of_page e.page) → hist_stamps more ≡ filter (is_kept m) (hist_stamps e.hist) → Some h ≡ latest_of (hist_stamps more)
+    → Some k ≡ joined_with h (found (key_of_page e.page) mid) → TakesRun m number old es mid → TakesRun m number old (e ∷ es) (insert_entry nat_cmp mid (key_of_page e.page) k)
+adds m number old mid e es more h k back lies stamps latest joins run =
     let p = key_of_page e.page in
-    let new = insert_entry nat_cmp mid p h in
+    let known = found p mid in
+    let new = insert_entry nat_cmp mid p k in
     let is : IsMapKey p = ap key_of_page back in
-    let both : Some h ≡ latest_of (hist_stamps more ++ known_stamps None) = latest ∙ ap latest_of (sym (append-nil (hist_stamps more))) in
-    let whole = kept_more mid new p h (hist_stamps more ++ known_stamps None) is run.whole both refl in
-    let exact : TakesStamps mid p more new = exact_pair mid new p more h None is run.whole (sym none) both refl in
+    let both : Some k ≡ latest_of (hist_stamps more ++ known_stamps known) =
+    joins
+    ∙ ap (λ o. latest_of (known_stamps o ++ known_stamps known)) latest
+    ∙ sym (latest_of_first (hist_stamps more) (known_stamps known)) in
+    let whole = kept_more mid new p k (hist_stamps more ++ known_stamps known) is run.whole both refl in
+    let exact : TakesStamps mid p more new = exact_pair mid new p more k known is run.whole refl both refl in
     record {
       whole = whole;
       exact = takes_first m old mid new e es back run.exact (takes_some m mid new p e.hist more stamps exact);
@@ -119,30 +135,35 @@ passes m number old mid e es back none run = record {
   others = run.others;
 }
 
-pub takes_run : (m number from : ℕ) (old : MapPairs) (es : List Entry) → AreKept old → HoldsBucket number [] old → first_key number ≤ from → RiseWithin from (first_key (number + 1)) es → TakesRun m number old es (with_pairs old (run_pairs m es))
-takes_run m number from old [] are free begins rise = record {
+pub takes_run : (m number from : ℕ) (old : MapPairs) (es : List Entry) → AreKept old → first_key number ≤ from → RiseWithin from (first_key (number + 1)) es → TakesRun m number old es (merged old (run_pairs m es))
+takes_run m number from old [] are begins rise = record {
   whole = are;
   exact = sym (history_of_own_references (kept old) (IsHistory-kept old are)) ∙ ap list_history (sym (append-nil (list_references_of (kept old))));
   others = λ bucket other. refl;
 }
-takes_run m number from old (e ∷ es) are free begins rise =
+takes_run m number from old (e ∷ es) are begins rise =
     let p = key_of_page e.page in
     let starts : from ≤ key_of_page e.page = rise.0 in
     let later : first_key number ≤ key_of_page e.page + 1 = omega arith in
     let low : first_key number ≤ key_of_page e.page = omega arith in
-    let run = takes_run m number (p + 1) old es are free later rise.3 in
-    let none = none_filled p old (run_pairs m es) (run_above m p (first_key (number + 1)) es rise.3) (found_free number p old (low, rise.1) free) in
-    cases (first_two (filter (is_kept m) (hist_stamps e.hist))) (held_left m e.hist) low none run
+    let run = takes_run m number (p + 1) old es are later rise.3 in
+    cases (first_two (filter (is_kept m) (hist_stamps e.hist))) (held_left m e.hist) low (found_under p old (run_pairs m es) (run_above m p (first_key (number + 1)) es rise.3)) run
   where
     mid : MapPairs
-    mid = with_pairs old (run_pairs m es)
+    mid = merged old (run_pairs m es)
 
-    cases : (r : Option PageHist) → known_stamps r ≡ filter (is_kept m) (hist_stamps e.hist) → first_key number ≤ key_of_page e.page → found (key_of_page e.page) mid ≡ None → TakesRun m number old es mid → TakesRun m number old (e ∷ es) (with_pairs old (at_key (key_of_page e.page) (latest_of (filter (is_kept m) (hist_stamps e.hist))) ++ run_pairs m es))
-    cases None stamps low none run = subst (λ ss. TakesRun m number old (e ∷ es) (with_pairs old (at_key (key_of_page e.page) (latest_of ss) ++ run_pairs m es))) stamps (passes m number old mid e es rise.2 stamps run)
-    cases (Some more) stamps low none run =
+    cases : (r : Option PageHist) → known_stamps r ≡ filter (is_kept m) (hist_stamps e.hist) → first_key number ≤ key_of_page e.page → found (key_of_page e.page) mid ≡ found (key_of_page e.page) old → TakesRun m number old es mid
+        → TakesRun m number old (e ∷ es) (merged old (at_key (key_of_page e.page) (latest_of (filter (is_kept m) (hist_stamps e.hist))) ++ run_pairs m es))
+    cases None stamps low same run = subst (λ ss. TakesRun m number old (e ∷ es) (merged old (at_key (key_of_page e.page) (latest_of ss) ++ run_pairs m es))) stamps (passes m number old mid e es rise.2 stamps run)
+    cases (Some more) stamps low same run =
+        let p = key_of_page e.page in
         let latest = some_latest more in
-        subst (λ o. TakesRun m number old (e ∷ es) (with_pairs old (at_key (key_of_page e.page) o ++ run_pairs m es))) (latest.1 ∙ ap latest_of stamps)
-        (adds m number old mid e es more latest.0 rise.2 (low, rise.1) stamps latest.1 none run)
+        let h : PageHist = latest.0 in
+        let value = some_joined h (known_stamps (found p old)) in
+        let joins : Some value.0 ≡ joined_with h (found p mid) = value.1 ∙ ap (joined_with h) (sym same) in
+        subst (λ o. TakesRun m number old (e ∷ es) (merged old (at_key p o ++ run_pairs m es))) (latest.1 ∙ ap latest_of stamps)
+        (subst (λ o. TakesRun m number old (e ∷ es) (with_pairs old (at_key p o ++ joined_pairs old (run_pairs m es)))) value.1
+        (adds m number old mid e es more h value.0 rise.2 (low, rise.1) stamps latest.1 joins run))
 
 -- ---- the bucket that changes
 
@@ -154,26 +175,22 @@ are_keys m from to (e ∷ es) rise = cases (latest_of (filter (is_kept m) (hist_
     cases None all = all
     cases (Some h) all = (ap key_of_page rise.2, all)
 
--- a bucket that had no entries has one where a pair is put in
-changes_in : (number : ℕ) (old run : MapPairs) → AreKept old → AreKept (with_pairs old run) → HoldsBucket number [] old → AllByRecursion (λ (e : ℕ × PageHist). LiesIn number e.0) run → AreKeys run → run ≢ [] → bucket_entries number (kept (with_pairs old run)) ≢ bucket_entries number (kept old)
-changes_in number old [] are whole free inside keys some = absurd (some refl)
-changes_in number old (e ∷ run) are whole free inside keys some =
-    let new = with_pairs old (e ∷ run) in
-    let differs : found e.0 new ≢ found e.0 old = λ same.
-    let is : found e.0 new ≡ Some e.1 = found_inserted e.0 e.1 (with_pairs old run) in
-    let none : found e.0 old ≡ None = found_free number e.0 old inside.0 free in
-    let no : Some e.1 ≡ None = sym is ∙ same ∙ none in
-    absurd (cc) in
-    subst (λ b. bucket_entries b (kept new) ≢ bucket_entries b (kept old)) (bucket_is number e.0 keys.0 inside.0) (changes_at old new e.0 keys.0 are whole differs)
+-- a bucket changes where something else is found at a key of the run
+changes_in : (number : ℕ) (old run new : MapPairs) → AreKept old → AreKept new → AllByRecursion (λ (e : ℕ × PageHist). LiesIn number e.0) run → AreKeys run → DiffersAt run old new → bucket_entries number (kept new) ≢ bucket_entries number (kept old)
+changes_in number old run new are whole inside keys differs =
+    let key : ℕ = differs.0 in
+    let is : IsMapKey key = all_at IsMapKey run key keys differs.1 in
+    let lies : LiesIn number key = all_at (LiesIn number) run key inside differs.1 in
+    subst (λ b. bucket_entries b (kept new) ≢ bucket_entries b (kept old)) (bucket_is number key is lies) (changes_at old new key is are whole differs.2)
 
-pub marks_run : (number : ℕ) (old run : MapPairs) → AreKept old → AreKept (with_pairs old run) → HoldsBucket number [] old → AllByRecursion (λ (e : ℕ × PageHist). LiesIn number e.0) run → AreKeys run → run ≢ [] → ((bucket : ℕ) → bucket ≢ number → SameInBucket bucket (kept old) (kept (with_pairs old run)))
-    → MarksChanged (kept old) (kept (with_pairs old run)) (bit_or 0 (2 ^ number))
-marks_run number old run are whole free inside keys some others bucket low =
+pub marks_run : (number : ℕ) (old run new : MapPairs) → AreKept old → AreKept new → AllByRecursion (λ (e : ℕ × PageHist). LiesIn number e.0) run → AreKeys run → DiffersAt run old new → ((bucket : ℕ) → bucket ≢ number → SameInBucket bucket (kept old) (kept new))
+    → MarksChanged (kept old) (kept new) (bit_or 0 (2 ^ number))
+marks_run number old run new are whole inside keys differs others bucket low =
     let set = bit_or 0 (2 ^ number) in
     elim (cases_eq bucket number) [
       | inl here ↦ (
           let bit : bit_at set bucket ≡ 1 = ap (λ (b : ℕ). bit_at set b) here ∙ in_it number in (
-            (λ one. subst (λ b. bucket_entries b (kept (with_pairs old run)) ≢ bucket_entries b (kept old)) (sym here) (changes_in number old run are whole free inside keys some)),
+            (λ one. subst (λ b. bucket_entries b (kept new) ≢ bucket_entries b (kept old)) (sym here) (changes_in number old run new are whole inside keys differs)),
             λ none. absurd (omega (arith, bit, none)),
           )
           )

@@ -81,7 +81,7 @@ pub in_filled : (b : ℕ) (m run : MapPairs) → AllIn b m → AllIn b run → A
 in_filled b m [] all more = all
 in_filled b m (e ∷ run) all more = in_insert b e.0 e.1 (with_pairs m run) more.0 (in_filled b m run all more.1)
 
-map_at-with : (ms : List MapPairs) (i : ℕ) (n : MapPairs) → i < length ms → map_at (with_map ms i n) i ≡ n
+pub map_at-with : (ms : List MapPairs) (i : ℕ) (n : MapPairs) → i < length ms → map_at (with_map ms i n) i ≡ n
 map_at-with [] i n there = absurd (omega arith)
 map_at-with (m ∷ ms) zero n there = refl
 map_at-with (m ∷ ms) (suc i) n there = let left : i < length ms = omega arith in map_at-with ms i n left
@@ -97,7 +97,7 @@ length-with (m ∷ ms) zero n = refl
 length-with (m ∷ ms) (suc i) n = ap suc (length-with ms i n)
 
 -- what is put into the map of its bucket is put into all
-filled_joined : (b i : ℕ) (ms : List MapPairs) (run : MapPairs) → AreBuckets b ms → i < length ms → AllIn (b + i) run → AllIn (b + i) (map_at ms i) → with_pairs (all_pairs ms) run ≡ all_pairs (with_map ms i (with_pairs (map_at ms i) run))
+pub filled_joined : (b i : ℕ) (ms : List MapPairs) (run : MapPairs) → AreBuckets b ms → i < length ms → AllIn (b + i) run → AllIn (b + i) (map_at ms i) → with_pairs (all_pairs ms) run ≡ all_pairs (with_map ms i (with_pairs (map_at ms i) run))
 filled_joined b i ms [] are there all own = ap all_pairs (sym (with_same ms i))
 filled_joined b i ms (e ∷ run) are there all own =
     let n = with_pairs (map_at ms i) run in
@@ -163,13 +163,13 @@ keys_above : (p : ℕ) (es : MapPairs) → AllByRecursion (λ k. nat_cmp p k ≡
 keys_above p [] all = tt
 keys_above p (e ∷ es) all = (all.0, keys_above p es all.1)
 
-keys_rise : (es : MapPairs) → IsStrictlySortedBy nat_cmp (keys_of es) → KeysAscend es
+pub keys_rise : (es : MapPairs) → IsStrictlySortedBy nat_cmp (keys_of es) → KeysAscend es
 unfolding IsStrictlySortedBy
 keys_rise [] sorted = tt
 keys_rise (e ∷ es) sorted = (keys_above e.0 es sorted.0, keys_rise es sorted.1)
 
 -- rising pairs in which the same is found are the same
-same_found : (m n : MapPairs) → KeysAscend m → KeysAscend n → ((q : ℕ) → found q m ≡ found q n) → m ≡ n
+pub same_found : (m n : MapPairs) → KeysAscend m → KeysAscend n → ((q : ℕ) → found q m ≡ found q n) → m ≡ n
 same_found [] [] rise_m rise_n alike = refl
 same_found [] (y ∷ n) rise_m rise_n alike =
     let own : nat_cmp y.0 y.0 ≡ Equal = tied_itself nat_cmp_total y.0 in

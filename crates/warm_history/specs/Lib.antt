@@ -12,6 +12,7 @@ pub mod MapKeys
 pub mod MapPairs
 pub mod BucketMaps
 pub mod Runs
+pub mod Walks
 pub mod Merges
 pub mod Cuts
 pub mod Undo

@@ -8,16 +8,16 @@ ghost use Rattle.warm_history.specs.Cuts.{cut_at};
 ghost use Rattle.warm_stamps.specs.declared.TheConstants.{BUCKETS};
 ghost use Rattle.warm_history.specs.MapPairs.{AreKept, TakesStamps};
 ghost use Rattle.warm_history.specs.BucketMaps.{all_pairs, pairs_of_maps, pairs_left, HoldsBucket, LiesIn, KeysAscend, RecordsStamps, SaysNote, found};
-ghost use Rattle.warm_history.specs.Runs.{with_pairs};
+ghost use Rattle.warm_history.specs.Walks.{TellsChange, merged};
 ghost use Rattle.warm_history.specs.Undo.{put_back, notes_of, Undoes};
 
 use crate::map_key::bucket_of_key;
 use crate::packed::{Packed, keep_cut, merge_into, prove_two_latest};
+use crate::walk::merge_run;
 use std::alloc::{AllocError, Global};
 use std::array;
 use std::collections::BTreeMap;
 use std::collections::btree_map::Range;
-use std::iter::FromIterator;
 use std::marker::Model;
 use warm_stamps::BUCKETS;
 
@@ -131,32 +131,23 @@ impl BucketMaps {
         record_in(&mut self.maps[bucket_of_key(key)], key, more, likely_new)
     }
 
-    // Whether no key of the bucket of this number has a value. Allocation-free.
-    pub(crate) fn is_free(&self, number: u8) -> bool
-        requires { number < BUCKETS }
-        ensures { IsTrue result → HoldsBucket number [] self.now }
-    {
-        self.map_of(number).is_empty()
-    }
-
-    // Makes pairs at rising keys the map of the bucket of this number, which has none: they are
-    // not inserted one after the other.
-    pub(crate) fn fill(
+    // Takes in a run of the bucket of this number, and returns whether that changes the bucket. Where
+    // an allocation fails, it changes nothing.
+    pub(crate) fn merge(
         &mut self,
         alloc: Global,
         number: u8,
-        pairs: Vec<(u128, Packed)>,
-    ) -> Result<(), AllocError>
+        run: &[(u128, Packed)],
+    ) -> Result<bool, AllocError>
         requires number { number < BUCKETS }
-        requires free { HoldsBucket number [] self.old }
-        requires rise { KeysAscend pairs.items }
-        requires inside { AllByRecursion (λ e. LiesIn number e.0) pairs.items }
-        ensures ok { OnOk result (self.new ≡ with_pairs self.old pairs.items) }
+        requires rise { KeysAscend self.old }
+        requires run { KeysAscend run.now }
+        requires inside { AllByRecursion (λ e. LiesIn number e.0) run.now }
+        ensures ok { OnOk result (self.new ≡ merged self.old run.now) }
+        ensures tells { IfOk result (λ changed. TellsChange changed run.now self.old self.new) }
         ensures err { OnErr result (self.new ≡ self.old) }
     {
-        let map = map_from(alloc, pairs)?;
-        self.maps[number as usize] = map;
-        Ok(())
+        merge_run(alloc, &mut self.maps[number as usize], run)
     }
 
     // Restores the old value of a page. Allocation-free.
@@ -235,20 +226,6 @@ fn count_all(maps: &[BTreeMap<u128, Packed>]) -> usize
         count += map.len();
     }
     count
-}
-
-// The map of pairs at rising keys. All its nodes are full, but for the last ones.
-fn map_from(alloc: Global, pairs: Vec<(u128, Packed)>) -> Result<BTreeMap<u128, Packed>, AllocError>
-    requires { KeysAscend pairs.items }
-    ensures same { IfOk result (λ map. map.entries ≡ pairs.items) }
-    ensures small { IfOk result (λ map. length map.entries < MAX_PAIRS) }
-{
-    if pairs.len() >= MAX_PAIRS {
-        return Err(AllocError);
-    }
-    // Not returned as it comes: the proof takes success and failure apart here.
-    let map = BTreeMap::from_iter(alloc, pairs)?;
-    Ok(map)
 }
 
 // Takes in the given stamps of the page at a key of the map's own bucket.

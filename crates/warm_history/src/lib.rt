@@ -20,6 +20,7 @@ mod merge_iter;
 mod packed;
 mod runs;
 mod take_in;
+mod walk;
 
 pub use cut::CutEntries;
 pub use hist::{Entry, PageHist, Two, is_sorted_by_page, join_hist};

@@ -1,9 +1,8 @@
 //! Runs: entries of one bucket at rising keys, as a dump has them.
 //!
-//! Where the bucket has no entries, a run becomes its map at once: an insertion searches the map
-//! from its root for each page, and leaves its nodes half full.
-ghost use Rattle.std.specs.Prelude.{◌≡◌, [], ◌++◌, ◌<◌, IfOk, IfSome, IsTrue, OnErr, OnOk};
-ghost use Rattle.warm_history.specs.BucketMaps.{HoldsBucket};
+//! A run is merged with the map of its bucket in one walk: a look-up searches the map from its root
+//! for each page.
+ghost use Rattle.std.specs.Prelude.{◌≡◌, ◌++◌, ◌<◌, IfOk, IfSome, IsTrue, OnErr, OnOk};
 ghost use Rattle.warm_history.specs.Changes.{MarksChanged};
 ghost use Rattle.warm_history.specs.Runs.{IsRun, pair_of_entry, run_pairs};
 ghost use Rattle.warm_history.specs.MapPairs.{AreKept, kept, TakesEntries};
@@ -36,26 +35,20 @@ fn is_run(number: u8, entries: &[Entry]) -> bool
     true
 }
 
-// The bucket that these entries fill: they are a run of it, and it has no entries.
-// The latter is looked at first, since it costs nothing and most messages end there.
-pub(crate) fn bucket_to_fill(maps: &BucketMaps, more: &[Entry]) -> Option<Bucket>
-    ensures free { IfSome result (λ bucket. HoldsBucket bucket [] maps.now) }
-    ensures run { IfSome result (λ bucket. IsRun bucket more.now) }
+// The bucket of which these entries are a run, where they are one.
+pub(crate) fn bucket_of_run(more: &[Entry]) -> Option<Bucket>
+    ensures { IfSome result (λ bucket. IsRun bucket more.now) }
 {
     let first = more.first()?;
     let bucket = bucket_of(first.page);
-    let number = bucket.get();
-    if !maps.is_free(number) {
-        return None;
-    }
-    if !is_run(number, more) {
+    if !is_run(bucket.get(), more) {
         return None;
     }
     Some(bucket)
 }
 
-// Takes in a run of a bucket that has no entries: all stamps that are not older than the horizon
-// or, where an allocation fails, none.
+// Takes in a run of a bucket: all stamps that are not older than the horizon or, where an
+// allocation fails, none.
 pub(crate) fn take_run(
     alloc: Global,
     maps: &mut BucketMaps,
@@ -64,7 +57,6 @@ pub(crate) fn take_run(
     run: &[Entry],
 ) -> Result<BucketSet, AllocError>
     requires kept { AreKept maps.old }
-    requires free { HoldsBucket bucket [] maps.old }
     requires run { IsRun bucket run.now }
     ensures exact { OnOk result (TakesEntries horizon maps.old run.now maps.new) }
     ensures changed { IfOk result (MarksChanged (kept maps.old) (kept maps.new)) }
@@ -72,10 +64,10 @@ pub(crate) fn take_run(
     ensures err { OnErr result (maps.new ≡ maps.old) }
 {
     let pairs = recent_pairs(alloc, horizon, run)?;
-    if pairs.is_empty() {
+    let changes = maps.merge(alloc, bucket.get(), &pairs)?;
+    if !changes {
         return Ok(BucketSet::new());
     }
-    maps.fill(alloc, bucket.get(), pairs)?;
     Ok(BucketSet::new().with(bucket))
 }
 

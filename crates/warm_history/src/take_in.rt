@@ -24,7 +24,7 @@ use crate::bucket_maps::{BucketMaps, UndoNote};
 use crate::hist::{Entry, PageHist};
 use crate::map_key::{key_of_page, page_of_key};
 use crate::packed::Packed;
-use crate::runs::{bucket_to_fill, take_run};
+use crate::runs::{bucket_of_run, take_run};
 use std::alloc::{AllocError, Global};
 use warm_stamps::{BucketSet, PageId, Reference, bucket_of};
 
@@ -71,7 +71,7 @@ pub(crate) fn take_references(
 }
 
 // Takes in all stamps of entries that are not older than the horizon or, where an allocation fails,
-// none. The entries may be in any order. Where they fill a bucket, its map is built at once.
+// none. The entries may be in any order. A run of a bucket is merged with its map in one walk.
 pub(crate) fn take_entries(
     alloc: Global,
     maps: &mut BucketMaps,
@@ -84,7 +84,7 @@ pub(crate) fn take_entries(
     ensures whole { AreKept maps.new }
     ensures err { OnErr result (maps.new ≡ maps.old) }
 {
-    if let Some(bucket) = bucket_to_fill(maps, more) {
+    if let Some(bucket) = bucket_of_run(more) {
         return take_run(alloc, maps, horizon, bucket, more);
     }
     let mut undo = Vec::new(alloc);

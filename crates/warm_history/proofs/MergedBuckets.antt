@@ -1,0 +1,92 @@
+-- A run merged with the map of its bucket is merged with all pairs.
+use Rattle.std.proofs.Common.{◌≡◌, ℕ, ◌+◌, ◌<◌, Bool, true, false, List, [], ◌∷◌, ◌++◌, sym, ap, refl, ◌∙◌, subst, length, Option, Some, None, IsSome, get_or, IfOk, OnOk, OnErr}
+use Rattle.std.specs.List.{AllByRecursion}
+use Rattle.std.specs.BTreeMap.{BTreeMap}
+use Rattle.std.specs.Ordering.{is_eq, nat_cmp}
+use Rattle.std.specs.declared.result.Result.{Result}
+use Rattle.std.specs.declared.result.Result.TheVariants.{Ok, Err}
+use Rattle.warm_stamps.proofs.DistinctLemmas.{is_equal}
+use Rattle.warm_history.specs.declared.hist.PageHist.{PageHist}
+use Rattle.warm_history.specs.MapPairs.{MapPairs}
+use Rattle.warm_history.specs.BucketMaps.{pairs_of_maps, all_pairs, LiesIn, AreBuckets, map_at, with_map, found}
+use Rattle.warm_history.specs.Runs.{at_key, with_pairs}
+use Rattle.warm_history.specs.Walks.{joined_with, joined_pairs, merged, DiffersAt, TellsChange}
+use Rattle.warm_history.proofs.MapKeyOrder.{nat_order}
+use Rattle.warm_history.proofs.BucketLemmas.{find_joined, map_at-of}
+use Rattle.warm_history.proofs.BucketSteps.{AllIn, all_with, buckets_with, with_same, pairs_of-set, length-pairs_of}
+use Rattle.warm_history.proofs.RunPairs.{filled_joined, in_filled, map_at-with}
+
+-- what holds of the keys of a run
+pub all_at : (P : ℕ → Type 0) (run : MapPairs) (key : ℕ) → AllByRecursion (λ (e : ℕ × PageHist). P e.0) run → IsSome (found key run) → P key
+all_at P [] key all some = let no : false ≡ true = some in absurd (cc)
+all_at P (e ∷ run) key all some = cases (is_eq (nat_cmp key e.0)) refl (all_at P run key all.1)
+  where
+    cases : (b : Bool) → is_eq (nat_cmp key e.0) ≡ b → (IsSome (found key run) → P key) → P key
+    cases true here later =
+        let same : key ≡ e.0 = nat_order.same key e.0 (is_equal (nat_cmp key e.0) here) in
+        subst P (sym same) all.0
+    cases false away later = later (rw away at some)
+
+pub joined_all : (P : ℕ → Type 0) (old run : MapPairs) → AllByRecursion (λ (e : ℕ × PageHist). P e.0) run → AllByRecursion (λ (e : ℕ × PageHist). P e.0) (joined_pairs old run)
+joined_all P old [] all = tt
+joined_all P old (e ∷ run) all = cases (joined_with e.1 (found e.0 old)) (joined_all P old run all.1)
+  where
+    cases : (o : Option PageHist) → AllByRecursion (λ (x : ℕ × PageHist). P x.0) (joined_pairs old run) → AllByRecursion (λ (x : ℕ × PageHist). P x.0) (at_key e.0 o ++ joined_pairs old run)
+    cases None rest = rest
+    cases (Some h) rest = (all.0, rest)
+
+-- what a run makes of the pairs of its bucket it makes of all pairs
+joined_own : (b i : ℕ) (ms : List MapPairs) (run : MapPairs) → AreBuckets b ms → AllIn (b + i) run → joined_pairs (all_pairs ms) run ≡ joined_pairs (map_at ms i) run
+joined_own b i ms [] are all = refl
+joined_own b i ms (e ∷ run) are all =
+    ap (λ x. at_key e.0 (joined_with e.1 x) ++ joined_pairs (all_pairs ms) run) (find_joined b i e.0 ms are all.0)
+    ∙ ap (λ t. at_key e.0 (joined_with e.1 (found e.0 (map_at ms i))) ++ t) (joined_own b i ms run are all.1)
+
+merged_joined : (i : ℕ) (ms : List MapPairs) (run : MapPairs) → AreBuckets 0 ms → i < length ms → AllIn (0 + i) run → AllIn (0 + i) (map_at ms i) → all_pairs (with_map ms i (merged (map_at ms i) run)) ≡ merged (all_pairs ms) run
+merged_joined i ms run are there inside own =
+    sym (ap (with_pairs (all_pairs ms)) (joined_own 0 i ms run are inside)
+    ∙ filled_joined 0 i ms (joined_pairs (map_at ms i) run) are there (joined_all (LiesIn (0 + i)) (map_at ms i) run inside) own)
+
+pub in_merged : (b : ℕ) (m run : MapPairs) → AllIn b m → AllIn b run → AllIn b (merged m run)
+in_merged b m run own inside = in_filled b m (joined_pairs m run) own (joined_all (LiesIn b) m run inside)
+
+differs_joined : (i : ℕ) (ms : List MapPairs) (run n : MapPairs) → AreBuckets 0 ms → i < length ms → AllIn (0 + i) run → AllIn (0 + i) n → DiffersAt run (map_at ms i) n → DiffersAt run (all_pairs ms) (all_pairs (with_map ms i n))
+differs_joined i ms run n are there inside new differs =
+    let key : ℕ = differs.0 in
+    let lies : LiesIn (0 + i) key = all_at (LiesIn (0 + i)) run key inside differs.1 in
+    let before : found key (all_pairs ms) ≡ found key (map_at ms i) = find_joined 0 i key ms are lies in
+    let after : found key (all_pairs (with_map ms i n)) ≡ found key n = find_joined 0 i key (with_map ms i n) (buckets_with 0 i n ms are new) lies ∙ ap (found key) (map_at-with ms i n there) in
+    (key, differs.1, λ same. differs.2 (sym after ∙ same ∙ before))
+
+-- ---- the maps, with one in its place that a run was merged with
+
+-- the map stays with its bucket, whether an allocation fails or not
+pub merged_stays : {A E : Type 0} (r : Result A E) (b : ℕ) (run m n : MapPairs) → AllIn b m → AllIn b run → OnOk r (n ≡ merged m run) → OnErr r (n ≡ m) → AllIn b n
+merged_stays (Ok a) b run m n own inside ok err = subst (AllIn b) (sym ok) (in_merged b m run own inside)
+merged_stays (Err e) b run m n own inside ok err = subst (AllIn b) (sym err) own
+
+pub merged_in_own : {A E : Type 0} (r : Result A E) (maps : List (BTreeMap ℕ PageHist)) (i : ℕ) (run : MapPairs) (m n : BTreeMap ℕ PageHist) (old : MapPairs) → AreBuckets 0 (pairs_of_maps maps) → i < length maps → AllIn (0 + i) run → AllIn (0 + i) (get_or maps i m).entries → all_pairs (pairs_of_maps maps) ≡ old
+    → OnOk r (n.entries ≡ merged (get_or maps i m).entries run) → OnOk r (all_with maps i n ≡ merged old run)
+merged_in_own (Err e) maps i run m n old are there inside own view ok = tt
+merged_in_own (Ok a) maps i run m n old are there inside own view ok =
+    let ms : List MapPairs = pairs_of_maps maps in
+    let at : map_at ms i ≡ (get_or maps i m).entries = map_at-of maps i m there in
+    let few : i < length ms = subst (λ k. i < k) (sym (length-pairs_of maps)) there in
+    ap all_pairs (pairs_of-set maps i n)
+    ∙ ap (λ t. all_pairs (with_map ms i t)) (ok ∙ ap (λ t. merged t run) (sym at))
+    ∙ merged_joined i ms run are few inside (subst (AllIn (0 + i)) (sym at) own)
+    ∙ ap (λ t. merged t run) view
+
+pub tells_in_own : {E : Type 0} (r : Result Bool E) (maps : List (BTreeMap ℕ PageHist)) (i : ℕ) (run : MapPairs) (m n : BTreeMap ℕ PageHist) (old : MapPairs) → AreBuckets 0 (pairs_of_maps maps) → i < length maps → AllIn (0 + i) run → AllIn (0 + i) n.entries → all_pairs (pairs_of_maps maps) ≡ old
+    → IfOk r (λ changed. TellsChange changed run (get_or maps i m).entries n.entries) → IfOk r (λ changed. TellsChange changed run old (all_with maps i n))
+tells_in_own (Err e) maps i run m n old are there inside new view tells = tt
+tells_in_own (Ok b) maps i run m n old are there inside new view tells =
+    let ms : List MapPairs = pairs_of_maps maps in
+    let at : map_at ms i ≡ (get_or maps i m).entries = map_at-of maps i m there in
+    let few : i < length ms = subst (λ k. i < k) (sym (length-pairs_of maps)) there in
+    let set : all_with maps i n ≡ all_pairs (with_map ms i n.entries) = ap all_pairs (pairs_of-set maps i n) in (
+      (λ yes.
+          let differs : DiffersAt run (map_at ms i) n.entries = subst (λ t. DiffersAt run t n.entries) (sym at) (tells.0 yes) in
+          subst (DiffersAt run old) (sym set) (subst (λ t. DiffersAt run t (all_pairs (with_map ms i n.entries))) view (differs_joined i ms run n.entries are few inside new differs))),
+      λ no. set ∙ ap (λ t. all_pairs (with_map ms i t)) (tells.1 no ∙ sym at) ∙ ap all_pairs (with_same ms i) ∙ view,
+    )

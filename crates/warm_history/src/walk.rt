@@ -1,0 +1,248 @@
+//! A run and the map of its bucket, merged in one walk: both are in the order of their keys, so
+//! they are read in step, and no key is looked up from the map's root.
+//!
+//! The walk only reads, and lists what changes. New pairs are put in next, and taken out again
+//! where an allocation fails; the values that change are written last, which cannot fail.
+ghost use Rattle.std.specs.Prelude.{◌≡◌, ◌≢◌, ◌<◌, ◌≤◌, ◌++◌, IfNone, IfOk, IfSome, IsSome, OnErr, OnOk, Some, length};
+ghost use Rattle.std.specs.List.{AllByRecursion};
+ghost use Rattle.std.specs.BTreeMap.{insert_entry};
+ghost use Rattle.std.specs.Ordering.{nat_cmp};
+ghost use Rattle.warm_history.specs.ListHistories.{hist_stamps, latest_of};
+ghost use Rattle.warm_history.specs.BucketMaps.{KeysAscend, found};
+ghost use Rattle.warm_history.specs.MapPairs.{MapPairs};
+ghost use Rattle.warm_history.specs.Runs.{with_pairs};
+ghost use Rattle.warm_history.specs.Walks.{
+  AddsPart,
+  AreAbsent,
+  AreParts,
+  AreThere,
+  HoldsFrom,
+  SameElsewhere,
+  TellsChange,
+  merged,
+  pairs_ahead,
+};
+
+use crate::bucket_maps::MAX_PAIRS;
+use crate::packed::{Packed, merge_into, prove_two_latest};
+use std::alloc::{AllocError, Global};
+use std::collections::BTreeMap;
+use std::collections::btree_map::Range;
+
+// Past so many pairs that the run lacks, the next key is looked up: so a run that has few of the
+// pairs in its range costs no more than a look-up and these steps for each of its own.
+const NEAR: usize = 16;
+
+// The pairs of a map that a walk has ahead: the first, and those after it.
+#[derive(Drop)]
+pub(crate) struct Ahead<'a> {
+    first: Option<(&'a u128, &'a Packed)>,
+    later: Range<'a, u128, Packed>,
+}
+
+// What a run changes in a map.
+#[derive(Drop)]
+struct Parts {
+    // The values that change.
+    changed: Vec<(u128, Packed)>,
+    // The pairs whose keys are new.
+    fresh: Vec<(u128, Packed)>,
+}
+
+// Takes in a run of the map's bucket, and returns whether that changes the map. Where an allocation
+// fails, it changes nothing.
+pub(crate) fn merge_run(
+    alloc: Global,
+    map: &mut BTreeMap<u128, Packed>,
+    run: &[(u128, Packed)],
+) -> Result<bool, AllocError>
+    requires rise { KeysAscend map.old.entries }
+    requires run { KeysAscend run.now }
+    ensures ok { OnOk result (map.new.entries ≡ merged map.old.entries run.now) }
+    ensures tells { IfOk result
+        (λ changed. TellsChange changed run.now map.old.entries map.new.entries) }
+    ensures err { OnErr result (map.new.entries ≡ map.old.entries) }
+    ensures small { length map.old.entries < MAX_PAIRS → length map.new.entries < MAX_PAIRS }
+{
+    let Parts { changed, fresh } = compare(alloc, map, run)?;
+    let changes = changed.len() + fresh.len();
+    if changes == 0 {
+        return Ok(false);
+    }
+    put_all_in(map, &fresh)?;
+    write_all(map, &changed);
+    Ok(true)
+}
+
+// The pairs of a map from a key on.
+fn ahead_from(map: &BTreeMap<u128, Packed>, key: u128) -> Ahead<'_>
+    requires { KeysAscend map.now.entries }
+    ensures holds { HoldsFrom key (pairs_ahead result) map.now.entries }
+    ensures on { AllByRecursion (λ e. key ≤ e.0) (pairs_ahead result) }
+{
+    let mut later = map.range(key..);
+    let first = later.next();
+    Ahead { first, later }
+}
+
+// The value at a key, where the map has one. The walk goes on from the key: keys are asked for in
+// rising order.
+fn find<'a>(map: &'a BTreeMap<u128, Packed>, ahead: &mut Ahead<'a>, key: u128) -> Option<Packed>
+    requires rise { KeysAscend map.now.entries }
+    requires from { HoldsFrom key (pairs_ahead ahead.old) map.now.entries }
+    ensures value { result ≡ found key map.now.entries }
+    ensures from { HoldsFrom key (pairs_ahead ahead.new) map.now.entries }
+{
+    for _step in 0..NEAR {
+        let Some((at, hist)) = ahead.first else {
+            return None;
+        };
+        if key < *at {
+            return None;
+        }
+        if key == *at {
+            return Some(*hist);
+        }
+        ahead.first = ahead.later.next();
+    }
+    *ahead = ahead_from(map, key);
+    let Some((at, hist)) = ahead.first else {
+        return None;
+    };
+    if key == *at {
+        return Some(*hist);
+    }
+    None
+}
+
+// Adds a pair of a run to the values that change, where it changes the one known at its key, or to
+// the pairs that are new.
+fn add_part(
+    changed: &mut Vec<(u128, Packed)>,
+    fresh: &mut Vec<(u128, Packed)>,
+    key: u128,
+    more: Packed,
+    known: Option<Packed>,
+) -> Result<(), AllocError>
+    ensures { OnOk result
+        (AddsPart known key more changed.old.items fresh.old.items changed.new.items fresh.new.items) }
+{
+    let Some(before) = known else {
+        prove_two_latest(&more);
+        fresh.push((key, more))?;
+        return Ok(());
+    };
+    if let Some(now) = changed_by(more, before) {
+        changed.push((key, now))?;
+    }
+    Ok(())
+}
+
+// The value with more stamps, where they change it.
+fn changed_by(more: Packed, before: Packed) -> Option<Packed>
+    ensures now { IfSome result (λ h. Some h ≡ latest_of (hist_stamps more ++ hist_stamps before)) }
+    ensures differs { IfSome result (λ h. h ≢ before) }
+    ensures same { IfNone result (Some before ≡ latest_of (hist_stamps more ++ hist_stamps before)) }
+{
+    let mut now = before;
+    let _before = merge_into(&mut now, more)?;
+    Some(now)
+}
+
+// What a run changes in a map. It only reads.
+fn compare(
+    alloc: Global,
+    map: &BTreeMap<u128, Packed>,
+    run: &[(u128, Packed)],
+) -> Result<Parts, AllocError>
+    requires rise { KeysAscend map.now.entries }
+    requires run { KeysAscend run.now }
+    ensures { IfOk result
+        (λ parts. AreParts map.now.entries run.now parts.changed.items parts.fresh.items) }
+{
+    let mut changed = Vec::with_capacity(alloc, run.len())?;
+    let mut fresh = Vec::with_capacity(alloc, run.len())?;
+    let Some(first) = run.first() else {
+        return Ok(Parts { changed, fresh });
+    };
+    let mut ahead = ahead_from(map, first.0);
+    for pair in run {
+        let (key, more) = *pair;
+        let known = find(map, &mut ahead, key);
+        add_part(&mut changed, &mut fresh, key, more, known)?;
+    }
+    Ok(Parts { changed, fresh })
+}
+
+// Puts in pairs whose keys are new or, where an allocation fails, none.
+fn put_all_in(map: &mut BTreeMap<u128, Packed>, fresh: &[(u128, Packed)]) -> Result<(), AllocError>
+    requires rise { KeysAscend map.old.entries }
+    requires run { KeysAscend fresh.now }
+    requires absent { AreAbsent fresh.now map.old.entries }
+    ensures ok { OnOk result (map.new.entries ≡ with_pairs map.old.entries fresh.now) }
+    ensures err { OnErr result (map.new.entries ≡ map.old.entries) }
+    ensures small { length map.old.entries < MAX_PAIRS → length map.new.entries < MAX_PAIRS }
+{
+    if map.len() + fresh.len() >= MAX_PAIRS {
+        return Err(AllocError);
+    }
+    match insert_each(map, fresh) {
+        Ok(()) => Ok(()),
+        Err(fault) => {
+            take_out(map, fresh);
+            Err(fault)
+        }
+    }
+}
+
+// Inserts pairs one by one. Where an allocation fails, some may be in.
+fn insert_each(map: &mut BTreeMap<u128, Packed>, pairs: &[(u128, Packed)]) -> Result<(), AllocError>
+    requires rise { KeysAscend map.old.entries }
+    requires run { KeysAscend pairs.now }
+    ensures ok { OnOk result (map.new.entries ≡ with_pairs map.old.entries pairs.now) }
+    ensures others { SameElsewhere pairs.now map.old.entries map.new.entries }
+    ensures rise { KeysAscend map.new.entries }
+{
+    for pair in pairs {
+        let (key, hist) = *pair;
+        map.insert(key, hist)?;
+    }
+    Ok(())
+}
+
+// Takes out the values at the keys of these pairs, as far as they are in. Allocation-free.
+fn take_out(map: &mut BTreeMap<u128, Packed>, pairs: &[(u128, Packed)])
+    requires { KeysAscend map.old.entries }
+    ensures { (old : MapPairs) → KeysAscend old → AreAbsent pairs.now old
+        → SameElsewhere pairs.now old map.old.entries → map.new.entries ≡ old }
+{
+    for pair in pairs {
+        let _ = map.remove(&pair.0);
+    }
+}
+
+// Writes values at keys that are there. Allocation-free.
+fn write_all(map: &mut BTreeMap<u128, Packed>, pairs: &[(u128, Packed)])
+    requires rise { KeysAscend map.old.entries }
+    requires run { KeysAscend pairs.now }
+    requires there { AreThere pairs.now map.old.entries }
+    ensures entries { map.new.entries ≡ with_pairs map.old.entries pairs.now }
+    ensures len { length map.new.entries ≡ length map.old.entries }
+{
+    for pair in pairs {
+        let (key, hist) = *pair;
+        write(map, key, hist);
+    }
+}
+
+fn write(map: &mut BTreeMap<u128, Packed>, key: u128, hist: Packed)
+    requires rise { KeysAscend map.old.entries }
+    requires there { IsSome (found key map.old.entries) }
+    ensures entries { map.new.entries ≡ insert_entry nat_cmp map.old.entries key hist }
+    ensures len { length map.new.entries ≡ length map.old.entries }
+{
+    let Some(known) = map.get_mut(&key) else {
+        unreachable!()
+    };
+    *known = hist;
+}
