@@ -1,5 +1,5 @@
 //! The contest of a pool's slots for the least key.
-ghost use Rattle.std.specs.Prelude.{◌≡◌, ◌<◌, ◌≤◌, length, replicate, set, is_some, IfOk, Some, None};
+ghost use Rattle.std.specs.Prelude.{◌≡◌, ◌<◌, ◌≤◌, length, replicate, set, is_some, IfOk, None};
 ghost use Rattle.std.specs.Ordering.{is_gt};
 ghost use Rattle.warm_rank.specs.Behind.{IsBehind, AreRepaired, lowered};
 ghost use Rattle.warm_rank.specs.Keys.{key_cmp};
@@ -66,12 +66,12 @@ impl Contest {
         play_above(&self.keys, &mut self.nodes, slot);
     }
 
-    /// Sets the key of a slot where this one is less, or where the slot has none. Allocation-free.
-    pub fn lower(&mut self, slot: usize, key: RankKey)
+    /// Sets the key of a slot where this one is less than the slot's; no key is the greatest.
+    /// Allocation-free.
+    pub fn lower(&mut self, slot: usize, key: Option<RankKey>)
         requires { slot < length self.old }
-        ensures { self.new ≡ lowered key_cmp self.old slot (Some key) }
+        ensures { self.new ≡ lowered key_cmp self.old slot key }
     {
-        let key = Some(key);
         let known = self.keys.key(slot);
         if is_after(&known, &key) {
             self.set(slot, key);
@@ -139,7 +139,7 @@ impl Contest {
         ensures { self.new ≡ C.keys current.now }
     {
         set_each(&mut self.keys, current);
-        play_all(&self.keys, &mut self.nodes);
+        play_all(&self.keys, &mut self.nodes)
     }
 
     /// The slot of the least key, of equal keys the lesser slot; `None` where no slot has a key.
