@@ -1,6 +1,7 @@
 //! Calls of a pool, each in a function of its own, whose contract keeps the history by which the
 //! pool is ranked, and which prints the result.
 ghost use Rattle.std.specs.Prelude.{IfOk, IfSome};
+ghost use Rattle.warm_pool.specs.Keeping.{KeepsRanks};
 ghost use Rattle.warm_pool.specs.State.{IsRankedByAll, RankedBy};
 
 use crate::line::{Asked, asked_in};
@@ -155,7 +156,9 @@ fn read(rt: &impl Print, pool: &Pool<Failing>, slot: Slot) -> Result<()> {
     Ok(println!(rt; "")?)
 }
 
-fn show(rt: &impl Print, pool: &Pool<Failing>) -> Result<()> {
+fn show(rt: &impl Print, pool: &mut Pool<Failing>) -> Result<()>
+    ensures { KeepsRanks pool.old pool.new }
+{
     print!(rt; "resident")?;
     for dev in 0..SHOWN.0 {
         for no in 0..SHOWN.1 {

@@ -56,7 +56,8 @@ struct Face {
     victim: Option<PageId>,
 }
 
-fn face_of(node: &Node<MemDevice>) -> Face {
+fn face_of(node: &mut Node<MemDevice>) -> Face {
+    let victim = node.victim();
     let history = node.history();
     let mut checksum = 0u64;
     for place in 0..history.len() {
@@ -72,7 +73,7 @@ fn face_of(node: &Node<MemDevice>) -> Face {
         horizon: history.horizon(),
         pages: history.len(),
         checksum,
-        victim: node.victim(),
+        victim,
     }
 }
 

@@ -6,6 +6,7 @@
 //! What must not fail ends the process where it does: a `?` would be one more exit path, on which
 //! the drops of all owned values are proved.
 ghost use Rattle.std.specs.Prelude.{◌≤◌, length};
+ghost use Rattle.warm_pool.specs.Keeping.{KeepsRanks};
 ghost use Rattle.warm_pool.specs.State.{IsRankedByAll, RankedBy};
 
 mod let_go;
@@ -269,7 +270,9 @@ enum Row<'a> {
 }
 
 // Whether a test case that changes nothing gives its expected result.
-fn shows<D: PageDevice>(rt: &impl Abort, pool: &Pool<D>, row: Row<'_>) -> bool {
+fn shows<D: PageDevice>(rt: &impl Abort, pool: &mut Pool<D>, row: Row<'_>) -> bool
+    ensures { KeepsRanks pool.old pool.new }
+{
     match row {
         Row::Leaves(no) => pool.victim() == Some(page(no)),
         Row::NoneLeaves => pool.victim().is_none(),

@@ -256,7 +256,7 @@ pub extern "C" fn warm_victim(
         handle.new.held.node }
     ensures closed { handle.old.held.node ≡ None → (found.new ≡ found.old) × (page.new ≡ page.old) }
 {
-    let Some(node) = handle.take(alloc) else {
+    let Some(mut node) = handle.take(alloc) else {
         return closed();
     };
     put_page(node.victim(), found, page);

@@ -56,8 +56,8 @@ impl OpenNode {
     }
 
     /// Calls [`warm_gossip::Node::victim`].
-    pub fn victim(&self) -> Option<PageId>
-        ensures { Replies Victim self.now (Page result) self.now }
+    pub fn victim(&mut self) -> Option<PageId>
+        ensures { Replies Victim self.old (Page result) self.new }
     {
         self.node.victim()
     }

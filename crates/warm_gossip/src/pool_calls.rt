@@ -98,8 +98,9 @@ impl<D: PageDevice> Node<D> {
     }
 
     /// The page that would be evicted next, where there is one: the call `Victim`. Allocation-free.
-    pub fn victim(&self) -> Option<PageId>
-        ensures { Goes self.now Victim (Page result) self.now }
+    pub fn victim(&mut self) -> Option<PageId>
+        ensures step { Goes self.old Victim (Page result) self.new }
+        ensures same { self.new ≡ self.old }
     {
         self.pool.victim()
     }

@@ -1,12 +1,17 @@
 -- Frames as they are stored: their pages, their statuses and the rest of each, in lists of one
 -- length.
 use Rattle.std.proofs.Common.{◌≡◌, ◌≢◌, ℕ, zero, suc, ◌<◌, List, [], ◌∷◌, length, map, set, get_or, replicate, Option, Some, None, refl, sym, ◌∙◌, ap, subst, arith}
-use Rattle.std.proofs.lemmas.List.{map-set, set-get_or, length-map, length-set, length-replicate, get_or_read}
+use Rattle.std.proofs.lemmas.List.{set-get_or, length-set, length-replicate, get_or_read}
 use Rattle.warm_stamps.specs.declared.PageId.{PageId}
 use Rattle.warm_rank.specs.declared.RankKey.{RankKey}
+use Rattle.warm_rank.specs.Keys.{key_cmp}
+use Rattle.warm_rank.specs.Slots.{key_at}
+use Rattle.warm_rank.specs.Behind.{IsBehind, AreRepaired}
 use Rattle.warm_pool.specs.declared.frame.Status.{Status}
-use Rattle.warm_pool.specs.Frames.{FrameState, FrameBody, FramesState, AreTied, nth_frame, fresh_frame, fresh_body, unused_status, rank_in, frame_of, frames_of, eviction_key}
+use Rattle.warm_pool.specs.Frames.{FrameState, FrameBody, FramesState, AreTied, LagsBehind, nth_frame, fresh_frame, fresh_body, unused_status, rank_in, frame_of, frames_of, eviction_key}
 use Rattle.warm_pool.specs.FrameSteps.{changed_at, pages_held}
+use Rattle.warm_pool.proofs.Slots.{at_set}
+use Rattle.warm_pool.proofs.Lagging.{IsTold, fresh_lag, all_behind, all_repaired}
 
 -- the frames of a pool whose pages have this size
 abbrev pub kept : ℕ → List (Option PageId) → List Status → List FrameBody → FramesState
@@ -48,9 +53,23 @@ changed (q ∷ ps) (r ∷ ss) [] (suc i) p s b = refl
 changed (q ∷ ps) (r ∷ ss) (c ∷ bs) zero p s b = refl
 changed (q ∷ ps) (r ∷ ss) (c ∷ bs) (suc i) p s b = ap (λ fs. frame_of q r c ∷ fs) (changed ps ss bs i p s b)
 
--- as many compete as there are frames
-pub contest_count : {ps : List (Option PageId)} {ss : List Status} {bs : List FrameBody} {contest : _} → AreTied ps ss bs contest → length contest ≡ length ps
-contest_count {ps} {ss} {bs} t = ap length t.contest_is ∙ length-map (frames_of ps ss bs) eviction_key ∙ count ps ss bs t.status_each t.body_each
+-- where a frame is, its page, its status and its body are
+pub within : (ps : List (Option PageId)) (ss : List Status) (bs : List FrameBody) (i : ℕ) → i < length (frames_of ps ss bs)
+    → (i < length ps) × (i < length ss) × (i < length bs)
+within [] ss bs i l = absurd (omega arith)
+within (p ∷ ps) [] bs i l = absurd (omega arith)
+within (p ∷ ps) (s ∷ ss) [] i l = absurd (omega arith)
+within (p ∷ ps) (s ∷ ss) (b ∷ bs) zero l = (omega arith, omega arith, omega arith)
+within (p ∷ ps) (s ∷ ss) (b ∷ bs) (suc i) l =
+    let rest = within ps ss bs i (omega arith) in (omega (arith, rest.0), omega (arith, rest.1), omega (arith, rest.2))
+
+pub nth_within : (ps : List (Option PageId)) (ss : List Status) (bs : List FrameBody) (i : ℕ) → i < length (frames_of ps ss bs)
+    → nth_frame (frames_of ps ss bs) i ≡ frame_kept ps ss bs i
+nth_within [] ss bs i l = absurd (omega arith)
+nth_within (p ∷ ps) [] bs i l = absurd (omega arith)
+nth_within (p ∷ ps) (s ∷ ss) [] i l = absurd (omega arith)
+nth_within (p ∷ ps) (s ∷ ss) (b ∷ bs) zero l = refl
+nth_within (p ∷ ps) (s ∷ ss) (b ∷ bs) (suc i) l = nth_within ps ss bs i (omega arith)
 
 -- What is seen of them
 
@@ -123,38 +142,48 @@ becomes {ps} {ps'} {ss} {ss'} {bs} {bs'} {size = size} t e i h c change is =
     ap (λ fs. record { page_size = size; frames = fs }) (become c ∙ ap (set (frames_of ps ss bs) i) (is ∙ ap change (sym here)))
     ∙ ap (λ w. changed_at w i change) e
 
--- they stay tied, where the contest was given the rank with which the page of the changed frame
--- competes
+-- they stay tied, where the contest was told of the changed frame
 pub stay_tied : {ps ps' : List (Option PageId)} {ss ss' : List Status} {bs bs' : List FrameBody} {contest contest' : _} {i : ℕ} {p : Option PageId} {s : Status} {b : FrameBody}
-    → AreTied ps ss bs contest → Changes ps ss bs i p s b ps' ss' bs' → contest' ≡ set contest i (eviction_key (frame_of p s b)) → AreTied ps' ss' bs' contest'
-stay_tied {ps} {ps'} {ss} {ss'} {bs} {bs'} {contest} {contest'} {i} {p} {s} {b} t c told =
+    → AreTied ps ss bs contest → Changes ps ss bs i p s b ps' ss' bs' → i < length ps → IsTold contest i (frame_of p s b) contest' → AreTied ps' ss' bs' contest'
+stay_tied {ps} {ps'} {ss} {ss'} {bs} {bs'} {contest} {contest'} {i} {p} {s} {b} t c there told =
     let room = ap length c.pages ∙ length-set ps i p in
+    let frames = frames_of ps ss bs in
     record {
       status_each = ap length c.statuses ∙ length-set ss i s ∙ t.status_each ∙ sym room;
       body_each = ap length c.bodies ∙ length-set bs i b ∙ t.body_each ∙ sym room;
-      contest_is = told ∙ ap (λ xs. set xs i (eviction_key (frame_of p s b))) t.contest_is ∙ sym (map-set eviction_key (frames_of ps ss bs) i (frame_of p s b))
-          ∙ ap (map eviction_key) (sym (become c));
+      contest_each = told.count ∙ t.contest_each ∙ sym room;
+      lags = subst (λ fs. (j : ℕ) → LagsBehind (key_at contest' j) (nth_frame fs j)) (sym (become c))
+          (at_set (fresh_frame []) (λ j f. LagsBehind (key_at contest' j) f) frames i (frame_of p s b)
+          (subst (λ n. i < n) (sym (count ps ss bs t.status_each t.body_each)) there) told.here
+          (λ j ne. subst (λ k. LagsBehind k (nth_frame frames j)) (sym (told.others j ne)) (t.lags j)));
     }
 
--- a rank that stays need not be set
-pub rank_stays : {ps : List (Option PageId)} {ss : List Status} {bs : List FrameBody} {contest : _} {size : ℕ} {v : FramesState}
-    → AreTied ps ss bs contest → kept size ps ss bs ≡ v → (i : ℕ) → i < length v.frames
-    → (key : Option RankKey) → key ≡ eviction_key (frame_kept ps ss bs i) → contest ≡ set contest i key
-rank_stays {ps} {ss} {bs} {contest} t e i h key is =
-    let frames = frames_of ps ss bs in
-    let here = nth ps ss bs i (has_page t e i h) t.status_each t.body_each in
-    t.contest_is ∙ ap (map eviction_key) (sym (set-get_or frames i (fresh_frame []))) ∙ map-set eviction_key frames i (nth_frame frames i)
-    ∙ ap (set (map eviction_key frames) i) (ap eviction_key here ∙ sym is) ∙ ap (λ xs. set xs i key) (sym t.contest_is)
+-- each has its slot
+pub has_slot : {ps : List (Option PageId)} {ss : List Status} {bs : List FrameBody} {contest : _} → AreTied ps ss bs contest → (i : ℕ) → i < length ps → i < length contest
+has_slot t i there = subst (λ n. i < n) (sym t.contest_each) there
+
+-- what the contest knows of one of them
+pub lags_at : {ps : List (Option PageId)} {ss : List Status} {bs : List FrameBody} {contest : _}
+    → AreTied ps ss bs contest → (i : ℕ) → i < length ps → LagsBehind (key_at contest i) (frame_kept ps ss bs i)
+lags_at {ps} {ss} {bs} {contest} t i there = subst (LagsBehind (key_at contest i)) (nth ps ss bs i there t.status_each t.body_each) (t.lags i)
+
+-- the contest is behind what competes, and stays tied as slots of it are repaired
+pub tied_behind : {ps : List (Option PageId)} {ss : List Status} {bs : List FrameBody} {contest : _} → AreTied ps ss bs contest → IsBehind key_cmp contest (map eviction_key (frames_of ps ss bs))
+tied_behind {ps} {ss} {bs} {contest} t = all_behind (frames_of ps ss bs) contest (t.contest_each ∙ sym (count ps ss bs t.status_each t.body_each)) t.lags
+
+pub repaired_tied : {ps : List (Option PageId)} {ss : List Status} {bs : List FrameBody} {contest contest' : _} → AreTied ps ss bs contest → AreRepaired contest (map eviction_key (frames_of ps ss bs)) contest' → AreTied ps ss bs contest'
+repaired_tied {ps} {ss} {bs} {contest} {contest'} t are = record {
+  status_each = t.status_each;
+  body_each = t.body_each;
+  contest_each = are.count ∙ t.contest_each;
+  lags = all_repaired (frames_of ps ss bs) contest contest' are t.lags;
+}
 
 -- Frames into which no page was put
 
 frames_fresh : (n : ℕ) (bytes : List ℕ) → frames_of (replicate n None) (replicate n unused_status) (replicate n (fresh_body bytes)) ≡ replicate n (fresh_frame bytes)
 frames_fresh zero bytes = refl
 frames_fresh (suc n) bytes = ap (λ fs. fresh_frame bytes ∷ fs) (frames_fresh n bytes)
-
-none_compete : (n : ℕ) (bytes : List ℕ) → map eviction_key (replicate n (fresh_frame bytes)) ≡ replicate n None
-none_compete zero bytes = refl
-none_compete (suc n) bytes = ap (λ ks. None ∷ ks) (none_compete n bytes)
 
 pub fresh_become : (n size : ℕ) {ps : List (Option PageId)} {ss : List Status} {bs : List FrameBody}
     → ps ≡ replicate n None → ss ≡ replicate n unused_status → bs ≡ replicate n (fresh_body (replicate size 0))
@@ -166,8 +195,10 @@ fresh_become n size {ps} {ss} {bs} p s b =
 pub fresh_tied : (n size : ℕ) {ps : List (Option PageId)} {ss : List Status} {bs : List FrameBody} {contest : List (Option RankKey)}
     → ps ≡ replicate n None → ss ≡ replicate n unused_status → bs ≡ replicate n (fresh_body (replicate size 0)) → contest ≡ replicate n None
     → AreTied ps ss bs contest
-fresh_tied n size p s b c = record {
+fresh_tied n size {contest = contest} p s b c = record {
   status_each = ap length s ∙ length-replicate n unused_status ∙ sym (ap length p ∙ length-replicate n None);
   body_each = ap length b ∙ length-replicate n (fresh_body (replicate size 0)) ∙ sym (ap length p ∙ length-replicate n None);
-  contest_is = c ∙ sym (none_compete n (replicate size 0)) ∙ sym (ap (map eviction_key) (fresh_become n size p s b));
+  contest_each = ap length c ∙ length-replicate n None ∙ sym (ap length p ∙ length-replicate n None);
+  lags = λ i. subst (λ fs. LagsBehind (key_at contest i) (nth_frame fs i)) (sym (fresh_become n size p s b))
+      (subst (λ ks. LagsBehind (key_at ks i) (nth_frame (replicate n (fresh_frame (replicate size 0))) i)) (sym c) (fresh_lag n (replicate size 0) i));
 }

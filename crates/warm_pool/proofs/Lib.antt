@@ -8,6 +8,7 @@ pub mod Examples
 pub mod FlushLemmas
 pub mod FrameParts
 pub mod Keeps
+pub mod Lagging
 pub mod Loads
 pub mod MoveLemmas
 pub mod Opens

@@ -1,6 +1,6 @@
 -- One frame or one device of a list, after one of them changed.
-use Rattle.std.proofs.Common.{◌≡◌, ◌≢◌, ℕ, ◌+◌, ◌<◌, ◌==◌, true, false, List, length, map, set, get_or, cond, Option, None, refl, sym, ◌∙◌, ap, subst, inl, inr, arith}
-use Rattle.std.proofs.lemmas.Bool.{cases_eq, ne_eqb}
+use Rattle.std.proofs.Common.{◌≡◌, ◌≢◌, ℕ, ◌<◌, ◌==◌, true, false, List, length, map, set, get_or, cond, Option, refl, sym, ◌∙◌, subst, inl, inr}
+use Rattle.std.proofs.lemmas.Bool.{cases_eq}
 use Rattle.std.proofs.lemmas.List.{get_or-set_same, get_or-set_other, length-map, ext_get_or}
 use Rattle.std.proofs.Math.ListN.{get_or-map as mapped}
 use Rattle.warm_rank.specs.declared.RankKey.{RankKey}
@@ -20,9 +20,6 @@ same_maps f d xs ys count same =
     ext_get_or (f d) (map f xs) (map f ys) (length-map xs f ∙ count ∙ sym (length-map ys f))
     (λ i _. mapped f xs i d ∙ same i ∙ sym (mapped f ys i d))
 
--- a pinned page doesn't compete, and neither does a frame without a rank
-pub fixed_key : (n : ℕ) (key : Option RankKey) → cond ((n + 1) == 0) key None ≡ None
-fixed_key n key = ap (λ t. cond t key None) (ne_eqb (n + 1) 0 (λ e. absurd (omega arith)))
-
+-- a frame without a rank doesn't compete
 pub bare_key : (n : ℕ) (none : Option RankKey) → cond (n == 0) none none ≡ none
 bare_key n none = elim (n == 0) as (λ t. cond t none none ≡ none) [ true ↦ refl | false ↦ refl ]

@@ -1,16 +1,17 @@
 -- Pages that leave their frames, from the first frame on.
-use Rattle.std.proofs.Common.{◌≡◌, ℕ, zero, suc, ◌<◌, cond, true, false, IsTrue, List, [], ◌∷◌, ◌++◌, map, take, drop, length, set, Option, Some, None, refl, sym, ap, ◌∙◌, subst, arith}
+use Rattle.std.proofs.Common.{◌≡◌, ℕ, zero, suc, ◌<◌, cond, true, false, IsTrue, List, [], ◌∷◌, ◌++◌, map, take, drop, length, set, Option, None, refl, sym, ap, ◌∙◌, subst, arith}
 use Rattle.std.proofs.Math.Path.{ap₂}
 use Rattle.std.proofs.lemmas.List.{length-map}
 use Rattle.warm_stamps.specs.declared.PageId.{PageId}
 use Rattle.warm_rank.specs.declared.RankKey.{RankKey}
-use Rattle.warm_rank.specs.Slots.{key_while, keys_while}
+use Rattle.warm_rank.specs.Slots.{key_at, keys_while}
+use Rattle.warm_rank.proofs.VacantLemmas.{length-keys_while}
 use Rattle.warm_pool.specs.Chains.{page_in}
 use Rattle.warm_pool.specs.declared.frame.Status.{Status}
-use Rattle.warm_pool.specs.Frames.{FrameState, FrameBody, FramesState, AreTied, nth_frame, cleaned, vacated, frame_of, frames_of, eviction_key}
+use Rattle.warm_pool.specs.Frames.{FrameState, FrameBody, FramesState, AreTied, LagsBehind, nth_frame, cleaned, vacated, frame_of, frames_of}
 use Rattle.warm_pool.specs.WritingBack.{selects, cleaned_selected}
 use Rattle.warm_pool.specs.Retiring.{AreClean, clear_if, vacate_if, vacated_selected}
-use Rattle.warm_pool.proofs.Slots.{bare_key}
+use Rattle.warm_pool.proofs.Lagging.{all_cleared as all_lag}
 use Rattle.warm_pool.proofs.FrameParts.{kept}
 use Rattle.warm_pool.proofs.ClosingLemmas.{nth_page}
 use Rattle.warm_pool.specs.declared.selection.Devices.{Devices}
@@ -53,25 +54,6 @@ all_cleared which (p ∷ ps) (s ∷ ss) [] h k clean = absurd (omega arith)
 all_cleared which (p ∷ ps) (s ∷ ss) (b ∷ bs) h k clean =
     ap₂ (λ (f : FrameState) (rest : List FrameState). f ∷ rest) (one_cleared which p s b (clean 0)) (all_cleared which ps ss bs (omega arith) (omega arith) (λ i. clean (suc i)))
 
--- what competes among them
-one_competes : (which : Devices) (page : Option PageId) (status : Status) (body : FrameBody) → key_while (clear_if which page) (eviction_key (frame_of page status body)) ≡ eviction_key (frame_of (clear_if which page) status body)
-one_competes which None status body = elim (selects which None) as (λ t. key_while (let left : Option PageId = cond t None None in left) (eviction_key (frame_of None status body)) ≡ eviction_key (frame_of (cond t None None) status body)) [
-  | true ↦ sym (bare_key status.fixes None)
-  | false ↦ sym (bare_key status.fixes None)
-]
-one_competes which (Some page) status body = elim (selects which (Some page)) as (λ t. key_while (cond t None (Some page)) (eviction_key (frame_of (Some page) status body)) ≡ eviction_key (frame_of (cond t None (Some page)) status body)) [
-  | true ↦ sym (bare_key status.fixes None)
-  | false ↦ refl
-]
-
-all_compete : (which : Devices) (ps : List (Option PageId)) (ss : List Status) (bs : List FrameBody) → length ss ≡ length ps → length bs ≡ length ps
-    → keys_while (map (clear_if which) ps) (map eviction_key (frames_of ps ss bs)) ≡ map eviction_key (frames_of (map (clear_if which) ps) ss bs)
-all_compete which [] ss bs h k = refl
-all_compete which (p ∷ ps) [] bs h k = absurd (omega arith)
-all_compete which (p ∷ ps) (s ∷ ss) [] h k = absurd (omega arith)
-all_compete which (p ∷ ps) (s ∷ ss) (b ∷ bs) h k =
-    ap₂ (λ (key : Option RankKey) (rest : List (Option RankKey)). key ∷ rest) (one_competes which p s b) (all_compete which ps ss bs (omega arith) (omega arith))
-
 module _ {ps ps' : List (Option PageId)} {ss : List Status} {bs : List FrameBody} {contest : List (Option RankKey)} {size : ℕ} {v : FramesState} (which : Devices) (tied : AreTied ps ss bs contest) (seen : kept size ps ss bs ≡ v) (clear : ps' ≡ map (clear_if which) ps) where
   pub vacated_seen : AreClean which v.frames → kept size ps' ss bs ≡ record v { frames = vacated_selected which v.frames }
   vacated_seen clean =
@@ -80,13 +62,15 @@ module _ {ps ps' : List (Option PageId)} {ss : List Status} {bs : List FrameBody
       ∙ ap (λ (w : FramesState). let left : FramesState = record w { frames = vacated_selected which w.frames } in left) seen
 
   pub vacated_tied : {contest' : List (Option RankKey)} → contest' ≡ keys_while ps' contest → AreTied ps' ss bs contest'
-  vacated_tied told =
+  vacated_tied {contest'} told =
       let count = ap length clear ∙ length-map ps (clear_if which) in
       record {
         status_each = tied.status_each ∙ sym count;
         body_each = tied.body_each ∙ sym count;
-        contest_is = told ∙ ap₂ (λ (held : List (Option PageId)) (keys : List (Option RankKey)). keys_while held keys) clear tied.contest_is
-            ∙ all_compete which ps ss bs tied.status_each tied.body_each ∙ ap (λ pages. map eviction_key (frames_of pages ss bs)) (sym clear);
+        contest_each = ap length told ∙ length-keys_while ps' contest ∙ tied.contest_each ∙ sym count;
+        lags = subst (λ pages. (i : ℕ) → LagsBehind (key_at contest' i) (nth_frame (frames_of pages ss bs) i)) (sym clear)
+            (subst (λ keys. (i : ℕ) → LagsBehind (key_at keys i) (nth_frame (frames_of (map (clear_if which) ps) ss bs) i)) (sym (told ∙ ap (λ pages. keys_while pages contest) clear))
+            (all_lag which ps ss bs contest tied.status_each tied.body_each tied.contest_each tied.lags));
       }
 
 -- Frames whose pages were written back

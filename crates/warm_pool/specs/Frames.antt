@@ -1,7 +1,10 @@
 -- The frames of a pool as plain data.
-use Rattle.std.specs.Prelude.{◌≡◌, ℕ, ◌==◌, Bool, false, List, [], ◌∷◌, length, map, Option, Some, None, slice_index_or, if◌then◌else◌}
+use Rattle.std.specs.Prelude.{◌≡◌, ◌⊎◌, ℕ, ◌==◌, Bool, false, List, [], ◌∷◌, length, Option, Some, None, slice_index_or, if◌then◌else◌}
+use Rattle.std.specs.Ordering.{is_gt}
 use Rattle.warm_stamps.specs.declared.PageId.{PageId}
 use Rattle.warm_rank.specs.declared.RankKey.{RankKey}
+use Rattle.warm_rank.specs.Keys.{key_cmp}
+use Rattle.warm_rank.specs.Slots.{key_at, set_first_cmp}
 use Rattle.warm_pool.specs.declared.frame.Status.{Status}
 
 -- A frame: its page and the page's rank, its generation (how many pages have been loaded into it),
@@ -80,8 +83,16 @@ abbrev pub frames_of : List (Option PageId) → List Status → List FrameBody �
 frames_of (page ∷ pages) (status ∷ statuses) (body ∷ bodies) = frame_of page status body ∷ frames_of pages statuses bodies
 frames_of pages statuses bodies = []
 
--- each frame has a status and a body, and the ranks in the contest are those of the frames
+-- What the contest knows of a frame may lag behind: the slot's key is at most the rank with which
+-- the page competes, where no key is the greatest. A key that the slot has is at most the page's
+-- rank, pinned or not.
+pub record LagsBehind (key : Option RankKey) (f : FrameState) : Type 0 where
+  pub competes : is_gt (set_first_cmp key_cmp key (eviction_key f)) ≡ false
+  pub ranked : (key ≡ None) ⊎ (is_gt (set_first_cmp key_cmp key f.key) ≡ false)
+
+-- each frame has a status, a body and a slot of the contest, which may lag behind it
 pub record AreTied (pages : List (Option PageId)) (statuses : List Status) (bodies : List FrameBody) (contest : List (Option RankKey)) : Type 0 where
   pub status_each : length statuses ≡ length pages
   pub body_each : length bodies ≡ length pages
-  pub contest_is : contest ≡ map eviction_key (frames_of pages statuses bodies)
+  pub contest_each : length contest ≡ length pages
+  pub lags : (i : ℕ) → LagsBehind (key_at contest i) (nth_frame (frames_of pages statuses bodies) i)

@@ -1,6 +1,6 @@
 -- Emptying a pool, closing it, and retiring a device: why a call is refused, its effect, and the
 -- steps of its body.
-use Rattle.std.specs.Prelude.{ℕ, ◌≡◌, ◌≢◌, ◌<◌, ◌≤◌, false, IsTrue, List, [], map, length, Option, Some, None, if◌then◌else◌, set}
+use Rattle.std.specs.Prelude.{ℕ, ◌≡◌, ◌≢◌, ◌<◌, ◌≤◌, false, IsTrue, List, [], map, length, Option, None, if◌then◌else◌, set}
 use Rattle.warm_stamps.specs.declared.PageId.{PageId}
 use Rattle.warm_devices.specs.Device.{DeviceState, page_at}
 use Rattle.warm_pool.specs.Frames.{FrameState, nth_frame, vacated}

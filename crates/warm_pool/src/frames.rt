@@ -2,12 +2,13 @@
 ghost use Rattle.std.specs.Prelude.{◌≡◌, ◌≢◌, None, ◌+◌, ◌-◌, ◌^◌, ◌<◌, ◌≤◌, map, length, replicate, IfOk};
 ghost use Rattle.warm_rank.specs.Keys.{key_cmp};
 ghost use Rattle.warm_rank.specs.Slots.{IsLeast};
-ghost use Rattle.warm_pool.specs.Frames.{nth_frame, fresh_body, unused_status, eviction_key, key_unless_fixed, cleaned};
+ghost use Rattle.warm_pool.specs.Frames.{nth_frame, fresh_body, unused_status, eviction_key, cleaned};
 ghost use Rattle.warm_pool.specs.FrameSteps.{fresh_frames, fresh_bodies, pages_held, changed_at, fixed, unfixed, ranked, loaded_frame, filled_body, written};
 ghost use Rattle.warm_pool.specs.PageBytes.{patched};
 ghost use Rattle.warm_pool.specs.PageTable.{IsPlaceOf, IsFirstFree};
 ghost use Rattle.warm_pool.specs.Retiring.{AreClean, vacated_selected};
 
+use crate::competing::Competing;
 use crate::frame::{Frame, Status};
 use crate::page_table::PageTable;
 use crate::selection::Devices;
@@ -132,11 +133,18 @@ impl Frames {
         self.page_table.first_free()
     }
 
-    /// The frame of the least rank among those of unpinned pages.
-    pub(crate) fn least(&self) -> Option<usize>
-        ensures { IsLeast key_cmp (map eviction_key self.now.frames) result }
+    /// The frame of the least rank among those of unpinned pages. The contest is told here what it
+    /// doesn't know yet: it knows of no pin, and of no rank that has risen.
+    pub(crate) fn least(&mut self) -> Option<usize>
+        ensures same { self.new ≡ self.old }
+        ensures least { IsLeast key_cmp (map eviction_key self.old.frames) result }
     {
-        self.contest.least()
+        let competing = Competing {
+            pages: self.page_table.pages(),
+            statuses: &self.statuses,
+            frames: &self.frames,
+        };
+        self.contest.settle(&competing)
     }
 
     /// Adds a pin.
@@ -147,7 +155,6 @@ impl Frames {
     {
         let status = &mut self.statuses[at];
         status.fixes += 1;
-        self.contest.set(at, None);
     }
 
     /// Removes a pin. An unpinned page may be evicted.
@@ -159,8 +166,14 @@ impl Frames {
     {
         let status = &mut self.statuses[at];
         status.fixes -= 1;
-        let key = leaving(status.fixes, &self.frames[at]);
-        self.contest.set(at, key);
+        if status.fixes > 0 {
+            return;
+        }
+        // A key that the contest has is at most the page's rank.
+        if self.contest.is_set(at) {
+            return;
+        }
+        self.contest.set(at, self.frames[at].key);
     }
 
     /// Updates the rank of a page.
@@ -171,8 +184,8 @@ impl Frames {
     {
         let frame = &mut self.frames[at];
         frame.key = Some(key);
-        let key = leaving(self.statuses[at].fixes, frame);
-        self.contest.set(at, key);
+        let key = frame.key;
+        self.contest.lower(at, key);
     }
 
     /// Loads a page with this pin count into a frame, and swaps the frame's bytes with these.
@@ -192,13 +205,13 @@ impl Frames {
     {
         let frame = &mut self.frames[at];
         fill(frame, key, bytes);
-        let key = leaving(fixes, frame);
+        let rank = frame.key;
         self.statuses[at] = Status {
             fixes,
             dirty: false,
         };
         self.page_table.set(at, Some(page));
-        self.contest.set(at, key);
+        self.contest.lower(at, rank);
     }
 
     /// Marks the page of a frame as clean.
@@ -287,11 +300,4 @@ fn overwrite(frame: &mut Frame, from: usize, bytes: &[u8])
     ensures { frame.new ≡ record frame.old { bytes = patched frame.old.bytes from bytes.now } }
 {
     frame.bytes[from..from + bytes.len()].copy_from_slice(bytes);
-}
-
-// The rank with which a frame's page of this pin count competes for eviction.
-fn leaving(fixes: u32, frame: &Frame) -> Option<RankKey>
-    ensures { result ≡ key_unless_fixed fixes frame.now.key }
-{
-    if fixes == 0 { frame.key } else { None }
 }

@@ -20,6 +20,7 @@
 #![tactic(auto)]
 
 mod close;
+mod competing;
 mod device_list;
 mod fault;
 mod flush;

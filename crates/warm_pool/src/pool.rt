@@ -298,8 +298,13 @@ impl<D: PageDevice> Pool<D> {
     /// The page that would be evicted next, as a history ranks the pool: of the unpinned resident
     /// pages, the one of the greatest backward 2-distance; `None` where there is none. The contract
     /// says nothing of a pool that no history ranks, as [`Pool::refresh`] may leave it.
-    pub fn victim(&self) -> Option<PageId>
-        ensures { IsNextVictim self.now result }
+    ///
+    /// Pins, and ranks that have risen since, are looked at only here and as a page is loaded: so
+    /// the call changes the pool inside, and nothing that a contract sees.
+    pub fn victim(&mut self) -> Option<PageId>
+        ensures same { self.new ≡ self.old }
+        ensures ranked { KeepsRanks self.old self.new }
+        ensures victim { IsNextVictim self.old result }
     {
         let at = self.frames.least()?;
         self.frames.page(at)
@@ -484,11 +489,12 @@ impl<D: PageDevice> Pool<D> {
     }
 
     // The frame into which a page is loaded.
-    fn frame_to_load(&self) -> Option<usize>
-        ensures place { IsNextFrameToLoad self.now result }
-        ensures there { IfSome result (λ at. at < length self.now.frames) }
+    fn frame_to_load(&mut self) -> Option<usize>
+        ensures same { self.new ≡ self.old }
+        ensures place { IsNextFrameToLoad self.old result }
+        ensures there { IfSome result (λ at. at < length self.old.frames) }
         ensures unfixed { IfSome result (λ at. (nth_frame
-            self.now.frames at).fixes ≡ 0) }
+            self.old.frames at).fixes ≡ 0) }
     {
         match self.frames.first_free() {
             Some(at) => Some(at),
@@ -524,6 +530,37 @@ impl<D: PageDevice> Pool<D> {
         let Some(at) = self.frame_to_load() else {
             return Err(PoolFault::AllFixed);
         };
+        self.load_at(at, page, history, fixes)
+    }
+
+    // Loads a page that is in no frame into the frame to load, with this pin count.
+    fn load_at(
+        &mut self,
+        at: usize,
+        page: PageId,
+        history: &History,
+        fixes: u32,
+    ) -> Result<Placed, PoolFault>
+        requires ranked { RankedBy self.old history.now }
+        requires known { HasPage (view_of self.old) page }
+        requires absent { IsNowhere self.old.frames page }
+        requires place { IsNextFrameToLoad self.old (Some at) }
+        requires there { at < length self.old.frames }
+        ensures ranked { RankedBy self.new history.now }
+        ensures put { IfOk result (λ placed. PutsIn history.now
+            (view_of self.old) page fixes placed.slot
+            (view_of self.new)) }
+        ensures evicted { IfOk result (λ placed. placed.evicted
+            ≡ (nth_frame self.old.frames placed.slot.index).page) }
+        ensures frame { IfOk result (λ placed. TakesFrame
+            self.old page placed.slot self.new) }
+        ensures refused { IfErr result (λ fault. PutRefused history.now
+            (view_of self.old) page fault (view_of self.new)) }
+        ensures frames { OnErr result (KeepsFrames
+            self.old self.new) }
+        ensures devices { IfErr result (λ fault. LeavesDevices history.now
+            self.old page fault self.new) }
+    {
         let evicted = self.frames.page(at);
         if self.frames.generation(at) < u64::MAX {
             let key = rank_of(history, page);

@@ -1,3 +1,4 @@
+pub mod BehindLemmas
 pub mod Counting
 mod Examples
 pub mod KeyLemmas

@@ -1,4 +1,5 @@
 pub mod Backward
+pub mod Behind
 pub mod Greatest
 pub mod Keys
 pub mod Laws

@@ -17,6 +17,7 @@ ghost use Rattle.warm_history.specs.Histories.{StandsFor};
 ghost use Rattle.warm_rank.specs.Keys.{rank_key, ranked_page};
 ghost use Rattle.warm_rank.specs.Ranking.{eviction_cmp};
 
+mod current;
 pub mod laws;
 mod packed;
 mod slot_keys;
@@ -24,6 +25,7 @@ mod slots;
 mod warm_up;
 mod winners;
 
+pub use current::CurrentKeys;
 pub use slots::Contest;
 use std::cmp::Ordering;
 use warm_history::{History, PageHist};

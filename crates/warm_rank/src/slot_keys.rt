@@ -56,6 +56,17 @@ impl<K: Ord + Copy> SlotKeys<K> {
         self.is_set[slot]
     }
 
+    /// The key of a slot.
+    pub(crate) fn key(&self, slot: usize) -> Option<K>
+        requires { slot < length self.now }
+        ensures { result ≡ key_at self.now slot }
+    {
+        if self.is_set[slot] {
+            return Some(self.keys[slot]);
+        }
+        None
+    }
+
     /// Sets or clears the key of a slot.
     pub(crate) fn set(&mut self, slot: usize, key: Option<K>)
         requires { slot < length self.old }

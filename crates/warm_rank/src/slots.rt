@@ -1,8 +1,11 @@
 //! The contest of a pool's slots for the least key.
-ghost use Rattle.std.specs.Prelude.{◌≡◌, ◌<◌, ◌≤◌, length, replicate, set, IfOk, None};
+ghost use Rattle.std.specs.Prelude.{◌≡◌, ◌<◌, ◌≤◌, length, replicate, set, is_some, IfOk, None};
+ghost use Rattle.std.specs.Ordering.{is_gt};
+ghost use Rattle.warm_rank.specs.Behind.{IsBehind, AreRepaired, lowered};
 ghost use Rattle.warm_rank.specs.Keys.{key_cmp};
-ghost use Rattle.warm_rank.specs.Slots.{IsLeast, keys_while};
+ghost use Rattle.warm_rank.specs.Slots.{IsLeast, key_at, keys_while, set_first_cmp};
 
+use crate::current::CurrentKeys;
 use crate::slot_keys::SlotKeys;
 use crate::winners::{number_leaves, play_above, play_all};
 use crate::{MAX_FRAMES, RankKey};
@@ -63,6 +66,34 @@ impl Contest {
         play_above(&self.keys, &mut self.nodes, slot);
     }
 
+    /// Sets the key of a slot where this one is less than the slot's; no key is the greatest.
+    /// Allocation-free.
+    pub fn lower(&mut self, slot: usize, key: Option<RankKey>)
+        requires { slot < length self.old }
+        ensures { self.new ≡ lowered key_cmp self.old slot key }
+    {
+        let known = self.keys.key(slot);
+        if is_after(&known, &key) {
+            self.set(slot, key);
+        }
+    }
+
+    /// Whether a slot has a key.
+    pub fn is_set(&self, slot: usize) -> bool
+        requires { slot < length self.now }
+        ensures { result ≡ is_some (key_at self.now slot) }
+    {
+        self.keys.is_set(slot)
+    }
+
+    /// The key of a slot.
+    pub fn key(&self, slot: usize) -> Option<RankKey>
+        requires { slot < length self.now }
+        ensures { result ≡ key_at self.now slot }
+    {
+        self.keys.key(slot)
+    }
+
     /// Clears the key of each slot that is vacant in this list of the slots' contents, and leaves
     /// the others. All matches are played once, however many slots are cleared. Allocation-free.
     pub fn clear_vacant<T>(&mut self, held: &[Option<T>])
@@ -76,6 +107,41 @@ impl Contest {
         play_all(&self.keys, &mut self.nodes);
     }
 
+    /// The slot of the least current key, of equal keys the lesser slot; `None` where no slot has a
+    /// current key. No key of the contest may come after the current one of its slot. Slots whose
+    /// keys lag are given their current keys as they come first, or all at once where more than a
+    /// sixteenth of them do: so no call takes longer than a few plays of all matches.
+    /// Allocation-free.
+    pub fn settle<C: CurrentKeys>(&mut self, current: &C) -> Option<usize>
+        requires { IsBehind key_cmp self.old (C.keys current.now) }
+        ensures repaired { AreRepaired self.old (C.keys current.now) self.new }
+        ensures least { IsLeast key_cmp (C.keys current.now) result }
+    {
+        let repairs = self.keys.len() / 16 + 1;
+        for _repair in 0..repairs {
+            let Some(at) = self.least() else {
+                return None;
+            };
+            let key = current.key(at);
+            let known = self.key(at);
+            if !is_after(&key, &known) {
+                return Some(at);
+            }
+            self.set(at, key);
+        }
+        self.set_all(current);
+        self.least()
+    }
+
+    // Gives each slot its current key, and plays all matches once.
+    fn set_all<C: CurrentKeys>(&mut self, current: &C)
+        requires { length self.old ≡ length (C.keys current.now) }
+        ensures { self.new ≡ C.keys current.now }
+    {
+        set_each(&mut self.keys, current);
+        play_all(&self.keys, &mut self.nodes)
+    }
+
     /// The slot of the least key, of equal keys the lesser slot; `None` where no slot has a key.
     /// Allocation-free.
     pub fn least(&self) -> Option<usize>
@@ -87,6 +153,29 @@ impl Contest {
         } else {
             None
         }
+    }
+}
+
+// Whether a key comes after another; none comes last.
+fn is_after(key: &Option<RankKey>, other: &Option<RankKey>) -> bool
+    ensures { result ≡ is_gt (set_first_cmp key_cmp key.now other.now) }
+{
+    let Some(other) = other else {
+        return false;
+    };
+    match key {
+        None => true,
+        Some(key) => key.cmp(other).is_gt(),
+    }
+}
+
+// Gives each slot its current key.
+fn set_each<C: CurrentKeys>(keys: &mut SlotKeys<RankKey>, current: &C)
+    requires { length keys.old ≡ length (C.keys current.now) }
+    ensures { keys.new ≡ C.keys current.now }
+{
+    for slot in 0..keys.len() {
+        keys.set(slot, current.key(slot));
     }
 }
 

@@ -1,8 +1,8 @@
-use Rattle.std.proofs.Common.{None, ◌+◌, [], ap, sym, refl, ◌∙◌, set, get_or, arith}
-use Rattle.warm_pool.specs.Frames.{frame_of, fresh_body, rank_in}
+use Rattle.std.proofs.Common.{None, ◌+◌, [], ap, refl, ◌∙◌, get_or, arith}
+use Rattle.warm_pool.specs.Frames.{frame_of, fresh_body}
 use Rattle.warm_pool.specs.FrameSteps.{fixed}
-use Rattle.warm_pool.proofs.Slots.{fixed_key}
-use Rattle.warm_pool.proofs.FrameParts.{has_status, status_is, seen, page_stays, body_stays, stay_tied, becomes}
+use Rattle.warm_pool.proofs.Lagging.{untold, lags_fixed}
+use Rattle.warm_pool.proofs.FrameParts.{has_page, has_status, lags_at, status_is, seen, page_stays, body_stays, stay_tied, becomes}
 use Rattle.warm_pool.proofs.frames.Frames.fix.Goals as goal
 
 pub index_mut-status-requires : goal.index_mut-status-requires
@@ -16,10 +16,9 @@ overflow_add-status c =
 
 pub invariant_of-self : goal.invariant_of-self
 invariant_of-self c =
-    let page = get_or c.self.inside.page_table c.args.at None in
-    let body = get_or c.self.inside.frames.items c.args.at (fresh_body []) in
-    stay_tied c.self.invariant (record { pages = page_stays _ c.args.at; statuses = refl; bodies = body_stays _ c.args.at })
-    (c.set.ensures ∙ ap (set c.self.inside.contest c.args.at) (sym (fixed_key c.index_mut-status.result.now.fixes (rank_in page body.key))))
+    let there = has_page c.self.invariant c.self.view_is c.args.at c.requires.there in
+    stay_tied c.self.invariant (record { pages = page_stays _ c.args.at; statuses = refl; bodies = body_stays _ c.args.at }) there
+    (untold _ c.args.at _ (lags_fixed _ _ _ (lags_at c.self.invariant c.args.at there) (omega arith) refl))
 
 pub returns : goal.returns
 returns c =

@@ -1,8 +1,9 @@
 use Rattle.std.proofs.Common.{◌+◌, ◌≤◌, length, None, true, ap, sym, subst, refl, ◌∙◌, get_or}
-use Rattle.warm_pool.specs.Frames.{frame_of, eviction_key, unused_status}
+use Rattle.warm_pool.specs.Frames.{frame_of, rank_in, unused_status}
 use Rattle.warm_pool.specs.FrameSteps.{written}
 use Rattle.warm_pool.specs.PageBytes.{patched}
-use Rattle.warm_pool.proofs.FrameParts.{has_status, has_body, status_is, body_is, seen, page_stays, rank_stays, stay_tied, becomes}
+use Rattle.warm_pool.proofs.Lagging.{untold, lags_kept}
+use Rattle.warm_pool.proofs.FrameParts.{has_page, has_status, has_body, status_is, body_is, seen, page_stays, lags_at, stay_tied, becomes}
 use Rattle.warm_pool.proofs.frames.Frames.patch.Goals as goal
 
 pub index_mut-requires : goal.index_mut-requires
@@ -20,14 +21,13 @@ index_mut-status-requires c = has_status c.self.invariant c.self.view_is c.args.
 pub invariant_of-self : goal.invariant_of-self
 invariant_of-self c =
     let page = get_or c.self.inside.page_table c.args.at None in
-    let status = get_or c.self.inside.statuses.items c.args.at unused_status in
     let now = c.index_mut-status.result.now in
     let status_now = status_is c.self.invariant c.self.view_is c.args.at c.requires.there now c.index_mut-status.ensures.value in
     let body_now = body_is c.self.invariant c.self.view_is c.args.at c.requires.there _ c.index_mut.result.now refl c.index_mut.ensures.value in
-    stay_tied c.self.invariant (record { pages = page_stays _ c.args.at; statuses = refl; bodies = refl })
-    (rank_stays c.self.invariant c.self.view_is c.args.at c.requires.there _
-    (ap (λ b. eviction_key (frame_of page now b)) c.overwrite.ensures
-    ∙ ap (λ s. eviction_key (frame_of page s c.index_mut.result.now)) status_now ∙ ap (λ b. eviction_key (frame_of page status b)) body_now))
+    let there = has_page c.self.invariant c.self.view_is c.args.at c.requires.there in
+    stay_tied c.self.invariant (record { pages = page_stays _ c.args.at; statuses = refl; bodies = refl }) there
+    (untold _ c.args.at _ (lags_kept _ _ _ (lags_at c.self.invariant c.args.at there) (ap (λ s. s.fixes) status_now)
+    (ap (λ b. rank_in page b.key) c.overwrite.ensures ∙ ap (λ b. rank_in page b.key) body_now)))
 
 pub returns : goal.returns
 returns c =

@@ -1,25 +1,24 @@
-use Rattle.std.proofs.Common.{◌≢◌, None, Some, [], ap, sym, refl, ◌∙◌, set, get_or}
-use Rattle.warm_pool.specs.Frames.{frame_of, fresh_body, unused_status, key_unless_fixed}
+use Rattle.std.proofs.Common.{◌≢◌, None, Some, [], ap, sym, subst, refl, ◌∙◌, get_or}
+use Rattle.warm_pool.specs.Frames.{frame_of, fresh_body, unused_status}
 use Rattle.warm_pool.specs.FrameSteps.{ranked}
-use Rattle.warm_pool.proofs.FrameParts.{has_status, has_body, status_is, body_is, rank_of_page, seen, page_stays, status_stays, stay_tied, becomes}
+use Rattle.warm_pool.proofs.Lagging.{IsTold, told_lower}
+use Rattle.warm_pool.proofs.FrameParts.{has_page, has_slot, has_body, body_is, rank_of_page, seen, page_stays, status_stays, stay_tied, becomes}
 use Rattle.warm_pool.proofs.frames.Frames.rank.Goals as goal
 
 pub index_mut-frame-requires : goal.index_mut-frame-requires
 index_mut-frame-requires c = has_body c.self.invariant c.self.view_is c.args.at c.requires.there c.self.inside.frames.ok.0
 
-pub index-requires : goal.index-requires
-index-requires c = has_status c.self.invariant c.self.view_is c.args.at c.requires.there c.self.inside.statuses.ok.0
+pub lower-requires : goal.lower-requires
+lower-requires c = has_slot c.self.invariant c.args.at (has_page c.self.invariant c.self.view_is c.args.at c.requires.there)
 
 pub invariant_of-self : goal.invariant_of-self
 invariant_of-self c =
+    let there = has_page c.self.invariant c.self.view_is c.args.at c.requires.there in
     let page = get_or c.self.inside.page_table c.args.at None in
-    let status = get_or c.self.inside.statuses.items c.args.at unused_status in
-    let is = status_is c.self.invariant c.self.view_is c.args.at c.requires.there c.index.result.now c.index.ensures in
     let some : page ≢ None = λ none. c.requires.held (ap (λ f. f.page) (sym (seen c.self.invariant c.self.view_is c.args.at c.requires.there)) ∙ none) in
-    stay_tied c.self.invariant (record { pages = page_stays _ c.args.at; statuses = status_stays _ c.args.at; bodies = refl })
-    (c.set.ensures ∙ ap (set c.self.inside.contest c.args.at)
-    (c.leaving-key.ensures ∙ ap (λ s. key_unless_fixed s.fixes (Some c.args.key)) is
-    ∙ ap (key_unless_fixed status.fixes) (sym (rank_of_page page (Some c.args.key) some))))
+    stay_tied c.self.invariant (record { pages = page_stays _ c.args.at; statuses = status_stays _ c.args.at; bodies = refl }) there
+    (subst (IsTold c.self.inside.contest c.args.at _) (sym c.lower.ensures)
+    (told_lower c.self.inside.contest c.args.at _ (Some c.args.key) (has_slot c.self.invariant c.args.at there) (rank_of_page page (Some c.args.key) some)))
 
 pub returns : goal.returns
 returns c =

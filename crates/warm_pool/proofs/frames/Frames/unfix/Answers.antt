@@ -1,7 +1,8 @@
-use Rattle.std.proofs.Common.{◌≢◌, None, ◌-◌, [], ap, sym, refl, ◌∙◌, set, get_or, arith}
-use Rattle.warm_pool.specs.Frames.{frame_of, fresh_body, key_unless_fixed}
+use Rattle.std.proofs.Common.{◌≢◌, ◌-◌, None, [], ap, sym, subst, refl, ◌∙◌, get_or, arith}
+use Rattle.warm_pool.specs.Frames.{frame_of, fresh_body}
 use Rattle.warm_pool.specs.FrameSteps.{unfixed}
-use Rattle.warm_pool.proofs.FrameParts.{has_status, has_body, status_is, body_is, rank_of_page, seen, page_stays, body_stays, stay_tied, becomes}
+use Rattle.warm_pool.proofs.Lagging.{IsTold, untold, told, lags_fixed, lags_set}
+use Rattle.warm_pool.proofs.FrameParts.{has_page, has_slot, has_status, has_body, status_is, body_is, rank_of_page, seen, page_stays, body_stays, lags_at, stay_tied, becomes}
 use Rattle.warm_pool.proofs.frames.Frames.unfix.Goals as goal
 
 pub index_mut-status-requires : goal.index_mut-status-requires
@@ -13,19 +14,56 @@ overflow_sub-status c =
     let fixes = ap (λ s. s.fixes) is ∙ ap (λ f. f.fixes) (seen c.self.invariant c.self.view_is c.args.at c.requires.there) in
     omega (arith, fixes, c.requires.fixed)
 
+pub is_set-requires : goal.is_set-requires
+is_set-requires c = has_slot c.self.invariant c.args.at (has_page c.self.invariant c.self.view_is c.args.at c.requires.there)
+
 pub index-requires : goal.index-requires
 index-requires c = has_body c.self.invariant c.self.view_is c.args.at c.requires.there c.self.inside.frames.ok.0
 
+pub set-requires : goal.set-requires
+set-requires c = has_slot c.self.invariant c.args.at (has_page c.self.invariant c.self.view_is c.args.at c.requires.there)
+
+-- a page that is still pinned
 pub invariant_of-self : goal.invariant_of-self
 invariant_of-self c =
+    let there = has_page c.self.invariant c.self.view_is c.args.at c.requires.there in
+    stay_tied c.self.invariant (record { pages = page_stays _ c.args.at; statuses = refl; bodies = body_stays _ c.args.at }) there
+    (untold _ c.args.at _ (lags_fixed _ _ _ (lags_at c.self.invariant c.args.at there) c.if-status-gt0.true refl))
+
+pub returns-then-status-gt0 : goal.returns-then-status-gt0
+returns-then-status-gt0 c =
+    let is = status_is c.self.invariant c.self.view_is c.args.at c.requires.there c.index_mut-status.result.now c.index_mut-status.ensures.value in
     let page = get_or c.self.inside.page_table c.args.at None in
     let body = get_or c.self.inside.frames.items c.args.at (fresh_body []) in
-    let fixes = c.index_mut-status.result.now.fixes - 1 in
+    becomes c.self.invariant c.self.view_is c.args.at c.requires.there (record { pages = page_stays _ c.args.at; statuses = refl; bodies = body_stays _ c.args.at })
+    unfixed (ap (λ s. frame_of page (record s { fixes = s.fixes - 1 }) body) is)
+
+-- a slot that has a key
+pub invariant_of-self-then-is_set : goal.invariant_of-self-then-is_set
+invariant_of-self-then-is_set c =
+    let there = has_page c.self.invariant c.self.view_is c.args.at c.requires.there in
+    stay_tied c.self.invariant (record { pages = page_stays _ c.args.at; statuses = refl; bodies = body_stays _ c.args.at }) there
+    (untold _ c.args.at _ (lags_set _ _ _ (lags_at c.self.invariant c.args.at there) (sym c.is_set.ensures ∙ c.if-is_set.true) refl))
+
+pub returns-then-is_set : goal.returns-then-is_set
+returns-then-is_set c =
+    let is = status_is c.self.invariant c.self.view_is c.args.at c.requires.there c.index_mut-status.result.now c.index_mut-status.ensures.value in
+    let page = get_or c.self.inside.page_table c.args.at None in
+    let body = get_or c.self.inside.frames.items c.args.at (fresh_body []) in
+    becomes c.self.invariant c.self.view_is c.args.at c.requires.there (record { pages = page_stays _ c.args.at; statuses = refl; bodies = body_stays _ c.args.at })
+    unfixed (ap (λ s. frame_of page (record s { fixes = s.fixes - 1 }) body) is)
+
+-- the contest is told of the rank
+pub invariant_of-self-2 : goal.invariant_of-self-2
+invariant_of-self-2 c =
+    let there = has_page c.self.invariant c.self.view_is c.args.at c.requires.there in
+    let page = get_or c.self.inside.page_table c.args.at None in
+    let body = get_or c.self.inside.frames.items c.args.at (fresh_body []) in
     let is = body_is c.self.invariant c.self.view_is c.args.at c.requires.there _ c.index.result.now refl c.index.ensures in
     let some : page ≢ None = λ none. c.requires.held (ap (λ f. f.page) (sym (seen c.self.invariant c.self.view_is c.args.at c.requires.there)) ∙ none) in
-    stay_tied c.self.invariant (record { pages = page_stays _ c.args.at; statuses = refl; bodies = body_stays _ c.args.at })
-    (c.set.ensures ∙ ap (set c.self.inside.contest c.args.at)
-    (c.leaving-key.ensures ∙ ap (λ b. key_unless_fixed fixes b.key) is ∙ ap (key_unless_fixed fixes) (sym (rank_of_page page body.key some))))
+    stay_tied c.self.invariant (record { pages = page_stays _ c.args.at; statuses = refl; bodies = body_stays _ c.args.at }) there
+    (subst (IsTold c.self.inside.contest c.args.at _) (sym c.set.ensures)
+    (told c.self.inside.contest c.args.at _ _ (has_slot c.self.invariant c.args.at there) (rank_of_page page body.key some ∙ sym (ap (λ b. b.key) is) ∙ sym (ap (λ b. b.key) c.behind-self.view_is))))
 
 pub returns : goal.returns
 returns c =

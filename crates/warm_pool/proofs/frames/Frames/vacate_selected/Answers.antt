@@ -2,13 +2,12 @@ use Rattle.std.proofs.Common.{length, ap, sym, ◌∙◌}
 use Rattle.std.proofs.lemmas.List.{length-map}
 use Rattle.warm_rank.specs.Slots.{keys_while}
 use Rattle.warm_pool.specs.Retiring.{clear_if}
-use Rattle.warm_pool.proofs.FrameParts.{contest_count}
 use Rattle.warm_pool.proofs.VacateLemmas.{vacated_seen, vacated_tied}
 use Rattle.warm_pool.proofs.frames.Frames.vacate_selected.Goals as goal
 
 pub clear_vacant-requires : goal.clear_vacant-requires
 clear_vacant-requires c =
-    ap length (c.pages.ensures ∙ c.clear_selected.ensures) ∙ length-map c.self.inside.page_table (clear_if c.args.which) ∙ sym (contest_count c.self.invariant)
+    ap length (c.pages.ensures ∙ c.clear_selected.ensures) ∙ length-map c.self.inside.page_table (clear_if c.args.which) ∙ sym c.self.invariant.contest_each
 
 pub invariant_of-self : goal.invariant_of-self
 invariant_of-self c =

@@ -1,0 +1,71 @@
+use Rattle.std.proofs.Common.{◌≡◌, ◌<◌, length, refl, sym, subst, ◌∙◌, arith, ap}
+use Rattle.std.proofs.lemmas.List.{length-set}
+use Rattle.warm_pool.specs.Frames.{nth_frame}
+use Rattle.warm_pool.proofs.PoolSteps.{pool_seen, has_device, has_number, seen_generation}
+use Rattle.warm_pool.specs.View.{view_of}
+use Rattle.warm_pool.specs.Pinning.{PutsIn}
+use Rattle.warm_pool.proofs.Pins.{put_refused, failed_ranked, loaded_ranked, loaded_puts, loaded_slot}
+use Rattle.warm_pool.proofs.KeepingLemmas.{loaded_takes, failed_leaves}
+use Rattle.warm_pool.proofs.FlushLemmas.{handed_on}
+use Rattle.warm_pool.proofs.pool.Pool.load_at.Goals as goal
+
+pub load_into-requires-clause-below : goal.load_into-requires-clause-below
+load_into-requires-clause-below g c =
+    subst (λ n. n < 18446744073709551615) (c.generation.ensures ∙ ap (λ s. (nth_frame s.frames c.args.at).generation) c.self.view_is) c.if-generation-lt18446744073709551615.true
+
+pub load_into-requires-clause-device : goal.load_into-requires-clause-device
+load_into-requires-clause-device g c = has_device (pool_seen c.self.view_is c.self.invariant) _ c.requires.known
+
+pub load_into-requires-clause-known : goal.load_into-requires-clause-known
+load_into-requires-clause-known g c = has_number (pool_seen c.self.view_is c.self.invariant) _ c.requires.known
+
+pub returns-in_err-load_into-clause-ranked : goal.returns-in_err-load_into-clause-ranked
+returns-in_err-load_into-clause-ranked g c = failed_ranked c.args.self.now c.load_into.new.self c.args.at c.args.page _ c.in_err-load_into.ensures.refused c.args.history.now c.requires.ranked
+
+pub returns-in_err-load_into-clause-refused : goal.returns-in_err-load_into-clause-refused
+returns-in_err-load_into-clause-refused g c =
+    handed_on c.from_residual.result c.in_err-load_into.field-0.0 _ c.from_residual.ensures.1 (put_refused c.args.self.now c.load_into.new.self c.args.history.now c.args.at c.args.page (c.requires.place _ c.requires.ranked)
+    (subst (λ n. n < 18446744073709551615) (c.generation.ensures ∙ ap (λ s. (nth_frame s.frames c.args.at).generation) c.self.view_is) c.if-generation-lt18446744073709551615.true)
+    _ c.in_err-load_into.ensures.refused)
+
+pub returns-then-generation-lt18446744073709551615-clause-ranked : goal.returns-then-generation-lt18446744073709551615-clause-ranked
+returns-then-generation-lt18446744073709551615-clause-ranked g c =
+    loaded_ranked c.args.self.now c.load_into.new.self c.args.at c.args.page c.rank_of-key.result c.args.fixes c.in_ok-load_into.ensures.put
+    c.requires.there c.args.history.now c.rank_of-key.ensures c.requires.ranked
+
+pub returns-then-generation-lt18446744073709551615-clause-put : goal.returns-then-generation-lt18446744073709551615-clause-put
+returns-then-generation-lt18446744073709551615-clause-put g c =
+    let was : c.generation.result ≡ (nth_frame c.args.self.now.frames c.args.at).generation =
+    c.generation.ensures ∙ ap (λ s. (nth_frame s.frames c.args.at).generation) c.self.view_is in
+    subst (λ slot. PutsIn c.args.history.now (view_of c.args.self.now) c.args.page c.args.fixes slot (view_of c.load_into.new.self))
+    (sym (loaded_slot c.args.self.now c.load_into.new.self c.args.at c.args.page c.rank_of-key.result c.args.fixes c.in_ok-load_into.ensures.put
+    c.requires.there _ c.slot_at-slot.ensures c.generation.result was))
+    (loaded_puts c.args.self.now c.load_into.new.self c.args.at c.args.page c.rank_of-key.result c.args.fixes c.in_ok-load_into.ensures.put
+    c.args.history.now c.requires.absent (c.requires.place _ c.requires.ranked) c.generation.result was c.if-generation-lt18446744073709551615.true)
+
+pub returns-clause-refused : goal.returns-clause-refused
+returns-clause-refused g c =
+    let full : c.generation.result ≡ 18446744073709551615 = omega arith in (
+      (
+        c.args.at,
+        c.requires.place _ c.requires.ranked,
+        sym (seen_generation (pool_seen c.self.view_is c.self.invariant) c.args.at (c.generation.ensures ∙ ap (λ s. (nth_frame s.frames c.args.at).generation) c.self.view_is)) ∙ full,
+      ),
+      refl,
+    )
+
+pub returns-then-generation-lt18446744073709551615-clause-frame : goal.returns-then-generation-lt18446744073709551615-clause-frame
+returns-then-generation-lt18446744073709551615-clause-frame g c =
+    loaded_takes _ _ c.args.at c.args.page c.rank_of-key.result c.args.fixes c.in_ok-load_into.ensures.put c.requires.there c.requires.absent _ (ap (λ x. x.index) c.slot_at-slot.ensures)
+
+pub returns-in_err-load_into-clause-devices : goal.returns-in_err-load_into-clause-devices
+returns-in_err-load_into-clause-devices g c = handed_on c.from_residual.result c.in_err-load_into.field-0.0 _ c.from_residual.ensures.1 (failed_leaves c.args.history.now c.args.self.now _ c.args.at c.args.page (c.requires.place _ c.requires.ranked) _ c.in_err-load_into.ensures.refused)
+
+pub slot_at-slot-requires : goal.slot_at-slot-requires
+slot_at-slot-requires g c =
+    subst (λ n. c.args.at < n) (sym (ap length c.in_ok-load_into.ensures.put.frames ∙ length-set _ _ _)) c.requires.there
+
+pub returns-then-generation-lt18446744073709551615-clause-evicted : goal.returns-then-generation-lt18446744073709551615-clause-evicted
+returns-then-generation-lt18446744073709551615-clause-evicted g c =
+    c.page-evicted.ensures ∙ ap (λ s. (nth_frame s.frames c.args.at).page) c.self.view_is
+    ∙ ap (λ n. (nth_frame c.args.self.now.frames n).page) (sym (ap (λ x. x.index) c.slot_at-slot.ensures))
