@@ -1,7 +1,8 @@
 #!/usr/bin/env python3
 """Measures our pool from C beside Berkeley DB's Mpool and the block caches of RocksDB, and prints the tables of docs/PERFORMANCE.md.
 
-usage: measure.py LIBRARY [ROUNDS]      LIBRARY is the folder that scripts/c-library made; ROUNDS is 7 where it is not given
+usage: measure.py LIBRARY [ROUNDS]      LIBRARY is the folder that scripts/c-library made; ROUNDS is 7 where it is not given, and with 0
+                                        instructions alone are counted
 
 README.md says what is compared. It needs what bench/peers/install installs, C compilers (cc and c++, or what CC and CXX name), and 2 GB in
 /dev/shm for the file of the pages; where something is missing it says what, and ends with status 2. Each round runs all pools on all loads
@@ -139,13 +140,14 @@ class Bench:
 
 
 def main() -> None:
-    if len(sys.argv) not in (2, 3):
-        refuse(f"usage: measure.py LIBRARY [ROUNDS]\n\n{__doc__}")
-    rounds = int(sys.argv[2]) if len(sys.argv) == 3 else ROUNDS
+    library, *rest = sys.argv[1:] or [""]
+    if not library or len(rest) > 1 or not all(word.isdecimal() for word in rest):
+        refuse(f"the words are wrong\n\n{__doc__}")
+    rounds = int(rest[0]) if rest else ROUNDS
+    if not MEMORY.is_dir() or shutil.disk_usage(MEMORY).free < 1.1 * FILE_PAGES * PAGE_SIZE:
+        refuse(f"{MEMORY} has no room for a file of 2 GB")
     with tempfile.TemporaryDirectory() as built, tempfile.TemporaryDirectory(dir=MEMORY) as memory:
-        build(Path(sys.argv[1]).resolve(), Path(built))
-        if shutil.disk_usage(memory).free < 1.1 * FILE_PAGES * PAGE_SIZE:
-            refuse(f"{MEMORY} has no room for 2 GB")
+        build(Path(library).resolve(), Path(built))
         bench = Bench(Path(built), Path(memory) / "pages")
         print(f"load before: {os.getloadavg()[0]:.2f} on {len(os.sched_getaffinity(0))} processors; {rounds} rounds\n", flush=True)
         write_pages(bench.pages)
