@@ -3,6 +3,8 @@
 //! random. `warmplay threads FILE [--setup FILE]` plays a schedule of references and flushes by
 //! threads.
 #![tactic(auto)]
+ghost use Rattle.std.specs.Prelude.{◌≤◌, IfOk, length, map};
+ghost use Rattle.warmplay.specs.Lists.{EachFew};
 
 use std::alloc::Global;
 use std::env;
@@ -118,70 +120,80 @@ fn device_of(
     }
 }
 
-// How a schedule is played: line by line, or by threads.
-#[derive(Clone, Copy)]
-enum Player {
-    Lines,
-    Threads,
+// The devices of one replica, in the order of the setup.
+fn devices_of(
+    rt: &HostRuntime,
+    specs: &[DeviceSpec],
+    page_size: usize,
+    replica: u16,
+) -> Result<Vec<Box<dyn PageDevice + Send>>, ProgramFault>
+    ensures { IfOk result (λ devices. length devices.items ≤ length specs.now) }
+{
+    let mut devices: Vec<Box<dyn PageDevice + Send>> = Vec::new(rt.alloc());
+    for spec in specs {
+        let pushed = match device_of(rt, spec, page_size, replica)? {
+            DeviceBox::Memory(device) => devices.push(device),
+            DeviceBox::File(device) => devices.push(device),
+        };
+        pushed.map_err(|_| no_memory())?;
+    }
+    Ok(devices)
 }
 
-// Makes the devices, by replica and then by device, and plays to standard output through a buffer,
-// which is flushed at the end.
-fn play_over<T: Threads + Wait + Sync, R: Read>(
+// The devices of each replica of the setup. They are made by replica, and then by device.
+fn devices_for(
     rt: &HostRuntime,
-    threads: &T,
-    player: Player,
-    reader: &mut R,
     setup: Setup,
     specs: &[DeviceSpec],
-) -> Result<(), ProgramFault> {
+) -> Result<Vec<Vec<Box<dyn PageDevice + Send>>>, ProgramFault>
+    ensures { IfOk result (λ lists. EachFew (map (λ list. list.items) lists.items)) }
+{
     if specs.len() > MAX_DEVICES {
         return Err(ProgramFault::Play(PlayFault::BadDevices));
     }
     let page_size = setup.page_size() as usize;
-    let mut devices = Vec::new(rt.alloc());
-    for place in 0..setup.replicas() {
-        let mut list: Vec<Box<dyn PageDevice + Send>> = Vec::new(rt.alloc());
-        for spec in specs {
-            let pushed = match device_of(rt, spec, page_size, place + 1)? {
-                DeviceBox::Memory(device) => list.push(device),
-                DeviceBox::File(device) => list.push(device),
-            };
-            pushed.map_err(|_| no_memory())?;
-        }
-        devices.push(list).map_err(|_| no_memory())?;
+    let mut lists = Vec::new(rt.alloc());
+    for index in 0..setup.replicas() {
+        let devices = devices_of(rt, specs, page_size, index + 1)?;
+        lists.push(devices).map_err(|_| no_memory())?;
     }
-    let Ok(mut buffered) = BufWriter::with_capacity(rt.alloc(), OUTPUT_BUFFER_SIZE, rt.stdout())
-    else {
-        return Err(no_memory());
-    };
-    let played = match player {
-        Player::Lines => play(rt.alloc(), reader, &mut buffered, setup, devices),
-        Player::Threads => {
-            play_threads(threads, rt.alloc(), reader, &mut buffered, setup, devices)
-        }
-    };
-    played.map_err(ProgramFault::Play)
+    Ok(lists)
 }
 
-// Plays the file, or standard input where there is none.
-fn run_play<T: Threads + Wait + Sync>(
+// Plays line by line to standard output, through a buffer that is flushed at the end.
+fn play_lines<R: Read>(
     rt: &HostRuntime,
-    threads: &T,
+    reader: &mut R,
+    setup: Setup,
+    specs: &[DeviceSpec],
+) -> Result<(), ProgramFault> {
+    let devices = devices_for(rt, setup, specs)?;
+    let Ok(mut buffered) = BufWriter::with_capacity(rt.alloc(), OUTPUT_BUFFER_SIZE, rt.stdout()) else {
+        return Err(no_memory());
+    };
+    play(rt.alloc(), reader, &mut buffered, setup, devices).map_err(ProgramFault::Play)
+}
+
+// Plays the file line by line, or standard input where there is none.
+fn run_play(
+    rt: &HostRuntime,
     file: Option<PathText>,
     setup: Setup,
     specs: &[DeviceSpec],
 ) -> Result<(), ProgramFault> {
     let Some(path) = file else {
-        return play_over(rt, threads, Player::Lines, &mut rt.stdin(), setup, specs);
+        return play_lines(rt, &mut rt.stdin(), setup, specs);
     };
-    play_file(rt, threads, Player::Lines, path, setup, specs)
+    let Ok(mut schedule) = File::open(rt, path.as_str()) else {
+        return Err(ProgramFault::CannotOpen(path));
+    };
+    play_lines(rt, &mut schedule, setup, specs)
 }
 
-fn play_file<T: Threads + Wait + Sync>(
+// Plays the file by threads, likewise.
+fn run_threads<T: Threads + Wait + Sync>(
     rt: &HostRuntime,
     threads: &T,
-    player: Player,
     path: PathText,
     setup: Setup,
     specs: &[DeviceSpec],
@@ -189,13 +201,18 @@ fn play_file<T: Threads + Wait + Sync>(
     let Ok(mut schedule) = File::open(rt, path.as_str()) else {
         return Err(ProgramFault::CannotOpen(path));
     };
-    play_over(rt, threads, player, &mut schedule, setup, specs)
+    let devices = devices_for(rt, setup, specs)?;
+    let Ok(mut buffered) = BufWriter::with_capacity(rt.alloc(), OUTPUT_BUFFER_SIZE, rt.stdout()) else {
+        return Err(no_memory());
+    };
+    play_threads(threads, rt.alloc(), &mut schedule, &mut buffered, setup, devices).map_err(
+        ProgramFault::Play,
+    )
 }
 
 // Writes a schedule drawn at random through a buffer, which `random_schedule` flushes at the end.
 fn run_random(rt: &HostRuntime, seed: u64, events: u32, setup: Setup) -> Result<(), ProgramFault> {
-    let Ok(mut buffered) = BufWriter::with_capacity(rt.alloc(), OUTPUT_BUFFER_SIZE, rt.stdout())
-    else {
+    let Ok(mut buffered) = BufWriter::with_capacity(rt.alloc(), OUTPUT_BUFFER_SIZE, rt.stdout()) else {
         return Err(ProgramFault::Play(PlayFault::Memory));
     };
     random_schedule(&mut buffered, seed, events, &setup).map_err(ProgramFault::Play)
@@ -208,7 +225,7 @@ fn run<T: Threads + Wait + Sync>(rt: &HostRuntime, threads: &T) -> Result<(), Pr
     match parse_command(rt)? {
         Cmd::Play { file, setup } => {
             let (setup, specs) = setup_in(rt, setup)?;
-            run_play(rt, threads, file, setup, specs.as_slice())
+            run_play(rt, file, setup, specs.as_slice())
         }
         Cmd::Random {
             seed,
@@ -220,7 +237,7 @@ fn run<T: Threads + Wait + Sync>(rt: &HostRuntime, threads: &T) -> Result<(), Pr
         }
         Cmd::Threads { file, setup } => {
             let (setup, specs) = setup_in(rt, setup)?;
-            play_file(rt, threads, Player::Threads, file, setup, specs.as_slice())
+            run_threads(rt, threads, file, setup, specs.as_slice())
         }
     }
 }
