@@ -7,7 +7,9 @@ use Rattle.std.proofs.lemmas.List.{length-append, map-append}
 use Rattle.warm_devices.specs.Device.{DeviceState}
 use Rattle.warm_pool.specs.declared.TheConstants.{MAX_DEVICES}
 use Rattle.warm_world.specs.Opening.{AreFew}
-use Rattle.warmplay.specs.Lists.{EachFew}
+
+abbrev pub EachFew : {B : Type 0} → List (List B) → Type 0
+EachFew lists = (k : ℕ) → k < length lists → length (get_or lists k []) ≤ MAX_DEVICES
 
 pub none_yet : {B : Type 0} (lists : List (List B)) → length lists ≡ 0 → EachFew lists
 none_yet lists none = λ k lt. absurd (omega (arith, none, lt))

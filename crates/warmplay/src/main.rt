@@ -3,18 +3,16 @@
 //! random. `warmplay threads FILE [--setup FILE]` plays a schedule of references and flushes by
 //! threads.
 #![tactic(auto)]
-ghost use Rattle.std.specs.Prelude.{◌≤◌, IfOk, length, map};
-ghost use Rattle.warmplay.specs.Lists.{EachFew};
 
-use std::alloc::Global;
+mod devices;
+
+use crate::devices::{devices_for, no_memory};
 use std::env;
 use std::fs::{self, File};
 use std::io::{self, BufWriter, Read, Write};
 use std::process::ExitCode;
 use std::sync::Wait;
 use std::thread::Threads;
-use warm_devices::{FileDevice, MemDevice, OpenFault, PageDevice};
-use warm_pool::MAX_DEVICES;
 use warm_schedule::{PlayFault, play, random_schedule};
 use warm_setup::{
     Cmd, CmdFault, DeviceSpec, PathText, ProgramFault, SetupFault, command_of, non_utf8_argument,
@@ -63,104 +61,7 @@ fn setup_in(
     }
 }
 
-// A device of a replica, in a box.
-#[derive(Drop)]
-enum DeviceBox {
-    Memory(Box<MemDevice>),
-    File(Box<FileDevice>),
-}
-
-fn no_memory() -> ProgramFault {
-    ProgramFault::Play(PlayFault::Memory)
-}
-
-// A device in memory.
-fn in_memory(alloc: Global, pages: u32, page_size: usize) -> Result<DeviceBox, ProgramFault> {
-    let Ok(device) = MemDevice::new(alloc, u64::from(pages), page_size) else {
-        return Err(no_memory());
-    };
-    let Ok(device) = Box::new(alloc, device) else {
-        return Err(no_memory());
-    };
-    Ok(DeviceBox::Memory(device))
-}
-
-// A device over the file of the replica, which is named where it cannot be opened.
-fn in_file(
-    rt: &HostRuntime,
-    pages: u32,
-    page_size: usize,
-    path: &PathText,
-    replica: u16,
-) -> Result<DeviceBox, ProgramFault> {
-    let Ok(name) = path.of_replica(rt.alloc(), replica) else {
-        return Err(no_memory());
-    };
-    match FileDevice::open(rt, name.as_str(), u64::from(pages), page_size) {
-        Ok(device) => {
-            let Ok(device) = Box::new(rt.alloc(), device) else {
-                return Err(no_memory());
-            };
-            Ok(DeviceBox::File(device))
-        }
-        Err(OpenFault::Memory) => Err(no_memory()),
-        Err(OpenFault::Open) => Err(ProgramFault::CannotOpen(name)),
-    }
-}
-
-fn device_of(
-    rt: &HostRuntime,
-    spec: &DeviceSpec,
-    page_size: usize,
-    replica: u16,
-) -> Result<DeviceBox, ProgramFault> {
-    match &spec.path {
-        Some(path) => in_file(rt, spec.pages, page_size, path, replica),
-        None => in_memory(rt.alloc(), spec.pages, page_size),
-    }
-}
-
-// The devices of one replica, in the order of the setup.
-fn devices_of(
-    rt: &HostRuntime,
-    specs: &[DeviceSpec],
-    page_size: usize,
-    replica: u16,
-) -> Result<Vec<Box<dyn PageDevice + Send>>, ProgramFault>
-    ensures { IfOk result (λ devices. length devices.items ≤ length specs.now) }
-{
-    let mut devices: Vec<Box<dyn PageDevice + Send>> = Vec::new(rt.alloc());
-    for spec in specs {
-        let pushed = match device_of(rt, spec, page_size, replica)? {
-            DeviceBox::Memory(device) => devices.push(device),
-            DeviceBox::File(device) => devices.push(device),
-        };
-        pushed.map_err(|_| no_memory())?;
-    }
-    Ok(devices)
-}
-
-// The devices of each replica of the setup. They are made by replica, and then by device.
-fn devices_for(
-    rt: &HostRuntime,
-    setup: Setup,
-    specs: &[DeviceSpec],
-) -> Result<Vec<Vec<Box<dyn PageDevice + Send>>>, ProgramFault>
-    ensures { IfOk result (λ lists. EachFew (map (λ list. list.items) lists.items)) }
-{
-    if specs.len() > MAX_DEVICES {
-        return Err(ProgramFault::Play(PlayFault::BadDevices));
-    }
-    let page_size = setup.page_size() as usize;
-    let mut lists = Vec::new(rt.alloc());
-    for index in 0..setup.replicas() {
-        let devices = devices_of(rt, specs, page_size, index + 1)?;
-        lists.push(devices).map_err(|_| no_memory())?;
-    }
-    Ok(lists)
-}
-
-// Plays line by line to standard output, through a buffer that is flushed at the end.
+// Plays a schedule line by line to standard output, through a buffer that is flushed at the end.
 fn play_lines<R: Read>(
     rt: &HostRuntime,
     reader: &mut R,
@@ -168,7 +69,8 @@ fn play_lines<R: Read>(
     specs: &[DeviceSpec],
 ) -> Result<(), ProgramFault> {
     let devices = devices_for(rt, setup, specs)?;
-    let Ok(mut buffered) = BufWriter::with_capacity(rt.alloc(), OUTPUT_BUFFER_SIZE, rt.stdout()) else {
+    let Ok(mut buffered) = BufWriter::with_capacity(rt.alloc(), OUTPUT_BUFFER_SIZE, rt.stdout())
+    else {
         return Err(no_memory());
     };
     play(rt.alloc(), reader, &mut buffered, setup, devices).map_err(ProgramFault::Play)
@@ -190,7 +92,7 @@ fn run_play(
     play_lines(rt, &mut schedule, setup, specs)
 }
 
-// Plays the file by threads, likewise.
+// Plays the file by threads to standard output, likewise.
 fn run_threads<T: Threads + Wait + Sync>(
     rt: &HostRuntime,
     threads: &T,
@@ -202,18 +104,21 @@ fn run_threads<T: Threads + Wait + Sync>(
         return Err(ProgramFault::CannotOpen(path));
     };
     let devices = devices_for(rt, setup, specs)?;
-    let Ok(mut buffered) = BufWriter::with_capacity(rt.alloc(), OUTPUT_BUFFER_SIZE, rt.stdout()) else {
+    let Ok(mut buffered) = BufWriter::with_capacity(rt.alloc(), OUTPUT_BUFFER_SIZE, rt.stdout())
+    else {
         return Err(no_memory());
     };
-    play_threads(threads, rt.alloc(), &mut schedule, &mut buffered, setup, devices).map_err(
+    let alloc = rt.alloc();
+    play_threads(threads, alloc, &mut schedule, &mut buffered, setup, devices).map_err(
         ProgramFault::Play,
     )
 }
 
 // Writes a schedule drawn at random through a buffer, which `random_schedule` flushes at the end.
 fn run_random(rt: &HostRuntime, seed: u64, events: u32, setup: Setup) -> Result<(), ProgramFault> {
-    let Ok(mut buffered) = BufWriter::with_capacity(rt.alloc(), OUTPUT_BUFFER_SIZE, rt.stdout()) else {
-        return Err(ProgramFault::Play(PlayFault::Memory));
+    let Ok(mut buffered) = BufWriter::with_capacity(rt.alloc(), OUTPUT_BUFFER_SIZE, rt.stdout())
+    else {
+        return Err(no_memory());
     };
     random_schedule(&mut buffered, seed, events, &setup).map_err(ProgramFault::Play)
 }
