@@ -5,7 +5,7 @@
 //! where an allocation fails; the values that change are written last, which cannot fail.
 ghost use Rattle.std.specs.Prelude.{◌≡◌, ◌≢◌, ◌<◌, ◌≤◌, ◌++◌, IfNone, IfOk, IfSome, IsSome, OnErr, OnOk, Some, length};
 ghost use Rattle.std.specs.List.{AllByRecursion};
-ghost use Rattle.std.specs.BTreeMap.{insert_entry};
+ghost use Rattle.std.specs.BTreeMap.{IsFromIterResult, insert_entry};
 ghost use Rattle.std.specs.Ordering.{nat_cmp};
 ghost use Rattle.warm_history.specs.ListHistories.{hist_stamps, latest_of};
 ghost use Rattle.warm_history.specs.BucketMaps.{KeysAscend, found};
@@ -32,6 +32,9 @@ use std::collections::btree_map::Range;
 // Past so many pairs that the run lacks, the next key is looked up: so a run that has few of the
 // pairs in its range costs no more than a look-up and these steps for each of its own.
 const NEAR: usize = 16;
+
+// Fewer new pairs than this are inserted one by one: a merge of two maps pays for more.
+const FEW: usize = 16;
 
 // The pairs of a map that a walk has ahead: the first, and those after it.
 #[derive(Drop)]
@@ -69,7 +72,7 @@ pub(crate) fn merge_run(
     if changes == 0 {
         return Ok(false);
     }
-    put_all_in(map, &fresh)?;
+    put_all_in(alloc, map, &fresh)?;
     write_all(map, &changed);
     Ok(true)
 }
@@ -178,6 +181,7 @@ fn compare(
 
 // Puts in pairs whose keys are new or, where an allocation fails, none.
 fn put_all_in(
+    alloc: Global,
     map: &mut BTreeMap<u128, PageHist>,
     fresh: &[(u128, PageHist)],
 ) -> Result<(), AllocError>
@@ -191,13 +195,55 @@ fn put_all_in(
     if map.len() + fresh.len() >= MAX_PAIRS {
         return Err(AllocError);
     }
-    match insert_each(map, fresh) {
+    match insert_all(alloc, map, fresh) {
         Ok(()) => Ok(()),
         Err(fault) => {
             take_out(map, fresh);
             Err(fault)
         }
     }
+}
+
+// Puts in pairs in the way that is faster. Where an allocation fails, some may be in.
+fn insert_all(
+    alloc: Global,
+    map: &mut BTreeMap<u128, PageHist>,
+    pairs: &[(u128, PageHist)],
+) -> Result<(), AllocError>
+    requires rise { KeysAscend map.old.entries }
+    requires run { KeysAscend pairs.now }
+    ensures ok { OnOk result (map.new.entries ≡ with_pairs map.old.entries pairs.now) }
+    ensures others { SameElsewhere pairs.now map.old.entries map.new.entries }
+    ensures rise { KeysAscend map.new.entries }
+{
+    if pairs.len() < FEW || pairs.len() < map.len() / 3 {
+        return insert_each(map, pairs);
+    }
+    append(alloc, map, pairs)
+}
+
+// Makes a map of the pairs, and merges the two: a step for each pair of both, and full nodes.
+fn append(
+    alloc: Global,
+    map: &mut BTreeMap<u128, PageHist>,
+    pairs: &[(u128, PageHist)],
+) -> Result<(), AllocError>
+    requires rise { KeysAscend map.old.entries }
+    requires run { KeysAscend pairs.now }
+    ensures ok { OnOk result (map.new.entries ≡ with_pairs map.old.entries pairs.now) }
+    ensures others { SameElsewhere pairs.now map.old.entries map.new.entries }
+    ensures rise { KeysAscend map.new.entries }
+{
+    let mut made = map_of(alloc, pairs)?;
+    map.append(&mut made)?;
+    Ok(())
+}
+
+// The map of pairs at rising keys.
+fn map_of(alloc: Global, pairs: &[(u128, PageHist)]) -> Result<BTreeMap<u128, PageHist>, AllocError>
+    ensures { IfOk result (IsFromIterResult nat_cmp pairs.now) }
+{
+    pairs.iter().copied().collect(alloc)
 }
 
 // Inserts pairs one by one. Where an allocation fails, some may be in.
