@@ -1,5 +1,5 @@
 -- The pairs of a run, and the map that they fill.
-use Rattle.std.proofs.Common.{◌≡◌, ℕ, Bool, true, false, List, [], ◌∷◌, ◌++◌, sym, ap, refl, ◌∙◌, subst, arith, Option, Some, None, length, zero, suc, filter, ◌+◌, ◌<◌, ◌≤◌, ◌==◌}
+use Rattle.std.proofs.Common.{◌≡◌, ℕ, Bool, true, false, List, [], ◌∷◌, ◌++◌, sym, ap, refl, ◌∙◌, subst, arith, Option, Some, None, length, zero, suc, filter, ◌+◌, ◌<◌, ◌≤◌}
 use Rattle.std.specs.List.{AllByRecursion}
 use Rattle.std.specs.List.Sorted.{IsStrictlySortedBy}
 use Rattle.std.specs.Option.{option_or}
@@ -8,7 +8,6 @@ use Rattle.std.specs.BTreeMap.{BTreeMap, insert_entry, IsFromIterResult}
 use Rattle.std.specs.Ordering.{is_eq, eq_by_cmp, nat_cmp}
 use Rattle.std.specs.Cmp.{nat_cmp_is}
 use Rattle.std.specs.declared.cmp.Ordering.TheVariants.{Less, Equal, Greater}
-use Rattle.std.proofs.lemmas.Bool.{eqb-true, eq-eqb}
 use Rattle.std.proofs.lemmas.Cmp.{nat_cmp_total, tied_itself}
 use Rattle.warm_stamps.proofs.DistinctLemmas.{by_cases, flipped, is_equal}
 use Rattle.warm_history.specs.declared.hist.PageHist.{PageHist}
@@ -17,12 +16,11 @@ use Rattle.warm_history.specs.ListHistories.{latest_of, hist_stamps}
 use Rattle.warm_history.specs.ReferenceSets.{is_kept}
 use Rattle.warm_history.specs.MapKeys.{first_key, key_of_page}
 use Rattle.warm_history.specs.MapPairs.{MapPairs}
-use Rattle.warm_history.specs.BucketMaps.{all_pairs, LiesIn, AreBuckets, map_at, with_map, PassesIn, HoldsBucket, KeysAscend, found}
+use Rattle.warm_history.specs.BucketMaps.{all_pairs, AreBuckets, map_at, with_map, KeysAscend, found}
 use Rattle.warm_history.specs.Runs.{RiseWithin, IsRun, at_key, run_pairs, with_pairs}
 use Rattle.warm_history.proofs.MapKeyOrder.{nat_order}
 use Rattle.warm_history.proofs.MapPairLemmas.{below_all, no_later}
 use Rattle.warm_history.proofs.BucketLemmas.{insert_joined}
-use Rattle.warm_history.proofs.BucketParts.{chosen_joined}
 use Rattle.warm_history.proofs.BucketSteps.{AllIn, in_insert, buckets_with, with_same}
 
 abbrev pub AreAbove : ℕ → MapPairs → Type 0

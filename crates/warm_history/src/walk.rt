@@ -3,7 +3,7 @@
 //!
 //! The walk only reads, and lists what changes. New pairs are put in next, and taken out again
 //! where an allocation fails; the values that change are written last, which cannot fail.
-ghost use Rattle.std.specs.Prelude.{◌≡◌, ◌≢◌, ◌<◌, ◌≤◌, ◌++◌, IfNone, IfOk, IfSome, IsSome, OnErr, OnOk, Some, length};
+ghost use Rattle.std.specs.Prelude.{◌≡◌, ◌≢◌, ◌<◌, ◌≤◌, ◌++◌, IfNone, IfOk, IfSome, IsSome, IsTrue, OnErr, OnOk, Some, length};
 ghost use Rattle.std.specs.List.{AllByRecursion};
 ghost use Rattle.std.specs.BTreeMap.{IsFromIterResult, insert_entry};
 ghost use Rattle.std.specs.Ordering.{nat_cmp};
@@ -20,6 +20,8 @@ ghost use Rattle.warm_history.specs.Walks.{
   SameElsewhere,
   TellsChange,
   merged,
+  next_left,
+  next_value,
   pairs_ahead,
 };
 
@@ -29,9 +31,9 @@ use std::alloc::{AllocError, Global};
 use std::collections::BTreeMap;
 use std::collections::btree_map::Range;
 
-// Past so many pairs that the run lacks, the next key is looked up: so a run that has few of the
-// pairs in its range costs no more than a look-up and these steps for each of its own.
-const NEAR: usize = 16;
+// A look-up takes about as long as so many steps of a walk. Past them the next key is looked up: so
+// a run that has few of the keys in its range costs these steps and a look-up for each of its own.
+const STEPS: usize = 16;
 
 // Fewer new pairs than this are inserted one by one: a merge of two maps pays for more.
 const FEW: usize = 16;
@@ -96,7 +98,7 @@ fn find<'a>(map: &'a BTreeMap<u128, PageHist>, ahead: &mut Ahead<'a>, key: u128)
     ensures value { result ≡ found key map.now.entries }
     ensures from { HoldsFrom key (pairs_ahead ahead.new) map.now.entries }
 {
-    for _step in 0..NEAR {
+    for _step in 0..STEPS {
         let Some((at, hist)) = ahead.first else {
             return None;
         };
@@ -275,8 +277,51 @@ fn take_out(map: &mut BTreeMap<u128, PageHist>, pairs: &[(u128, PageHist)])
     }
 }
 
-// Writes values at keys that are there. Allocation-free.
+// Writes values at keys that are there, in the way that is faster. Allocation-free.
 fn write_all(map: &mut BTreeMap<u128, PageHist>, pairs: &[(u128, PageHist)])
+    requires rise { KeysAscend map.old.entries }
+    requires run { KeysAscend pairs.now }
+    requires there { AreThere pairs.now map.old.entries }
+    ensures entries { map.new.entries ≡ with_pairs map.old.entries pairs.now }
+    ensures len { length map.new.entries ≡ length map.old.entries }
+{
+    if pairs.len() < map.len() / STEPS {
+        write_each(map, pairs);
+        return;
+    }
+    write_along(map, pairs);
+}
+
+// Writes them in one walk over the map.
+fn write_along(map: &mut BTreeMap<u128, PageHist>, pairs: &[(u128, PageHist)])
+    requires rise { KeysAscend map.old.entries }
+    requires run { KeysAscend pairs.now }
+    requires there { AreThere pairs.now map.old.entries }
+    ensures entries { map.new.entries ≡ with_pairs map.old.entries pairs.now }
+    ensures len { length map.new.entries ≡ length map.old.entries }
+{
+    let mut left = pairs;
+    map.retain(move |key, hist| write_next(&mut left, *key, hist));
+}
+
+// Writes the first value that is left, where the walk is at its key. The pair of the map stays.
+fn write_next(left: &mut &[(u128, PageHist)], key: u128, hist: &mut PageHist) -> bool
+    ensures stays { IsTrue result }
+    ensures hist { hist.new ≡ next_value left.old.now key hist.old }
+    ensures left { left.new.now ≡ next_left left.old.now key }
+{
+    let Some((first, rest)) = left.split_first() else {
+        return true;
+    };
+    if first.0 == key {
+        *hist = first.1;
+        *left = rest;
+    }
+    true
+}
+
+// Looks each of them up.
+fn write_each(map: &mut BTreeMap<u128, PageHist>, pairs: &[(u128, PageHist)])
     requires rise { KeysAscend map.old.entries }
     requires run { KeysAscend pairs.now }
     requires there { AreThere pairs.now map.old.entries }
