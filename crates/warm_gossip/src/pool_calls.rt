@@ -47,8 +47,9 @@ impl<D: PageDevice> Node<D> {
 
     /// Reads `len` bytes of the slot's page, from `at` on: the call `Read`.
     ///
-    /// # Errors In this order: `StaleSlot`, where the slot doesn't hold its page;
-    /// `Pool(OutOfPage)`, where the bytes reach beyond its end; `Memory`.
+    /// # Errors
+    /// In this order: `StaleSlot`, where the slot doesn't hold its page; `Pool(OutOfPage)`, where
+    /// the bytes reach beyond its end; `Memory`.
     pub fn read(&self, slot: Slot, at: usize, len: usize) -> Result<ByteList, NodeFault>
         ensures { Answered self.now (Read slot at len) Bytes result self.now }
     {
@@ -66,8 +67,9 @@ impl<D: PageDevice> Node<D> {
     /// Reads bytes of the slot's page, from `at` on, into the whole of `into`: the call `Read` of
     /// that length. Allocation-free.
     ///
-    /// # Errors In this order: `StaleSlot`, where the slot doesn't hold its page;
-    /// `Pool(OutOfPage)`, where the bytes reach beyond its end. `into` is then as it was.
+    /// # Errors
+    /// In this order: `StaleSlot`, where the slot doesn't hold its page; `Pool(OutOfPage)`, where
+    /// the bytes reach beyond its end. `into` is then as it was.
     pub fn read_into(&self, slot: Slot, at: usize, into: &mut [u8]) -> Result<(), NodeFault>
         ensures read { OnOk result (Goes self.now (Read slot at (length into.old)) (Bytes into.new)
             self.now) }
@@ -83,8 +85,9 @@ impl<D: PageDevice> Node<D> {
 
     /// Writes bytes into the slot's page, from `at` on: the call `Write`. Allocation-free.
     ///
-    /// # Errors In this order: `StaleSlot`, where the slot doesn't hold its page;
-    /// `Pool(OutOfPage)`, where the bytes reach beyond its end. Nothing has changed.
+    /// # Errors
+    /// In this order: `StaleSlot`, where the slot doesn't hold its page; `Pool(OutOfPage)`, where
+    /// the bytes reach beyond its end. Nothing has changed.
     pub fn write(&mut self, slot: Slot, at: usize, bytes: &[u8]) -> Result<(), NodeFault>
         ensures step { Answered self.old (Write slot at bytes.now) done result self.new }
         ensures devices { DevicesAnswered self.old (Write slot at bytes.now) done result self.new }

@@ -26,6 +26,7 @@ pub mod RunLemmas
 pub mod RunPairs
 pub mod WalkLemmas
 pub mod MergedLemmas
+pub mod AlongLemmas
 pub mod MergedBuckets
 pub mod BucketParts
 pub mod MergeIterLemmas

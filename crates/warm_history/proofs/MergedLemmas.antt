@@ -2,8 +2,9 @@
 use Rattle.std.proofs.Common.{◌≡◌, ◌≢◌, ℕ, ◌+◌, ◌≤◌, inl, inr, Bool, true, false, cond, [], ◌∷◌, ◌++◌, sym, ap, refl, ◌∙◌, subst, arith, length, Option, Some, None, IsSome}
 use Rattle.std.specs.List.{AllByRecursion}
 use Rattle.std.specs.Option.{option_or}
-use Rattle.std.specs.BTreeMap.{insert_entry}
-use Rattle.std.specs.Ordering.{is_eq, nat_cmp}
+use Rattle.std.specs.Map.{update_all}
+use Rattle.std.specs.BTreeMap.{BTreeMap, insert_entry, InsertsAll, IsFromIterResult, MovesPrefix}
+use Rattle.std.specs.Ordering.{is_eq, eq_by_cmp, nat_cmp}
 use Rattle.std.specs.declared.cmp.Ordering.TheVariants.{Less, Equal, Greater}
 use Rattle.std.proofs.lemmas.Cmp.{tied_itself}
 use Rattle.warm_stamps.proofs.DistinctLemmas.{by_cases, is_equal}
@@ -15,7 +16,7 @@ use Rattle.warm_history.specs.Walks.{joined_with, joined_pairs, merged, IsPart, 
 use Rattle.warm_history.proofs.MapKeyOrder.{nat_order}
 use Rattle.warm_history.proofs.MapPairLemmas.{no_later, rising_insert}
 use Rattle.warm_history.proofs.BucketCounts.{few_inserted}
-use Rattle.warm_history.proofs.RunPairs.{AreAbove, same_found}
+use Rattle.warm_history.proofs.RunPairs.{AreAbove, all_updated, keys_rise, made_of, same_found}
 
 -- ---- what is found of pairs with others put in
 
@@ -373,3 +374,42 @@ same_removed old m m' left rest e is none now same q away = now q ∙ cases (is_
 -- where all are out, the pairs are as before
 pub all_out : (old m left : MapPairs) → KeysAscend m → KeysAscend old → left ≡ [] → SameElsewhere left old m → m ≡ old
 all_out old m left rise_m rise_old none same = same_found m old rise_m rise_old (λ q. same q (ap (found q) none))
+
+-- ---- a map that another was appended to
+
+prefix_rise : (xs rest : MapPairs) → KeysAscend (xs ++ rest) → KeysAscend xs
+prefix_rise [] rest rise = tt
+prefix_rise (x ∷ xs) rest rise = (above_prefix xs rise.0, prefix_rise xs rest rise.1)
+  where
+    above_prefix : (ys : MapPairs) → AreAbove x.0 (ys ++ rest) → AreAbove x.0 ys
+    above_prefix [] above = tt
+    above_prefix (y ∷ ys) above = (above.0, above_prefix ys above.1)
+
+prefix_absent : (q : ℕ) (xs rest : MapPairs) → found q (xs ++ rest) ≡ None → found q xs ≡ None
+prefix_absent q [] rest none = refl
+prefix_absent q (x ∷ xs) rest none =
+    let first = not_first q x (xs ++ rest) none in
+    let away : is_eq (nat_cmp q x.0) ≡ false = first.0 in
+    rw away (prefix_absent q xs rest first.1)
+
+-- all pairs of the other were put in
+pub appended : (pairs : MapPairs) (m made n : BTreeMap ℕ PageHist) → KeysAscend m.entries → KeysAscend pairs → IsFromIterResult nat_cmp pairs made → InsertsAll nat_cmp m made.entries n → n.entries ≡ with_pairs m.entries pairs
+appended pairs m made n rise run from inserts =
+    let is : made.entries ≡ pairs = made_of pairs made run from in
+    same_found n.entries (with_pairs m.entries pairs) (keys_rise n.entries inserts.1) (rise_with m.entries pairs rise)
+    (λ q.
+    inserts.0 q
+    ∙ ap (λ t. update_all (eq_by_cmp nat_cmp) (λ k. found k m.entries) t q) is
+    ∙ all_updated (λ k. found k m.entries) pairs q run
+    ∙ sym (found_with q m.entries pairs))
+
+-- or some of them, and nothing changed at other keys
+pub appended_some : (pairs : MapPairs) (m made n rest : BTreeMap ℕ PageHist) → KeysAscend pairs → IsFromIterResult nat_cmp pairs made → MovesPrefix nat_cmp m made n rest → SameElsewhere pairs m.entries n.entries
+appended_some pairs m made n rest run from moves q none =
+    let xs : MapPairs = moves.0 in
+    let is : pairs ≡ xs ++ rest.entries = sym (made_of pairs made run from) ∙ moves.1 in
+    let rise : KeysAscend xs = prefix_rise xs rest.entries (subst KeysAscend is run) in
+    let absent : found q xs ≡ None = prefix_absent q xs rest.entries (ap (found q) (sym is) ∙ none) in
+    moves.2.0 q
+    ∙ all_updated (λ k. found k m.entries) xs q rise
+    ∙ ap (λ x. option_or x (found q m.entries)) absent

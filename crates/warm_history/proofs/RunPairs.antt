@@ -1,13 +1,13 @@
 -- The pairs of a run, and the map that they fill.
-use Rattle.std.proofs.Common.{◌≡◌, ℕ, Bool, true, false, List, [], ◌∷◌, ◌++◌, sym, ap, refl, ◌∙◌, subst, arith, Option, Some, None, length, zero, suc, filter, ◌+◌, ◌<◌, ◌≤◌, ◌==◌}
+use Rattle.std.proofs.Common.{◌≡◌, ℕ, Bool, true, false, List, [], ◌∷◌, ◌++◌, sym, ap, refl, ◌∙◌, subst, arith, Option, Some, None, length, zero, suc, filter, ◌+◌, ◌<◌, ◌≤◌}
 use Rattle.std.specs.List.{AllByRecursion}
 use Rattle.std.specs.List.Sorted.{IsStrictlySortedBy}
+use Rattle.std.specs.Option.{option_or}
 use Rattle.std.specs.Map.{keys_of, update, update_all}
 use Rattle.std.specs.BTreeMap.{BTreeMap, insert_entry, IsFromIterResult}
 use Rattle.std.specs.Ordering.{is_eq, eq_by_cmp, nat_cmp}
 use Rattle.std.specs.Cmp.{nat_cmp_is}
 use Rattle.std.specs.declared.cmp.Ordering.TheVariants.{Less, Equal, Greater}
-use Rattle.std.proofs.lemmas.Bool.{eqb-true, eq-eqb}
 use Rattle.std.proofs.lemmas.Cmp.{nat_cmp_total, tied_itself}
 use Rattle.warm_stamps.proofs.DistinctLemmas.{by_cases, flipped, is_equal}
 use Rattle.warm_history.specs.declared.hist.PageHist.{PageHist}
@@ -16,12 +16,11 @@ use Rattle.warm_history.specs.ListHistories.{latest_of, hist_stamps}
 use Rattle.warm_history.specs.ReferenceSets.{is_kept}
 use Rattle.warm_history.specs.MapKeys.{first_key, key_of_page}
 use Rattle.warm_history.specs.MapPairs.{MapPairs}
-use Rattle.warm_history.specs.BucketMaps.{all_pairs, LiesIn, AreBuckets, map_at, with_map, PassesIn, HoldsBucket, KeysAscend, found}
+use Rattle.warm_history.specs.BucketMaps.{all_pairs, AreBuckets, map_at, with_map, KeysAscend, found}
 use Rattle.warm_history.specs.Runs.{RiseWithin, IsRun, at_key, run_pairs, with_pairs}
 use Rattle.warm_history.proofs.MapKeyOrder.{nat_order}
 use Rattle.warm_history.proofs.MapPairLemmas.{below_all, no_later}
 use Rattle.warm_history.proofs.BucketLemmas.{insert_joined}
-use Rattle.warm_history.proofs.BucketParts.{chosen_joined}
 use Rattle.warm_history.proofs.BucketSteps.{AllIn, in_insert, buckets_with, with_same}
 
 abbrev pub AreAbove : ℕ → MapPairs → Type 0
@@ -67,15 +66,7 @@ pairs_rise m from to (e ∷ es) rise = cases (latest_of (filter (is_kept m) (his
 pub pairs_inside : (m number : ℕ) (es : List Entry) → IsRun number es → AllIn number (run_pairs m es)
 pairs_inside m number es run = within m (first_key number) (first_key number) (first_key (number + 1)) es (omega arith) run
 
--- ---- pairs that are put into an empty map
-
-put_first : (p : ℕ) (h : PageHist) (pairs : MapPairs) → AreAbove p pairs → insert_entry nat_cmp pairs p h ≡ (p, h) ∷ pairs
-put_first p h [] all = refl
-put_first p h (e ∷ pairs) all = let less : nat_cmp p e.0 ≡ Less = all.0 in rw less refl
-
-pub filled_none : (run : MapPairs) → KeysAscend run → with_pairs [] run ≡ run
-filled_none [] rise = refl
-filled_none (e ∷ run) rise = ap (λ t. insert_entry nat_cmp t e.0 e.1) (filled_none run rise.1) ∙ put_first e.0 e.1 run rise.0
+-- ---- pairs that are put into a map
 
 pub in_filled : (b : ℕ) (m run : MapPairs) → AllIn b m → AllIn b run → AllIn b (with_pairs m run)
 in_filled b m [] all more = all
@@ -106,56 +97,6 @@ filled_joined b i ms (e ∷ run) are there all own =
     ∙ insert_joined b i e.0 e.1 (with_map ms i n) (buckets_with b i n ms are (in_filled (b + i) (map_at ms i) run own all.1)) all.0 inside
     ∙ ap (λ t. all_pairs (with_map (with_map ms i n) i (insert_entry nat_cmp t e.0 e.1))) (map_at-with ms i n there)
     ∙ ap all_pairs (with_twice ms i n (insert_entry nat_cmp n e.0 e.1))
-
-pub fills : (i : ℕ) (ms : List MapPairs) (run : MapPairs) → AreBuckets 0 ms → i < length ms → AllIn (0 + i) run → KeysAscend run → map_at ms i ≡ [] → all_pairs (with_map ms i run) ≡ with_pairs (all_pairs ms) run
-fills i ms run are there all rise free =
-    ap (λ t. all_pairs (with_map ms i t)) (sym (ap (λ t. with_pairs t run) free ∙ filled_none run rise))
-    ∙ sym (filled_joined 0 i ms run are there all (subst (AllIn (0 + i)) (sym free) tt))
-
--- ---- a bucket without entries
-
-own_test : (number p : ℕ) → LiesIn number p → PassesIn number (λ k. k == p)
-own_test number p lies k is = let same : k ≡ p = eqb-true k p is in subst (LiesIn number) (sym same) lies
-
-map_free : (number : ℕ) (m pairs : MapPairs) → AllIn number m → HoldsBucket number m pairs → HoldsBucket number [] pairs → m ≡ []
-map_free number [] pairs all holds free = refl
-map_free number (e ∷ m) pairs all holds free =
-    let same : (e.0 == e.0) ≡ true = eq-eqb e.0 e.0 refl in
-    let chosen = filter (λ (x : ℕ × PageHist). x.0 == e.0) in
-    let none : chosen (e ∷ m) ≡ [] = holds (λ k. k == e.0) (own_test number e.0 all.0) ∙ sym (free (λ k. k == e.0) (own_test number e.0 all.0)) in
-    let some : chosen (e ∷ m) ≡ e ∷ chosen m = rw same refl in
-    let no : e ∷ chosen m ≡ [] = sym some ∙ none in
-    absurd (cc)
-
-pub own_map_free : (number : ℕ) (ms : List MapPairs) → AreBuckets 0 ms → AllIn (0 + number) (map_at ms number) → HoldsBucket number [] (all_pairs ms) → map_at ms number ≡ []
-own_map_free number ms are own free =
-    let same : 0 + number ≡ number = omega arith in
-    map_free number (map_at ms number) (all_pairs ms) (subst (λ k. AllIn k (map_at ms number)) same own) (λ test passes. chosen_joined number 0 number test ms (omega arith) passes are) free
-
-none_chosen : (p : ℕ) (pairs : MapPairs) → filter (λ e. e.0 == p) pairs ≡ [] → found p pairs ≡ None
-none_chosen p [] none = refl
-none_chosen p (e ∷ pairs) none = cases (e.0 == p) refl (none_chosen p pairs)
-  where
-    cases : (b : Bool) → (e.0 == p) ≡ b → (filter (λ x. x.0 == p) pairs ≡ [] → found p pairs ≡ None) → found p (e ∷ pairs) ≡ None
-    cases true is later =
-        let some : filter (λ (x : ℕ × PageHist). x.0 == p) (e ∷ pairs) ≡ e ∷ filter (λ x. x.0 == p) pairs = rw is refl in
-        let no : e ∷ filter (λ (x : ℕ × PageHist). x.0 == p) pairs ≡ [] = sym some ∙ none in
-        absurd (cc)
-    cases false is later =
-        let rest : filter (λ (x : ℕ × PageHist). x.0 == p) (e ∷ pairs) ≡ filter (λ x. x.0 == p) pairs = rw is refl in
-        let apart : is_eq (nat_cmp p e.0) ≡ false = other (is_eq (nat_cmp p e.0)) refl is in
-        rw apart (later (sym rest ∙ none))
-      where
-        other : (c : Bool) → is_eq (nat_cmp p e.0) ≡ c → (e.0 == p) ≡ false → c ≡ false
-        other true here away =
-            let same : p ≡ e.0 = nat_order.same p e.0 (is_equal (nat_cmp p e.0) here) in
-            let no : true ≡ false = sym (eq-eqb e.0 p (sym same)) ∙ away in
-            absurd (cc)
-        other false here away = refl
-
--- nothing is found at its keys
-pub found_free : (number p : ℕ) (pairs : MapPairs) → LiesIn number p → HoldsBucket number [] pairs → found p pairs ≡ None
-found_free number p pairs lies free = none_chosen p pairs (sym (free (λ k. k == p) (own_test number p lies)))
 
 -- ---- a map that is made of pairs at rising keys has these
 
@@ -217,13 +158,8 @@ same_found (x ∷ m) (y ∷ n) rise_m rise_n alike = by_cases (nat_cmp x.0 y.0) 
             let also : is_eq (nat_cmp q y.0) ≡ false = ap (λ k. is_eq (nat_cmp q k)) (sym key) ∙ away in
             sym (past q x m away) ∙ alike q ∙ past q y n also
 
--- what is found, or what was before
-abbrev or_else : Option PageHist → Option PageHist → Option PageHist
-or_else None y = y
-or_else (Some x) y = Some x
-
 -- a pair that is put in first is read after those put in later
-all_updated : (f : ℕ → Option PageHist) (run : MapPairs) (q : ℕ) → KeysAscend run → update_all (eq_by_cmp nat_cmp) f run q ≡ or_else (found q run) (f q)
+pub all_updated : (f : ℕ → Option PageHist) (run : MapPairs) (q : ℕ) → KeysAscend run → update_all (eq_by_cmp nat_cmp) f run q ≡ option_or (found q run) (f q)
 all_updated f [] q rise = refl
 all_updated f (e ∷ run) q rise = all_updated (update (eq_by_cmp nat_cmp) f e.0 (Some e.1)) run q rise.1 ∙ by_cases (nat_cmp e.0 q) _
     (λ less. let back : nat_cmp q e.0 ≡ Greater = flipped nat_cmp nat_order e.0 q Less less in rw (less, back) refl)
@@ -234,7 +170,7 @@ all_updated f (e ∷ run) q rise = all_updated (update (eq_by_cmp nat_cmp) f e.0
     rw (tied, back, none) refl)
     (λ more. let back : nat_cmp q e.0 ≡ Less = flipped nat_cmp nat_order e.0 q Greater more in rw (more, back) refl)
 
-or_none : (x : Option PageHist) → or_else x None ≡ x
+or_none : (x : Option PageHist) → option_or x None ≡ x
 or_none None = refl
 or_none (Some x) = refl
 

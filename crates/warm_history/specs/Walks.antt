@@ -1,5 +1,5 @@
 -- A run merged with the pairs of its bucket.
-use Rattle.std.specs.Prelude.{◌≡◌, ◌≢◌, ◌⊎◌, ℕ, ◌≤◌, Bool, true, false, [], ◌∷◌, ◌++◌, Option, Some, None, IsSome}
+use Rattle.std.specs.Prelude.{◌≡◌, ◌≢◌, ◌⊎◌, ℕ, ◌≤◌, ◌==◌, Bool, cond, true, false, [], ◌∷◌, ◌++◌, Option, Some, None, IsSome}
 use Rattle.std.specs.List.{AllByRecursion}
 use Rattle.std.specs.Option.{option_map}
 use Rattle.std.specs.Map.Iter.{deref_pair}
@@ -78,3 +78,13 @@ DiffersAt run old new = (key : ℕ) × IsSome (found key run) × (found key new 
 -- whether the run has changed the pairs
 abbrev pub TellsChange : Bool → MapPairs → MapPairs → MapPairs → Type 0
 TellsChange changed run old new = (changed ≡ true → DiffersAt run old new) × (changed ≡ false → new ≡ old)
+
+-- at this key, the value of the first pair that is left, if it is the pair of the key, or else h
+abbrev pub next_value : MapPairs → ℕ → PageHist → PageHist
+next_value [] key h = h
+next_value (e ∷ left) key h = cond (e.0 == key) e.1 h
+
+-- the pairs that are left after this key
+abbrev pub next_left : MapPairs → ℕ → MapPairs
+next_left [] key = []
+next_left (e ∷ left) key = cond (e.0 == key) left (e ∷ left)

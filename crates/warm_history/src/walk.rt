@@ -3,9 +3,9 @@
 //!
 //! The walk only reads, and lists what changes. New pairs are put in next, and taken out again
 //! where an allocation fails; the values that change are written last, which cannot fail.
-ghost use Rattle.std.specs.Prelude.{◌≡◌, ◌≢◌, ◌<◌, ◌≤◌, ◌++◌, IfNone, IfOk, IfSome, IsSome, OnErr, OnOk, Some, length};
+ghost use Rattle.std.specs.Prelude.{◌≡◌, ◌≢◌, ◌<◌, ◌≤◌, ◌++◌, IfNone, IfOk, IfSome, IsSome, IsTrue, OnErr, OnOk, Some, length};
 ghost use Rattle.std.specs.List.{AllByRecursion};
-ghost use Rattle.std.specs.BTreeMap.{insert_entry};
+ghost use Rattle.std.specs.BTreeMap.{IsFromIterResult, insert_entry};
 ghost use Rattle.std.specs.Ordering.{nat_cmp};
 ghost use Rattle.warm_history.specs.ListHistories.{hist_stamps, latest_of};
 ghost use Rattle.warm_history.specs.BucketMaps.{KeysAscend, found};
@@ -20,6 +20,8 @@ ghost use Rattle.warm_history.specs.Walks.{
   SameElsewhere,
   TellsChange,
   merged,
+  next_left,
+  next_value,
   pairs_ahead,
 };
 
@@ -29,9 +31,12 @@ use std::alloc::{AllocError, Global};
 use std::collections::BTreeMap;
 use std::collections::btree_map::Range;
 
-// Past so many pairs that the run lacks, the next key is looked up: so a run that has few of the
-// pairs in its range costs no more than a look-up and these steps for each of its own.
-const NEAR: usize = 16;
+// A look-up takes about as long as so many steps of a walk. Past them the next key is looked up: so
+// a run that has few of the keys in its range costs these steps and a look-up for each of its own.
+const STEPS: usize = 16;
+
+// Fewer new pairs than this are inserted one by one: a merge of two maps pays for more.
+const FEW: usize = 16;
 
 // The pairs of a map that a walk has ahead: the first, and those after it.
 #[derive(Drop)]
@@ -69,7 +74,7 @@ pub(crate) fn merge_run(
     if changes == 0 {
         return Ok(false);
     }
-    put_all_in(map, &fresh)?;
+    put_all_in(alloc, map, &fresh)?;
     write_all(map, &changed);
     Ok(true)
 }
@@ -93,7 +98,7 @@ fn find<'a>(map: &'a BTreeMap<u128, Packed>, ahead: &mut Ahead<'a>, key: u128) -
     ensures value { result ≡ found key map.now.entries }
     ensures from { HoldsFrom key (pairs_ahead ahead.new) map.now.entries }
 {
-    for _step in 0..NEAR {
+    for _step in 0..STEPS {
         let Some((at, hist)) = ahead.first else {
             return None;
         };
@@ -175,7 +180,11 @@ fn compare(
 }
 
 // Puts in pairs whose keys are new or, where an allocation fails, none.
-fn put_all_in(map: &mut BTreeMap<u128, Packed>, fresh: &[(u128, Packed)]) -> Result<(), AllocError>
+fn put_all_in(
+    alloc: Global,
+    map: &mut BTreeMap<u128, Packed>,
+    fresh: &[(u128, Packed)],
+) -> Result<(), AllocError>
     requires rise { KeysAscend map.old.entries }
     requires run { KeysAscend fresh.now }
     requires absent { AreAbsent fresh.now map.old.entries }
@@ -186,13 +195,55 @@ fn put_all_in(map: &mut BTreeMap<u128, Packed>, fresh: &[(u128, Packed)]) -> Res
     if map.len() + fresh.len() >= MAX_PAIRS {
         return Err(AllocError);
     }
-    match insert_each(map, fresh) {
+    match insert_all(alloc, map, fresh) {
         Ok(()) => Ok(()),
         Err(fault) => {
             take_out(map, fresh);
             Err(fault)
         }
     }
+}
+
+// Puts in pairs in the way that is faster. Where an allocation fails, some may be in.
+fn insert_all(
+    alloc: Global,
+    map: &mut BTreeMap<u128, Packed>,
+    pairs: &[(u128, Packed)],
+) -> Result<(), AllocError>
+    requires rise { KeysAscend map.old.entries }
+    requires run { KeysAscend pairs.now }
+    ensures ok { OnOk result (map.new.entries ≡ with_pairs map.old.entries pairs.now) }
+    ensures others { SameElsewhere pairs.now map.old.entries map.new.entries }
+    ensures rise { KeysAscend map.new.entries }
+{
+    if pairs.len() < FEW || pairs.len() < map.len() / 3 {
+        return insert_each(map, pairs);
+    }
+    append(alloc, map, pairs)
+}
+
+// Makes a map of the pairs, and merges the two: a step for each pair of both, and full nodes.
+fn append(
+    alloc: Global,
+    map: &mut BTreeMap<u128, Packed>,
+    pairs: &[(u128, Packed)],
+) -> Result<(), AllocError>
+    requires rise { KeysAscend map.old.entries }
+    requires run { KeysAscend pairs.now }
+    ensures ok { OnOk result (map.new.entries ≡ with_pairs map.old.entries pairs.now) }
+    ensures others { SameElsewhere pairs.now map.old.entries map.new.entries }
+    ensures rise { KeysAscend map.new.entries }
+{
+    let mut made = map_of(alloc, pairs)?;
+    map.append(&mut made)?;
+    Ok(())
+}
+
+// The map of pairs at rising keys.
+fn map_of(alloc: Global, pairs: &[(u128, Packed)]) -> Result<BTreeMap<u128, Packed>, AllocError>
+    ensures { IfOk result (IsFromIterResult nat_cmp pairs.now) }
+{
+    pairs.iter().copied().collect(alloc)
 }
 
 // Inserts pairs one by one. Where an allocation fails, some may be in.
@@ -221,8 +272,51 @@ fn take_out(map: &mut BTreeMap<u128, Packed>, pairs: &[(u128, Packed)])
     }
 }
 
-// Writes values at keys that are there. Allocation-free.
+// Writes values at keys that are there, in the way that is faster. Allocation-free.
 fn write_all(map: &mut BTreeMap<u128, Packed>, pairs: &[(u128, Packed)])
+    requires rise { KeysAscend map.old.entries }
+    requires run { KeysAscend pairs.now }
+    requires there { AreThere pairs.now map.old.entries }
+    ensures entries { map.new.entries ≡ with_pairs map.old.entries pairs.now }
+    ensures len { length map.new.entries ≡ length map.old.entries }
+{
+    if pairs.len() < map.len() / STEPS {
+        write_each(map, pairs);
+        return;
+    }
+    write_along(map, pairs);
+}
+
+// Writes them in one walk over the map.
+fn write_along(map: &mut BTreeMap<u128, Packed>, pairs: &[(u128, Packed)])
+    requires rise { KeysAscend map.old.entries }
+    requires run { KeysAscend pairs.now }
+    requires there { AreThere pairs.now map.old.entries }
+    ensures entries { map.new.entries ≡ with_pairs map.old.entries pairs.now }
+    ensures len { length map.new.entries ≡ length map.old.entries }
+{
+    let mut left = pairs;
+    map.retain(move |key, hist| write_next(&mut left, *key, hist));
+}
+
+// Writes the first value that is left, where the walk is at its key. The pair of the map stays.
+fn write_next(left: &mut &[(u128, Packed)], key: u128, hist: &mut Packed) -> bool
+    ensures stays { IsTrue result }
+    ensures hist { hist.new ≡ next_value left.old.now key hist.old }
+    ensures left { left.new.now ≡ next_left left.old.now key }
+{
+    let Some((first, rest)) = left.split_first() else {
+        return true;
+    };
+    if first.0 == key {
+        *hist = first.1;
+        *left = rest;
+    }
+    true
+}
+
+// Looks each of them up.
+fn write_each(map: &mut BTreeMap<u128, Packed>, pairs: &[(u128, Packed)])
     requires rise { KeysAscend map.old.entries }
     requires run { KeysAscend pairs.now }
     requires there { AreThere pairs.now map.old.entries }

@@ -6,7 +6,7 @@ use Rattle.warm_history.specs.Runs.{with_pairs}
 use Rattle.warm_history.specs.Walks.{AreThere}
 use Rattle.warm_history.proofs.MapPairLemmas.{left_more, none_left}
 use Rattle.warm_history.proofs.MergedLemmas.{goes_on_with, rise_more, there_inserted}
-use Rattle.warm_history.proofs.walk.write_all.Goals as goal
+use Rattle.warm_history.proofs.walk.write_each.Goals as goal
 
 pub write-requires-clause-there : goal.write-requires-clause-there
 write-requires-clause-there c =

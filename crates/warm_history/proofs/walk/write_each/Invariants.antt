@@ -2,7 +2,7 @@ use Rattle.std.proofs.Common.{◌≡◌, drop, length}
 use Rattle.warm_history.specs.BucketMaps.{KeysAscend}
 use Rattle.warm_history.specs.Runs.{with_pairs}
 use Rattle.warm_history.specs.Walks.{AreThere}
-use Rattle.warm_history.proofs.walk.write_all.Given as goal
+use Rattle.warm_history.proofs.walk.write_each.Given as goal
 
 -- those that are left complete the map
 abbrev pub invariant-loop-pair : goal.invariant-loop-pair
