@@ -8,6 +8,7 @@ use Rattle.warm_history.specs.declared.hist.Entry.{Entry}
 use Rattle.warm_history.specs.ReferenceSets.{ReferenceSet, set_of_list, with_horizon}
 use Rattle.warm_history.specs.Histories.{history_of_entries, history_of_entries_at, history, join}
 use Rattle.warm_history.specs.Carried.{carried}
+use Rattle.warm_history.specs.Walks.{merged}
 use Rattle.warm_history.specs.Changes.{ChangesIn, SameInBucket}
 use Rattle.warm_history.specs.Losses.{KeepsIn, bucket_at_horizon}
 
@@ -111,6 +112,11 @@ forgotten = refl
 cut_by_other : join (history_of_entries_at 9 (twice 1 (at 9 2) (at 8 2) ∷ [])) (history_of_entries_at 12 (once 1 (at 20 1) ∷ [])) ≡ history_of_entries_at 12 (once 1 (at 20 1) ∷ [])
 unfolding history
 cut_by_other = refl
+
+-- ---- a run merged with pairs: the value at key 5 changes, that at 7 is known, and 9 is new
+
+merged_run : merged ((3, Once (at 1 1)) ∷ (5, Once (at 2 1)) ∷ (7, Once (at 4 1)) ∷ []) ((5, Once (at 8 1)) ∷ (7, Once (at 4 1)) ∷ (9, Once (at 6 1)) ∷ []) ≡ (3, Once (at 1 1)) ∷ (5, Twice (record { last = at 8 1; prev = at 2 1 })) ∷ (7, Once (at 4 1)) ∷ (9, Once (at 6 1)) ∷ []
+merged_run = refl
 
 -- ---- which buckets change
 

@@ -11,8 +11,8 @@ use Rattle.warm_stamps.proofs.DistinctLemmas.{by_cases, is_equal}
 use Rattle.warm_history.specs.declared.hist.PageHist.{PageHist}
 use Rattle.warm_history.specs.MapPairs.{MapPairs}
 use Rattle.warm_history.specs.BucketMaps.{KeysAscend, found}
-use Rattle.warm_history.specs.Runs.{with_pairs}
-use Rattle.warm_history.specs.Walks.{joined_with, joined_pairs, merged, IsPart, AreParts, AreAbsent, AreThere, SameElsewhere, DiffersAt}
+use Rattle.warm_history.specs.Runs.{at_key, with_pairs}
+use Rattle.warm_history.specs.Walks.{joined_with, joined_pairs, merged, IsPart, AreParts, AreAbsent, AreThere, AreTwoLatest, SameElsewhere, DiffersAt}
 use Rattle.warm_history.proofs.MapKeyOrder.{nat_order}
 use Rattle.warm_history.proofs.MapPairLemmas.{no_later, rising_insert}
 use Rattle.warm_history.proofs.BucketCounts.{few_inserted}
@@ -295,6 +295,34 @@ merged_differs old run c f are rise_old rise_run some =
         let h : PageHist = others.0.0 in
         let was : found e.0 old ≡ Some h = others.0.1 in
         differs_first old (merged old run) run e named_d.0 (ap (found e.0) (sym is) ∙ now) (λ same. let tied : Some h ≡ Some e.1 = sym was ∙ same in others.0.2 (cc))
+
+-- ---- a run that is merged with no pairs
+
+joined_none : (run : MapPairs) → AreTwoLatest run → joined_pairs [] run ≡ run
+joined_none [] latest = refl
+joined_none (e ∷ run) latest = ap (λ o. at_key e.0 o ++ joined_pairs [] run) latest.0 ∙ ap (λ t. e ∷ t) (joined_none run latest.1)
+
+pub filled_is : (old run : MapPairs) → old ≡ [] → AreTwoLatest run → with_pairs old run ≡ merged old run
+filled_is old run free latest = ap (with_pairs old) (sym (ap (λ t. joined_pairs t run) free ∙ joined_none run latest))
+
+all_absent : (run : MapPairs) → AreAbsent run []
+all_absent [] = tt
+all_absent (e ∷ run) = (refl, all_absent run)
+
+pub free_absent : (old run : MapPairs) → old ≡ [] → AreAbsent run old
+free_absent old run free = subst (AreAbsent run) (sym free) (all_absent run)
+
+pub filled_none : (old run : MapPairs) → run ≡ [] → old ≡ merged old run
+filled_none old run none = sym (ap (merged old) none)
+
+pub filled_differs : (old run : MapPairs) → old ≡ [] → (run ≡ [] → ⊥) → DiffersAt run old (with_pairs old run)
+filled_differs old [] free some = absurd (some refl)
+filled_differs old (e ∷ run) free some =
+    let own : nat_cmp e.0 e.0 ≡ Equal = tied_itself nat_order.total e.0 in
+    let first : found e.0 (e ∷ run) ≡ Some e.1 = rw own refl in
+    let now : found e.0 (with_pairs old (e ∷ run)) ≡ Some e.1 = found_with e.0 old (e ∷ run) ∙ ap (λ x. option_or x (found e.0 old)) first in
+    let none : found e.0 old ≡ None = ap (found e.0) free in
+    differs_first old (with_pairs old (e ∷ run)) (e ∷ run) e (named_first e run) now (λ same. let no : None ≡ Some e.1 = sym none ∙ same in absurd (cc))
 
 -- ---- steps of the loops
 

@@ -23,7 +23,7 @@ use Rattle.warm_history.specs.MapKeys.{first_key, key_of_page, page_of_key, IsMa
 use Rattle.warm_history.specs.MapPairs.{MapPairs, kept, AreKept, references_at, TakesEntries, TakesRecent, TakesStamps}
 use Rattle.warm_history.specs.BucketMaps.{LiesIn, found}
 use Rattle.warm_history.specs.Runs.{RiseWithin, at_key, run_pairs, with_pairs}
-use Rattle.warm_history.specs.Walks.{joined_with, joined_pairs, merged, DiffersAt}
+use Rattle.warm_history.specs.Walks.{joined_with, joined_pairs, merged, AreTwoLatest, DiffersAt}
 use Rattle.warm_history.proofs.ListHistoryLemmas.{hist_swap}
 use Rattle.warm_history.proofs.ListJoinLemmas.{history_alike, history_first, history_of_own_references}
 use Rattle.warm_history.proofs.MapPairLemmas.{AreKeys, IsHistory-kept, exact_pair, kept_more, no_later}
@@ -164,6 +164,23 @@ takes_run m number from old (e ∷ es) are begins rise =
         subst (λ o. TakesRun m number old (e ∷ es) (merged old (at_key p o ++ run_pairs m es))) (latest.1 ∙ ap latest_of stamps)
         (subst (λ o. TakesRun m number old (e ∷ es) (with_pairs old (at_key p o ++ joined_pairs old (run_pairs m es)))) value.1
         (adds m number old mid e es more h value.0 rise.2 (low, rise.1) stamps latest.1 joins run))
+
+-- ---- the values of a run
+
+latest_again : (ss : List Stamp) (h : PageHist) → latest_of ss ≡ Some h → joined_with h None ≡ Some h
+latest_again ss h is =
+    ap (λ o. latest_of (known_stamps o ++ [])) (sym is)
+    ∙ sym (latest_of_first ss [])
+    ∙ ap latest_of (append-nil ss)
+    ∙ is
+
+pub run_latest : (m : ℕ) (es : List Entry) → AreTwoLatest (run_pairs m es)
+run_latest m [] = tt
+run_latest m (e ∷ es) = cases (latest_of (filter (is_kept m) (hist_stamps e.hist))) refl (run_latest m es)
+  where
+    cases : (o : Option PageHist) → latest_of (filter (is_kept m) (hist_stamps e.hist)) ≡ o → AreTwoLatest (run_pairs m es) → AreTwoLatest (at_key (key_of_page e.page) o ++ run_pairs m es)
+    cases None is rest = rest
+    cases (Some h) is rest = (latest_again (filter (is_kept m) (hist_stamps e.hist)) h is, rest)
 
 -- ---- the bucket that changes
 

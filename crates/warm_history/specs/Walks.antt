@@ -23,6 +23,10 @@ joined_pairs old (e ∷ run) = at_key e.0 (joined_with e.1 (found e.0 old)) ++ j
 abbrev pub merged : MapPairs → MapPairs → MapPairs
 merged old run = with_pairs old (joined_pairs old run)
 
+-- each value of the pairs is the two latest of its own stamps
+abbrev pub AreTwoLatest : MapPairs → Type 0
+AreTwoLatest pairs = AllByRecursion (λ e. joined_with e.1 None ≡ Some e.1) pairs
+
 -- the pair, if there is one, and then the others
 abbrev pub pair_and : Option (ℕ × PageHist) → MapPairs → MapPairs
 pair_and None later = []

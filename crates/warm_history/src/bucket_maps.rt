@@ -8,7 +8,7 @@ ghost use Rattle.warm_history.specs.Cuts.{cut_at};
 ghost use Rattle.warm_stamps.specs.declared.TheConstants.{BUCKETS};
 ghost use Rattle.warm_history.specs.MapPairs.{AreKept, TakesStamps};
 ghost use Rattle.warm_history.specs.BucketMaps.{all_pairs, pairs_of_maps, pairs_left, HoldsBucket, LiesIn, KeysAscend, RecordsStamps, SaysNote, found};
-ghost use Rattle.warm_history.specs.Walks.{TellsChange, merged};
+ghost use Rattle.warm_history.specs.Walks.{AreTwoLatest, TellsChange, merged};
 ghost use Rattle.warm_history.specs.Undo.{put_back, notes_of, Undoes};
 
 use crate::map_key::bucket_of_key;
@@ -143,6 +143,7 @@ impl BucketMaps {
         requires rise { KeysAscend self.old }
         requires run { KeysAscend run.now }
         requires inside { AllByRecursion (λ e. LiesIn number e.0) run.now }
+        requires latest { AreTwoLatest run.now }
         ensures ok { OnOk result (self.new ≡ merged self.old run.now) }
         ensures tells { IfOk result (λ changed. TellsChange changed run.now self.old self.new) }
         ensures err { OnErr result (self.new ≡ self.old) }

@@ -241,10 +241,10 @@ impl History {
     /// horizon are included.
     ///
     /// The entries are scanned once, and each page is looked up in this history. Entries of one
-    /// bucket, with rising pages, are not looked up where the bucket has no entries yet: they
-    /// become its entries at once. `AllocError` occurs where the allocation of the undo list (the
-    /// old values of these pages), of a list of the new entries, or of a new page fails, and
-    /// changes nothing.
+    /// bucket, with rising pages, are not looked up: they and the bucket's entries are read in one
+    /// walk. `AllocError` occurs where the allocation of the undo list (the old values of these
+    /// pages), of a list of entries that are new or change, or of a new page fails, and changes
+    /// nothing.
     pub fn join_entries(&mut self, horizon: u64, more: &[Entry]) -> Result<BucketSet, AllocError>
         ensures ok { OnOk result
             (TakesIn self.old (references_of (history_of_entries_at horizon more.now)) self.new) }

@@ -3,7 +3,7 @@
 //!
 //! The walk only reads, and lists what changes. New pairs are put in next, and taken out again
 //! where an allocation fails; the values that change are written last, which cannot fail.
-ghost use Rattle.std.specs.Prelude.{◌≡◌, ◌≢◌, ◌<◌, ◌≤◌, ◌++◌, IfNone, IfOk, IfSome, IsSome, IsTrue, OnErr, OnOk, Some, length};
+ghost use Rattle.std.specs.Prelude.{◌≡◌, [], ◌≢◌, ◌<◌, ◌≤◌, ◌++◌, IfNone, IfOk, IfSome, IsSome, IsTrue, OnErr, OnOk, Some, length};
 ghost use Rattle.std.specs.List.{AllByRecursion};
 ghost use Rattle.std.specs.BTreeMap.{IsFromIterResult, insert_entry};
 ghost use Rattle.std.specs.Ordering.{nat_cmp};
@@ -16,6 +16,7 @@ ghost use Rattle.warm_history.specs.Walks.{
   AreAbsent,
   AreParts,
   AreThere,
+  AreTwoLatest,
   HoldsFrom,
   SameElsewhere,
   TellsChange,
@@ -63,12 +64,18 @@ pub(crate) fn merge_run(
 ) -> Result<bool, AllocError>
     requires rise { KeysAscend map.old.entries }
     requires run { KeysAscend run.now }
+    requires latest { AreTwoLatest run.now }
     ensures ok { OnOk result (map.new.entries ≡ merged map.old.entries run.now) }
     ensures tells { IfOk result
         (λ changed. TellsChange changed run.now map.old.entries map.new.entries) }
     ensures err { OnErr result (map.new.entries ≡ map.old.entries) }
     ensures small { length map.old.entries < MAX_PAIRS → length map.new.entries < MAX_PAIRS }
 {
+    if map.is_empty() {
+        // Not returned as it comes: the proof takes success and failure apart here.
+        let changes = fill(alloc, map, run)?;
+        return Ok(changes);
+    }
     let Parts { changed, fresh } = compare(alloc, map, run)?;
     let changes = changed.len() + fresh.len();
     if changes == 0 {
@@ -76,6 +83,28 @@ pub(crate) fn merge_run(
     }
     put_all_in(alloc, map, &fresh)?;
     write_all(map, &changed);
+    Ok(true)
+}
+
+// The same for a map without pairs: it then has those of the run, and no list of them is made.
+fn fill(
+    alloc: Global,
+    map: &mut BTreeMap<u128, PageHist>,
+    run: &[(u128, PageHist)],
+) -> Result<bool, AllocError>
+    requires free { map.old.entries ≡ [] }
+    requires run { KeysAscend run.now }
+    requires latest { AreTwoLatest run.now }
+    ensures ok { OnOk result (map.new.entries ≡ merged map.old.entries run.now) }
+    ensures tells { IfOk result
+        (λ changed. TellsChange changed run.now map.old.entries map.new.entries) }
+    ensures err { OnErr result (map.new.entries ≡ map.old.entries) }
+    ensures small { length map.old.entries < MAX_PAIRS → length map.new.entries < MAX_PAIRS }
+{
+    if run.is_empty() {
+        return Ok(false);
+    }
+    put_all_in(alloc, map, run)?;
     Ok(true)
 }
 
@@ -165,8 +194,8 @@ fn compare(
     ensures { IfOk result
         (λ parts. AreParts map.now.entries run.now parts.changed.items parts.fresh.items) }
 {
-    let mut changed = Vec::with_capacity(alloc, run.len())?;
-    let mut fresh = Vec::with_capacity(alloc, run.len())?;
+    let mut changed = Vec::new(alloc);
+    let mut fresh = Vec::new(alloc);
     let Some(first) = run.first() else {
         return Ok(Parts { changed, fresh });
     };

@@ -5,9 +5,9 @@ use Rattle.warm_history.specs.Changes.{MarksChanged, SameInBucket}
 use Rattle.warm_history.specs.MapKeys.{first_key}
 use Rattle.warm_history.specs.Runs.{run_pairs}
 use Rattle.warm_history.specs.MapPairs.{MapPairs, AreKept, kept, TakesEntries}
-use Rattle.warm_history.specs.Walks.{merged, DiffersAt}
+use Rattle.warm_history.specs.Walks.{merged, AreTwoLatest, DiffersAt}
 use Rattle.warm_history.proofs.BucketSteps.{AllIn}
-use Rattle.warm_history.proofs.RunLemmas.{takes_run, marks_run, are_keys}
+use Rattle.warm_history.proofs.RunLemmas.{takes_run, marks_run, are_keys, run_latest}
 use Rattle.warm_history.proofs.RunPairs.{pairs_rise, pairs_inside}
 use Rattle.warm_history.proofs.runs.take_run.Goals as goal
 
@@ -16,6 +16,9 @@ merge-requires-clause-run c = subst KeysAscend (sym (c.deref.ensures.value ∙ c
 
 pub merge-requires-clause-inside : goal.merge-requires-clause-inside
 merge-requires-clause-inside c = subst (AllIn c.get.result) (sym (c.deref.ensures.value ∙ c.in_ok-pairs.ensures)) (subst (λ n. AllIn n (run_pairs c.args.horizon c.args.run.now)) (sym c.get.ensures.value) (pairs_inside c.args.horizon c.args.bucket c.args.run.now c.requires.run))
+
+pub merge-requires-clause-latest : goal.merge-requires-clause-latest
+merge-requires-clause-latest c = subst AreTwoLatest (sym (c.deref.ensures.value ∙ c.in_ok-pairs.ensures)) (run_latest c.args.horizon c.args.run.now)
 
 pub returns-then-not-changes-clause-exact : goal.returns-then-not-changes-clause-exact
 returns-then-not-changes-clause-exact c =

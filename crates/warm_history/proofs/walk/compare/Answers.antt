@@ -21,8 +21,8 @@ loop-pair-init c = record {
   goes_on = λ d f are.
       let old = c.args.map.now.entries in
       let run = c.args.run.now in
-      subst (λ (t : MapPairs). AreParts old run t (c.in_ok-fresh.fresh.items ++ f)) (ap (λ (t : MapPairs). t ++ d) (sym c.in_ok-changed.ensures.items))
-      (subst (λ (t : MapPairs). AreParts old run d t) (ap (λ (t : MapPairs). t ++ f) (sym c.in_ok-fresh.ensures.items)) are);
+      subst (λ (t : MapPairs). AreParts old run t (c.new-fresh.result.items ++ f)) (ap (λ (t : MapPairs). t ++ d) (sym c.new-changed.ensures.items))
+      (subst (λ (t : MapPairs). AreParts old run d t) (ap (λ (t : MapPairs). t ++ f) (sym c.new-fresh.ensures.items)) are);
 }
 
 pub loop-pair-preserved : goal.loop-pair-preserved
