@@ -1,5 +1,6 @@
 pub mod Text
 pub mod Fields
+pub mod Heads
 pub mod Grammar
 pub mod Parsing
 pub mod Workers

@@ -1,14 +1,16 @@
 //! The fields of a line: each reader takes the first word of the text, and returns its value and
 //! what follows it.
 ghost use Rattle.std.specs.Prelude.{◌≡◌, ◌<◌, ◌≤◌, ◌+◌, ◌*◌, ◌^◌, ◌∷◌, None, length, IfSome, MatchOption, option_map, is_some};
+ghost use Rattle.std.specs.List.{prefix_len};
 ghost use Rattle.warm_stamps.specs.declared.TheConstants.{BUCKETS};
 ghost use Rattle.warm_schedule.specs.Text.{words};
-ghost use Rattle.warm_schedule.specs.Fields.{digit_of, number_up_to, page_of_word, slot_of_word, hex_digit_of, hex_pairs, bytes_of_hex};
+ghost use Rattle.warm_schedule.specs.Fields.{digit_of, hex_digit_of, hex_pairs, bytes_of_hex};
 ghost use Rattle.warm_schedule.specs.Fields.{number_field, replica_field, worker_field, bucket_field, count_field, u64_field, page_field, after_field, slot_field};
+ghost use Rattle.warm_schedule.specs.Heads.{is_digit, number_at, page_at, slot_at};
 ghost use Rattle.warm_schedule.specs.Reading.{Reads, TakesMemory};
 
 use crate::parse::LineFault;
-use crate::text::{cut, next_word};
+use crate::text::{after_byte, after_word, from_word};
 use std::alloc::Global;
 use warm_pool::Slot;
 use warm_stamps::{BUCKETS, ByteList, PageId};
@@ -31,44 +33,69 @@ fn with_digit(number: u64, digit: u8) -> Option<u64>
     number.checked_mul(10)?.checked_add(u64::from(digit))
 }
 
-// The number that a word spells, where it is at most `limit`.
-fn parse_number(word: &[u8], limit: u64) -> Option<u64>
-    ensures value { result ≡ number_up_to limit word.now }
-    ensures bound { IfSome result (λ n. n ≤ limit) }
+// The digit at the head of a text, and what follows it. `None` where the text begins with none.
+fn first_digit(text: &[u8]) -> Option<(u8, &[u8])>
+    ensures parts { MatchOption result (prefix_len is_digit text.now ≡ 0)
+        (λ x. text.now ≡ (48 + x.0) ∷ x.1.now) }
+    ensures bound { IfSome result (λ x. x.0 < 10) }
+    ensures shorter { IfSome result (λ x. length x.1.now < length text.now) }
 {
-    if word.is_empty() {
+    let [c, rest @ ..] = text else {
         return None;
-    }
-    let mut number = 0u64;
-    for c in word {
-        number = with_digit(number, digit(*c)?)?;
+    };
+    Some((digit(*c)?, rest))
+}
+
+// The number that the digits at the head of a text spell, where it is at most `limit`, and what
+// follows them: one pass finds the end and the number.
+fn leading_number(text: &[u8], limit: u64) -> Option<(u64, &[u8])>
+    ensures value { option_map (λ x. (x.0, x.1.now)) result ≡ number_at limit text.now }
+    ensures bound { IfSome result (λ x. x.0 ≤ limit) }
+{
+    let (first, mut rest) = first_digit(text)?;
+    let mut number = u64::from(first);
+    while let Some((digit, after)) = first_digit(rest) {
+        number = with_digit(number, digit)?;
+        rest = after;
     }
     if number > limit {
         return None;
     }
-    Some(number)
+    Some((number, rest))
 }
 
-// A second colon is not a digit of the number, so it is refused.
-#[tactic(auto, using(crate::proofs::Parts::page_parts), unfolding(crate::specs::Fields::page_of_word))]
-fn parse_page(word: &[u8]) -> Option<PageId>
-    ensures { result ≡ page_of_word word.now }
+// The page at the head of a text, and what follows its word. A second colon is not a digit of the
+// number, so it is refused.
+fn leading_page(text: &[u8]) -> Option<(PageId, &[u8])>
+    ensures { option_map (λ x. (x.0, words x.1.now)) result ≡ page_at text.now }
 {
-    let (dev, no) = cut(word, b':')?;
-    let dev = parse_number(dev, u64::from(u16::MAX))? as u16;
-    let no = parse_number(no, u64::MAX)?;
-    Some(PageId { dev, no })
+    let (dev, rest) = leading_number(text, u64::from(u16::MAX))?;
+    let (no, rest) = leading_number(after_byte(rest, b':')?, u64::MAX)?;
+    let rest = after_word(rest)?;
+    Some((
+        PageId {
+            dev: dev as u16,
+            no,
+        },
+        rest,
+    ))
 }
 
-// A second dot is not a digit of the generation, so it is refused.
-#[tactic(auto, using(crate::proofs::Parts::slot_parts), unfolding(crate::specs::Fields::slot_of_word))]
-fn parse_slot(word: &[u8]) -> Option<Slot>
-    ensures { result ≡ slot_of_word word.now }
+// The slot at the head of a text, and what follows its word. A second dot is not a digit of the
+// generation, so it is refused.
+fn leading_slot(text: &[u8]) -> Option<(Slot, &[u8])>
+    ensures { option_map (λ x. (x.0, words x.1.now)) result ≡ slot_at text.now }
 {
-    let (index, generation) = cut(word, b'.')?;
-    let index = parse_number(index, u64::from(u32::MAX))? as u32;
-    let generation = parse_number(generation, u64::MAX)?;
-    Some(Slot { index, generation })
+    let (index, rest) = leading_number(text, u64::from(u32::MAX))?;
+    let (generation, rest) = leading_number(after_byte(rest, b'.')?, u64::MAX)?;
+    let rest = after_word(rest)?;
+    Some((
+        Slot {
+            index: index as u32,
+            generation,
+        },
+        rest,
+    ))
 }
 
 // ---- bytes, two hexadecimal digits for each
@@ -130,14 +157,14 @@ pub(crate) fn parse_bytes(alloc: Global, word: &[u8]) -> Result<ByteList, LineFa
 
 // ---- one field, and what follows it
 
-#[tactic(auto, unfolding(crate::specs::Fields::number_field))]
+#[tactic(auto, using(crate::proofs::OnePass::number_read))]
 fn read_number(fields: &[u8], limit: u64) -> Option<(u64, &[u8])>
     ensures value { option_map (λ x. (x.0, words x.1.now)) result
         ≡ number_field limit (words fields.now) }
     ensures bound { IfSome result (λ x. x.0 ≤ limit) }
 {
-    let (word, rest) = next_word(fields)?;
-    Some((parse_number(word, limit)?, rest))
+    let (number, rest) = leading_number(from_word(fields), limit)?;
+    Some((number, after_word(rest)?))
 }
 
 // A replica's number.
@@ -182,29 +209,29 @@ pub(crate) fn read_u64(fields: &[u8]) -> Option<(u64, &[u8])>
     Some((number, rest))
 }
 
-#[tactic(auto, unfolding(crate::specs::Fields::page_field))]
+#[tactic(auto, using(crate::proofs::OnePass::page_read))]
 pub(crate) fn read_page(fields: &[u8]) -> Option<(PageId, &[u8])>
     ensures { option_map (λ x. (x.0, words x.1.now)) result ≡ page_field (words fields.now) }
 {
-    let (word, rest) = next_word(fields)?;
-    Some((parse_page(word)?, rest))
+    leading_page(from_word(fields))
 }
 
 // A page, or nothing where the line ends before it.
-#[tactic(auto, unfolding(crate::specs::Fields::after_field))]
+#[tactic(auto, using(crate::proofs::OnePass::after_nothing, crate::proofs::OnePass::after_read), unfolding(crate::specs::Text::words))]
 pub(crate) fn read_after(fields: &[u8]) -> Option<(Option<PageId>, &[u8])>
     ensures { option_map (λ x. (x.0, words x.1.now)) result ≡ after_field (words fields.now) }
 {
-    let Some((word, rest)) = next_word(fields) else {
-        return Some((None, fields));
-    };
-    Some((Some(parse_page(word)?), rest))
+    let text = from_word(fields);
+    if text.is_empty() {
+        return Some((None, text));
+    }
+    let (page, rest) = leading_page(text)?;
+    Some((Some(page), rest))
 }
 
-#[tactic(auto, unfolding(crate::specs::Fields::slot_field))]
+#[tactic(auto, using(crate::proofs::OnePass::slot_read))]
 pub(crate) fn read_slot(fields: &[u8]) -> Option<(Slot, &[u8])>
     ensures { option_map (λ x. (x.0, words x.1.now)) result ≡ slot_field (words fields.now) }
 {
-    let (word, rest) = next_word(fields)?;
-    Some((parse_slot(word)?, rest))
+    leading_slot(from_word(fields))
 }

@@ -1,6 +1,7 @@
-//! Bytes split at a separator.
-ghost use Rattle.std.specs.Prelude.{◌≡◌, ◌<◌, [], ◌∷◌, ◌++◌, length, MatchOption, IfSome};
+//! Bytes split at a separator, and the ends of words.
+ghost use Rattle.std.specs.Prelude.{◌≡◌, ◌<◌, [], ◌∷◌, ◌++◌, None, length, MatchOption, IfSome, option_map};
 ghost use Rattle.warm_schedule.specs.Text.{IsLine, split, words};
+ghost use Rattle.warm_schedule.specs.Heads.{behind, words_behind};
 
 use memchr::memchr;
 
@@ -15,7 +16,7 @@ pub fn first_line(text: &[u8]) -> Option<(&[u8], &[u8])>
 }
 
 // The piece before the first separator, and what follows it. `None` where there is no separator.
-pub(crate) fn cut(text: &[u8], separator: u8) -> Option<(&[u8], &[u8])>
+fn cut(text: &[u8], separator: u8) -> Option<(&[u8], &[u8])>
     ensures pieces { MatchOption result (split separator text.now ≡ text.now ∷ [])
         (λ x. split separator text.now ≡ x.0.now ∷ split separator x.1.now) }
     ensures shorter { IfSome result (λ x. length x.1.now < length text.now) }
@@ -44,4 +45,39 @@ pub(crate) fn next_word(line: &[u8]) -> Option<(&[u8], &[u8])>
         return None;
     }
     Some((rest, &[]))
+}
+
+// The text from its first word on. Words are parted by one or more spaces.
+#[tactic(auto, unfolding(crate::specs::Text::words))]
+pub(crate) fn from_word(text: &[u8]) -> &[u8]
+    ensures same { words result.now ≡ words text.now }
+    ensures no_space { behind 32 result.now ≡ None }
+{
+    let mut rest = text;
+    while let [b' ', after @ ..] = rest {
+        rest = after;
+    }
+    rest
+}
+
+// What follows this byte at the head of a text. `None` where the text begins with none.
+pub(crate) fn after_byte(text: &[u8], byte: u8) -> Option<&[u8]>
+    ensures { option_map (λ rest. rest.now) result ≡ behind byte text.now }
+{
+    match text {
+        [first, rest @ ..] if *first == byte => Some(rest),
+        _ => None,
+    }
+}
+
+// What follows the end of a word. `None` where the word goes on.
+#[tactic(auto, unfolding(crate::specs::Text::words))]
+pub(crate) fn after_word(text: &[u8]) -> Option<&[u8]>
+    ensures { option_map (λ rest. words rest.now) result ≡ words_behind text.now }
+{
+    match text {
+        [] => Some(text),
+        [b' ', rest @ ..] => Some(rest),
+        _ => None,
+    }
 }
