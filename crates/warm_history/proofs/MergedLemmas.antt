@@ -2,9 +2,8 @@
 use Rattle.std.proofs.Common.{◌≡◌, ◌≢◌, ℕ, ◌+◌, ◌≤◌, inl, inr, Bool, true, false, cond, [], ◌∷◌, ◌++◌, sym, ap, refl, ◌∙◌, subst, arith, length, Option, Some, None, IsSome}
 use Rattle.std.specs.List.{AllByRecursion}
 use Rattle.std.specs.Option.{option_or}
-use Rattle.std.specs.Map.{update_all}
-use Rattle.std.specs.BTreeMap.{BTreeMap, insert_entry, InsertsAll, IsFromIterResult, MovesPrefix}
-use Rattle.std.specs.Ordering.{is_eq, eq_by_cmp, nat_cmp}
+use Rattle.std.specs.BTreeMap.{insert_entry}
+use Rattle.std.specs.Ordering.{is_eq, nat_cmp}
 use Rattle.std.specs.declared.cmp.Ordering.TheVariants.{Less, Equal, Greater}
 use Rattle.std.proofs.lemmas.Cmp.{tied_itself}
 use Rattle.warm_stamps.proofs.DistinctLemmas.{by_cases, is_equal}
@@ -16,7 +15,7 @@ use Rattle.warm_history.specs.Walks.{joined_with, joined_pairs, merged, IsPart, 
 use Rattle.warm_history.proofs.MapKeyOrder.{nat_order}
 use Rattle.warm_history.proofs.MapPairLemmas.{no_later, rising_insert}
 use Rattle.warm_history.proofs.BucketCounts.{few_inserted}
-use Rattle.warm_history.proofs.RunPairs.{AreAbove, all_updated, keys_rise, made_of, same_found}
+use Rattle.warm_history.proofs.RunPairs.{AreAbove, same_found}
 
 -- ---- what is found of pairs with others put in
 
@@ -302,27 +301,26 @@ joined_none : (run : MapPairs) → AreTwoLatest run → joined_pairs [] run ≡ 
 joined_none [] latest = refl
 joined_none (e ∷ run) latest = ap (λ o. at_key e.0 o ++ joined_pairs [] run) latest.0 ∙ ap (λ t. e ∷ t) (joined_none run latest.1)
 
-pub filled_is : (old run : MapPairs) → old ≡ [] → AreTwoLatest run → with_pairs old run ≡ merged old run
-filled_is old run free latest = ap (with_pairs old) (sym (ap (λ t. joined_pairs t run) free ∙ joined_none run latest))
+into_none : (run : MapPairs) → KeysAscend run → with_pairs [] run ≡ run
+into_none run rise = same_found (with_pairs [] run) run (rise_with [] run tt) rise (λ q. found_with q [] run ∙ or_none (found q run))
+  where
+    or_none : (x : Option PageHist) → option_or x None ≡ x
+    or_none None = refl
+    or_none (Some x) = refl
 
-all_absent : (run : MapPairs) → AreAbsent run []
-all_absent [] = tt
-all_absent (e ∷ run) = (refl, all_absent run)
+pub filled_is : (old run : MapPairs) → old ≡ [] → KeysAscend run → AreTwoLatest run → run ≡ merged old run
+filled_is old run free rise latest =
+    sym (ap (λ t. merged t run) free
+    ∙ ap (with_pairs []) (joined_none run latest)
+    ∙ into_none run rise)
 
-pub free_absent : (old run : MapPairs) → old ≡ [] → AreAbsent run old
-free_absent old run free = subst (AreAbsent run) (sym free) (all_absent run)
-
-pub filled_none : (old run : MapPairs) → run ≡ [] → old ≡ merged old run
-filled_none old run none = sym (ap (merged old) none)
-
-pub filled_differs : (old run : MapPairs) → old ≡ [] → (run ≡ [] → ⊥) → DiffersAt run old (with_pairs old run)
+pub filled_differs : (old run : MapPairs) → old ≡ [] → (run ≡ [] → ⊥) → DiffersAt run old run
 filled_differs old [] free some = absurd (some refl)
 filled_differs old (e ∷ run) free some =
     let own : nat_cmp e.0 e.0 ≡ Equal = tied_itself nat_order.total e.0 in
     let first : found e.0 (e ∷ run) ≡ Some e.1 = rw own refl in
-    let now : found e.0 (with_pairs old (e ∷ run)) ≡ Some e.1 = found_with e.0 old (e ∷ run) ∙ ap (λ x. option_or x (found e.0 old)) first in
     let none : found e.0 old ≡ None = ap (found e.0) free in
-    differs_first old (with_pairs old (e ∷ run)) (e ∷ run) e (named_first e run) now (λ same. let no : None ≡ Some e.1 = sym none ∙ same in absurd (cc))
+    differs_first old (e ∷ run) (e ∷ run) e (named_first e run) first (λ same. let no : None ≡ Some e.1 = sym none ∙ same in absurd (cc))
 
 -- ---- steps of the loops
 
@@ -402,42 +400,3 @@ same_removed old m m' left rest e is none now same q away = now q ∙ cases (is_
 -- where all are out, the pairs are as before
 pub all_out : (old m left : MapPairs) → KeysAscend m → KeysAscend old → left ≡ [] → SameElsewhere left old m → m ≡ old
 all_out old m left rise_m rise_old none same = same_found m old rise_m rise_old (λ q. same q (ap (found q) none))
-
--- ---- a map that another was appended to
-
-prefix_rise : (xs rest : MapPairs) → KeysAscend (xs ++ rest) → KeysAscend xs
-prefix_rise [] rest rise = tt
-prefix_rise (x ∷ xs) rest rise = (above_prefix xs rise.0, prefix_rise xs rest rise.1)
-  where
-    above_prefix : (ys : MapPairs) → AreAbove x.0 (ys ++ rest) → AreAbove x.0 ys
-    above_prefix [] above = tt
-    above_prefix (y ∷ ys) above = (above.0, above_prefix ys above.1)
-
-prefix_absent : (q : ℕ) (xs rest : MapPairs) → found q (xs ++ rest) ≡ None → found q xs ≡ None
-prefix_absent q [] rest none = refl
-prefix_absent q (x ∷ xs) rest none =
-    let first = not_first q x (xs ++ rest) none in
-    let away : is_eq (nat_cmp q x.0) ≡ false = first.0 in
-    rw away (prefix_absent q xs rest first.1)
-
--- all pairs of the other were put in
-pub appended : (pairs : MapPairs) (m made n : BTreeMap ℕ PageHist) → KeysAscend m.entries → KeysAscend pairs → IsFromIterResult nat_cmp pairs made → InsertsAll nat_cmp m made.entries n → n.entries ≡ with_pairs m.entries pairs
-appended pairs m made n rise run from inserts =
-    let is : made.entries ≡ pairs = made_of pairs made run from in
-    same_found n.entries (with_pairs m.entries pairs) (keys_rise n.entries inserts.1) (rise_with m.entries pairs rise)
-    (λ q.
-    inserts.0 q
-    ∙ ap (λ t. update_all (eq_by_cmp nat_cmp) (λ k. found k m.entries) t q) is
-    ∙ all_updated (λ k. found k m.entries) pairs q run
-    ∙ sym (found_with q m.entries pairs))
-
--- or some of them, and nothing changed at other keys
-pub appended_some : (pairs : MapPairs) (m made n rest : BTreeMap ℕ PageHist) → KeysAscend pairs → IsFromIterResult nat_cmp pairs made → MovesPrefix nat_cmp m made n rest → SameElsewhere pairs m.entries n.entries
-appended_some pairs m made n rest run from moves q none =
-    let xs : MapPairs = moves.0 in
-    let is : pairs ≡ xs ++ rest.entries = sym (made_of pairs made run from) ∙ moves.1 in
-    let rise : KeysAscend xs = prefix_rise xs rest.entries (subst KeysAscend is run) in
-    let absent : found q xs ≡ None = prefix_absent q xs rest.entries (ap (found q) (sym is) ∙ none) in
-    moves.2.0 q
-    ∙ all_updated (λ k. found k m.entries) xs q rise
-    ∙ ap (λ x. option_or x (found q m.entries)) absent

@@ -1,5 +1,4 @@
--- Runs: entries of one bucket at rising keys. Where a bucket has no entries, the pairs of a run
--- fill its map at once.
+-- Runs: entries of one bucket at rising keys.
 use Rattle.std.specs.Prelude.{◌≡◌, ℕ, List, [], ◌∷◌, ◌++◌, ◌+◌, ◌≤◌, ◌<◌, ⊤, filter, Option, Some, None}
 use Rattle.std.specs.BTreeMap.{insert_entry}
 use Rattle.std.specs.Ordering.{nat_cmp}

@@ -36,9 +36,6 @@ use std::collections::btree_map::Range;
 // a run that has few of the keys in its range costs these steps and a look-up for each of its own.
 const STEPS: usize = 16;
 
-// Fewer new pairs than this are inserted one by one: a merge of two maps pays for more.
-const FEW: usize = 16;
-
 // The pairs of a map that a walk has ahead: the first, and those after it.
 #[derive(Drop)]
 pub(crate) struct Ahead<'a> {
@@ -81,16 +78,17 @@ pub(crate) fn merge_run(
     if changes == 0 {
         return Ok(false);
     }
-    put_all_in(alloc, map, &fresh)?;
+    put_all_in(map, &fresh)?;
     write_all(map, &changed);
     Ok(true)
 }
 
-// The same for a map without pairs: it then has those of the run, and no list of them is made.
+// The same for a map without pairs: the run becomes the map at once, and all nodes are full but the
+// last ones.
 fn fill(
     alloc: Global,
-    map: &mut BTreeMap<u128, PageHist>,
-    run: &[(u128, PageHist)],
+    map: &mut BTreeMap<u128, Packed>,
+    run: &[(u128, Packed)],
 ) -> Result<bool, AllocError>
     requires free { map.old.entries ≡ [] }
     requires run { KeysAscend run.now }
@@ -104,8 +102,28 @@ fn fill(
     if run.is_empty() {
         return Ok(false);
     }
-    put_all_in(alloc, map, run)?;
+    let made = map_of(alloc, run)?;
+    *map = made;
     Ok(true)
+}
+
+// The map of pairs at rising keys.
+fn map_of(alloc: Global, pairs: &[(u128, Packed)]) -> Result<BTreeMap<u128, Packed>, AllocError>
+    requires { KeysAscend pairs.now }
+    ensures same { IfOk result (λ map. map.entries ≡ pairs.now) }
+    ensures small { IfOk result (λ map. length map.entries < MAX_PAIRS) }
+{
+    if pairs.len() >= MAX_PAIRS {
+        return Err(AllocError);
+    }
+    let map = collected(alloc, pairs)?;
+    Ok(map)
+}
+
+fn collected(alloc: Global, pairs: &[(u128, Packed)]) -> Result<BTreeMap<u128, Packed>, AllocError>
+    ensures { IfOk result (IsFromIterResult nat_cmp pairs.now) }
+{
+    pairs.iter().copied().collect(alloc)
 }
 
 // The pairs of a map from a key on.
@@ -209,11 +227,7 @@ fn compare(
 }
 
 // Puts in pairs whose keys are new or, where an allocation fails, none.
-fn put_all_in(
-    alloc: Global,
-    map: &mut BTreeMap<u128, Packed>,
-    fresh: &[(u128, Packed)],
-) -> Result<(), AllocError>
+fn put_all_in(map: &mut BTreeMap<u128, Packed>, fresh: &[(u128, Packed)]) -> Result<(), AllocError>
     requires rise { KeysAscend map.old.entries }
     requires run { KeysAscend fresh.now }
     requires absent { AreAbsent fresh.now map.old.entries }
@@ -224,55 +238,13 @@ fn put_all_in(
     if map.len() + fresh.len() >= MAX_PAIRS {
         return Err(AllocError);
     }
-    match insert_all(alloc, map, fresh) {
+    match insert_each(map, fresh) {
         Ok(()) => Ok(()),
         Err(fault) => {
             take_out(map, fresh);
             Err(fault)
         }
     }
-}
-
-// Puts in pairs in the way that is faster. Where an allocation fails, some may be in.
-fn insert_all(
-    alloc: Global,
-    map: &mut BTreeMap<u128, Packed>,
-    pairs: &[(u128, Packed)],
-) -> Result<(), AllocError>
-    requires rise { KeysAscend map.old.entries }
-    requires run { KeysAscend pairs.now }
-    ensures ok { OnOk result (map.new.entries ≡ with_pairs map.old.entries pairs.now) }
-    ensures others { SameElsewhere pairs.now map.old.entries map.new.entries }
-    ensures rise { KeysAscend map.new.entries }
-{
-    if pairs.len() < FEW || pairs.len() < map.len() / 3 {
-        return insert_each(map, pairs);
-    }
-    append(alloc, map, pairs)
-}
-
-// Makes a map of the pairs, and merges the two: a step for each pair of both, and full nodes.
-fn append(
-    alloc: Global,
-    map: &mut BTreeMap<u128, Packed>,
-    pairs: &[(u128, Packed)],
-) -> Result<(), AllocError>
-    requires rise { KeysAscend map.old.entries }
-    requires run { KeysAscend pairs.now }
-    ensures ok { OnOk result (map.new.entries ≡ with_pairs map.old.entries pairs.now) }
-    ensures others { SameElsewhere pairs.now map.old.entries map.new.entries }
-    ensures rise { KeysAscend map.new.entries }
-{
-    let mut made = map_of(alloc, pairs)?;
-    map.append(&mut made)?;
-    Ok(())
-}
-
-// The map of pairs at rising keys.
-fn map_of(alloc: Global, pairs: &[(u128, Packed)]) -> Result<BTreeMap<u128, Packed>, AllocError>
-    ensures { IfOk result (IsFromIterResult nat_cmp pairs.now) }
-{
-    pairs.iter().copied().collect(alloc)
 }
 
 // Inserts pairs one by one. Where an allocation fails, some may be in.

@@ -1,19 +1,12 @@
 use Rattle.std.proofs.Common.{◌≡◌, true, false, ap, sym, subst, ◌∙◌, length}
 use Rattle.std.proofs.lemmas.Bool.{eq-eqb}
-use Rattle.warm_history.specs.BucketMaps.{KeysAscend}
 use Rattle.warm_history.specs.MapPairs.{MapPairs}
 use Rattle.warm_history.specs.Walks.{DiffersAt}
-use Rattle.warm_history.proofs.MergedLemmas.{filled_is, filled_differs, free_absent}
+use Rattle.warm_history.proofs.MergedLemmas.{filled_is, filled_differs}
 use Rattle.warm_history.proofs.walk.fill.Goals as goal
 
-pub put_all_in-requires-clause-rise : goal.put_all_in-requires-clause-rise
-put_all_in-requires-clause-rise c = subst KeysAscend (sym c.requires.free) tt
-
-pub put_all_in-requires-clause-absent : goal.put_all_in-requires-clause-absent
-put_all_in-requires-clause-absent c = free_absent c.args.map.now.entries c.args.run.now c.requires.free
-
 pub returns-clause-ok : goal.returns-clause-ok
-returns-clause-ok c = c.in_ok-put_all_in.ensures.ok ∙ filled_is c.args.map.now.entries c.args.run.now c.requires.free c.requires.latest
+returns-clause-ok c = c.in_ok-made.ensures.same ∙ filled_is c.args.map.now.entries c.args.run.now c.requires.free c.requires.run c.requires.latest
 
 pub returns-clause-tells : goal.returns-clause-tells
 returns-clause-tells c =
@@ -22,4 +15,4 @@ returns-clause-tells c =
     let differs = filled_differs old run c.requires.free (λ none.
     let no : false ≡ true = c.if-is_empty.ensures ∙ eq-eqb (length run) 0 (ap length none) in
     absurd (cc)) in
-    ((λ yes. subst (DiffersAt run old) (sym c.in_ok-put_all_in.ensures.ok) differs), λ no. absurd (cc))
+    ((λ yes. subst (DiffersAt run old) (sym c.in_ok-made.ensures.same) differs), λ no. absurd (cc))
