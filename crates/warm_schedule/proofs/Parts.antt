@@ -1,7 +1,7 @@
 -- Two numbers at the head of a text, parted by a byte that is no digit and no space.
 use Rattle.std.proofs.Common.{◌≡◌, ◌≢◌, ◌⊎◌, inl, inr, ℕ, ◌-◌, true, List, [], ◌∷◌, Option, Some, None, refl, sym, ap, ◌∙◌, subst}
 use Rattle.std.proofs.lemmas.Bool.{cases_Bool, cases_eq, eq-eqb, ne_eqb}
-use Rattle.std.specs.Prelude.{◌==◌, option_map, if◌then◌else◌}
+use Rattle.std.specs.Prelude.{option_map}
 use Rattle.warm_schedule.specs.Text.{split}
 use Rattle.warm_schedule.specs.Fields.{◌>>=◌, digit_of, digits_after, number_up_to}
 use Rattle.warm_schedule.specs.Heads.{is_digit, leading_digits, after_digits, number_at, behind, words_behind}

@@ -5,7 +5,7 @@ use Rattle.std.specs.Prelude.{◌==◌, filter, option_map, if◌then◌else◌}
 use Rattle.warm_schedule.specs.Text.{split, words, has_bytes}
 use Rattle.warm_schedule.specs.Fields.{◌>>=◌, number_up_to}
 use Rattle.warm_schedule.specs.Heads.{is_digit, leading_digits, after_digits, number_at, words_behind}
-use Rattle.warm_schedule.proofs.Leading.{digit_more, digit_stop, after_more, after_stop, all_digits, IsOther, end_or_other, other_number}
+use Rattle.warm_schedule.proofs.Leading.{digit_more, digit_stop, after_more, after_stop, all_digits, end_or_other, other_number}
 
 -- ---- the first word of a text that begins with no space, and the words behind it
 

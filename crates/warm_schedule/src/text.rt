@@ -49,7 +49,23 @@ pub(crate) fn next_word(line: &[u8]) -> Option<(&[u8], &[u8])>
 
 // The text from its first word on. Words are parted by one or more spaces.
 #[tactic(auto, unfolding(crate::specs::Text::words))]
+#[inline]
 pub(crate) fn from_word(text: &[u8]) -> &[u8]
+    ensures same { words result.now ≡ words text.now }
+    ensures no_space { behind 32 result.now ≡ None }
+{
+    match text {
+        [b' ', rest @ ..] => after_spaces(rest),
+        _ => text,
+    }
+}
+
+// What follows more spaces. It stands apart since `after_word` has passed the first space of a
+// field, so that a field whose word follows at once has no loop here.
+#[tactic(auto, unfolding(crate::specs::Text::words))]
+#[cold]
+#[inline(never)]
+fn after_spaces(text: &[u8]) -> &[u8]
     ensures same { words result.now ≡ words text.now }
     ensures no_space { behind 32 result.now ≡ None }
 {
