@@ -1,5 +1,5 @@
 -- Nodes over lists of devices.
-use Rattle.std.proofs.Common.{◌≡◌, ℕ, ◌+◌, List, [], ◌∷◌, length, map, refl, ap, subst, sym, ◌∙◌}
+use Rattle.std.proofs.Common.{◌≡◌, ℕ, suc, ◌+◌, List, [], ◌∷◌, length, map, refl, ap, subst, sym, ◌∙◌}
 use Rattle.std.specs.Global.{Vec}
 use Rattle.warm_devices.specs.Device.{DeviceState}
 use Rattle.warm_gossip.specs.State.{NodeState}
@@ -9,7 +9,7 @@ use Rattle.warm_world.specs.Nodes.{nodes_over, AreUsable}
 -- a node for each list
 nodes_length : (s : Sizes) (i : ℕ) (devices : List (List DeviceState)) → length (nodes_over s i devices) ≡ length devices
 nodes_length s i [] = refl
-nodes_length s i (first ∷ rest) = ap (λ n. n + 1) (nodes_length s (i + 1) rest)
+nodes_length s i (first ∷ rest) = ap suc (nodes_length s (i + 1) rest)
 
 -- one for each replica
 pub nodes_count : (s : Sizes) (devices : List (List DeviceState)) (nodes : List NodeState) → AreUsable s devices → nodes ≡ nodes_over s 1 devices → length nodes ≡ s.replicas

@@ -41,9 +41,25 @@ fn print_replica<W: Write>(writer: &mut W, number: u64, history: &History) -> io
     print_history(writer, history)
 }
 
-// The replicas of a setup over their devices. They are `BadDevices` if they are not one list for
-// each replica, each of at most `MAX_DEVICES`, with pages of the setup's size.
+// The nodes of a setup over devices that are usable for it.
 fn nodes_of<D: PageDevice>(
+    alloc: Global,
+    setup: Setup,
+    devices: Vec<Vec<D>>,
+) -> Result<Vec<Node<D>>, PlayFault>
+    requires usable { AreUsable setup (listed D.state devices.items) }
+    ensures opened { IfOk result (λ nodes. nodes.items
+        ≡ nodes_over setup 1 (listed D.state devices.items)) }
+    ensures count { IfOk result (λ nodes. length nodes.items ≡ setup.replicas) }
+    ensures why { IfErr result (λ why. why ≡ Memory) }
+{
+    let nodes = nodes_over(alloc, setup, devices)?;
+    Ok(nodes)
+}
+
+// The same over any devices. They are `BadDevices` if they are not one list for each replica, each
+// of at most `MAX_DEVICES`, with pages of the setup's size.
+fn checked_nodes<D: PageDevice>(
     alloc: Global,
     setup: Setup,
     devices: Vec<Vec<D>>,
@@ -60,8 +76,7 @@ fn nodes_of<D: PageDevice>(
     if !are_usable(setup, &devices) {
         return Err(PlayFault::BadDevices);
     }
-    let nodes = nodes_over(alloc, setup, devices)?;
-    Ok(nodes)
+    nodes_of(alloc, setup, devices)
 }
 
 // Prints `replica I` and what `show I` prints for each replica in turn, counted from 1, and flushes
@@ -170,7 +185,7 @@ where
         × Played setup (listed D.state devices.items) text out
         × Appends (W.contents writer.old) (W.contents writer.new) out)) }
 {
-    let nodes = nodes_of(alloc, setup, devices)?;
+    let nodes = checked_nodes(alloc, setup, devices)?;
     let nodes = play_over(rt, alloc, reader, setup, nodes)?;
     print_replicas(writer, &nodes)
 }
