@@ -117,7 +117,7 @@ class Bench:
 
     def instructions(self, name: str, load: Load) -> float:
         """Those of a call. What the system does for it is not counted."""
-        words = ["--collect-atstart=no", "--toggle-collect=measured_slice*", "--callgrind-out-file=/dev/null"]
+        words = ["--instr-atstart=no", "--collect-atstart=no", "--toggle-collect=measured_slice*", "--callgrind-out-file=/dev/null"]
         command = ["valgrind", "--tool=callgrind", *words, *self.command(POOLS[name], load, COUNTED_SLICES)]
         said = subprocess.run(command, stdout=subprocess.DEVNULL, stderr=subprocess.PIPE, check=True, text=True).stderr
         collected = re.search(r"Collected : (\d+)", said)
