@@ -80,7 +80,7 @@ def build(library: Path, folder: Path) -> None:
     c_flags: list[str | Path] = ["-std=c11", "-O2", "-Wall", "-Wextra"]
     cpp_flags: list[str | Path] = ["-std=c++17", "-O2", "-Wall", "-Wextra"]
     load = folder / "load.o"
-    compiled([c, *c_flags, "-c", HERE / "load.c", "-o", load], "load.c is not compiled")
+    compiled([c, *c_flags, "-c", HERE / "load.c", "-o", load], "load.c needs the package valgrind: run bench/peers/install")
     ours = "ours.c needs include/warm.h and lib/libwarm_c.a in the folder LIBRARY, with the functions of our C API (scripts/c-library)"
     links = [f"-I{library}/include", HERE / "ours.c", load, f"-L{library}/lib", "-lwarm_c", "-lpthread"]
     compiled([c, *c_flags, *links, "-o", folder / "ours"], ours)
