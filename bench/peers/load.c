@@ -17,6 +17,7 @@
 #include <string.h>
 #include <time.h>
 #include <unistd.h>
+#include <valgrind/callgrind.h>
 
 enum { SLICE = 1024, MOST_PAGES = 65536, MOST_THREADS = 64, FILE_BY_POOL = 8, MOST_LOOKS = 100000 };
 
@@ -131,6 +132,7 @@ static void *play(void *at) {
     const struct load *load = player->load;
     if (!is_shared) player->pool = open_pool(load, player->drawn);
     fill(player);
+    CALLGRIND_START_INSTRUMENTATION; /* the fill is not counted, and takes much longer if it is looked at */
     meet(load);
     if (player == players) reads = reads_so_far();
     play_slices(player);

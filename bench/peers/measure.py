@@ -80,7 +80,7 @@ def build(library: Path, folder: Path) -> None:
     c_flags: list[str | Path] = ["-std=c11", "-O2", "-Wall", "-Wextra"]
     cpp_flags: list[str | Path] = ["-std=c++17", "-O2", "-Wall", "-Wextra"]
     load = folder / "load.o"
-    compiled([c, *c_flags, "-c", HERE / "load.c", "-o", load], "load.c is not compiled")
+    compiled([c, *c_flags, "-c", HERE / "load.c", "-o", load], "load.c needs the package valgrind: run bench/peers/install")
     ours = "ours.c needs include/warm.h and lib/libwarm_c.a in the folder LIBRARY, with the functions of our C API (scripts/c-library)"
     links = [f"-I{library}/include", HERE / "ours.c", load, f"-L{library}/lib", "-lwarm_c", "-lpthread"]
     compiled([c, *c_flags, *links, "-o", folder / "ours"], ours)
@@ -117,7 +117,7 @@ class Bench:
 
     def instructions(self, name: str, load: Load) -> float:
         """Those of a call. What the system does for it is not counted."""
-        words = ["--collect-atstart=no", "--toggle-collect=measured_slice*", "--callgrind-out-file=/dev/null"]
+        words = ["--instr-atstart=no", "--collect-atstart=no", "--toggle-collect=measured_slice*", "--callgrind-out-file=/dev/null"]
         command = ["valgrind", "--tool=callgrind", *words, *self.command(POOLS[name], load, COUNTED_SLICES)]
         said = subprocess.run(command, stdout=subprocess.DEVNULL, stderr=subprocess.PIPE, check=True, text=True).stderr
         collected = re.search(r"Collected : (\d+)", said)

@@ -14,6 +14,8 @@ const char *const program = "ours";
 const char *const kinds[2] = {"pins", "references"};
 const bool is_shared = false;
 
+enum { BATCH = 1024 };
+
 struct pool {
     warm handle;
     bool is_told; /* of each access */
@@ -27,17 +29,32 @@ static void ok(int status, const char *call) {
     exit(1);
 }
 
-static void refer(struct pool *pool, uint64_t no) {
-    warm_reference reference = {.time = ++pool->time, .no = no, .replica = 1};
-    ok(warm_absorb(&pool->handle, &reference, 1), "warm_absorb");
+/* A reference to a page, later than all before it. */
+static warm_reference reference(struct pool *pool, uint64_t no) {
+    return (warm_reference){.time = ++pool->time, .no = no, .replica = 1};
+}
+
+static void refer(struct pool *pool, const uint32_t *pages, size_t count) {
+    warm_reference references[BATCH];
+    for (size_t i = 0; i < count; i++) references[i] = reference(pool, pages[i]);
+    ok(warm_absorb(&pool->handle, references, count), "warm_absorb");
+}
+
+static void refer_once(struct pool *pool, uint64_t no) {
+    warm_reference it = reference(pool, no);
+    ok(warm_absorb(&pool->handle, &it, 1), "warm_absorb");
 }
 
 /* The history knows all pages of the file, each by two references, in the order in which they will be drawn: the pages that were drawn last
  * leave last. */
 static void know_file(struct pool *pool, const struct load *load, uint64_t drawn) {
-    for (uint64_t i = 0; i < 2 * (uint64_t)load->file_pages; i++) {
-        drawn = next_draw(drawn);
-        refer(pool, low_page(drawn, load->file_pages));
+    uint32_t pages[BATCH];
+    for (uint64_t known = 0; known < 2 * (uint64_t)load->file_pages; known += BATCH) {
+        for (size_t i = 0; i < BATCH; i++) {
+            drawn = next_draw(drawn);
+            pages[i] = low_page(drawn, load->file_pages);
+        }
+        refer(pool, pages, BATCH);
     }
 }
 
@@ -56,7 +73,7 @@ void *open_pool(const struct load *load, uint64_t drawn) {
 void before_slice(void *at, const uint32_t *pages, size_t count) {
     struct pool *pool = at;
     if (pool->is_told || !pool->is_of_misses) return;
-    for (size_t i = 0; i < count; i++) refer(pool, pages[i]);
+    refer(pool, pages, count);
 }
 
 uint64_t play_slice(void *at, const uint32_t *pages, size_t count) {
@@ -66,7 +83,7 @@ uint64_t play_slice(void *at, const uint32_t *pages, size_t count) {
         uint8_t bytes[8];
         uint64_t number;
         warm_slot slot;
-        if (pool->is_told) refer(pool, pages[i]);
+        if (pool->is_told) refer_once(pool, pages[i]);
         ok(warm_pin(&pool->handle, (warm_page){.no = pages[i]}, &slot), "warm_pin");
         ok(warm_read(&pool->handle, slot, 0, bytes, sizeof bytes), "warm_read");
         ok(warm_unpin(&pool->handle, slot), "warm_unpin");
