@@ -40,7 +40,8 @@ fn next_chunk(alloc: Global, left: &mut BucketEntries<'_>) -> Result<Vec<Entry>,
     let mut chunk = Vec::with_capacity(alloc, MAX_ENTRIES)?;
     while chunk.len() < MAX_ENTRIES {
         match left.next() {
-            Some(entry) => chunk.push(entry)?,
+            // Taken apart, since the toolchain has no proof of an entry that is moved whole here.
+            Some(Entry { page, hist }) => chunk.push(Entry { page, hist })?,
             None => return Ok(chunk),
         }
     }

@@ -1,13 +1,14 @@
 use Rattle.std.proofs.Common.{[], ◌∷◌, arith}
 use Rattle.std.proofs.lemmas.List.{length-append}
 use Rattle.warm_frames.specs.declared.layout.TheConstants.{MAX_ENTRIES}
+use Rattle.warm_history.specs.declared.hist.Entry.{Entry}
 use Rattle.warm_files.proofs.DumpLemmas.{chunk_item, chunk_full, chunk_last}
 use Rattle.warm_files.proofs.writing.next_chunk.Goals as goal
 
 pub loop-left-preserved : goal.loop-left-preserved
 loop-left-preserved c = record {
   goes = rw c.in_ok-push-in-Some.ensures.items (chunk_item _ _ _ _ _ c.loop-left.invariant.goes c.in-Some.ensures.steps);
-  few = rw c.in_ok-push-in-Some.ensures.items (omega (arith, c.loop-left-test.true, c.len.ensures, length-append c.loop-left.chunk.items (c.in-Some.entry ∷ [])));
+  few = rw c.in_ok-push-in-Some.ensures.items (omega (arith, c.loop-left-test.true, c.len.ensures, length-append c.loop-left.chunk.items ((record { page = c.in-Some.page; hist = c.in-Some.hist } : Entry) ∷ [])));
 }
 
 pub returns-in-None-clause-chunk : goal.returns-in-None-clause-chunk
