@@ -6,10 +6,11 @@ use Rattle.warm_files.proofs.DumpLemmas.{chunk_item, chunk_full, chunk_last}
 use Rattle.warm_files.proofs.writing.next_chunk.Goals as goal
 
 pub loop-left-preserved : goal.loop-left-preserved
-loop-left-preserved c = record {
-  goes = rw c.in_ok-push-in-Some.ensures.items (chunk_item _ _ _ _ _ c.loop-left.invariant.goes c.in-Some.ensures.steps);
-  few = rw c.in_ok-push-in-Some.ensures.items (omega (arith, c.loop-left-test.true, c.len.ensures, length-append c.loop-left.chunk.items ((record { page = c.in-Some.page; hist = c.in-Some.hist } : Entry) ∷ [])));
-}
+loop-left-preserved c =
+    let entry : Entry = record { page = c.in-Some.page; hist = c.in-Some.hist } in record {
+      goes = rw c.in_ok-push-in-Some.ensures.items (chunk_item _ _ _ _ _ c.loop-left.invariant.goes c.in-Some.ensures.steps);
+      few = rw c.in_ok-push-in-Some.ensures.items (omega (arith, c.loop-left-test.true, c.len.ensures, length-append c.loop-left.chunk.items (entry ∷ [])));
+    }
 
 pub returns-in-None-clause-chunk : goal.returns-in-None-clause-chunk
 returns-in-None-clause-chunk c = (chunk_last MAX_ENTRIES _ _ _ _ c.loop-left.invariant.goes c.in-None.ensures.steps.0 c.in-None.ensures.steps.1 c.loop-left.invariant.few).0
