@@ -1,4 +1,4 @@
-use Rattle.std.proofs.Common.{[], ◌∷◌, arith}
+use Rattle.std.proofs.Common.{List, ap, arith, length}
 use Rattle.std.proofs.lemmas.List.{length-append}
 use Rattle.warm_frames.specs.declared.layout.TheConstants.{MAX_ENTRIES}
 use Rattle.warm_history.specs.declared.hist.Entry.{Entry}
@@ -6,11 +6,10 @@ use Rattle.warm_files.proofs.DumpLemmas.{chunk_item, chunk_full, chunk_last}
 use Rattle.warm_files.proofs.writing.next_chunk.Goals as goal
 
 pub loop-left-preserved : goal.loop-left-preserved
-loop-left-preserved c =
-    let entry : Entry = record { page = c.in-Some.page; hist = c.in-Some.hist } in record {
-      goes = rw c.in_ok-push-in-Some.ensures.items (chunk_item _ _ _ _ _ c.loop-left.invariant.goes c.in-Some.ensures.steps);
-      few = rw c.in_ok-push-in-Some.ensures.items (omega (arith, c.loop-left-test.true, c.len.ensures, length-append c.loop-left.chunk.items (entry ∷ [])));
-    }
+loop-left-preserved c = record {
+  goes = rw c.in_ok-push-in-Some.ensures.items (chunk_item _ _ _ _ _ c.loop-left.invariant.goes c.in-Some.ensures.steps);
+  few = omega (arith, c.loop-left-test.true, c.len.ensures, simp length-append at (ap (λ (es : List Entry). length es) c.in_ok-push-in-Some.ensures.items));
+}
 
 pub returns-in-None-clause-chunk : goal.returns-in-None-clause-chunk
 returns-in-None-clause-chunk c = (chunk_last MAX_ENTRIES _ _ _ _ c.loop-left.invariant.goes c.in-None.ensures.steps.0 c.in-None.ensures.steps.1 c.loop-left.invariant.few).0
