@@ -28,3 +28,9 @@ pub mod BucketParts
 pub mod MergeIterLemmas
 pub mod SetLemmas
 pub mod PackedLemmas
+pub mod NearKeys
+pub mod WithKeys
+pub mod NearParts
+pub mod FullMaps
+pub mod EntriesOfBucket
+pub mod NearRuns

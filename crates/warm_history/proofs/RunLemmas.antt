@@ -19,7 +19,7 @@ use Rattle.warm_history.specs.Carried.{bucket_entries}
 use Rattle.warm_history.specs.Changes.{SameInBucket, MarksChanged}
 use Rattle.warm_history.specs.ListHistories.{first_two, latest_of, hist_stamps, known_stamps, references_of_entry, list_references_of, list_history}
 use Rattle.warm_history.specs.ReferenceSets.{is_kept, references_from}
-use Rattle.warm_history.specs.MapKeys.{first_key, key_of_page, page_of_key, IsMapKey}
+use Rattle.warm_history.specs.MapKeys.{first_key, first_far_key, key_of_page, page_of_key, IsMapKey}
 use Rattle.warm_history.specs.MapPairs.{MapPairs, kept, AreKept, references_at, TakesEntries, TakesRecent, TakesStamps}
 use Rattle.warm_history.specs.BucketMaps.{LiesIn, HoldsBucket, found}
 use Rattle.warm_history.specs.Runs.{RiseWithin, at_key, run_pairs, with_pairs}
@@ -29,7 +29,7 @@ use Rattle.warm_history.proofs.MapKeyOrder.{nat_order}
 use Rattle.warm_history.proofs.MapPairLemmas.{AreKeys, IsHistory-kept, exact_pair, kept_more, found_inserted}
 use Rattle.warm_history.proofs.RecentLemmas.{takes_none, takes_some, recent_more}
 use Rattle.warm_history.proofs.ChangeLemmas.{others_stay, lies_in, own_bucket, changes_at, in_it, not_in_it}
-use Rattle.warm_history.proofs.RunPairs.{AreAbove, run_above, found_free}
+use Rattle.warm_history.proofs.RunPairs.{AreAbove, near_first, run_above, found_free}
 
 -- ---- the stamps that a horizon leaves
 
@@ -119,7 +119,7 @@ passes m number old mid e es back none run = record {
   others = run.others;
 }
 
-pub takes_run : (m number from : ℕ) (old : MapPairs) (es : List Entry) → AreKept old → HoldsBucket number [] old → first_key number ≤ from → RiseWithin from (first_key (number + 1)) es → TakesRun m number old es (with_pairs old (run_pairs m es))
+pub takes_run : (m number from : ℕ) (old : MapPairs) (es : List Entry) → AreKept old → HoldsBucket number [] old → first_key number ≤ from → RiseWithin from (first_far_key number) es → TakesRun m number old es (with_pairs old (run_pairs m es))
 takes_run m number from old [] are free begins rise = record {
   whole = are;
   exact = sym (history_of_own_references (kept old) (IsHistory-kept old are)) ∙ ap list_history (sym (append-nil (list_references_of (kept old))));
@@ -130,19 +130,20 @@ takes_run m number from old (e ∷ es) are free begins rise =
     let starts : from ≤ key_of_page e.page = rise.0 in
     let later : first_key number ≤ key_of_page e.page + 1 = omega arith in
     let low : first_key number ≤ key_of_page e.page = omega arith in
+    let lies = near_first number (key_of_page e.page) (low, rise.1) in
     let run = takes_run m number (p + 1) old es are free later rise.3 in
-    let none = none_filled p old (run_pairs m es) (run_above m p (first_key (number + 1)) es rise.3) (found_free number p old (low, rise.1) free) in
-    cases (first_two (filter (is_kept m) (hist_stamps e.hist))) (held_left m e.hist) low none run
+    let none = none_filled p old (run_pairs m es) (run_above m p (first_far_key number) es rise.3) (found_free number p old lies free) in
+    cases (first_two (filter (is_kept m) (hist_stamps e.hist))) (held_left m e.hist) lies none run
   where
     mid : MapPairs
     mid = with_pairs old (run_pairs m es)
 
-    cases : (r : Option PageHist) → known_stamps r ≡ filter (is_kept m) (hist_stamps e.hist) → first_key number ≤ key_of_page e.page → found (key_of_page e.page) mid ≡ None → TakesRun m number old es mid → TakesRun m number old (e ∷ es) (with_pairs old (at_key (key_of_page e.page) (latest_of (filter (is_kept m) (hist_stamps e.hist))) ++ run_pairs m es))
-    cases None stamps low none run = subst (λ ss. TakesRun m number old (e ∷ es) (with_pairs old (at_key (key_of_page e.page) (latest_of ss) ++ run_pairs m es))) stamps (passes m number old mid e es rise.2 stamps run)
-    cases (Some more) stamps low none run =
+    cases : (r : Option PageHist) → known_stamps r ≡ filter (is_kept m) (hist_stamps e.hist) → LiesIn number (key_of_page e.page) → found (key_of_page e.page) mid ≡ None → TakesRun m number old es mid → TakesRun m number old (e ∷ es) (with_pairs old (at_key (key_of_page e.page) (latest_of (filter (is_kept m) (hist_stamps e.hist))) ++ run_pairs m es))
+    cases None stamps lies none run = subst (λ ss. TakesRun m number old (e ∷ es) (with_pairs old (at_key (key_of_page e.page) (latest_of ss) ++ run_pairs m es))) stamps (passes m number old mid e es rise.2 stamps run)
+    cases (Some more) stamps lies none run =
         let latest = some_latest more in
         subst (λ o. TakesRun m number old (e ∷ es) (with_pairs old (at_key (key_of_page e.page) o ++ run_pairs m es))) (latest.1 ∙ ap latest_of stamps)
-        (adds m number old mid e es more latest.0 rise.2 (low, rise.1) stamps latest.1 none run)
+        (adds m number old mid e es more latest.0 rise.2 lies stamps latest.1 none run)
 
 -- ---- the bucket that changes
 

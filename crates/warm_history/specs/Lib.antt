@@ -16,3 +16,4 @@ pub mod Merges
 pub mod Cuts
 pub mod Undo
 pub mod PackedHists
+pub mod NearPairs

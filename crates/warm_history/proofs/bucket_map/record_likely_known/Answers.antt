@@ -6,7 +6,7 @@ use Rattle.std.proofs.lemmas.Map.Steps.{set_value_same}
 use Rattle.warm_history.specs.Histories.{hist_stamps, known_stamps, latest_of}
 use Rattle.warm_history.specs.MapPairs.{MapPairs}
 use Rattle.warm_history.proofs.MapPairLemmas.{set-insert}
-use Rattle.warm_history.proofs.bucket_maps.record_likely_known.Goals as goal
+use Rattle.warm_history.proofs.bucket_map.record_likely_known.Goals as goal
 
 -- the page is there, and its value is unchanged
 pub returns-in_default-merge_into-clause-ok : goal.returns-in_default-merge_into-clause-ok
@@ -18,7 +18,7 @@ returns-in_default-merge_into-clause-ok c =
     let g = c.in-Some.known.now in (
       h,
       c.merge_into.ensures.now ∙ ap (λ k. latest_of (hist_stamps c.args.more ++ known_stamps k)) c.in-Some.ensures.value,
-      through.0 ∙ set-insert key h g old c.requires (sym c.in-Some.ensures.value),
+      through.0 ∙ set-insert key h g old c.requires.rise (sym c.in-Some.ensures.value),
       through.0
           ∙ ap (set_value (is_at (nat_cmp key)) old) c.in_default-merge_into.ensures.same
           ∙ set_value_same (is_at (nat_cmp key)) old g (sym c.in-Some.ensures.value),
@@ -33,7 +33,7 @@ returns-in-Some-clause-ok c =
     let g = c.in-Some.known.now in (
       h,
       c.merge_into.ensures.now ∙ ap (λ k. latest_of (hist_stamps c.args.more ++ known_stamps k)) c.in-Some.ensures.value,
-      through.0 ∙ set-insert c.args.key h g old c.requires (sym c.in-Some.ensures.value),
+      through.0 ∙ set-insert c.args.key h g old c.requires.rise (sym c.in-Some.ensures.value),
       (refl, ap (λ x. Some x) c.in-Some-merge_into.ensures.before ∙ c.in-Some.ensures.value, λ same. c.in-Some-merge_into.ensures.differs (cc)),
     )
 
