@@ -14,6 +14,9 @@ use crate::map_key::{first_key, key_of_page};
 use std::alloc::{AllocError, Global};
 use warm_stamps::{Bucket, BucketSet, bucket_of};
 
+// Fewer entries than this are looked up: to begin a walk costs about two look-ups, and lists.
+const SHORTEST: usize = 4;
+
 // Whether the entries are a run of the bucket of this number.
 fn is_run(number: u8, entries: &[Entry]) -> bool
     requires { number < BUCKETS }
@@ -34,10 +37,13 @@ fn is_run(number: u8, entries: &[Entry]) -> bool
     true
 }
 
-// The bucket of which these entries are a run, where they are one.
+// The bucket of which these entries are a run, where they are one that is worth a walk.
 pub(crate) fn bucket_of_run(more: &[Entry]) -> Option<Bucket>
     ensures { IfSome result (λ bucket. IsRun bucket more.now) }
 {
+    if more.len() < SHORTEST {
+        return None;
+    }
     let first = more.first()?;
     let bucket = bucket_of(first.page);
     if !is_run(bucket.get(), more) {
