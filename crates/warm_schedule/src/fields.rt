@@ -1,10 +1,14 @@
 //! The fields of a line: each reader takes the first word of the text, and returns its value and
 //! what follows it.
-ghost use Rattle.std.specs.Prelude.{◌≡◌, ◌<◌, ◌≤◌, ◌+◌, ◌*◌, ◌^◌, ◌∷◌, None, length, IfSome, MatchOption, option_map, is_some};
+ghost use Rattle.std.specs.Prelude.{◌≡◌, ◌<◌, ◌≤◌, ◌+◌, ◌*◌, ◌^◌, ◌∷◌, None, length, IfSome};
+ghost use Rattle.std.specs.Prelude.{MatchOption, option_map, is_some};
 ghost use Rattle.warm_stamps.specs.declared.TheConstants.{BUCKETS};
 ghost use Rattle.warm_schedule.specs.Text.{words};
-ghost use Rattle.warm_schedule.specs.Fields.{digit_of, number_up_to, page_of_word, slot_of_word, hex_digit_of, hex_pairs, bytes_of_hex};
-ghost use Rattle.warm_schedule.specs.Fields.{number_field, replica_field, worker_field, bucket_field, count_field, u64_field, page_field, after_field, slot_field};
+ghost use Rattle.warm_schedule.specs.Fields.{digit_of, number_up_to, page_of_word, slot_of_word};
+ghost use Rattle.warm_schedule.specs.Fields.{hex_digit_of, hex_pairs, bytes_of_hex};
+ghost use Rattle.warm_schedule.specs.Fields.{number_field, replica_field, worker_field};
+ghost use Rattle.warm_schedule.specs.Fields.{bucket_field, count_field, u64_field, page_field};
+ghost use Rattle.warm_schedule.specs.Fields.{after_field, slot_field};
 ghost use Rattle.warm_schedule.specs.Reading.{Reads, TakesMemory};
 
 use crate::parse::LineFault;
