@@ -60,7 +60,7 @@ impl Read for Breaks<'_> {
     }
 }
 
-// Why a reader is refused that gives so many bytes and then fails.
+// Why a reader is refused that gives this number of bytes and then fails.
 fn broken_after(alloc: Global, text: &[u8], len: usize) -> Option<DumpError> {
     let (begin, _) = text.split_at(len.min(text.len()));
     let mut reader = Breaks { rest: begin };
