@@ -5,7 +5,7 @@ use Rattle.warm_devices.specs.Device.{DeviceState}
 use Rattle.warm_play_fault.specs.declared.PlayFault.{PlayFault}
 use Rattle.warm_play_fault.specs.declared.PlayFault.TheVariants.{Memory}
 use Rattle.warm_world.specs.Sizes.{Sizes}
-use Rattle.warm_threads.specs.Opened.{AreUsable}
+use Rattle.warm_world.specs.Nodes.{AreUsable}
 use Rattle.warm_threads.specs.Refusals.{ThreadsPlayRefused}
 
 pub usable_then : {A E : Type 0} (r : Result A E) (Q : Type 0) → Q → OnOk r Q

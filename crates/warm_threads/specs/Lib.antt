@@ -5,7 +5,6 @@ pub mod Steps
 pub mod Plans
 pub mod Exchanges
 pub mod Works
-pub mod Opened
 pub mod Shown
 pub mod Played
 pub mod Refusals

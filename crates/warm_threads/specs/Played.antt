@@ -8,7 +8,7 @@ use Rattle.warm_replica.specs.declared.job.Job.{Job}
 use Rattle.warm_schedule.specs.Text.{lines}
 use Rattle.warm_world.specs.Sizes.{Sizes}
 use Rattle.warm_threads.specs.Asks.{asks}
-use Rattle.warm_threads.specs.Opened.{opened_nodes}
+use Rattle.warm_world.specs.Nodes.{nodes_over}
 use Rattle.warm_threads.specs.Plans.{AreJobsOf}
 use Rattle.warm_threads.specs.Shown.{replicas_text}
 use Rattle.warm_threads.specs.Works.{Went}
@@ -19,5 +19,5 @@ pub record Played (s : Sizes) (devices : List (List DeviceState)) (text out : Li
   pub jobs : List (Vec Job)
   pub ends : List NodeView
   pub asked : AreJobsOf s (asks s (lines text)) jobs
-  pub went : Went Step (map node_view (opened_nodes s 1 devices)) jobs ends
+  pub went : Went Step (map node_view (nodes_over s 1 devices)) jobs ends
   pub printed : out ≡ replicas_text 1 ends

@@ -5,7 +5,7 @@ use Rattle.warm_play_fault.specs.declared.PlayFault.{PlayFault}
 use Rattle.warm_play_fault.specs.declared.PlayFault.TheVariants.{Memory, ReadFault, WriteFault}
 use Rattle.warm_play_fault.specs.declared.PlayFault.TheVariants.{BadLine, NoThread, BadDevices}
 use Rattle.warm_world.specs.Sizes.{Sizes}
-use Rattle.warm_threads.specs.Opened.{AreUsable}
+use Rattle.warm_world.specs.Nodes.{AreUsable}
 
 -- what stops the threads of a play: an allocation failure, a thread that can't be started, or a
 -- replica that takes no mail

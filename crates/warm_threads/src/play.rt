@@ -1,12 +1,10 @@
 //! A schedule played by threads, over nodes.
-ghost use Rattle.std.specs.Prelude.{◌≡◌, ◌≢◌, ◌≤◌, ◌↔◌, List, ℕ, length, map, Some, None};
-ghost use Rattle.std.specs.Prelude.{OnOk, IfOk, IfErr, IfSome, Err, IsTrue};
+ghost use Rattle.std.specs.Prelude.{◌≡◌, ◌≢◌, List, ℕ, length, map, Some, None};
+ghost use Rattle.std.specs.Prelude.{OnOk, IfOk, IfErr, IfSome, Err};
 ghost use Rattle.std.specs.Global.{Vec};
-ghost use Rattle.std.specs.List.{All};
 ghost use Rattle.std.specs.Io.KnownBytes.{Appends, IsAtEnd};
-ghost use Rattle.warm_stamps.specs.declared.TheConstants.{MAX_REPLICAS};
-ghost use Rattle.warm_pool.specs.declared.TheConstants.{MAX_DEVICES};
 ghost use Rattle.warm_gossip.specs.State.{node_view};
+ghost use Rattle.warm_world.specs.Nodes.{AreUsable, nodes_over};
 ghost use Rattle.warm_world.specs.Views.{listed};
 ghost use Rattle.warm_schedule.specs.Answers.{Prints};
 ghost use Rattle.warm_schedule.specs.Text.{lines};
@@ -14,7 +12,6 @@ ghost use Rattle.warm_replica.specs.declared.job.Job.{Job};
 ghost use Rattle.warm_play_fault.specs.declared.PlayFault.TheVariants.{BadDevices, BadLine, Memory};
 ghost use Rattle.warm_play_fault.specs.declared.PlayFault.TheVariants.{WriteFault};
 ghost use Rattle.warm_threads.specs.Asks.{asks, first_bad};
-ghost use Rattle.warm_threads.specs.Opened.{opened_node, opened_nodes, AreUsable};
 ghost use Rattle.warm_threads.specs.Plans.{AreJobsOf};
 ghost use Rattle.warm_threads.specs.Shown.{replica_text, replicas_text};
 ghost use Rattle.warm_threads.specs.Played.{Played};
@@ -32,11 +29,9 @@ use warm_devices::PageDevice;
 use warm_gossip::Node;
 use warm_history::History;
 use warm_play_fault::PlayFault;
-use warm_pool::{MAX_DEVICES, Pool};
 use warm_replica::BatchMachine;
 use warm_schedule::print_history;
-use warm_stamps::ReplicaId;
-use warm_world::{Setup, are_sized};
+use warm_world::{Setup, are_usable, nodes_over};
 
 // Prints the history of the replica of a number.
 fn print_replica<W: Write>(writer: &mut W, number: u64, history: &History) -> io::Result<()>
@@ -47,85 +42,31 @@ fn print_replica<W: Write>(writer: &mut W, number: u64, history: &History) -> io
     print_history(writer, history)
 }
 
-// Whether no list has more devices than a page can name.
-fn are_few<D: PageDevice>(devices: &[Vec<D>]) -> bool
-    ensures { IsTrue result
-        ↔ All (λ list. length list.items ≤ MAX_DEVICES) devices.now }
-{
-    for list in devices {
-        if list.len() > MAX_DEVICES {
-            return false;
-        }
-    }
-    true
-}
-
-// Whether nodes of this setup can be made over these lists.
-fn are_usable<D: PageDevice>(setup: Setup, devices: &[Vec<D>]) -> bool
-    ensures { IsTrue result ↔ AreUsable setup (listed D.state devices.now) }
-{
-    if devices.len() != setup.replicas() as usize {
-        return false;
-    }
-    if !are_sized(devices, setup.page_size() as usize) {
-        return false;
-    }
-    are_few(devices)
-}
-
-// A node over a replica's devices, whose pages have the setup's size.
-fn node_over<D: PageDevice>(
-    alloc: Global,
-    id: ReplicaId,
-    setup: Setup,
-    devices: Vec<D>,
-) -> Result<Node<D>, PlayFault>
-    requires few { length devices.items ≤ MAX_DEVICES }
-    ensures opened { IfOk result (λ node. node ≡ opened_node setup id (map D.state devices.items)) }
-    ensures why { IfErr result (λ why. why ≡ Memory) }
-{
-    let frames = setup.frames() as usize;
-    let page_size = setup.page_size() as usize;
-    let Ok(pool) = Pool::new(alloc, frames, page_size, devices) else {
-        return Err(PlayFault::Memory);
-    };
-    Ok(Node::new(alloc, id, pool))
-}
-
-// A node over each list of devices, numbered from 1.
+// The nodes of a setup over devices that are usable for it.
 fn nodes_of<D: PageDevice>(
     alloc: Global,
     setup: Setup,
     devices: Vec<Vec<D>>,
 ) -> Result<Vec<Node<D>>, PlayFault>
-    requires few { All (λ list. length list.items ≤ MAX_DEVICES) devices.items }
-    requires many { length devices.items ≤ MAX_REPLICAS }
+    requires usable { AreUsable setup (listed D.state devices.items) }
     ensures opened { IfOk result (λ nodes. nodes.items
-        ≡ opened_nodes setup 1 (listed D.state devices.items)) }
-    ensures count { IfOk result (λ nodes. length nodes.items ≡ length devices.items) }
+        ≡ nodes_over setup 1 (listed D.state devices.items)) }
+    ensures count { IfOk result (λ nodes. length nodes.items ≡ setup.replicas) }
     ensures why { IfErr result (λ why. why ≡ Memory) }
 {
-    let mut nodes = Vec::with_capacity(alloc, devices.len())?;
-    for list in devices {
-        let Ok(id) = ReplicaId::new(nodes.len() as u16 + 1) else {
-            unreachable!()
-        };
-        let Ok(()) = nodes.push(node_over(alloc, id, setup, list)?) else {
-            return Err(PlayFault::Memory);
-        };
-    }
+    let nodes = nodes_over(alloc, setup, devices)?;
     Ok(nodes)
 }
 
-// The replicas of a setup over their devices. They are `BadDevices` if they are not one list for
-// each replica, each of at most `MAX_DEVICES`, with pages of the setup's size.
-fn nodes_over<D: PageDevice>(
+// The same over any devices. They are `BadDevices` if they are not one list for each replica, each
+// of at most `MAX_DEVICES`, with pages of the setup's size.
+fn checked_nodes<D: PageDevice>(
     alloc: Global,
     setup: Setup,
     devices: Vec<Vec<D>>,
 ) -> Result<Vec<Node<D>>, PlayFault>
     ensures opened { IfOk result (λ nodes. nodes.items
-        ≡ opened_nodes setup 1 (listed D.state devices.items)) }
+        ≡ nodes_over setup 1 (listed D.state devices.items)) }
     ensures count { IfOk result (λ nodes. length nodes.items ≡ setup.replicas) }
     ensures misfit { (AreUsable setup (listed D.state devices.items) → ⊥)
         → result ≡ Err BadDevices }
@@ -245,7 +186,7 @@ where
         × Played setup (listed D.state devices.items) text out
         × Appends (W.contents writer.old) (W.contents writer.new) out)) }
 {
-    let nodes = nodes_over(alloc, setup, devices)?;
+    let nodes = checked_nodes(alloc, setup, devices)?;
     let nodes = play_over(rt, alloc, reader, setup, nodes)?;
     print_replicas(writer, &nodes)
 }

@@ -3,7 +3,7 @@ use Rattle.std.specs.Prelude.{IfErr}
 use Rattle.warm_gossip.specs.State.{node_view}
 use Rattle.warm_play_fault.specs.declared.PlayFault.TheVariants.{BadLine, WriteFault}
 use Rattle.warm_schedule.specs.Answers.{Prints}
-use Rattle.warm_threads.specs.Opened.{opened_nodes}
+use Rattle.warm_world.specs.Nodes.{nodes_over}
 use Rattle.warm_threads.specs.Shown.{replicas_text}
 use Rattle.warm_world.specs.Views.{listed}
 use Rattle.warm_threads.proofs.Playings.{played_of}
@@ -18,7 +18,7 @@ pub returns-clause-played : goal.returns-clause-played
 returns-clause-played g c =
     let old = g.W.Write.contents c.args.writer.now in
     let new = g.W.Write.contents c.print_replicas.new.writer in
-    let opened : map node_view c.in_ok-nodes.nodes.items ≡ map node_view (opened_nodes c.args.setup 1 (listed g.D.PageDevice.state c.args.devices.items)) = ap (map node_view) c.in_ok-nodes.ensures.opened in
+    let opened : map node_view c.in_ok-nodes.nodes.items ≡ map node_view (nodes_over c.args.setup 1 (listed g.D.PageDevice.state c.args.devices.items)) = ap (map node_view) c.in_ok-nodes.ensures.opened in
     played_of c.print_replicas.result (g.R.Read.remaining c.args.reader.now) old new c.args.setup _ _ (map node_view c.in_ok-nodes-2.nodes.items) c.in_ok-nodes-2.ensures.went.0
     opened c.in_ok-nodes-2.ensures.went.1 c.in_ok-nodes-2.ensures.went.2
     (subst (λ ns. Prints c.print_replicas.result old new (replicas_text 1 (map node_view ns))) c.deref.ensures.value c.print_replicas.ensures.printed)

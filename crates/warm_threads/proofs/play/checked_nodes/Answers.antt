@@ -1,18 +1,13 @@
-use Rattle.std.proofs.Common.{◌≡◌, length, sym}
-use Rattle.warm_threads.proofs.Openings.{usable_as, usable_count, usable_few}
+use Rattle.std.proofs.Common.{sym}
+use Rattle.warm_threads.proofs.Openings.{usable_as}
 use Rattle.warm_threads.proofs.Stoppings.{memory_refuses, usable_then}
-use Rattle.warm_threads.proofs.play.nodes_over.Goals as goal
+use Rattle.warm_threads.proofs.play.checked_nodes.Goals as goal
 
 pub returns-then-not-are_usable-clause-refused : goal.returns-then-not-are_usable-clause-refused
 returns-then-not-are_usable-clause-refused g c = λ usable. let never = c.are_usable.ensures.1 (usable_as _ c.args.setup _ _ (sym c.deref.ensures.value) usable) in absurd (cc)
 
-pub nodes_of-requires-clause-few : goal.nodes_of-requires-clause-few
-nodes_of-requires-clause-few g c = usable_few _ c.args.setup _ (usable_as _ c.args.setup _ _ c.deref.ensures.value (c.are_usable.ensures.0 c.if-not-are_usable.false))
-
-pub returns-clause-count : goal.returns-clause-count
-returns-clause-count g c =
-    let many : length c.args.devices.items ≡ c.args.setup.replicas = usable_count _ c.args.setup _ (usable_as _ c.args.setup _ _ c.deref.ensures.value (c.are_usable.ensures.0 c.if-not-are_usable.false)) in
-    rw many at c.nodes_of.ensures.count
+pub nodes_of-requires : goal.nodes_of-requires
+nodes_of-requires g c = record { usable = usable_as _ c.args.setup _ _ c.deref.ensures.value (c.are_usable.ensures.0 c.if-not-are_usable.false) }
 
 pub returns-clause-misfit : goal.returns-clause-misfit
 returns-clause-misfit g c = λ misfit. absurd (misfit (usable_as _ c.args.setup _ _ c.deref.ensures.value (c.are_usable.ensures.0 c.if-not-are_usable.false)))
