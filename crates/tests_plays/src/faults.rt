@@ -1,19 +1,11 @@
 //! How faults are displayed: those of lines, setups, commands and runs, of worlds, and of their
 //! nodes and pools.
-use std::alloc::Global;
-use std::fmt;
-use std::process::Abort;
+use test_kit::displays;
 use warm_gossip::NodeFault;
 use warm_pool::PoolFault;
 use warm_schedule::{LineFault, NotForWorker, PlayFault};
 use warm_setup::{CmdFault, PathText, ProgramFault, SetupFault};
 use warm_world::{BadSetup, BadWorld, WorldFault};
-
-// Whether this is what a fault displays.
-fn shows(rt: &impl Abort, alloc: Global, fault: &impl fmt::Display, want: &str) -> bool {
-    let text = format!(in alloc; "{fault}").expect(rt, "memory for a text");
-    text.as_str() == want
-}
 
 const POOL: [(PoolFault, &str); 10] = [
     (PoolFault::SizeDiffers, "SizeDiffers"),
@@ -33,7 +25,7 @@ const POOL: [(PoolFault, &str); 10] = [
 fn pool_faults_are_shown_through_a_world(rt: HostRuntime) {
     for (fault, want) in POOL {
         let fault = WorldFault::Node(NodeFault::Pool(fault));
-        assert!(rt; shows(&rt, rt.alloc(), &fault, want));
+        assert!(rt; displays(rt.alloc(), &fault, want));
     }
 }
 
@@ -54,12 +46,12 @@ const NEW_WORLD: [(BadWorld, &str); 3] = [
 #[test]
 fn world_faults_are_shown_by_their_names(rt: HostRuntime) {
     for (fault, want) in WORLD {
-        assert!(rt; shows(&rt, rt.alloc(), &fault, want));
+        assert!(rt; displays(rt.alloc(), &fault, want));
     }
     for (fault, want) in NEW_WORLD {
-        assert!(rt; shows(&rt, rt.alloc(), &fault, want));
+        assert!(rt; displays(rt.alloc(), &fault, want));
     }
-    assert!(rt; shows(&rt, rt.alloc(), &BadSetup, "BadSetup"));
+    assert!(rt; displays(rt.alloc(), &BadSetup, "BadSetup"));
 }
 
 const SETUP: [(SetupFault, &str); 4] = [
@@ -72,11 +64,11 @@ const SETUP: [(SetupFault, &str); 4] = [
 #[test]
 fn faults_of_what_is_read_are_shown_by_their_names(rt: HostRuntime) {
     for (fault, want) in SETUP {
-        assert!(rt; shows(&rt, rt.alloc(), &fault, want));
+        assert!(rt; displays(rt.alloc(), &fault, want));
     }
-    assert!(rt; shows(&rt, rt.alloc(), &LineFault::Memory, "Memory"));
-    assert!(rt; shows(&rt, rt.alloc(), &LineFault::Bad, "Bad"));
-    assert!(rt; shows(&rt, rt.alloc(), &NotForWorker, "NotForWorker"));
+    assert!(rt; displays(rt.alloc(), &LineFault::Memory, "Memory"));
+    assert!(rt; displays(rt.alloc(), &LineFault::Bad, "Bad"));
+    assert!(rt; displays(rt.alloc(), &NotForWorker, "NotForWorker"));
 }
 
 #[test]
@@ -84,11 +76,11 @@ fn faults_of_a_run_show_their_part(rt: HostRuntime) {
     let alloc = rt.alloc();
     let name = PathText::copied_from(alloc, "no/such file").expect(&rt, "memory for a path");
     let unopened = ProgramFault::CannotOpen(name);
-    assert!(rt; shows(&rt, alloc, &unopened, "cannot open no/such file"));
+    assert!(rt; displays(alloc, &unopened, "cannot open no/such file"));
     let setup = ProgramFault::Setup(SetupFault::BadKey);
-    assert!(rt; shows(&rt, alloc, &setup, "setup: BadKey"));
+    assert!(rt; displays(alloc, &setup, "setup: BadKey"));
     let play = ProgramFault::Play(PlayFault::WriteFault);
-    assert!(rt; shows(&rt, alloc, &play, "WriteFault"));
+    assert!(rt; displays(alloc, &play, "WriteFault"));
     let command = ProgramFault::Command(CmdFault::Memory);
-    assert!(rt; shows(&rt, alloc, &command, "Memory"));
+    assert!(rt; displays(alloc, &command, "Memory"));
 }

@@ -1,45 +1,17 @@
 //! Readers and writers of `play` that give bytes one by one, are interrupted, or fail, and writers
-//! of `random_schedule` that record or fail a flush: behaviour that no contract covers.
+//! of `random_schedule` that mark or fail a flush: behaviour that no contract covers.
 use crate::player::{add, ended, texts_of};
 use crate::schedules::GOSSIP;
 use std::alloc::Global;
-use std::io;
-use std::io::{ErrorKind, Read, Write};
+use std::io::Write;
 use std::process::Abort;
+use test_kit::{BrokenReader, CountingReader, FullWriter, MarkingWriter, TrickleReader};
 use warm_schedule::{PlayFault, random_schedule};
 use warm_world::Setup;
 
-// Gives one byte at a time, each after an interrupted read.
-#[derive(Drop)]
-struct Trickle<'a> {
-    rest: &'a [u8],
-    is_ready: bool,
-}
-
-impl Read for Trickle<'_> {
-    fn read(&mut self, bytes: &mut [u8]) -> io::Result<usize> {
-        self.is_ready = !self.is_ready;
-        if self.is_ready {
-            return Err(io::Error::from(ErrorKind::Interrupted));
-        }
-        let Some((first, rest)) = self.rest.split_first() else {
-            return Ok(0);
-        };
-        if bytes.is_empty() {
-            return Ok(0);
-        }
-        bytes[0] = *first;
-        self.rest = rest;
-        Ok(1)
-    }
-}
-
 // A schedule that is read in this way prints this.
 fn trickles(rt: &impl Abort, alloc: Global, schedule: &[u8], want: &[u8]) {
-    let mut reader = Trickle {
-        rest: schedule,
-        is_ready: false,
-    };
+    let mut reader = TrickleReader::new(schedule);
     let mut answers = Vec::new(alloc);
     let played = ended(alloc, &mut reader, &mut answers);
     assert!(rt; played == Ok(()) && answers.as_slice() == want);
@@ -61,92 +33,30 @@ fn a_schedule_may_come_in_bytes(rt: HostRuntime) {
     trickles(&rt, rt.alloc(), schedule.as_slice(), want.as_slice());
 }
 
-// Marks each flush.
-#[derive(Drop)]
-struct Marked {
-    taken: Vec<u8>,
-}
-
-impl Write for Marked {
-    fn write(&mut self, bytes: &[u8]) -> io::Result<usize> {
-        self.taken.write(bytes)
-    }
-
-    fn flush(&mut self) -> io::Result<()> {
-        self.taken.write_all(b"|")
-    }
-}
-
 // Where lines are read in pieces, the answer to each is flushed separately, and nothing is flushed
 // in the middle of a line.
 #[test]
 fn answers_are_flushed_before_the_next_read(rt: HostRuntime) {
-    let mut reader = Trickle {
-        rest: b"show 1\nshow 9\nx",
-        is_ready: false,
-    };
-    let mut writer = Marked {
-        taken: Vec::new(rt.alloc()),
-    };
+    let mut reader = TrickleReader::new(b"show 1\nshow 9\nx");
+    let mut writer = MarkingWriter::new(rt.alloc());
     let played = ended(rt.alloc(), &mut reader, &mut writer);
     let want = "end 0\n|refused 14 NoSuchReplica\n|bad line 3\n|";
-    assert!(rt; played == Ok(()) && writer.taken.as_slice() == want.as_bytes());
-}
-
-// Gives these bytes, and then fails.
-#[derive(Drop)]
-struct Breaks<'a> {
-    rest: &'a [u8],
-}
-
-impl Read for Breaks<'_> {
-    fn read(&mut self, bytes: &mut [u8]) -> io::Result<usize> {
-        if self.rest.is_empty() {
-            return Err(io::Error::from(ErrorKind::TimedOut));
-        }
-        self.rest.read(bytes)
-    }
+    assert!(rt; played == Ok(()) && writer.taken() == want.as_bytes());
 }
 
 // The complete line was answered, and the incomplete next one was not.
 #[test]
 fn a_failed_read_ends_the_play(rt: HostRuntime) {
-    let mut reader = Breaks {
-        rest: b"show 1\nshow 2",
-    };
+    let mut reader = BrokenReader::new(b"show 1\nshow 2");
     let mut answers = Vec::new(rt.alloc());
     let played = ended(rt.alloc(), &mut reader, &mut answers);
     assert!(rt; played == Err(PlayFault::ReadFault) && answers.as_slice() == b"end 0\n".as_slice());
 }
 
-// Takes this many bytes, and then fails.
-#[derive(Drop)]
-struct Narrow {
-    left: usize,
-}
-
-impl Write for Narrow {
-    fn write(&mut self, bytes: &[u8]) -> io::Result<usize> {
-        if self.left == 0 {
-            return Err(io::Error::from(ErrorKind::BrokenPipe));
-        }
-        let count = bytes.len().min(self.left);
-        self.left -= count;
-        Ok(count)
-    }
-
-    fn flush(&mut self) -> io::Result<()> {
-        if self.left == 0 {
-            return Err(io::Error::from(ErrorKind::BrokenPipe));
-        }
-        Ok(())
-    }
-}
-
 // How a play ends whose writer takes this many bytes.
 fn ended_in(alloc: Global, left: usize) -> Result<(), PlayFault> {
     let mut reader: &[u8] = b"show 1\nref 1 1 0:1 1\nflush 1 1\n";
-    let mut writer = Narrow { left };
+    let mut writer = FullWriter::new(left);
     ended(alloc, &mut reader, &mut writer)
 }
 
@@ -161,30 +71,13 @@ fn a_failed_write_ends_the_play(rt: HostRuntime) {
     assert!(rt; ended_in(rt.alloc(), 13) == Ok(()));
 }
 
-// Records the greatest number of bytes requested by one read.
-#[derive(Drop)]
-struct Counted<'a> {
-    rest: &'a [u8],
-    most: usize,
-}
-
-impl Read for Counted<'_> {
-    fn read(&mut self, bytes: &mut [u8]) -> io::Result<usize> {
-        self.most = self.most.max(bytes.len());
-        self.rest.read(bytes)
-    }
-}
-
 // That a play ends after 2^40 reads is beyond a test.
 #[test]
 fn a_read_asks_for_65_536_bytes(rt: HostRuntime) {
-    let mut reader = Counted {
-        rest: b"show 1\n",
-        most: 0,
-    };
+    let mut reader = CountingReader::new(b"show 1\n");
     let mut answers = Vec::new(rt.alloc());
     let played = ended(rt.alloc(), &mut reader, &mut answers);
-    assert!(rt; played == Ok(()) && reader.most == 65_536);
+    assert!(rt; played == Ok(()) && reader.most() == 65_536);
 }
 
 // The first lines of the schedule of seed 7 for one replica with one worker, as the independent
@@ -202,17 +95,13 @@ fn draw<W: Write>(writer: &mut W, events: u32) -> Result<(), PlayFault> {
 #[test]
 fn a_drawn_schedule_is_flushed(rt: HostRuntime) {
     for (events, len) in [(3, 32), (1, 15), (0, 0usize)] {
-        let mut writer = Marked {
-            taken: Vec::new(rt.alloc()),
-        };
+        let mut writer = MarkingWriter::new(rt.alloc());
         assert!(rt; draw(&mut writer, events) == Ok(()));
-        let lines = writer.taken.as_slice().strip_suffix(b"|");
+        let lines = writer.taken().strip_suffix(b"|");
         assert!(rt; lines == DRAWN.as_bytes().get(..len));
-        let mut writer = Narrow { left: len };
+        let mut writer = FullWriter::new(len);
         assert!(rt; draw(&mut writer, events) == Err(PlayFault::WriteFault));
-        let mut writer = Narrow {
-            left: len.wrapping_add(1),
-        };
+        let mut writer = FullWriter::new(len.wrapping_add(1));
         assert!(rt; draw(&mut writer, events) == Ok(()));
     }
 }

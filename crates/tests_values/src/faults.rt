@@ -1,18 +1,9 @@
 //! How faults are displayed: those of replica numbers, of buffers, of frames and of a play.
-use std::alloc::Global;
-use std::fmt;
-use std::process::Abort;
-use test_kit::{page, seen};
+use test_kit::{displays, page, seen};
 use warm_frames::FrameFault;
 use warm_play_fault::PlayFault;
 use warm_refbuffer::{BufferFault, Full};
 use warm_stamps::BadReplica;
-
-// Whether this is what a fault displays.
-fn shows(rt: &impl Abort, alloc: Global, fault: &impl fmt::Display, want: &str) -> bool {
-    let text = format!(in alloc; "{fault}").expect(rt, "memory for a text");
-    text.as_str() == want
-}
 
 const PLAY: [(PlayFault, &str); 6] = [
     (PlayFault::Memory, "Memory"),
@@ -26,7 +17,7 @@ const PLAY: [(PlayFault, &str); 6] = [
 #[test]
 fn play_faults_are_shown_by_their_names(rt: HostRuntime) {
     for (fault, want) in PLAY {
-        assert!(rt; shows(&rt, rt.alloc(), &fault, want));
+        assert!(rt; displays(rt.alloc(), &fault, want));
     }
 }
 
@@ -47,15 +38,15 @@ const FRAME: [(FrameFault, &str); 11] = [
 #[test]
 fn frame_faults_are_shown_by_their_names(rt: HostRuntime) {
     for (fault, want) in FRAME {
-        assert!(rt; shows(&rt, rt.alloc(), &fault, want));
+        assert!(rt; displays(rt.alloc(), &fault, want));
     }
 }
 
 #[test]
 fn small_faults_are_shown_by_their_names(rt: HostRuntime) {
     let alloc = rt.alloc();
-    assert!(rt; shows(&rt, alloc, &BadReplica, "BadReplica"));
-    assert!(rt; shows(&rt, alloc, &BufferFault::Memory, "Memory"));
-    assert!(rt; shows(&rt, alloc, &BufferFault::BadCapacity, "BadCapacity"));
-    assert!(rt; shows(&rt, alloc, &Full(seen(page(1), 5, 1)), "Full"));
+    assert!(rt; displays(alloc, &BadReplica, "BadReplica"));
+    assert!(rt; displays(alloc, &BufferFault::Memory, "Memory"));
+    assert!(rt; displays(alloc, &BufferFault::BadCapacity, "BadCapacity"));
+    assert!(rt; displays(alloc, &Full(seen(page(1), 5, 1)), "Full"));
 }
