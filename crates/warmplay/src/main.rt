@@ -4,15 +4,15 @@
 //! threads.
 #![tactic(auto)]
 
-use std::alloc::Global;
+mod devices;
+
+use crate::devices::{devices_for, no_memory};
 use std::env;
 use std::fs::{self, File};
 use std::io::{self, BufWriter, Read, Write};
 use std::process::ExitCode;
 use std::sync::Wait;
 use std::thread::Threads;
-use warm_devices::{FileDevice, MemDevice, OpenFault, PageDevice};
-use warm_pool::MAX_DEVICES;
 use warm_schedule::{PlayFault, play, random_schedule};
 use warm_setup::{
     Cmd, CmdFault, DeviceSpec, PathText, ProgramFault, SetupFault, command_of, non_utf8_argument,
@@ -61,127 +61,41 @@ fn setup_in(
     }
 }
 
-// A device of a replica, in a box.
-#[derive(Drop)]
-enum DeviceBox {
-    Memory(Box<MemDevice>),
-    File(Box<FileDevice>),
-}
-
-fn no_memory() -> ProgramFault {
-    ProgramFault::Play(PlayFault::Memory)
-}
-
-// A device in memory.
-fn in_memory(alloc: Global, pages: u32, page_size: usize) -> Result<DeviceBox, ProgramFault> {
-    let Ok(device) = MemDevice::new(alloc, u64::from(pages), page_size) else {
-        return Err(no_memory());
-    };
-    let Ok(device) = Box::new(alloc, device) else {
-        return Err(no_memory());
-    };
-    Ok(DeviceBox::Memory(device))
-}
-
-// A device over the file of the replica, which is named where it cannot be opened.
-fn in_file(
+// Plays a schedule line by line to standard output, through a buffer that is flushed at the end.
+fn play_lines<R: Read>(
     rt: &HostRuntime,
-    pages: u32,
-    page_size: usize,
-    path: &PathText,
-    replica: u16,
-) -> Result<DeviceBox, ProgramFault> {
-    let Ok(name) = path.of_replica(rt.alloc(), replica) else {
-        return Err(no_memory());
-    };
-    match FileDevice::open(rt, name.as_str(), u64::from(pages), page_size) {
-        Ok(device) => {
-            let Ok(device) = Box::new(rt.alloc(), device) else {
-                return Err(no_memory());
-            };
-            Ok(DeviceBox::File(device))
-        }
-        Err(OpenFault::Memory) => Err(no_memory()),
-        Err(OpenFault::Open) => Err(ProgramFault::CannotOpen(name)),
-    }
-}
-
-fn device_of(
-    rt: &HostRuntime,
-    spec: &DeviceSpec,
-    page_size: usize,
-    replica: u16,
-) -> Result<DeviceBox, ProgramFault> {
-    match &spec.path {
-        Some(path) => in_file(rt, spec.pages, page_size, path, replica),
-        None => in_memory(rt.alloc(), spec.pages, page_size),
-    }
-}
-
-// How a schedule is played: line by line, or by threads.
-#[derive(Clone, Copy)]
-enum Player {
-    Lines,
-    Threads,
-}
-
-// Makes the devices, by replica and then by device, and plays to standard output through a buffer,
-// which is flushed at the end.
-fn play_over<T: Threads + Wait + Sync, R: Read>(
-    rt: &HostRuntime,
-    threads: &T,
-    player: Player,
     reader: &mut R,
     setup: Setup,
     specs: &[DeviceSpec],
 ) -> Result<(), ProgramFault> {
-    if specs.len() > MAX_DEVICES {
-        return Err(ProgramFault::Play(PlayFault::BadDevices));
-    }
-    let page_size = setup.page_size() as usize;
-    let mut devices = Vec::new(rt.alloc());
-    for place in 0..setup.replicas() {
-        let mut list: Vec<Box<dyn PageDevice + Send>> = Vec::new(rt.alloc());
-        for spec in specs {
-            let pushed = match device_of(rt, spec, page_size, place + 1)? {
-                DeviceBox::Memory(device) => list.push(device),
-                DeviceBox::File(device) => list.push(device),
-            };
-            pushed.map_err(|_| no_memory())?;
-        }
-        devices.push(list).map_err(|_| no_memory())?;
-    }
+    let devices = devices_for(rt, setup, specs)?;
     let Ok(mut buffered) = BufWriter::with_capacity(rt.alloc(), OUTPUT_BUFFER_SIZE, rt.stdout())
     else {
         return Err(no_memory());
     };
-    let played = match player {
-        Player::Lines => play(rt.alloc(), reader, &mut buffered, setup, devices),
-        Player::Threads => {
-            play_threads(threads, rt.alloc(), reader, &mut buffered, setup, devices)
-        }
-    };
-    played.map_err(ProgramFault::Play)
+    play(rt.alloc(), reader, &mut buffered, setup, devices).map_err(ProgramFault::Play)
 }
 
-// Plays the file, or standard input where there is none.
-fn run_play<T: Threads + Wait + Sync>(
+// Plays the file line by line, or standard input where there is none.
+fn run_play(
     rt: &HostRuntime,
-    threads: &T,
     file: Option<PathText>,
     setup: Setup,
     specs: &[DeviceSpec],
 ) -> Result<(), ProgramFault> {
     let Some(path) = file else {
-        return play_over(rt, threads, Player::Lines, &mut rt.stdin(), setup, specs);
+        return play_lines(rt, &mut rt.stdin(), setup, specs);
     };
-    play_file(rt, threads, Player::Lines, path, setup, specs)
+    let Ok(mut schedule) = File::open(rt, path.as_str()) else {
+        return Err(ProgramFault::CannotOpen(path));
+    };
+    play_lines(rt, &mut schedule, setup, specs)
 }
 
-fn play_file<T: Threads + Wait + Sync>(
+// Plays the file by threads to standard output, likewise.
+fn run_threads<T: Threads + Wait + Sync>(
     rt: &HostRuntime,
     threads: &T,
-    player: Player,
     path: PathText,
     setup: Setup,
     specs: &[DeviceSpec],
@@ -189,14 +103,22 @@ fn play_file<T: Threads + Wait + Sync>(
     let Ok(mut schedule) = File::open(rt, path.as_str()) else {
         return Err(ProgramFault::CannotOpen(path));
     };
-    play_over(rt, threads, player, &mut schedule, setup, specs)
+    let devices = devices_for(rt, setup, specs)?;
+    let Ok(mut buffered) = BufWriter::with_capacity(rt.alloc(), OUTPUT_BUFFER_SIZE, rt.stdout())
+    else {
+        return Err(no_memory());
+    };
+    let alloc = rt.alloc();
+    play_threads(threads, alloc, &mut schedule, &mut buffered, setup, devices).map_err(
+        ProgramFault::Play,
+    )
 }
 
 // Writes a schedule drawn at random through a buffer, which `random_schedule` flushes at the end.
 fn run_random(rt: &HostRuntime, seed: u64, events: u32, setup: Setup) -> Result<(), ProgramFault> {
     let Ok(mut buffered) = BufWriter::with_capacity(rt.alloc(), OUTPUT_BUFFER_SIZE, rt.stdout())
     else {
-        return Err(ProgramFault::Play(PlayFault::Memory));
+        return Err(no_memory());
     };
     random_schedule(&mut buffered, seed, events, &setup).map_err(ProgramFault::Play)
 }
@@ -208,7 +130,7 @@ fn run<T: Threads + Wait + Sync>(rt: &HostRuntime, threads: &T) -> Result<(), Pr
     match parse_command(rt)? {
         Cmd::Play { file, setup } => {
             let (setup, specs) = setup_in(rt, setup)?;
-            run_play(rt, threads, file, setup, specs.as_slice())
+            run_play(rt, file, setup, specs.as_slice())
         }
         Cmd::Random {
             seed,
@@ -220,7 +142,7 @@ fn run<T: Threads + Wait + Sync>(rt: &HostRuntime, threads: &T) -> Result<(), Pr
         }
         Cmd::Threads { file, setup } => {
             let (setup, specs) = setup_in(rt, setup)?;
-            play_file(rt, threads, Player::Threads, file, setup, specs.as_slice())
+            run_threads(rt, threads, file, setup, specs.as_slice())
         }
     }
 }
