@@ -26,7 +26,7 @@ Known = dict[int, Times]
 
 def leaves_first(known: Known) -> Callable[[int], tuple[int, int, int]]:
     """Of two pages the lesser leaves first. A page without a second reference is infinitely far back."""
-    return lambda page: (*known.get(page, (NEVER, NEVER)), page)
+    return lambda page: (*known.get(page, (NEVER, NEVER)), -page)
 
 
 def united(known: Known, more: Known) -> Known:
@@ -92,7 +92,7 @@ def round_of(known: Known) -> list[Known]:
 
 def size(piece: Known) -> int:
     """The bytes of a frame with these entries: a header and a count, page and tag of each, ten for each time."""
-    return 23 + sum(11 + 10 * sum(time != NEVER for time in times) for times in piece.values())
+    return 24 + sum(11 + 10 * sum(time != NEVER for time in times) for times in piece.values())
 
 
 def heard(rounds: list[list[Known]], one_of: int) -> tuple[Known, int]:

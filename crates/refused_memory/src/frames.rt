@@ -4,9 +4,9 @@ use std::alloc::Global;
 use warm_frames::{BoxedMessage, Decoder, Fed, FrameFault, Message, decode, encode};
 
 // A frame of sender 1, with horizon 12 and the entry 0:7 with stamps 20@1 and 10@1.
-const WIDE: [u8; 54] = [
-    0x4C, 0x32, 0x47, 0x32, 1, 0, 1, 0, 0, 0, 0, 0, 0, 0, 0x0C, 0, 0, 0, 0x23, 0, 0, 0, 1, 0, 0, 0,
-    0, 0, 0, 0, 0, 0, 7, 2, 0, 0, 0, 0, 0, 0, 0, 0x14, 0, 1, 0, 0, 0, 0, 0, 0, 0, 0x0A, 0, 1,
+const WIDE: [u8; 55] = [
+    0x4C, 0x32, 0x47, 0x33, 1, 0, 1, 0, 0, 0, 0, 0, 0, 0, 0, 0x0C, 0, 0, 0, 0x23, 0, 0, 0, 1, 0, 0,
+    0, 0, 0, 0, 0, 0, 0, 7, 2, 0, 0, 0, 0, 0, 0, 0, 0x14, 0, 1, 0, 0, 0, 0, 0, 0, 0, 0x0A, 0, 1,
 ];
 
 // The same in the older format, which has no horizon: it is 0.

@@ -17,8 +17,11 @@
 //! of each bucket, and that of a request is a number with a bit for each bucket.
 use warm_stamps::BUCKETS;
 
+/// The magic number of the padded format: the letters `L2G3`.
+pub const MAGIC: u32 = 0x4C32_4733;
+
 /// The magic number of the wide format: the letters `L2G2`.
-pub const MAGIC: u32 = 0x4C32_4732;
+pub const WIDE_MAGIC: u32 = 0x4C32_4732;
 
 /// The magic number of the narrow format: the letters `L2G1`.
 pub const NARROW_MAGIC: u32 = 0x4C32_4731;
@@ -41,14 +44,24 @@ pub const KIND_SIZE: usize = 1;
 /// The size of the sender's number.
 pub const SENDER_SIZE: usize = 2;
 
-/// The size of the horizon, which only the wide format has.
+/// The size of the reserved byte, which is 0, and which only the padded format has.
+pub const RESERVED_SIZE: usize = 1;
+
+/// The size of the horizon, which the narrow format does not have.
 pub const HORIZON_SIZE: usize = 8;
 
 /// The size of the length, which counts the bytes of the body.
 pub const LENGTH_SIZE: usize = 4;
 
+/// The size of a header of the padded format: 20.
+pub const HEADER_SIZE: usize = WIDE_HEADER_SIZE + RESERVED_SIZE;
+
 /// The size of a header of the wide format: 19.
-pub const HEADER_SIZE: usize = MAGIC_SIZE + KIND_SIZE + SENDER_SIZE + HORIZON_SIZE + LENGTH_SIZE;
+pub const WIDE_HEADER_SIZE: usize = MAGIC_SIZE
+    + KIND_SIZE
+    + SENDER_SIZE
+    + HORIZON_SIZE
+    + LENGTH_SIZE;
 
 /// The size of a header of the narrow format: 11.
 pub const NARROW_HEADER_SIZE: usize = MAGIC_SIZE + KIND_SIZE + SENDER_SIZE + LENGTH_SIZE;

@@ -62,7 +62,7 @@ impl Message {
 /// A list of messages, in the order in which they are sent. Contracts see the list.
 pub type MessageList = Items<Message>;
 
-/// Encodes the message as a frame of the format `L2G2`. `AllocError` occurs only where the
+/// Encodes the message as a frame of the format `L2G3`. `AllocError` occurs only where the
 /// allocation of the bytes fails.
 pub fn encode(alloc: Global, message: &Message) -> Result<Vec<u8>, AllocError>
     // The bytes written encode the message, so `decode` returns it.
