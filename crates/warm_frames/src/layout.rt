@@ -1,16 +1,17 @@
 //! The layout of frames: the numbers that writing and reading share.
 //!
-//! A frame is the bytes of a message: a header and a body, one after the other. There are two
-//! formats: the wide one is written and read, the narrow one is only read. A number of more than
-//! one byte has its highest byte first. All sizes are in bytes.
+//! A frame is the bytes of a message: a header and a body, one after the other. There are three
+//! formats: the padded one is written and read, the wide and the narrow one are only read. A number
+//! of more than one byte has its highest byte first. All sizes are in bytes.
 //!
-//! | Header | Wide | Narrow |
-//! |---|---|---|
-//! | magic number | [`MAGIC_SIZE`] | [`MAGIC_SIZE`] |
-//! | kind | [`KIND_SIZE`] | [`KIND_SIZE`] |
-//! | number of the sender | [`SENDER_SIZE`] | [`SENDER_SIZE`] |
-//! | horizon | [`HORIZON_SIZE`] | none |
-//! | length of the body | [`LENGTH_SIZE`] | [`LENGTH_SIZE`] |
+//! | Header | Padded | Wide | Narrow |
+//! |---|---|---|---|
+//! | magic number | [`MAGIC_SIZE`] | [`MAGIC_SIZE`] | [`MAGIC_SIZE`] |
+//! | kind | [`KIND_SIZE`] | [`KIND_SIZE`] | [`KIND_SIZE`] |
+//! | number of the sender | [`SENDER_SIZE`] | [`SENDER_SIZE`] | [`SENDER_SIZE`] |
+//! | reserved | [`RESERVED_SIZE`] | none | none |
+//! | horizon | [`HORIZON_SIZE`] | [`HORIZON_SIZE`] | none |
+//! | length of the body | [`LENGTH_SIZE`] | [`LENGTH_SIZE`] | [`LENGTH_SIZE`] |
 //!
 //! The body of a frame of entries is their count ([`COUNT_SIZE`]) and the entries: each is a page,
 //! a tag and one or two stamps, the later one first. The body of a frame of digests is the digest
@@ -72,8 +73,8 @@ pub const MAX_ENTRIES: usize = 1000;
 /// The size of the count of entries.
 pub const COUNT_SIZE: usize = 4;
 
-/// The size of a page in the wide format: two bytes of its device's number, then eight of its page
-/// number.
+/// The size of a page in the padded and in the wide format: two bytes of its device's number, then
+/// eight of its page number.
 pub const PAGE_ID_SIZE: usize = 10;
 
 /// The size of a page in the narrow format: two bytes of its device's number, then four of its page
