@@ -1,4 +1,4 @@
-"""Histories and dumps of them, drawn at random: frames of both formats, of several senders, that overlap and are in any order."""
+"""Histories and dumps of them, drawn at random: frames of all formats, of several senders, that overlap and are in any order."""
 
 from model import NARROW, PADDED, WIDE, History, digests_frame, entries_frame
 

@@ -68,7 +68,7 @@ fn pieces(met: &mut Met, alloc: Global) -> Result<(), Ended> {
     let second = fed(met, &mut decoder, &WIDE[20..53])?;
     met.holds(second.is_none(), "53 bytes are no frame")?;
     let Some(message) = fed(met, &mut decoder, &WIDE[53..])? else {
-        return Err(met.broken("54 bytes are a frame"));
+        return Err(met.broken("55 bytes are a frame"));
     };
     encoded(met, alloc, message.as_message(), &WIDE)
 }

@@ -224,7 +224,7 @@ fn answers_are_kept_for_their_sender(rt: HostRuntime) {
     }
 }
 
-// Entries are received in both formats, and the later ones bring their horizon.
+// Entries are received in two formats, and the later ones bring their horizon.
 #[test]
 fn both_formats_come_in_one_stream(rt: HostRuntime) {
     let alloc = rt.alloc();

@@ -1,4 +1,4 @@
-//! Limits of the fields of a header, in both formats: what is refused, by `decode` and by a
+//! Limits of the fields of a header, in all formats: what is refused, by `decode` and by a
 //! decoder, before the body is read.
 use crate::bytes::{fault, row_holds};
 use std::alloc::Global;
@@ -54,7 +54,7 @@ fn is_refused_wide(alloc: Global, kind: u8, sender: u16, len: u32, want: FrameFa
         && is_refused(alloc, &padded_header(kind, sender, u64::MAX, len), want)
 }
 
-// The fields of a header, and why it is refused in either format. Kinds and senders just past their
+// The fields of a header, and why it is refused in each format. Kinds and senders just past their
 // limits are tested with the frames that are cut in pieces.
 const HEADERS: [(u8, u16, u32, FrameFault); 14] = [
     (4, 0, 0, FrameFault::BadKind),

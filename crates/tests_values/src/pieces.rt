@@ -62,7 +62,7 @@ fn come_in_two(rt: &impl Abort, alloc: Global, bytes: &[u8], want: &[u8], first:
     give(rt, alloc, &[begin, end], want)
 }
 
-// Frames of both formats alternate in the stream, which has 182 bytes and is cut at each of them.
+// Frames of two formats alternate in the stream, which has 182 bytes and is cut at each of them.
 #[test]
 fn both_formats_in_one_stream(rt: HostRuntime) {
     let mixed: [&[u8]; 6] = [
