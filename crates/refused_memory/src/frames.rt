@@ -78,7 +78,7 @@ pub(crate) fn rows(met: &mut Met, alloc: Global) -> Result<(), Ended> {
     encoded(met, alloc, &message, &WIDE)?;
     let older = decoded(met, alloc, &NARROW)?;
     let mut widened = WIDE;
-    widened[14] = 0;
+    widened[15] = 0;
     encoded(met, alloc, &older, &widened)?;
     pieces(met, alloc)
 }
