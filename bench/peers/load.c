@@ -117,7 +117,7 @@ static void play_slices(struct player *player) {
     }
 }
 
-/* Once around the pages of hits. For misses as many pages as twice the pool has room for: some pools hold more than they are told. */
+/* Once around the pages of hits. For misses as many pages as twice the pool has room for: some pools hold more than is asked for. */
 static void fill(struct player *player) {
     const struct load *load = player->load;
     uint32_t pages = load->is_of_misses ? 2 * load->pages : load->pages;

@@ -25,7 +25,7 @@ static void ok(int status, const char *call) {
     exit(1);
 }
 
-/* Berkeley DB itself makes a pool below 500 MB a quarter larger than it is told, for the heads of its pages. Where all pages are to be hits,
+/* Berkeley DB itself makes a pool below 500 MB a quarter larger than is asked for, for the heads of its pages. Where all pages are to be hits,
  * a quarter more gives the lists of its hash table room to be of unequal length. A file is not mapped: its pages would not be in the pool. */
 void *open_pool(const struct load *load, uint64_t drawn) {
     (void)drawn;

@@ -1,6 +1,6 @@
 /*
  * ours.c: our pool, by include/warm.h. A call pins a page, copies its first eight bytes out, and unpins it. A pool of the kind "pins" is not
- * told of these accesses, as a pin is no reference; one of the kind "references" takes in a reference before each pin. Each thread has a
+ * given these accesses, as a pin is no reference; one of the kind "references" takes in a reference before each pin. Each thread has a
  * handle of its own, with a pool of its own.
  */
 #include "load.h"
