@@ -157,7 +157,10 @@ pub(crate) fn parse_bytes(alloc: Global, word: &[u8]) -> Result<ByteList, LineFa
 
 // ---- one field, and what follows it
 
+// A number. Out of line: taken into the reader of a command, each digit would also clear the parts
+// of the reader's `None`.
 #[tactic(auto, using(crate::proofs::OnePass::number_read))]
+#[inline(never)]
 fn read_number(fields: &[u8], limit: u64) -> Option<(u64, &[u8])>
     ensures value { option_map (λ x. (x.0, words x.1.now)) result
         ≡ number_field limit (words fields.now) }
