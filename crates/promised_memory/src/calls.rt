@@ -185,7 +185,16 @@ fn set_of_two(contest: &mut Contest, slot: usize, key: Option<RankKey>)
     contest.set(slot, key);
 }
 
-// Keys of two slots are set and cleared.
+// Sets the key of one of two slots, where it is less.
+fn lower_of_two(contest: &mut Contest, slot: usize, key: Option<RankKey>)
+    requires two { length contest.old ≡ 2 }
+    requires one { slot < 2 }
+    ensures { length contest.new ≡ 2 }
+{
+    contest.lower(slot, key);
+}
+
+// Keys of two slots are set, lowered and cleared.
 pub(crate) fn contested<P: Print>(rt: &P, met: &mut Met, mut contest: Contest) -> Result<(), Ended>
     requires { length contest ≡ 2 }
 {
@@ -200,6 +209,9 @@ pub(crate) fn contested<P: Print>(rt: &P, met: &mut Met, mut contest: Contest) -
     takes_none(rt, "set of no key")?;
     set_of_two(&mut contest, 1, None);
     met.holds(contest.least() == Some(0), "a key is not cleared")?;
+    takes_none(rt, "lower")?;
+    lower_of_two(&mut contest, 0, Some(first));
+    met.holds(contest.key(0) == Some(first), "a lesser key is not taken")?;
     takes_none(rt, "clear_vacant")?;
     contest.clear_vacant(&[None, Some(0)]);
     met.holds(contest.least() == None, "a vacant slot has a key")

@@ -115,6 +115,30 @@ fn the_least_of_three_keys_is_found(rt: HostRuntime) {
     assert!(rt; contest.least() == Some(0));
 }
 
+// Sets the key of one of three slots, where it is less.
+fn lower_of_three(contest: &mut Contest, slot: usize, key: Option<RankKey>)
+    requires three { length contest.old ≡ 3 }
+    requires one { slot < 3 }
+    ensures { length contest.new ≡ 3 }
+{
+    contest.lower(slot, key);
+}
+
+// A slot without a key takes that of 0:5 with 10@1. Then neither the same page with 11@1 nor no key
+// is less, and the same page without a stamp is.
+#[test]
+fn only_a_lesser_key_is_taken(rt: HostRuntime) {
+    let mut contest = Contest::new(rt.alloc(), 3).expect(&rt, "memory for slots");
+    lower_of_three(&mut contest, 1, key_of_5());
+    assert!(rt; contest.is_set(1) && !contest.is_set(0));
+    lower_of_three(&mut contest, 1, Some(key_of(page(5), Some(once(11, 1)))));
+    lower_of_three(&mut contest, 1, None);
+    assert!(rt; contest.key(1) == key_of_5());
+    lower_of_three(&mut contest, 1, Some(key_of(page(5), None)));
+    assert!(rt; contest.key(1) == Some(key_of(page(5), None)));
+    assert!(rt; contest.least() == Some(1));
+}
+
 // The history of this number of pages from 0 on, each referenced once at the time of its number.
 fn long_history(rt: &impl Abort, alloc: Global, pages: u64) -> History {
     let mut batch = Vec::new(alloc);
