@@ -10,7 +10,7 @@ use warm_gossip::{Call, Reply};
 #[derive(Drop)]
 pub struct BoxedCall {
     call: Box<Call>,
-    slot: ReplySlot,
+    memory: ReplyMemory,
 }
 
 impl Model for BoxedCall {
@@ -31,28 +31,28 @@ impl BoxedCall {
         ensures { IfOk result (λ boxed. boxed ≡ call) }
     {
         let call = Box::new(alloc, call)?;
-        let slot = ReplySlot {
+        let memory = ReplyMemory {
             reply: Box::new(alloc, Reply::Done)?,
         };
-        Ok(BoxedCall { call, slot })
+        Ok(BoxedCall { call, memory })
     }
 
     /// The call, and the memory for its reply. Allocation-free; the call's box is freed.
-    pub(crate) fn into_parts(self) -> (Call, ReplySlot)
+    pub(crate) fn into_parts(self) -> (Call, ReplyMemory)
         ensures { result.0 ≡ self }
     {
-        let BoxedCall { call, slot } = self;
-        (Box::into_inner(call), slot)
+        let BoxedCall { call, memory } = self;
+        (Box::into_inner(call), memory)
     }
 }
 
 // Memory for a reply. Its contents mean nothing until a reply is stored.
 #[derive(Drop)]
-pub(crate) struct ReplySlot {
+pub(crate) struct ReplyMemory {
     reply: Box<Reply>,
 }
 
-impl ReplySlot {
+impl ReplyMemory {
     // The reply in this memory. Allocation-free.
     pub(crate) fn with(self, reply: Reply) -> BoxedReply
         ensures { result ≡ reply }

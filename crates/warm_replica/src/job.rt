@@ -92,9 +92,9 @@ fn take_step<M: BatchMachine, R: Wait>(
             Err(fault) => StepReply::Failed(fault),
         },
         Step::Call(boxed) => {
-            let (call, slot) = boxed.into_parts();
+            let (call, memory) = boxed.into_parts();
             match worker.call(rt, replica, call) {
-                Ok(reply) => StepReply::Answered(slot.with(reply)),
+                Ok(reply) => StepReply::Answered(memory.with(reply)),
                 Err(_) => StepReply::Failed(FlushFault::TurnsSpent),
             }
         }

@@ -220,9 +220,9 @@ impl<D: PageDevice> World<D> {
             Event::Restart(i) => self.restart(i),
             Event::Horizon(i, time) => Ok(self.horizon(i, time)),
             Event::Show(i) => self.show(i),
-            of_pool => {
-                let i = of_pool.replica();
-                ask(&mut self.replicas[index_of_number(i as u64)].node, of_pool)
+            pool_event => {
+                let i = pool_event.replica();
+                ask(&mut self.replicas[index_of_number(i as u64)].node, pool_event)
             }
         }
     }
