@@ -11,7 +11,7 @@ use warm_files::{DumpError, DumpFault};
 use warm_frames::{DIGEST_SIZE, FrameFault};
 use warm_history::History;
 
-// Whether bytes are refused so, behind so many bytes of whole frames.
+// Whether bytes are refused with this fault, whose place is this number of bytes.
 fn is_refused(alloc: Global, text: &[u8], at: usize, fault: DumpFault) -> bool {
     let at = at as u64;
     read(alloc, text).err() == Some(DumpError { at, fault })

@@ -15,7 +15,7 @@ fn a_dump_may_come_in_bytes(rt: HostRuntime) {
     assert!(rt; are_equal(&read, &four_pages(&rt, rt.alloc())));
 }
 
-// Why a reader is refused that gives so many bytes and then fails.
+// Why a reader is refused that gives this number of bytes and then fails.
 fn broken_after(alloc: Global, text: &[u8], len: usize) -> Option<DumpError> {
     let (begin, _) = text.split_at(len.min(text.len()));
     let mut reader = BrokenReader::new(begin);

@@ -112,7 +112,7 @@ fn devices_of(
 /// - `Node`, with `NoDevice`: there are more devices than a pool takes, or the pages of one do not
 ///   fit into what a file's offsets can name.
 /// - `SameFile`: two devices have one descriptor, or one file by what the system says.
-/// - `NewPool`: no pool of so many frames, or of pages of this size, is made.
+/// - `NewPool`: no pool of this number of frames, or of pages of this size, is made.
 pub fn open(
     alloc: Global,
     replica: u16,

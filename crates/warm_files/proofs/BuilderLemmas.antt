@@ -13,7 +13,7 @@ references_of_entries-append [] more = refl
 references_of_entries-append (e ∷ es) more = ap (λ t. references_of_entry e ++ t) (references_of_entries-append es more) ∙ sym (append_assoc (references_of_entry e) (references_of_entries es) (references_of_entries more))
 
 same_sets : (S T : ReferenceSet) → S.horizon ≡ T.horizon → S.given ≡ T.given → history S ≡ history T
-same_sets S T horizon told = λ i. history (record { horizon = horizon i; given = told i })
+same_sets S T horizon references = λ i. history (record { horizon = horizon i; given = references i })
 
 -- where nothing waits, the history is all
 pub nothing_waits : (h : HistoryView) (n : List Entry) → IsHistory h → n ≡ [] → join h (history_of_entries_at h.horizon n) ≡ h

@@ -26,8 +26,8 @@ none_wanted (r ∷ S) = rw (bit_at-zero (page_bucket r.page)) (none_wanted S)
 alone : (S T : ReferenceSet) → S.horizon ≡ T.horizon → T ∪ in_buckets 0 S ≡ T
 alone S T same =
     let horizon : max T.horizon S.horizon ≡ T.horizon = ap (max T.horizon) same ∙ max-eq_left (omega arith) in
-    let told : T.given ++ filter (λ r. bit_at 0 (page_bucket r.page) == 1) S.given ≡ T.given = ap (λ (R : List Reference). T.given ++ R) (none_wanted S.given) ∙ append-nil T.given in
-    λ i. record { horizon = horizon i; given = told i }
+    let same_references : T.given ++ filter (λ r. bit_at 0 (page_bucket r.page) == 1) S.given ≡ T.given = ap (λ (R : List Reference). T.given ++ R) (none_wanted S.given) ∙ append-nil T.given in
+    λ i. record { horizon = horizon i; given = same_references i }
 
 collision_too : (h g : HistoryView) → IsCollision h g → IsCollision g h
 collision_too h g c = record { bucket = c.bucket; low = c.low; differ = (λ same. c.differ (sym same)); same_digest = sym c.same_digest }

@@ -31,8 +31,8 @@ one_history text h g a b =
     let same = one_reading text (a.messages ++ d ∷ []) (b.messages ++ e ∷ []) [] [] (dump_splits text h a) (dump_splits text g b) in
     let parts = one_front h.horizon g.horizon a.messages b.messages d e [] a.entries b.entries tt tt same.0 in
     let horizon : h.horizon ≡ g.horizon = ap horizon_of parts.1 in
-    let told : history_of_messages h.horizon a.messages ≡ history_of_messages g.horizon b.messages = λ i. history_of_messages (horizon i) (parts.0 i) in
-    a.given ∙ told ∙ sym b.given
+    let same_history : history_of_messages h.horizon a.messages ≡ history_of_messages g.horizon b.messages = λ i. history_of_messages (horizon i) (parts.0 i) in
+    a.given ∙ same_history ∙ sym b.given
 
 no_fault : (text : List ℕ) (h : HistoryView) (at : ℕ) (fault : FrameFault) → IsDump text h → ShowsFrameFault text at fault → ⊥
 no_fault text h at fault d shown = part_or_fault text (d.messages ++ Digest d.sender h.horizon d.digests ∷ []) shown.1 [] fault (dump_splits text h d) shown.4
@@ -83,8 +83,8 @@ own_digests text h at d r =
     let messages = r.1 in
     let parts = last_of text h d horizon horizon r.2 messages r.3 r.4 r.5 r.8 in
     let own : h.horizon ≡ horizon = ap horizon_of parts.1 in
-    let told : h ≡ history_of_messages horizon messages = d.given ∙ (λ i. history_of_messages (own i) (parts.0 i)) in
-    r.6 (sym (ap digests_in parts.1) ∙ d.same_digests ∙ ap (λ (k : HistoryView). digests_of (entries_of k)) told)
+    let history_is : h ≡ history_of_messages horizon messages = d.given ∙ (λ i. history_of_messages (own i) (parts.0 i)) in
+    r.6 (sym (ap digests_in parts.1) ∙ d.same_digests ∙ ap (λ (k : HistoryView). digests_of (entries_of k)) history_is)
 
 no_more : (text : List ℕ) (h : HistoryView) (at : ℕ) → IsDump text h → HasMore text at → ⊥
 no_more text h at d r =

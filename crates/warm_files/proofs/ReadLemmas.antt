@@ -78,21 +78,21 @@ same_max k n e = ap (λ m. max m n) e ∙ max-eq_left (omega arith)
 references_more : (known : Option ℕ) (horizon sender : ℕ) (es : List Entry) (messages : List Message) → AreAt known messages → Agrees known horizon
     → references_at known messages ∪ references_of (history_of_entries_at horizon es) ≡ references_in horizon (messages ++ Entries sender horizon es ∷ [])
 references_more None horizon sender es messages none agrees =
-    let told : references_of_entries es ≡ references_of_entries (entries_brought (messages ++ Entries sender horizon es ∷ [])) =
+    let same_references : references_of_entries es ≡ references_of_entries (entries_brought (messages ++ Entries sender horizon es ∷ [])) =
     sym (ap (λ (fs : List Message). references_of_entries (entries_brought (fs ++ Entries sender horizon es ∷ []))) none ∙ held_more [] (Entries sender horizon es)) in
-    λ i. record { horizon = above_zero horizon i; given = told i }
+    λ i. record { horizon = above_zero horizon i; given = same_references i }
 references_more (Some known) horizon sender es messages some agrees =
-    let told = sym (held_more messages (Entries sender horizon es)) in
-    λ i. record { horizon = same_max known horizon agrees i; given = told i }
+    let same_references = sym (held_more messages (Entries sender horizon es)) in
+    λ i. record { horizon = same_max known horizon agrees i; given = same_references i }
 
 -- and those of the digests, which hold none
 references_closed : (known : Option ℕ) (horizon : ℕ) (messages : List Message) → AreAt known messages → Agrees known horizon → with_horizon horizon (references_at known messages) ≡ references_in horizon messages
 references_closed None horizon messages none agrees =
-    let told : [] ≡ references_of_entries (entries_brought messages) = ap (λ (fs : List Message). references_of_entries (entries_brought fs)) (sym none) in
-    λ i. record { horizon = above_zero horizon i; given = told i }
+    let same_references : [] ≡ references_of_entries (entries_brought messages) = ap (λ (fs : List Message). references_of_entries (entries_brought fs)) (sym none) in
+    λ i. record { horizon = above_zero horizon i; given = same_references i }
 references_closed (Some known) horizon messages some agrees =
-    let told = append-nil (references_of_entries (entries_brought messages)) in
-    λ i. record { horizon = same_max known horizon agrees i; given = told i }
+    let same_references = append-nil (references_of_entries (entries_brought messages)) in
+    λ i. record { horizon = same_max known horizon agrees i; given = same_references i }
 
 some_at : (known : Option ℕ) (horizon : ℕ) (messages : List Message) → AreAt known messages → Agrees known horizon → AreEntriesAt horizon messages
 some_at None horizon messages none agrees = subst (AreEntriesAt horizon) (sym none) tt
@@ -210,8 +210,8 @@ took_entries seen piece n sender horizon es old new g encodes inside agrees know
 took_digests : (seen piece : List ℕ) (n sender horizon : ℕ) (digests : List (List ℕ)) (old new : DumpReader) (g : HasBegun seen old) → Encodes (g.begun ++ take n piece) (Digest sender horizon digests)
     → Agrees old.horizon horizon → ((S : ReferenceSet) → StandsFor old.history S → StandsFor new.history (with_horizon horizon S)) → digests ≡ digests_of (entries_of new.history) → IsDump (seen ++ take n piece) new.history
 took_digests seen piece n sender horizon digests old new g encodes agrees takes same =
-    let told : new.history ≡ history_of_messages horizon g.messages = takes (references_at old.horizon g.messages) g.stands ∙ ap history (references_closed old.horizon horizon g.messages g.horizon agrees) in
-    let at : horizon ≡ new.history.horizon = sym (ap (λ (h : HistoryView). h.horizon) told ∙ horizon-history (references_in horizon g.messages)) in
+    let new_is : new.history ≡ history_of_messages horizon g.messages = takes (references_at old.horizon g.messages) g.stands ∙ ap history (references_closed old.horizon horizon g.messages g.horizon agrees) in
+    let at : horizon ≡ new.history.horizon = sym (ap (λ (h : HistoryView). h.horizon) new_is ∙ horizon-history (references_in horizon g.messages)) in
     let messages = λ (m : ℕ). g.messages ++ Digest sender m digests ∷ [] in
     let begins : Begins (seen ++ take n piece) (messages horizon) [] = subst (λ (w : List ℕ). Begins w (messages horizon) []) (taken_text seen piece n) (begins_more seen g.begun (take n piece) [] g.messages (Digest sender horizon digests) g.front encodes) in
     record {
@@ -220,7 +220,7 @@ took_digests seen piece n sender horizon digests old new g encodes agrees takes 
       digests = digests;
       whole = subst (λ (m : ℕ). Begins (seen ++ take n piece) (messages m) []) at begins;
       entries = subst (λ (m : ℕ). AreEntriesAt m g.messages) at (some_at old.horizon horizon g.messages g.horizon agrees);
-      given = subst (λ (m : ℕ). new.history ≡ history_of_messages m g.messages) at told;
+      given = subst (λ (m : ℕ). new.history ≡ history_of_messages m g.messages) at new_is;
       same_digests = same;
     }
 
@@ -348,7 +348,7 @@ other_digests : (seen piece later : List ℕ) (n sender horizon : ℕ) (digests 
     → Agrees old.horizon horizon → (digests ≢ digests_of (entries_of (raised horizon old.history))) → IsDumpRefused ((seen ++ piece) ++ later) old.frame_start DigestsDiffer
 other_digests seen piece later n sender horizon digests old g encodes agrees differ =
     let S = references_at old.horizon g.messages in
-    let told : raised horizon old.history ≡ history_of_messages horizon g.messages =
+    let raised_is : raised horizon old.history ≡ history_of_messages horizon g.messages =
     ap (raised horizon) g.stands ∙ history_first S (record { horizon = horizon; given = [] }) ∙ ap history (references_closed old.horizon horizon g.messages g.horizon agrees) in (
       horizon,
       g.messages,
@@ -356,7 +356,7 @@ other_digests seen piece later n sender horizon digests old g encodes agrees dif
       digests,
       drop n piece ++ later,
       some_at old.horizon horizon g.messages g.horizon agrees,
-      (λ same. differ (same ∙ ap (λ (h : HistoryView). digests_of (entries_of h)) (sym told))),
+      (λ same. differ (same ∙ ap (λ (h : HistoryView). digests_of (entries_of h)) (sym raised_is))),
       ends_in seen piece later old g,
       subst (λ (w : List ℕ). Begins w (g.messages ++ Digest sender horizon digests ∷ []) (drop n piece ++ later)) (cut n seen piece later)
           (begins_more seen g.begun (take n piece) (drop n piece ++ later) g.messages (Digest sender horizon digests) g.front encodes),

@@ -15,7 +15,7 @@ use warm_frames::{DigestTable, MAX_ENTRIES};
 use warm_history::{Entry, History};
 use warm_stamps::bucket_of;
 
-// One entry may wait for each of so many entries that the history has.
+// The number of entries of the history for each entry that may wait.
 const SHARE: usize = 8;
 
 // A history, and entries that wait until they are joined to it together. Contracts see the history

@@ -253,14 +253,14 @@ abbrev seen : Reference
 seen = record { page = page 0 1; stamp = stamp 10 1 }
 
 -- a replica of two workers, with what reached it and what waits for its first worker
-abbrev told : List Reference → List Reference → ModelState
-told reach waiting = record { capacity = 64; replicas = record { reach = set_of_list reach; pending = waiting ∷ [] ∷ []; pool = no_pool } ∷ []; records = [] }
+abbrev replica_with : List Reference → List Reference → ModelState
+replica_with reach waiting = record { capacity = 64; replicas = record { reach = set_of_list reach; pending = waiting ∷ [] ∷ []; pool = no_pool } ∷ []; records = [] }
 
 -- one replica with two workers: refusals, a comment and a bad line
-refusals : Printed (told [] []) (codes "ref 2 1 0:1 5\nflush 1 3\n# x\nbad\n") (codes "refused 14 NoSuchReplica\nrefused 15 NoSuchWorker\nbad line 4\n") (told [] [])
+refusals : Printed (replica_with [] []) (codes "ref 2 1 0:1 5\nflush 1 3\n# x\nbad\n") (codes "refused 14 NoSuchReplica\nrefused 15 NoSuchWorker\nbad line 4\n") (replica_with [] [])
 unfolding meaning line_of commands words number_up_to page_of_word number_field page_field refer_of flush_of digits
 refusals =
-    let start : ModelState = told [] [] in (
+    let start : ModelState = replica_with [] [] in (
       codes "refused 14 NoSuchReplica\n",
       codes "refused 15 NoSuchWorker\nbad line 4\n",
       start,
@@ -291,29 +291,29 @@ refusals =
     )
 
 -- a reference waits, reaches the history, and is shown
-reference : Printed (told [] []) (codes "ref 1 1 0:1 10\nshow 1\nflush 1 1\nshow 1\n") (codes "ok\nend 0\nok\n0:1 last 10@1\nend 1\n") (told (seen ∷ []) [])
+reference : Printed (replica_with [] []) (codes "ref 1 1 0:1 10\nshow 1\nflush 1 1\nshow 1\n") (codes "ok\nend 0\nok\n0:1 last 10@1\nend 1\n") (replica_with (seen ∷ []) [])
 unfolding meaning line_of commands words number_up_to page_of_word number_field page_field refer_of flush_of show_of history digits
 reference = (
   codes "ok\n",
   codes "end 0\nok\n0:1 last 10@1\nend 1\n",
-  told [] (seen ∷ []),
+  replica_with [] (seen ∷ []),
   inl (Done, (record { replica_there = first _ (omega arith); worker_there = first _ (omega arith); message_there = tt }, refl), refl),
   (
     codes "end 0\n",
     codes "ok\n0:1 last 10@1\nend 1\n",
-    told [] (seen ∷ []),
+    replica_with [] (seen ∷ []),
     inl (Shown (history_of_entries []), (record { replica_there = first _ (omega arith); worker_there = tt; message_there = tt }, (refl, refl)), refl),
     (
       codes "ok\n",
       codes "0:1 last 10@1\nend 1\n",
-      told (seen ∷ []) [],
+      replica_with (seen ∷ []) [],
       inl (Done, (record { replica_there = first _ (omega arith); worker_there = first _ (omega arith); message_there = tt }, refl), refl),
       (
         codes "0:1 last 10@1\nend 1\n",
         [],
-        told (seen ∷ []) [],
+        replica_with (seen ∷ []) [],
         inl (Shown (history_of_entries (record { page = page 0 1; hist = Once (stamp 10 1) } ∷ [])), (record { replica_there = first _ (omega arith); worker_there = tt; message_there = tt }, (refl, refl)), refl),
-        ([], [], told (seen ∷ []) [], (refl, refl), (refl, refl), refl),
+        ([], [], replica_with (seen ∷ []) [], (refl, refl), (refl, refl), refl),
         refl,
       ),
       refl,

@@ -22,7 +22,7 @@ pub enum Expected {
     /// A stamp that this horizon lets stand.
     TimeFrom(u64),
     NewPage,
-    /// The last line, behind so many lines of pages.
+    /// The last line, with the number of lines of pages before it.
     End(u64),
     /// Nothing behind the last line.
     Nothing,

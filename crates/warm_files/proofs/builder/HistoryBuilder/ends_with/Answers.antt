@@ -13,9 +13,9 @@ returns-clause-raised c =
     let h : HistoryView = c.self.inside.history in
     let exact = c.in_ok-join_all.ensures.exact ∙ ap (λ (es : List Entry). join h (history_of_entries_at h.horizon es)) c.as_slice.ensures.value ∙ c.self.view_is in
     let all = closed c.join_all.new.history c.raise.new.self c.args.horizon c.clear.new.self.items c.raise.ensures.exact c.clear.ensures.items in
-    IfOk-weaker c.has_digests.result _ _ (λ same told. all ∙ c.raise.ensures.exact ∙ ap (raised c.args.horizon) exact) c.has_digests.ensures.same
+    IfOk-weaker c.has_digests.result _ _ (λ same is_same. all ∙ c.raise.ensures.exact ∙ ap (raised c.args.horizon) exact) c.has_digests.ensures.same
 
 pub returns-clause-same : goal.returns-clause-same
 returns-clause-same c =
     let all = closed c.join_all.new.history c.raise.new.self c.args.horizon c.clear.new.self.items c.raise.ensures.exact c.clear.ensures.items in
-    IfOk-weaker c.has_digests.result _ _ (λ same told. subst (λ (h : HistoryView). IsTrue same ↔ (c.args.table.now ≡ digests_of (entries_of h))) (sym all) told) c.has_digests.ensures.same
+    IfOk-weaker c.has_digests.result _ _ (λ same is_same. subst (λ (h : HistoryView). IsTrue same ↔ (c.args.table.now ≡ digests_of (entries_of h))) (sym all) is_same) c.has_digests.ensures.same
