@@ -2,9 +2,9 @@
 //!
 //! The primary uses its working set, and then scans the table once. Messages, sent as bytes, bring
 //! its references to the standby, until both histories are equal. The standby is restarted from a
-//! dump of its history, loads the hottest pages, and takes over. A cold standby, which knows nothing,
-//! makes the same accesses: both print how many pages they read. Then a page is written to, and the
-//! standby shuts down in an orderly way. Each refusal is an error, and `?` returns it.
+//! dump of its history, loads the hottest pages, and takes over. A cold standby, which knows
+//! nothing, makes the same accesses: both print how many pages they read. Then a page is written
+//! to, and the standby shuts down in an orderly way. Each refusal is an error, and `?` returns it.
 #![tactic(auto)]
 
 use anyhow::{Result, bail};
@@ -161,8 +161,8 @@ fn change(node: &mut Node<MemDevice>, no: u64, text: &[u8]) -> Result<Vec<u8>> {
     Ok(bytes.into_vec())
 }
 
-// The primary is used, and gossips with the standby. Returns the dump of the standby's history; both
-// nodes are dropped.
+// The primary is used, and gossips with the standby. Returns the dump of the standby's history;
+// both nodes are dropped.
 fn live(rt: &impl Print, alloc: Global) -> Result<Vec<u8>> {
     let mut primary = opened(alloc, 1)?;
     let mut standby = opened(alloc, 2)?;

@@ -164,7 +164,8 @@ impl Made {
         })
     }
 
-    // Touches up to the buffer's capacity, reads of the history, ranks, and a raise of the history's horizon.
+    // Touches up to the buffer's capacity, reads of the history, ranks, and a raise of the
+    // history's horizon.
     pub(crate) fn rows<P: Print>(self, rt: &P, met: &mut Met) -> Result<(), Ended> {
         let Made {
             replica,

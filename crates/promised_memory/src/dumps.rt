@@ -1,5 +1,5 @@
-//! Dumps, each written into a list that has room for it, and read: of one bucket, and of all. Each line has the number of pages of the
-//! history.
+//! Dumps, each written into a list that has room for it, and read: of one bucket, and of all. Each
+//! line has the number of pages of the history.
 use refused_rows::{Ended, Met, is_done, takes};
 use std::alloc::Global;
 use std::io::Print;
@@ -12,8 +12,8 @@ const FULL: usize = 19 + 4 + 1000 * 31;
 
 const DIGESTS: usize = 19 + 64 * 32;
 
-// Adds pages of device 0 to a history: of the first number, and then each of a number that is greater by `spread`. Each has two stamps
-// of the replica.
+// Adds pages of device 0 to a history: of the first number, and then each of a number that is
+// greater by `spread`. Each has two stamps of the replica.
 fn add(
     history: &mut History,
     replica: ReplicaId,
@@ -71,7 +71,8 @@ fn is_read<P: Print>(
     met.holds(read.len() == pages, "a dump has all entries")
 }
 
-// 3000 pages of bucket 0, and so of one map: three full frames, of which the last lies in two reads.
+// 3000 pages of bucket 0, and so of one map: three full frames, of which the last lies in two
+// reads.
 fn of_one_bucket<P: Print>(
     rt: &P,
     met: &mut Met,
@@ -84,8 +85,8 @@ fn of_one_bucket<P: Print>(
     is_read(rt, met, alloc, &text, 3000, "read_dump")
 }
 
-// 64 pages in each bucket but the last, and 4000 in that one: its four full frames come where an eighth of the history is about one
-// frame, and the whole history more than four.
+// 64 pages in each bucket but the last, and 4000 in that one: its four full frames come where an
+// eighth of the history is about one frame, and the whole history more than four.
 fn of_all_buckets<P: Print>(
     rt: &P,
     met: &mut Met,

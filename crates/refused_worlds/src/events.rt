@@ -85,7 +85,8 @@ fn horizon_at(place: usize) -> Event {
     match place {
         26 => Event::Horizon(1, 25),
         27 => Event::Offer(1),
-        // digests with a greater horizon: of pages 2 and 3, which are not older, messages 9 and 10, and message 11 is a request
+        // digests with a greater horizon: of pages 2 and 3, which are not older, messages 9 and 10,
+        // and message 11 is a request
         28 => Event::Deliver(2, 8),
         29 => Event::Show(2),
         30 => Event::Horizon(2, 35),
@@ -93,11 +94,13 @@ fn horizon_at(place: usize) -> Event {
         32 => Event::Refer(1, 1, page(4), 50),
         33 => Event::Flush(1, 1),
         34 => Event::Offer(2),
-        // page 2 is older than the horizon of these digests: message 13 has page 4, and message 14 is a request
+        // page 2 is older than the horizon of these digests: message 13 has page 4, and message 14
+        // is a request
         35 => Event::Deliver(1, 12),
         36 => Event::Horizon(2, 45),
         37 => Event::Deliver(2, 13),
-        // digests without a horizon: message 15 has page 4, and message 16 is a request with the horizon 45
+        // digests without a horizon: message 15 has page 4, and message 16 is a request with the
+        // horizon 45
         38 => Event::Deliver(2, 2),
         39 => Event::Deliver(1, 16),
         _ => Event::Show(1),

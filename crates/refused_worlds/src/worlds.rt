@@ -134,7 +134,8 @@ fn go_on(
     Ok(())
 }
 
-// Steps a world by the event of a place, which a run answered; one that the run refused is left out.
+// Steps a world by the event of a place, which a run answered; one that the run refused is left
+// out.
 fn step_as(
     met: &mut Met,
     alloc: Global,
@@ -149,7 +150,8 @@ fn step_as(
     met.holds(is_same(answer, &other), "a run answers otherwise")
 }
 
-// Steps a world by each event that a run answered, and gives the place of the one that the run refused.
+// Steps a world by each event that a run answered, and gives the place of the one that the run
+// refused.
 fn step_along(
     met: &mut Met,
     alloc: Global,

@@ -137,7 +137,8 @@ enum Row {
     Restarts,
     // All stamps before a time are forgotten, and this is the horizon afterwards.
     Forgets(u64, u64),
-    // The horizon, and all pages known, with the time of the last stamp and that of the one before, or 0.
+    // The horizon, and all pages known, with the time of the last stamp and that of the one before,
+    // or 0.
     Knows(u64, &'static [(u64, u64, u64)]),
     // A message is received, and answered by these.
     Receives(Sent, &'static [Sent]),

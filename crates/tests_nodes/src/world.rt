@@ -72,7 +72,8 @@ fn references_in_turn(rt: &impl Abort, alloc: Global, count: u64) -> Vec<Event> 
     events
 }
 
-// Whether the last answer lists all pages, of which the last is the hottest, and each other one is Done.
+// Whether the last answer lists all pages, of which the last is the hottest, and each other one is
+// Done.
 fn are_of_all(answers: &[Answer]) -> bool {
     let Some(Answer::Pages(pages)) = answers.last() else {
         return false;

@@ -1,6 +1,6 @@
 //! Whole schedules and what each line prints: references, gossip, pools, horizons, wide page
-//! numbers, refusals, devices that fail or do not fit, long buffers and buckets, and schedules drawn
-//! at random.
+//! numbers, refusals, devices that fail or do not fit, long buffers and buckets, and schedules
+//! drawn at random.
 use crate::player::{add, answers_of, default_setup, each_alone, each_line_prints, ended_over};
 use std::alloc::Global;
 use std::io::Write;
@@ -521,8 +521,9 @@ fn a_refused_end_is_the_last_line(rt: HostRuntime) {
     }
 }
 
-// References of worker 1 of replica 1: to the page of the first number, and then to one whose number
-// is greater by `spread` than that of the one before; at times from the first on. Then these lines.
+// References of worker 1 of replica 1: to the page of the first number, and then to one whose
+// number is greater by `spread` than that of the one before; at times from the first on. Then these
+// lines.
 fn references(
     rt: &impl Abort,
     alloc: Global,

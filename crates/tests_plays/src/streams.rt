@@ -17,8 +17,8 @@ fn trickles(rt: &impl Abort, alloc: Global, schedule: &[u8], want: &[u8]) {
     assert!(rt; played == Ok(()) && answers.as_slice() == want);
 }
 
-// 150,699 reads of one byte each, with as many interrupted ones, are more than 2^18: 13,699 lines of
-// 11 bytes, and 10 bytes of the last line.
+// 150,699 reads of one byte each, with as many interrupted ones, are more than 2^18: 13,699 lines
+// of 11 bytes, and 10 bytes of the last line.
 #[test]
 fn a_schedule_may_come_in_bytes(rt: HostRuntime) {
     for lines in GOSSIP {

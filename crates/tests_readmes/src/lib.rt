@@ -1,4 +1,5 @@
-//! The calls that the READMEs of the libraries show under "One call", each compiled, proved and run.
+//! The calls that the READMEs of the libraries show under "One call", each compiled, proved and
+//! run.
 //!
 //! `scripts/check-docs` compares: the lines of each README stand here, one after the other.
 #![tactic(auto)]

@@ -25,8 +25,8 @@ fn said_in(rt: &impl Abort, message: Message) -> (u16, u64, EntryList) {
     }
 }
 
-// Whether a message has this horizon, is of sender 1, and has only the entry 0:7 with stamps 20@1 and
-// 10@1.
+// Whether a message has this horizon, is of sender 1, and has only the entry 0:7 with stamps 20@1
+// and 10@1.
 fn says_twice(rt: &impl Abort, message: Message, since: u64) -> bool {
     let (sender, horizon, entries) = said_in(rt, message);
     let entries = entries.into_entries();

@@ -9,8 +9,8 @@ use std::process::Abort;
 use test_kit::{NARROW, WIDE};
 use warm_frames::{Decoder, FrameFault};
 
-// Feeds the start of a piece, and appends the encoding of a returned message to the text. Returns the
-// number of consumed bytes.
+// Feeds the start of a piece, and appends the encoding of a returned message to the text. Returns
+// the number of consumed bytes.
 fn feed_some(
     rt: &impl Abort,
     alloc: Global,

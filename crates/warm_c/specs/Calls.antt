@@ -1,5 +1,6 @@
 -- What each call does to what an open handle holds, and what it writes.
-use Rattle.std.specs.Prelude.{ℕ, ◌+◌, ◌<◌, ◌≤◌, ◌≡◌, ◌⊎◌, List, map, length, Option, Some, None, IfSome, Result, Ok, Err, Contains, slice_get}
+use Rattle.std.specs.Prelude.{ℕ, ◌+◌, ◌<◌, ◌≤◌, ◌≡◌, ◌⊎◌, List, map, length, Option, Some, None}
+use Rattle.std.specs.Prelude.{IfSome, Result, Ok, Err, Contains, slice_get}
 use Rattle.warm_stamps.specs.Replicas.{IsReplica}
 use Rattle.warm_stamps.specs.Buckets.{IsBucket}
 use Rattle.warm_stamps.specs.declared.PageId.{PageId}
@@ -14,20 +15,25 @@ use Rattle.warm_frames.specs.Reading.{GivesReading, read_frame, reserved_by}
 use Rattle.warm_frames.specs.Encoding.{Encodes, encoding}
 use Rattle.warm_pool.specs.State.{IsSettled}
 use Rattle.warm_gossip.specs.declared.call.Call.{Call}
-use Rattle.warm_gossip.specs.declared.call.Call.TheVariants.{Absorb, Send, Receive, Horizon, Pin, Unpin, Read, Write, Victim, WarmList, WarmStep}
+use Rattle.warm_gossip.specs.declared.call.Call.TheVariants.{Absorb, Send, Receive, Horizon, Pin}
+use Rattle.warm_gossip.specs.declared.call.Call.TheVariants.{Unpin, Read, Write, Victim, WarmList}
+use Rattle.warm_gossip.specs.declared.call.Call.TheVariants.{WarmStep}
 use Rattle.warm_gossip.specs.declared.call.Reply.{Reply}
-use Rattle.warm_gossip.specs.declared.call.Reply.TheVariants.{Done, Sent, Answers, Kept, Pinned, Bytes, Page, Pages, Loaded, Refused}
+use Rattle.warm_gossip.specs.declared.call.Reply.TheVariants.{Done, Sent, Answers, Kept, Pinned}
+use Rattle.warm_gossip.specs.declared.call.Reply.TheVariants.{Bytes, Page, Pages, Loaded, Refused}
 use Rattle.warm_gossip.specs.declared.fault.NodeFault.{NodeFault}
 use Rattle.warm_gossip.specs.declared.fault.NodeFault.TheVariants.{Memory}
 use Rattle.warm_gossip.specs.Clauses.{Goes, Joins, SameView, NodeWriteBackFails}
 use Rattle.warm_c.specs.declared.open_node.OpenNode.{OpenNode}
 use Rattle.warm_c.specs.declared.status.Refusal.{Refusal}
-use Rattle.warm_c.specs.declared.status.Refusal.TheVariants.{Node, Frame, Late, BufferTooSmall, BadReplica, BadBucket, Dump}
+use Rattle.warm_c.specs.declared.status.Refusal.TheVariants.{Node, Frame, Late, BufferTooSmall}
+use Rattle.warm_c.specs.declared.status.Refusal.TheVariants.{BadReplica, BadBucket, Dump}
 use Rattle.warm_c.specs.declared.values.PinnedSlot.{PinnedSlot}
 use Rattle.warm_c.specs.declared.values.WarmPage.{WarmPage}
 use Rattle.warm_c.specs.declared.values.WarmReference.{WarmReference}
 use Rattle.warm_c.specs.declared.values.WarmSlot.{WarmSlot}
-use Rattle.warm_c.specs.Values.{c_page, IsOptionalPage, page_of_c, pinned_slot, reference_of, slot_of_c, with_start}
+use Rattle.warm_c.specs.Values.{c_page, IsOptionalPage, page_of_c, pinned_slot, reference_of}
+use Rattle.warm_c.specs.Values.{slot_of_c, with_start}
 
 -- what a call of the library ends with
 abbrev pub Ending : Type 0
@@ -72,8 +78,10 @@ Raises time horizon old new = Replies (Horizon time) old (Kept horizon) new
 -- the hottest pages stand at the start of the buffer, and their number is given
 abbrev pub Lists : List WarmPage → ℕ → List WarmPage → ℕ → OpenNode → Ending → OpenNode → Type 0
 Lists before count after number old (Ok given) new =
-    (pages : List PageId) × Replies (WarmList (length before)) old (Pages pages) new × (after ≡ with_start (map c_page pages) before) × (number ≡ length pages)
-Lists before count after number old (Err why) new = RefusedByNode (WarmList (length before)) old why new × (after ≡ before) × (number ≡ count)
+    (pages : List PageId) × Replies (WarmList (length before)) old (Pages pages) new
+    × (after ≡ with_start (map c_page pages) before) × (number ≡ length pages)
+Lists before count after number old (Err why) new =
+    RefusedByNode (WarmList (length before)) old why new × (after ≡ before) × (number ≡ count)
 
 -- how many pages the history knows
 abbrev pub CountsPages : ℕ → OpenNode → OpenNode → Type 0
@@ -82,8 +90,10 @@ CountsPages number old new = (number ≡ length (entries_of old.node.history)) �
 -- The pool
 
 abbrev pub Pins : WarmPage → PinnedSlot → PinnedSlot → OpenNode → Ending → OpenNode → Type 0
-Pins page before after old (Ok given) new = Replies (Pin (page_of_c page)) old (Pinned (pinned_slot after)) new
-Pins page before after old (Err why) new = RefusedByNode (Pin (page_of_c page)) old why new × (after ≡ before)
+Pins page before after old (Ok given) new =
+    Replies (Pin (page_of_c page)) old (Pinned (pinned_slot after)) new
+Pins page before after old (Err why) new = RefusedByNode (Pin (page_of_c page)) old why new
+    × (after ≡ before)
 
 abbrev pub Unpins : WarmSlot → OpenNode → Ending → OpenNode → Type 0
 Unpins slot old (Ok given) new = Replies (Unpin (slot_of_c slot)) old Done new
@@ -91,23 +101,29 @@ Unpins slot old (Err why) new = RefusedByNode (Unpin (slot_of_c slot)) old why n
 
 -- as many bytes as the buffer has room for; never refused for memory
 abbrev pub ReadsPage : WarmSlot → ℕ → List ℕ → List ℕ → OpenNode → Ending → OpenNode → Type 0
-ReadsPage slot at before after old (Ok given) new = Replies (Read (slot_of_c slot) at (length before)) old (Bytes after) new
+ReadsPage slot at before after old (Ok given) new =
+    Replies (Read (slot_of_c slot) at (length before)) old (Bytes after) new
 ReadsPage slot at before after old (Err (Node Memory)) new = ⊥
-ReadsPage slot at before after old (Err why) new = RefusedByNode (Read (slot_of_c slot) at (length before)) old why new × (after ≡ before)
+ReadsPage slot at before after old (Err why) new =
+    RefusedByNode (Read (slot_of_c slot) at (length before)) old why new × (after ≡ before)
 
 abbrev pub Writes : WarmSlot → ℕ → List ℕ → OpenNode → Ending → OpenNode → Type 0
 Writes slot at bytes old (Ok given) new = Replies (Write (slot_of_c slot) at bytes) old Done new
 Writes slot at bytes old (Err why) new = RefusedByNode (Write (slot_of_c slot) at bytes) old why new
 
 abbrev pub Names : WarmPage → ℕ → WarmPage → OpenNode → OpenNode → Type 0
-Names before found page old new = (named : Option PageId) × Replies Victim old (Page named) new × IsOptionalPage named before found page
+Names before found page old new = (named : Option PageId) × Replies Victim old (Page named) new
+    × IsOptionalPage named before found page
 
 abbrev pub StepsWarmUp : ℕ → WarmPage → ℕ → WarmPage → OpenNode → Ending → OpenNode → Type 0
-StepsWarmUp found page found' page' old (Ok given) new = (loaded : Option PageId) × Replies WarmStep old (Loaded loaded) new × IsOptionalPage loaded page found' page'
-StepsWarmUp found page found' page' old (Err why) new = RefusedByNode WarmStep old why new × (found' ≡ found) × (page' ≡ page)
+StepsWarmUp found page found' page' old (Ok given) new = (loaded : Option PageId)
+    × Replies WarmStep old (Loaded loaded) new × IsOptionalPage loaded page found' page'
+StepsWarmUp found page found' page' old (Err why) new = RefusedByNode WarmStep old why new
+    × (found' ≡ found) × (page' ≡ page)
 
 abbrev pub WritesBack : OpenNode → Ending → OpenNode → Type 0
-WritesBack old (Ok given) new = SameView old.node new.node × IsSettled new.node.pool × SameBeside old new
+WritesBack old (Ok given) new = SameView old.node new.node × IsSettled new.node.pool
+    × SameBeside old new
 WritesBack old (Err (Node why)) new = NodeWriteBackFails old.node why new.node × SameBeside old new
 WritesBack old (Err why) new = ⊥
 
@@ -116,8 +132,11 @@ WritesBack old (Err why) new = ⊥
 -- the frame of a message stands at the start of the buffer, and its length is written; the length
 -- is written too where it does not fit
 abbrev pub PutsFrame : Message → List ℕ → ℕ → List ℕ → ℕ → Ending → Type 0
-PutsFrame message before len after len' (Ok given) = (after ≡ with_start (encoding message) before) × (len' ≡ length (encoding message))
-PutsFrame message before len after len' (Err BufferTooSmall) = (length before < length (encoding message)) × (after ≡ before) × (len' ≡ length (encoding message))
+PutsFrame message before len after len' (Ok given) = (after ≡ with_start (encoding message) before)
+    × (len' ≡ length (encoding message))
+PutsFrame message before len after len' (Err BufferTooSmall) =
+    (length before < length (encoding message)) × (after ≡ before)
+    × (len' ≡ length (encoding message))
 PutsFrame message before len after len' (Err (Node Memory)) = (after ≡ before) × (len' ≡ len)
 PutsFrame message before len after len' (Err why) = ⊥
 
@@ -125,20 +144,25 @@ PutsFrame message before len after len' (Err why) = ⊥
 -- is as it was
 abbrev pub Sends : Call → List ℕ → ℕ → List ℕ → ℕ → OpenNode → Ending → OpenNode → Type 0
 Sends call before len after len' old ending new =
-    ((message : Message) × Replies call old (Sent message) new × PutsFrame message before len after len' ending)
-    ⊎ ((why : NodeFault) × (ending ≡ Err (Node why)) × Replies call old (Refused why) new × (after ≡ before) × (len' ≡ len))
+    ((message : Message) × Replies call old (Sent message) new
+    × PutsFrame message before len after len' ending)
+    ⊎ ((why : NodeFault) × (ending ≡ Err (Node why)) × Replies call old (Refused why) new
+    × (after ≡ before) × (len' ≡ len))
 
 -- the number is no bucket's, and nothing has changed; or the same of that bucket
-abbrev pub SendsFromBucket : ℕ → Option PageId → List ℕ → ℕ → List ℕ → ℕ → OpenNode → Ending → OpenNode → Type 0
+abbrev pub SendsFromBucket : ℕ → Option PageId → List ℕ → ℕ → List ℕ → ℕ → OpenNode → Ending
+    → OpenNode → Type 0
 SendsFromBucket bucket page before len after len' old ending new =
-    ((IsBucket bucket → ⊥) × (ending ≡ Err BadBucket) × (after ≡ before) × (len' ≡ len) × (new ≡ old))
+    ((IsBucket bucket → ⊥) × (ending ≡ Err BadBucket) × (after ≡ before) × (len' ≡ len)
+    × (new ≡ old))
     ⊎ Sends (Send bucket page) before len after len' old ending new
 
 -- why a message is refused that speaks of a time later than the limit: its horizon is later, or
 -- else a stamp of an entry is
 abbrev pub IsLate : ℕ → Message → TimeFault → Type 0
 IsLate limit message LateHorizon = limit < horizon_in message
-IsLate limit message LateStamp = (horizon_in message ≤ limit) × (StampsBy limit (entries_in message) → ⊥)
+IsLate limit message LateStamp = (horizon_in message ≤ limit)
+    × (StampsBy limit (entries_in message) → ⊥)
 
 -- The bytes are a frame that speaks of no time later than the limit, which the node has received:
 -- its answers wait, and none is given yet. Or it refuses the frame; or the frame speaks of a later
@@ -146,10 +170,14 @@ IsLate limit message LateStamp = (horizon_in message ≤ limit) × (StampsBy lim
 abbrev pub Receives : List ℕ → OpenNode → Ending → OpenNode → Type 0
 Receives bytes old (Ok given) new =
     (message : Message) × Encodes bytes message × SpeaksBy old.limit message
-    × Goes old.node (Receive message) (Answers new.answers) new.node × (new.given ≡ 0) × (new.limit ≡ old.limit)
-Receives bytes old (Err (Node why)) new = (message : Message) × Encodes bytes message × SpeaksBy old.limit message × Replies (Receive message) old (Refused why) new
-Receives bytes old (Err (Late fault)) new = (message : Message) × Encodes bytes message × IsLate old.limit message fault × (new ≡ old)
-Receives bytes old (Err (Frame fault)) new = GivesReading (Err fault) (read_frame bytes) (reserved_by bytes) × (new ≡ old)
+    × Goes old.node (Receive message) (Answers new.answers) new.node × (new.given ≡ 0)
+    × (new.limit ≡ old.limit)
+Receives bytes old (Err (Node why)) new = (message : Message) × Encodes bytes message
+    × SpeaksBy old.limit message × Replies (Receive message) old (Refused why) new
+Receives bytes old (Err (Late fault)) new = (message : Message) × Encodes bytes message
+    × IsLate old.limit message fault × (new ≡ old)
+Receives bytes old (Err (Frame fault)) new =
+    GivesReading (Err fault) (read_frame bytes) (reserved_by bytes) × (new ≡ old)
 Receives bytes old (Err why) new = ⊥
 
 -- the limit of times is this one from then on, and nothing else has changed
@@ -167,12 +195,16 @@ after_answer h (Err why) = h
 
 -- the frame of the next answer is put into the buffer, and it waits no more where it fitted; a
 -- length of 0 where none waits
-abbrev pub PutsNext : Option Message → List ℕ → ℕ → List ℕ → ℕ → OpenNode → Ending → OpenNode → Type 0
-PutsNext None before len after len' old ending new = (ending ≡ Ok tt) × (after ≡ before) × (len' ≡ 0) × (new ≡ old)
-PutsNext (Some message) before len after len' old ending new = PutsFrame message before len after len' ending × (new ≡ after_answer old ending)
+abbrev pub PutsNext : Option Message → List ℕ → ℕ → List ℕ → ℕ → OpenNode → Ending → OpenNode
+    → Type 0
+PutsNext None before len after len' old ending new = (ending ≡ Ok tt) × (after ≡ before)
+    × (len' ≡ 0) × (new ≡ old)
+PutsNext (Some message) before len after len' old ending new =
+    PutsFrame message before len after len' ending × (new ≡ after_answer old ending)
 
 abbrev pub GivesNext : List ℕ → ℕ → List ℕ → ℕ → OpenNode → Ending → OpenNode → Type 0
-GivesNext before len after len' old ending new = PutsNext (next_answer old) before len after len' old ending new
+GivesNext before len after len' old ending new =
+    PutsNext (next_answer old) before len after len' old ending new
 
 -- Dumps
 
@@ -190,7 +222,10 @@ Saves old (Err why) new = SaveRefused why × (new ≡ old)
 -- why they are none, or were not read, and nothing has changed; or an allocation for the join
 -- failed, and nothing has changed that a caller sees.
 abbrev pub Loads : Option (List ℕ) → OpenNode → Ending → OpenNode → Type 0
-Loads bytes old (Ok given) new = ((h : HistoryView) × IsHistory h × IfSome bytes (λ text. IsDump text h) × Joins old.node h new.node) × SameBeside old new
+Loads bytes old (Ok given) new =
+    ((h : HistoryView) × IsHistory h × IfSome bytes (λ text. IsDump text h)
+    × Joins old.node h new.node) × SameBeside old new
 Loads bytes old (Err (Node Memory)) new = SameView old.node new.node × SameBeside old new
-Loads bytes old (Err (Dump why)) new = ((at : ℕ) × IfSome bytes (λ text. IsDumpRefused text at why)) × (new ≡ old)
+Loads bytes old (Err (Dump why)) new = ((at : ℕ) × IfSome bytes (λ text. IsDumpRefused text at why))
+    × (new ≡ old)
 Loads bytes old (Err why) new = ⊥

@@ -1,5 +1,6 @@
 -- What a call of a handle does: a closed one says so, and an open one makes the call.
-use Rattle.std.specs.Prelude.{ℕ, ℤ, pos, ◌*◌, ◌^◌, ◌-◌, ◌<◌, ◌≤◌, ◌≡◌, ◌≢◌, ◌⊎◌, List, [], map, length, Option, Some, None, Ok, Err, Contains}
+use Rattle.std.specs.Prelude.{ℕ, ℤ, pos, ◌*◌, ◌^◌, ◌-◌, ◌<◌, ◌≤◌, ◌≡◌, ◌≢◌, ◌⊎◌, List, [], map}
+use Rattle.std.specs.Prelude.{length, Option, Some, None, Ok, Err, Contains}
 use Rattle.std.specs.List.{AllPairs}
 use Rattle.warm_stamps.specs.Replicas.{IsReplica}
 use Rattle.warm_devices.specs.Device.{DeviceState}
@@ -11,7 +12,8 @@ use Rattle.warm_gossip.specs.declared.fault.NodeFault.TheVariants.{Memory, Pool}
 use Rattle.warm_gossip.specs.State.{opened_node}
 use Rattle.warm_c.specs.declared.open_node.OpenNode.{OpenNode}
 use Rattle.warm_c.specs.declared.status.Refusal.{Refusal}
-use Rattle.warm_c.specs.declared.status.Refusal.TheVariants.{Node, NewPool, Closed, AlreadyOpen, BadReplica, SameFile}
+use Rattle.warm_c.specs.declared.status.Refusal.TheVariants.{Node, NewPool, Closed, AlreadyOpen}
+use Rattle.warm_c.specs.declared.status.Refusal.TheVariants.{BadReplica, SameFile}
 use Rattle.warm_c.specs.declared.values.WarmDevice.{WarmDevice}
 use Rattle.warm_c.specs.FdParts.{fd_opened}
 use Rattle.warm_c.specs.Statuses.{code_of, status_of}
@@ -19,9 +21,11 @@ use Rattle.warm_c.specs.Calls.{Ending}
 
 -- A closed handle says that it is closed, and stays so. An open one stays open; its node goes so,
 -- and the status is that of the ending.
-abbrev pub Called : (OpenNode → Ending → OpenNode → Type 0) → Option OpenNode → ℤ → Option OpenNode → Type 0
+abbrev pub Called : (OpenNode → Ending → OpenNode → Type 0) → Option OpenNode → ℤ → Option OpenNode
+    → Type 0
 Called goes None status new = (status ≡ pos (code_of Closed)) × (new ≡ None)
-Called goes (Some old) status (Some new) = (ending : Ending) × goes old ending new × (status ≡ status_of ending)
+Called goes (Some old) status (Some new) = (ending : Ending) × goes old ending new
+    × (status ≡ status_of ending)
 Called goes (Some old) status None = ⊥
 
 -- a call that an open handle does not refuse
@@ -39,7 +43,8 @@ pub record OpenRequest : Type 0 where
   pub devices : List WarmDevice
 
 abbrev pub open_request : ℕ → ℕ → ℕ → List WarmDevice → OpenRequest
-open_request replica frames page_size devices = record { replica = replica; frames = frames; page_size = page_size; devices = devices }
+open_request replica frames page_size devices =
+    record { replica = replica; frames = frames; page_size = page_size; devices = devices }
 
 -- the devices that it makes
 abbrev pub fd_devices : ℕ → List WarmDevice → List DeviceState
@@ -62,7 +67,8 @@ DescriptorsDiffer devices = AllDiffer (map (λ d. d.fd) devices)
 -- Two devices are of one file: they have one descriptor, or the system gave identities of the files
 -- of some devices, and two are equal. Which identities it gives is nothing that a contract can say.
 abbrev pub HaveOneFile : List WarmDevice → Type 0
-HaveOneFile devices = (DescriptorsDiffer devices → ⊥) ⊎ ((files : List ℕ) × (length files ≤ length devices) × (AllDiffer files → ⊥))
+HaveOneFile devices = (DescriptorsDiffer devices → ⊥)
+    ⊎ ((files : List ℕ) × (length files ≤ length devices) × (AllDiffer files → ⊥))
 
 -- why devices are not checked to be of different files
 abbrev pub IsClash : List WarmDevice → Refusal → Type 0
@@ -98,7 +104,8 @@ DevicesRefused page_size devices why = ⊥
 abbrev pub OpenRefused : OpenRequest → Refusal → Type 0
 OpenRefused a (Node Memory) = Unit {0}
 OpenRefused a BadReplica = IsReplica a.replica → ⊥
-OpenRefused a (NewPool fault) = MayOpen a × NewPoolRefused a.frames a.page_size (fd_devices a.page_size a.devices) fault
+OpenRefused a (NewPool fault) = MayOpen a
+    × NewPoolRefused a.frames a.page_size (fd_devices a.page_size a.devices) fault
 OpenRefused a why = IsReplica a.replica × DevicesRefused a.page_size a.devices why
 
 -- An open handle says that it is open, and is as it was. A closed one is then open and holds such a

@@ -10,7 +10,10 @@ use Rattle.warm_files.specs.Faults as dump_faults
 use Rattle.warm_pool.specs.Faults as pool_faults
 use Rattle.warm_gossip.specs.Faults as node_faults
 use Rattle.warm_c.specs.declared.status.Refusal.{Refusal}
-use Rattle.warm_c.specs.declared.status.Refusal.TheVariants.{Node, NewPool, Frame, Closed, AlreadyOpen, BufferTooSmall, BadReplica, BadBucket, SameFile, Late, Dump}
+use Rattle.warm_c.specs.declared.status.Refusal.TheVariants.{Node, NewPool, Frame, Closed}
+use Rattle.warm_c.specs.declared.status.Refusal.TheVariants.{AlreadyOpen, BufferTooSmall}
+use Rattle.warm_c.specs.declared.status.Refusal.TheVariants.{BadReplica, BadBucket, SameFile, Late}
+use Rattle.warm_c.specs.declared.status.Refusal.TheVariants.{Dump}
 
 -- 1 of an allocation failure, wherever it comes; of another fault of a frame the fault's own number
 -- and 32

@@ -1,5 +1,6 @@
 -- What crosses to C, in the node's terms.
-use Rattle.std.specs.Prelude.{ℕ, ◌≡◌, Bool, true, false, List, [], ◌∷◌, ◌++◌, length, drop, Option, Some, None}
+use Rattle.std.specs.Prelude.{ℕ, ◌≡◌, Bool, true, false, List, [], ◌∷◌, ◌++◌, length, drop, Option}
+use Rattle.std.specs.Prelude.{Some, None}
 use Rattle.warm_stamps.specs.declared.PageId.{PageId}
 use Rattle.warm_stamps.specs.declared.Reference.{Reference}
 use Rattle.warm_pool.specs.declared.slot.Slot.{Slot}
@@ -27,7 +28,11 @@ IsOptionalPage (Some p) before found page = (found ≡ 1) × (page ≡ c_page p)
 
 -- a reference as the node knows it
 abbrev pub reference_of : WarmReference → Reference
-reference_of r = record { page = record { dev = r.dev; no = r.no }; stamp = record { time = r.time; replica = r.replica } }
+reference_of r =
+    record {
+      page = record { dev = r.dev; no = r.no };
+      stamp = record { time = r.time; replica = r.replica };
+    }
 
 -- a slot that C passes, as the node knows it
 abbrev pub slot_of_c : WarmSlot → Slot

@@ -1,7 +1,8 @@
 //! The calls of an open handle that write frames or receive one.
 ghost use Rattle.std.specs.Prelude.{◌≡◌, ◌<◌, ◌≤◌, length};
 ghost use Rattle.warm_gossip.specs.declared.call.Call.TheVariants.{Offer};
-ghost use Rattle.warm_c.specs.Calls.{GivesNext, Limits, PutsFrame, Receives, Sends, SendsFromBucket};
+ghost use Rattle.warm_c.specs.Calls.{GivesNext, Limits, PutsFrame, Receives, Sends};
+ghost use Rattle.warm_c.specs.Calls.{SendsFromBucket};
 ghost use Rattle.warm_c.specs.Values.{with_start};
 
 use crate::open_node::OpenNode;

@@ -27,7 +27,9 @@
 ghost use Rattle.std.specs.Fn.{FnOnceReturnsAtMut};
 ghost use Rattle.std.specs.Prelude.{◌≡◌, pos, [], ◌∷◌, ◌++◌, length, None, Some};
 ghost use Rattle.warm_gossip.specs.declared.call.Call.TheVariants.{Offer};
-ghost use Rattle.warm_c.specs.Calls.{Absorbs, CountsPages, GivesNext, Limits, Lists, Loads, Names, Pins, Raises, ReadsPage, Receives, Saves, Sends, SendsFromBucket, StepsWarmUp, Unpins, Writes, WritesBack};
+ghost use Rattle.warm_c.specs.Calls.{Absorbs, CountsPages, GivesNext, Limits, Lists, Loads, Names};
+ghost use Rattle.warm_c.specs.Calls.{Pins, Raises, ReadsPage, Receives, Saves, Sends};
+ghost use Rattle.warm_c.specs.Calls.{SendsFromBucket, StepsWarmUp, Unpins, Writes, WritesBack};
 ghost use Rattle.warm_c.specs.Handles.{Called, Opens, Surely, open_request};
 ghost use Rattle.warm_c.specs.StatusNames.{status_name};
 ghost use Rattle.warm_c.specs.Statuses.{code_of, status_of};

@@ -2,7 +2,9 @@
 ghost use Rattle.std.specs.Bool.{Decides};
 ghost use Rattle.std.specs.Prelude.{◌≡◌, ◌≤◌, length, map, IfErr, IfOk, OnOk};
 ghost use Rattle.warm_c.specs.FdParts.{fd_state};
-ghost use Rattle.warm_c.specs.Handles.{AllDiffer, AreDevices, DescriptorsDiffer, MayOpen, IsClash, DevicesRefused, OpenRefused, open_request, fd_devices, opened_handle};
+ghost use Rattle.warm_c.specs.Handles.{AllDiffer, AreDevices, DescriptorsDiffer, MayOpen, IsClash};
+ghost use Rattle.warm_c.specs.Handles.{DevicesRefused, OpenRefused, open_request, fd_devices};
+ghost use Rattle.warm_c.specs.Handles.{opened_handle};
 
 use crate::descriptor::Descriptor;
 use crate::fd_device::FdDevice;
@@ -123,7 +125,8 @@ pub fn open(
     ensures opened { IfOk result (λ held.
         held ≡ opened_handle (open_request replica frames page_size devices.now)) }
     ensures may_open { OnOk result (MayOpen (open_request replica frames page_size devices.now)) }
-    ensures refused { IfErr result (OpenRefused (open_request replica frames page_size devices.now)) }
+    ensures refused { IfErr result
+        (OpenRefused (open_request replica frames page_size devices.now)) }
 {
     let Ok(replica) = ReplicaId::new(replica) else {
         return Err(Refusal::BadReplica);

@@ -2,7 +2,8 @@
 ghost use Rattle.std.specs.Prelude.{IfErr, IfOk};
 ghost use Rattle.warm_gossip.specs.declared.call.Call.TheVariants.{Victim, WarmStep};
 ghost use Rattle.warm_gossip.specs.declared.call.Reply.TheVariants.{Loaded, Page};
-ghost use Rattle.warm_c.specs.Calls.{Pins, ReadsPage, RefusedByNode, Replies, Unpins, Writes, WritesBack};
+ghost use Rattle.warm_c.specs.Calls.{Pins, ReadsPage, RefusedByNode, Replies, Unpins, Writes};
+ghost use Rattle.warm_c.specs.Calls.{WritesBack};
 
 use crate::open_node::OpenNode;
 use crate::status::Refusal;

@@ -1,6 +1,7 @@
 //! Why a call is refused, as a number and by name.
 ghost use Rattle.std.specs.Prelude.{◌≡◌, [], ◌∷◌, ◌++◌};
-ghost use Rattle.warm_c.specs.Statuses.{code_of, dump_code_of, frame_code_of, late_code_of, name_of, status_of};
+ghost use Rattle.warm_c.specs.Statuses.{code_of, dump_code_of, frame_code_of, late_code_of};
+ghost use Rattle.warm_c.specs.Statuses.{name_of, status_of};
 ghost use Rattle.warm_c.specs.StatusNames.{name_in, status_name, NamesRefusals};
 ghost use Rattle.warm_c.specs.Values.{with_some};
 

@@ -1,6 +1,7 @@
 //! What crosses to C, beside numbers, bytes and a handle.
 ghost use Rattle.std.specs.Prelude.{◌≡◌};
-ghost use Rattle.warm_c.specs.Values.{c_page, c_slot, page_if, page_of_c, slot_of_c, IsOptionalPage};
+ghost use Rattle.warm_c.specs.Values.{c_page, c_slot, page_if, page_of_c, slot_of_c};
+ghost use Rattle.warm_c.specs.Values.{IsOptionalPage};
 
 use warm_pool::Slot;
 use warm_stamps::PageId;

@@ -1,5 +1,6 @@
 -- The state of a page device as proofs see it, and the effect of its calls.
-use Rattle.std.specs.Prelude.{◌≡◌, ◌≢◌, ◌⊎◌, ℕ, ◌+◌, ◌-◌, ◌^◌, min, Bool, true, false, IsTrue, List, [], length, slice_index_or, replicate, Result, MatchResult}
+use Rattle.std.specs.Prelude.{◌≡◌, ◌≢◌, ◌⊎◌, ℕ, ◌+◌, ◌-◌, ◌^◌, min, Bool, true, false, IsTrue, List}
+use Rattle.std.specs.Prelude.{[], length, slice_index_or, replicate, Result, MatchResult}
 use Rattle.warm_devices.specs.declared.fault.DeviceFault.{DeviceFault}
 
 -- A device as plain data: the contents of its pages, whether a page was written since the last
@@ -31,9 +32,11 @@ pub record SameShape (old new : DeviceState) : Type 0 where
   pub unfailing : new.unfailing ≡ old.unfailing
 
 -- a fault can only be of this kind, and occurs exactly where the count of failures increased
-abbrev pub CountsFault : {T : Type 0} → DeviceFault → Result T DeviceFault → DeviceState → DeviceState → Type 0
+abbrev pub CountsFault : {T : Type 0} → DeviceFault → Result T DeviceFault → DeviceState
+    → DeviceState → Type 0
 CountsFault kind result old new =
-    MatchResult result (λ _. new.failures ≡ old.failures) (λ fault. (fault ≡ kind) × (new.failures ≡ one_more old.failures))
+    MatchResult result (λ _. new.failures ≡ old.failures)
+    (λ fault. (fault ≡ kind) × (new.failures ≡ one_more old.failures))
 
 -- nothing is unflushed, or something was unflushed and its flush failed
 abbrev pub Settles : DeviceState → DeviceState → Type 0

@@ -23,7 +23,8 @@ flush_failed f = f.flush_failed
 -- a flush succeeds only where none has failed before, and one that fails is remembered
 abbrev pub RemembersFailure : Result (Unit {0}) DeviceFault → FileDevice → FileDevice → Type 0
 RemembersFailure result old new =
-    MatchResult result (λ _. (flush_failed old ≡ false) × (flush_failed new ≡ false)) (λ _. flush_failed new ≡ true)
+    MatchResult result (λ _. (flush_failed old ≡ false) × (flush_failed new ≡ false))
+    (λ _. flush_failed new ≡ true)
 
 -- Where a flush has failed before, what is unflushed stays so. A flush that fails here is
 -- remembered.

@@ -1,5 +1,6 @@
 -- The state of a `Flaky`.
-use Rattle.std.specs.Prelude.{◌≡◌, ◌≢◌, ℕ, ◌+◌, ◌-◌, ◌^◌, min, replicate, false, IsTrue, IsOk, Result, Err, if◌then◌else◌}
+use Rattle.std.specs.Prelude.{◌≡◌, ◌≢◌, ℕ, ◌+◌, ◌-◌, ◌^◌, min, replicate, false, IsTrue, IsOk}
+use Rattle.std.specs.Prelude.{Result, Err, if◌then◌else◌}
 use Rattle.warm_devices.specs.Device.{DeviceState, SameWaiting, page_at}
 use Rattle.warm_devices.specs.declared.fault.DeviceFault.{DeviceFault}
 use Rattle.warm_devices.specs.declared.device.PageDevice.{Ghosts}
@@ -22,7 +23,8 @@ flaky_state {D} {g} f = record (g.state f.inner) {
 
 -- The call fails when calls_left is 1; over an unfailing device no other call fails. Each call is
 -- counted.
-pub record FailsWhenDue {D : Type 0} {g : Ghosts D} (kind : DeviceFault) (result : Result (Unit {0}) DeviceFault) (old new : Flaky D g) : Type 0 where
+pub record FailsWhenDue {D : Type 0} {g : Ghosts D} (kind : DeviceFault)
+    (result : Result (Unit {0}) DeviceFault) (old new : Flaky D g) : Type 0 where
   pub counted : calls_left new ≡ calls_left old - 1
   pub due : calls_left old ≡ 1 → result ≡ Err kind
   pub passed_on : calls_left old ≢ 1 → IsTrue (g.state old.inner).unfailing → IsOk result
@@ -46,7 +48,9 @@ TearsWhenDue {D} {g} page old new =
 -- fail, no flush reaches the inner device, and what is unflushed stays so; over an unfailing device
 -- any other flush leaves nothing unflushed.
 pub record SettlesUnlessDue {D : Type 0} {g : Ghosts D} (old new : Flaky D g) : Type 0 where
-  pub counted : calls_left new ≡ (if (flaky_state old).waiting then calls_left old - 1 else calls_left old)
+  pub counted : calls_left new
+      ≡ (if (flaky_state old).waiting then calls_left old - 1 else calls_left old)
   pub due : calls_left old ≡ 1 → SameWaiting (flaky_state old) (flaky_state new)
   pub stopped : StopsWhenDue old new
-  pub passed_on : calls_left old ≢ 1 → IsTrue (g.state old.inner).unfailing → (flaky_state new).waiting ≡ false
+  pub passed_on : calls_left old ≢ 1 → IsTrue (g.state old.inner).unfailing
+      → (flaky_state new).waiting ≡ false

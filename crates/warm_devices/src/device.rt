@@ -1,6 +1,7 @@
 //! The contract of page devices.
 ghost use Rattle.std.specs.Prelude.{◌≡◌, ◌<◌, IsTrue, IsOk, OnOk, OnErr, length, true, false};
-ghost use Rattle.warm_devices.specs.Device.{DeviceState, SameShape, CountsFault, ChangesPage, GivesPage, TakesPage, Settles};
+ghost use Rattle.warm_devices.specs.Device.{DeviceState, SameShape, CountsFault, ChangesPage};
+ghost use Rattle.warm_devices.specs.Device.{GivesPage, TakesPage, Settles};
 ghost use Rattle.warm_devices.specs.declared.fault.DeviceFault.TheVariants.{Read, Write, Flush};
 
 use crate::DeviceFault;

@@ -1,6 +1,7 @@
 //! Why a device could not be opened, and why a call of one failed.
 ghost use Rattle.std.specs.Prelude.{◌≡◌};
-ghost use Rattle.warm_devices.specs.Faults.{device_fault_code, device_fault_name, open_fault_code, open_fault_name};
+ghost use Rattle.warm_devices.specs.Faults.{device_fault_code, device_fault_name, open_fault_code};
+ghost use Rattle.warm_devices.specs.Faults.{open_fault_name};
 
 use std::io;
 use thiserror::Error;

@@ -86,9 +86,11 @@ impl FileDevice {
 
 impl PageDevice for FileDevice {
     ghost use Rattle.std.specs.Prelude.{◌≡◌, ◌<◌, IsTrue, IsOk, OnOk, OnErr, length, true, false};
-    ghost use Rattle.warm_devices.specs.Device.{DeviceState, SameShape, CountsFault, ChangesOnly, GivesPage};
+    ghost use Rattle.warm_devices.specs.Device.{DeviceState, SameShape, CountsFault, ChangesOnly};
+    ghost use Rattle.warm_devices.specs.Device.{GivesPage};
     ghost use Rattle.warm_devices.specs.Device.{TakesPage, SameWaiting, Settles, SettlesSurely};
-    ghost use Rattle.warm_devices.specs.FileParts.{file_state, flush_failed, RemembersFailure, SettlesUnlessFailed};
+    ghost use Rattle.warm_devices.specs.FileParts.{file_state, flush_failed, RemembersFailure};
+    ghost use Rattle.warm_devices.specs.FileParts.{SettlesUnlessFailed};
     ghost use Rattle.warm_devices.specs.declared.fault.DeviceFault.TheVariants.{Read, Write, Flush};
 
     ghost state = { file_state };

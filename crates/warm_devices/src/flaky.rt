@@ -60,9 +60,11 @@ fn torn_page(len: usize) -> &'static [u8]
 
 impl<D: PageDevice> PageDevice for Flaky<D> {
     ghost use Rattle.std.specs.Prelude.{◌≡◌, ◌<◌, IsTrue, IsOk, OnOk, OnErr, length, true, false};
-    ghost use Rattle.warm_devices.specs.Device.{DeviceState, SameShape, CountsFault, ChangesOnly, GivesPage};
+    ghost use Rattle.warm_devices.specs.Device.{DeviceState, SameShape, CountsFault, ChangesOnly};
+    ghost use Rattle.warm_devices.specs.Device.{GivesPage};
     ghost use Rattle.warm_devices.specs.Device.{TakesPage, SameWaiting, Settles, SettlesSurely};
-    ghost use Rattle.warm_devices.specs.FlakyParts.{flaky_state, FailsWhenDue, StopsWhenDue, TearsWhenDue};
+    ghost use Rattle.warm_devices.specs.FlakyParts.{flaky_state, FailsWhenDue, StopsWhenDue};
+    ghost use Rattle.warm_devices.specs.FlakyParts.{TearsWhenDue};
     ghost use Rattle.warm_devices.specs.FlakyParts.{SettlesUnlessDue};
     ghost use Rattle.warm_devices.specs.declared.fault.DeviceFault.TheVariants.{Read, Write, Flush};
 

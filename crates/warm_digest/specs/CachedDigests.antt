@@ -11,15 +11,18 @@ use Rattle.warm_digest.specs.BucketDigests.{bucket_digest}
 
 -- each bucket whose bit is set has the digest of its entries
 abbrev pub HasDigestsOf : ℕ → List Entry → List (List ℕ) → Type 0
-HasDigestsOf buckets h digests = (bucket : ℕ) → bucket < BUCKETS → bit_at buckets bucket ≡ 1 → digest_at digests bucket ≡ bucket_digest h bucket
+HasDigestsOf buckets h digests = (bucket : ℕ) → bucket < BUCKETS → bit_at buckets bucket ≡ 1
+    → digest_at digests bucket ≡ bucket_digest h bucket
 
 -- each bucket whose bit is clear has the digest that it had
 abbrev pub SameDigestsOutside : ℕ → List (List ℕ) → List (List ℕ) → Type 0
-SameDigestsOutside buckets old new = (bucket : ℕ) → bucket < BUCKETS → bit_at buckets bucket ≡ 0 → digest_at new bucket ≡ digest_at old bucket
+SameDigestsOutside buckets old new = (bucket : ℕ) → bucket < BUCKETS → bit_at buckets bucket ≡ 0
+    → digest_at new bucket ≡ digest_at old bucket
 
 -- each bucket that isn't marked as changed has the digest of its entries
 abbrev pub AreCurrent : ℕ → List Entry → List (List ℕ) → Type 0
-AreCurrent changed h digests = (bucket : ℕ) → bucket < BUCKETS → bit_at changed bucket ≡ 0 → digest_at digests bucket ≡ bucket_digest h bucket
+AreCurrent changed h digests = (bucket : ℕ) → bucket < BUCKETS → bit_at changed bucket ≡ 0
+    → digest_at digests bucket ≡ bucket_digest h bucket
 
 -- what contracts see of a history with cached digests: the history, and the set of the buckets
 -- whose digest must be recomputed
@@ -30,8 +33,11 @@ pub record DigestedView : Type 0 where
 -- a bucket is marked now exactly where it was marked before, or its entries have changed
 abbrev pub MarksChanges : DigestedView → DigestedView → Type 0
 MarksChanges old new = (bucket : ℕ) → bucket < BUCKETS
-    → (bit_at new.marked bucket ≡ 1) ↔ ((bit_at old.marked bucket ≡ 1) ⊎ ChangesIn bucket (entries_of old.history) (entries_of new.history))
+    → (bit_at new.marked bucket ≡ 1)
+    ↔ ((bit_at old.marked bucket ≡ 1)
+    ⊎ ChangesIn bucket (entries_of old.history) (entries_of new.history))
 
 -- a bucket stays marked exactly where it was marked and would lose a stamp at the horizon
 abbrev pub StaysMarked : ℕ → HistoryView → ℕ → ℕ → Type 0
-StaysMarked horizon h old new = (bucket : ℕ) → bucket < BUCKETS → (bit_at new bucket ≡ 1) ↔ ((bit_at old bucket ≡ 1) × LosesIn horizon bucket h)
+StaysMarked horizon h old new = (bucket : ℕ) → bucket < BUCKETS → (bit_at new bucket ≡ 1)
+    ↔ ((bit_at old bucket ≡ 1) × LosesIn horizon bucket h)

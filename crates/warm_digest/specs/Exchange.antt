@@ -47,5 +47,6 @@ Fits h = AllByRecursion IsEntry (entries_of h)
 -- T with the references of S in the differing buckets has the history of both, or there is a
 -- collision
 abbrev pub ExchangeJoins : Type 0
-ExchangeJoins = (S T : ReferenceSet) (buckets : ℕ) → Fits (history S) → Fits (history T) → IsDifferenceOf (history S) (history T) buckets
+ExchangeJoins = (S T : ReferenceSet) (buckets : ℕ) → Fits (history S) → Fits (history T)
+    → IsDifferenceOf (history S) (history T) buckets
     → (history (T ∪ in_buckets buckets S) ≡ history (T ∪ S)) ⊎ IsCollision (history S) (history T)

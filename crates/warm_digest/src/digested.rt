@@ -2,7 +2,8 @@
 ghost use Rattle.std.specs.Prelude.{◌≡◌, ◌≤◌, [], IfOk, IsOk, OnOk, OnErr};
 ghost use Rattle.warm_history.specs.Changes.{MarksChanged};
 ghost use Rattle.warm_history.specs.ReferenceSets.{set_of_list, with_horizon, ◌∪◌};
-ghost use Rattle.warm_history.specs.Histories.{entries_of, history, history_of_entries, history_of_entries_at, join, references_of};
+ghost use Rattle.warm_history.specs.Histories.{entries_of, history, history_of_entries};
+ghost use Rattle.warm_history.specs.Histories.{history_of_entries_at, join, references_of};
 ghost use Rattle.warm_digest.specs.BucketDigests.{digests_of, digests_at_horizon};
 ghost use Rattle.warm_digest.specs.CachedDigests.{MarksChanges, StaysMarked};
 
@@ -139,7 +140,8 @@ impl DigestedHistory {
     /// Where the time is later than the horizon, finding them costs one more scan of each bucket,
     /// up to its first older stamp.
     pub fn raise(&mut self, time: u64) -> BucketSet
-        ensures exact { self.new.history ≡ history (with_horizon time (references_of self.old.history)) }
+        ensures exact { self.new.history
+            ≡ history (with_horizon time (references_of self.old.history)) }
         ensures changed { MarksChanged (entries_of self.old.history)
             (entries_of self.new.history) result }
         ensures none { result ≡ 0

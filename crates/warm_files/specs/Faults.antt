@@ -3,7 +3,9 @@
 use Rattle.std.specs.Prelude.{ℕ, List, codes}
 use Rattle.warm_frames.specs.Faults.{fault_code, fault_name}
 use Rattle.warm_files.specs.declared.fault.DumpFault.{DumpFault}
-use Rattle.warm_files.specs.declared.fault.DumpFault.TheVariants.{Frame, CutShort, DigestsDiffer, HorizonsDiffer, MoreFollows, ReadFault, WriteFault}
+use Rattle.warm_files.specs.declared.fault.DumpFault.TheVariants.{Frame, CutShort, DigestsDiffer}
+use Rattle.warm_files.specs.declared.fault.DumpFault.TheVariants.{HorizonsDiffer, MoreFollows}
+use Rattle.warm_files.specs.declared.fault.DumpFault.TheVariants.{ReadFault, WriteFault}
 
 abbrev pub dump_fault_code : DumpFault → ℕ
 dump_fault_code (Frame fault) = fault_code fault

@@ -11,7 +11,8 @@ use Rattle.warm_files.specs.Reading.{IsDump, IsDumpRefused}
 
 -- what is written of a history is a dump of it
 abbrev pub DumpReadsBack : Type 0
-DumpReadsBack = (sender : ℕ) (h : HistoryView) → IsReplica sender → h.horizon < 2 ^ 64 → IsHistory h → Fits h → IsDump (dump_of sender h) h
+DumpReadsBack = (sender : ℕ) (h : HistoryView) → IsReplica sender → h.horizon < 2 ^ 64 → IsHistory h
+    → Fits h → IsDump (dump_of sender h) h
 
 -- no text is a dump of two histories
 abbrev pub DumpHasOneHistory : Type 0
@@ -19,9 +20,11 @@ DumpHasOneHistory = (text : List ℕ) (h g : HistoryView) → IsDump text h → 
 
 -- of a dump no fault is reported but Memory and ReadFault
 abbrev pub DumpIsTaken : Type 0
-DumpIsTaken = (text : List ℕ) (h : HistoryView) (at : ℕ) (why : DumpFault) → IsDump text h → IsDumpRefused text at why → (why ≡ Frame Memory) ⊎ (why ≡ ReadFault)
+DumpIsTaken = (text : List ℕ) (h : HistoryView) (at : ℕ) (why : DumpFault) → IsDump text h
+    → IsDumpRefused text at why → (why ≡ Frame Memory) ⊎ (why ≡ ReadFault)
 
 -- two dumps with one horizon and the same digests are of one history, or there is a collision
 abbrev pub ChangedDumpIsSeen : Type 0
-ChangedDumpIsSeen = (text changed : List ℕ) (h g : HistoryView) (a : IsDump text h) (b : IsDump changed g)
+ChangedDumpIsSeen =
+    (text changed : List ℕ) (h g : HistoryView) (a : IsDump text h) (b : IsDump changed g)
     → g.horizon ≡ h.horizon → b.digests ≡ a.digests → (g ≡ h) ⊎ IsCollision g h

@@ -11,7 +11,9 @@ use Rattle.warm_frames.specs.declared.message.Message.TheVariants.{Entries, Dige
 use Rattle.warm_frames.specs.Pieces.{EncodeAll, texts_of, Splits, Fails}
 use Rattle.warm_digest.specs.BucketDigests.{digests_of}
 use Rattle.warm_files.specs.declared.fault.DumpFault.{DumpFault}
-use Rattle.warm_files.specs.declared.fault.DumpFault.TheVariants.{Frame, CutShort, DigestsDiffer, HorizonsDiffer, MoreFollows, ReadFault, WriteFault}
+use Rattle.warm_files.specs.declared.fault.DumpFault.TheVariants.{Frame, CutShort, DigestsDiffer}
+use Rattle.warm_files.specs.declared.fault.DumpFault.TheVariants.{HorizonsDiffer, MoreFollows}
+use Rattle.warm_files.specs.declared.fault.DumpFault.TheVariants.{ReadFault, WriteFault}
 
 -- ---- the messages of a dump
 
@@ -36,7 +38,8 @@ entries_brought messages = flat_map brought messages
 
 -- the references that messages bring, of which those before the horizon are forgotten
 abbrev pub references_in : ℕ → List Message → ReferenceSet
-references_in horizon messages = record { horizon = horizon; given = references_of_entries (entries_brought messages) }
+references_in horizon messages =
+    record { horizon = horizon; given = references_of_entries (entries_brought messages) }
 
 -- the history of messages at a horizon: that of all these references
 abbrev pub history_of_messages : ℕ → List Message → HistoryView
@@ -64,27 +67,33 @@ pub record IsDump (text : List ℕ) (h : HistoryView) : Type 0 where
 
 -- the last message of the text has these digests
 abbrev pub EndsWithDigests : List ℕ → List (List ℕ) → Type 0
-EndsWithDigests text digests = (messages : List Message) × (sender horizon : ℕ) × Begins text (messages ++ Digest sender horizon digests ∷ []) []
+EndsWithDigests text digests = (messages : List Message) × (sender horizon : ℕ)
+    × Begins text (messages ++ Digest sender horizon digests ∷ []) []
 
 -- ---- why a text is no dump, and where
 
 -- the text begins with the frames of these messages, and they end behind this number of bytes
 abbrev pub EndsAt : List ℕ → List Message → ℕ → Type 0
-EndsAt text messages at = (rest : List ℕ) × Begins text messages rest × (at + length rest ≡ length text)
+EndsAt text messages at = (rest : List ℕ) × Begins text messages rest
+    × (at + length rest ≡ length text)
 
 -- behind messages of entries, which end here, come bytes that show a fault of a frame
 abbrev pub ShowsFrameFault : List ℕ → ℕ → FrameFault → Type 0
-ShowsFrameFault text at fault = (horizon : ℕ) × (messages : List Message) × AreEntriesAt horizon messages × EndsAt text messages at × Fails text messages fault
+ShowsFrameFault text at fault = (horizon : ℕ) × (messages : List Message)
+    × AreEntriesAt horizon messages × EndsAt text messages at × Fails text messages fault
 
 -- behind messages of entries, which end here, comes a request, which no dump has
 abbrev pub HasRequest : List ℕ → ℕ → Type 0
-HasRequest text at = (horizon : ℕ) × (messages : List Message) × (sender own request : ℕ) × (rest : List ℕ)
-    × AreEntriesAt horizon messages × EndsAt text messages at × Begins text (messages ++ Want sender own request ∷ []) rest
+HasRequest text at = (horizon : ℕ) × (messages : List Message) × (sender own request : ℕ)
+    × (rest : List ℕ)
+    × AreEntriesAt horizon messages × EndsAt text messages at
+    × Begins text (messages ++ Want sender own request ∷ []) rest
 
 -- the digests never come: the text ends behind messages of entries, which end here, or inside the
 -- next frame
 abbrev pub IsCutShort : List ℕ → ℕ → Type 0
-IsCutShort text at = (horizon : ℕ) × (messages : List Message) × (rest : List ℕ) × AreEntriesAt horizon messages × EndsAt text messages at × Splits text messages rest
+IsCutShort text at = (horizon : ℕ) × (messages : List Message) × (rest : List ℕ)
+    × AreEntriesAt horizon messages × EndsAt text messages at × Splits text messages rest
 
 -- a message of entries or of digests, with this horizon
 abbrev pub IsPartAt : ℕ → Message → Type 0
@@ -95,25 +104,31 @@ IsPartAt horizon (Want sender own request) = ⊥
 -- behind messages of entries with one horizon, one at least, which end here, comes a message of
 -- entries or of digests with another
 abbrev pub HasTwoHorizons : List ℕ → ℕ → Type 0
-HasTwoHorizons text at = (horizon other : ℕ) × (messages : List Message) × (message : Message) × (rest : List ℕ) × (0 < length messages)
-    × AreEntriesAt horizon messages × IsPartAt other message × (other ≢ horizon) × EndsAt text messages at × Begins text (messages ++ message ∷ []) rest
+HasTwoHorizons text at = (horizon other : ℕ) × (messages : List Message) × (message : Message)
+    × (rest : List ℕ) × (0 < length messages)
+    × AreEntriesAt horizon messages × IsPartAt other message × (other ≢ horizon)
+    × EndsAt text messages at × Begins text (messages ++ message ∷ []) rest
 
 -- behind messages of entries, which end here, comes a message of digests that are not those of the
 -- history of the messages
 abbrev pub HasOtherDigests : List ℕ → ℕ → Type 0
-HasOtherDigests text at = (horizon : ℕ) × (messages : List Message) × (sender : ℕ) × (digests : List (List ℕ)) × (rest : List ℕ)
-    × AreEntriesAt horizon messages × (digests ≢ digests_of (entries_of (history_of_messages horizon messages)))
+HasOtherDigests text at = (horizon : ℕ) × (messages : List Message) × (sender : ℕ)
+    × (digests : List (List ℕ)) × (rest : List ℕ)
+    × AreEntriesAt horizon messages
+    × (digests ≢ digests_of (entries_of (history_of_messages horizon messages)))
     × EndsAt text messages at × Begins text (messages ++ Digest sender horizon digests ∷ []) rest
 
 -- behind a dump, which ends here, comes a byte at least
 abbrev pub HasMore : List ℕ → ℕ → Type 0
-HasMore text at = (dump more : List ℕ) × (h : HistoryView) × (text ≡ dump ++ more) × (0 < length more) × (at ≡ length dump) × IsDump dump h
+HasMore text at = (dump more : List ℕ) × (h : HistoryView) × (text ≡ dump ++ more)
+    × (0 < length more) × (at ≡ length dump) × IsDump dump h
 
 -- Why a text is refused, and behind how many bytes of whole frames. A failed allocation and a
 -- failed read say nothing of the text. A reader answers no WriteFault.
 abbrev pub IsDumpRefused : List ℕ → ℕ → DumpFault → Type 0
 IsDumpRefused text at (Frame frame_faults.Memory) = ⊤
-IsDumpRefused text at (Frame frame_faults.BadKind) = ShowsFrameFault text at frame_faults.BadKind ⊎ HasRequest text at
+IsDumpRefused text at (Frame frame_faults.BadKind) = ShowsFrameFault text at frame_faults.BadKind
+    ⊎ HasRequest text at
 IsDumpRefused text at (Frame fault) = ShowsFrameFault text at fault
 IsDumpRefused text at CutShort = IsCutShort text at
 IsDumpRefused text at DigestsDiffer = HasOtherDigests text at

@@ -1,7 +1,8 @@
 //! A history that takes in entries message by message.
 ghost use Rattle.std.specs.Prelude.{◌≡◌, ◌↔◌, [], IfErr, IfOk, IsTrue, OnErr, OnOk};
 ghost use Rattle.warm_frames.specs.declared.fault.FrameFault.TheVariants as frame_faults;
-ghost use Rattle.warm_history.specs.Histories.{entries_of, history_of_entries_at, join, references_of, StandsFor, TakesIn};
+ghost use Rattle.warm_history.specs.Histories.{entries_of, history_of_entries_at, join};
+ghost use Rattle.warm_history.specs.Histories.{references_of, StandsFor, TakesIn};
 ghost use Rattle.warm_history.specs.Losses.{raised};
 ghost use Rattle.warm_history.specs.ReferenceSets.{set_of_list};
 ghost use Rattle.warm_digest.specs.BucketDigests.{digests_of};
@@ -97,7 +98,8 @@ impl HistoryBuilder {
     // Takes in the entries of a message.
     pub(crate) fn take(&mut self, horizon: u64, entries: &[Entry]) -> Result<(), AllocError>
         ensures { OnOk result
-            (TakesIn self.old (references_of (history_of_entries_at horizon entries.now)) self.new) }
+            (TakesIn self.old (references_of (history_of_entries_at horizon entries.now))
+            self.new) }
     {
         self.make_room(entries)?;
         self.add(horizon, entries)?;
@@ -173,7 +175,8 @@ impl HistoryBuilder {
 
     // Adds entries to those that wait.
     fn add(&mut self, horizon: u64, entries: &[Entry]) -> Result<(), AllocError>
-        ensures { OnOk result (self.new ≡ join self.old (history_of_entries_at horizon entries.now)) }
+        ensures { OnOk result
+            (self.new ≡ join self.old (history_of_entries_at horizon entries.now)) }
     {
         self.history.raise(horizon);
         self.waiting.extend_from_slice(entries)?;

@@ -2,7 +2,8 @@
 //!
 //! Each function does nothing. Its contract is a theorem, which the crates above cite and a reader
 //! can look up: `specs/Laws.antt` states each in full.
-ghost use Rattle.warm_files.specs.Laws.{DumpReadsBack, DumpHasOneHistory, DumpIsTaken, ChangedDumpIsSeen};
+ghost use Rattle.warm_files.specs.Laws.{DumpReadsBack, DumpHasOneHistory, DumpIsTaken};
+ghost use Rattle.warm_files.specs.Laws.{ChangedDumpIsSeen};
 
 /// What is written of a history is a dump of it.
 pub fn dump_reads_back()

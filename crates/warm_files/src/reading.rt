@@ -1,13 +1,17 @@
 //! Reading a dump.
-ghost use Rattle.std.specs.Prelude.{◌≡◌, ◌≢◌, ◌⊎◌, ◌↔◌, ◌+◌, ◌≤◌, ◌<◌, ◌++◌, [], true, false, length, take, List, ℕ, IfOk, IfErr, IfSome, IsTrue, OnOk, Some};
+ghost use Rattle.std.specs.Prelude.{◌≡◌, ◌≢◌, ◌⊎◌, ◌↔◌, ◌+◌, ◌≤◌, ◌<◌, ◌++◌, [], true, false};
+ghost use Rattle.std.specs.Prelude.{length, take, List, ℕ, IfOk, IfErr, IfSome, IsTrue, OnOk, Some};
 ghost use Rattle.std.specs.Io.KnownBytes.{Consumes, IsAtEnd};
 ghost use Rattle.warm_frames.specs.declared.fault.FrameFault.TheVariants as frame_faults;
-ghost use Rattle.warm_history.specs.Histories.{entries_of, history_of_entries_at, references_of, StandsFor, TakesIn};
+ghost use Rattle.warm_history.specs.Histories.{entries_of, history_of_entries_at, references_of};
+ghost use Rattle.warm_history.specs.Histories.{StandsFor, TakesIn};
 ghost use Rattle.warm_history.specs.Losses.{raised};
 ghost use Rattle.warm_history.specs.ReferenceSets.{ReferenceSet, with_horizon};
 ghost use Rattle.warm_digest.specs.BucketDigests.{digests_of};
-ghost use Rattle.warm_files.specs.declared.fault.DumpFault.TheVariants.{Frame, DigestsDiffer, HorizonsDiffer, ReadFault};
-ghost use Rattle.warm_files.specs.Progress.{Agrees, HasBegun, HasRead, IsRefusedForGood, Rejects, TakesMessage};
+ghost use Rattle.warm_files.specs.declared.fault.DumpFault.TheVariants.{Frame, DigestsDiffer};
+ghost use Rattle.warm_files.specs.declared.fault.DumpFault.TheVariants.{HorizonsDiffer, ReadFault};
+ghost use Rattle.warm_files.specs.Progress.{Agrees, HasBegun, HasRead, IsRefusedForGood, Rejects};
+ghost use Rattle.warm_files.specs.Progress.{TakesMessage};
 ghost use Rattle.warm_files.specs.Reading.{EndsWithDigests, IsDump, IsDumpRefused};
 
 use crate::builder::HistoryBuilder;
@@ -82,10 +86,12 @@ impl DumpReader {
         ensures agrees { OnOk result (Agrees self.old.horizon horizon) }
         ensures horizon { OnOk result (self.new.horizon ≡ Some horizon) }
         ensures history { OnOk result
-            (TakesIn self.old.history (references_of (history_of_entries_at horizon entries.now)) self.new.history) }
+            (TakesIn self.old.history (references_of (history_of_entries_at horizon entries.now))
+            self.new.history) }
         ensures complete { self.new.complete ≡ self.old.complete }
         ensures decoder { self.new.decoder ≡ self.old.decoder }
-        ensures counts { (self.new.bytes_read ≡ self.old.bytes_read) × (self.new.frame_start ≡ self.old.frame_start) }
+        ensures counts { (self.new.bytes_read ≡ self.old.bytes_read)
+            × (self.new.frame_start ≡ self.old.frame_start) }
         ensures refused { IfErr result (λ why. (why ≡ Frame frame_faults.Memory)
             ⊎ ((why ≡ HorizonsDiffer) × (Agrees self.old.horizon horizon → ⊥))) }
     {
@@ -105,7 +111,8 @@ impl DumpReader {
         ensures digests { OnOk result (table.now ≡ digests_of (entries_of self.new.history)) }
         ensures complete { OnOk result (self.new.complete ≡ true) }
         ensures decoder { self.new.decoder ≡ self.old.decoder }
-        ensures counts { (self.new.bytes_read ≡ self.old.bytes_read) × (self.new.frame_start ≡ self.old.frame_start) }
+        ensures counts { (self.new.bytes_read ≡ self.old.bytes_read)
+            × (self.new.frame_start ≡ self.old.frame_start) }
         ensures refused { IfErr result (λ why. (why ≡ Frame frame_faults.Memory)
             ⊎ ((why ≡ HorizonsDiffer) × (Agrees self.old.horizon horizon → ⊥))
             ⊎ ((why ≡ DigestsDiffer) × Agrees self.old.horizon horizon
@@ -126,7 +133,8 @@ impl DumpReader {
         requires { self.old.complete ≡ false }
         ensures takes { OnOk result (TakesMessage self.old message.now self.new) }
         ensures decoder { self.new.decoder ≡ self.old.decoder }
-        ensures counts { (self.new.bytes_read ≡ self.old.bytes_read) × (self.new.frame_start ≡ self.old.frame_start) }
+        ensures counts { (self.new.bytes_read ≡ self.old.bytes_read)
+            × (self.new.frame_start ≡ self.old.frame_start) }
         ensures refused { IfErr result (λ why. Rejects self.old message.now why) }
     {
         match message {

@@ -1,7 +1,8 @@
 -- The numbers and names of the faults of a play.
 use Rattle.std.specs.Prelude.{ℕ, List, codes}
 use Rattle.warm_play_fault.specs.declared.PlayFault.{PlayFault}
-use Rattle.warm_play_fault.specs.declared.PlayFault.TheVariants.{Memory, ReadFault, WriteFault, BadLine, NoThread, BadDevices}
+use Rattle.warm_play_fault.specs.declared.PlayFault.TheVariants.{Memory, ReadFault, WriteFault}
+use Rattle.warm_play_fault.specs.declared.PlayFault.TheVariants.{BadLine, NoThread, BadDevices}
 
 abbrev pub play_fault_code : PlayFault → ℕ
 play_fault_code Memory = 1

@@ -1,5 +1,6 @@
 -- Schedules drawn at random: the lines of a seed, and their text.
-use Rattle.std.specs.Prelude.{ℕ, zero, suc, ◌+◌, ◌%◌, ◌==◌, List, [], ◌∷◌, ◌++◌, Bool, true, false, nat_le, count_by, flat_map, codes, decimal, if◌then◌else◌}
+use Rattle.std.specs.Prelude.{ℕ, zero, suc, ◌+◌, ◌%◌, ◌==◌, List, [], ◌∷◌, ◌++◌, Bool, true, false}
+use Rattle.std.specs.Prelude.{nat_le, count_by, flat_map, codes, decimal, if◌then◌else◌}
 use Rattle.rand_pcg.specs.Lcg.{Lcg, started, increment_of}
 use Rattle.rand_pcg.specs.Pcg.{multiplier_64, pcg32}
 use Rattle.warm_stamps.specs.declared.TheConstants.{BUCKETS}
@@ -41,10 +42,14 @@ draw_up_to n = word >>= λ r. always (1 + r % n)
 -- line's number, `sends` is the number of sends among the lines before it.
 abbrev pub fields : ℕ → ℕ → ℕ → ℕ → ℕ → Draw Line
 fields replicas workers time sends kind =
-    if nat_le kind 3 then (draw_up_to replicas >>= λ i. draw_up_to workers >>= λ w. below 256 >>= λ p. always (Ref i w p time))
-    else (if kind == 4 then (draw_up_to replicas >>= λ i. draw_up_to workers >>= λ w. always (Flush i w))
+    if nat_le kind 3 then
+    (draw_up_to replicas >>= λ i. draw_up_to workers >>= λ w. below 256
+    >>= λ p. always (Ref i w p time))
+    else (if kind == 4 then
+    (draw_up_to replicas >>= λ i. draw_up_to workers >>= λ w. always (Flush i w))
     else (if kind == 5 then (draw_up_to replicas >>= λ i. below BUCKETS >>= λ b. always (Send i b))
-    else (if kind == 6 then (draw_up_to replicas >>= λ i. draw_up_to (sends + 1) >>= λ k. always (Deliver i k))
+    else (if kind == 6 then
+    (draw_up_to replicas >>= λ i. draw_up_to (sends + 1) >>= λ k. always (Deliver i k))
     else (draw_up_to replicas >>= λ i. always (Show i)))))
 
 -- a word chooses the kind of the line
@@ -59,12 +64,15 @@ is_send _ = false
 unfoldable pub random_lines : ℕ → ℕ → ℕ → Draw (List Line)
 random_lines replicas workers zero = always []
 random_lines replicas workers (suc n) =
-    random_lines replicas workers n >>= λ before. line replicas workers (n + 1) (count_by is_send before) >>= λ next. always (before ++ next ∷ [])
+    random_lines replicas workers n
+    >>= λ before. line replicas workers (n + 1) (count_by is_send before)
+    >>= λ next. always (before ++ next ∷ [])
 
 -- ---- text
 
 abbrev pub line_text : Line → List ℕ
-line_text (Ref i w p time) = codes "ref " ++ decimal i ++ codes " " ++ decimal w ++ codes " 0:" ++ decimal p ++ codes " " ++ decimal time ++ codes "\n"
+line_text (Ref i w p time) = codes "ref " ++ decimal i ++ codes " " ++ decimal w ++ codes " 0:"
+    ++ decimal p ++ codes " " ++ decimal time ++ codes "\n"
 line_text (Flush i w) = codes "flush " ++ decimal i ++ codes " " ++ decimal w ++ codes "\n"
 line_text (Send i b) = codes "send " ++ decimal i ++ codes " " ++ decimal b ++ codes "\n"
 line_text (Deliver i k) = codes "deliver " ++ decimal i ++ codes " " ++ decimal k ++ codes "\n"
@@ -72,4 +80,5 @@ line_text (Show i) = codes "show " ++ decimal i ++ codes "\n"
 
 -- the schedule of a seed, of this many lines
 abbrev pub schedule_text : ℕ → ℕ → ℕ → ℕ → List ℕ
-schedule_text seed events replicas workers = flat_map line_text (random_lines replicas workers events (seeded seed)).0
+schedule_text seed events replicas workers =
+    flat_map line_text (random_lines replicas workers events (seeded seed)).0

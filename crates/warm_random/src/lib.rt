@@ -7,7 +7,8 @@
 
 ghost use Rattle.std.specs.Prelude.{◌≡◌, ◌≤◌, ◌<◌, ◌+◌, ◌^◌, OnOk};
 ghost use Rattle.std.specs.Io.KnownBytes.{Appends};
-ghost use Rattle.warm_random.specs.Drawing.{below, draw_up_to, line, is_send, line_text, schedule_text};
+ghost use Rattle.warm_random.specs.Drawing.{below, draw_up_to, line, is_send, line_text};
+ghost use Rattle.warm_random.specs.Drawing.{schedule_text};
 
 use rand_core::utils::NextWord;
 use rand_pcg::Lcg64Xsh32;

@@ -22,19 +22,26 @@ ArePrepared = Pairs IsPrepared
 
 -- the calls of an ended pass are those of this job, with these replies
 abbrev pub PreparedJobWentAs : PreparedJob → Replied → EndedPass Call Reply → Type 0
-PreparedJobWentAs prepared replies e = WentAs prepared.buffer.capacity prepared.steps.items replies.items e
+PreparedJobWentAs prepared replies e =
+    WentAs prepared.buffer.capacity prepared.steps.items replies.items e
 
 module _ {X : Type 0} where
   -- a prepared job ran, starting from an empty buffer
-  abbrev pub PreparedJobWent : PreparedJob → Replied → View X Call Reply → View X Call Reply → Type 0
-  PreparedJobWent prepared replies v w = JobWent prepared.buffer.capacity prepared.steps.items replies.items v w
+  abbrev pub PreparedJobWent : PreparedJob → Replied → View X Call Reply → View X Call Reply
+      → Type 0
+  PreparedJobWent prepared replies v w =
+      JobWent prepared.buffer.capacity prepared.steps.items replies.items v w
 
   -- the pass has seen more, and holds one pass for each of the jobs, whose calls are that job's,
   -- where all were started
-  abbrev pub HasFanned : View X Call Reply → List PreparedJob → Result (Unit {0}) NoThread → List Replied → View X Call Reply → Type 0
+  abbrev pub HasFanned : View X Call Reply → List PreparedJob → Result (Unit {0}) NoThread
+      → List Replied → View X Call Reply → Type 0
   HasFanned v jobs result replies w =
-      (more : List (EndedPass Call Reply)) × Widened v more w × OnOk result (Triples PreparedJobWentAs jobs replies more)
+      (more : List (EndedPass Call Reply)) × Widened v more w
+      × OnOk result (Triples PreparedJobWentAs jobs replies more)
 
-  abbrev pub Fanned : View X Call Reply → List PreparedJob → Result (Vec Replied) NoThread → View X Call Reply → Type 0
+  abbrev pub Fanned : View X Call Reply → List PreparedJob → Result (Vec Replied) NoThread
+      → View X Call Reply → Type 0
   Fanned v jobs result w =
-      (more : List (EndedPass Call Reply)) × Widened v more w × IfOk result (λ replies. Triples PreparedJobWentAs jobs replies.items more)
+      (more : List (EndedPass Call Reply)) × Widened v more w
+      × IfOk result (λ replies. Triples PreparedJobWentAs jobs replies.items more)

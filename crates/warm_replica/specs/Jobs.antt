@@ -17,7 +17,8 @@ use Rattle.warm_replica.specs.declared.job.Step.{Step}
 use Rattle.warm_replica.specs.declared.job.Step.TheVariants.{Touch, Flush}
 use Rattle.warm_replica.specs.declared.job.Step.TheVariants as job_step
 use Rattle.warm_replica.specs.declared.job.StepReply.{StepReply}
-use Rattle.warm_replica.specs.declared.job.StepReply.TheVariants.{Touched, Full, Flushed, Answered, Failed}
+use Rattle.warm_replica.specs.declared.job.StepReply.TheVariants.{Touched, Full, Flushed, Answered}
+use Rattle.warm_replica.specs.declared.job.StepReply.TheVariants.{Failed}
 use Rattle.warm_gossip.specs.Batches.{no_memory}
 use Rattle.warm_replica.specs.Pairs.{Triples}
 use Rattle.warm_replica.specs.Replied.{Replied}
@@ -30,49 +31,68 @@ Calls = List (Entry Call Reply)
 -- number n has its mark or not: whether it has the mark afterwards, the buffer's contents
 -- afterwards, and the calls of the pass that the step made. A pass with its mark is never answered
 -- again
-abbrev pub Gave : (capacity n : ℕ) → Bool → List Reference → Step → StepReply → Bool → List Reference → Calls → Type 0
-Gave capacity n spent held (Touch r) Touched after held' made = (length held < capacity) × (after ≡ spent) × (held' ≡ held ++ r ∷ []) × (made ≡ [])
-Gave capacity n spent held (Touch r) (Full q) after held' made = (capacity ≤ length held) × (q ≡ r) × (after ≡ spent) × (held' ≡ held) × (made ≡ [])
-Gave capacity n spent held Flush Flushed after held' made = (spent ≡ false) × (after ≡ false) × (held' ≡ []) × (made ≡ entry n (Absorb held) Done ∷ [])
+abbrev pub Gave : (capacity n : ℕ) → Bool → List Reference → Step → StepReply → Bool
+    → List Reference → Calls → Type 0
+Gave capacity n spent held (Touch r) Touched after held' made = (length held < capacity)
+    × (after ≡ spent) × (held' ≡ held ++ r ∷ []) × (made ≡ [])
+Gave capacity n spent held (Touch r) (Full q) after held' made = (capacity ≤ length held) × (q ≡ r)
+    × (after ≡ spent) × (held' ≡ held) × (made ≡ [])
+Gave capacity n spent held Flush Flushed after held' made = (spent ≡ false) × (after ≡ false)
+    × (held' ≡ []) × (made ≡ entry n (Absorb held) Done ∷ [])
 Gave capacity n spent held Flush (Failed Memory) after held' made =
-    (held' ≡ held) × (((after ≡ spent) × (made ≡ [])) ⊎ ((spent ≡ false) × (after ≡ false) × (made ≡ entry n (Absorb held) no_memory ∷ [])))
-Gave capacity n spent held Flush (Failed TurnsSpent) after held' made = (after ≡ true) × (held' ≡ held) × (made ≡ [])
-Gave capacity n spent held (job_step.Call call) (Answered reply) after held' made = (spent ≡ false) × (after ≡ false) × (held' ≡ held) × (made ≡ entry n call reply ∷ [])
-Gave capacity n spent held (job_step.Call call) (Failed TurnsSpent) after held' made = (after ≡ true) × (held' ≡ held) × (made ≡ [])
+    (held' ≡ held)
+    × (((after ≡ spent) × (made ≡ []))
+    ⊎ ((spent ≡ false) × (after ≡ false) × (made ≡ entry n (Absorb held) no_memory ∷ [])))
+Gave capacity n spent held Flush (Failed TurnsSpent) after held' made = (after ≡ true)
+    × (held' ≡ held) × (made ≡ [])
+Gave capacity n spent held (job_step.Call call) (Answered reply) after held' made = (spent ≡ false)
+    × (after ≡ false) × (held' ≡ held) × (made ≡ entry n call reply ∷ [])
+Gave capacity n spent held (job_step.Call call) (Failed TurnsSpent) after held' made =
+    (after ≡ true) × (held' ≡ held) × (made ≡ [])
 Gave capacity n spent held step reply after held' made = ⊥
 
 -- the same, for steps one after another
-abbrev pub AllGave : (capacity n : ℕ) → Bool → List Reference → List Step → List StepReply → Bool → List Reference → Calls → Type 0
-AllGave capacity n spent held [] [] after held' made = (after ≡ spent) × (held' ≡ held) × (made ≡ [])
+abbrev pub AllGave : (capacity n : ℕ) → Bool → List Reference → List Step → List StepReply → Bool
+    → List Reference → Calls → Type 0
+AllGave capacity n spent held [] [] after held' made = (after ≡ spent) × (held' ≡ held)
+    × (made ≡ [])
 AllGave capacity n spent held (s ∷ ss) (r ∷ rs) after held' made =
     (between : Bool) × (mid : List Reference) × (one : Calls) × (rest : Calls)
-    × Gave capacity n spent held s r between mid one × (made ≡ one ++ rest) × AllGave capacity n between mid ss rs after held' rest
+    × Gave capacity n spent held s r between mid one × (made ≡ one ++ rest)
+    × AllGave capacity n between mid ss rs after held' rest
 AllGave capacity n spent held [] (r ∷ rs) after held' made = ⊥
 AllGave capacity n spent held (s ∷ ss) [] after held' made = ⊥
 
 module _ {X : Type 0} where
   -- a worker took these steps, with these replies
-  abbrev pub StepsWent : Working X Call Reply → List Step → List StepReply → Working X Call Reply → Type 0
+  abbrev pub StepsWent : Working X Call Reply → List Step → List StepReply → Working X Call Reply
+      → Type 0
   StepsWent old steps replies new =
       (made : Calls)
-      × AllGave old.buffer.capacity old.pass.view.number old.pass.view.found_last old.buffer.refs steps replies new.pass.view.found_last new.buffer.refs made
+      × AllGave old.buffer.capacity old.pass.view.number old.pass.view.found_last old.buffer.refs
+      steps replies new.pass.view.found_last new.buffer.refs made
       × (new.buffer.capacity ≡ old.buffer.capacity) × Extended old.pass.view made new.pass.view
 
   -- a worker took one step, with this reply
   abbrev pub StepWent : Working X Call Reply → Step → StepReply → Working X Call Reply → Type 0
   StepWent old step reply new =
       (made : Calls)
-      × Gave old.buffer.capacity old.pass.view.number old.pass.view.found_last old.buffer.refs step reply new.pass.view.found_last new.buffer.refs made
+      × Gave old.buffer.capacity old.pass.view.number old.pass.view.found_last old.buffer.refs
+      step reply new.pass.view.found_last new.buffer.refs made
       × (new.buffer.capacity ≡ old.buffer.capacity) × Extended old.pass.view made new.pass.view
 
   -- a job ran, starting from an empty buffer of this capacity
-  abbrev pub JobWent : ℕ → List Step → List StepReply → View X Call Reply → View X Call Reply → Type 0
+  abbrev pub JobWent : ℕ → List Step → List StepReply → View X Call Reply → View X Call Reply
+      → Type 0
   JobWent capacity steps replies v w =
-      (held : List Reference) × (made : Calls) × AllGave capacity v.number v.found_last [] steps replies w.found_last held made × Extended v made w
+      (held : List Reference) × (made : Calls)
+      × AllGave capacity v.number v.found_last [] steps replies w.found_last held made
+      × Extended v made w
 
 -- the calls of an ended pass, which began without a mark, are those of a job with these replies
 abbrev pub WentAs : ℕ → List Step → List StepReply → EndedPass Call Reply → Type 0
-WentAs capacity steps replies e = (after : Bool) × (held : List Reference) × AllGave capacity e.number false [] steps replies after held e.calls
+WentAs capacity steps replies e = (after : Bool) × (held : List Reference)
+    × AllGave capacity e.number false [] steps replies after held e.calls
 
 abbrev pub JobWentAs : Job → Replied → EndedPass Call Reply → Type 0
 JobWentAs job replies e = WentAs job.capacity job.steps.items replies.items e
@@ -83,9 +103,11 @@ HaveCapacities jobs = All (λ job. IsCapacity job.capacity) jobs
 
 -- The jobs were run with these replies: the pass has seen more, and holds one pass for each job,
 -- whose calls are that job's, and one pass that made no calls
-abbrev pub JobsWent : {X : Type 0} → View X Call Reply → List Job → List Replied → View X Call Reply → Type 0
+abbrev pub JobsWent : {X : Type 0} → View X Call Reply → List Job → List Replied → View X Call Reply
+    → Type 0
 JobsWent v jobs replies w =
-    (fan : EndedPass Call Reply) × (more : List (EndedPass Call Reply)) × Widened v (fan ∷ more) w × (fan.calls ≡ []) × Triples JobWentAs jobs replies more
+    (fan : EndedPass Call Reply) × (more : List (EndedPass Call Reply)) × Widened v (fan ∷ more) w
+    × (fan.calls ≡ []) × Triples JobWentAs jobs replies more
 
 -- the pass has seen more, and holds passes of unspecified jobs
 abbrev pub HasSeenMore : {X : Type 0} → View X Call Reply → View X Call Reply → Type 0

@@ -4,7 +4,8 @@ ghost use Rattle.std.specs.Prelude.{Err, IfOk, IfErr, IsTrue};
 ghost use Rattle.std.specs.Thread.{IsSync, IsSend};
 ghost use Rattle.warm_refbuffer.specs.Buffered.{IsCapacity};
 ghost use Rattle.warm_replica.specs.Jobs.{HasSeenMore, HaveCapacities, JobsWent};
-ghost use Rattle.warm_replica.specs.Fanning.{ArePrepared, IsPrepared, PreparedJobWent, Fanned, HasFanned};
+ghost use Rattle.warm_replica.specs.Fanning.{ArePrepared, IsPrepared, PreparedJobWent, Fanned};
+ghost use Rattle.warm_replica.specs.Fanning.{HasFanned};
 
 use crate::fault::{NoThread, RunFault};
 use crate::job::{Gate, Job, Step, take_steps};

@@ -1,6 +1,8 @@
 -- The text printed for an answer of the world. Numbers are in decimal, and each line ends with byte
 -- 0A.
-use Rattle.std.specs.Prelude.{ℕ, zero, suc, ◌+◌, ◌/◌, ◌%◌, nat_lt, if◌then◌else◌, List, [], ◌∷◌, ◌++◌, length, flat_map, codes, decimal, Option, Some, None, Result, OnOk}
+use Rattle.std.specs.Prelude.{ℕ, zero, suc, ◌+◌, ◌/◌, ◌%◌, nat_lt, if◌then◌else◌, List, [], ◌∷◌}
+use Rattle.std.specs.Prelude.{◌++◌, length, flat_map, codes, decimal, Option, Some, None, Result}
+use Rattle.std.specs.Prelude.{OnOk}
 use Rattle.std.specs.Io.KnownBytes.{Appends}
 use Rattle.warm_stamps.specs.declared.PageId.{PageId}
 use Rattle.warm_stamps.specs.declared.Stamp.{Stamp}
@@ -10,7 +12,9 @@ use Rattle.warm_history.specs.declared.hist.Entry.{Entry}
 use Rattle.warm_history.specs.declared.hist.PageHist.{PageHist}
 use Rattle.warm_history.specs.declared.hist.PageHist.TheVariants.{Once, Twice}
 use Rattle.warm_world.specs.declared.event.Answer.{Answer}
-use Rattle.warm_world.specs.declared.event.Answer.TheVariants.{Done, Shown, FrameNo, Took, Pinned, Bytes, Page, Pages, Loaded, Kept, Refused}
+use Rattle.warm_world.specs.declared.event.Answer.TheVariants.{Done, Shown, FrameNo, Took, Pinned}
+use Rattle.warm_world.specs.declared.event.Answer.TheVariants.{Bytes, Page, Pages, Loaded, Kept}
+use Rattle.warm_world.specs.declared.event.Answer.TheVariants.{Refused}
 use Rattle.warm_world.specs.declared.event.WorldFault.{WorldFault}
 use Rattle.warm_world.specs.Faults.{code_of, name_of}
 
@@ -29,7 +33,8 @@ stamp_text stamp = decimal stamp.time ++ codes "@" ++ decimal stamp.replica
 
 abbrev pub hist_text : PageHist → List ℕ
 hist_text (Once last) = codes " last " ++ stamp_text last
-hist_text (Twice two) = codes " last " ++ stamp_text two.last ++ codes " prev " ++ stamp_text two.prev
+hist_text (Twice two) = codes " last " ++ stamp_text two.last ++ codes " prev "
+    ++ stamp_text two.prev
 
 -- the line of a page with its latest stamps
 abbrev pub entry_text : Entry → List ℕ
@@ -45,7 +50,8 @@ shown_text entries = flat_map entry_text entries ++ end_text (length entries)
 -- how many messages answer, and the number of the first where there is one
 abbrev pub took_text : ℕ → ℕ → List ℕ
 took_text zero first = codes "took 0\n"
-took_text (suc n) first = codes "took " ++ decimal (suc n) ++ codes " from " ++ decimal first ++ codes "\n"
+took_text (suc n) first = codes "took " ++ decimal (suc n) ++ codes " from " ++ decimal first
+    ++ codes "\n"
 
 -- a page of a list, after a space
 abbrev pub listed_text : PageId → List ℕ

@@ -1,9 +1,14 @@
 -- The lines of a schedule, each a command with its fields.
-use Rattle.std.specs.Prelude.{ℕ, List, [], ◌∷◌, Bool, false, ◌==◌, nat_lt, length, Option, Some, None, option_map, option_and_then, codes, bytes_eq, if◌then◌else◌}
+use Rattle.std.specs.Prelude.{ℕ, List, [], ◌∷◌, Bool, false, ◌==◌, nat_lt, length, Option, Some}
+use Rattle.std.specs.Prelude.{None, option_map, option_and_then, codes, bytes_eq, if◌then◌else◌}
 use Rattle.warm_world.specs.declared.event.Event.{Event}
-use Rattle.warm_world.specs.declared.event.Event.TheVariants.{Refer, Flush, Send, Offer, Deliver, Pin, Unpin, Put, Get, Victim, Warm, WarmStep, Restart, Horizon, Show}
+use Rattle.warm_world.specs.declared.event.Event.TheVariants.{Refer, Flush, Send, Offer, Deliver}
+use Rattle.warm_world.specs.declared.event.Event.TheVariants.{Pin, Unpin, Put, Get, Victim, Warm}
+use Rattle.warm_world.specs.declared.event.Event.TheVariants.{WarmStep, Restart, Horizon, Show}
 use Rattle.warm_schedule.specs.Text.{words}
-use Rattle.warm_schedule.specs.Fields.{◌>>=◌, page_field, after_field, slot_field, bytes_field, replica_field, worker_field, bucket_field, count_field, u64_field}
+use Rattle.warm_schedule.specs.Fields.{◌>>=◌, page_field, after_field, slot_field, bytes_field}
+use Rattle.warm_schedule.specs.Fields.{replica_field, worker_field, bucket_field, count_field}
+use Rattle.warm_schedule.specs.Fields.{u64_field}
 use Rattle.warm_schedule.specs.declared.parse.Line.{Line}
 use Rattle.warm_schedule.specs.declared.parse.Line.TheVariants as meant
 use Rattle.warm_schedule.specs.declared.parse.TheConstants.{MAX_LINE}
@@ -163,7 +168,8 @@ begins_with c (x ∷ xs) = x == c
 -- a line without words and a comment mean nothing
 abbrev pub line_of_words : List (List ℕ) → Option Line
 line_of_words [] = Some meant.Nothing
-line_of_words (word ∷ rest) = if begins_with 35 word then Some meant.Nothing else option_map meant.Event (event_of word rest)
+line_of_words (word ∷ rest) =
+    if begins_with 35 word then Some meant.Nothing else option_map meant.Event (event_of word rest)
 
 -- the meaning of a line of any length, or None where it is not of the language
 unfoldable pub line_of : List ℕ → Option Line

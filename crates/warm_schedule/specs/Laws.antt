@@ -21,7 +21,8 @@ abbrev pub LineIs : ℕ → Option Line → List Event → List Answer → List 
 LineIs number None events answers out = (events ≡ []) × (answers ≡ []) × (out ≡ bad_line number)
 LineIs number (Some meant.Nothing) events answers out = (events ≡ []) × (answers ≡ []) × (out ≡ [])
 LineIs number (Some (meant.Event event)) events answers out =
-    ((answer : Answer) × (events ≡ event ∷ []) × (answers ≡ answer ∷ []) × (out ≡ answer_text answer))
+    ((answer : Answer) × (events ≡ event ∷ []) × (answers ≡ answer ∷ [])
+    × (out ≡ answer_text answer))
     ⊎ (IsPut event × (events ≡ []) × (answers ≡ []) × (out ≡ refused_text (Node Memory)))
 
 -- lines, of which the first has this number, are these events with these answers, and print this
@@ -43,4 +44,5 @@ pub record RunOf (state : ModelState) (text out : List ℕ) (last : ModelState) 
 
 -- A schedule prints the answers of a run of its events.
 abbrev pub PlayIsRun : Type 0
-PlayIsRun = (state last : ModelState) (text out : List ℕ) → Printed state text out last → RunOf state text out last
+PlayIsRun = (state last : ModelState) (text out : List ℕ) → Printed state text out last
+    → RunOf state text out last

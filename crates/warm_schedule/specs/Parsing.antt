@@ -2,7 +2,9 @@
 use Rattle.std.specs.Prelude.{Option, Some, option_map}
 use Rattle.warm_world.specs.declared.event.Event.TheVariants as event
 use Rattle.warm_schedule.specs.Fields.{bytes_of_hex}
-use Rattle.warm_schedule.specs.Grammar.{Reader, refer_of, flush_of, send_of, offer_of, deliver_of, pin_of, unpin_of, put_of, get_of, victim_of, warm_of, warmstep_of, restart_of, horizon_of, show_of}
+use Rattle.warm_schedule.specs.Grammar.{Reader, refer_of, flush_of, send_of, offer_of, deliver_of}
+use Rattle.warm_schedule.specs.Grammar.{pin_of, unpin_of, put_of, get_of, victim_of, warm_of}
+use Rattle.warm_schedule.specs.Grammar.{warmstep_of, restart_of, horizon_of, show_of}
 use Rattle.warm_schedule.specs.declared.commands.Command.{Command}
 use Rattle.warm_schedule.specs.declared.commands.Command.TheVariants as command
 use Rattle.warm_schedule.specs.declared.commands.ParsedLine.{ParsedLine}
@@ -33,4 +35,5 @@ reader_of command.Show = show_of
 abbrev pub line_parsed : ParsedLine → Option Line
 line_parsed parsed.Nothing = Some meant.Nothing
 line_parsed (parsed.Event event) = Some (meant.Event event)
-line_parsed (parsed.Put replica slot at word) = option_map meant.Event (option_map (event.Put replica slot at) (bytes_of_hex word.now))
+line_parsed (parsed.Put replica slot at word) =
+    option_map meant.Event (option_map (event.Put replica slot at) (bytes_of_hex word.now))

@@ -1,6 +1,7 @@
 -- The possible output of a schedule: each line is answered from the state that the lines before it
 -- left, and then comes the end.
-use Rattle.std.specs.Prelude.{◌≡◌, ◌<◌, ℕ, ◌+◌, List, [], ◌∷◌, ◌++◌, length, false, Option, Some, None, ◌⊎◌}
+use Rattle.std.specs.Prelude.{◌≡◌, ◌<◌, ℕ, ◌+◌, List, [], ◌∷◌, ◌++◌, length, false, Option, Some}
+use Rattle.std.specs.Prelude.{None, ◌⊎◌}
 use Rattle.warm_gossip.specs.declared.fault.NodeFault.TheVariants.{Memory}
 use Rattle.warm_pool.specs.View.{device_at}
 use Rattle.warm_world.specs.declared.event.Event.{Event}
@@ -19,7 +20,8 @@ use Rattle.warm_schedule.specs.Answers.{answer_text, refused_text, bad_line, end
 -- An event is answered as the world's relation allows; where the relation allows an allocation
 -- failure, its refusal is printed.
 abbrev pub Happens : ModelState → Event → List ℕ → ModelState → Type 0
-Happens old event out new = (answer : Answer) × Next old event answer new × (out ≡ answer_text answer)
+Happens old event out new = (answer : Answer) × Next old event answer new
+    × (out ≡ answer_text answer)
 
 -- The allocation for the bytes of a put failed: the put has not happened.
 abbrev pub FindsNoMemory : ModelState → Event → List ℕ → ModelState → Type 0
@@ -29,13 +31,15 @@ FindsNoMemory old event out new = IsPut event × (out ≡ refused_text (Node Mem
 abbrev pub LineAnswered : ModelState → ℕ → Option Line → List ℕ → ModelState → Type 0
 LineAnswered old number None out new = (out ≡ bad_line number) × (new ≡ old)
 LineAnswered old number (Some meant.Nothing) out new = (out ≡ []) × (new ≡ old)
-LineAnswered old number (Some (meant.Event event)) out new = Happens old event out new ⊎ FindsNoMemory old event out new
+LineAnswered old number (Some (meant.Event event)) out new = Happens old event out new
+    ⊎ FindsNoMemory old event out new
 
 -- lines, of which the first has this number, may print `out` and lead from `state` to `last`
 abbrev pub PrintedFrom : ModelState → ℕ → List (List ℕ) → List ℕ → ModelState → Type 0
 PrintedFrom state number [] out last = (out ≡ []) × (last ≡ state)
 PrintedFrom state number (line ∷ rest) out last =
-    (front back : List ℕ) × (next : ModelState) × LineAnswered state number (meaning line) front next
+    (front back : List ℕ) × (next : ModelState)
+    × LineAnswered state number (meaning line) front next
     × PrintedFrom next (number + 1) rest back last × (out ≡ front ++ back)
 
 -- a schedule may print `out` and lead from `state` to `last`
@@ -59,4 +63,5 @@ EndsIn last answers out = (out ≡ answers) ⊎ (MayFail last × (out ≡ answer
 -- is exactly the output of the lines.
 abbrev pub Played : ModelState → List ℕ → List ℕ → Type 0
 Played state text out =
-    (answers : List ℕ) × (last : ModelState) × Printed state text answers last × EndsIn last answers out
+    (answers : List ℕ) × (last : ModelState) × Printed state text answers last
+    × EndsIn last answers out

@@ -2,7 +2,8 @@
 use Rattle.std.specs.Prelude.{List}
 use Rattle.warm_devices.specs.Device.{DeviceState}
 use Rattle.warm_play_fault.specs.declared.PlayFault.{PlayFault}
-use Rattle.warm_play_fault.specs.declared.PlayFault.TheVariants.{Memory, ReadFault, WriteFault, BadDevices}
+use Rattle.warm_play_fault.specs.declared.PlayFault.TheVariants.{Memory, ReadFault, WriteFault}
+use Rattle.warm_play_fault.specs.declared.PlayFault.TheVariants.{BadDevices}
 use Rattle.warm_world.specs.Opening.{AreFitting}
 use Rattle.warm_world.specs.Sizes.{Sizes}
 

@@ -51,15 +51,18 @@ AnswersLine old number line out new = (state : ModelState) → StandsFor old sta
 unfoldable pub ReadsOn : SessionView → List ℕ → List ℕ → SessionView → Type 0
 ReadsOn old bytes out new = (state : ModelState) (begun : List ℕ) → SessionStands old state begun
     → (next : ModelState) × (line : List ℕ) × SessionStands new next line
-    × ((tail rest : List ℕ) (last : ModelState) → PrintedFrom next new.number (lines (line ++ tail)) rest last
+    × ((tail rest : List ℕ) (last : ModelState)
+    → PrintedFrom next new.number (lines (line ++ tail)) rest last
     → PrintedFrom state old.number (lines (begun ++ (bytes ++ tail))) (out ++ rest) last)
 
 -- the end of a play with this world prints this after the answers
 abbrev pub PrintsEnding : WorldView → List ℕ → Type 0
-PrintsEnding world out = (state : ModelState) (answers : List ℕ) → StandsFor world state → EndsIn state answers (answers ++ out)
+PrintsEnding world out = (state : ModelState) (answers : List ℕ) → StandsFor world state
+    → EndsIn state answers (answers ++ out)
 
 -- The input has ended, and the session printed the answer to the last line, and then this for the
 -- end.
 unfoldable pub Ends : SessionView → List ℕ → List ℕ → Type 0
 Ends s answers closing = (state : ModelState) (begun : List ℕ) → SessionStands s state begun
-    → (last : ModelState) × PrintedFrom state s.number (lines begun) answers last × EndsIn last answers (answers ++ closing)
+    → (last : ModelState) × PrintedFrom state s.number (lines begun) answers last
+    × EndsIn last answers (answers ++ closing)

@@ -10,7 +10,8 @@ onto_first c (piece ∷ pieces) = (c ∷ piece) ∷ pieces
 -- the pieces between the bytes that are `separator`, empty pieces too
 abbrev pub split : ℕ → List ℕ → List (List ℕ)
 split separator [] = [] ∷ []
-split separator (c ∷ cs) = if c == separator then [] ∷ split separator cs else onto_first c (split separator cs)
+split separator (c ∷ cs) =
+    if c == separator then [] ∷ split separator cs else onto_first c (split separator cs)
 
 -- bytes of one line
 abbrev pub IsLine : List ℕ → Type 0

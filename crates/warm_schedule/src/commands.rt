@@ -1,8 +1,10 @@
 //! The commands of a schedule: a table of their words, and for each a reader of its fields.
 ghost use Rattle.std.specs.Prelude.{◌≡◌, map, option_map, option_and_then};
 ghost use Rattle.warm_schedule.specs.Text.{words};
-ghost use Rattle.warm_schedule.specs.Grammar.{ends_with, refer_of, flush_of, send_of, offer_of, deliver_of, pin_of, unpin_of, put_of, get_of};
-ghost use Rattle.warm_schedule.specs.Grammar.{victim_of, warm_of, warmstep_of, restart_of, horizon_of, show_of, looked_up, commands};
+ghost use Rattle.warm_schedule.specs.Grammar.{ends_with, refer_of, flush_of, send_of, offer_of};
+ghost use Rattle.warm_schedule.specs.Grammar.{deliver_of, pin_of, unpin_of, put_of, get_of};
+ghost use Rattle.warm_schedule.specs.Grammar.{victim_of, warm_of, warmstep_of, restart_of};
+ghost use Rattle.warm_schedule.specs.Grammar.{horizon_of, show_of, looked_up, commands};
 ghost use Rattle.warm_schedule.specs.Parsing.{reader_of, line_parsed};
 ghost use Rattle.warm_schedule.specs.declared.parse.Line.TheVariants as meant;
 

@@ -1,11 +1,14 @@
 //! The fields of a line: each reader takes the first word of the text, and returns its value and
 //! what follows it.
-ghost use Rattle.std.specs.Prelude.{◌≡◌, ◌<◌, ◌≤◌, ◌+◌, ◌*◌, ◌^◌, ◌∷◌, None, length, IfSome, MatchOption, option_map, is_some};
+ghost use Rattle.std.specs.Prelude.{◌≡◌, ◌<◌, ◌≤◌, ◌+◌, ◌*◌, ◌^◌, ◌∷◌, None, length, IfSome};
+ghost use Rattle.std.specs.Prelude.{MatchOption, option_map, is_some};
 ghost use Rattle.std.specs.List.{prefix_len};
 ghost use Rattle.warm_stamps.specs.declared.TheConstants.{BUCKETS};
 ghost use Rattle.warm_schedule.specs.Text.{words};
 ghost use Rattle.warm_schedule.specs.Fields.{digit_of, hex_digit_of, hex_pairs, bytes_of_hex};
-ghost use Rattle.warm_schedule.specs.Fields.{number_field, replica_field, worker_field, bucket_field, count_field, u64_field, page_field, after_field, slot_field};
+ghost use Rattle.warm_schedule.specs.Fields.{number_field, replica_field, worker_field};
+ghost use Rattle.warm_schedule.specs.Fields.{bucket_field, count_field, u64_field, page_field};
+ghost use Rattle.warm_schedule.specs.Fields.{after_field, slot_field};
 ghost use Rattle.warm_schedule.specs.Heads.{is_digit, number_at, page_at, slot_at};
 ghost use Rattle.warm_schedule.specs.Reading.{Reads, TakesMemory};
 

@@ -1,15 +1,19 @@
 //! A schedule that is read in pieces, answered line by line.
-ghost use Rattle.std.specs.Prelude.{◌≡◌, ◌≤◌, ◌<◌, ◌+◌, ◌^◌, ◌∷◌, ◌++◌, [], false, List, ℕ, length, OnOk, IfOk, IfErr, IfSome, Err};
+ghost use Rattle.std.specs.Prelude.{◌≡◌, ◌≤◌, ◌<◌, ◌+◌, ◌^◌, ◌∷◌, ◌++◌, [], false, List, ℕ, length};
+ghost use Rattle.std.specs.Prelude.{OnOk, IfOk, IfErr, IfSome, Err};
 ghost use Rattle.std.specs.Io.KnownBytes.{Appends, Keeps, Consumes, IsAtEnd};
 ghost use Rattle.warm_world.specs.States.{ModelState, opening};
-ghost use Rattle.warm_play_fault.specs.declared.PlayFault.TheVariants.{BadDevices, Memory, WriteFault};
+ghost use Rattle.warm_play_fault.specs.declared.PlayFault.TheVariants.{BadDevices, Memory};
+ghost use Rattle.warm_play_fault.specs.declared.PlayFault.TheVariants.{WriteFault};
 ghost use Rattle.warm_world.specs.Opening.{AreFew, AreFitting};
 ghost use Rattle.warm_world.specs.Views.{IsAtRest, listed, world_view};
 ghost use Rattle.warm_world.specs.Stands.{StandsFor};
 ghost use Rattle.warm_schedule.specs.Text.{IsLine};
 ghost use Rattle.warm_schedule.specs.Printed.{Played};
-ghost use Rattle.warm_schedule.specs.Refusals.{OpeningRefused, PlayRefused, StopsAnswers, StopsPlay};
-ghost use Rattle.warm_schedule.specs.Stream.{session, IsFresh, AddsBytes, AnswersLine, PrintsEnding, ReadsOn, Ends};
+ghost use Rattle.warm_schedule.specs.Refusals.{OpeningRefused, PlayRefused, StopsAnswers};
+ghost use Rattle.warm_schedule.specs.Refusals.{StopsPlay};
+ghost use Rattle.warm_schedule.specs.Stream.{session, IsFresh, AddsBytes, AnswersLine};
+ghost use Rattle.warm_schedule.specs.Stream.{PrintsEnding, ReadsOn, Ends};
 
 use crate::parse::{Line, LineFault, MAX_LINE, parse_line};
 use crate::printer::{print_answer, print_bad_line, print_end_refused, print_refusal};

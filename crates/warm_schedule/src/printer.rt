@@ -1,9 +1,11 @@
 //! Printing the answers of a world. Everything here is allocation-free.
 ghost use Rattle.std.specs.Prelude.{◌≡◌, ◌<◌, ◌≤◌, codes, flat_map, length};
 ghost use Rattle.warm_history.specs.Histories.{entries_of};
-ghost use Rattle.warm_schedule.specs.Answers.{Prints, page_text, stamp_text, hist_text, entry_text, end_text};
+ghost use Rattle.warm_schedule.specs.Answers.{Prints, page_text, stamp_text, hist_text, entry_text};
+ghost use Rattle.warm_schedule.specs.Answers.{end_text};
 ghost use Rattle.warm_schedule.specs.Answers.{shown_text, pages_text};
-ghost use Rattle.warm_schedule.specs.Answers.{slot_text, hex_text, byte_text, bytes_text, page_if_any, refused_text};
+ghost use Rattle.warm_schedule.specs.Answers.{slot_text, hex_text, byte_text, bytes_text};
+ghost use Rattle.warm_schedule.specs.Answers.{page_if_any, refused_text};
 ghost use Rattle.warm_schedule.specs.Answers.{answer_text, bad_line, end_refused};
 ghost use Rattle.warm_schedule.specs.declared.printer.TheConstants.{AT_ONCE};
 

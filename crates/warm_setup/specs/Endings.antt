@@ -1,12 +1,14 @@
 -- How a run of the program ends: its exit status, and its line on standard error.
-use Rattle.std.specs.Prelude.{ℕ, List, [], ◌∷◌, ◌++◌, Option, Some, None, Result, Ok, Err, codes, decimal}
+use Rattle.std.specs.Prelude.{ℕ, List, [], ◌∷◌, ◌++◌, Option, Some, None, Result, Ok, Err, codes}
+use Rattle.std.specs.Prelude.{decimal}
 use Rattle.clap.specs.Words.{kind_of}
 use Rattle.clap.specs.declared.error.kind.ErrorKind.{ErrorKind}
 use Rattle.clap.specs.declared.error.kind.ErrorKind.TheVariants.{DisplayHelp, DisplayVersion}
 use Rattle.warm_setup.specs.declared.command.CmdFault.{CmdFault}
 use Rattle.warm_setup.specs.declared.command.CmdFault.TheVariants as command
 use Rattle.warm_setup.specs.declared.outcome.ProgramFault.{ProgramFault}
-use Rattle.warm_setup.specs.declared.outcome.ProgramFault.TheVariants.{Command, CannotOpen, Setup, Play}
+use Rattle.warm_setup.specs.declared.outcome.ProgramFault.TheVariants.{Command, CannotOpen, Setup}
+use Rattle.warm_setup.specs.declared.outcome.ProgramFault.TheVariants.{Play}
 use Rattle.warm_play_fault.specs.Faults.{play_fault_name}
 use Rattle.warm_play_fault.specs.declared.PlayFault.{PlayFault}
 use Rattle.warm_play_fault.specs.declared.PlayFault.TheVariants.{BadLine}
@@ -54,7 +56,8 @@ error_line (Ok _) = []
 error_line (Err (Command fault)) = line_of_command fault
 error_line (Err (CannotOpen name)) = codes "warmplay: cannot open " ++ name ++ line_end
 error_line (Err (Setup fault)) = codes "warmplay: setup: " ++ name_of fault ++ line_end
-error_line (Err (Play fault)) = codes "warmplay: " ++ play_fault_name fault ++ number_text (number_named fault) ++ line_end
+error_line (Err (Play fault)) = codes "warmplay: " ++ play_fault_name fault
+    ++ number_text (number_named fault) ++ line_end
 
 -- ---- the faults of a command line, by number and name
 

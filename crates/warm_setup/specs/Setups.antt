@@ -1,8 +1,11 @@
 -- What a table of settings means: the setup and its devices, or the first fault.
-use Rattle.std.specs.Prelude.{ℕ, ℤ, pos, List, [], ◌∷◌, length, Bool, ◌&&◌, nat_le, int_le, nat_abs, Result, Ok, Err, Option, Some, None, is_some, codes, bytes_eq, if◌then◌else◌}
+use Rattle.std.specs.Prelude.{ℕ, ℤ, pos, List, [], ◌∷◌, length, Bool, ◌&&◌, nat_le, int_le, nat_abs}
+use Rattle.std.specs.Prelude.{Result, Ok, Err, Option, Some, None, is_some, codes, bytes_eq}
+use Rattle.std.specs.Prelude.{if◌then◌else◌}
 use Rattle.std.specs.Option.{ok_or}
 use Rattle.std.specs.List.{list_all}
-use Rattle.toml.specs.Data.{Data, Items, no_items, item, Members, no_members, member, as_integer, as_str, as_array, as_table}
+use Rattle.toml.specs.Data.{Data, Items, no_items, item, Members, no_members, member, as_integer}
+use Rattle.toml.specs.Data.{as_str, as_array, as_table}
 use Rattle.warm_stamps.specs.declared.TheConstants.{MAX_REPLICAS}
 use Rattle.warm_rank.specs.declared.TheConstants.{MAX_FRAMES}
 use Rattle.warm_refbuffer.specs.declared.TheConstants.{MAX_CAPACITY}
@@ -80,7 +83,8 @@ finished fields = ok_or fields.pages BadKey >>= λ n. Ok (record { pages = n; pa
 
 unfoldable pub device_in : Data → Result DeviceSpec SetupFault
 device_in found =
-    ok_or (as_table found) BadKey >>= λ table. key_by_key with_device_key no_fields table >>= finished
+    ok_or (as_table found) BadKey >>= λ table. key_by_key with_device_key no_fields table
+    >>= finished
 
 abbrev pub is_table : Data → Bool
 is_table found = is_some (as_table found)
@@ -107,17 +111,22 @@ pub record Settings : Type 0 where
 unfoldable pub with_key : Settings → List ℕ → Data → Result Settings SetupFault
 with_key s key found =
     if bytes_eq key (codes "buffer")
-    then (number_to MAX_CAPACITY found >>= λ n. Ok (record s { sizes = record s.sizes { buffer = n } }))
+    then (number_to MAX_CAPACITY found >>= λ n.
+    Ok (record s { sizes = record s.sizes { buffer = n } }))
     else (if bytes_eq key (codes "device")
     then (devices_in found >>= λ ds. Ok (record s { devices = ds }))
     else (if bytes_eq key (codes "frames")
-    then (number_to MAX_FRAMES found >>= λ n. Ok (record s { sizes = record s.sizes { frames = n } }))
+    then (number_to MAX_FRAMES found >>= λ n.
+    Ok (record s { sizes = record s.sizes { frames = n } }))
     else (if bytes_eq key (codes "page_size")
-    then (number_to MAX_PAGE_SIZE found >>= λ n. Ok (record s { sizes = record s.sizes { page_size = n } }))
+    then (number_to MAX_PAGE_SIZE found >>= λ n.
+    Ok (record s { sizes = record s.sizes { page_size = n } }))
     else (if bytes_eq key (codes "replicas")
-    then (number_to MAX_REPLICAS found >>= λ n. Ok (record s { sizes = record s.sizes { replicas = n } }))
+    then (number_to MAX_REPLICAS found >>= λ n.
+    Ok (record s { sizes = record s.sizes { replicas = n } }))
     else (if bytes_eq key (codes "workers")
-    then (number_to MAX_WORKERS found >>= λ n. Ok (record s { sizes = record s.sizes { workers = n } }))
+    then (number_to MAX_WORKERS found >>= λ n.
+    Ok (record s { sizes = record s.sizes { workers = n } }))
     else Err BadKey)))))
 
 -- the defaults for missing keys; the default device is one in memory of 256 pages

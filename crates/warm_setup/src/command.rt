@@ -2,12 +2,16 @@
 //! `warmplay random --seed S --events N [--setup FILE]` and
 //! `warmplay threads FILE [--setup FILE]`.
 
-ghost use Rattle.std.specs.Prelude.{◌≡◌, IfOk, Some, map, option_map, option_and_then, codes, List, ℕ, ◌-◌, ◌^◌, false};
-ghost use Rattle.clap.specs.Words.{app_of, found_of, rows_of, rule_of, subcommand_of, subcommand_rows_of, FailsBy};
+ghost use Rattle.std.specs.Prelude.{◌≡◌, IfOk, Some, map, option_map, option_and_then, codes, List};
+ghost use Rattle.std.specs.Prelude.{ℕ, ◌-◌, ◌^◌, false};
+ghost use Rattle.clap.specs.Words.{app_of, found_of, rows_of, rule_of, subcommand_of};
+ghost use Rattle.clap.specs.Words.{subcommand_rows_of, FailsBy};
 ghost use Rattle.clap.specs.Faults.{fault_of};
 ghost use Rattle.clap.specs.declared.builder.Command.TheViews.{out-Command};
 ghost use Rattle.warm_setup.specs.Endings.{command_fault_code, command_fault_name};
-ghost use Rattle.warm_setup.specs.Words.{with_play, line_by_line, setup, number, argument_number, play, random, random_by, threads, threads_by, warmplay, command_by, Answers, IsRefusal};
+ghost use Rattle.warm_setup.specs.Words.{with_play, line_by_line, setup, number, argument_number};
+ghost use Rattle.warm_setup.specs.Words.{play, random, random_by, threads, threads_by, warmplay};
+ghost use Rattle.warm_setup.specs.Words.{command_by, Answers, IsRefusal};
 ghost use Rattle.warm_setup.specs.WordsView.{command_for};
 
 use crate::path::PathText;
@@ -223,7 +227,8 @@ fn seed_in(found: &ArgMatches<'_>) -> Option<u64>
 }
 
 fn events_in(found: &ArgMatches<'_>) -> Option<u32>
-    ensures { result ≡ argument_number (2 ^ 32 - 1) (codes "events") (rows_of (found_of found.now)) }
+    ensures { result
+        ≡ argument_number (2 ^ 32 - 1) (codes "events") (rows_of (found_of found.now)) }
 {
     found.get_one("events")
 }

@@ -2,7 +2,8 @@
 
 ghost use Rattle.std.specs.Prelude.{◌≡◌, OnOk};
 ghost use Rattle.std.specs.Io.KnownBytes.{Appends};
-ghost use Rattle.warm_setup.specs.Endings.{exit_status, status_of_command, error_line, line_of_command, number_named};
+ghost use Rattle.warm_setup.specs.Endings.{exit_status, status_of_command, error_line};
+ghost use Rattle.warm_setup.specs.Endings.{line_of_command, number_named};
 
 use crate::command::CmdFault;
 use crate::path::PathText;

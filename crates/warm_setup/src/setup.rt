@@ -2,8 +2,8 @@
 //!
 //! A setup is a TOML document. Every key is optional: `buffer` (1 to 1024), `device` (an array of
 //! 1 to 16 tables), `frames` (1 to 65536), `page_size` (1 to 65536), `replicas` (1 to 64) and
-//! `workers` (1 to 16). A device's table has `pages` (1 to 1048576), which it must have, and perhaps
-//! `path`, a text of at least one byte.
+//! `workers` (1 to 16). A device's table has `pages` (1 to 1048576), which it must have, and
+//! perhaps `path`, a text of at least one byte.
 
 ghost use Rattle.std.specs.Prelude.{◌≡◌, ◌≤◌, ◌<◌, ℕ, IfOk, IfErr, Some, None, Ok, Err, map};
 ghost use Rattle.std.specs.List.{list_all};
@@ -12,7 +12,9 @@ ghost use Rattle.toml.specs.Parse.{parse_document};
 ghost use Rattle.toml.specs.View.{view, table_view};
 ghost use Rattle.warm_world.specs.Limits.{IsWithin};
 ghost use Rattle.warm_setup.specs.SetupFaults.{GivesMeaning, code_of, name_of};
-ghost use Rattle.warm_setup.specs.Setups.{number_to, text_in, with_device_key, device_in, devices_of, devices_in, with_key, setup_of, setup_in, key_by_key, no_fields, each, is_table, defaults};
+ghost use Rattle.warm_setup.specs.Setups.{number_to, text_in, with_device_key, device_in};
+ghost use Rattle.warm_setup.specs.Setups.{devices_of, devices_in, with_key, setup_of, setup_in};
+ghost use Rattle.warm_setup.specs.Setups.{key_by_key, no_fields, each, is_table, defaults};
 ghost use Rattle.warm_setup.specs.SetupView.{fields_of, settings_of, setup_and_devices, AreWithin};
 
 use crate::path::PathText;
@@ -161,7 +163,8 @@ fn set_device_key(
     key: &str,
     value: &Value,
 ) -> Result<DeviceKeys, SetupFault>
-    ensures { GivesMeaning fields_of (with_device_key (fields_of keys) key.now (view value.now)) result }
+    ensures { GivesMeaning fields_of
+        (with_device_key (fields_of keys) key.now (view value.now)) result }
 {
     if key == "pages" {
         let pages = number(value, MAX_PAGES)?;
@@ -181,7 +184,8 @@ fn set_device_key(
 }
 
 fn device_keys(alloc: Global, table: &Table) -> Result<DeviceKeys, SetupFault>
-    ensures { GivesMeaning fields_of (key_by_key with_device_key no_fields (table_view table.now)) result }
+    ensures { GivesMeaning fields_of
+        (key_by_key with_device_key no_fields (table_view table.now)) result }
 {
     let mut keys = DeviceKeys {
         pages: None,
@@ -212,7 +216,8 @@ fn device(alloc: Global, value: &Value) -> Result<DeviceSpec, SetupFault>
 
 // Each device in turn, up to the first fault.
 fn each_device(alloc: Global, values: &[Value]) -> Result<Vec<DeviceSpec>, SetupFault>
-    ensures { GivesMeaning (λ devices. devices.items) (each device_in (map view values.now)) result }
+    ensures { GivesMeaning (λ devices. devices.items)
+        (each device_in (map view values.now)) result }
 {
     let mut devices = Vec::new(alloc);
     for value in values {

@@ -1,7 +1,8 @@
 -- Which steps may fail where.
 use Rattle.std.specs.Prelude.{⊤}
 use Rattle.warm_store.specs.declared.fault.Step.{Step}
-use Rattle.warm_store.specs.declared.fault.Step.TheVariants.{Target, Folder, Create, Sync, Rename, SyncFolder}
+use Rattle.warm_store.specs.declared.fault.Step.TheVariants.{Target, Folder, Create, Sync, Rename}
+use Rattle.warm_store.specs.declared.fault.Step.TheVariants.{SyncFolder}
 
 -- a step of making a draft: the old file is not touched
 abbrev pub IsOfMaking : Step → Type 0

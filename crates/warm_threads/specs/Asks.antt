@@ -1,5 +1,6 @@
 -- The requests of the lines of a schedule to workers.
-use Rattle.std.specs.Prelude.{◌≡◌, ℕ, ◌+◌, List, [], ◌∷◌, Bool, ◌&&◌, nat_le, Option, Some, None, Result, Ok, Err, if◌then◌else◌}
+use Rattle.std.specs.Prelude.{◌≡◌, ℕ, ◌+◌, List, [], ◌∷◌, Bool, ◌&&◌, nat_le, Option, Some, None}
+use Rattle.std.specs.Prelude.{Result, Ok, Err, if◌then◌else◌}
 use Rattle.warm_stamps.specs.declared.PageId.{PageId}
 use Rattle.warm_stamps.specs.declared.Reference.{Reference}
 use Rattle.warm_world.specs.Sizes.{Sizes}
@@ -38,7 +39,8 @@ abbrev pub ask_if : Bool → Ask → Result Ask NotPlayable
 ask_if there a = if there then Ok a else Err not_playable
 
 abbrev pub ask_in : Sizes → WorkerRequest → Result Ask NotPlayable
-ask_in s (request.Reference i w page time) = ask_if (has_worker s i w) (ask i w (task.Reference (reference i page time)))
+ask_in s (request.Reference i w page time) =
+    ask_if (has_worker s i w) (ask i w (task.Reference (reference i page time)))
 ask_in s (request.Flush i w) = ask_if (has_worker s i w) (ask i w task.Flush)
 
 abbrev pub as_said : Result Ask NotPlayable → Result (Option Ask) NotPlayable
@@ -47,7 +49,8 @@ as_said (Err e) = Err e
 
 -- a request to a worker, or nothing; not playable where the line is bad or is not a request to a
 -- worker, or the setup has no such worker
-abbrev pub asked_in : Sizes → Result (Option WorkerRequest) NotForWorker → Result (Option Ask) NotPlayable
+abbrev pub asked_in : Sizes → Result (Option WorkerRequest) NotForWorker
+    → Result (Option Ask) NotPlayable
 asked_in s (Err e) = Err not_playable
 asked_in s (Ok None) = Ok None
 asked_in s (Ok (Some said)) = as_said (ask_in s said)

@@ -23,9 +23,12 @@ IsSend bucket after message e = (e.call ≡ Send bucket after) × (e.reply ≡ S
 -- the message before. All messages but the last are full
 abbrev pub SendsBucket : ℕ → Option PageId → Calls → Type 0
 SendsBucket bucket after [] = ⊥
-SendsBucket bucket after (e ∷ []) = (message : Message) × IsSend bucket after message e × (length (entries_in message) < MAX_ENTRIES)
+SendsBucket bucket after (e ∷ []) = (message : Message) × IsSend bucket after message e
+    × (length (entries_in message) < MAX_ENTRIES)
 SendsBucket bucket after (e ∷ f ∷ es) =
-    (message : Message) × IsSend bucket after message e × (MAX_ENTRIES ≤ length (entries_in message)) × SendsBucket bucket (last_page (entries_in message)) (f ∷ es)
+    (message : Message) × IsSend bucket after message e
+    × (MAX_ENTRIES ≤ length (entries_in message))
+    × SendsBucket bucket (last_page (entries_in message)) (f ∷ es)
 
 -- the calls send every bucket whole, one after the other, from bucket 0 on
 pub record SendsAll (calls : Calls) : Type 0 where
@@ -36,4 +39,5 @@ pub record SendsAll (calls : Calls) : Type 0 where
 
 -- a message was received, and answered
 abbrev pub IsReceipt : turn.Entry Call Reply → Type 0
-IsReceipt e = (message : Message) × (answers : List Message) × (e.call ≡ Receive message) × (e.reply ≡ Answers answers)
+IsReceipt e = (message : Message) × (answers : List Message) × (e.call ≡ Receive message)
+    × (e.reply ≡ Answers answers)

@@ -1,5 +1,6 @@
 -- The steps by which a worker carries out its requests.
-use Rattle.std.specs.Prelude.{◌≡◌, ℕ, ◌+◌, List, [], ◌∷◌, ◌++◌, Bool, true, false, ◌&&◌, ◌==◌, filter, length, map, nat_lt}
+use Rattle.std.specs.Prelude.{◌≡◌, ℕ, ◌+◌, List, [], ◌∷◌, ◌++◌, Bool, true, false, ◌&&◌, ◌==◌}
+use Rattle.std.specs.Prelude.{filter, length, map, nat_lt}
 use Rattle.std.specs.Global.{Vec}
 use Rattle.std.specs.List.{All}
 use Rattle.warm_stamps.specs.declared.Reference.{Reference}
@@ -46,7 +47,8 @@ pub record IsShaped (s : Sizes) (plans : List (Vec Planned)) : Type 0 where
 
 -- they are the plans for the requests to each worker of each replica
 abbrev pub ArePlansOf : Sizes → List Ask → List (Vec Planned) → Type 0
-ArePlansOf s asks plans = Numbered (λ i list. Numbered (λ w plan. plan ≡ plan_of s asks i w) list.items) plans
+ArePlansOf s asks plans =
+    Numbered (λ i list. Numbered (λ w plan. plan ≡ plan_of s asks i w) list.items) plans
 
 -- a job that carries out the plan, and flushes last
 pub record DoesPlan (capacity : ℕ) (plan : Planned) (job : Job) : Type 0 where
@@ -55,7 +57,8 @@ pub record DoesPlan (capacity : ℕ) (plan : Planned) (job : Job) : Type 0 where
 
 -- jobs that do so, worker by worker and replica by replica
 abbrev pub DoPlans : ℕ → List (Vec Planned) → List (Vec Job) → Type 0
-DoPlans capacity plans jobs = Pairs (λ ps js. Pairs (DoesPlan capacity) ps.items js.items) plans jobs
+DoPlans capacity plans jobs =
+    Pairs (λ ps js. Pairs (DoesPlan capacity) ps.items js.items) plans jobs
 
 -- The job of a worker of a replica: its buffer is as large as the setup says. It carries out the
 -- worker's requests, in their order, where a full buffer is flushed before a further reference, and

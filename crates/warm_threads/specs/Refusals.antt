@@ -2,7 +2,8 @@
 use Rattle.std.specs.Prelude.{List}
 use Rattle.warm_devices.specs.Device.{DeviceState}
 use Rattle.warm_play_fault.specs.declared.PlayFault.{PlayFault}
-use Rattle.warm_play_fault.specs.declared.PlayFault.TheVariants.{Memory, ReadFault, WriteFault, BadLine, NoThread, BadDevices}
+use Rattle.warm_play_fault.specs.declared.PlayFault.TheVariants.{Memory, ReadFault, WriteFault}
+use Rattle.warm_play_fault.specs.declared.PlayFault.TheVariants.{BadLine, NoThread, BadDevices}
 use Rattle.warm_world.specs.Sizes.{Sizes}
 use Rattle.warm_world.specs.Nodes.{AreUsable}
 

@@ -6,7 +6,8 @@ use Rattle.warm_schedule.specs.Answers.{shown_text}
 
 -- the replica of this number, and what `show` prints of its history
 abbrev pub replica_text : ℕ → HistoryView → List ℕ
-replica_text i history = codes "replica " ++ decimal i ++ codes "\n" ++ shown_text (entries_of history)
+replica_text i history = codes "replica " ++ decimal i ++ codes "\n"
+    ++ shown_text (entries_of history)
 
 -- the same of replicas one after the other, of which the first has this number
 abbrev pub replicas_text : ℕ → List NodeView → List ℕ

@@ -29,7 +29,8 @@ module _ {X : Type 0} (goes : X → Call → Reply → X → Type 0) where
     pub taken : All AreTaken replies
     pub workers : List (EndedPass Call Reply)
     pub each : Triples JobWentAs jobs replies workers
-    pub stand : (k : ℕ) (e : EndedPass Call Reply) → get_elem? workers k ≡ some e → calls_by e.number calls ≡ e.calls
+    pub stand : (k : ℕ) (e : EndedPass Call Reply) → get_elem? workers k ≡ some e
+        → calls_by e.number calls ≡ e.calls
     pub apart : NoRepeat workers
 
   -- The workers of a machine have ended; then it has sent every bucket whole, by exactly these

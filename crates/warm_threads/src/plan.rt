@@ -1,5 +1,6 @@
 //! The steps of each worker.
-ghost use Rattle.std.specs.Prelude.{◌≡◌, ◌+◌, ◌<◌, ◌^◌, ◌++◌, ◌∷◌, [], List, length, replicate, true};
+ghost use Rattle.std.specs.Prelude.{◌≡◌, ◌+◌, ◌<◌, ◌^◌, ◌++◌, ◌∷◌, [], List, length, replicate};
+ghost use Rattle.std.specs.Prelude.{true};
 ghost use Rattle.std.specs.Prelude.{Err, IfOk, IfErr, OnOk, None, ◌⊎◌, slice_set, slice_index_or};
 ghost use Rattle.warm_refbuffer.specs.Buffered.{IsCapacity};
 ghost use Rattle.warm_play_fault.specs.declared.PlayFault.TheVariants.{Memory, BadLine};
@@ -7,8 +8,10 @@ ghost use Rattle.warm_schedule.specs.Text.{lines};
 ghost use Rattle.warm_replica.specs.Pairs.{Pairs};
 ghost use Rattle.warm_threads.specs.declared.ask.Ask.{Ask};
 ghost use Rattle.warm_threads.specs.Steps.{nothing_planned};
-ghost use Rattle.warm_threads.specs.Plans.{plan_task, IsShaped, ArePlansOf, DoesPlan, DoPlans, AreJobsOf};
-ghost use Rattle.warm_threads.specs.Asks.{asked, asks, first_bad, has_worker, not_playable, with_ask};
+ghost use Rattle.warm_threads.specs.Plans.{plan_task, IsShaped, ArePlansOf, DoesPlan, DoPlans};
+ghost use Rattle.warm_threads.specs.Plans.{AreJobsOf};
+ghost use Rattle.warm_threads.specs.Asks.{asked, asks, first_bad, has_worker, not_playable};
+ghost use Rattle.warm_threads.specs.Asks.{with_ask};
 ghost use Rattle.warm_threads.specs.Asks.{IsBadLine, IsPlayable};
 
 use crate::ask::{Ask, Task, asked};

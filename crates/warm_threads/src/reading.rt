@@ -1,5 +1,6 @@
 //! A schedule that is read whole.
-ghost use Rattle.std.specs.Prelude.{◌≡◌, ◌<◌, ◌++◌, false, List, ℕ, length, OnOk, IfOk, IfErr, IfSome, Err, ◌⊎◌};
+ghost use Rattle.std.specs.Prelude.{◌≡◌, ◌<◌, ◌++◌, false, List, ℕ, length, OnOk, IfOk, IfErr};
+ghost use Rattle.std.specs.Prelude.{IfSome, Err, ◌⊎◌};
 ghost use Rattle.std.specs.Io.KnownBytes.{Consumes, IsAtEnd};
 ghost use Rattle.warm_play_fault.specs.declared.PlayFault.TheVariants.{Memory, ReadFault};
 

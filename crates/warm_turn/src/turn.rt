@@ -380,9 +380,9 @@ impl<M: Machine> Turn<M> {
         Note { seat }
     }
 
-    /// Learns what the note has seen. Afterwards both the pass's earlier list and the note's list are
-    /// prefixes of the pass's list, which may have further entries of other passes. Both have the
-    /// same opening state. Its own calls, those that it holds and its mark stay.
+    /// Learns what the note has seen. Afterwards both the pass's earlier list and the note's list
+    /// are prefixes of the pass's list, which may have further entries of other passes. Both have
+    /// the same opening state. Its own calls, those that it holds and its mark stay.
     pub fn learn(&self, pass: &mut Pass<M>, note: Note<M>)
         requires { (pass.old.table ≡ self.now.table) × (note.table ≡ self.now.table) }
         ensures table { pass.new.table ≡ self.now.table }

@@ -1,5 +1,6 @@
 -- The answer of a replica to a message, as the references that the answering messages bring.
-use Rattle.std.specs.Prelude.{◌≡◌, ◌^◌, ℕ, ◌<◌, ◌==◌, List, [], ◌∷◌, ◌++◌, Option, None, if◌then◌else◌}
+use Rattle.std.specs.Prelude.{◌≡◌, ◌^◌, ℕ, ◌<◌, ◌==◌, List, [], ◌∷◌, ◌++◌, Option, None}
+use Rattle.std.specs.Prelude.{if◌then◌else◌}
 use Rattle.std.specs.List.{flat_map}
 use Rattle.warm_stamps.specs.declared.PageId.{PageId}
 use Rattle.warm_history.specs.declared.hist.Entry.{Entry}
@@ -13,10 +14,12 @@ use Rattle.warm_gossip.specs.Chunks.{last_page}
 use Rattle.warm_world.specs.States.{MessageRecord, References, Digests, Request}
 
 -- the chunks of a bucket, one after the other: each brings all references of S to its pages
-abbrev pub records_of : ℕ → ReferenceSet → ℕ → Option PageId → List (List Entry) → List MessageRecord
+abbrev pub records_of : ℕ → ReferenceSet → ℕ → Option PageId → List (List Entry)
+    → List MessageRecord
 records_of i S bucket after [] = []
 records_of i S bucket after (chunk ∷ others) =
-    References i (carried S bucket after MAX_ENTRIES) ∷ records_of i S bucket (last_page chunk) others
+    References i (carried S bucket after MAX_ENTRIES)
+    ∷ records_of i S bucket (last_page chunk) others
 
 -- what a replica that S reached sends of a bucket, in messages that are all full but the last
 abbrev pub bucket_records : ℕ → ReferenceSet → ℕ → List MessageRecord
@@ -43,5 +46,7 @@ reach_after S kept = S ∪ refs_of kept
 abbrev pub AreAnswers : ℕ → ReferenceSet → MessageRecord → List MessageRecord → Type 0
 AreAnswers i S (References sender refs) added = added ≡ []
 AreAnswers i S (Request sender horizon request) added = added ≡ requested_records i S request
-AreAnswers i S (Digests sender horizon digests) added = (request : ℕ) × (request < 2 ^ 64) × IsDiffering digests (history S) request
-    × (added ≡ if request == 0 then [] else requested_records i S request ++ Request i S.horizon request ∷ [])
+AreAnswers i S (Digests sender horizon digests) added = (request : ℕ) × (request < 2 ^ 64)
+    × IsDiffering digests (history S) request
+    × (added ≡ if request == 0 then []
+    else requested_records i S request ++ Request i S.horizon request ∷ [])

@@ -2,7 +2,8 @@
 use Rattle.std.specs.Prelude.{ℕ, List, codes}
 use Rattle.warm_gossip.specs.Faults as node_faults
 use Rattle.warm_world.specs.declared.event.WorldFault.{WorldFault}
-use Rattle.warm_world.specs.declared.event.WorldFault.TheVariants.{Node, NoSuchReplica, NoSuchWorker, NoSuchFrame}
+use Rattle.warm_world.specs.declared.event.WorldFault.TheVariants.{Node, NoSuchReplica}
+use Rattle.warm_world.specs.declared.event.WorldFault.TheVariants.{NoSuchWorker, NoSuchFrame}
 use Rattle.warm_world.specs.declared.event.BadWorld.{BadWorld}
 use Rattle.warm_world.specs.declared.event.BadWorld.TheVariants.{Memory, SizeDiffers, DevicesDiffer}
 

@@ -11,6 +11,8 @@ abbrev pub index_of_number : ℕ → ℕ
 index_of_number number = number - 1
 
 -- two lists of one length, related item by item; the relation may depend on the index
-pub record Pairwise {A B : Type 0} (R : ℕ → A → B → Type 0) (xs : List A) (ys : List B) : Type 0 where
+pub record Pairwise {A B : Type 0} (R : ℕ → A → B → Type 0) (xs : List A) (ys : List B)
+    : Type 0 where
   pub same_length : length xs ≡ length ys
-  pub each : (i : ℕ) (a : A) (b : B) → i < length xs → R i (slice_index_or xs i a) (slice_index_or ys i b)
+  pub each : (i : ℕ) (a : A) (b : B) → i < length xs
+      → R i (slice_index_or xs i a) (slice_index_or ys i b)

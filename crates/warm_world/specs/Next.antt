@@ -1,5 +1,6 @@
 -- The effect of an event on the lists of references and on the pools, and its answer.
-use Rattle.std.specs.Prelude.{◌≡◌, ℕ, ◌+◌, ◌==◌, ◌≤◌, List, [], ◌∷◌, length, Option, Some, None, MatchOption, map, if◌then◌else◌, slice_index_or}
+use Rattle.std.specs.Prelude.{◌≡◌, ℕ, ◌+◌, ◌==◌, ◌≤◌, List, [], ◌∷◌, length, Option, Some, None}
+use Rattle.std.specs.Prelude.{MatchOption, map, if◌then◌else◌, slice_index_or}
 use Rattle.warm_stamps.specs.declared.PageId.{PageId}
 use Rattle.warm_stamps.specs.declared.Reference.{Reference}
 use Rattle.warm_history.specs.Histories.{entries_of, history}
@@ -17,13 +18,21 @@ use Rattle.warm_gossip.specs.declared.fault.NodeFault.{NodeFault}
 use Rattle.warm_gossip.specs.declared.fault.NodeFault.TheVariants.{Memory}
 use Rattle.warm_gossip.specs.Step.{Step}
 use Rattle.warm_world.specs.declared.event.Event.{Event}
-use Rattle.warm_world.specs.declared.event.Event.TheVariants.{Refer, Flush, Send, Offer, Deliver, Pin, Unpin, Put, Get, Victim, Warm, WarmStep, Restart, Horizon, Show}
+use Rattle.warm_world.specs.declared.event.Event.TheVariants.{Refer, Flush, Send, Offer, Deliver}
+use Rattle.warm_world.specs.declared.event.Event.TheVariants.{Pin, Unpin, Put, Get, Victim, Warm}
+use Rattle.warm_world.specs.declared.event.Event.TheVariants.{WarmStep, Restart, Horizon, Show}
 use Rattle.warm_world.specs.declared.event.Answer.{Answer}
-use Rattle.warm_world.specs.declared.event.Answer.TheVariants.{Done, Shown, FrameNo, Took, Pinned, Bytes, Page, Pages, Loaded, Kept, Refused}
+use Rattle.warm_world.specs.declared.event.Answer.TheVariants.{Done, Shown, FrameNo, Took, Pinned}
+use Rattle.warm_world.specs.declared.event.Answer.TheVariants.{Bytes, Page, Pages, Loaded, Kept}
+use Rattle.warm_world.specs.declared.event.Answer.TheVariants.{Refused}
 use Rattle.warm_world.specs.declared.event.WorldFault.{WorldFault}
-use Rattle.warm_world.specs.declared.event.WorldFault.TheVariants.{Node, NoSuchReplica, NoSuchWorker, NoSuchFrame}
+use Rattle.warm_world.specs.declared.event.WorldFault.TheVariants.{Node, NoSuchReplica}
+use Rattle.warm_world.specs.declared.event.WorldFault.TheVariants.{NoSuchWorker, NoSuchFrame}
 use Rattle.warm_world.specs.Lists.{IsNumber, index_of_number}
-use Rattle.warm_world.specs.States.{ModelState, MessageRecord, References, Digests, replica, reach_of, pool_of, node_of, set_replica, set_pool, record_at, add_records, pending, flushed, raised_replica, referred, restarted}
+use Rattle.warm_world.specs.States.{ModelState, MessageRecord, References, Digests, replica}
+use Rattle.warm_world.specs.States.{reach_of, pool_of, node_of, set_replica, set_pool, record_at}
+use Rattle.warm_world.specs.States.{add_records, pending, flushed, raised_replica, referred}
+use Rattle.warm_world.specs.States.{restarted}
 use Rattle.warm_world.specs.Answered.{AreAnswers, reach_after}
 
 -- the replica that an event names
@@ -82,15 +91,18 @@ pub record IsNamed (s : Shape) (event : Event) : Type 0 where
 -- what the fault names does not exist; the replica is checked first
 abbrev pub IsMissing : Shape → Event → WorldFault → Type 0
 IsMissing s event NoSuchReplica = ¬ HasReplica s event
-IsMissing s event NoSuchWorker = HasReplica s event × MatchOption (worker_of event) ⊥ (λ w. ¬ IsWorker s event w)
-IsMissing s event NoSuchFrame = HasReplica s event × MatchOption (message_of event) ⊥ (λ k. ¬ IsMessage s k)
+IsMissing s event NoSuchWorker = HasReplica s event
+    × MatchOption (worker_of event) ⊥ (λ w. ¬ IsWorker s event w)
+IsMissing s event NoSuchFrame = HasReplica s event
+    × MatchOption (message_of event) ⊥ (λ k. ¬ IsMessage s k)
 IsMissing s event (Node why) = ⊥
 
 -- the node of the replica i gives this reply to the call, and of the world nothing but that
 -- replica's pool may have changed
 abbrev pub NodeReplies : ModelState → ℕ → Call → Reply → ModelState → Type 0
 NodeReplies old i call reply new =
-    (pool : PoolView) × Step (node_of old i) call reply (record (node_of old i) { pool = pool }) × (new ≡ set_pool old i pool)
+    (pool : PoolView) × Step (node_of old i) call reply (record (node_of old i) { pool = pool })
+    × (new ≡ set_pool old i pool)
 
 -- the call that an event of a pool makes of the node of its replica; the other events make none
 abbrev pub call_of : Event → Option Call
@@ -123,14 +135,17 @@ SomeNodeReplies old i call reply new = ⊥
 -- allocation failed, or the node refuses the call
 abbrev pub RefusesEvent : ModelState → Event → NodeFault → ModelState → Type 0
 RefusesEvent old (Restart i) why new = NodeReplies old i call.Restart (reply.Refused why) new
-RefusesEvent old (Refer i w page time) Memory new = (old.capacity ≤ length (pending (replica old (index_of_number i)) (index_of_number w))) × (new ≡ old)
+RefusesEvent old (Refer i w page time) Memory new =
+    (old.capacity ≤ length (pending (replica old (index_of_number i)) (index_of_number w)))
+    × (new ≡ old)
 RefusesEvent old (Flush i w) Memory new = new ≡ old
 RefusesEvent old (Send i bucket after) Memory new = new ≡ old
 RefusesEvent old (Offer i) Memory new = new ≡ old
 RefusesEvent old (Deliver j k) Memory new = new ≡ old
 RefusesEvent old (Warm i n) Memory new = new ≡ old
 RefusesEvent old (Show i) Memory new = new ≡ old
-RefusesEvent old event why new = SomeNodeReplies old (replica_of event) (call_of event) (Some (reply.Refused why)) new
+RefusesEvent old event why new =
+    SomeNodeReplies old (replica_of event) (call_of event) (Some (reply.Refused why)) new
 
 -- when an event is refused with this fault, and what has then changed: a missing replica, worker or
 -- message comes before all other faults
@@ -140,12 +155,15 @@ IsRefused old event fault new = IsMissing (shape old) event fault × (new ≡ ol
 
 -- the replica j receives a message: it takes in the message's references, and its answers are
 -- numbered after the messages so far
-pub record Delivered (old : ModelState) (j : ℕ) (kept : MessageRecord) (count first : ℕ) (new : ModelState) : Type 0 where
+pub record Delivered (old : ModelState) (j : ℕ) (kept : MessageRecord) (count first : ℕ)
+    (new : ModelState) : Type 0 where
   pub added : List MessageRecord
   pub answers : AreAnswers j (reach_after (reach_of old j) kept) kept added
   pub many : count ≡ length added
   pub from : first ≡ if count == 0 then 0 else length old.records + 1
-  pub becomes : new ≡ add_records (set_replica old (index_of_number j) (record (replica old (index_of_number j)) { reach = reach_after (reach_of old j) kept })) added
+  pub becomes : new ≡ add_records (set_replica old (index_of_number j)
+      (record (replica old (index_of_number j)) { reach = reach_after (reach_of old j) kept }))
+      added
 
 -- the reference that a worker of replica i makes: the page, stamped with the time and the replica
 abbrev pub stamped : ℕ → PageId → ℕ → Reference
@@ -155,24 +173,36 @@ stamped i page time = record { page = page; stamp = record { time = time; replic
 -- warm-up list is over all references that reached the replica.
 abbrev pub Effect : ModelState → Event → Answer → ModelState → Type 0
 Effect old (Refer i w page time) Done new =
-    new ≡ set_replica old (index_of_number i) (referred old.capacity (index_of_number w) (stamped i page time) (replica old (index_of_number i)))
+    new ≡ set_replica old (index_of_number i)
+    (referred old.capacity (index_of_number w) (stamped i page time)
+    (replica old (index_of_number i)))
 Effect old (Flush i w) Done new =
-    new ≡ set_replica old (index_of_number i) (flushed (index_of_number w) (replica old (index_of_number i)))
+    new ≡ set_replica old (index_of_number i)
+    (flushed (index_of_number w) (replica old (index_of_number i)))
 Effect old (Send i bucket after) (FrameNo k) new =
-    (k ≡ length new.records) × (new ≡ add_records old (References i (carried (reach_of old i) bucket after MAX_ENTRIES) ∷ []))
+    (k ≡ length new.records)
+    × (new ≡ add_records old
+    (References i (carried (reach_of old i) bucket after MAX_ENTRIES) ∷ []))
 Effect old (Offer i) (FrameNo k) new =
-    (k ≡ length new.records) × (new ≡ add_records old (Digests i (reach_of old i).horizon (digests_of (entries_of (history (reach_of old i)))) ∷ []))
+    (k ≡ length new.records)
+    × (new ≡ add_records old (Digests i (reach_of old i).horizon
+    (digests_of (entries_of (history (reach_of old i)))) ∷ []))
 Effect old (Deliver j k) (Took count first) new =
     Delivered old j (record_at old (index_of_number k)) count first new
 Effect old (Warm i n) (Pages pages) new =
     (pages ≡ hottest_pages (reach_of old i) n) × (new ≡ old)
 Effect old (Restart i) Done new =
-    (pool : PoolView) × Emptied (pool_of old i) pool × (new ≡ set_replica old (index_of_number i) (restarted pool (replica old (index_of_number i))))
+    (pool : PoolView) × Emptied (pool_of old i) pool
+    × (new ≡ set_replica old (index_of_number i)
+    (restarted pool (replica old (index_of_number i))))
 Effect old (Horizon i time) (Kept horizon) new =
-    (horizon ≡ (reach_of new i).horizon) × (new ≡ set_replica old (index_of_number i) (raised_replica time (replica old (index_of_number i))))
+    (horizon ≡ (reach_of new i).horizon)
+    × (new ≡ set_replica old (index_of_number i)
+    (raised_replica time (replica old (index_of_number i))))
 Effect old (Show i) (Shown shown) new =
     (shown ≡ history (reach_of old i)) × (new ≡ old)
-Effect old event answer new = SomeNodeReplies old (replica_of event) (call_of event) (reply_of answer) new
+Effect old event answer new =
+    SomeNodeReplies old (replica_of event) (call_of event) (reply_of answer) new
 
 -- The transition relation: from old, the event may get this answer and lead to new.
 abbrev pub Next : ModelState → Event → Answer → ModelState → Type 0
@@ -182,6 +212,7 @@ Next old event answer new = IsNamed (shape old) event × Effect old event answer
 -- From old, the events, one after another, may get these answers and lead to new.
 abbrev pub Run : ModelState → List Event → List Answer → ModelState → Type 0
 Run old [] [] new = new ≡ old
-Run old (event ∷ events) (answer ∷ answers) new = (mid : ModelState) × Next old event answer mid × Run mid events answers new
+Run old (event ∷ events) (answer ∷ answers) new = (mid : ModelState) × Next old event answer mid
+    × Run mid events answers new
 Run old [] (answer ∷ answers) new = ⊥
 Run old (event ∷ events) [] new = ⊥

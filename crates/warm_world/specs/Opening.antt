@@ -20,7 +20,8 @@ devices_at devices k = slice_index_or devices k []
 
 -- each device of each replica has pages of this size
 abbrev pub AreSized : ℕ → List (List DeviceState) → Type 0
-AreSized size devices = (k : ℕ) → k < length devices → AreOfSize size (length (devices_at devices k)) (devices_at devices k)
+AreSized size devices = (k : ℕ) → k < length devices
+    → AreOfSize size (length (devices_at devices k)) (devices_at devices k)
 
 -- no replica has more devices than a page can name
 abbrev pub AreFew : List (List DeviceState) → Type 0
@@ -33,7 +34,8 @@ AreFitting s devices = (length devices ≡ s.replicas) × AreSized s.page_size d
 -- why a world is not made: an allocation failure comes last
 abbrev pub NewWorldRefused : Sizes → List (List DeviceState) → BadWorld → Type 0
 NewWorldRefused s devices DevicesDiffer = length devices ≢ s.replicas
-NewWorldRefused s devices SizeDiffers = (length devices ≡ s.replicas) × (AreSized s.page_size devices → ⊥)
+NewWorldRefused s devices SizeDiffers = (length devices ≡ s.replicas)
+    × (AreSized s.page_size devices → ⊥)
 NewWorldRefused s devices Memory = AreFitting s devices
 
 -- the replica, with this pool
@@ -46,8 +48,13 @@ pub record FailsOf (old : WorldView) (new : WorldView) : Type 0 where
   pub replica : ℕ
   pub there : replica < length old.replicas
   pub pool : PoolView
-  pub failed : (other : ReplicaView) → IsFailed (slice_index_or old.replicas replica other).node.pool pool
-  pub becomes : (other : ReplicaView) → new ≡ record old { replicas = set old.replicas replica (with_pool (slice_index_or old.replicas replica other) pool) }
+  pub failed : (other : ReplicaView)
+      → IsFailed (slice_index_or old.replicas replica other).node.pool pool
+  pub becomes : (other : ReplicaView)
+      → new ≡ record old {
+        replicas = set old.replicas replica
+            (with_pool (slice_index_or old.replicas replica other) pool);
+      }
 
 abbrev pub FinishFails : WorldView → NodeFault → WorldView → Type 0
 FinishFails old why new = (why ≡ Pool Fault) × FailsOf old new

@@ -29,7 +29,8 @@ deliveries j from many = map (λ k. Deliver j (k + 1)) (range_with_len from many
 
 -- the replica j receives those stored in the second state and not in the first
 abbrev pub new_messages_to : ℕ → ModelState → ModelState → List Event
-new_messages_to j before after = deliveries j (length before.records) (length after.records - length before.records)
+new_messages_to j before after =
+    deliveries j (length before.records) (length after.records - length before.records)
 
 -- A round: i offers its digests, and j receives them; i receives all answers to them; j receives
 -- all answers to those.
@@ -52,7 +53,8 @@ joined_history i j m = join (known_to m i) (known_to m j)
 
 -- Both replicas have the entries of the join of their histories before. The second has its horizon
 -- too, the greater one, and so has the first if the second answered a message.
-pub record AreJoined {i j : ℕ} {old new : ModelState} (round : GossipRound i j old new) : Type 0 where
+pub record AreJoined {i j : ℕ} {old new : ModelState} (round : GossipRound i j old new)
+    : Type 0 where
   pub first : entries_of (known_to new i) ≡ entries_of (joined_history i j old)
   pub second : known_to new j ≡ joined_history i j old
   pub raised : round.asked.records ≢ round.offered.records → known_to new i ≡ joined_history i j old
@@ -61,5 +63,8 @@ pub record AreJoined {i j : ℕ} {old new : ModelState} (round : GossipRound i j
 -- different texts of one bucket have the same SHA-256 digest: one text of the first replica, and
 -- one of the second at the greater horizon.
 abbrev pub GossipRoundJoins : Type 0
-GossipRoundJoins = (i j : ℕ) (old new : ModelState) → ModelFits old → (round : GossipRound i j old new)
-    → AreJoined round ⊎ IsCollision (known_to old i) (history (with_horizon (reach_of old i).horizon (reach_of old j)))
+GossipRoundJoins = (i j : ℕ) (old new : ModelState) → ModelFits old
+    → (round : GossipRound i j old new)
+    → AreJoined round
+    ⊎ IsCollision (known_to old i)
+    (history (with_horizon (reach_of old i).horizon (reach_of old j)))

@@ -1,5 +1,6 @@
 -- A world stands for the references that reached its replicas.
-use Rattle.std.specs.Prelude.{◌≡◌, ℕ, ◌+◌, ◌<◌, ◌≤◌, List, [], ◌∷◌, length, map, slice_index_or, Some}
+use Rattle.std.specs.Prelude.{◌≡◌, ℕ, ◌+◌, ◌<◌, ◌≤◌, List, [], ◌∷◌, length, map, slice_index_or}
+use Rattle.std.specs.Prelude.{Some}
 use Rattle.warm_stamps.specs.declared.PageId.{PageId}
 use Rattle.warm_stamps.specs.declared.Reference.{Reference}
 use Rattle.warm_history.specs.Histories.{HistoryView, entries_of, history_of_entries, history}
@@ -17,7 +18,8 @@ use Rattle.warm_world.specs.declared.event.Answer.{Answer}
 use Rattle.warm_world.specs.declared.event.Answer.TheVariants.{Page}
 use Rattle.warm_world.specs.Lists.{Pairwise, IsNumber, index_of_number}
 use Rattle.warm_world.specs.Views.{ReplicaView, WorldView}
-use Rattle.warm_world.specs.States.{ModelState, ReplicaState, MessageRecord, References, Digests, Request, pending, pool_of, reach_of, replica, set_replica}
+use Rattle.warm_world.specs.States.{ModelState, ReplicaState, MessageRecord, References, Digests}
+use Rattle.warm_world.specs.States.{Request, pending, pool_of, reach_of, replica, set_replica}
 use Rattle.warm_world.specs.Next.{Next, Run, Shape}
 
 -- a buffer that holds these references
@@ -35,12 +37,14 @@ pub record ReplicaStands (capacity index : ℕ) (r : ReplicaView) (m : ReplicaSt
 -- state
 abbrev pub Becomes : ℕ → ReplicaView → ReplicaView → (ReplicaState → ReplicaState) → Type 0
 Becomes capacity old new change =
-    (index : ℕ) (m : ReplicaState) → ReplicaStands capacity index old m → ReplicaStands capacity index new (change m)
+    (index : ℕ) (m : ReplicaState) → ReplicaStands capacity index old m
+    → ReplicaStands capacity index new (change m)
 
 -- in every model state that a replica stands for, the buffer of the worker is full
 abbrev pub IsBufferFull : ReplicaView → ℕ → Type 0
 IsBufferFull r worker =
-    (capacity index : ℕ) (m : ReplicaState) → ReplicaStands capacity index r m → capacity ≤ length (pending m worker)
+    (capacity index : ℕ) (m : ReplicaState) → ReplicaStands capacity index r m
+    → capacity ≤ length (pending m worker)
 
 -- the message that a record is of: from its sender, with the horizon, the page histories of the
 -- references that it brings, or digests, or a request
@@ -67,7 +71,8 @@ view_shape w = record {
 }
 
 -- the event leads to a state that the world stands for
-pub record Stepped (old : ModelState) (event : Event) (answer : Answer) (w : WorldView) : Type 0 where
+pub record Stepped (old : ModelState) (event : Event) (answer : Answer) (w : WorldView)
+    : Type 0 where
   pub new : ModelState
   pub next : Next old event answer new
   pub stands : StandsFor w new
@@ -81,16 +86,20 @@ Steps old event answer new = (m : ModelState) → StandsFor old m → Stepped m 
 -- failure counted at a device of one replica, and nothing else changed
 abbrev pub CountsFailure : WorldView → WorldView → Type 0
 CountsFailure old new = (m : ModelState) → StandsFor old m
-    → (k : ℕ) × (pool : PoolView) × (k < length m.replicas) × IsFailed (replica m k).pool pool × StandsFor new (set_replica m k (record (replica m k) { pool = pool }))
+    → (k : ℕ) × (pool : PoolView) × (k < length m.replicas) × IsFailed (replica m k).pool pool
+    × StandsFor new (set_replica m k (record (replica m k) { pool = pool }))
 
 -- the history of the replica of a number
 abbrev pub history_of : WorldView → ℕ → HistoryView
-history_of w i = slice_index_or (map (λ r. r.node.history) w.replicas) (index_of_number i) (history_of_entries [])
+history_of w i =
+    slice_index_or (map (λ r. r.node.history) w.replicas) (index_of_number i)
+    (history_of_entries [])
 
 -- each replica's history is exactly the two latest stamps, not older than its horizon, of every
 -- page among the references that reached it
 abbrev pub HistoriesAreExact : WorldView → ModelState → Type 0
-HistoriesAreExact w m = (i : ℕ) → IsNumber i (length m.replicas) → history_of w i ≡ history (reach_of m i)
+HistoriesAreExact w m = (i : ℕ) → IsNumber i (length m.replicas)
+    → history_of w i ≡ history (reach_of m i)
 
 -- two histories have the same entries, and the references that reached the replicas rank pages
 -- alike: any two pages leave in the same order, and the warm-up lists of any length are the same
@@ -121,12 +130,16 @@ IsRightVictim i m page = IsFarthest (reach_of m i) (unfixed_pages (pool_of m i))
 
 -- The page that Victim names, and each page that is evicted for one that is pinned or warmed up, is
 -- an unpinned resident page of greatest backward 2-distance.
-pub record VictimsAreFarthest (old : ModelState) (event : Event) (answer : Answer) (new : ModelState) : Type 0 where
-  pub named : (i : ℕ) (page : PageId) → event ≡ Victim i → answer ≡ Page (Some page) → IsRightVictim i old page
-  pub left : (i : ℕ) (page : PageId) → MayLoad i event → IsEvictedFrom i old new page → IsRightVictim i old page
+pub record VictimsAreFarthest (old : ModelState) (event : Event) (answer : Answer)
+    (new : ModelState) : Type 0 where
+  pub named : (i : ℕ) (page : PageId) → event ≡ Victim i → answer ≡ Page (Some page)
+      → IsRightVictim i old page
+  pub left : (i : ℕ) (page : PageId) → MayLoad i event → IsEvictedFrom i old new page
+      → IsRightVictim i old page
 
 -- the same, for each event of a run
-abbrev pub EachVictim : (old : ModelState) (events : List Event) (answers : List Answer) (new : ModelState) → Run old events answers new → Type 0
+abbrev pub EachVictim : (old : ModelState) (events : List Event) (answers : List Answer)
+    (new : ModelState) → Run old events answers new → Type 0
 EachVictim old [] [] new run = Unit {0}
 EachVictim old (event ∷ events) (answer ∷ answers) new run =
     VictimsAreFarthest old event answer run.0 × EachVictim run.0 events answers new run.2
@@ -136,7 +149,8 @@ EachVictim old (event ∷ events) [] new run = ⊥
 -- The events, one after another, got these answers and led to a state that the world stands for; so
 -- each history is exact, replicas that keep the same references agree, and each victim is a page of
 -- greatest backward 2-distance.
-pub record Ran (old : ModelState) (events : List Event) (answers : List Answer) (w : WorldView) : Type 0 where
+pub record Ran (old : ModelState) (events : List Event) (answers : List Answer) (w : WorldView)
+    : Type 0 where
   pub new : ModelState
   pub run : Run old events answers new
   pub stands : StandsFor w new
@@ -159,11 +173,14 @@ pub record Alike (m : ModelState) (i j : ℕ) : Type 0 where
 
 -- each victim of the run is right, and in the state that it leads to, replicas that keep the same
 -- references agree
-pub record IsRightRun (old : ModelState) (events : List Event) (answers : List Answer) (new : ModelState) (run : Run old events answers new) : Type 0 where
+pub record IsRightRun (old : ModelState) (events : List Event) (answers : List Answer)
+    (new : ModelState) (run : Run old events answers new) : Type 0 where
   pub agree : (i j : ℕ) → SameReferences (reach_of new i) (reach_of new j) → Alike new i j
   pub victims : EachVictim old events answers new run
 
 -- every run is right
 abbrev pub RunsAreRight : Type 0
-RunsAreRight = (old : ModelState) (events : List Event) (answers : List Answer) (new : ModelState) (run : Run old events answers new)
+RunsAreRight =
+    (old : ModelState) (events : List Event) (answers : List Answer) (new : ModelState)
+    (run : Run old events answers new)
     → IsRightRun old events answers new run

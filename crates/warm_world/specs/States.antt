@@ -1,6 +1,7 @@
 -- The model: every reference that reached each replica, kept permanently in plain lists, and what a
 -- caller sees of each replica's pool.
-use Rattle.std.specs.Prelude.{ℕ, List, [], ◌∷◌, ◌++◌, length, map, nat_le, replicate, if◌then◌else◌, slice_index_or, slice_set}
+use Rattle.std.specs.Prelude.{ℕ, List, [], ◌∷◌, ◌++◌, length, map, nat_le, replicate, if◌then◌else◌}
+use Rattle.std.specs.Prelude.{slice_index_or, slice_set}
 use Rattle.warm_stamps.specs.declared.Reference.{Reference}
 use Rattle.warm_history.specs.ReferenceSets.{ReferenceSet, set_of_list, with_horizon, ◌∪◌}
 use Rattle.warm_history.specs.Histories.{history}
@@ -60,7 +61,8 @@ set_replica m k r = record m { replicas = slice_set m.replicas k r }
 
 -- only the pool of the replica of a number is changed
 abbrev pub set_pool : ModelState → ℕ → PoolView → ModelState
-set_pool m i pool = set_replica m (index_of_number i) (record (replica m (index_of_number i)) { pool = pool })
+set_pool m i pool =
+    set_replica m (index_of_number i) (record (replica m (index_of_number i)) { pool = pool })
 
 -- the record at an index
 abbrev pub record_at : ModelState → ℕ → MessageRecord
@@ -76,7 +78,8 @@ pending r k = slice_index_or r.pending k []
 
 -- the replica after that buffer was flushed: its references have reached the replica
 abbrev pub flushed : ℕ → ReplicaState → ReplicaState
-flushed k r = record r { reach = r.reach ∪ set_of_list (pending r k); pending = slice_set r.pending k [] }
+flushed k r =
+    record r { reach = r.reach ∪ set_of_list (pending r k); pending = slice_set r.pending k [] }
 
 -- the replica after a reference was appended to that buffer
 abbrev pub put_last : ℕ → Reference → ReplicaState → ReplicaState
@@ -84,7 +87,8 @@ put_last k x r = record r { pending = slice_set r.pending k (pending r k ++ x �
 
 -- the same, where a full buffer is flushed first
 abbrev pub referred : ℕ → ℕ → Reference → ReplicaState → ReplicaState
-referred capacity k x r = put_last k x (if nat_le capacity (length (pending r k)) then flushed k r else r)
+referred capacity k x r =
+    put_last k x (if nat_le capacity (length (pending r k)) then flushed k r else r)
 
 -- the replica with its horizon raised to this time, unless it is later already
 abbrev pub raised_replica : ℕ → ReplicaState → ReplicaState
@@ -104,4 +108,5 @@ opened_over s devices = fresh s.workers (view_of (fresh_pool s.frames s.page_siz
 
 -- a world with a replica over each list of devices, before the first event
 abbrev pub opening : Sizes → List (List DeviceState) → ModelState
-opening s devices = record { capacity = s.buffer; replicas = map (opened_over s) devices; records = [] }
+opening s devices =
+    record { capacity = s.buffer; replicas = map (opened_over s) devices; records = [] }

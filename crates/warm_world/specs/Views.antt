@@ -35,7 +35,8 @@ listed state lists = map (λ ds. map state ds.items) lists
 
 -- of the nodes before an index no frame is dirty, and no device is unflushed
 abbrev pub AreSettledBefore : ℕ → List NodeState → Type 0
-AreSettledBefore k nodes = (j : ℕ) (other : NodeState) → j < k → IsSettled (slice_index_or nodes j other).pool
+AreSettledBefore k nodes = (j : ℕ) (other : NodeState) → j < k
+    → IsSettled (slice_index_or nodes j other).pool
 
 abbrev pub IsSettledBefore : {D : Type 0} → ℕ → World D → Type 0
 IsSettledBefore k w = AreSettledBefore k (map (λ r. r.node) w.replicas.items)
@@ -50,7 +51,9 @@ node_at w j other = slice_index_or (map (λ r. r.node) w.replicas.items) j other
 
 -- the nodes from this index on are unchanged; all nodes but that at this index are unchanged
 abbrev pub AreSameFrom : {D : Type 0} → ℕ → World D → World D → Type 0
-AreSameFrom k old new = (j : ℕ) (other : NodeState) → k ≤ j → node_at new j other ≡ node_at old j other
+AreSameFrom k old new = (j : ℕ) (other : NodeState) → k ≤ j
+    → node_at new j other ≡ node_at old j other
 
 abbrev pub AreSameBut : {D : Type 0} → ℕ → World D → World D → Type 0
-AreSameBut k old new = (j : ℕ) (other : NodeState) → j ≢ k → node_at new j other ≡ node_at old j other
+AreSameBut k old new = (j : ℕ) (other : NodeState) → j ≢ k
+    → node_at new j other ≡ node_at old j other

@@ -18,7 +18,8 @@ warm_up m i = replicate (length (pool_of m i).frames) (WarmStep i)
 
 -- the pool of each of the nodes satisfies the invariant of pools
 abbrev pub ArePools : List NodeState → Type 0
-ArePools nodes = (k : ℕ) (other : NodeState) → k < length nodes → IsPool (slice_index_or nodes k other).pool
+ArePools nodes = (k : ℕ) (other : NodeState) → k < length nodes
+    → IsPool (slice_index_or nodes k other).pool
 
 -- in no replica's pool is a page in two frames
 abbrev pub PoolsDiffer : ModelState → Type 0
@@ -31,5 +32,6 @@ ShowsPoolsDiffer w = (m : ModelState) → StandsFor w m → PoolsDiffer m
 -- Where no page of the replica is pinned: after a warm-up without a refusal, every page of the
 -- warm-up list, cut to the frames of the pool, that a device has is resident.
 abbrev pub WarmUpLoads : Type 0
-WarmUpLoads = (i : ℕ) (old new : ModelState) → PoolsDiffer old → IsUnfixed (pool_of old i) → NoneRefused old (warm_up old i) new
+WarmUpLoads = (i : ℕ) (old new : ModelState) → PoolsDiffer old → IsUnfixed (pool_of old i)
+    → NoneRefused old (warm_up old i) new
     → (p : PageId) → IsHot (reach_of old i) (pool_of old i) p → IsResident (pool_of new i) p

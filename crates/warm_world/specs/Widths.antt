@@ -43,7 +43,8 @@ pub record ModelFits (m : ModelState) : Type 0 where
 
 -- before the first event nothing has reached a replica
 abbrev pub OpeningFits : Type 0
-OpeningFits = (s : Sizes) (devices : List (List DeviceState)) → length devices ≤ MAX_REPLICAS → ModelFits (opening s devices)
+OpeningFits = (s : Sizes) (devices : List (List DeviceState)) → length devices ≤ MAX_REPLICAS
+    → ModelFits (opening s devices)
 
 -- events whose numbers are within their widths keep all numbers within their widths
 abbrev pub RunsFit : Type 0

@@ -2,7 +2,8 @@
 ghost use Rattle.std.specs.Prelude.{◌≡◌, [], map, OnOk, OnErr, IfOk, IsOk};
 ghost use Rattle.warm_world.specs.Next.{IsNamed};
 ghost use Rattle.warm_world.specs.Lists.{Pairwise};
-ghost use Rattle.warm_world.specs.Replicas.{EncodesMessage, Keeps, KeepsAll, StoresAnswers, answered};
+ghost use Rattle.warm_world.specs.Replicas.{EncodesMessage, Keeps, KeepsAll, StoresAnswers};
+ghost use Rattle.warm_world.specs.Replicas.{answered};
 ghost use Rattle.warm_world.specs.Views.{world_view};
 ghost use Rattle.warm_world.specs.Stands.{view_shape, Steps};
 

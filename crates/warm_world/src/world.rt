@@ -6,12 +6,14 @@ ghost use Rattle.warm_world.specs.Lists.{IsNumber, Pairwise, index_of_number};
 ghost use Rattle.warm_world.specs.States.{opened_over, opening};
 ghost use Rattle.warm_pool.specs.declared.fault.PoolFault.TheVariants.{Fault};
 ghost use Rattle.warm_gossip.specs.declared.fault.NodeFault.TheVariants.{Pool};
-ghost use Rattle.warm_world.specs.Opening.{AreFew, AreFitting, AreSized, FailsAtIndex, FinishFails, NewWorldRefused, StopsInOrder};
+ghost use Rattle.warm_world.specs.Opening.{AreFew, AreFitting, AreSized, FailsAtIndex, FinishFails};
+ghost use Rattle.warm_world.specs.Opening.{NewWorldRefused, StopsInOrder};
 ghost use Rattle.warm_world.specs.Next.{IsNamed, IsMissing};
 ghost use Rattle.warm_world.specs.Replicas.{answered};
 ghost use Rattle.warm_world.specs.Views.{listed, world_view, replica_view};
 ghost use Rattle.warm_world.specs.Views.{AreSameBut, IsAtRest, IsSettledBefore};
-ghost use Rattle.warm_world.specs.Stands.{CountsFailure, ReplicaStands, view_shape, StandsFor, Steps, Runs};
+ghost use Rattle.warm_world.specs.Stands.{CountsFailure, ReplicaStands, view_shape, StandsFor};
+ghost use Rattle.warm_world.specs.Stands.{Steps, Runs};
 
 use crate::event::{Answer, BadWorld, Event, WorldFault, answer_of};
 use crate::pool_events::ask;
@@ -142,7 +144,8 @@ impl<D: PageDevice> World<D> {
     // The number of workers of the replica of a number.
     fn worker_count(&self, i: u16) -> usize
         requires { IsNumber i (length (view_shape (world_view self.now)).workers) }
-        ensures { result ≡ slice_index_or (view_shape (world_view self.now)).workers (index_of_number i) 0 }
+        ensures { result
+            ≡ slice_index_or (view_shape (world_view self.now)).workers (index_of_number i) 0 }
     {
         self.replicas[index_of_number(i as u64)].buffers.len()
     }

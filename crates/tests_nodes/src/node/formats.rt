@@ -6,7 +6,8 @@ use std::process::Abort;
 use test_kit::{NARROW, WIDE};
 use warm_frames::decode;
 
-// The bytes `WIDE`, of the page of device 0 whose number is in these bytes. Its stamp 10@1 is older than its horizon 12.
+// The bytes `WIDE`, of the page of device 0 whose number is in these bytes. Its stamp 10@1 is older
+// than its horizon 12.
 fn wide(number: [u8; 8]) -> [u8; 54] {
     let mut bytes = WIDE;
     bytes[25..33].copy_from_slice(&number);

@@ -94,8 +94,8 @@ fn digests_and_requests_bring_their_horizon(rt: HostRuntime) {
     lives(&rt, rt.alloc(), BY_DIGESTS_AND_REQUESTS)
 }
 
-// Of pages 0, 1 and 2 the last was referenced once, and leaves first. At 10 page 1 has one stamp, the older one; at 28 pages 0 and
-// 1 have none, and the lesser leaves.
+// Of pages 0, 1 and 2 the last was referenced once, and leaves first. At 10 page 1 has one stamp,
+// the older one; at 28 pages 0 and 1 have none, and the lesser leaves.
 const VICTIMS: &[Row] = &[
     Row::Absorbs(&[
         (0, 1, 2, 1),

@@ -1,4 +1,5 @@
-//! Joining a whole history, as a restored one: what the node then knows, and its victims and hottest pages.
+//! Joining a whole history, as a restored one: what the node then knows, and its victims and
+//! hottest pages.
 
 use super::{Row, Said, lives};
 
@@ -41,8 +42,9 @@ fn a_joined_history_brings_its_horizon(rt: HostRuntime) {
     lives(&rt, rt.alloc(), HORIZONS)
 }
 
-// Of pages 1 and 2, each referenced twice, page 1 has the older second stamp and leaves first, until
-// the joined history has two later stamps of it. At horizon 35 each has one stamp left, and the older is that of page 2.
+// Of pages 1 and 2, each referenced twice, page 1 has the older second stamp and leaves first,
+// until the joined history has two later stamps of it. At horizon 35 each has one stamp left, and
+// the older is that of page 2.
 const RANKS: &[Row] = &[
     Row::Absorbs(&[(0, 1, 2, 1), (0, 1, 20, 1), (0, 2, 5, 1), (0, 2, 30, 1)]),
     Row::Pins(1, Said::Pinned(0, 1)),

@@ -53,9 +53,9 @@ fn a_page_is_read_and_written_whole(rt: HostRuntime) {
     assert!(rt; has_bytes(read, wanted.as_slice()));
 }
 
-// Reads into a buffer of four bytes, which are all 9 before: the slot's generation, the first byte of
-// the page, why the read is refused, and the buffer's bytes after it. The page has 65,536 bytes, 1 to
-// 4 first and then 0.
+// Reads into a buffer of four bytes, which are all 9 before: the slot's generation, the first byte
+// of the page, why the read is refused, and the buffer's bytes after it. The page has 65,536 bytes,
+// 1 to 4 first and then 0.
 const READS_INTO: [(u64, usize, Option<NodeFault>, [u8; 4]); 5] = [
     (1, 0, None, [1, 2, 3, 4]),
     (1, 2, None, [3, 4, 0, 0]),

@@ -8,7 +8,8 @@ use warm_pool::Slot;
 use warm_stamps::ByteList;
 use warm_world::{Event, Setup, World};
 
-// Whether the device was dropped once, after this many writes, and page 1 had this byte throughout, and page 0 zeros.
+// Whether the device was dropped once, after this many writes, and page 1 had this byte throughout,
+// and page 0 zeros.
 fn is_kept(note: &Note, writes: u64, byte: u8) -> bool {
     note.has(0, &[0; 16]) && note.has(1, &[byte; 16]) && note.counts() == (writes, 1)
 }

@@ -35,7 +35,8 @@ enum Said {
     Done,
     FrameNo(u64),
     Took(u64, u64),
-    // A history of page 1 alone, last referenced at 30 by replica 2 and before that at 20 by replica 1.
+    // A history of page 1 alone, last referenced at 30 by replica 2 and before that at 20 by
+    // replica 1.
     Joined,
     Other,
 }

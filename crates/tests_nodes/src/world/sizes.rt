@@ -39,8 +39,8 @@ fn a_setup_is_within_its_limits(rt: HostRuntime) {
     }
 }
 
-// The number of replicas, the size of a page of the second device, and why no world is made over two
-// lists under a setup of that many replicas and pages of 16 bytes.
+// The number of replicas, the size of a page of the second device, and why no world is made over
+// two lists under a setup of that many replicas and pages of 16 bytes.
 const UNFIT: [(u16, usize, BadWorld); 3] = [
     (3, 16, BadWorld::DevicesDiffer),
     (3, 8, BadWorld::DevicesDiffer),
