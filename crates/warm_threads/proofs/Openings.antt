@@ -1,5 +1,5 @@
 -- Nodes over lists of devices.
-use Rattle.std.proofs.Common.{◌≡◌, ℕ, suc, ◌+◌, List, [], ◌∷◌, length, map, refl, ap, subst, sym, ◌∙◌}
+use Rattle.std.proofs.Common.{◌≡◌, ℕ, suc, ◌+◌, List, [], ◌∷◌, length, map, refl, ap, subst, ◌∙◌}
 use Rattle.std.specs.Global.{Vec}
 use Rattle.warm_devices.specs.Device.{DeviceState}
 use Rattle.warm_gossip.specs.State.{NodeState}
