@@ -225,7 +225,10 @@ impl<D: PageDevice> World<D> {
             Event::Show(i) => self.show(i),
             pool_event => {
                 let i = pool_event.replica();
-                ask(&mut self.replicas[index_of_number(i as u64)].node, pool_event)
+                ask(
+                    &mut self.replicas[index_of_number(i as u64)].node,
+                    pool_event,
+                )
             }
         }
     }
