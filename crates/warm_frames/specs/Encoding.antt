@@ -14,9 +14,12 @@ use Rattle.warm_frames.specs.Digests.{IsDigestTable}
 
 -- the valid messages
 abbrev pub IsValidMessage : Message → Type 0
-IsValidMessage (Entries sender horizon entries) = IsReplica sender × (horizon < 2 ^ 64) × IsEntryList entries
-IsValidMessage (Digest sender horizon digests) = IsReplica sender × (horizon < 2 ^ 64) × IsDigestTable digests
-IsValidMessage (Want sender horizon request) = IsReplica sender × (horizon < 2 ^ 64) × (request < 2 ^ 64)
+IsValidMessage (Entries sender horizon entries) = IsReplica sender × (horizon < 2 ^ 64)
+    × IsEntryList entries
+IsValidMessage (Digest sender horizon digests) = IsReplica sender × (horizon < 2 ^ 64)
+    × IsDigestTable digests
+IsValidMessage (Want sender horizon request) = IsReplica sender × (horizon < 2 ^ 64)
+    × (request < 2 ^ 64)
 
 -- the magic number of a format
 abbrev pub magic_of : Format → ℕ
@@ -30,18 +33,23 @@ horizon_bytes Wide horizon = to_be_bytes w64 horizon
 
 -- the magic number, the kind, the sender, the horizon and the length of the body
 abbrev pub header_bytes : Format → ℕ → ℕ → ℕ → ℕ → List ℕ
-header_bytes format kind sender horizon len = to_be_bytes w32 (magic_of format) ++ (kind ∷ (to_be_bytes w16 sender ++ (horizon_bytes format horizon ++ to_be_bytes w32 len)))
+header_bytes format kind sender horizon len = to_be_bytes w32 (magic_of format)
+    ++ (kind ∷ (to_be_bytes w16 sender ++ (horizon_bytes format horizon ++ to_be_bytes w32 len)))
 
 -- a frame: a header and the body
 abbrev pub frame_bytes : Format → ℕ → ℕ → ℕ → List ℕ → List ℕ
-frame_bytes format kind sender horizon body = header_bytes format kind sender horizon (length body) ++ body
+frame_bytes format kind sender horizon body =
+    header_bytes format kind sender horizon (length body) ++ body
 
 -- The encoding of a message in a format, by its kind. The body of entries is their count and the
 -- entries, that of digests is the digests one after the other, and that of a request is its number.
 abbrev pub encoding_in : Format → Message → List ℕ
-encoding_in format (Entries sender horizon entries) = frame_bytes format 1 sender horizon (to_be_bytes w32 (length entries) ++ entries_bytes_in format entries)
-encoding_in format (Digest sender horizon digests) = frame_bytes format 2 sender horizon (flat_map (λ digest. digest) digests)
-encoding_in format (Want sender horizon request) = frame_bytes format 3 sender horizon (to_be_bytes w64 request)
+encoding_in format (Entries sender horizon entries) = frame_bytes format 1 sender horizon
+    (to_be_bytes w32 (length entries) ++ entries_bytes_in format entries)
+encoding_in format (Digest sender horizon digests) =
+    frame_bytes format 2 sender horizon (flat_map (λ digest. digest) digests)
+encoding_in format (Want sender horizon request) =
+    frame_bytes format 3 sender horizon (to_be_bytes w64 request)
 
 -- the encoding that is written
 abbrev pub encoding : Message → List ℕ

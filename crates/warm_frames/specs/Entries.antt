@@ -2,7 +2,8 @@
 use Rattle.std.specs.Prelude.{◌≡◌, ℕ, ◌≤◌, List, ◌∷◌, ◌++◌, length}
 use Rattle.std.specs.List.{AllByRecursion, flat_map}
 use Rattle.std.specs.declared.cmp.Ordering.TheVariants.{Less}
-use Rattle.warm_stamps.specs.Bytes.{bytes_of_stamp, bytes_of_page, narrow_bytes_of_page, IsStamp, IsPage}
+use Rattle.warm_stamps.specs.Bytes.{bytes_of_stamp, bytes_of_page, narrow_bytes_of_page, IsStamp}
+use Rattle.warm_stamps.specs.Bytes.{IsPage}
 use Rattle.warm_stamps.specs.declared.PageId.{PageId}
 use Rattle.warm_stamps.specs.Stamps.{stamp_cmp}
 use Rattle.warm_history.specs.declared.hist.PageHist.{PageHist}

@@ -2,7 +2,10 @@
 -- times.
 use Rattle.std.specs.Prelude.{ℕ, List, codes}
 use Rattle.warm_frames.specs.declared.fault.FrameFault.{FrameFault}
-use Rattle.warm_frames.specs.declared.fault.FrameFault.TheVariants.{Memory, Truncated, BadMagic, BadKind, BadSender, BadLength, BadCount, BadTag, BadStamp, BadOrder, Failed}
+use Rattle.warm_frames.specs.declared.fault.FrameFault.TheVariants.{Memory, Truncated, BadMagic}
+use Rattle.warm_frames.specs.declared.fault.FrameFault.TheVariants.{BadKind, BadSender, BadLength}
+use Rattle.warm_frames.specs.declared.fault.FrameFault.TheVariants.{BadCount, BadTag, BadStamp}
+use Rattle.warm_frames.specs.declared.fault.FrameFault.TheVariants.{BadOrder, Failed}
 use Rattle.warm_frames.specs.declared.limit.TimeFault.{TimeFault}
 use Rattle.warm_frames.specs.declared.limit.TimeFault.TheVariants.{LateHorizon, LateStamp}
 

@@ -20,7 +20,8 @@ entries_in (Want sender horizon request) = []
 
 -- no stamp of the entries is later than the limit
 abbrev pub StampsBy : ℕ → List Entry → Type 0
-StampsBy limit es = AllByRecursion (λ e. AllByRecursion (λ s. s.time ≤ limit) (hist_stamps e.hist)) es
+StampsBy limit es =
+    AllByRecursion (λ e. AllByRecursion (λ s. s.time ≤ limit) (hist_stamps e.hist)) es
 
 -- the message speaks of no time later than the limit: neither its horizon is later nor a stamp of
 -- its entries

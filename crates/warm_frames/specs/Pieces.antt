@@ -1,5 +1,7 @@
 -- Messages in a stream of frames that is given in pieces.
-use Rattle.std.specs.Prelude.{◌≡◌, ◌⊎◌, ℕ, ◌+◌, ◌*◌, ◌<◌, ◌≤◌, Bool, true, false, List, [], ◌∷◌, ◌++◌, length, take, ⊤, Option, Some, None, option_to_list, Result, Ok, Err}
+use Rattle.std.specs.Prelude.{◌≡◌, ◌⊎◌, ℕ, ◌+◌, ◌*◌, ◌<◌, ◌≤◌, Bool, true, false, List, [], ◌∷◌}
+use Rattle.std.specs.Prelude.{◌++◌, length, take, ⊤, Option, Some, None, option_to_list, Result, Ok}
+use Rattle.std.specs.Prelude.{Err}
 use Rattle.std.specs.List.{flat_map}
 use Rattle.warm_frames.specs.declared.layout.TheConstants.{MAX_ENTRY_SIZE, MAX_ENTRIES, HEADER_SIZE}
 use Rattle.warm_frames.specs.declared.decoder.Fed.{Fed}
@@ -43,18 +45,22 @@ pub record ShowsFault (bytes : List ℕ) (fault : FrameFault) : Type 0 where
 -- The whole piece was consumed, and the frame isn't complete yet; or bytes were consumed up to the
 -- end of a frame, and its message is returned.
 abbrev pub TakesPiece : List ℕ → List ℕ → ℕ → Option Message → DecoderState → Type 0
-TakesPiece begun piece taken None new = (taken ≡ length piece) × IsIncomplete (begun ++ piece) × (new ≡ Inside (begun ++ piece))
-TakesPiece begun piece taken (Some message) new = (taken ≤ length piece) × Encodes (begun ++ take taken piece) message × (new ≡ Inside [])
+TakesPiece begun piece taken None new = (taken ≡ length piece) × IsIncomplete (begun ++ piece)
+    × (new ≡ Inside (begun ++ piece))
+TakesPiece begun piece taken (Some message) new = (taken ≤ length piece)
+    × Encodes (begun ++ take taken piece) message × (new ≡ Inside [])
 
 -- a byte of the piece shows the fault
 abbrev pub Breaks : List ℕ → List ℕ → FrameFault → DecoderState → Type 0
-Breaks begun piece fault new = (n : ℕ) × (n ≤ length piece) × ShowsFault (begun ++ take n piece) fault × (new ≡ Broken)
+Breaks begun piece fault new = (n : ℕ) × (n ≤ length piece)
+    × ShowsFault (begun ++ take n piece) fault × (new ≡ Broken)
 
 -- Feeding a piece, by the answer. An allocation failure changes nothing, and after a fault nothing
 -- is consumed.
 abbrev pub FeedStep : DecoderState → List ℕ → Result Fed FrameFault → DecoderState → Type 0
 FeedStep (Inside begun) piece (Ok fed) new = TakesPiece begun piece fed.taken fed.message new
-FeedStep (Inside begun) piece (Err fault) new = ((fault ≡ Memory) × (new ≡ Inside begun)) ⊎ Breaks begun piece fault new
+FeedStep (Inside begun) piece (Err fault) new = ((fault ≡ Memory) × (new ≡ Inside begun))
+    ⊎ Breaks begun piece fault new
 FeedStep Broken piece answer new = (answer ≡ Err Failed) × (new ≡ Broken)
 
 -- a decoder inside a frame knows this of the frame's size, given the piece
@@ -65,7 +71,8 @@ KnowsWith Broken piece size = ⊥
 -- Decoding the frame that consists of the bytes held and those at its end. An allocation failure
 -- leaves the bytes held unchanged.
 abbrev pub DecodesWith : List ℕ → List ℕ → Result Message FrameFault → List ℕ → Type 0
-DecodesWith held end result new = (result ≡ read_frame (held ++ end)) ⊎ ((result ≡ Err Memory) × (new ≡ held))
+DecodesWith held end result new = (result ≡ read_frame (held ++ end))
+    ⊎ ((result ≡ Err Memory) × (new ≡ held))
 
 -- whether a stream may end here: between two frames alone
 abbrev pub finish_of : DecoderState → Result (Unit {0}) FrameFault
@@ -99,7 +106,8 @@ messages_given = flat_map (λ c. message_given c.answer)
 -- pieces fed one after the other
 abbrev pub Feedings : DecoderState → List Feeding → DecoderState → Type 0
 Feedings old [] new = new ≡ old
-Feedings old (c ∷ more) new = (next : DecoderState) × FeedStep old c.piece c.answer next × Feedings next more new
+Feedings old (c ∷ more) new = (next : DecoderState) × FeedStep old c.piece c.answer next
+    × Feedings next more new
 
 -- ---- streams
 

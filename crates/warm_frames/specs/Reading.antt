@@ -1,5 +1,7 @@
 -- Reading a frame from left to right, up to the first fault.
-use Rattle.std.specs.Prelude.{◌≡◌, ◌⊎◌, ℕ, zero, suc, ◌+◌, ◌*◌, ◌<◌, Bool, true, false, ◌&&◌, List, [], ◌∷◌, length, take, drop, Option, Some, None, Result, Ok, Err, nat_lt, nat_le, ◌==◌, if◌then◌else◌}
+use Rattle.std.specs.Prelude.{◌≡◌, ◌⊎◌, ℕ, zero, suc, ◌+◌, ◌*◌, ◌<◌, Bool, true, false, ◌&&◌, List}
+use Rattle.std.specs.Prelude.{[], ◌∷◌, length, take, drop, Option, Some, None, Result, Ok, Err}
+use Rattle.std.specs.Prelude.{nat_lt, nat_le, ◌==◌, if◌then◌else◌}
 use Rattle.std.specs.Int.{Width, w16, w32, w64, byte_len, from_be_bytes}
 use Rattle.std.specs.Ordering.{is_lt}
 use Rattle.std.specs.Simd.{first_chunks}
@@ -14,9 +16,14 @@ use Rattle.warm_history.specs.declared.hist.Entry.{Entry}
 use Rattle.warm_history.specs.Carried.{comes_after}
 use Rattle.warm_frames.specs.declared.format.Format.{Format}
 use Rattle.warm_frames.specs.declared.format.Format.TheVariants.{Narrow, Wide}
-use Rattle.warm_frames.specs.declared.layout.TheConstants.{MAGIC, NARROW_MAGIC, NARROW_MAX_ENTRY_SIZE, MAX_ENTRY_SIZE, MAX_ENTRIES, DIGEST_SIZE}
+use Rattle.warm_frames.specs.declared.layout.TheConstants.{MAGIC, NARROW_MAGIC}
+use Rattle.warm_frames.specs.declared.layout.TheConstants.{NARROW_MAX_ENTRY_SIZE, MAX_ENTRY_SIZE}
+use Rattle.warm_frames.specs.declared.layout.TheConstants.{MAX_ENTRIES, DIGEST_SIZE}
 use Rattle.warm_frames.specs.declared.fault.FrameFault.{FrameFault}
-use Rattle.warm_frames.specs.declared.fault.FrameFault.TheVariants.{Memory, Truncated, BadMagic, BadKind, BadSender, BadLength, BadCount, BadTag, BadStamp, BadOrder}
+use Rattle.warm_frames.specs.declared.fault.FrameFault.TheVariants.{Memory, Truncated, BadMagic}
+use Rattle.warm_frames.specs.declared.fault.FrameFault.TheVariants.{BadKind, BadSender, BadLength}
+use Rattle.warm_frames.specs.declared.fault.FrameFault.TheVariants.{BadCount, BadTag, BadStamp}
+use Rattle.warm_frames.specs.declared.fault.FrameFault.TheVariants.{BadOrder}
 use Rattle.warm_frames.specs.declared.message.Message.{Message}
 use Rattle.warm_frames.specs.declared.message.Message.TheVariants as messages
 use Rattle.warm_frames.specs.declared.reading.Kind.{Kind}
@@ -25,7 +32,8 @@ use Rattle.warm_frames.specs.Encoding.{Encodes}
 use Rattle.warm_frames.specs.Digests.{table_size}
 
 infixl 10 ◌>>=◌
-abbrev pub ◌>>=◌ : {A B : Type 0} → Result A FrameFault → (A → Result B FrameFault) → Result B FrameFault
+abbrev pub ◌>>=◌ : {A B : Type 0} → Result A FrameFault → (A → Result B FrameFault)
+    → Result B FrameFault
 (Ok x) >>= f = f x
 (Err e) >>= f = Err e
 
@@ -37,10 +45,12 @@ IsReading view (Err e) read = read ≡ Err e
 -- A field is a value and the bytes after it. Where too few bytes are left, the fault is the given
 -- one.
 abbrev pub front_at : ℕ → FrameFault → List ℕ → Result (List ℕ × List ℕ) FrameFault
-front_at n short bytes = if nat_lt (length bytes) n then Err short else Ok (take n bytes, drop n bytes)
+front_at n short bytes =
+    if nat_lt (length bytes) n then Err short else Ok (take n bytes, drop n bytes)
 
 abbrev pub number_at : Width → FrameFault → List ℕ → Result (ℕ × List ℕ) FrameFault
-number_at w short bytes = if nat_lt (length bytes) (byte_len w) then Err short else Ok (from_be_bytes w (take (byte_len w) bytes), drop (byte_len w) bytes)
+number_at w short bytes = if nat_lt (length bytes) (byte_len w) then Err short
+    else Ok (from_be_bytes w (take (byte_len w) bytes), drop (byte_len w) bytes)
 
 abbrev pub byte_at : FrameFault → List ℕ → Result (ℕ × List ℕ) FrameFault
 byte_at short [] = Err short
@@ -65,7 +75,8 @@ kind_of (suc (suc (suc (suc n)))) = Err BadKind
 
 -- the format of the magic number
 abbrev pub format_of : ℕ → Result Format FrameFault
-format_of letters = if letters == MAGIC then Ok Wide else if letters == NARROW_MAGIC then Ok Narrow else Err BadMagic
+format_of letters = if letters == MAGIC then Ok Wide else if letters == NARROW_MAGIC then Ok Narrow
+    else Err BadMagic
 
 -- the most bytes of an entry
 abbrev pub entry_size : Format → ℕ
@@ -169,7 +180,8 @@ entry_at format before bytes = do
   Ok (record { page = page.0; hist = hist.0 }, hist.1)
 
 -- an entry of this page, with the history that was read
-abbrev pub entry_with : PageId → Result (PageHist × List ℕ) FrameFault → Result (Entry × List ℕ) FrameFault
+abbrev pub entry_with : PageId → Result (PageHist × List ℕ) FrameFault
+    → Result (Entry × List ℕ) FrameFault
 entry_with page read = do
   hist ← read
   Ok (record { page = page; hist = hist.0 }, hist.1)
@@ -179,7 +191,8 @@ abbrev pub written_entry_at : Option PageId → List ℕ → Result (Entry × Li
 written_entry_at before bytes = entry_at Wide before bytes
 
 -- this many entries
-unfoldable pub entries_at : Format → ℕ → Option PageId → List ℕ → Result (List Entry × List ℕ) FrameFault
+unfoldable pub entries_at : Format → ℕ → Option PageId → List ℕ
+    → Result (List Entry × List ℕ) FrameFault
 entries_at format zero before bytes = Ok ([], bytes)
 entries_at format (suc n) before bytes = do
   first ← entry_at format before bytes
@@ -213,7 +226,8 @@ read_entries format body = do
 
 -- a table of digests
 unfoldable pub read_digests : List ℕ → Result (List (List ℕ)) FrameFault
-read_digests body = if length body == table_size then Ok (first_chunks DIGEST_SIZE BUCKETS body) else Err BadLength
+read_digests body =
+    if length body == table_size then Ok (first_chunks DIGEST_SIZE BUCKETS body) else Err BadLength
 
 abbrev pub message_by : Kind → Format → ℕ → ℕ → List ℕ → Result Message FrameFault
 message_by kinds.Entries format sender horizon body = do
@@ -262,10 +276,12 @@ Reserves reserved = (n : ℕ) × (0 < n) × (reserved ≡ Ok n)
 
 -- A function returned what reading gives or, where it reserves capacity, that the allocation
 -- failed.
-abbrev pub GivesReading : {X : Type 0} → Result X FrameFault → Result X FrameFault → Result ℕ FrameFault → Type 0
+abbrev pub GivesReading : {X : Type 0} → Result X FrameFault → Result X FrameFault
+    → Result ℕ FrameFault → Type 0
 GivesReading result read reserved = (result ≡ read) ⊎ ((result ≡ Err Memory) × Reserves reserved)
 
 -- The message that the bytes encode, if they encode one, was returned, unless the allocation
 -- failed.
 abbrev pub FindsEncoded : List ℕ → Result Message FrameFault → Type 0
-FindsEncoded bytes result = (message : Message) → Encodes bytes message → GivesReading result (Ok message) (reserved_by bytes)
+FindsEncoded bytes result = (message : Message) → Encodes bytes message
+    → GivesReading result (Ok message) (reserved_by bytes)

@@ -1,5 +1,6 @@
 -- The size of a frame, known as soon as its header is complete.
-use Rattle.std.specs.Prelude.{◌≡◌, ◌≢◌, ℕ, ◌+◌, ◌<◌, List, ◌++◌, length, Option, Some, None, Result, Ok, Err}
+use Rattle.std.specs.Prelude.{◌≡◌, ◌≢◌, ℕ, ◌+◌, ◌<◌, List, ◌++◌, length, Option, Some, None, Result}
+use Rattle.std.specs.Prelude.{Ok, Err}
 use Rattle.warm_frames.specs.declared.fault.FrameFault.{FrameFault}
 use Rattle.warm_frames.specs.declared.fault.FrameFault.TheVariants.{Truncated}
 use Rattle.warm_frames.specs.declared.format.Format.{Format}
@@ -28,5 +29,7 @@ KnowsSize begun (Some size) = (frame_size begun ≡ Ok size) × (length begun < 
 -- what the bytes of a frame so far, with a piece after them, say of its size
 abbrev pub SaysSize : List ℕ → List ℕ → Result (Option ℕ) FrameFault → Type 0
 SaysSize begun piece (Ok None) = frame_size (begun ++ piece) ≡ Err Truncated
-SaysSize begun piece (Ok (Some size)) = (frame_size (begun ++ piece) ≡ Ok size) × (length begun < size)
-SaysSize begun piece (Err fault) = (frame_size (begun ++ piece) ≡ Err fault) × (frame_size begun ≡ Err Truncated) × (fault ≢ Truncated)
+SaysSize begun piece (Ok (Some size)) = (frame_size (begun ++ piece) ≡ Ok size)
+    × (length begun < size)
+SaysSize begun piece (Err fault) = (frame_size (begun ++ piece) ≡ Err fault)
+    × (frame_size begun ≡ Err Truncated) × (fault ≢ Truncated)

@@ -1,9 +1,11 @@
 //! Messages from a stream of frames that is given in pieces.
-ghost use Rattle.std.specs.Prelude.{◌≡◌, ◌⊎◌, ◌<◌, ◌++◌, [], length, None, IfOk, IfErr, OnOk, OnErr};
+ghost use Rattle.std.specs.Prelude.{◌≡◌, ◌⊎◌, ◌<◌, ◌++◌, [], length, None, IfOk, IfErr, OnOk};
+ghost use Rattle.std.specs.Prelude.{OnErr};
 ghost use Rattle.warm_frames.specs.declared.layout.TheConstants.{HEADER_SIZE};
 ghost use Rattle.warm_frames.specs.Encoding.{Encodes};
 ghost use Rattle.warm_frames.specs.Sizes.{frame_size, KnowsSize, SaysSize};
-ghost use Rattle.warm_frames.specs.Pieces.{DecoderState.Inside, DecodesWith, FeedStep, KnowsWith, finish_of};
+ghost use Rattle.warm_frames.specs.Pieces.{DecoderState.Inside, DecodesWith, FeedStep, KnowsWith};
+ghost use Rattle.warm_frames.specs.Pieces.{finish_of};
 
 use crate::fault::FrameFault;
 use crate::layout::HEADER_SIZE;

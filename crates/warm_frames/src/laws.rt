@@ -1,6 +1,8 @@
 //! The laws of the encoding and of streams: the encoding is injective and prefix-free, and a stream
 //! has one reading, however it is cut into pieces.
-ghost use Rattle.warm_frames.specs.Laws.{EncodingIsInjective, PrefixFree, InPieces, FaultInPieces, OneReading, OneFault, PartOrFault, FaultForGood, PartIsShort};
+ghost use Rattle.warm_frames.specs.Laws.{EncodingIsInjective, PrefixFree, InPieces, FaultInPieces};
+ghost use Rattle.warm_frames.specs.Laws.{OneReading, OneFault, PartOrFault, FaultForGood};
+ghost use Rattle.warm_frames.specs.Laws.{PartIsShort};
 
 /// The encoding is injective: no two messages share one, in whichever formats.
 pub fn encoding_is_injective()

@@ -3,7 +3,12 @@
 ghost use Rattle.std.specs.Prelude.{◌≡◌, ◌≤◌, [], Err, IfOk, IfErr, vec_capacity};
 ghost use Rattle.std.specs.Int.{w16, w32, w64};
 ghost use Rattle.warm_history.specs.Carried.{comes_after};
-ghost use Rattle.warm_frames.specs.Reading.{IsReading, number_at, byte_at, kind_of, may_have, horizon_at, start_at, length_at, body_at, front_at, stamp_in, two_in, hist_at, read_page, entry_at, entry_with, entries_from, count_at, all_entries, read_entries, read_digests, read_frame, reserved_by, entries_reserved, GivesReading};
+ghost use Rattle.warm_frames.specs.Reading.{IsReading, number_at, byte_at, kind_of, may_have};
+ghost use Rattle.warm_frames.specs.Reading.{horizon_at, start_at, length_at, body_at, front_at};
+ghost use Rattle.warm_frames.specs.Reading.{stamp_in, two_in, hist_at, read_page, entry_at};
+ghost use Rattle.warm_frames.specs.Reading.{entry_with, entries_from, count_at, all_entries};
+ghost use Rattle.warm_frames.specs.Reading.{read_entries, read_digests, read_frame, reserved_by};
+ghost use Rattle.warm_frames.specs.Reading.{entries_reserved, GivesReading};
 ghost use Rattle.warm_frames.specs.Sizes.{frame_size};
 
 use crate::digests::DigestTable;
@@ -55,7 +60,8 @@ fn u64_at(bytes: &[u8], short: FrameFault) -> Result<(u64, &[u8]), FrameFault>
 }
 
 fn front_at<const N: usize>(bytes: &[u8]) -> Result<(&[u8; N], &[u8]), FrameFault>
-    ensures { IsReading (λ x. (x.0.now, x.1.now)) result (front_at N FrameFault.BadLength bytes.now) }
+    ensures { IsReading (λ x. (x.0.now, x.1.now)) result
+        (front_at N FrameFault.BadLength bytes.now) }
 {
     match bytes.split_first_chunk::<N>() {
         Some((front, rest)) => Ok((front, rest)),

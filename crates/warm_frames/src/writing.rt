@@ -1,7 +1,10 @@
 //! Writing frames. The capacity for all bytes is allocated first.
-ghost use Rattle.std.specs.Prelude.{◌≡◌, ◌≤◌, ◌+◌, ◌*◌, ◌∷◌, ◌++◌, length, vec_len, vec_capacity, IfOk, OnOk, OnErr, IsOk};
+ghost use Rattle.std.specs.Prelude.{◌≡◌, ◌≤◌, ◌+◌, ◌*◌, ◌∷◌, ◌++◌, length, vec_len, vec_capacity};
+ghost use Rattle.std.specs.Prelude.{IfOk, OnOk, OnErr, IsOk};
 ghost use Rattle.warm_stamps.specs.Bytes.{IsReplica, bytes_of_page, bytes_of_stamp};
-ghost use Rattle.warm_frames.specs.declared.layout.TheConstants.{MAX_ENTRIES, MAX_ENTRY_SIZE, ONCE_TAG, PAGE_ID_SIZE, STAMP_SIZE, TWICE_SIZE, TWICE_TAG};
+ghost use Rattle.warm_frames.specs.declared.layout.TheConstants.{MAX_ENTRIES, MAX_ENTRY_SIZE};
+ghost use Rattle.warm_frames.specs.declared.layout.TheConstants.{ONCE_TAG, PAGE_ID_SIZE};
+ghost use Rattle.warm_frames.specs.declared.layout.TheConstants.{STAMP_SIZE, TWICE_SIZE, TWICE_TAG};
 ghost use Rattle.warm_frames.specs.declared.format.Format.TheVariants.{Wide};
 ghost use Rattle.warm_frames.specs.declared.message.Message.TheVariants as messages;
 ghost use Rattle.warm_frames.specs.Entries.{hist_bytes, entry_bytes, entries_bytes};
@@ -170,7 +173,8 @@ pub(crate) fn want_text(
     horizon: u64,
     request: BucketSet,
 ) -> Result<Vec<u8>, AllocError>
-    ensures { IfOk result (λ text. EncodesIn Wide text.items (messages.Want sender horizon request)) }
+    ensures { IfOk result (λ text.
+        EncodesIn Wide text.items (messages.Want sender horizon request)) }
 {
     let mut text = header(alloc, WANT_KIND, sender, horizon, REQUEST_SIZE as u32)?;
     text.extend_from_slice(&request.bits().to_be_bytes())?;

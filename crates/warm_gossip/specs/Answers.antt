@@ -1,12 +1,14 @@
 -- The messages that a node sends, and its answers to a message.
-use Rattle.std.specs.Prelude.{◌≡◌, ◌^◌, ◌≢◌, ◌↔◌, ℕ, ◌==◌, ◌<◌, List, [], ◌∷◌, ◌++◌, Option, if◌then◌else◌}
+use Rattle.std.specs.Prelude.{◌≡◌, ◌^◌, ◌≢◌, ◌↔◌, ℕ, ◌==◌, ◌<◌, List, [], ◌∷◌, ◌++◌, Option}
+use Rattle.std.specs.Prelude.{if◌then◌else◌}
 use Rattle.std.specs.List.{flat_map}
 use Rattle.std.specs.Int.{bit_at}
 use Rattle.warm_stamps.specs.declared.PageId.{PageId}
 use Rattle.warm_stamps.specs.declared.TheConstants.{BUCKETS}
 use Rattle.warm_stamps.specs.Buckets.{buckets_in}
 use Rattle.warm_history.specs.ReferenceSets.{ReferenceSet, ◌∪◌}
-use Rattle.warm_history.specs.Histories.{HistoryView, entries_of, history_of_entries_at, history, references_of}
+use Rattle.warm_history.specs.Histories.{HistoryView, entries_of, history_of_entries_at, history}
+use Rattle.warm_history.specs.Histories.{references_of}
 use Rattle.warm_history.specs.Carried.{carried}
 use Rattle.warm_frames.specs.Chunks.{bucket_messages}
 use Rattle.warm_frames.specs.declared.layout.TheConstants.{MAX_ENTRIES}
@@ -25,13 +27,17 @@ requested_messages id h request = flat_map (bucket_messages id h) (requested_buc
 
 -- the set of the buckets whose digests differ from the history's
 abbrev pub IsDiffering : List (List ℕ) → HistoryView → ℕ → Type 0
-IsDiffering digests h request = (bucket : ℕ) → bucket < BUCKETS → (bit_at request bucket ≡ 1) ↔ (digest_at digests bucket ≢ digest_at (digests_of (entries_of h)) bucket)
+IsDiffering digests h request = (bucket : ℕ) → bucket < BUCKETS
+    → (bit_at request bucket ≡ 1)
+    ↔ (digest_at digests bucket ≢ digest_at (digests_of (entries_of h)) bucket)
 
 -- The answer to digests: the entries of the buckets that differ, and then a request for these;
 -- nothing where none differs.
 abbrev pub AnswersDigests : ℕ → HistoryView → List (List ℕ) → List Message → Type 0
-AnswersDigests id h digests messages = (request : ℕ) × (request < 2 ^ 64) × IsDiffering digests h request
-    × (messages ≡ if request == 0 then [] else requested_messages id h request ++ Want id h.horizon request ∷ [])
+AnswersDigests id h digests messages = (request : ℕ) × (request < 2 ^ 64)
+    × IsDiffering digests h request
+    × (messages ≡ if request == 0 then []
+    else requested_messages id h request ++ Want id h.horizon request ∷ [])
 
 -- the references that a message brings, and its horizon
 abbrev pub refs_in : Message → ReferenceSet
@@ -47,10 +53,13 @@ history_after h message = history (references_of h ∪ refs_in message)
 -- entries; to a request, its entries of these buckets.
 abbrev pub IsAnswer : ℕ → HistoryView → Message → List Message → Type 0
 IsAnswer id h (Entries sender horizon entries) messages = messages ≡ []
-IsAnswer id h (Want sender horizon request) messages = messages ≡ requested_messages id (history_after h (Want sender horizon request)) request
-IsAnswer id h (Digest sender horizon digests) messages = AnswersDigests id (history_after h (Digest sender horizon digests)) digests messages
+IsAnswer id h (Want sender horizon request) messages =
+    messages ≡ requested_messages id (history_after h (Want sender horizon request)) request
+IsAnswer id h (Digest sender horizon digests) messages =
+    AnswersDigests id (history_after h (Digest sender horizon digests)) digests messages
 
 -- the message of the first entries of the bucket whose page comes after the given one, up to
 -- MAX_ENTRIES
 abbrev pub sent : ℕ → HistoryView → ℕ → Option PageId → Message
-sent id h bucket after = Entries id h.horizon (entries_of (history (carried (references_of h) bucket after MAX_ENTRIES)))
+sent id h bucket after =
+    Entries id h.horizon (entries_of (history (carried (references_of h) bucket after MAX_ENTRIES)))

@@ -14,7 +14,8 @@ no_memory = Refused Memory
 
 -- a batch is absorbed, or refused because of an allocation failure
 abbrev pub TakesBatches : {X : Type 0} → (X → Call → Reply → X → Type 0) → Type 0
-TakesBatches goes = (x y : _) (batch : List Reference) (reply : Reply) → goes x (Absorb batch) reply y → (reply ≡ Done) ⊎ (reply ≡ no_memory)
+TakesBatches goes = (x y : _) (batch : List Reference) (reply : Reply)
+    → goes x (Absorb batch) reply y → (reply ≡ Done) ⊎ (reply ≡ no_memory)
 
 abbrev pub BatchesAreTaken : Type 0
 BatchesAreTaken = TakesBatches Step

@@ -23,7 +23,8 @@ chunk_after S bucket limit after = entries_of (history (carried S bucket after l
 abbrev pub AreInTurn : ReferenceSet → ℕ → ℕ → Option PageId → List (List Entry) → Type 0
 AreInTurn S bucket limit after [] = chunk_after S bucket limit after ≡ []
 AreInTurn S bucket limit after (chunk ∷ others) =
-    (chunk ≡ chunk_after S bucket limit after) × (0 < length chunk) × AreInTurn S bucket limit (last_page chunk) others
+    (chunk ≡ chunk_after S bucket limit after) × (0 < length chunk)
+    × AreInTurn S bucket limit (last_page chunk) others
 
 -- the chunks of a bucket are what Send gives of it, one after the other, from the first page on
 abbrev pub ChunksInTurn : Type 0

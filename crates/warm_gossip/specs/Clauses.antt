@@ -11,7 +11,8 @@ use Rattle.warm_pool.specs.State.{IsSettled}
 use Rattle.warm_pool.specs.WritingBack as writing_back
 use Rattle.warm_pool.specs.declared.slot.Slot.{Slot}
 use Rattle.warm_gossip.specs.declared.call.Call.{Call}
-use Rattle.warm_gossip.specs.declared.call.Call.TheVariants.{Absorb, Pin, Read, Write, WarmStep, Restart}
+use Rattle.warm_gossip.specs.declared.call.Call.TheVariants.{Absorb, Pin, Read, Write, WarmStep}
+use Rattle.warm_gossip.specs.declared.call.Call.TheVariants.{Restart}
 use Rattle.warm_gossip.specs.declared.call.Reply.{Reply}
 use Rattle.warm_gossip.specs.declared.call.Reply.TheVariants.{Done, Pinned, Loaded, Refused}
 use Rattle.warm_gossip.specs.declared.fault.NodeFault.{NodeFault}
@@ -33,7 +34,8 @@ abbrev pub done : {A : Type 0} → A → Reply
 done given = Done
 
 -- the result of a call corresponds to its reply, made from the result, or to its refusal
-abbrev pub Answered : {T : Type 0} → NodeState → Call → (T → Reply) → Result T NodeFault → NodeState → Type 0
+abbrev pub Answered : {T : Type 0} → NodeState → Call → (T → Reply) → Result T NodeFault → NodeState
+    → Type 0
 Answered old call reply (Ok given) new = Goes old call (reply given) new
 Answered old call reply (Err why) new = Goes old call (Refused why) new
 
@@ -43,7 +45,8 @@ SameView old new = node_view new ≡ node_view old
 
 -- the node has taken these entries in
 abbrev pub JoinsEntries : NodeState → ℕ → List Entry → NodeState → Type 0
-JoinsEntries old horizon entries new = node_view new ≡ record (node_view old) { history = join old.history (history_of_entries_at horizon entries) }
+JoinsEntries old horizon entries new = node_view new
+    ≡ record (node_view old) { history = join old.history (history_of_entries_at horizon entries) }
 
 -- the node has taken in all that another history stands for, at the later horizon of both
 abbrev pub Joins : NodeState → HistoryView → NodeState → Type 0
@@ -51,12 +54,14 @@ Joins old other new = node_view new ≡ record (node_view old) { history = join 
 
 -- a page could not be written to its device, or a device could not be flushed
 abbrev pub NodeWriteBackFails : NodeState → NodeFault → NodeState → Type 0
-NodeWriteBackFails old why new = (why ≡ Pool Fault) × OnPool IsFailed (node_view old) (node_view new)
+NodeWriteBackFails old why new = (why ≡ Pool Fault)
+    × OnPool IsFailed (node_view old) (node_view new)
 
 -- the pool after a refused pin: frames are unchanged, and devices are as after a refused pin of the
 -- pool
 abbrev pub PinLeaves : NodeState → PageId → NodeFault → NodeState → Type 0
-PinLeaves old page (Pool fault) new = KeepsFrames old.pool new.pool × LeavesDevices old.history old.pool page fault new.pool
+PinLeaves old page (Pool fault) new = KeepsFrames old.pool new.pool
+    × LeavesDevices old.history old.pool page fault new.pool
 PinLeaves old page why new = ⊥
 
 -- The devices and the dirty flags of frames after a call with this reply. A pin and a warm-up step
@@ -67,14 +72,17 @@ abbrev pub DevicesAfter : NodeState → Call → Reply → NodeState → Type 0
 DevicesAfter old (Pin p) (Pinned slot) new = TakesFrame old.pool p slot new.pool
 DevicesAfter old (Pin p) (Refused why) new = PinLeaves old p why new
 DevicesAfter old (Write slot at bytes) Done new = MakesDirty old.pool slot new.pool
-DevicesAfter old WarmStep (Loaded (Some p)) new = (slot : Slot) × TakesFrame old.pool p slot new.pool
-DevicesAfter old WarmStep (Refused (Pool fault)) new = (p : PageId) × IsNextWarm (node_view old) (Some p) × PinLeaves old p (Pool fault) new
+DevicesAfter old WarmStep (Loaded (Some p)) new = (slot : Slot)
+    × TakesFrame old.pool p slot new.pool
+DevicesAfter old WarmStep (Refused (Pool fault)) new = (p : PageId)
+    × IsNextWarm (node_view old) (Some p) × PinLeaves old p (Pool fault) new
 DevicesAfter old Restart Done new = IsSettled new.pool
 DevicesAfter old Restart (Refused (Pool Fault)) new = writing_back.WriteBackFails old.pool new.pool
 DevicesAfter old call reply new = KeepsBytes old.pool new.pool
 
 -- the same of a call whose result corresponds to its reply
-abbrev pub DevicesAnswered : {T : Type 0} → NodeState → Call → (T → Reply) → Result T NodeFault → NodeState → Type 0
+abbrev pub DevicesAnswered : {T : Type 0} → NodeState → Call → (T → Reply) → Result T NodeFault
+    → NodeState → Type 0
 DevicesAnswered old call reply (Ok given) new = DevicesAfter old call (reply given) new
 DevicesAnswered old call reply (Err why) new = DevicesAfter old call (Refused why) new
 
@@ -82,4 +90,5 @@ DevicesAnswered old call reply (Err why) new = DevicesAfter old call (Refused wh
 -- so, though never for memory
 abbrev pub ReadIntoFails : NodeState → Slot → ℕ → List ℕ → NodeFault → List ℕ → Type 0
 ReadIntoFails s slot at old Memory new = ⊥
-ReadIntoFails s slot at old why new = Goes s (Read slot at (length old)) (Refused why) s × (new ≡ old)
+ReadIntoFails s slot at old why new = Goes s (Read slot at (length old)) (Refused why) s
+    × (new ≡ old)

@@ -29,4 +29,5 @@ given_by_calls S (e ∷ es) = given_by_calls (given_by_call S e.call e.reply) es
 -- given
 abbrev pub HistoryIsOfGiven : Type 0
 HistoryIsOfGiven = (S : ReferenceSet) (opening last : NodeView) (calls : List (Entry Call Reply))
-    → opening.history ≡ history S → Runs Step opening calls last → last.history ≡ history (given_by_calls S calls)
+    → opening.history ≡ history S → Runs Step opening calls last
+    → last.history ≡ history (given_by_calls S calls)

@@ -25,4 +25,9 @@ opened_node id pool = record { id = id; history = history_of_entries []; pool = 
 
 -- a node without references and without a pool
 abbrev pub empty_node : NodeView
-empty_node = record { id = 0; history = history_of_entries []; pool = record { page_size = 0; devices = []; frames = []; contents = []; failures = [] } }
+empty_node =
+    record {
+      id = 0;
+      history = history_of_entries [];
+      pool = record { page_size = 0; devices = []; frames = []; contents = []; failures = [] };
+    }

@@ -20,18 +20,25 @@ IsEvicted v w p = IsResident v p × IsAbsent w p
 
 -- The named page, and each page that is evicted by any call but a restart, is farthest back over S
 -- among the unpinned resident pages.
-pub record AreFarthest (S : ReferenceSet) (old : NodeView) (call : Call) (reply : Reply) (new : NodeView) : Type 0 where
-  pub named : (v : PageId) → call ≡ Victim → reply ≡ Page (Some v) → IsFarthest S (unfixed_pages old.pool) v
-  pub leaves : (v : PageId) → call ≢ Restart → IsEvicted old.pool new.pool v → IsFarthest S (unfixed_pages old.pool) v
+pub record AreFarthest (S : ReferenceSet) (old : NodeView) (call : Call) (reply : Reply)
+    (new : NodeView) : Type 0 where
+  pub named : (v : PageId) → call ≡ Victim → reply ≡ Page (Some v)
+      → IsFarthest S (unfixed_pages old.pool) v
+  pub leaves : (v : PageId) → call ≢ Restart → IsEvicted old.pool new.pool v
+      → IsFarthest S (unfixed_pages old.pool) v
 
 abbrev pub VictimsAreFarthest : Type 0
-VictimsAreFarthest = (S : ReferenceSet) (old new : NodeView) (call : Call) (reply : Reply) → StandsFor old.history S → Step old call reply new
+VictimsAreFarthest = (S : ReferenceSet) (old new : NodeView) (call : Call) (reply : Reply)
+    → StandsFor old.history S → Step old call reply new
     → AreFarthest S old call reply new
 
 -- the victim and the hottest pages that a node gives are those over S
 pub record RepliesOver (S : ReferenceSet) (old new : NodeView) : Type 0 where
-  pub victim : (v : Option PageId) → Step old Victim (Page v) new → IsVictim S (unfixed_pages old.pool) v
-  pub hottest : (n : ℕ) (ps : List PageId) → Step old (WarmList n) (Pages ps) new → ps ≡ hottest_pages S n
+  pub victim : (v : Option PageId) → Step old Victim (Page v) new
+      → IsVictim S (unfixed_pages old.pool) v
+  pub hottest : (n : ℕ) (ps : List PageId) → Step old (WarmList n) (Pages ps) new
+      → ps ≡ hottest_pages S n
 
 abbrev pub RepliesAreOverReferences : Type 0
-RepliesAreOverReferences = (S : ReferenceSet) (old new : NodeView) → StandsFor old.history S → RepliesOver S old new
+RepliesAreOverReferences = (S : ReferenceSet) (old new : NodeView) → StandsFor old.history S
+    → RepliesOver S old new

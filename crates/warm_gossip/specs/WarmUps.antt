@@ -14,12 +14,14 @@ use Rattle.warm_gossip.specs.Victims.{IsEvicted}
 
 -- no page is in two frames
 abbrev pub PagesDiffer : PoolView → Type 0
-PagesDiffer v = (i j : ℕ) (p : PageId) → (frame_at v i).page ≡ Some p → (frame_at v j).page ≡ Some p → i ≡ j
+PagesDiffer v = (i j : ℕ) (p : PageId) → (frame_at v i).page ≡ Some p → (frame_at v j).page ≡ Some p
+    → i ≡ j
 
 -- this many warm-up steps, one after the other, none refused
 abbrev pub WarmSteps : ℕ → NodeView → NodeView → Type 0
 WarmSteps zero old new = new ≡ old
-WarmSteps (suc n) old new = (loaded : Option PageId) × (next : NodeView) × Step old WarmStep (Loaded loaded) next × WarmSteps n next new
+WarmSteps (suc n) old new = (loaded : Option PageId) × (next : NodeView)
+    × Step old WarmStep (Loaded loaded) next × WarmSteps n next new
 
 -- the page is among the hottest over S, as many as there are frames, and a device has it
 pub record IsHot (S : ReferenceSet) (v : PoolView) (p : PageId) : Type 0 where
@@ -29,18 +31,23 @@ pub record IsHot (S : ReferenceSet) (v : PoolView) (p : PageId) : Type 0 where
 -- while no page is pinned, none of the hottest pages is evicted by a warm-up step, whatever its
 -- reply
 abbrev pub WarmStepKeepsHottest : Type 0
-WarmStepKeepsHottest = (S : ReferenceSet) (old new : NodeView) (reply : Reply) → StandsFor old.history S → PagesDiffer old.pool → IsUnfixed old.pool
-    → Step old WarmStep reply new → (p : PageId) → Contains (hottest_pages S (length old.pool.frames)) p → IsEvicted old.pool new.pool p → ⊥
+WarmStepKeepsHottest = (S : ReferenceSet) (old new : NodeView) (reply : Reply)
+    → StandsFor old.history S → PagesDiffer old.pool → IsUnfixed old.pool
+    → Step old WarmStep reply new → (p : PageId)
+    → Contains (hottest_pages S (length old.pool.frames)) p → IsEvicted old.pool new.pool p → ⊥
 
 -- after as many steps as there are frames, all of the hottest pages that the devices have are
 -- resident
 abbrev pub StepsLoad : ReferenceSet → NodeView → NodeView → Type 0
-StepsLoad S old new = WarmSteps (length old.pool.frames) old new → (p : PageId) → IsHot S old.pool p → IsResident new.pool p
+StepsLoad S old new = WarmSteps (length old.pool.frames) old new → (p : PageId) → IsHot S old.pool p
+    → IsResident new.pool p
 
 -- this holds where no page is pinned
 abbrev pub NodeWarmUpLoads : Type 0
-NodeWarmUpLoads = (S : ReferenceSet) (old new : NodeView) → StandsFor old.history S → PagesDiffer old.pool → IsUnfixed old.pool → StepsLoad S old new
+NodeWarmUpLoads = (S : ReferenceSet) (old new : NodeView) → StandsFor old.history S
+    → PagesDiffer old.pool → IsUnfixed old.pool → StepsLoad S old new
 
 -- the same of one node, whatever its history stands for
 abbrev pub NodeWarmsUp : NodeView → Type 0
-NodeWarmsUp old = (S : ReferenceSet) (new : NodeView) → StandsFor old.history S → IsUnfixed old.pool → StepsLoad S old new
+NodeWarmsUp old = (S : ReferenceSet) (new : NodeView) → StandsFor old.history S → IsUnfixed old.pool
+    → StepsLoad S old new

@@ -10,10 +10,12 @@ use Rattle.warm_gossip.specs.Step.{IsLoadable, nth_page}
 
 -- none of the first `passed` of these pages could be loaded
 abbrev pub IsPast : List PageId → ℕ → PoolView → Type 0
-IsPast pages passed v = (j : ℕ) → j < passed → j < length pages → IsLoadable v (nth_page pages j) → ⊥
+IsPast pages passed v = (j : ℕ) → j < passed → j < length pages → IsLoadable v (nth_page pages j)
+    → ⊥
 
 -- the pages are the hottest, as many as there are frames, and the first `passed` of them are passed
-pub record IsUnderWay (h : HistoryView) (v : PoolView) (pages : List PageId) (passed : ℕ) : Type 0 where
+pub record IsUnderWay (h : HistoryView) (v : PoolView) (pages : List PageId)
+    (passed : ℕ) : Type 0 where
   pub hottest : IsWarmUp h (length v.frames) pages
   pub past : IsPast pages passed v
 
@@ -25,8 +27,8 @@ IsWarming h v warm_up = IfSome warm_up.pages (λ pages. IsUnderWay h v pages.ite
 abbrev pub PassedAtPin : Option PageId → ℕ → ℕ → Type 0
 PassedAtPin evicted old new = (new ≡ 0) ⊎ ((evicted ≡ None) × (new ≡ old))
 
--- no page was evicted, or one that leaves before this page: so it is not among the pages before this
--- one in the list
+-- no page was evicted, or one that leaves before this page: so it is not among the pages before
+-- this one in the list
 abbrev pub IsNoneBefore : HistoryView → PageId → Option PageId → Type 0
 IsNoneBefore h p None = Unit {0}
 IsNoneBefore h p (Some evicted) = IsBefore (references_of h) evicted p

@@ -72,9 +72,9 @@ fn listed(
     history.bucket_at_horizon(bucket, horizon).collect(alloc)
 }
 
-/// The entries of the requested buckets, at the greater of the horizon and the history's own, bucket
-/// by bucket in rising order and each in page order, in messages of up to 1000. It costs a scan of
-/// these buckets: older stamps are skipped as they are read.
+/// The entries of the requested buckets, at the greater of the horizon and the history's own,
+/// bucket by bucket in rising order and each in page order, in messages of up to 1000. It costs a
+/// scan of these buckets: older stamps are skipped as they are read.
 ///
 /// `AllocError` occurs only where an allocation fails.
 pub(crate) fn requested_messages(

@@ -1,13 +1,15 @@
 //! The calls on a node's history.
 ghost use Rattle.std.specs.Prelude.{◌≡◌, IfErr, IfOk, None, OnOk};
-ghost use Rattle.warm_gossip.specs.declared.call.Call.TheVariants.{Absorb, Send, Offer, Receive, Horizon, WarmList};
+ghost use Rattle.warm_gossip.specs.declared.call.Call.TheVariants.{Absorb, Send, Offer, Receive};
+ghost use Rattle.warm_gossip.specs.declared.call.Call.TheVariants.{Horizon, WarmList};
 ghost use Rattle.warm_gossip.specs.declared.call.Reply.TheVariants.{Sent, Answers, Kept, Pages};
 ghost use Rattle.warm_gossip.specs.declared.fault.NodeFault.TheVariants.{Memory};
 ghost use Rattle.warm_gossip.specs.Answers.{IsAnswer};
 ghost use Rattle.warm_pool.specs.Keeping.{KeepsBytes};
 ghost use Rattle.warm_pool.specs.State.{RankedBy};
 ghost use Rattle.warm_pool.specs.View.{view_of};
-ghost use Rattle.warm_gossip.specs.Clauses.{Answered, DevicesAfter, DevicesAnswered, Goes, Joins, JoinsEntries, SameView, done};
+ghost use Rattle.warm_gossip.specs.Clauses.{Answered, DevicesAfter, DevicesAnswered, Goes, Joins};
+ghost use Rattle.warm_gossip.specs.Clauses.{JoinsEntries, SameView, done};
 
 use crate::answers::{answer_to_digests, requested_messages};
 use crate::fault::NodeFault;

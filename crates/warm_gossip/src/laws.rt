@@ -10,11 +10,13 @@ ghost use Rattle.warm_frames.specs.Entries.{IsEntry, IsHist};
 ghost use Rattle.warm_digest.specs.Exchange.{Fits};
 ghost use Rattle.warm_gossip.specs.Batches.{BatchesAreTaken};
 ghost use Rattle.warm_gossip.specs.Chunks.{ChunksInTurn};
-ghost use Rattle.warm_gossip.specs.Round.{EntriesBringAll, GossipRoundEnds, HistoryRoundJoins, NodesJoin, OwnDigestsUnanswered};
+ghost use Rattle.warm_gossip.specs.Round.{EntriesBringAll, GossipRoundEnds, HistoryRoundJoins};
+ghost use Rattle.warm_gossip.specs.Round.{NodesJoin, OwnDigestsUnanswered};
 ghost use Rattle.warm_gossip.specs.State.{node_view};
 ghost use Rattle.warm_gossip.specs.Given.{HistoryIsOfGiven};
 ghost use Rattle.warm_gossip.specs.Victims.{RepliesAreOverReferences, VictimsAreFarthest};
-ghost use Rattle.warm_gossip.specs.WarmUps.{NodeWarmsUp, PagesDiffer, WarmStepKeepsHottest, NodeWarmUpLoads};
+ghost use Rattle.warm_gossip.specs.WarmUps.{NodeWarmsUp, PagesDiffer, WarmStepKeepsHottest};
+ghost use Rattle.warm_gossip.specs.WarmUps.{NodeWarmUpLoads};
 
 use crate::node::Node;
 use warm_devices::PageDevice;

@@ -2,7 +2,8 @@
 ghost use Rattle.std.specs.Prelude.{◌≡◌};
 ghost use Rattle.warm_pool.specs.State.{IsRankedByAll};
 ghost use Rattle.warm_gossip.specs.State.{opened_node};
-ghost use Rattle.warm_gossip.specs.Clauses.{Answered, DevicesAfter, DevicesAnswered, Goes, IsOtherThanAbsorb};
+ghost use Rattle.warm_gossip.specs.Clauses.{Answered, DevicesAfter, DevicesAnswered, Goes};
+ghost use Rattle.warm_gossip.specs.Clauses.{IsOtherThanAbsorb};
 
 use crate::call::{Call, Reply};
 use crate::fault::NodeFault;

@@ -1,9 +1,11 @@
 //! The calls on a node's pool.
 ghost use Rattle.std.specs.Prelude.{◌≡◌, length, IfErr, OnErr, OnOk};
 ghost use Rattle.warm_pool.specs.State.{IsSettled};
-ghost use Rattle.warm_gossip.specs.declared.call.Call.TheVariants.{Pin, Unpin, Read, Write, Victim, Restart};
+ghost use Rattle.warm_gossip.specs.declared.call.Call.TheVariants.{Pin, Unpin, Read, Write, Victim};
+ghost use Rattle.warm_gossip.specs.declared.call.Call.TheVariants.{Restart};
 ghost use Rattle.warm_gossip.specs.declared.call.Reply.TheVariants.{Pinned, Bytes, Page};
-ghost use Rattle.warm_gossip.specs.Clauses.{Answered, DevicesAnswered, Goes, ReadIntoFails, SameView, NodeWriteBackFails, done};
+ghost use Rattle.warm_gossip.specs.Clauses.{Answered, DevicesAnswered, Goes, ReadIntoFails};
+ghost use Rattle.warm_gossip.specs.Clauses.{SameView, NodeWriteBackFails, done};
 
 use crate::fault::NodeFault;
 use crate::node::Node;

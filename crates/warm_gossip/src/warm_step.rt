@@ -5,7 +5,8 @@ ghost use Rattle.warm_gossip.specs.declared.call.Reply.TheVariants.{Loaded};
 ghost use Rattle.warm_pool.specs.View.{view_of};
 ghost use Rattle.warm_gossip.specs.Clauses.{Answered, DevicesAnswered};
 ghost use Rattle.warm_gossip.specs.Step.{IsLoadable, nth_page};
-ghost use Rattle.warm_gossip.specs.WarmingUp.{IsPast, IsUnderWay, IsWarming, PassedAtLoad, PassedAtPin};
+ghost use Rattle.warm_gossip.specs.WarmingUp.{IsPast, IsUnderWay, IsWarming, PassedAtLoad};
+ghost use Rattle.warm_gossip.specs.WarmingUp.{PassedAtPin};
 
 use crate::fault::NodeFault;
 use crate::node::Node;
@@ -48,8 +49,8 @@ impl<D: PageDevice> Node<D> {
     /// cached until an entry of the history changes or the node restarts. A step that finds the
     /// list cached is allocation-free, and looks up pages from where the last step stopped until it
     /// finds one to load. So a whole warm-up looks up each page once, provided that no passed page
-    /// is evicted: after a pin that evicts a page, or a step that evicts a page of the list, the next
-    /// step begins with the hottest page again.
+    /// is evicted: after a pin that evicts a page, or a step that evicts a page of the list, the
+    /// next step begins with the hottest page again.
     ///
     /// # Errors
     /// `Memory`: the allocation of the list of the hottest pages failed; the next step tries again.

@@ -1,5 +1,6 @@
 -- The head of a text: the number that its digits spell, and where its first word ends.
-use Rattle.std.specs.Prelude.{ℕ, List, [], ◌∷◌, Bool, ◌==◌, Option, Some, None, option_map, if◌then◌else◌, drop}
+use Rattle.std.specs.Prelude.{ℕ, List, [], ◌∷◌, Bool, ◌==◌, Option, Some, None, option_map}
+use Rattle.std.specs.Prelude.{if◌then◌else◌, drop}
 use Rattle.std.specs.List.{take_while, prefix_len}
 use Rattle.warm_stamps.specs.declared.PageId.{PageId}
 use Rattle.warm_pool.specs.declared.slot.Slot.{Slot}
@@ -18,7 +19,8 @@ after_digits text = drop (prefix_len is_digit text) text
 
 -- the number at the head of a text, and what follows it
 unfoldable pub number_at : ℕ → List ℕ → Option (ℕ × List ℕ)
-number_at limit text = option_map (λ n. (n, after_digits text)) (number_up_to limit (leading_digits text))
+number_at limit text =
+    option_map (λ n. (n, after_digits text)) (number_up_to limit (leading_digits text))
 
 -- what follows this byte at the head of a text
 abbrev pub behind : ℕ → List ℕ → Option (List ℕ)

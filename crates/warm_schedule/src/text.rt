@@ -1,5 +1,6 @@
 //! Bytes split at a separator, and the ends of words.
-ghost use Rattle.std.specs.Prelude.{◌≡◌, ◌<◌, [], ◌∷◌, ◌++◌, None, length, MatchOption, IfSome, option_map};
+ghost use Rattle.std.specs.Prelude.{◌≡◌, ◌<◌, [], ◌∷◌, ◌++◌, None, length, MatchOption, IfSome};
+ghost use Rattle.std.specs.Prelude.{option_map};
 ghost use Rattle.warm_schedule.specs.Text.{IsLine, split, words};
 ghost use Rattle.warm_schedule.specs.Heads.{behind, words_behind};
 

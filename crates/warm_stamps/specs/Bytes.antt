@@ -11,7 +11,8 @@ bytes_of_stamp s = to_be_bytes w64 s.time ++ to_be_bytes w16 s.replica
 
 -- the stamp that ten bytes encode, where its replica number is valid
 abbrev pub stamp_of : List ℕ → Stamp
-stamp_of bytes = record { time = from_be_bytes w64 (take 8 bytes); replica = from_be_bytes w16 (drop 8 bytes) }
+stamp_of bytes =
+    record { time = from_be_bytes w64 (take 8 bytes); replica = from_be_bytes w16 (drop 8 bytes) }
 
 -- two bytes of the device's number, then eight of the page's
 abbrev pub bytes_of_page : PageId → List ℕ
@@ -19,7 +20,8 @@ bytes_of_page p = to_be_bytes w16 p.dev ++ to_be_bytes w64 p.no
 
 -- the page that ten bytes encode
 abbrev pub page_from_bytes : List ℕ → PageId
-page_from_bytes bytes = record { dev = from_be_bytes w16 (take 2 bytes); no = from_be_bytes w64 (drop 2 bytes) }
+page_from_bytes bytes =
+    record { dev = from_be_bytes w16 (take 2 bytes); no = from_be_bytes w64 (drop 2 bytes) }
 
 -- two bytes of the device's number, then four of the page's, where its number fits in 32 bits
 abbrev pub narrow_bytes_of_page : PageId → List ℕ
@@ -27,7 +29,8 @@ narrow_bytes_of_page p = to_be_bytes w16 p.dev ++ to_be_bytes w32 p.no
 
 -- the page that six bytes encode
 abbrev pub page_of_narrow : List ℕ → PageId
-page_of_narrow bytes = record { dev = from_be_bytes w16 (take 2 bytes); no = from_be_bytes w32 (drop 2 bytes) }
+page_of_narrow bytes =
+    record { dev = from_be_bytes w16 (take 2 bytes); no = from_be_bytes w32 (drop 2 bytes) }
 
 -- the valid stamps and pages
 pub record IsStamp (s : Stamp) : Type 0 where

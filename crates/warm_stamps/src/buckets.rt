@@ -1,7 +1,8 @@
 //! Buckets: the classes of pages, and sets of them.
 ghost use Rattle.std.specs.Int.{bit_at, bit_not, w64};
 ghost use Rattle.std.specs.Iterator.{YieldsFirst};
-ghost use Rattle.std.specs.Prelude.{◌≡◌, ◌==◌, ℕ, ◌+◌, ◌-◌, ◌^◌, ◌<◌, ◌↔◌, IfSome, IsSome, bit_and, bit_or};
+ghost use Rattle.std.specs.Prelude.{◌≡◌, ◌==◌, ℕ, ◌+◌, ◌-◌, ◌^◌, ◌<◌, ◌↔◌, IfSome, IsSome, bit_and};
+ghost use Rattle.std.specs.Prelude.{bit_or};
 ghost use Rattle.std.specs.List.{range_with_len};
 ghost use Rattle.warm_stamps.specs.Buckets.{IsBucket, page_bucket, buckets_in, buckets_from};
 

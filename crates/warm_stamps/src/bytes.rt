@@ -1,6 +1,7 @@
 //! Stamps and pages as bytes, the highest byte of each number first.
 ghost use Rattle.std.specs.Prelude.{◌≡◌, ◌↔◌, IfOk, IsOk};
-ghost use Rattle.warm_stamps.specs.Bytes.{bytes_of_stamp, stamp_of, bytes_of_page, page_from_bytes, narrow_bytes_of_page, page_of_narrow, IsReplica};
+ghost use Rattle.warm_stamps.specs.Bytes.{bytes_of_stamp, stamp_of, bytes_of_page, page_from_bytes};
+ghost use Rattle.warm_stamps.specs.Bytes.{narrow_bytes_of_page, page_of_narrow, IsReplica};
 
 use crate::{BadReplica, PageId, ReplicaId, Stamp};
 

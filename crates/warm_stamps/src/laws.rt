@@ -7,7 +7,8 @@ ghost use Rattle.warm_stamps.specs.declared.Stamp.{Stamp};
 ghost use Rattle.warm_stamps.specs.declared.PageId.{PageId};
 ghost use Rattle.warm_stamps.specs.declared.Reference.{Reference};
 ghost use Rattle.warm_stamps.specs.Stamps.{stamp_cmp, page_cmp, reference_cmp};
-ghost use Rattle.warm_stamps.specs.Laws.{StampOrderIsTotal, PageOrderIsTotal, ReferenceOrderIsTotal};
+ghost use Rattle.warm_stamps.specs.Laws.{StampOrderIsTotal, PageOrderIsTotal};
+ghost use Rattle.warm_stamps.specs.Laws.{ReferenceOrderIsTotal};
 
 use crate::{PageId, Reference, Stamp};
 
