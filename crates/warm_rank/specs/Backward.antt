@@ -1,6 +1,7 @@
 -- The backward 2-distance as LRU-2 defines it: counted in places over the references, in the order
 -- in which they were made.
-use Rattle.std.specs.Prelude.{ℕ, ◌==◌, ◌&&◌, List, [], ◌∷◌, length, count_by, Option, Some, None, if◌then◌else◌}
+use Rattle.std.specs.Prelude.{ℕ, ◌==◌, ◌&&◌, List, [], ◌∷◌, length, count_by, Option, Some, None}
+use Rattle.std.specs.Prelude.{if◌then◌else◌}
 use Rattle.std.specs.Ordering.{is_eq, on}
 use Rattle.warm_stamps.specs.declared.PageId.{PageId}
 use Rattle.warm_stamps.specs.declared.Reference.{Reference}
@@ -19,4 +20,6 @@ count_to rs p = count_by (λ r. is_eq (page_cmp r.page p)) rs
 -- to it
 abbrev pub places_back : List Reference → PageId → Option ℕ
 places_back [] p = None
-places_back (r ∷ later) p = if is_eq (page_cmp r.page p) && (count_to later p == 1) then Some (length later) else places_back later p
+places_back (r ∷ later) p =
+    if is_eq (page_cmp r.page p) && (count_to later p == 1) then Some (length later)
+    else places_back later p

@@ -38,4 +38,5 @@ key_cmp (Once a p) (Once b q) = ordering_then (stamp_cmp a b) (page_cmp p q)
 key_cmp (Once a p) (Twice b' b q) = Less
 key_cmp (Twice a' a p) (Never q) = Greater
 key_cmp (Twice a' a p) (Once b q) = Greater
-key_cmp (Twice a' a p) (Twice b' b q) = ordering_then (stamp_cmp a' b') (ordering_then (stamp_cmp a b) (page_cmp p q))
+key_cmp (Twice a' a p) (Twice b' b q) =
+    ordering_then (stamp_cmp a' b') (ordering_then (stamp_cmp a b) (page_cmp p q))

@@ -15,11 +15,13 @@ use Rattle.warm_rank.specs.Slots.{key_at, IsLeast}
 -- over references in the order of their stamps, all of which differ, the distance is counted in
 -- places
 abbrev pub DistanceIsPlacesBack : Type 0
-DistanceIsPlacesBack = (S : ReferenceSet) (p : PageId) → StampsAscend (references S) → dist S p ≡ places_back (references S) p
+DistanceIsPlacesBack = (S : ReferenceSet) (p : PageId) → StampsAscend (references S)
+    → dist S p ≡ places_back (references S) p
 
 -- of two pages, the one with the lesser key is evicted first: keys compare as their pages do
 abbrev pub KeysOrderPages : Type 0
-KeysOrderPages = (S : ReferenceSet) (p q : PageId) → key_cmp (rank_key p (hist S p)) (rank_key q (hist S q)) ≡ eviction_cmp S p q
+KeysOrderPages = (S : ReferenceSet) (p q : PageId)
+    → key_cmp (rank_key p (hist S p)) (rank_key q (hist S q)) ≡ eviction_cmp S p q
 
 -- of two different pages exactly one is evicted before the other: the order is total, transitive
 -- and irreflexive
@@ -38,7 +40,8 @@ pub record RankAlike (S T : ReferenceSet) : Type 0 where
 
 -- the references that a history holds rank pages as those for which it stands do
 abbrev pub TruncationKeepsOrder : Type 0
-TruncationKeepsOrder = (h : HistoryView) (S : ReferenceSet) → StandsFor h S → RankAlike (references_of h) S
+TruncationKeepsOrder = (h : HistoryView) (S : ReferenceSet) → StandsFor h S
+    → RankAlike (references_of h) S
 
 -- sets of the same references rank pages alike
 abbrev pub SameReferencesRankAlike : Type 0
@@ -58,7 +61,9 @@ page_of_slot slots slot = option_and_then (key_at slots) slot
 
 -- the page in the slot of the least key is the victim among the pages in the slots
 abbrev pub LeastKeyIsVictim : Type 0
-LeastKeyIsVictim = (S : ReferenceSet) (slots : List (Option PageId)) (least : Option ℕ) → IsLeast key_cmp (keys_over S slots) least → IsVictim S (pages_in slots) (page_of_slot slots least)
+LeastKeyIsVictim = (S : ReferenceSet) (slots : List (Option PageId)) (least : Option ℕ)
+    → IsLeast key_cmp (keys_over S slots) least
+    → IsVictim S (pages_in slots) (page_of_slot slots least)
 
 -- the first distance is at most the second; none is infinite
 abbrev pub IsNotFarther : Option ℕ → Option ℕ → Type 0
@@ -74,4 +79,5 @@ pub record IsFarthest (S : ReferenceSet) (U : List PageId) (v : PageId) : Type 0
 -- the victim over what a history holds is one of the pages farthest back over all references for
 -- which it stands
 abbrev pub VictimIsFarthest : Type 0
-VictimIsFarthest = (h : HistoryView) (S : ReferenceSet) → StandsFor h S → (U : List PageId) (v : PageId) → IsVictim (references_of h) U (Some v) → IsFarthest S U v
+VictimIsFarthest = (h : HistoryView) (S : ReferenceSet) → StandsFor h S
+    → (U : List PageId) (v : PageId) → IsVictim (references_of h) U (Some v) → IsFarthest S U v

@@ -12,9 +12,36 @@ use Rattle.warm_rank.specs.Keys.{entry_key}
 -- the number of known stamps, the older one, the later one, and the page; a stamp that isn't known
 -- is 0
 abbrev pub packed_key : RankKey → PackedKey
-packed_key (Never p) = record { stamps = 0; older_time = 0; older_replica = 0; later_time = 0; later_replica = 0; dev = p.dev; no = p.no }
-packed_key (Once a p) = record { stamps = 1; older_time = a.time; older_replica = a.replica; later_time = 0; later_replica = 0; dev = p.dev; no = p.no }
-packed_key (Twice a' a p) = record { stamps = 2; older_time = a'.time; older_replica = a'.replica; later_time = a.time; later_replica = a.replica; dev = p.dev; no = p.no }
+packed_key (Never p) =
+    record {
+      stamps = 0;
+      older_time = 0;
+      older_replica = 0;
+      later_time = 0;
+      later_replica = 0;
+      dev = p.dev;
+      no = p.no;
+    }
+packed_key (Once a p) =
+    record {
+      stamps = 1;
+      older_time = a.time;
+      older_replica = a.replica;
+      later_time = 0;
+      later_replica = 0;
+      dev = p.dev;
+      no = p.no;
+    }
+packed_key (Twice a' a p) =
+    record {
+      stamps = 2;
+      older_time = a'.time;
+      older_replica = a'.replica;
+      later_time = a.time;
+      later_replica = a.replica;
+      dev = p.dev;
+      no = p.no;
+    }
 
 -- the packed keys of a history's pages
 abbrev pub packed_keys : HistoryView → List PackedKey

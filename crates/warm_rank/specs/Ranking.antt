@@ -1,5 +1,6 @@
 -- The order in which pages are evicted: by backward 2-distance, counted over a set of references.
-use Rattle.std.specs.Prelude.{◌≡◌, ◌≢◌, ℕ, List, [], ◌∷◌, Option, Some, None, count_by, take, Contains, MatchOption}
+use Rattle.std.specs.Prelude.{◌≡◌, ◌≢◌, ℕ, List, [], ◌∷◌, Option, Some, None, count_by, take}
+use Rattle.std.specs.Prelude.{Contains, MatchOption}
 use Rattle.std.specs.Option.{option_cmp}
 use Rattle.std.specs.Ordering.{is_lt, nat_cmp, on, then_cmp, flip_args}
 use Rattle.std.specs.declared.cmp.Ordering.{Ordering}
@@ -13,7 +14,8 @@ use Rattle.warm_history.specs.Histories.{stamps, pages}
 
 -- the number of distinct references of S that are later than the stamp s
 abbrev pub count_later : ReferenceSet → Stamp → ℕ
-count_later S s = count_by (λ r. is_lt (stamp_cmp s r.stamp)) (distinct reference_cmp (references S))
+count_later S s =
+    count_by (λ r. is_lt (stamp_cmp s r.stamp)) (distinct reference_cmp (references S))
 
 -- the number of references of S that are later than the second of these stamps; none where there is
 -- no second
@@ -54,7 +56,8 @@ IsBefore S p q = eviction_cmp S p q ≡ Less
 
 -- the page of U that is evicted before every other page of U; none where U is empty
 abbrev pub IsVictim : ReferenceSet → List PageId → Option PageId → Type 0
-IsVictim S U victim = MatchOption victim (U ≡ []) (λ p. Contains U p × ((q : PageId) → Contains U q → q ≢ p → IsBefore S p q))
+IsVictim S U victim = MatchOption victim (U ≡ [])
+    (λ p. Contains U p × ((q : PageId) → Contains U q → q ≢ p → IsBefore S p q))
 
 -- the n pages named in S that are evicted last, the last of all first
 abbrev pub hottest_pages : ReferenceSet → ℕ → List PageId

@@ -14,4 +14,5 @@ IsWarmUp h n ps = (S : ReferenceSet) → StandsFor h S → ps ≡ hottest_pages 
 -- the n pages that are evicted last, whichever references have a history with these keys, in any
 -- order
 abbrev pub IsWarmUpOfKeys : List PackedKey → ℕ → List PageId → Type 0
-IsWarmUpOfKeys keys n ps = (S : ReferenceSet) → IsPermutation (packed_keys (history S)) keys → ps ≡ hottest_pages S n
+IsWarmUpOfKeys keys n ps = (S : ReferenceSet) → IsPermutation (packed_keys (history S)) keys
+    → ps ≡ hottest_pages S n

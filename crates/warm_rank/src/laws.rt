@@ -2,7 +2,9 @@
 ghost use Rattle.std.specs.Prelude.{◌≡◌};
 ghost use Rattle.warm_rank.specs.declared.RankKey.{RankKey};
 ghost use Rattle.warm_rank.specs.Keys.{key_cmp};
-ghost use Rattle.warm_rank.specs.Laws.{DistanceIsPlacesBack, KeysOrderPages, EvictionIsOrder, LeastKeyIsVictim, TruncationKeepsOrder, SameReferencesRankAlike, VictimIsFarthest};
+ghost use Rattle.warm_rank.specs.Laws.{DistanceIsPlacesBack, KeysOrderPages, EvictionIsOrder};
+ghost use Rattle.warm_rank.specs.Laws.{LeastKeyIsVictim, TruncationKeepsOrder};
+ghost use Rattle.warm_rank.specs.Laws.{SameReferencesRankAlike, VictimIsFarthest};
 
 use crate::RankKey;
 

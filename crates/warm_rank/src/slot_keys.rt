@@ -1,5 +1,6 @@
 //! The keys of slots, of any type.
-ghost use Rattle.std.specs.Prelude.{◌≡◌, List, ◌<◌, ◌≤◌, length, replicate, set, false, true, is_some, IfOk, None};
+ghost use Rattle.std.specs.Prelude.{◌≡◌, List, ◌<◌, ◌≤◌, length, replicate, set, false, true};
+ghost use Rattle.std.specs.Prelude.{is_some, IfOk, None};
 ghost use Rattle.warm_rank.specs.Slots.{key_at, keys_set, keys_while, set_first_cmp};
 
 use std::alloc::{AllocError, Global};
