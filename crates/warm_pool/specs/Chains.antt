@@ -1,6 +1,7 @@
 -- Hash chains of frames: each frame links to the next one of its chain, in rising order. A link
 -- equal to the number of frames ends a chain.
-use Rattle.std.specs.Prelude.{◌≡◌, ◌≢◌, ℕ, suc, ◌+◌, ◌*◌, ◌/◌, ◌%◌, ◌<◌, ◌≤◌, List, length, map, set, Option, Some, None, slice_index, slice_index_or}
+use Rattle.std.specs.Prelude.{◌≡◌, ◌≢◌, ℕ, suc, ◌+◌, ◌*◌, ◌/◌, ◌%◌, ◌<◌, ◌≤◌, List, length, map}
+use Rattle.std.specs.Prelude.{set, Option, Some, None, slice_index, slice_index_or}
 use Rattle.warm_stamps.specs.declared.PageId.{PageId}
 use Rattle.warm_rank.specs.declared.TheConstants.{MAX_FRAMES}
 
@@ -18,7 +19,9 @@ mix_of x = ((x + x / 0x10000) % 0x100000000 * 0x85EBCA6B) % 0x100000000
 -- The page's number and that of its device hashed to 32 bits. The factors are 2^32 divided by the
 -- golden ratio (Knuth), the least prime above 10^9, and the second prime of xxHash (Collet).
 unfoldable pub hash_of : PageId → ℕ
-hash_of page = mix_of (mix_of ((page.no % 0x100000000 * 0x9E3779B9 + page.no / 0x100000000 * 0x3B9ACA07 + page.dev * 0x85EBCA77) % 0x100000000))
+hash_of page =
+    mix_of (mix_of ((page.no % 0x100000000 * 0x9E3779B9 + page.no / 0x100000000 * 0x3B9ACA07
+    + page.dev * 0x85EBCA77) % 0x100000000))
 
 -- Chains
 
@@ -43,7 +46,8 @@ pub record IsFirstFrom (frames : List ℕ) (chain from at : ℕ) : Type 0 where
 -- whose chain number is out of range is in no chain
 pub record AreChains (frames heads next : List ℕ) : Type 0 where
   pub next_size : length next ≡ length frames
-  pub heads_are : (chain : ℕ) → chain < length heads → IsFirstFrom frames chain 0 (slice_index heads chain)
+  pub heads_are : (chain : ℕ) → chain < length heads
+      → IsFirstFrom frames chain 0 (slice_index heads chain)
   pub next_are : (frame : ℕ) → frame < length frames → slice_index frames frame < length heads
       → IsFirstFrom frames (slice_index frames frame) (suc frame) (slice_index next frame)
 

@@ -1,6 +1,7 @@
 -- The effect on the device list of a call of one device.
 use Rattle.std.specs.Prelude.{◌≡◌, ◌<◌, ℕ, IsTrue, IsOk, List, set, Result, OnOk, true}
-use Rattle.warm_devices.specs.Device.{DeviceState, SameShape, CountsFault, ChangesPage, page_at, one_more}
+use Rattle.warm_devices.specs.Device.{DeviceState, SameShape, CountsFault, ChangesPage, page_at}
+use Rattle.warm_devices.specs.Device.{one_more}
 use Rattle.warm_devices.specs.declared.fault.DeviceFault.{DeviceFault}
 use Rattle.warm_devices.specs.declared.fault.DeviceFault.TheVariants.{Read, Write}
 use Rattle.warm_pool.specs.State.{nth_device}
@@ -10,7 +11,8 @@ abbrev pub AreOfSize : ℕ → ℕ → List DeviceState → Type 0
 AreOfSize size n devices = (k : ℕ) → k < n → (nth_device devices k).page_size ≡ size
 
 -- page n of a device was read into bytes
-pub record ReadsPage (d after : DeviceState) (n : ℕ) (bytes : List ℕ) (result : Result (Unit {0}) DeviceFault) : Type 0 where
+pub record ReadsPage (d after : DeviceState) (n : ℕ) (bytes : List ℕ)
+    (result : Result (Unit {0}) DeviceFault) : Type 0 where
   pub shape : SameShape d after
   pub faults : CountsFault Read result d after
   pub unfailing : IsTrue d.unfailing → IsOk result
@@ -19,7 +21,8 @@ pub record ReadsPage (d after : DeviceState) (n : ℕ) (bytes : List ℕ) (resul
   pub read : OnOk result (IsTrue d.honest → bytes ≡ page_at d.contents n)
 
 -- bytes were written to page n of a device
-pub record WritesPage (d after : DeviceState) (n : ℕ) (bytes : List ℕ) (result : Result (Unit {0}) DeviceFault) : Type 0 where
+pub record WritesPage (d after : DeviceState) (n : ℕ) (bytes : List ℕ)
+    (result : Result (Unit {0}) DeviceFault) : Type 0 where
   pub shape : SameShape d after
   pub faults : CountsFault Write result d after
   pub unfailing : IsTrue d.unfailing → IsOk result
@@ -28,16 +31,19 @@ pub record WritesPage (d after : DeviceState) (n : ℕ) (bytes : List ℕ) (resu
   pub written : OnOk result (IsTrue d.honest → page_at after.contents n ≡ bytes)
 
 -- the same, for device k of a list
-pub record PageRead (old new : List DeviceState) (k n : ℕ) (bytes : List ℕ) (result : Result (Unit {0}) DeviceFault) : Type 0 where
+pub record PageRead (old new : List DeviceState) (k n : ℕ) (bytes : List ℕ)
+    (result : Result (Unit {0}) DeviceFault) : Type 0 where
   pub after : DeviceState
   pub becomes : new ≡ set old k after
   pub call : ReadsPage (nth_device old k) after n bytes result
 
-pub record PageWrite (old new : List DeviceState) (k n : ℕ) (bytes : List ℕ) (result : Result (Unit {0}) DeviceFault) : Type 0 where
+pub record PageWrite (old new : List DeviceState) (k n : ℕ) (bytes : List ℕ)
+    (result : Result (Unit {0}) DeviceFault) : Type 0 where
   pub after : DeviceState
   pub becomes : new ≡ set old k after
   pub call : WritesPage (nth_device old k) after n bytes result
 
 -- the devices, with one more failure counted at device k and nothing else changed
 abbrev pub failed_at : ℕ → List DeviceState → List DeviceState
-failed_at k devices = set devices k (record (nth_device devices k) { failures = one_more (nth_device devices k).failures })
+failed_at k devices = set devices k
+    (record (nth_device devices k) { failures = one_more (nth_device devices k).failures })

@@ -4,7 +4,9 @@ use Rattle.std.specs.Prelude.{ℕ, List, codes}
 use Rattle.warm_pool.specs.declared.fault.NewPoolFault.{NewPoolFault}
 use Rattle.warm_pool.specs.declared.fault.NewPoolFault.TheVariants as new
 use Rattle.warm_pool.specs.declared.fault.PoolFault.{PoolFault}
-use Rattle.warm_pool.specs.declared.fault.PoolFault.TheVariants.{SizeDiffers, NoDevice, NoPage, AllFixed, ReadFault, WriteBack, FixesFull, OutOfPage, Fixed, Fault}
+use Rattle.warm_pool.specs.declared.fault.PoolFault.TheVariants.{SizeDiffers, NoDevice, NoPage}
+use Rattle.warm_pool.specs.declared.fault.PoolFault.TheVariants.{AllFixed, ReadFault, WriteBack}
+use Rattle.warm_pool.specs.declared.fault.PoolFault.TheVariants.{FixesFull, OutOfPage, Fixed, Fault}
 
 abbrev pub new_code_of : NewPoolFault → ℕ
 new_code_of new.Memory = 1

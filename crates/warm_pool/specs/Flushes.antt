@@ -20,7 +20,8 @@ pub record FlushFails (old new : DeviceState) : Type 0 where
   pub waiting : new.waiting ≡ true
 
 -- device k was flushed, where it was unflushed
-pub record DeviceFlush (old new : List DeviceState) (k : ℕ) (result : Result (Unit {0}) DeviceFault) : Type 0 where
+pub record DeviceFlush (old new : List DeviceState) (k : ℕ)
+    (result : Result (Unit {0}) DeviceFault) : Type 0 where
   pub after : DeviceState
   pub becomes : new ≡ set old k after
   pub done : OnOk result (IsFlushed (nth_device old k) after)

@@ -1,5 +1,6 @@
 -- The frames of a pool as plain data.
-use Rattle.std.specs.Prelude.{◌≡◌, ◌⊎◌, ℕ, ◌==◌, Bool, false, List, [], ◌∷◌, length, Option, Some, None, slice_index_or, if◌then◌else◌}
+use Rattle.std.specs.Prelude.{◌≡◌, ◌⊎◌, ℕ, ◌==◌, Bool, false, List, [], ◌∷◌, length, Option, Some}
+use Rattle.std.specs.Prelude.{None, slice_index_or, if◌then◌else◌}
 use Rattle.std.specs.Ordering.{is_gt}
 use Rattle.warm_stamps.specs.declared.PageId.{PageId}
 use Rattle.warm_rank.specs.declared.RankKey.{RankKey}
@@ -20,7 +21,8 @@ pub record FrameState : Type 0 where
 
 -- a frame without a page, into which none was ever loaded
 abbrev pub fresh_frame : List ℕ → FrameState
-fresh_frame bytes = record { page = None; key = None; generation = 0; fixes = 0; dirty = false; bytes = bytes }
+fresh_frame bytes =
+    record { page = None; key = None; generation = 0; fixes = 0; dirty = false; bytes = bytes }
 
 -- the frame of this index, from 0
 abbrev pub nth_frame : List FrameState → ℕ → FrameState
@@ -80,7 +82,8 @@ frame_of page status body = record {
 }
 
 abbrev pub frames_of : List (Option PageId) → List Status → List FrameBody → List FrameState
-frames_of (page ∷ pages) (status ∷ statuses) (body ∷ bodies) = frame_of page status body ∷ frames_of pages statuses bodies
+frames_of (page ∷ pages) (status ∷ statuses) (body ∷ bodies) =
+    frame_of page status body ∷ frames_of pages statuses bodies
 frames_of pages statuses bodies = []
 
 -- What the contest knows of a frame may lag behind: the slot's key is at most the rank with which
@@ -91,7 +94,8 @@ pub record LagsBehind (key : Option RankKey) (f : FrameState) : Type 0 where
   pub ranked : (key ≡ None) ⊎ (is_gt (set_first_cmp key_cmp key f.key) ≡ false)
 
 -- each frame has a status, a body and a slot of the contest, which may lag behind it
-pub record AreTied (pages : List (Option PageId)) (statuses : List Status) (bodies : List FrameBody) (contest : List (Option RankKey)) : Type 0 where
+pub record AreTied (pages : List (Option PageId)) (statuses : List Status) (bodies : List FrameBody)
+    (contest : List (Option RankKey)) : Type 0 where
   pub status_each : length statuses ≡ length pages
   pub body_each : length bodies ≡ length pages
   pub contest_each : length contest ≡ length pages

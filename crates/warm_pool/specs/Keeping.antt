@@ -5,7 +5,8 @@ use Rattle.warm_history.specs.Histories.{HistoryView}
 use Rattle.warm_devices.specs.Device.{one_more}
 use Rattle.warm_pool.specs.Frames.{nth_frame}
 use Rattle.warm_pool.specs.State.{PoolState, RankedBy}
-use Rattle.warm_pool.specs.View.{PoolView, HasPage, IsResident, IsAbsent, device_at, contents_at, failures_at}
+use Rattle.warm_pool.specs.View.{PoolView, HasPage, IsResident, IsAbsent, device_at, contents_at}
+use Rattle.warm_pool.specs.View.{failures_at}
 
 -- What a caller sees
 
@@ -24,9 +25,12 @@ pub record FailsAt (old : PoolView) (k : ℕ) (new : PoolView) : Type 0 where
 -- A page of another device that isn't resident has no bytes here, and one that is resident has the
 -- size of a page.
 pub record KeepsContents (old new : PoolView) : Type 0 where
-  pub honest : (p : PageId) → HasPage old p → IsTrue (device_at old p.dev).honest → contents_at new p ≡ contents_at old p
-  pub resident : (p : PageId) → IsResident old p → IsResident new p → contents_at new p ≡ contents_at old p
-  pub absent : (p : PageId) → (device_at new p.dev).honest ≡ false → IsAbsent new p → contents_at new p ≡ []
+  pub honest : (p : PageId) → HasPage old p → IsTrue (device_at old p.dev).honest
+      → contents_at new p ≡ contents_at old p
+  pub resident : (p : PageId) → IsResident old p → IsResident new p
+      → contents_at new p ≡ contents_at old p
+  pub absent : (p : PageId) → (device_at new p.dev).honest ≡ false → IsAbsent new p
+      → contents_at new p ≡ []
   pub sized : (p : PageId) → IsResident new p → length (contents_at new p) ≡ new.page_size
 
 -- Ranks, frames and devices

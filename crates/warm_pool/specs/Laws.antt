@@ -6,4 +6,5 @@ use Rattle.warm_pool.specs.View.{view_of, frame_at}
 
 -- a pool without a page is ranked by every history
 abbrev pub EmptyPoolIsRanked : Type 0
-EmptyPoolIsRanked = (s : PoolState) (h : HistoryView) → IsPool s → ((i : ℕ) → (frame_at (view_of s) i).page ≡ None) → RankedBy s h
+EmptyPoolIsRanked = (s : PoolState) (h : HistoryView) → IsPool s
+    → ((i : ℕ) → (frame_at (view_of s) i).page ≡ None) → RankedBy s h

@@ -20,5 +20,6 @@ pub record IsSize (size : ℕ) (devices : List DeviceState) : Type 0 where
 -- occurs only on an allocation failure.
 abbrev pub NewPoolRefused : ℕ → ℕ → List DeviceState → NewPoolFault → Type 0
 NewPoolRefused frames size devices BadFrames = IsUpTo MAX_FRAMES frames → ⊥
-NewPoolRefused frames size devices SizeDiffers = IsUpTo MAX_FRAMES frames × (IsSize size devices → ⊥)
+NewPoolRefused frames size devices SizeDiffers = IsUpTo MAX_FRAMES frames
+    × (IsSize size devices → ⊥)
 NewPoolRefused frames size devices Memory = IsUpTo MAX_FRAMES frames × IsSize size devices

@@ -1,5 +1,6 @@
 -- Reading and writing the bytes of a page.
-use Rattle.std.specs.Prelude.{ℕ, ◌≡◌, ◌≢◌, ◌<◌, ◌≤◌, List, length, Some, ◌+◌, true, ◌++◌, take, drop}
+use Rattle.std.specs.Prelude.{ℕ, ◌≡◌, ◌≢◌, ◌<◌, ◌≤◌, List, length, Some, ◌+◌, true, ◌++◌, take}
+use Rattle.std.specs.Prelude.{drop}
 use Rattle.warm_stamps.specs.declared.PageId.{PageId}
 use Rattle.warm_pool.specs.Frames.{nth_frame}
 use Rattle.warm_pool.specs.declared.slot.Slot.{Slot}
@@ -32,7 +33,8 @@ abbrev pub patched : List ℕ → ℕ → List ℕ → List ℕ
 patched old at bytes = take at old ++ bytes ++ drop (at + length bytes) old
 
 -- the bytes of the slot's page from `at` on are these, and no other byte of any page has changed
-pub record Written (old : PoolView) (slot : Slot) (at : ℕ) (put : List ℕ) (new : PoolView) : Type 0 where
+pub record Written (old : PoolView) (slot : Slot) (at : ℕ) (put : List ℕ)
+    (new : PoolView) : Type 0 where
   pub page : PageId
   pub holds : (frame_at old slot.index).page ≡ Some page
   pub within : at + length put ≤ old.page_size
@@ -42,7 +44,8 @@ pub record Written (old : PoolView) (slot : Slot) (at : ℕ) (put : List ℕ) (n
 
 -- these bytes from `at` on are not within a page, and nothing has changed
 abbrev pub WriteRefused : PoolState → ℕ → List ℕ → PoolFault → PoolState → Type 0
-WriteRefused old at put fault new = (fault ≡ OutOfPage) × (old.page_size < at + length put) × (new ≡ old)
+WriteRefused old at put fault new = (fault ≡ OutOfPage) × (old.page_size < at + length put)
+    × (new ≡ old)
 
 -- the slot's frame is dirty, and nothing else has changed
 pub record MakesDirty (old : PoolState) (slot : Slot) (new : PoolState) : Type 0 where

@@ -9,5 +9,6 @@ IsPlaceOf pages p None = (i : ℕ) → i < length pages → slice_index_or pages
 
 -- this is the first frame without a page, or there is none
 abbrev pub IsFirstFree : List (Option PageId) → Option ℕ → Type 0
-IsFirstFree pages (Some i) = (i < length pages) × (slice_index_or pages i None ≡ None) × ((j : ℕ) → j < i → slice_index_or pages j None ≢ None)
+IsFirstFree pages (Some i) = (i < length pages) × (slice_index_or pages i None ≡ None)
+    × ((j : ℕ) → j < i → slice_index_or pages j None ≢ None)
 IsFirstFree pages None = (i : ℕ) → i < length pages → slice_index_or pages i None ≢ None

@@ -1,6 +1,7 @@
 -- Pinning and loading: the frame for a page, the effect of a successful call, why a call is
 -- refused, and the steps of both.
-use Rattle.std.specs.Prelude.{ℕ, ◌≡◌, ◌↔◌, ◌≢◌, ◌<◌, ◌≤◌, false, List, [], length, Option, Some, None, ◌⊎◌, ◌+◌, ◌-◌, ◌^◌, true, set, Result, IfOk}
+use Rattle.std.specs.Prelude.{ℕ, ◌≡◌, ◌↔◌, ◌≢◌, ◌<◌, ◌≤◌, false, List, [], length, Option, Some}
+use Rattle.std.specs.Prelude.{None, ◌⊎◌, ◌+◌, ◌-◌, ◌^◌, true, set, Result, IfOk}
 use Rattle.warm_stamps.specs.declared.PageId.{PageId}
 use Rattle.warm_history.specs.Histories.{HistoryView, references_of}
 use Rattle.warm_pool.specs.Frames.{nth_frame}
@@ -8,10 +9,12 @@ use Rattle.warm_rank.specs.Ranking.{IsVictim}
 use Rattle.warm_pool.specs.declared.slot.Slot.{Slot}
 use Rattle.warm_pool.specs.declared.slot.Placed.{Placed}
 use Rattle.warm_pool.specs.declared.fault.PoolFault.{PoolFault}
-use Rattle.warm_pool.specs.declared.fault.PoolFault.TheVariants.{NoDevice, NoPage, AllFixed, ReadFault, WriteBack, FixesFull}
+use Rattle.warm_pool.specs.declared.fault.PoolFault.TheVariants.{NoDevice, NoPage, AllFixed}
+use Rattle.warm_pool.specs.declared.fault.PoolFault.TheVariants.{ReadFault, WriteBack, FixesFull}
 use Rattle.warm_rank.specs.declared.RankKey.{RankKey}
 use Rattle.warm_pool.specs.State.{PoolState, RankedBy, nth_device}
-use Rattle.warm_pool.specs.View.{PoolView, device_at, frame_at, view_of, HasPage, IsResident, IsAbsent, unfixed_pages}
+use Rattle.warm_pool.specs.View.{PoolView, device_at, frame_at, view_of, HasPage, IsResident}
+use Rattle.warm_pool.specs.View.{IsAbsent, unfixed_pages}
 use Rattle.warm_pool.specs.Keeping.{FailsAt, KeepsContents, KeepsOthers, KeepsBytes}
 use Rattle.warm_pool.specs.DeviceCalls.{failed_at}
 use Rattle.warm_pool.specs.WritingBack.{CleanFails, WaitsFor}
@@ -45,7 +48,8 @@ IsFrameToLoad h v (Some i) = IsLeastFree v i ⊎ IsVictimFrame h v i
 
 -- the next victim, according to every history that ranks the pool
 abbrev pub IsNextVictim : PoolState → Option PageId → Type 0
-IsNextVictim s page = (h : HistoryView) → RankedBy s h → IsVictim (references_of h) (unfixed_pages (view_of s)) page
+IsNextVictim s page = (h : HistoryView) → RankedBy s h
+    → IsVictim (references_of h) (unfixed_pages (view_of s)) page
 
 -- The effect of a successful call
 
@@ -59,7 +63,10 @@ pub record AddsFix (old : PoolView) (p : PageId) (slot : Slot) (new : PoolView) 
   pub resident : (frame_at old slot.index).page ≡ Some p
   pub below : (frame_at old slot.index).fixes < 2 ^ 32 - 1
   pub current : slot.generation ≡ (frame_at old slot.index).generation
-  pub becomes : new ≡ record old { frames = set old.frames slot.index (record (frame_at old slot.index) { fixes = (frame_at old slot.index).fixes + 1 }) }
+  pub becomes : new ≡ record old {
+    frames = set old.frames slot.index
+        (record (frame_at old slot.index) { fixes = (frame_at old slot.index).fixes + 1 });
+  }
 
 -- the page is in the slot's frame, and nothing has changed
 pub record StaysIn (old : PoolView) (p : PageId) (slot : Slot) (new : PoolView) : Type 0 where
@@ -69,12 +76,17 @@ pub record StaysIn (old : PoolView) (p : PageId) (slot : Slot) (new : PoolView) 
   pub same : new ≡ old
 
 -- the page was in no frame, and was loaded into the slot's frame with this pin count
-pub record PutsIn (h : HistoryView) (old : PoolView) (p : PageId) (fixes : ℕ) (slot : Slot) (new : PoolView) : Type 0 where
+pub record PutsIn (h : HistoryView) (old : PoolView) (p : PageId) (fixes : ℕ) (slot : Slot)
+    (new : PoolView) : Type 0 where
   pub absent : IsAbsent old p
   pub place : IsFrameToLoad h old (Some slot.index)
   pub below : (frame_at old slot.index).generation < 2 ^ 64 - 1
   pub current : slot.generation ≡ (frame_at old slot.index).generation + 1
-  pub becomes : new ≡ record old { frames = set old.frames slot.index (record { page = Some p; generation = slot.generation; fixes = fixes }); contents = new.contents }
+  pub becomes : new ≡ record old {
+    frames = set old.frames slot.index
+        (record { page = Some p; generation = slot.generation; fixes = fixes });
+    contents = new.contents;
+  }
   pub contents : KeepsContents old new
 
 abbrev pub Pinned : HistoryView → PoolView → PageId → Slot → PoolView → Type 0
@@ -93,7 +105,11 @@ pub record IsPlaced (old : PoolView) (p : PageId) (placed : Placed) (new : PoolV
 
 -- the pool after the slot's page lost one pin
 abbrev pub unpinned : PoolView → Slot → PoolView
-unpinned old slot = record old { frames = set old.frames slot.index (record (frame_at old slot.index) { fixes = (frame_at old slot.index).fixes - 1 }) }
+unpinned old slot =
+    record old {
+      frames = set old.frames slot.index
+          (record (frame_at old slot.index) { fixes = (frame_at old slot.index).fixes - 1 });
+    }
 
 -- A page that was resident leaves all bytes unchanged. A page that is loaded changes only the
 -- slot's frame, which is then clean, and leaves the devices unchanged unless that frame was dirty:
@@ -116,9 +132,12 @@ pub record CanComeIn (h : HistoryView) (old : PoolView) (i : ℕ) : Type 0 where
 -- greatest, the read failed, or the write-back of the victim failed
 abbrev pub PutRefused : HistoryView → PoolView → PageId → PoolFault → PoolView → Type 0
 PutRefused h old p AllFixed new = IsFrameToLoad h old None × (new ≡ old)
-PutRefused h old p FixesFull new = ((i : ℕ) × IsFrameToLoad h old (Some i) × ((frame_at old i).generation ≡ 2 ^ 64 - 1)) × (new ≡ old)
+PutRefused h old p FixesFull new =
+    ((i : ℕ) × IsFrameToLoad h old (Some i) × ((frame_at old i).generation ≡ 2 ^ 64 - 1))
+    × (new ≡ old)
 PutRefused h old p ReadFault new = ((i : ℕ) × CanComeIn h old i) × FailsAt old p.dev new
-PutRefused h old p WriteBack new = (i : ℕ) × (q : PageId) × CanComeIn h old i × ((frame_at old i).page ≡ Some q) × FailsAt old q.dev new
+PutRefused h old p WriteBack new = (i : ℕ) × (q : PageId) × CanComeIn h old i
+    × ((frame_at old i).page ≡ Some q) × FailsAt old q.dev new
 PutRefused h old p why new = ⊥
 
 -- the page is in a frame with the greatest pin count
@@ -130,11 +149,13 @@ pub record IsFixesFull (old : PoolView) (p : PageId) : Type 0 where
 
 abbrev pub LoadRefused : HistoryView → PoolView → PageId → PoolFault → PoolView → Type 0
 LoadRefused h old p NoDevice new = (length old.devices ≤ p.dev) × (new ≡ old)
-LoadRefused h old p NoPage new = (p.dev < length old.devices) × ((device_at old p.dev).pages ≤ p.no) × (new ≡ old)
+LoadRefused h old p NoPage new = (p.dev < length old.devices) × ((device_at old p.dev).pages ≤ p.no)
+    × (new ≡ old)
 LoadRefused h old p why new = HasPage old p × IsAbsent old p × PutRefused h old p why new
 
 abbrev pub PinRefused : HistoryView → PoolView → PageId → PoolFault → PoolView → Type 0
-PinRefused h old p FixesFull new = (HasPage old p × IsFixesFull old p × (new ≡ old)) ⊎ LoadRefused h old p FixesFull new
+PinRefused h old p FixesFull new = (HasPage old p × IsFixesFull old p × (new ≡ old))
+    ⊎ LoadRefused h old p FixesFull new
 PinRefused h old p why new = LoadRefused h old p why new
 
 -- The page of the frame into which a page would be loaded is dirty. A write of it was attempted:
@@ -160,22 +181,34 @@ LeavesDevices h old p why new = new.devices ≡ old.devices
 -- the page of the frame has one more pin; or its pin count is the greatest, and nothing has changed
 abbrev pub FixesPage : PoolState → ℕ → Result Placed PoolFault → PoolState → Type 0
 FixesPage old i result new =
-    (p : PageId) → (nth_frame old.frames i).page ≡ Some p → IfOk result (λ placed. AddsFix (view_of old) p placed.slot (view_of new))
+    (p : PageId) → (nth_frame old.frames i).page ≡ Some p
+    → IfOk result (λ placed. AddsFix (view_of old) p placed.slot (view_of new))
 
 abbrev pub FixRefused : PoolState → ℕ → PoolFault → PoolState → Type 0
-FixRefused old i fault new = (fault ≡ FixesFull) × ((nth_frame old.frames i).fixes ≡ 2 ^ 32 - 1) × (new ≡ old)
+FixRefused old i fault new = (fault ≡ FixesFull) × ((nth_frame old.frames i).fixes ≡ 2 ^ 32 - 1)
+    × (new ≡ old)
 
 -- the frame into which a page is loaded, according to every history that ranks the pool
 abbrev pub IsNextFrameToLoad : PoolState → Option ℕ → Type 0
 IsNextFrameToLoad s place = (h : HistoryView) → RankedBy s h → IsFrameToLoad h (view_of s) place
 
 -- the page is in the frame, with its device's bytes, this rank and this pin count
-pub record LoadsInto (old : PoolState) (i : ℕ) (p : PageId) (key : RankKey) (n : ℕ) (new : PoolState) : Type 0 where
+pub record LoadsInto (old : PoolState) (i : ℕ) (p : PageId) (key : RankKey) (n : ℕ)
+    (new : PoolState) : Type 0 where
   pub bytes : List ℕ
-  pub frames : new.frames ≡ set old.frames i (record { page = Some p; key = Some key; generation = (nth_frame old.frames i).generation + 1; fixes = n; dirty = false; bytes = bytes })
+  pub frames : new.frames
+      ≡ set old.frames i (record {
+        page = Some p;
+        key = Some key;
+        generation = (nth_frame old.frames i).generation + 1;
+        fixes = n;
+        dirty = false;
+        bytes = bytes;
+      })
   pub devices : (nth_frame old.frames i).dirty ≡ false → new.devices ≡ old.devices
   pub waits : WaitsFor old i new.devices
-  pub rest : view_of new ≡ record (view_of old) { frames = (view_of new).frames; contents = (view_of new).contents }
+  pub rest : view_of new
+      ≡ record (view_of old) { frames = (view_of new).frames; contents = (view_of new).contents }
   pub contents : KeepsContents (view_of old) (view_of new)
 
 -- the page was not read: a failure of its device is counted, and nothing else has changed

@@ -1,13 +1,16 @@
 -- Emptying a pool, closing it, and retiring a device: why a call is refused, its effect, and the
 -- steps of its body.
-use Rattle.std.specs.Prelude.{ℕ, ◌≡◌, ◌≢◌, ◌<◌, ◌≤◌, false, IsTrue, List, [], map, length, Option, None, if◌then◌else◌, set}
+use Rattle.std.specs.Prelude.{ℕ, ◌≡◌, ◌≢◌, ◌<◌, ◌≤◌, false, IsTrue, List, [], map, length, Option}
+use Rattle.std.specs.Prelude.{None, if◌then◌else◌, set}
 use Rattle.warm_stamps.specs.declared.PageId.{PageId}
 use Rattle.warm_devices.specs.Device.{DeviceState, page_at}
 use Rattle.warm_pool.specs.Frames.{FrameState, nth_frame, vacated}
 use Rattle.warm_pool.specs.declared.fault.PoolFault.{PoolFault}
-use Rattle.warm_pool.specs.declared.fault.PoolFault.TheVariants.{SizeDiffers, NoDevice, Fixed, Fault}
+use Rattle.warm_pool.specs.declared.fault.PoolFault.TheVariants.{SizeDiffers, NoDevice, Fixed}
+use Rattle.warm_pool.specs.declared.fault.PoolFault.TheVariants.{Fault}
 use Rattle.warm_pool.specs.State.{PoolState, nth_device}
-use Rattle.warm_pool.specs.View.{FrameView, PoolView, frame_at, contents_at, device_view, view_of, HasPage, IsFixed, IsUnfixed}
+use Rattle.warm_pool.specs.View.{FrameView, PoolView, frame_at, contents_at, device_view, view_of}
+use Rattle.warm_pool.specs.View.{HasPage, IsFixed, IsUnfixed}
 use Rattle.warm_pool.specs.Keeping.{FailsAt, KeepsContents}
 use Rattle.warm_pool.specs.WritingBack.{WriteBackFails, is_on, selects, WritesBackAll}
 use Rattle.warm_pool.specs.declared.selection.Devices.{Devices}
@@ -48,8 +51,10 @@ pub record MayRetire (v : PoolView) (dev : ℕ) (device : DeviceState) : Type 0 
 
 abbrev pub RetireRefused : PoolView → ℕ → DeviceState → PoolFault → PoolView → Type 0
 RetireRefused old dev device NoDevice new = (length old.devices ≤ dev) × (new ≡ old)
-RetireRefused old dev device SizeDiffers new = (dev < length old.devices) × (device.page_size ≢ old.page_size) × (new ≡ old)
-RetireRefused old dev device Fixed new = (dev < length old.devices) × (device.page_size ≡ old.page_size) × IsFixedOn old dev × (new ≡ old)
+RetireRefused old dev device SizeDiffers new = (dev < length old.devices)
+    × (device.page_size ≢ old.page_size) × (new ≡ old)
+RetireRefused old dev device Fixed new = (dev < length old.devices)
+    × (device.page_size ≡ old.page_size) × IsFixedOn old dev × (new ≡ old)
 RetireRefused old dev device Fault new = MayRetire old dev device × FailsAt old dev new
 RetireRefused old dev device why new = ⊥
 
@@ -63,12 +68,15 @@ pub record Retired (old : PoolView) (dev : ℕ) (device : DeviceState) (new : Po
     contents = new.contents;
     failures = set old.failures dev device.failures;
   }
-  pub contents : (n : ℕ) → n < device.pages → contents_at new (record { dev = dev; no = n }) ≡ if device.honest then page_at device.contents n else []
+  pub contents : (n : ℕ) → n < device.pages
+      → contents_at new (record { dev = dev; no = n })
+      ≡ if device.honest then page_at device.contents n else []
   pub others : (p : PageId) → HasPage old p → p.dev ≢ dev → contents_at new p ≡ contents_at old p
 
 -- each frame whose page is not of device dev is unchanged
 abbrev pub KeepsElsewhere : ℕ → PoolState → PoolState → Type 0
-KeepsElsewhere dev old new = (i : ℕ) → is_on dev (nth_frame old.frames i).page ≡ false → nth_frame new.frames i ≡ nth_frame old.frames i
+KeepsElsewhere dev old new = (i : ℕ) → is_on dev (nth_frame old.frames i).page ≡ false
+    → nth_frame new.frames i ≡ nth_frame old.frames i
 
 -- The steps of both
 
@@ -91,11 +99,13 @@ pub record IsFixedIn (which : Devices) (frames : List FrameState) : Type 0 where
   pub fixed : 0 < (nth_frame frames frame).fixes
 
 abbrev pub AreUnfixed : Devices → List FrameState → Type 0
-AreUnfixed which frames = (i : ℕ) → IsTrue (selects which (nth_frame frames i).page) → (nth_frame frames i).fixes ≡ 0
+AreUnfixed which frames = (i : ℕ) → IsTrue (selects which (nth_frame frames i).page)
+    → (nth_frame frames i).fixes ≡ 0
 
 -- each selected frame is clean
 abbrev pub AreClean : Devices → List FrameState → Type 0
-AreClean which frames = (i : ℕ) → IsTrue (selects which (nth_frame frames i).page) → (nth_frame frames i).dirty ≡ false
+AreClean which frames = (i : ℕ) → IsTrue (selects which (nth_frame frames i).page)
+    → (nth_frame frames i).dirty ≡ false
 
 -- device dev may be replaced by one with pages of this size: none of its pages is pinned, they were
 -- written back, and it is flushed
@@ -108,4 +118,5 @@ pub record PreparesRetire (old : PoolState) (dev page_size : ℕ) (new : PoolSta
 
 -- the pool after another device has replaced device dev
 abbrev pub retired : PoolState → ℕ → DeviceState → PoolState
-retired s dev device = record s { frames = vacated_selected (One dev) s.frames; devices = set s.devices dev device }
+retired s dev device =
+    record s { frames = vacated_selected (One dev) s.frames; devices = set s.devices dev device }

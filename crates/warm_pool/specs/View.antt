@@ -1,5 +1,6 @@
 -- What a caller sees of a pool, and how it follows from the pool's state.
-use Rattle.std.specs.Prelude.{ℕ, ◌≡◌, ◌≢◌, ◌<◌, ◌==◌, ◌&&◌, Bool, false, List, [], ◌∷◌, map, length, Option, Some, None, slice_index_or, if◌then◌else◌}
+use Rattle.std.specs.Prelude.{ℕ, ◌≡◌, ◌≢◌, ◌<◌, ◌==◌, ◌&&◌, Bool, false, List, [], ◌∷◌, map, length}
+use Rattle.std.specs.Prelude.{Option, Some, None, slice_index_or, if◌then◌else◌}
 use Rattle.std.specs.List.{range_with_len}
 use Rattle.warm_stamps.specs.declared.PageId.{PageId}
 use Rattle.warm_devices.specs.Device.{DeviceState, page_at}
@@ -58,7 +59,9 @@ bytes_in (f ∷ fs) p others = if is_page p f.page then f.bytes else bytes_in fs
 
 -- the bytes of a page on its device, where the device is honest
 abbrev pub stored : List DeviceState → PageId → List ℕ
-stored devices p = if (nth_device devices p.dev).honest then page_at (nth_device devices p.dev).contents p.no else []
+stored devices p =
+    if (nth_device devices p.dev).honest then page_at (nth_device devices p.dev).contents p.no
+    else []
 
 abbrev pub bytes_of : List FrameState → List DeviceState → PageId → List ℕ
 bytes_of frames devices p = bytes_in frames p (stored devices p)
@@ -66,7 +69,8 @@ bytes_of frames devices p = bytes_in frames p (stored devices p)
 -- the bytes of each page of each device
 abbrev pub contents_of : List FrameState → List DeviceState → List (List (List ℕ))
 contents_of frames devices =
-    map (λ k. map (λ n. bytes_of frames devices (record { dev = k; no = n })) (range_with_len 0 (nth_device devices k).pages))
+    map (λ k. map (λ n. bytes_of frames devices (record { dev = k; no = n }))
+    (range_with_len 0 (nth_device devices k).pages))
     (range_with_len 0 (length devices))
 
 abbrev pub frame_view : FrameState → FrameView

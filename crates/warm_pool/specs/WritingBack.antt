@@ -1,5 +1,6 @@
 -- Writing back: the page of one frame, those of the selected frames, and those of all frames.
-use Rattle.std.specs.Prelude.{ℕ, ◌≡◌, ◌≢◌, ◌<◌, ◌≤◌, ◌==◌, Bool, false, IsTrue, List, map, length, Option, Some, None, if◌then◌else◌, true, ◌++◌, take, drop, set}
+use Rattle.std.specs.Prelude.{ℕ, ◌≡◌, ◌≢◌, ◌<◌, ◌≤◌, ◌==◌, Bool, false, IsTrue, List, map, length}
+use Rattle.std.specs.Prelude.{Option, Some, None, if◌then◌else◌, true, ◌++◌, take, drop, set}
 use Rattle.warm_stamps.specs.declared.PageId.{PageId}
 use Rattle.warm_devices.specs.Device.{DeviceState, SameShape}
 use Rattle.warm_pool.specs.Frames.{FrameState, nth_frame, cleaned}
@@ -22,8 +23,11 @@ pub record WriteBackFails (old new : PoolState) : Type 0 where
   pub device : ℕ
   pub frames : new.frames ≡ cleaned_to written old.frames
   pub first : written < length old.frames
-      → ((nth_frame old.frames written).dirty ≡ true) × ((p : PageId) × ((nth_frame old.frames written).page ≡ Some p) × (p.dev ≡ device))
-  pub all : length old.frames ≤ written → ((k : ℕ) → k < device → (nth_device new.devices k).waiting ≡ false) × ((nth_device new.devices device).waiting ≡ true)
+      → ((nth_frame old.frames written).dirty ≡ true)
+      × ((p : PageId) × ((nth_frame old.frames written).page ≡ Some p) × (p.dev ≡ device))
+  pub all : length old.frames ≤ written
+      → ((k : ℕ) → k < device → (nth_device new.devices k).waiting ≡ false)
+      × ((nth_device new.devices device).waiting ≡ true)
   pub fails : FailsAt (view_of old) device (view_of new)
 
 -- The page of one frame
@@ -34,12 +38,14 @@ pub record KeptDevices (frames : List FrameState) (old new : List DeviceState) :
   pub count : length new ≡ length old
   pub shape : (k : ℕ) → SameShape (nth_device old k) (nth_device new k)
   pub absent : (p : PageId) → IsNowhere frames p → stored new p ≡ stored old p
-  pub clean : (i : ℕ) (p : PageId) → (nth_frame frames i).page ≡ Some p → (nth_frame frames i).dirty ≡ false → stored new p ≡ stored old p
+  pub clean : (i : ℕ) (p : PageId) → (nth_frame frames i).page ≡ Some p
+      → (nth_frame frames i).dirty ≡ false → stored new p ≡ stored old p
 
 -- where the frame is dirty, the device of its page is unflushed
 abbrev pub WaitsFor : PoolState → ℕ → List DeviceState → Type 0
 WaitsFor old i devices =
-    (nth_frame old.frames i).dirty ≡ true → (p : PageId) → (nth_frame old.frames i).page ≡ Some p → (nth_device devices p.dev).waiting ≡ true
+    (nth_frame old.frames i).dirty ≡ true → (p : PageId) → (nth_frame old.frames i).page ≡ Some p
+    → (nth_device devices p.dev).waiting ≡ true
 
 -- The page of the frame is written back, and nothing has changed for a caller. The device of a page
 -- that was written is unflushed until its next flush.
@@ -89,14 +95,17 @@ pub record WritesBack (frames : List FrameState) (old new : PoolState) : Type 0 
 
 -- the pages of all selected frames were written back; that of one frame was, where it is selected
 abbrev pub WritesBackAll : Devices → PoolState → PoolState → Type 0
-WritesBackAll which old new = WritesBack (cleaned_selected which (length old.frames) old.frames) old new
+WritesBackAll which old new =
+    WritesBack (cleaned_selected which (length old.frames) old.frames) old new
 
 abbrev pub WritesBackOne : Devices → PoolState → ℕ → PoolState → Type 0
-WritesBackOne which old i new = WritesBack (set old.frames i (clean_if which (nth_frame old.frames i))) old new
+WritesBackOne which old i new =
+    WritesBack (set old.frames i (clean_if which (nth_frame old.frames i))) old new
 
 -- the write of the page of a selected frame failed
 abbrev pub SelectedFails : Devices → PoolState → ℕ → PoolState → Type 0
-SelectedFails which old i new = IsTrue (selects which (nth_frame old.frames i).page) × CleanFails old i new
+SelectedFails which old i new = IsTrue (selects which (nth_frame old.frames i).page)
+    × CleanFails old i new
 
 -- the write of the page of one selected frame failed, those of the selected frames before it
 -- succeeded

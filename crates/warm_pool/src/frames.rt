@@ -1,9 +1,13 @@
 //! The frames of a pool, without its devices.
-ghost use Rattle.std.specs.Prelude.{◌≡◌, ◌≢◌, None, ◌+◌, ◌-◌, ◌^◌, ◌<◌, ◌≤◌, map, length, replicate, IfOk};
+ghost use Rattle.std.specs.Prelude.{◌≡◌, ◌≢◌, None, ◌+◌, ◌-◌, ◌^◌, ◌<◌, ◌≤◌, map, length};
+ghost use Rattle.std.specs.Prelude.{replicate, IfOk};
 ghost use Rattle.warm_rank.specs.Keys.{key_cmp};
 ghost use Rattle.warm_rank.specs.Slots.{IsLeast};
-ghost use Rattle.warm_pool.specs.Frames.{nth_frame, fresh_body, unused_status, eviction_key, cleaned};
-ghost use Rattle.warm_pool.specs.FrameSteps.{fresh_frames, fresh_bodies, pages_held, changed_at, fixed, unfixed, ranked, loaded_frame, filled_body, written};
+ghost use Rattle.warm_pool.specs.Frames.{nth_frame, fresh_body, unused_status, eviction_key};
+ghost use Rattle.warm_pool.specs.Frames.{cleaned};
+ghost use Rattle.warm_pool.specs.FrameSteps.{fresh_frames, fresh_bodies, pages_held, changed_at};
+ghost use Rattle.warm_pool.specs.FrameSteps.{fixed, unfixed, ranked, loaded_frame, filled_body};
+ghost use Rattle.warm_pool.specs.FrameSteps.{written};
 ghost use Rattle.warm_pool.specs.PageBytes.{patched};
 ghost use Rattle.warm_pool.specs.PageTable.{IsPlaceOf, IsFirstFree};
 ghost use Rattle.warm_pool.specs.Retiring.{AreClean, vacated_selected};

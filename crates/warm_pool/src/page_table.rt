@@ -4,8 +4,11 @@
 //! chains as there are frames, and the frames without a page are in a chain of their own. A link is
 //! the number of the next frame, and the number of frames ends a chain. All memory is allocated
 //! when the frames are made.
-ghost use Rattle.std.specs.Prelude.{◌≡◌, ℕ, List, ◌+◌, ◌<◌, ◌≤◌, length, map, replicate, set, slice_index, IfOk, IsTrue, None, Some, ◌↔◌};
-ghost use Rattle.warm_pool.specs.Chains.{AreChains, AreInTurn, AreLinked, IsPredecessor, after, chain_of, chains_of, hash_of, heads_with_link, link_after, chains_without, mix_of, next_with_link, page_in};
+ghost use Rattle.std.specs.Prelude.{◌≡◌, ℕ, List, ◌+◌, ◌<◌, ◌≤◌, length, map, replicate, set};
+ghost use Rattle.std.specs.Prelude.{slice_index, IfOk, IsTrue, None, Some, ◌↔◌};
+ghost use Rattle.warm_pool.specs.Chains.{AreChains, AreInTurn, AreLinked, IsPredecessor, after};
+ghost use Rattle.warm_pool.specs.Chains.{chain_of, chains_of, hash_of, heads_with_link, link_after};
+ghost use Rattle.warm_pool.specs.Chains.{chains_without, mix_of, next_with_link, page_in};
 ghost use Rattle.warm_pool.specs.PageTable.{IsFirstFree, IsPlaceOf};
 ghost use Rattle.warm_pool.specs.Retiring.{clear_if};
 

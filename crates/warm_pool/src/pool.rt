@@ -1,18 +1,27 @@
 //! The pool.
-ghost use Rattle.std.specs.Prelude.{◌≡◌, ◌≢◌, ◌↔◌, ◌+◌, ◌-◌, ◌^◌, ◌<◌, ◌≤◌, map, length, true, false, Some, None, MatchResult, OnOk, OnErr, IfOk, IfErr, IfSome, IsTrue};
+ghost use Rattle.std.specs.Prelude.{◌≡◌, ◌≢◌, ◌↔◌, ◌+◌, ◌-◌, ◌^◌, ◌<◌, ◌≤◌, map, length, true};
+ghost use Rattle.std.specs.Prelude.{false, Some, None, MatchResult, OnOk, OnErr, IfOk, IfErr};
+ghost use Rattle.std.specs.Prelude.{IfSome, IsTrue};
 ghost use Rattle.warm_stamps.specs.declared.PageId.{PageId};
 ghost use Rattle.warm_history.specs.Histories.{HistoryView, hist, references_of};
 ghost use Rattle.warm_rank.specs.Keys.{rank_key};
 ghost use Rattle.warm_pool.specs.Frames.{nth_frame};
 ghost use Rattle.warm_pool.specs.FrameSteps.{fresh_frames};
-ghost use Rattle.warm_pool.specs.State.{PoolState, IsPool, pool_over, RankedBy, IsRankedByAll, IsNowhere, fresh_pool, nth_device};
+ghost use Rattle.warm_pool.specs.State.{PoolState, IsPool, pool_over, RankedBy, IsRankedByAll};
+ghost use Rattle.warm_pool.specs.State.{IsNowhere, fresh_pool, nth_device};
 ghost use Rattle.warm_pool.specs.View.{view_of, HasPage, IsResident, Holds};
-ghost use Rattle.warm_pool.specs.Keeping.{SameButFailures, KeepsRanks, KeepsBytes, KeepsFrames, KeepsOthers};
+ghost use Rattle.warm_pool.specs.Keeping.{SameButFailures, KeepsRanks, KeepsBytes, KeepsFrames};
+ghost use Rattle.warm_pool.specs.Keeping.{KeepsOthers};
 ghost use Rattle.warm_pool.specs.Opening.{IsUpTo, IsSize, NewPoolRefused};
 ghost use Rattle.warm_pool.specs.WritingBack.{Cleans, CleanFails};
-ghost use Rattle.warm_pool.specs.Pinning.{Pinned, PinRefused, Loaded, IsPlaced, LoadRefused, PutsIn, PutRefused, unpinned, current_slot, IsNextVictim, LoadsInto, LoadFails, FixesPage, FixRefused, IsNextFrameToLoad, TakesFrame, LeavesDevices};
-ghost use Rattle.warm_pool.specs.PageBytes.{IsLent, IsRead, ReadRefused, Written, WriteRefused, MakesDirty};
-ghost use Rattle.warm_pool.specs.Refreshing.{UpdatesRank, UpdatesRankIn, UpdatesNamedRanks, RefreshesRanks, KeepsOtherRanks};
+ghost use Rattle.warm_pool.specs.Pinning.{Pinned, PinRefused, Loaded, IsPlaced, LoadRefused};
+ghost use Rattle.warm_pool.specs.Pinning.{PutsIn, PutRefused, unpinned, current_slot, IsNextVictim};
+ghost use Rattle.warm_pool.specs.Pinning.{LoadsInto, LoadFails, FixesPage, FixRefused};
+ghost use Rattle.warm_pool.specs.Pinning.{IsNextFrameToLoad, TakesFrame, LeavesDevices};
+ghost use Rattle.warm_pool.specs.PageBytes.{IsLent, IsRead, ReadRefused, Written, WriteRefused};
+ghost use Rattle.warm_pool.specs.PageBytes.{MakesDirty};
+ghost use Rattle.warm_pool.specs.Refreshing.{UpdatesRank, UpdatesRankIn, UpdatesNamedRanks};
+ghost use Rattle.warm_pool.specs.Refreshing.{RefreshesRanks, KeepsOtherRanks};
 ghost use Rattle.warm_pool.specs.declared.fault.PoolFault.TheVariants.{OutOfPage, FixesFull};
 
 use crate::MAX_DEVICES;
