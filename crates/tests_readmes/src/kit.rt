@@ -5,7 +5,8 @@ use std::process::Abort;
 use test_kit::{history_of, page, twice};
 
 fn one_call(rt: &impl Abort, alloc: Global) -> Result<()> {
-    let history = history_of(alloc, &[(0, 1, 10, 1), (0, 1, 20, 1)])?; // device, page, time, replica
+    // device, page, time, replica
+    let history = history_of(alloc, &[(0, 1, 10, 1), (0, 1, 20, 1)])?;
     assert!(rt; history.get(page(1)) == Some(twice((20, 1), (10, 1))));
     Ok(())
 }
