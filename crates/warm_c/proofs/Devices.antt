@@ -11,7 +11,8 @@ use Rattle.warm_c.specs.FdParts.{fd_opened, fd_state}
 use Rattle.warm_c.specs.Handles.{AreDevices, IsClash, DevicesRefused, fd_devices}
 
 -- devices that may be opened, each by itself, but not together
-pub clash_refuses : (page_size : ℕ) (devices : List WarmDevice) (why : Refusal) → AreDevices page_size devices → IsClash devices why → DevicesRefused page_size devices why
+pub clash_refuses : (page_size : ℕ) (devices : List WarmDevice) (why : Refusal)
+    → AreDevices page_size devices → IsClash devices why → DevicesRefused page_size devices why
 clash_refuses page_size devices (Node Memory) are clash = tt
 clash_refuses page_size devices (Node (Pool _)) are clash = absurd clash
 clash_refuses page_size devices (Node StaleSlot) are clash = absurd clash
@@ -27,18 +28,22 @@ clash_refuses page_size devices (Late _) are clash = absurd clash
 clash_refuses page_size devices (Dump _) are clash = absurd clash
 
 -- what holds of the first i devices, and of the next one, holds of the first i + 1
-pub contains_next : (ds : List WarmDevice) (i : ℕ) (x : WarmDevice) (P : WarmDevice → Type 0) → i < length ds → ((d : WarmDevice) → Contains (take i ds) d → P d)
+pub contains_next : (ds : List WarmDevice) (i : ℕ) (x : WarmDevice) (P : WarmDevice → Type 0)
+    → i < length ds → ((d : WarmDevice) → Contains (take i ds) d → P d)
     → P (get_or ds i x) → (d : WarmDevice) → Contains (take (i + 1) ds) d → P d
 contains_next ds i x P below so next d has =
     ⊎_elim (so d) (λ is. subst P is next) (Contains-push_cases (take i ds) (get_or ds i x) d (subst (λ (l : List WarmDevice). Contains l d) (rw add-one (take-suc ds i x below)) has))
 
-map_push : {A B : Type 0} (f : A → B) (xs : List A) (x : A) → map f (xs ++ x ∷ []) ≡ map f xs ++ f x ∷ []
+map_push : {A B : Type 0} (f : A → B) (xs : List A) (x : A)
+    → map f (xs ++ x ∷ []) ≡ map f xs ++ f x ∷ []
 map_push f [] x = refl
 map_push f (y ∷ ys) x = ap (λ rest. f y ∷ rest) (map_push f ys x)
 
 -- one more device is made, over the descriptor of the next
-pub made_next : (ds : List WarmDevice) (i : ℕ) (x : WarmDevice) (page_size : ℕ) (made : List FdDevice) (device : FdDevice) (fd : ℤ) → i < length ds
-    → map fd_state made ≡ fd_devices page_size (take i ds) → fd ≡ (get_or ds i x).fd → fd_state device ≡ fd_opened fd (get_or ds i x).pages page_size
+pub made_next : (ds : List WarmDevice) (i : ℕ) (x : WarmDevice) (page_size : ℕ)
+    (made : List FdDevice) (device : FdDevice) (fd : ℤ) → i < length ds
+    → map fd_state made ≡ fd_devices page_size (take i ds) → fd ≡ (get_or ds i x).fd
+    → fd_state device ≡ fd_opened fd (get_or ds i x).pages page_size
     → map fd_state (made ++ device ∷ []) ≡ fd_devices page_size (take (i + 1) ds)
 made_next ds i x page_size made device fd below so same opened =
     let shown : WarmDevice → DeviceState = λ d. fd_opened d.fd d.pages page_size in

@@ -8,13 +8,16 @@ use Rattle.warm_c.specs.Calls.{Ending}
 use Rattle.warm_c.specs.Handles.{OpenRequest, Called, OpenRefused, Opens}
 
 -- an open handle, which holds something before and after
-pub called : (goes : OpenNode → Ending → OpenNode → Type 0) (before after : Option OpenNode) (status : ℤ) (old new : OpenNode) (ending : Ending)
-    → before ≡ Some old → after ≡ Some new → goes old ending new → status ≡ status_of ending → Called goes before status after
+pub called : (goes : OpenNode → Ending → OpenNode → Type 0) (before after : Option OpenNode)
+    (status : ℤ) (old new : OpenNode) (ending : Ending)
+    → before ≡ Some old → after ≡ Some new → goes old ending new → status ≡ status_of ending
+    → Called goes before status after
 called goes before after status old new ending was is went said =
     subst (λ (o : Option OpenNode). Called goes o status after) (sym was) (subst (λ (o : Option OpenNode). Called goes (Some old) status o) (sym is) (ending, went, said))
 
 -- a closed one of which none was made
 pub open_refused : (a : OpenRequest) (before after : Option OpenNode) (status : ℤ) (why : Refusal)
-    → before ≡ None → after ≡ None → status ≡ pos (code_of why) → OpenRefused a why → Opens a before status after
+    → before ≡ None → after ≡ None → status ≡ pos (code_of why) → OpenRefused a why
+    → Opens a before status after
 open_refused a before after status why was is said for =
     subst (λ (o : Option OpenNode). Opens a o status after) (sym was) (subst (λ (o : Option OpenNode). Opens a None status o) (sym is) (why, said, for))

@@ -12,22 +12,26 @@ use Rattle.warm_c.specs.Handles.{AllDiffer}
 use Rattle.warm_c.specs.Values.{with_some}
 
 -- a text and its zero byte in a buffer that has room for both
-pub text_fits : (text buffer : List ℕ) → length text < length buffer → set (text ++ drop (length text) buffer) (length text) 0 ≡ with_some (text ++ 0 ∷ []) buffer
+pub text_fits : (text buffer : List ℕ) → length text < length buffer
+    → set (text ++ drop (length text) buffer) (length text) 0 ≡ with_some (text ++ 0 ∷ []) buffer
 text_fits [] [] fits = absurd (omega arith)
 text_fits [] (b ∷ bs) fits = refl
 text_fits (x ∷ xs) [] fits = absurd (omega arith)
 text_fits (x ∷ xs) (b ∷ bs) fits = ap (λ (ys : List ℕ). x ∷ ys) (text_fits xs bs (omega arith))
 
 -- a text in a buffer that has no room for its zero byte
-pub text_cut : (text buffer : List ℕ) → length buffer ≤ length text → take (length buffer) text ≡ with_some (text ++ 0 ∷ []) buffer
+pub text_cut : (text buffer : List ℕ) → length buffer ≤ length text
+    → take (length buffer) text ≡ with_some (text ++ 0 ∷ []) buffer
 text_cut [] [] over = refl
 text_cut [] (b ∷ bs) over = absurd (omega arith)
 text_cut (x ∷ xs) [] over = refl
 text_cut (x ∷ xs) (b ∷ bs) over = ap (λ (ys : List ℕ). x ∷ ys) (text_cut xs bs (omega arith))
 
 -- a set has as many items as the list that it is made of exactly where no two are equal
-module _ {K : Type 0} {R : K → K → Ordering} (order : IsTotalOrder R) (same : (x y : K) → Decides (eq_by_cmp R x y) (x ≡ y)) where
-  pub set_decides : (xs : List K) (made : BTreeSet K) → IsFromIterResult R xs made → Decides (eqb (btree_set_len made) (length xs)) (AllDiffer xs)
+module _ {K : Type 0} {R : K → K → Ordering} (order : IsTotalOrder R)
+    (same : (x y : K) → Decides (eq_by_cmp R x y) (x ≡ y)) where
+  pub set_decides : (xs : List K) (made : BTreeSet K) → IsFromIterResult R xs made
+      → Decides (eqb (btree_set_len made) (length xs)) (AllDiffer xs)
   set_decides xs made from =
       let laws = eq_by_cmp_equiv order in
       let count = btree_set_len-from_list order xs made from in (
@@ -47,8 +51,10 @@ same_integer x y = (
   λ e. subst (λ z. is_eq (int_cmp x z) ≡ true) e (ap is_eq (tied_itself int_cmp_total x)),
 )
 
-pub numbers_decide : (xs : List ℕ) (made : BTreeSet ℕ) → IsFromIterResult nat_cmp xs made → Decides (eqb (btree_set_len made) (length xs)) (AllDiffer xs)
+pub numbers_decide : (xs : List ℕ) (made : BTreeSet ℕ) → IsFromIterResult nat_cmp xs made
+    → Decides (eqb (btree_set_len made) (length xs)) (AllDiffer xs)
 numbers_decide = set_decides nat_cmp_total same_number
 
-pub integers_decide : (xs : List ℤ) (made : BTreeSet ℤ) → IsFromIterResult int_cmp xs made → Decides (eqb (btree_set_len made) (length xs)) (AllDiffer xs)
+pub integers_decide : (xs : List ℤ) (made : BTreeSet ℤ) → IsFromIterResult int_cmp xs made
+    → Decides (eqb (btree_set_len made) (length xs)) (AllDiffer xs)
 integers_decide = set_decides int_cmp_total same_integer

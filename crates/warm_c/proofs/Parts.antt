@@ -31,11 +31,15 @@ abbrev pub pair : Val → Val → Val
 pair v w = vstruct (vcons v (vcons w vnil))
 
 -- what a struct of two fields is made of, once each field is known
-pub pair_is : (whole first second : List Val) (v w : Val) → whole ≡ vstruct (of_list (first ++ (second ++ []))) ∷ [] → first ≡ v ∷ [] → second ≡ w ∷ [] → whole ≡ pair v w ∷ []
+pub pair_is : (whole first second : List Val) (v w : Val)
+    → whole ≡ vstruct (of_list (first ++ (second ++ []))) ∷ [] → first ≡ v ∷ [] → second ≡ w ∷ []
+    → whole ≡ pair v w ∷ []
 pair_is whole first second v w made one other = made ∙ (λ i. vstruct (of_list (one i ++ (other i ++ []))) ∷ [])
 
 -- the same, where the first is a pointer that is known to point into a block
-pub pointer_is : (whole first second : List Val) (p : Ptr) (b o : ℕ) (w : Val) → whole ≡ vstruct (of_list (first ++ (second ++ []))) ∷ [] → first ≡ ptr_val p ∷ [] → p ≡ block_ptr b o → second ≡ w ∷ []
+pub pointer_is : (whole first second : List Val) (p : Ptr) (b o : ℕ) (w : Val)
+    → whole ≡ vstruct (of_list (first ++ (second ++ []))) ∷ [] → first ≡ ptr_val p ∷ []
+    → p ≡ block_ptr b o → second ≡ w ∷ []
     → whole ≡ pair (vptr b o) w ∷ []
 pointer_is whole first second p b o w made one into other = pair_is whole first second (vptr b o) w made (one ∙ ap (λ (q : Ptr). ptr_val q ∷ []) into) other
 
@@ -47,15 +51,19 @@ module _ (X A : RattleType) (laws : Laws A) (ghosts : Ghosts A.Denot) where
   abbrev handler : Al
   handler = record { row = A; laws = laws; g = ghosts; d = impl [] tnil dnil; drops = impl [] tnil dnil }
 
-  pub pair_typed : (b o : ℕ) (w : Val) → Good (layout A) w → T (has_ty (layout A) w && true) × WT (pair (vptr b o) w)
+  pub pair_typed : (b o : ℕ) (w : Val) → Good (layout A) w
+      → T (has_ty (layout A) w && true) × WT (pair (vptr b o) w)
   pair_typed b o w good = (and_tt (has_ty (layout A) w) good.0, (tt, (good.1, tt)))
 
-  module _ {M : Type 1} {𝓤 : Ura M} {𝓛 : Logic 𝓤} {K : Type 0} {Γ : List (Item 𝓤)} {G : Goal 𝓤 𝓛.H} where
+  module _ {M : Type 1} {𝓤 : Ura M} {𝓛 : Logic 𝓤} {K : Type 0} {Γ : List (Item 𝓤)}
+      {G : Goal 𝓤 𝓛.H} where
     -- opens one: its pointer points into a block, which is owned with the value there, and beside
     -- it is the allocator
     pub opened : K → (l : Apart.Denot) (vs : List Val)
-        → ((b o : ℕ) (w : Val) → l.pointer ≡ block_ptr b o → vs ≡ pair (vptr b o) w ∷ [] → Good (layout A) w
-        → Seq K 𝓛 (‵ (box_owns (ghosts.dealloc_token l.allocator) X (block_ptr b o) l.content) ∷ ‵ (A.own_val l.allocator (w ∷ [])) ∷ Γ) G)
+        → ((b o : ℕ) (w : Val) → l.pointer ≡ block_ptr b o → vs ≡ pair (vptr b o) w ∷ []
+        → Good (layout A) w
+        → Seq K 𝓛 (‵ (box_owns (ghosts.dealloc_token l.allocator) X (block_ptr b o) l.content)
+        ∷ ‵ (A.own_val l.allocator (w ∷ [])) ∷ Γ) G)
         → Seq K 𝓛 (‵ (Apart.own_val l vs) ∷ Γ) G
     opened t l vs next =
         fsplit t $ fpick t (λ parts. fsplit t $ feq_l t (λ made. fsplit t $ feq_l t (λ one. fsplit t $
@@ -66,7 +74,9 @@ module _ (X A : RattleType) (laws : Laws A) (ghosts : Ghosts A.Denot) where
 
     -- closes one again
     pub closed : K → (b o : ℕ) (w : Val) (a : A.Denot) (x : X.Denot)
-        → Step K 𝓛 (‵ (Apart.own_val (record { pointer = block_ptr b o; allocator = a; content = x }) (pair (vptr b o) w ∷ [])) ∷ Γ) G
+        → Step K 𝓛 (‵ (Apart.own_val
+        (record { pointer = block_ptr b o; allocator = a; content = x }) (pair (vptr b o) w ∷ []))
+        ∷ Γ) G
         (‵ (box_owns (ghosts.dealloc_token a) X (block_ptr b o) x) ∷ ‵ (A.own_val a (w ∷ [])) ∷ Γ) G
     closed t b o w a x = step (λ rest.
         let whole : List Val = pair (vptr b o) w ∷ [] in let first : List Val = vptr b o ∷ [] in

@@ -17,7 +17,8 @@ none size [] short = refl
 none size (x ∷ xs) short = absurd (omega (arith, short))
 
 -- the piece after this many others
-pub piece-at : (n size k : ℕ) (front one back : List ℕ) → k < n → length front ≡ k * size → length one ≡ size → get_or (equal_pieces n size (front ++ (one ++ back))) k [] ≡ one
+pub piece-at : (n size k : ℕ) (front one back : List ℕ) → k < n → length front ≡ k * size
+    → length one ≡ size → get_or (equal_pieces n size (front ++ (one ++ back))) k [] ≡ one
 unfolding equal_pieces
 piece-at zero size k front one back lt before long = absurd (omega arith)
 piece-at (suc n) size zero front one back lt before long = ap (λ f. take size (f ++ (one ++ back))) (none size front before) ∙ first size one back long
@@ -26,8 +27,10 @@ piece-at (suc n) size (suc k) front one back lt before long =
     ∙ piece-at n size k (drop size front) one back (omega arith) (omega (arith, before, length-drop size front)) long
 
 -- a piece that is written sets one
-pub piece-set : (n size k : ℕ) (front one back new : List ℕ) → k < n → length front ≡ k * size → length one ≡ size → length new ≡ size
-    → equal_pieces n size (front ++ (new ++ back)) ≡ set (equal_pieces n size (front ++ (one ++ back))) k new
+pub piece-set : (n size k : ℕ) (front one back new : List ℕ) → k < n → length front ≡ k * size
+    → length one ≡ size → length new ≡ size
+    → equal_pieces n size (front ++ (new ++ back))
+    ≡ set (equal_pieces n size (front ++ (one ++ back))) k new
 unfolding equal_pieces
 piece-set zero size k front one back new lt before long long_new = absurd (omega arith)
 piece-set (suc n) size zero front one back new lt before long long_new =
@@ -43,7 +46,8 @@ piece-set (suc n) size (suc k) front one back new lt before long long_new =
     ∙ ap (λ rest. take size (front ++ (one ++ back)) ∷ set (equal_pieces n size rest) k new) (sym (drop-append-le size front (one ++ back) short))
 
 -- zeros are pieces of zeros
-pub pieces-zero : (n size : ℕ) → equal_pieces n size (replicate (n * size) 0) ≡ replicate n (replicate size 0)
+pub pieces-zero : (n size : ℕ)
+    → equal_pieces n size (replicate (n * size) 0) ≡ replicate n (replicate size 0)
 unfolding equal_pieces
 pieces-zero zero size = refl
 pieces-zero (suc n) size =
@@ -60,21 +64,25 @@ inside zero size k lt = absurd (omega arith)
 inside (suc n) size zero lt = omega arith
 inside (suc n) size (suc k) lt = let less : k * size + size ≤ n * size = inside n size k (omega arith) in omega arith
 
-parts : {A : Type 0} (start size : ℕ) (xs : List A) → take start xs ++ (take size (drop start xs) ++ drop (start + size) xs) ≡ xs
+parts : {A : Type 0} (start size : ℕ) (xs : List A)
+    → take start xs ++ (take size (drop start xs) ++ drop (start + size) xs) ≡ xs
 parts zero size xs = ap (λ n. take size xs ++ drop n xs) (omega arith) ∙ take-append-drop size xs
 parts (suc start) size [] = ap (λ t. t ++ drop (suc start + size) []) (take-nil size) ∙ drop-nil (suc start + size)
 parts (suc start) size (x ∷ xs) =
     let next : suc start + size ≡ suc (start + size) = omega arith in
     ap (λ n. take (suc start) (x ∷ xs) ++ (take size (drop (suc start) (x ∷ xs)) ++ drop n (x ∷ xs))) next ∙ ap (λ t. x ∷ t) (parts start size xs)
 
-pub page-read : (n size k : ℕ) (bytes : List ℕ) → k < n → length bytes ≡ n * size → get_or (equal_pieces n size bytes) k [] ≡ take size (drop (k * size) bytes)
+pub page-read : (n size k : ℕ) (bytes : List ℕ) → k < n → length bytes ≡ n * size
+    → get_or (equal_pieces n size bytes) k [] ≡ take size (drop (k * size) bytes)
 page-read n size k bytes lt all =
     let room = inside n size k lt in
     ap (λ b. get_or (equal_pieces n size b) k []) (sym (parts (k * size) size bytes))
     ∙ piece-at n size k (take (k * size) bytes) (take size (drop (k * size) bytes)) (drop (k * size + size) bytes) lt (length-take-le (k * size) bytes (omega (arith, room, all))) (length-take-le size (drop (k * size) bytes) (omega (arith, room, all, length-drop (k * size) bytes)))
 
-pub page-write : (n size k : ℕ) (bytes new : List ℕ) → k < n → length bytes ≡ n * size → length new ≡ size
-    → equal_pieces n size (with_part (k * size) (k * size + size) new bytes) ≡ set (equal_pieces n size bytes) k new
+pub page-write : (n size k : ℕ) (bytes new : List ℕ) → k < n → length bytes ≡ n * size
+    → length new ≡ size
+    → equal_pieces n size (with_part (k * size) (k * size + size) new bytes)
+    ≡ set (equal_pieces n size bytes) k new
 page-write n size k bytes new lt all sized =
     let room = inside n size k lt in
     piece-set n size k (take (k * size) bytes) (take size (drop (k * size) bytes)) (drop (k * size + size) bytes) new lt (length-take-le (k * size) bytes (omega (arith, room, all))) (length-take-le size (drop (k * size) bytes) (omega (arith, room, all, length-drop (k * size) bytes))) sized

@@ -53,10 +53,12 @@ nothing_there = nothing_written
 abbrev ok : Entry → List ℕ → Read
 ok e rest = Ok (e, rest)
 
-never_both : {A : Type 0} (e : Entry) (rest : List ℕ) (read : Read) → read ≡ ok e rest → read ≡ Err BadLength → A
+never_both : {A : Type 0} (e : Entry) (rest : List ℕ) (read : Read) → read ≡ ok e rest
+    → read ≡ Err BadLength → A
 never_both e rest read is none = absurd (cc)
 
-same_entries : (es fs : List Entry) → AllByRecursion IsEntry es → AllByRecursion IsEntry fs → entries_bytes es ≡ entries_bytes fs → es ≡ fs
+same_entries : (es fs : List Entry) → AllByRecursion IsEntry es → AllByRecursion IsEntry fs
+    → entries_bytes es ≡ entries_bytes fs → es ≡ fs
 same_entries [] [] some others same = refl
 same_entries [] (f ∷ fs) some others same =
     never_both f (entries_bytes fs) (written_entry_at None []) (ap (written_entry_at None) same ∙ written_again None f (entries_bytes fs) others.0 refl) nothing_there
@@ -72,7 +74,10 @@ same_entries (e ∷ es) (f ∷ fs) some others same =
 -- ---- a bucket says all of its pages
 
 -- lists that agree on a bucket agree on each of its pages
-same_bucket_same_hist : (S T : ReferenceSet) (p : PageId) → bucket_entries (page_bucket p) (entries_of (history S)) ≡ bucket_entries (page_bucket p) (entries_of (history T)) → list_hist (references S) p ≡ list_hist (references T) p
+same_bucket_same_hist : (S T : ReferenceSet) (p : PageId)
+    → bucket_entries (page_bucket p) (entries_of (history S))
+    ≡ bucket_entries (page_bucket p) (entries_of (history T))
+    → list_hist (references S) p ≡ list_hist (references T) p
 same_bucket_same_hist S T p same =
     sym (get-history (references S) p)
     ∙ ap (λ es. get es p) (sym (entries-history S))
@@ -87,7 +92,8 @@ same_bucket_same_hist S T p same =
 abbrev pub kept : (PageId → Bool) → List Reference → List Reference
 kept test S = filter (λ r. test r.page) S
 
-references_to-kept : (test : PageId → Bool) (S : List Reference) (p : PageId) → list_references_to (kept test S) p ≡ cond (test p) (list_references_to S p) []
+references_to-kept : (test : PageId → Bool) (S : List Reference) (p : PageId)
+    → list_references_to (kept test S) p ≡ cond (test p) (list_references_to S p) []
 references_to-kept test [] p = cases (test p)
   where
     cases : (t : Bool) → list_references_to [] p ≡ cond t (list_references_to [] p) []
@@ -98,8 +104,10 @@ references_to-kept test (r ∷ S) p = cases (test r.page) refl (is_eq (page_cmp 
     page_is : is_eq (page_cmp r.page p) ≡ true → test p ≡ test r.page
     page_is here = ap test (sym (page_order.same r.page p (is_equal (page_cmp r.page p) here)))
 
-    cases : (t : Bool) → test r.page ≡ t → (c : Bool) → is_eq (page_cmp r.page p) ≡ c → list_references_to (kept test S) p ≡ cond (test p) (list_references_to S p) []
-        → list_references_to (cond t (r ∷ kept test S) (kept test S)) p ≡ cond (test p) (cond c (r ∷ list_references_to S p) (list_references_to S p)) []
+    cases : (t : Bool) → test r.page ≡ t → (c : Bool) → is_eq (page_cmp r.page p) ≡ c
+        → list_references_to (kept test S) p ≡ cond (test p) (list_references_to S p) []
+        → list_references_to (cond t (r ∷ kept test S) (kept test S)) p
+        ≡ cond (test p) (cond c (r ∷ list_references_to S p) (list_references_to S p)) []
     cases true is true here rest =
         let yes : test p ≡ true = page_is here ∙ is in
         rw here (rw yes (ap (λ t. r ∷ t) (rest ∙ rw yes refl)))
@@ -109,24 +117,30 @@ references_to-kept test (r ∷ S) p = cases (test r.page) refl (is_eq (page_cmp 
         rest ∙ rw not refl
     cases false is false other rest = rest
 
-pub hist-kept : (test : PageId → Bool) (S : List Reference) (p : PageId) → list_hist (kept test S) p ≡ cond (test p) (list_hist S p) None
+pub hist-kept : (test : PageId → Bool) (S : List Reference) (p : PageId)
+    → list_hist (kept test S) p ≡ cond (test p) (list_hist S p) None
 hist-kept test S p =
     ap (λ rs. first_two (distinct (flip_args stamp_cmp) (map (λ (r : Reference). r.stamp) rs))) (references_to-kept test S p)
     ∙ elim (test p) as (λ b. first_two (distinct (flip_args stamp_cmp) (map (λ (r : Reference). r.stamp) (cond b (list_references_to S p) []))) ≡ cond b (list_hist S p) None) [ true ↦ refl | false ↦ refl ]
 
 -- ---- what is known twice, and what is not known
 
-pub joined_same : (S : List Reference) (p : PageId) → joined (list_hist S p) (list_hist S p) ≡ list_hist S p
+pub joined_same : (S : List Reference) (p : PageId)
+    → joined (list_hist S p) (list_hist S p) ≡ list_hist S p
 joined_same S p = sym (hist-append S S p) ∙ hist_repeat S p
 
 pub joined_none : (S : List Reference) (p : PageId) → joined (list_hist S p) None ≡ list_hist S p
 joined_none S p = sym (hist-append S [] p) ∙ ap (λ (R : List Reference). list_hist R p) (append-nil S)
 
 -- on pages that pass the test S says the same as its part that passes; on others S says what T does
-hist_exchanged : (test : PageId → Bool) (S T : List Reference) (p : PageId) → (test p ≡ false → list_hist S p ≡ list_hist T p) → list_hist (T ++ kept test S) p ≡ list_hist (T ++ S) p
+hist_exchanged : (test : PageId → Bool) (S T : List Reference) (p : PageId)
+    → (test p ≡ false → list_hist S p ≡ list_hist T p)
+    → list_hist (T ++ kept test S) p ≡ list_hist (T ++ S) p
 hist_exchanged test S T p same = hist-append T (kept test S) p ∙ ap (joined (list_hist T p)) (hist-kept test S p) ∙ cases (test p) refl ∙ sym (hist-append T S p)
   where
-    cases : (t : Bool) → test p ≡ t → joined (list_hist T p) (cond t (list_hist S p) None) ≡ joined (list_hist T p) (list_hist S p)
+    cases : (t : Bool) → test p ≡ t
+        → joined (list_hist T p) (cond t (list_hist S p) None)
+        ≡ joined (list_hist T p) (list_hist S p)
     cases true is = refl
     cases false is = joined_none T p ∙ sym (joined_same T p) ∙ ap (joined (list_hist T p)) (sym (same is))
 
@@ -144,7 +158,8 @@ either_list xs ys = cases _ (bytes_eq-Decides xs ys)
 abbrev Settled : HistoryView → HistoryView → ℕ → ℕ → Type 0
 Settled h g buckets bucket = (bit_at buckets bucket ≡ 1) ⊎ (bucket_text h bucket ≡ bucket_text g bucket)
 
-settled_or_not : (h g : HistoryView) (buckets bucket : ℕ) → bucket < BUCKETS → IsDifferenceOf h g buckets → Settled h g buckets bucket ⊎ IsCollision h g
+settled_or_not : (h g : HistoryView) (buckets bucket : ℕ) → bucket < BUCKETS
+    → IsDifferenceOf h g buckets → Settled h g buckets bucket ⊎ IsCollision h g
 settled_or_not h g buckets bucket low differ = elim (cases_eq (bit_at buckets bucket) 1) [
   | inl set ↦ inl (inl set)
   | inr clear ↦ elim (either_list (bucket_text h bucket) (bucket_text g bucket)) [
@@ -156,7 +171,8 @@ settled_or_not h g buckets bucket low differ = elim (cases_eq (bit_at buckets bu
   ]
 ]
 
-all_settled : (h g : HistoryView) (buckets n : ℕ) → n ≤ BUCKETS → IsDifferenceOf h g buckets → ((bucket : ℕ) → bucket < n → Settled h g buckets bucket) ⊎ IsCollision h g
+all_settled : (h g : HistoryView) (buckets n : ℕ) → n ≤ BUCKETS → IsDifferenceOf h g buckets
+    → ((bucket : ℕ) → bucket < n → Settled h g buckets bucket) ⊎ IsCollision h g
 all_settled h g buckets zero few differ = inl (λ bucket below. absurd (omega (arith, below)))
 all_settled h g buckets (suc n) few differ = elim (all_settled h g buckets n (omega arith) differ) [
   | inr collision ↦ inr collision
@@ -174,7 +190,9 @@ all_settled h g buckets (suc n) few differ = elim (all_settled h g buckets n (om
 low_bucket : (p : PageId) → page_bucket p < BUCKETS
 low_bucket p = omega arith
 
-exchanged : (S T : ReferenceSet) (buckets : ℕ) → Fits (history S) → Fits (history T) → ((bucket : ℕ) → bucket < BUCKETS → Settled (history S) (history T) buckets bucket) → history (T ∪ in_buckets buckets S) ≡ history (T ∪ S)
+exchanged : (S T : ReferenceSet) (buckets : ℕ) → Fits (history S) → Fits (history T)
+    → ((bucket : ℕ) → bucket < BUCKETS → Settled (history S) (history T) buckets bucket)
+    → history (T ∪ in_buckets buckets S) ≡ history (T ∪ S)
 exchanged S T buckets fits others settled =
     let test : PageId → Bool = λ q. bit_at buckets (page_bucket q) == 1 in
     let m = max T.horizon S.horizon in

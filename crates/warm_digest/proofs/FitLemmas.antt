@@ -24,18 +24,21 @@ use Rattle.warm_digest.specs.Exchange.{IsReference, AreReferences, Fits}
 
 -- ---- the history of valid references
 
-pub all_insert : {A : Type 0} (P : A → Type 0) (cmp : A → A → Ordering) (x : A) (ys : List A) → P x → AllByRecursion P ys → AllByRecursion P (insert_distinct cmp x ys)
+pub all_insert : {A : Type 0} (P : A → Type 0) (cmp : A → A → Ordering) (x : A) (ys : List A) → P x
+    → AllByRecursion P ys → AllByRecursion P (insert_distinct cmp x ys)
 all_insert P cmp x [] own all = (own, tt)
 all_insert P cmp x (y ∷ ys) own all = by_cases (cmp x y) _
     (λ less. rw less (own, all))
     (λ tied. rw tied all)
     (λ more. rw more (all.0, all_insert P cmp x ys own all.1))
 
-pub all_distinct : {A : Type 0} (P : A → Type 0) (cmp : A → A → Ordering) (xs : List A) → AllByRecursion P xs → AllByRecursion P (distinct cmp xs)
+pub all_distinct : {A : Type 0} (P : A → Type 0) (cmp : A → A → Ordering) (xs : List A)
+    → AllByRecursion P xs → AllByRecursion P (distinct cmp xs)
 all_distinct P cmp [] all = tt
 all_distinct P cmp (x ∷ xs) all = all_insert P cmp x (distinct cmp xs) all.0 (all_distinct P cmp xs all.1)
 
-pub all_mapped : {A B : Type 0} (P : A → Type 0) (Q : B → Type 0) (f : A → B) (xs : List A) → ((x : A) → P x → Q (f x)) → AllByRecursion P xs → AllByRecursion Q (map f xs)
+pub all_mapped : {A B : Type 0} (P : A → Type 0) (Q : B → Type 0) (f : A → B) (xs : List A)
+    → ((x : A) → P x → Q (f x)) → AllByRecursion P xs → AllByRecursion Q (map f xs)
 all_mapped P Q f [] each all = tt
 all_mapped P Q f (x ∷ xs) each all = (each x all.0, all_mapped P Q f xs each all.1)
 
@@ -44,7 +47,8 @@ abbrev FitsIfAny : Option PageHist → Type 0
 FitsIfAny None = Unit {0}
 FitsIfAny (Some h) = IsHist h
 
-first_two_fit : (ss : List Stamp) → IsAscending (flip_args stamp_cmp) ss → AllByRecursion IsStamp ss → FitsIfAny (first_two ss)
+first_two_fit : (ss : List Stamp) → IsAscending (flip_args stamp_cmp) ss → AllByRecursion IsStamp ss
+    → FitsIfAny (first_two ss)
 first_two_fit [] falls all = tt
 first_two_fit (a ∷ []) falls all = all.0
 first_two_fit (a ∷ b ∷ ss) falls all = (all.0, all.1.0, falls.0.0)
@@ -56,7 +60,8 @@ hist_fits S p all =
     first_two_fit (stamps S p) (distinct_rises falls (IsStrictOrder-flip stamp_cmp stamp_order) listed)
     (all_distinct IsStamp falls listed (all_mapped IsReference IsStamp (λ r. r.stamp) (references_to S p) (λ r own. own.stamp) (all_filter IsReference (λ r. is_eq (page_cmp r.page p)) (references S) all)))
 
-entries_fit : (f : PageId → Option PageHist) (ps : List PageId) → ((p : PageId) → FitsIfAny (f p)) → AllByRecursion IsPage ps → AllByRecursion IsEntry (entries f ps)
+entries_fit : (f : PageId → Option PageHist) (ps : List PageId) → ((p : PageId) → FitsIfAny (f p))
+    → AllByRecursion IsPage ps → AllByRecursion IsEntry (entries f ps)
 entries_fit f [] each all = tt
 entries_fit f (p ∷ ps) each all = elim (f p) as (λ x. FitsIfAny x → AllByRecursion IsEntry (cons_option (option_map (λ h. record { page = p; hist = h }) x) (entries f ps))) [
   | None ↦ λ fit. entries_fit f ps each all.1
@@ -69,10 +74,12 @@ history_fits S all = entries_fit (hist S) (pages S) (λ p. hist_fits S p all) (a
 
 -- ---- the references of valid entries
 
-entry_held : (page : PageId) (h : PageHist) → IsPage page → IsHist h → AreReferences (references_of_entry (record { page = page; hist = h }))
+entry_held : (page : PageId) (h : PageHist) → IsPage page → IsHist h
+    → AreReferences (references_of_entry (record { page = page; hist = h }))
 entry_held page (Once last) own is = (record { page = own; stamp = is }, tt)
 entry_held page (Twice two) own is = (record { page = own; stamp = is.0 }, (record { page = own; stamp = is.1 }, tt))
 
-pub references_fit : (es : List Entry) → AllByRecursion IsEntry es → AreReferences (references_of_entries es)
+pub references_fit : (es : List Entry) → AllByRecursion IsEntry es
+    → AreReferences (references_of_entries es)
 references_fit [] all = tt
 references_fit (e ∷ es) all = all_append IsReference (references_of_entry e) (references_of_entries es) (entry_held e.page e.hist all.0.page all.0.hist) (references_fit es all.1)

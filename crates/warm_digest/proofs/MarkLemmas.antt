@@ -11,7 +11,9 @@ use Rattle.warm_history.specs.Losses.{MarksLosing, raised}
 use Rattle.warm_digest.specs.CachedDigests.{MarksChanges, StaysMarked}
 
 -- the buckets are marked whose entries change
-pub marks_changes : (h g : HistoryView) (old changed now : ℕ) → now ≡ bit_or old changed → MarksChanged (entries_of h) (entries_of g) changed → MarksChanges (record { history = h; marked = old }) (record { history = g; marked = now })
+pub marks_changes : (h g : HistoryView) (old changed now : ℕ) → now ≡ bit_or old changed
+    → MarksChanged (entries_of h) (entries_of g) changed
+    → MarksChanges (record { history = h; marked = old }) (record { history = g; marked = now })
 marks_changes h g old changed now both tells bucket low =
     let is = ap (λ (n : ℕ). bit_at n bucket) both ∙ bit_at_or old changed bucket in
     let old_lt = bit_at-lt old bucket in
@@ -30,7 +32,8 @@ marks_changes h g old changed now both tells bucket low =
     )
 
 -- of the marked buckets those stay so that lose something
-pub losing_stay : (horizon : ℕ) (h : HistoryView) (old lost now : ℕ) → now ≡ bit_and old lost → MarksLosing horizon h lost → StaysMarked horizon h old now
+pub losing_stay : (horizon : ℕ) (h : HistoryView) (old lost now : ℕ) → now ≡ bit_and old lost
+    → MarksLosing horizon h lost → StaysMarked horizon h old now
 losing_stay horizon h old lost now both loses bucket low =
     let is = ap (λ (n : ℕ). bit_at n bucket) both ∙ bit_at_and old lost bucket in
     let old_lt = bit_at-lt old bucket in
@@ -43,7 +46,8 @@ losing_stay horizon h old lost now both loses bucket low =
     )
 
 -- where the history is the same at the horizon nothing is lost, so no bucket stays marked
-none_stay : (horizon : ℕ) (h : HistoryView) (old new : ℕ) → raised horizon h ≡ h → new ≡ 0 → StaysMarked horizon h old new
+none_stay : (horizon : ℕ) (h : HistoryView) (old new : ℕ) → raised horizon h ≡ h → new ≡ 0
+    → StaysMarked horizon h old new
 none_stay horizon h old new same none bucket low =
     let zero_is : bit_at new bucket ≡ 0 = ap (λ (n : ℕ). bit_at n bucket) none ∙ bit_at-zero bucket in (
       (λ now. absurd (omega (arith, now, zero_is))),
@@ -51,6 +55,7 @@ none_stay horizon h old new same none bucket low =
     )
 
 -- the same where a result is Ok
-pub none_stay_if : {A E : Type 0} (r : Result A E) (horizon : ℕ) (h : HistoryView) (old new : ℕ) → raised horizon h ≡ h → OnOk r (new ≡ 0) → OnOk r (StaysMarked horizon h old new)
+pub none_stay_if : {A E : Type 0} (r : Result A E) (horizon : ℕ) (h : HistoryView) (old new : ℕ)
+    → raised horizon h ≡ h → OnOk r (new ≡ 0) → OnOk r (StaysMarked horizon h old new)
 none_stay_if (Ok a) horizon h old new same none = none_stay horizon h old new same none
 none_stay_if (Err why) horizon h old new same none = tt

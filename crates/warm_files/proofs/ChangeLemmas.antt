@@ -33,13 +33,15 @@ collision_too : (h g : HistoryView) → IsCollision h g → IsCollision g h
 collision_too h g c = record { bucket = c.bucket; low = c.low; differ = (λ same. c.differ (sym same)); same_digest = sym c.same_digest }
 
 -- histories with the same digests differ in no bucket
-no_difference : (h g : HistoryView) → digests_of (entries_of h) ≡ digests_of (entries_of g) → IsDifferenceOf h g 0
+no_difference : (h g : HistoryView) → digests_of (entries_of h) ≡ digests_of (entries_of g)
+    → IsDifferenceOf h g 0
 no_difference h g same bucket low =
     let one : bucket_digest (entries_of h) bucket ≡ bucket_digest (entries_of g) bucket =
     sym (digest_is (entries_of h) bucket low) ∙ ap (λ (ds : List (List ℕ)). digest_at ds bucket) same ∙ digest_is (entries_of g) bucket low in
     ((λ set. absurd (omega (arith, set, bit_at-zero bucket))), (λ other. absurd (other one)))
 
-same_histories : (S T : ReferenceSet) → S.horizon ≡ T.horizon → Fits (history S) → Fits (history T) → digests_of (entries_of (history S)) ≡ digests_of (entries_of (history T))
+same_histories : (S T : ReferenceSet) → S.horizon ≡ T.horizon → Fits (history S) → Fits (history T)
+    → digests_of (entries_of (history S)) ≡ digests_of (entries_of (history T))
     → (history S ≡ history T) ⊎ IsCollision (history S) (history T)
 same_histories S T horizon fits others same = elim (exchange_joins S T 0 fits others (no_difference (history S) (history T) same)) [
   | inr c ↦ inr c
@@ -49,7 +51,9 @@ same_histories S T horizon fits others same = elim (exchange_joins S T 0 fits ot
   ]
 ]
 
-seen_of : (S T : ReferenceSet) (h g : HistoryView) → h ≡ history S → g ≡ history T → S.horizon ≡ T.horizon → Fits h → Fits g → digests_of (entries_of h) ≡ digests_of (entries_of g) → (h ≡ g) ⊎ IsCollision h g
+seen_of : (S T : ReferenceSet) (h g : HistoryView) → h ≡ history S → g ≡ history T
+    → S.horizon ≡ T.horizon → Fits h → Fits g
+    → digests_of (entries_of h) ≡ digests_of (entries_of g) → (h ≡ g) ⊎ IsCollision h g
 seen_of S T h g is_h is_g horizon fits others same = rw (is_h, is_g) (same_histories S T horizon (rw (← is_h) fits) (rw (← is_g) others) (rw (← is_h, ← is_g) same))
 
 pub changed_dump_is_seen : ChangedDumpIsSeen

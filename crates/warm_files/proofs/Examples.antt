@@ -43,17 +43,21 @@ one_frame : history_messages 1 one_page ≡ Entries 1 10 (seventh ∷ []) ∷ []
 one_frame = refl
 
 -- the frames come by buckets: 0:1 is in bucket 1, and 0:7 in bucket 7
-two_frames : history_messages 2 (record { horizon = 0; entries = first ∷ seventh ∷ [] }) ≡ Entries 2 0 (first ∷ []) ∷ Entries 2 0 (seventh ∷ []) ∷ []
+two_frames : history_messages 2 (record { horizon = 0; entries = first ∷ seventh ∷ [] })
+    ≡ Entries 2 0 (first ∷ []) ∷ Entries 2 0 (seventh ∷ []) ∷ []
 two_frames = refl
 
 one_page_spelled : text_of (history_messages 1 one_page) ≡
-    0x4C ∷ 0x32 ∷ 0x47 ∷ 0x32 ∷ 1 ∷ 0 ∷ 1 ∷ 0 ∷ 0 ∷ 0 ∷ 0 ∷ 0 ∷ 0 ∷ 0 ∷ 0x0A ∷ 0 ∷ 0 ∷ 0 ∷ 0x23 ∷ 0 ∷ 0 ∷ 0 ∷ 1
-    ∷ 0 ∷ 0 ∷ 0 ∷ 0 ∷ 0 ∷ 0 ∷ 0 ∷ 0 ∷ 0 ∷ 7 ∷ 2 ∷ 0 ∷ 0 ∷ 0 ∷ 0 ∷ 0 ∷ 0 ∷ 0 ∷ 0x14 ∷ 0 ∷ 1 ∷ 0 ∷ 0 ∷ 0 ∷ 0 ∷ 0 ∷ 0 ∷ 0 ∷ 0x0A ∷ 0 ∷ 1 ∷ []
+    0x4C ∷ 0x32 ∷ 0x47 ∷ 0x32 ∷ 1 ∷ 0 ∷ 1 ∷ 0 ∷ 0 ∷ 0 ∷ 0 ∷ 0 ∷ 0 ∷ 0 ∷ 0x0A ∷ 0 ∷ 0 ∷ 0 ∷ 0x23 ∷ 0
+    ∷ 0 ∷ 0 ∷ 1
+    ∷ 0 ∷ 0 ∷ 0 ∷ 0 ∷ 0 ∷ 0 ∷ 0 ∷ 0 ∷ 0 ∷ 7 ∷ 2 ∷ 0 ∷ 0 ∷ 0 ∷ 0 ∷ 0 ∷ 0 ∷ 0 ∷ 0x14 ∷ 0 ∷ 1 ∷ 0 ∷ 0
+    ∷ 0 ∷ 0 ∷ 0 ∷ 0 ∷ 0 ∷ 0x0A ∷ 0 ∷ 1 ∷ []
 one_page_spelled = refl
 
 -- the dump of nothing is the frame of the digests, 2,048 bytes of them
 nothing_dumped : dump_of 3 nothing ≡
-    (0x4C ∷ 0x32 ∷ 0x47 ∷ 0x32 ∷ 2 ∷ 0 ∷ 3 ∷ 0 ∷ 0 ∷ 0 ∷ 0 ∷ 0 ∷ 0 ∷ 0 ∷ 0 ∷ 0 ∷ 0 ∷ 8 ∷ 0 ∷ []) ++ flat_map (λ digest. digest) (digests_of [])
+    (0x4C ∷ 0x32 ∷ 0x47 ∷ 0x32 ∷ 2 ∷ 0 ∷ 3 ∷ 0 ∷ 0 ∷ 0 ∷ 0 ∷ 0 ∷ 0 ∷ 0 ∷ 0 ∷ 0 ∷ 0 ∷ 8 ∷ 0 ∷ [])
+    ++ flat_map (λ digest. digest) (digests_of [])
 unfolding digest_bytes sha256
 nothing_dumped = refl
 
@@ -62,12 +66,15 @@ one_page_told : history_of_messages 10 (Entries 1 10 (seventh ∷ []) ∷ []) �
 unfolding history list_history
 one_page_told = refl
 
-told_again : history_of_messages 0 (Entries 2 0 (seventh ∷ []) ∷ Entries 1 0 (first ∷ []) ∷ Entries 2 0 (seventh ∷ []) ∷ []) ≡ record { horizon = 0; entries = first ∷ seventh ∷ [] }
+told_again : history_of_messages 0
+    (Entries 2 0 (seventh ∷ []) ∷ Entries 1 0 (first ∷ []) ∷ Entries 2 0 (seventh ∷ []) ∷ [])
+    ≡ record { horizon = 0; entries = first ∷ seventh ∷ [] }
 unfolding history list_history
 told_again = refl
 
 -- an older stamp is forgotten
-told_later : history_of_messages 15 (Entries 1 15 (first ∷ seventh ∷ []) ∷ []) ≡ record { horizon = 15; entries = record { page = seventh.page; hist = Once (at_1 20) } ∷ [] }
+told_later : history_of_messages 15 (Entries 1 15 (first ∷ seventh ∷ []) ∷ [])
+    ≡ record { horizon = 15; entries = record { page = seventh.page; hist = Once (at_1 20) } ∷ [] }
 unfolding history list_history
 told_later = refl
 

@@ -21,7 +21,8 @@ brought_fits (Entries sender own es) is = is.2.each
 brought_fits (Digest sender own digests) is = tt
 brought_fits (Want sender own request) is = tt
 
-frames_fit : (ts : List (List ℕ)) (fs more : List Message) → EncodeAll ts (fs ++ more) → AllByRecursion IsEntry (entries_brought fs)
+frames_fit : (ts : List (List ℕ)) (fs more : List Message) → EncodeAll ts (fs ++ more)
+    → AllByRecursion IsEntry (entries_brought fs)
 frames_fit ts [] more all = tt
 frames_fit [] (f ∷ fs) more all = absurd all
 frames_fit (t ∷ ts) (f ∷ fs) more all =

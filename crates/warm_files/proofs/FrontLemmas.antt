@@ -14,8 +14,10 @@ use Rattle.warm_files.specs.Reading.{IsEntriesAt, AreEntriesAt, IsPartAt, Begins
 -- ---- the first messages
 
 -- messages that begin a text which others encode whole are the first of those
-pub first_messages : (ts us : List (List ℕ)) (fs gs : List Message) (rest : List ℕ) → EncodeAll ts fs → EncodeAll us gs → texts_of ts ≡ texts_of us ++ rest
-    → (vs : List (List ℕ)) × (more : List Message) × EncodeAll vs more × (fs ≡ gs ++ more) × (rest ≡ texts_of vs)
+pub first_messages : (ts us : List (List ℕ)) (fs gs : List Message) (rest : List ℕ)
+    → EncodeAll ts fs → EncodeAll us gs → texts_of ts ≡ texts_of us ++ rest
+    → (vs : List (List ℕ)) × (more : List Message) × EncodeAll vs more × (fs ≡ gs ++ more)
+    × (rest ≡ texts_of vs)
 first_messages ts [] fs [] rest a b same = (ts, fs, a, refl, sym same)
 first_messages ts [] fs (g ∷ gs) rest a b same = absurd b
 first_messages ts (u ∷ us) fs [] rest a b same = absurd b
@@ -35,12 +37,15 @@ first_messages (t ∷ ts) (u ∷ us) (f ∷ fs) (g ∷ gs) rest a b same =
 
 -- ---- the messages of a dump
 
-pub dump_splits : (text : List ℕ) (h : HistoryView) (d : IsDump text h) → Splits text (d.messages ++ Digest d.sender h.horizon d.digests ∷ []) []
+pub dump_splits : (text : List ℕ) (h : HistoryView) (d : IsDump text h)
+    → Splits text (d.messages ++ Digest d.sender h.horizon d.digests ∷ []) []
 dump_splits text h d = record { texts = d.whole.texts; whole = d.whole.whole; each = d.whole.each; part = nothing_is_part }
 
 -- what begins a dump
-pub begins_dump : (text : List ℕ) (h : HistoryView) (d : IsDump text h) (gs : List Message) (rest : List ℕ) → Begins text gs rest
-    → (vs : List (List ℕ)) × (more : List Message) × EncodeAll vs more × (d.messages ++ Digest d.sender h.horizon d.digests ∷ [] ≡ gs ++ more) × (rest ≡ texts_of vs)
+pub begins_dump : (text : List ℕ) (h : HistoryView) (d : IsDump text h) (gs : List Message)
+    (rest : List ℕ) → Begins text gs rest
+    → (vs : List (List ℕ)) × (more : List Message) × EncodeAll vs more
+    × (d.messages ++ Digest d.sender h.horizon d.digests ∷ [] ≡ gs ++ more) × (rest ≡ texts_of vs)
 begins_dump text h d gs rest b =
     first_messages d.whole.texts b.texts (d.messages ++ Digest d.sender h.horizon d.digests ∷ []) gs rest d.whole.each b.each (sym (append-nil (texts_of d.whole.texts)) ∙ sym d.whole.whole ∙ b.whole)
 
@@ -56,7 +61,8 @@ never_both horizon (Digest sender own digests) is other = absurd is
 never_both horizon (Want sender own request) is other = absurd is
 
 -- behind messages of entries the first other one stands at one place
-pub one_front : (a b : ℕ) (fs gs : List Message) (d e : Message) (more : List Message) → AreEntriesAt a fs → AreEntriesAt b gs → IsOther d → IsOther e → fs ++ d ∷ [] ≡ gs ++ e ∷ more
+pub one_front : (a b : ℕ) (fs gs : List Message) (d e : Message) (more : List Message)
+    → AreEntriesAt a fs → AreEntriesAt b gs → IsOther d → IsOther e → fs ++ d ∷ [] ≡ gs ++ e ∷ more
     → (fs ≡ gs) × (d ≡ e) × (more ≡ [])
 one_front a b [] [] d e more all these first second same =
     let head : d ≡ e = cc in
@@ -74,7 +80,8 @@ one_front a b (f ∷ fs) (g ∷ gs) d e more all these first second same =
     let later = one_front a b fs gs d e more all.1 these.1 first second tail in
     ((λ i. head i ∷ later.0 i), later.1, later.2)
 
-pub all_parts : {A : Type 0} (P : A → Type 0) (xs ys : List A) → AllByRecursion P (xs ++ ys) → AllByRecursion P xs × AllByRecursion P ys
+pub all_parts : {A : Type 0} (P : A → Type 0) (xs ys : List A) → AllByRecursion P (xs ++ ys)
+    → AllByRecursion P xs × AllByRecursion P ys
 all_parts P [] ys all = (tt, all)
 all_parts P (x ∷ xs) ys all = ((all.0, (all_parts P xs ys all.1).0), (all_parts P xs ys all.1).1)
 
@@ -85,11 +92,13 @@ entries_part horizon (Entries sender own es) is = is
 entries_part horizon (Digest sender own digests) is = absurd is
 entries_part horizon (Want sender own request) is = absurd is
 
-parts_and : (horizon : ℕ) (fs : List Message) (d : Message) → AreEntriesAt horizon fs → IsPartAt horizon d → AllByRecursion (IsPartAt horizon) (fs ++ d ∷ [])
+parts_and : (horizon : ℕ) (fs : List Message) (d : Message) → AreEntriesAt horizon fs
+    → IsPartAt horizon d → AllByRecursion (IsPartAt horizon) (fs ++ d ∷ [])
 parts_and horizon [] d all last = (last, tt)
 parts_and horizon (f ∷ fs) d all last = (entries_part horizon f all.0, parts_and horizon fs d all.1 last)
 
-pub dump_parts : (text : List ℕ) (h : HistoryView) (d : IsDump text h) → AllByRecursion (IsPartAt h.horizon) (d.messages ++ Digest d.sender h.horizon d.digests ∷ [])
+pub dump_parts : (text : List ℕ) (h : HistoryView) (d : IsDump text h)
+    → AllByRecursion (IsPartAt h.horizon) (d.messages ++ Digest d.sender h.horizon d.digests ∷ [])
 dump_parts text h d = parts_and h.horizon d.messages (Digest d.sender h.horizon d.digests) d.entries refl
 
 pub one_horizon : (a b : ℕ) (f : Message) → IsPartAt a f → IsPartAt b f → a ≡ b
@@ -97,6 +106,7 @@ one_horizon a b (Entries sender own es) one other = sym one ∙ other
 one_horizon a b (Digest sender own digests) one other = sym one ∙ other
 one_horizon a b (Want sender own request) one other = absurd one
 
-pub first_horizon : (a b : ℕ) (fs : List Message) → 0 < length fs → AreEntriesAt a fs → AllByRecursion (IsPartAt b) fs → a ≡ b
+pub first_horizon : (a b : ℕ) (fs : List Message) → 0 < length fs → AreEntriesAt a fs
+    → AllByRecursion (IsPartAt b) fs → a ≡ b
 first_horizon a b [] some all parts = absurd (omega (arith, some))
 first_horizon a b (f ∷ fs) some all parts = one_horizon a b f (entries_part a f all.0) parts.0

@@ -34,11 +34,13 @@ one_history text h g a b =
     let same_history : history_of_messages h.horizon a.messages ≡ history_of_messages g.horizon b.messages = λ i. history_of_messages (horizon i) (parts.0 i) in
     a.given ∙ same_history ∙ sym b.given
 
-no_fault : (text : List ℕ) (h : HistoryView) (at : ℕ) (fault : FrameFault) → IsDump text h → ShowsFrameFault text at fault → ⊥
+no_fault : (text : List ℕ) (h : HistoryView) (at : ℕ) (fault : FrameFault) → IsDump text h
+    → ShowsFrameFault text at fault → ⊥
 no_fault text h at fault d shown = part_or_fault text (d.messages ++ Digest d.sender h.horizon d.digests ∷ []) shown.1 [] fault (dump_splits text h d) shown.4
 
 -- the parts of what begins a dump
-fronts : (text : List ℕ) (h : HistoryView) (d : IsDump text h) (gs : List Message) (f : Message) (rest : List ℕ) → Begins text (gs ++ f ∷ []) rest
+fronts : (text : List ℕ) (h : HistoryView) (d : IsDump text h) (gs : List Message) (f : Message)
+    (rest : List ℕ) → Begins text (gs ++ f ∷ []) rest
     → AllByRecursion (IsPartAt h.horizon) gs × IsPartAt h.horizon f
 fronts text h d gs f rest b =
     let begun = begins_dump text h d (gs ++ f ∷ []) rest b in
@@ -63,8 +65,11 @@ not_two text h at d r =
     r.8 (other ∙ sym first)
 
 -- behind frames of entries that begin a dump comes the frame of its digests
-last_of : (text : List ℕ) (h : HistoryView) (d : IsDump text h) (horizon own sender : ℕ) (gs : List Message) (digests : List (List ℕ)) (rest : List ℕ) → AreEntriesAt horizon gs → Begins text (gs ++ Digest sender own digests ∷ []) rest
-    → (d.messages ≡ gs) × (Digest d.sender h.horizon d.digests ≡ Digest sender own digests) × (rest ≡ [])
+last_of : (text : List ℕ) (h : HistoryView) (d : IsDump text h) (horizon own sender : ℕ)
+    (gs : List Message) (digests : List (List ℕ)) (rest : List ℕ) → AreEntriesAt horizon gs
+    → Begins text (gs ++ Digest sender own digests ∷ []) rest
+    → (d.messages ≡ gs) × (Digest d.sender h.horizon d.digests ≡ Digest sender own digests)
+    × (rest ≡ [])
 last_of text h d horizon own sender gs digests rest all b =
     let f : Message = Digest sender own digests in
     let e : Message = Digest d.sender h.horizon d.digests in
@@ -72,12 +77,14 @@ last_of text h d horizon own sender gs digests rest all b =
     let parts = one_front h.horizon horizon d.messages gs e f begun.1 d.entries all tt tt (begun.3 ∙ append_assoc gs (f ∷ []) begun.1) in
     (parts.0, parts.1, begun.4 ∙ none begun.0 begun.1 begun.2 parts.2)
   where
-    none : (vs : List (List ℕ)) (more : List Message) → EncodeAll vs more → more ≡ [] → texts_of vs ≡ []
+    none : (vs : List (List ℕ)) (more : List Message) → EncodeAll vs more → more ≡ []
+        → texts_of vs ≡ []
     none [] more all is = refl
     none (v ∷ vs) [] all is = absurd all
     none (v ∷ vs) (f ∷ more) all is = absurd (cc)
 
-own_digests : (text : List ℕ) (h : HistoryView) (at : ℕ) → IsDump text h → HasOtherDigests text at → ⊥
+own_digests : (text : List ℕ) (h : HistoryView) (at : ℕ) → IsDump text h → HasOtherDigests text at
+    → ⊥
 own_digests text h at d r =
     let horizon = r.0 in
     let messages = r.1 in

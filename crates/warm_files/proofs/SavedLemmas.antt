@@ -61,19 +61,23 @@ value_of (Err e) is = absurd (never is)
 spelled : (f : Message) → IsValidMessage f → Encodes (encoding f) f
 spelled f fits = (value_of (format_of MAGIC) refl, record { fits = fits; holds = tt; text = refl })
 
-all_encoded : (fs : List Message) → AllByRecursion IsValidMessage fs → EncodeAll (map encoding fs) fs
+all_encoded : (fs : List Message) → AllByRecursion IsValidMessage fs
+    → EncodeAll (map encoding fs) fs
 all_encoded [] all = tt
 all_encoded (f ∷ fs) all = (spelled f all.0, all_encoded fs all.1)
 
 -- ---- the frames of a list
 
-all_drop : {A : Type 0} (P : A → Type 0) (n : ℕ) (xs : List A) → AllByRecursion P xs → AllByRecursion P (drop n xs)
+all_drop : {A : Type 0} (P : A → Type 0) (n : ℕ) (xs : List A) → AllByRecursion P xs
+    → AllByRecursion P (drop n xs)
 all_drop P zero xs all = all
 all_drop P (suc n) [] all = tt
 all_drop P (suc n) (x ∷ xs) all = all_drop P n xs all.1
 
-chunks_encoded : (sender horizon n : ℕ) (es : List Entry) → IsReplica sender → horizon < 2 ^ 64 → PagesAscend es → AllByRecursion IsEntry es
-    → AllByRecursion IsValidMessage (map (λ chunk. Entries sender horizon chunk) (chunks_of MAX_ENTRIES n es))
+chunks_encoded : (sender horizon n : ℕ) (es : List Entry) → IsReplica sender → horizon < 2 ^ 64
+    → PagesAscend es → AllByRecursion IsEntry es
+    → AllByRecursion IsValidMessage
+    (map (λ chunk. Entries sender horizon chunk) (chunks_of MAX_ENTRIES n es))
 chunks_encoded sender horizon zero es replica low rise all = tt
 chunks_encoded sender horizon (suc n) [] replica low rise all = tt
 chunks_encoded sender horizon (suc n) (e ∷ es) replica low rise all =
@@ -90,12 +94,16 @@ chunks_encoded sender horizon (suc n) (e ∷ es) replica low rise all =
       chunks_encoded sender horizon n (drop MAX_ENTRIES (e ∷ es)) replica low (pages_ascend_drop MAX_ENTRIES (e ∷ es) (drop MAX_ENTRIES (e ∷ es)) refl rise) (all_drop IsEntry MAX_ENTRIES (e ∷ es) all),
     )
 
-chunks_entries : (sender horizon n : ℕ) (es : List Entry) → AreEntriesAt horizon (map (λ chunk. Entries sender horizon chunk) (chunks_of MAX_ENTRIES n es))
+chunks_entries : (sender horizon n : ℕ) (es : List Entry)
+    → AreEntriesAt horizon
+    (map (λ chunk. Entries sender horizon chunk) (chunks_of MAX_ENTRIES n es))
 chunks_entries sender horizon zero es = tt
 chunks_entries sender horizon (suc n) [] = tt
 chunks_entries sender horizon (suc n) (e ∷ es) = (refl, chunks_entries sender horizon n (drop MAX_ENTRIES (e ∷ es)))
 
-chunks_bring : (sender horizon n : ℕ) (es : List Entry) → length es ≤ n → entries_brought (map (λ chunk. Entries sender horizon chunk) (chunks_of MAX_ENTRIES n es)) ≡ es
+chunks_bring : (sender horizon n : ℕ) (es : List Entry) → length es ≤ n
+    → entries_brought (map (λ chunk. Entries sender horizon chunk) (chunks_of MAX_ENTRIES n es))
+    ≡ es
 chunks_bring sender horizon zero [] few = refl
 chunks_bring sender horizon zero (e ∷ es) few = absurd (omega (arith, few))
 chunks_bring sender horizon (suc n) [] few = refl
@@ -108,15 +116,18 @@ chunks_bring sender horizon (suc n) (e ∷ es) few =
 
 -- ---- the frames of all buckets
 
-all_flat_map : {A B : Type 0} (P : B → Type 0) (f : A → List B) (xs : List A) → ((x : A) → AllByRecursion P (f x)) → AllByRecursion P (flat_map f xs)
+all_flat_map : {A B : Type 0} (P : B → Type 0) (f : A → List B) (xs : List A)
+    → ((x : A) → AllByRecursion P (f x)) → AllByRecursion P (flat_map f xs)
 all_flat_map P f [] each = tt
 all_flat_map P f (x ∷ xs) each = subst (AllByRecursion P) (sym (flat_map-cons f x xs)) (all_append P (f x) (flat_map f xs) (each x) (all_flat_map P f xs each))
 
 -- the entries of a bucket rise, and there are such
-bucket_rise : (h : HistoryView) (bucket : ℕ) → IsHistory h → PagesAscend (bucket_entries bucket (entries_of h))
+bucket_rise : (h : HistoryView) (bucket : ℕ) → IsHistory h
+    → PagesAscend (bucket_entries bucket (entries_of h))
 bucket_rise h bucket whole = rising_filter (on (λ (e : Entry). e.page) page_cmp) (λ e. page_bucket e.page == bucket) (entries_of h) whole.pages_ascend
 
-all_frames : (sender : ℕ) (h : HistoryView) → IsReplica sender → h.horizon < 2 ^ 64 → IsHistory h → Fits h → AllByRecursion IsValidMessage (history_messages sender h)
+all_frames : (sender : ℕ) (h : HistoryView) → IsReplica sender → h.horizon < 2 ^ 64 → IsHistory h
+    → Fits h → AllByRecursion IsValidMessage (history_messages sender h)
 all_frames sender h replica low whole fits = all_flat_map IsValidMessage (bucket_messages sender h) (range_with_len 0 BUCKETS) (λ bucket.
     let es : List Entry = bucket_entries bucket (entries_of h) in
     chunks_encoded sender h.horizon (length es) es replica low (bucket_rise h bucket whole) (all_filter IsEntry (λ e. page_bucket e.page == bucket) (entries_of h) fits))
@@ -132,7 +143,9 @@ all_entries sender h = all_flat_map (IsEntriesAt h.horizon) (bucket_messages sen
 abbrev told_below : ℕ → HistoryView → ℕ → PageId → List Stamp
 told_below sender h n p = told (references_of_entries (entries_brought (messages_below sender h n))) p
 
-bucket_brings : (sender n : ℕ) (h : HistoryView) → entries_brought (messages_below sender h (n + 1)) ≡ entries_brought (messages_below sender h n) ++ bucket_entries n (entries_of h)
+bucket_brings : (sender n : ℕ) (h : HistoryView)
+    → entries_brought (messages_below sender h (n + 1))
+    ≡ entries_brought (messages_below sender h n) ++ bucket_entries n (entries_of h)
 bucket_brings sender n h =
     let es : List Entry = bucket_entries n (entries_of h) in
     let B = bucket_messages sender h in
@@ -141,7 +154,9 @@ bucket_brings sender n h =
     ∙ flat_map-append brought (messages_below sender h n) (B n)
     ∙ ap (λ (x : List Entry). entries_brought (messages_below sender h n) ++ x) (chunks_bring sender h.horizon (length es) es (omega arith))
 
-told_more : (sender n : ℕ) (h : HistoryView) (p : PageId) → told_below sender h (suc n) p ≡ told_below sender h n p ++ told (references_of_entries (bucket_entries n (entries_of h))) p
+told_more : (sender n : ℕ) (h : HistoryView) (p : PageId)
+    → told_below sender h (suc n) p
+    ≡ told_below sender h n p ++ told (references_of_entries (bucket_entries n (entries_of h))) p
 told_more sender n h p =
     let before : List Entry = entries_brought (messages_below sender h n) in
     let es : List Entry = bucket_entries n (entries_of h) in
@@ -152,17 +167,23 @@ told_more sender n h p =
     ∙ told-append (references_of_entries before) (references_of_entries es) p
 
 -- what a bucket tells of a page: all, if it is the page's own, and nothing otherwise
-told_in : (h : HistoryView) (n : ℕ) (p : PageId) → IsHistory h → told (references_of_entries (bucket_entries n (entries_of h))) p ≡ known_stamps (cond (page_bucket p == n) (get (entries_of h) p) None)
+told_in : (h : HistoryView) (n : ℕ) (p : PageId) → IsHistory h
+    → told (references_of_entries (bucket_entries n (entries_of h))) p
+    ≡ known_stamps (cond (page_bucket p == n) (get (entries_of h) p) None)
 told_in h n p whole = told_refs (bucket_entries n (entries_of h)) (bucket_rise h n whole) p ∙ ap known_stamps (get-filter (λ q. page_bucket q == n) (entries_of h) p)
 
-told_own : (h : HistoryView) (n : ℕ) (p : PageId) → IsHistory h → page_bucket p ≡ n → told (references_of_entries (bucket_entries n (entries_of h))) p ≡ told (references_of_entries (entries_of h)) p
+told_own : (h : HistoryView) (n : ℕ) (p : PageId) → IsHistory h → page_bucket p ≡ n
+    → told (references_of_entries (bucket_entries n (entries_of h))) p
+    ≡ told (references_of_entries (entries_of h)) p
 told_own h n p whole is =
     told_in h n p whole ∙ ap (λ b. known_stamps (cond b (get (entries_of h) p) None)) (eq-eqb (page_bucket p) n is) ∙ sym (told_refs (entries_of h) whole.pages_ascend p)
 
-told_elsewhere : (h : HistoryView) (n : ℕ) (p : PageId) → IsHistory h → (page_bucket p == n) ≡ false → told (references_of_entries (bucket_entries n (entries_of h))) p ≡ []
+told_elsewhere : (h : HistoryView) (n : ℕ) (p : PageId) → IsHistory h → (page_bucket p == n) ≡ false
+    → told (references_of_entries (bucket_entries n (entries_of h))) p ≡ []
 told_elsewhere h n p whole other = told_in h n p whole ∙ ap (λ b. known_stamps (cond b (get (entries_of h) p) None)) other
 
-told_none : (sender n : ℕ) (h : HistoryView) (p : PageId) → IsHistory h → n ≤ page_bucket p → told_below sender h n p ≡ []
+told_none : (sender n : ℕ) (h : HistoryView) (p : PageId) → IsHistory h → n ≤ page_bucket p
+    → told_below sender h n p ≡ []
 told_none sender zero h p whole low = refl
 told_none sender (suc n) h p whole low =
     let other : (page_bucket p == n) ≡ false = ne_eqb (page_bucket p) n (λ is. omega (arith, is, low)) in
@@ -170,7 +191,8 @@ told_none sender (suc n) h p whole low =
     ∙ ap (λ (ss : List Stamp). ss ++ told (references_of_entries (bucket_entries n (entries_of h))) p) (told_none sender n h p whole (omega (arith, low)))
     ∙ told_elsewhere h n p whole other
 
-told_all : (sender n : ℕ) (h : HistoryView) (p : PageId) → IsHistory h → page_bucket p < n → told_below sender h n p ≡ told (references_of_entries (entries_of h)) p
+told_all : (sender n : ℕ) (h : HistoryView) (p : PageId) → IsHistory h → page_bucket p < n
+    → told_below sender h n p ≡ told (references_of_entries (entries_of h)) p
 told_all sender zero h p whole low = absurd (omega (arith, low))
 told_all sender (suc n) h p whole low = elim (cases_eq (page_bucket p) n) [
   | inl is ↦ told_more sender n h p
@@ -186,7 +208,8 @@ low_bucket : (p : PageId) → page_bucket p < BUCKETS
 low_bucket p = omega arith
 
 -- the frames tell the history
-told_back : (sender : ℕ) (h : HistoryView) → IsHistory h → h ≡ history (references_in h.horizon (history_messages sender h))
+told_back : (sender : ℕ) (h : HistoryView) → IsHistory h
+    → h ≡ history (references_in h.horizon (history_messages sender h))
 told_back sender h whole =
     let S = references_in h.horizon (history_messages sender h) in
     let alike : (p : PageId) → list_hist (references_of_entries (entries_of h)) p ≡ list_hist (references_of_entries (entries_brought (history_messages sender h))) p =
@@ -206,7 +229,8 @@ sha_size : (text : List ℕ) → length (sha256 text) ≡ 32
 unfolding sha256
 sha_size text = digest_size (final_hash initial_hash_256 text) 8
 
-all_sized : (es : List Entry) (buckets : List ℕ) → AllByRecursion (λ digest. length digest ≡ DIGEST_SIZE) (map (bucket_digest es) buckets)
+all_sized : (es : List Entry) (buckets : List ℕ)
+    → AllByRecursion (λ digest. length digest ≡ DIGEST_SIZE) (map (bucket_digest es) buckets)
 all_sized es [] = tt
 all_sized es (bucket ∷ buckets) = (sha_size (entries_bytes (bucket_entries bucket es)), all_sized es buckets)
 
@@ -215,7 +239,8 @@ digests_fit es = record { count = length-map (range_with_len 0 BUCKETS) (bucket_
 
 -- ---- the dump
 
-all_last : {A : Type 0} (P : A → Type 0) (xs : List A) (x : A) → AllByRecursion P xs → P x → AllByRecursion P (xs ++ x ∷ [])
+all_last : {A : Type 0} (P : A → Type 0) (xs : List A) (x : A) → AllByRecursion P xs → P x
+    → AllByRecursion P (xs ++ x ∷ [])
 all_last P xs x all last = all_append P xs (x ∷ []) all (last, tt)
 
 text_last : (fs : List Message) (f : Message) → text_of (fs ++ f ∷ []) ≡ text_of fs ++ encoding f

@@ -45,14 +45,17 @@ rise_from : (es : List Entry) → PagesAscend es → RiseFrom None es
 rise_from [] rise = tt
 rise_from (e ∷ es) rise = (refl, rise_after e es rise)
 
-pub record TakesEntries (format : Format) (n : ℕ) (before : Option PageId) (bytes : List ℕ) (x : List Entry × List ℕ) : Type 0 where
+pub record TakesEntries (format : Format) (n : ℕ) (before : Option PageId) (bytes : List ℕ)
+    (x : List Entry × List ℕ) : Type 0 where
   pub taken : Takes bytes (entries_bytes_in format x.0) x.1
   pub count : length x.0 ≡ n
   pub each : AllByRecursion IsEntry x.0
   pub narrow : AllByRecursion (λ e. IsNarrowIn format e.page) x.0
   pub rise : RiseFrom before x.0
 
-entries_take : (format : Format) (n : ℕ) (before : Option PageId) (bytes : List ℕ) (x : List Entry × List ℕ) → IsBytes bytes → entries_at format n before bytes ≡ Ok x → TakesEntries format n before bytes x
+entries_take : (format : Format) (n : ℕ) (before : Option PageId) (bytes : List ℕ)
+    (x : List Entry × List ℕ) → IsBytes bytes → entries_at format n before bytes ≡ Ok x
+    → TakesEntries format n before bytes x
 unfolding entries_at
 entries_take format zero before bytes x fits e =
     subst (TakesEntries format 0 before bytes) (ok_is ([], bytes) x e) (record { taken = record { parts = refl; rest_fits = fits }; count = refl; each = tt; narrow = tt; rise = tt })
@@ -71,7 +74,10 @@ entries_take format (suc n) before bytes x fits e =
       rise = (first.greater, later.rise);
     })
 
-entries_again : (format : Format) (es : List Entry) (before : Option PageId) (rest : List ℕ) → AllByRecursion IsEntry es → AllByRecursion (λ e. IsNarrowIn format e.page) es → RiseFrom before es → entries_at format (length es) before (entries_bytes_in format es ++ rest) ≡ Ok (es, rest)
+entries_again : (format : Format) (es : List Entry) (before : Option PageId) (rest : List ℕ)
+    → AllByRecursion IsEntry es → AllByRecursion (λ e. IsNarrowIn format e.page) es
+    → RiseFrom before es → entries_at format (length es) before (entries_bytes_in format es ++ rest)
+    ≡ Ok (es, rest)
 unfolding entries_at
 entries_again format [] before rest fits narrow rise = refl
 entries_again format (e ∷ es) before rest fits narrow rise =
@@ -82,7 +88,8 @@ pub record CountsEntries (body : List ℕ) (x : ℕ × List ℕ) : Type 0 where
   pub taken : Takes body (to_be_bytes w32 x.0) x.1
   pub few : x.0 ≤ MAX_ENTRIES
 
-pub count_takes : (body : List ℕ) (x : ℕ × List ℕ) → IsBytes body → count_at body ≡ Ok x → CountsEntries body x
+pub count_takes : (body : List ℕ) (x : ℕ × List ℕ) → IsBytes body → count_at body ≡ Ok x
+    → CountsEntries body x
 unfolding count_at
 count_takes body x fits e =
     let a = bind_ok (number_at w32 BadLength body) (λ count. want (leb count.0 MAX_ENTRIES) BadCount >>= λ few. Ok count) x e in
@@ -91,7 +98,8 @@ count_takes body x fits e =
     let few : a.0.0 ≤ MAX_ENTRIES = grind (arith, nat_tests, g.0) in
     subst (CountsEntries body) (ok_is a.0 x g.1) (record { taken = t.0; few = few })
 
-pub record AreEntries (format : Format) (count : ℕ) (bytes : List ℕ) (es : List Entry) : Type 0 where
+pub record AreEntries (format : Format) (count : ℕ) (bytes : List ℕ)
+    (es : List Entry) : Type 0 where
   pub text : bytes ≡ entries_bytes_in format es
   pub as_many : length es ≡ count
   pub each : AllByRecursion IsEntry es
@@ -99,7 +107,8 @@ pub record AreEntries (format : Format) (count : ℕ) (bytes : List ℕ) (es : L
   pub rise : PagesAscend es
 
 -- all bytes after a count are the entries
-pub all_take : (format : Format) (count : ℕ) (bytes : List ℕ) (es : List Entry) → IsBytes bytes → all_entries format count bytes ≡ Ok es → AreEntries format count bytes es
+pub all_take : (format : Format) (count : ℕ) (bytes : List ℕ) (es : List Entry) → IsBytes bytes
+    → all_entries format count bytes ≡ Ok es → AreEntries format count bytes es
 unfolding all_entries
 all_take format count bytes es fits e =
     let a = bind_ok (entries_at format count None bytes) (λ entries. want (eqb (length entries.1) 0) BadLength >>= λ ended. Ok entries.0) es e in
@@ -115,7 +124,9 @@ all_take format count bytes es fits e =
     })
 
 -- what is read after a count is a list for a frame
-pub all_listed : (format : Format) (body : List ℕ) (count : ℕ) (rest : List ℕ) (es : List Entry) → IsBytes body → count_at body ≡ Ok (count, rest) → all_entries format count rest ≡ Ok es → IsEntryList es
+pub all_listed : (format : Format) (body : List ℕ) (count : ℕ) (rest : List ℕ) (es : List Entry)
+    → IsBytes body → count_at body ≡ Ok (count, rest) → all_entries format count rest ≡ Ok es
+    → IsEntryList es
 all_listed format body count rest es fits h e =
     let c = count_takes body (count, rest) fits h in
     let t = all_take format count rest es c.taken.rest_fits e in
@@ -126,7 +137,8 @@ pub record ListsEntries (format : Format) (body : List ℕ) (es : List Entry) : 
   pub listed : IsEntryList es
   pub narrow : AllByRecursion (λ e. IsNarrowIn format e.page) es
 
-pub entries_body : (format : Format) (body : List ℕ) (es : List Entry) → IsBytes body → read_entries format body ≡ Ok es → ListsEntries format body es
+pub entries_body : (format : Format) (body : List ℕ) (es : List Entry) → IsBytes body
+    → read_entries format body ≡ Ok es → ListsEntries format body es
 unfolding read_entries
 entries_body format body es fits e =
     let a = bind_ok (count_at body) (λ count. all_entries format count.0 count.1) es e in
@@ -138,7 +150,9 @@ entries_body format body es fits e =
       narrow = t.narrow;
     }
 
-pub body_again : (format : Format) (es : List Entry) → IsEntryList es → AllByRecursion (λ e. IsNarrowIn format e.page) es → read_entries format (to_be_bytes w32 (length es) ++ entries_bytes_in format es) ≡ Ok es
+pub body_again : (format : Format) (es : List Entry) → IsEntryList es
+    → AllByRecursion (λ e. IsNarrowIn format e.page) es
+    → read_entries format (to_be_bytes w32 (length es) ++ entries_bytes_in format es) ≡ Ok es
 unfolding read_entries count_at all_entries
 body_again format es listed narrow =
     let few : leb (length es) MAX_ENTRIES ≡ true = let h = listed.at_most in grind (arith, nat_tests) in
@@ -152,11 +166,13 @@ short_hist : (h : PageHist) → length (hist_bytes h) ≤ 21
 short_hist (Once last) = omega arith
 short_hist (Twice two) = omega arith
 
-short_page : (format : Format) (p : PageId) → length (page_bytes_in format p) + 21 ≡ entry_size format
+short_page : (format : Format) (p : PageId)
+    → length (page_bytes_in format p) + 21 ≡ entry_size format
 short_page Narrow p = refl
 short_page Wide p = refl
 
-pub short_entries : (format : Format) (es : List Entry) → length (entries_bytes_in format es) ≤ entry_size format * length es
+pub short_entries : (format : Format) (es : List Entry)
+    → length (entries_bytes_in format es) ≤ entry_size format * length es
 short_entries format [] = omega arith
 short_entries format (e ∷ es) =
     let whole : length (entries_bytes_in format (e ∷ es)) ≡ length (entry_bytes_in format e) + length (entries_bytes_in format es) = ap length (flat_map-cons (entry_bytes_in format) e es) ∙ length-append (entry_bytes_in format e) (entries_bytes_in format es) in
@@ -166,14 +182,16 @@ short_entries format (e ∷ es) =
 
 -- ---- tables of digests
 
-joined_chunks : (n k : ℕ) (xs : List ℕ) → length xs ≡ n * k → flat_map (λ x. x) (first_chunks n k xs) ≡ xs
+joined_chunks : (n k : ℕ) (xs : List ℕ) → length xs ≡ n * k
+    → flat_map (λ x. x) (first_chunks n k xs) ≡ xs
 joined_chunks n zero xs len = sym (nil_from_length xs (omega (arith, len)))
 joined_chunks n (suc k) xs len =
     let e : n * suc k ≡ n + n * k = grind arith in
     let later = joined_chunks n k (drop n xs) (omega (arith, e, length-drop n xs)) in
     rw (flat_map-cons, later) (take-append-drop n xs)
 
-chunks_long : (n k : ℕ) (xs : List ℕ) → length xs ≡ n * k → AllByRecursion (λ digest. length digest ≡ n) (first_chunks n k xs)
+chunks_long : (n k : ℕ) (xs : List ℕ) → length xs ≡ n * k
+    → AllByRecursion (λ digest. length digest ≡ n) (first_chunks n k xs)
 chunks_long n zero xs len = tt
 chunks_long n (suc k) xs len =
     let e : n * suc k ≡ n + n * k = grind arith in
@@ -183,12 +201,16 @@ length-chunks : (n k : ℕ) (xs : List ℕ) → length (first_chunks n k xs) ≡
 length-chunks n zero xs = refl
 length-chunks n (suc k) xs = ap suc (length-chunks n k (drop n xs))
 
-chunks_joined : (n : ℕ) (digests : List (List ℕ)) → AllByRecursion (λ digest. length digest ≡ n) digests → first_chunks n (length digests) (flat_map (λ x. x) digests) ≡ digests
+chunks_joined : (n : ℕ) (digests : List (List ℕ))
+    → AllByRecursion (λ digest. length digest ≡ n) digests
+    → first_chunks n (length digests) (flat_map (λ x. x) digests) ≡ digests
 chunks_joined n [] all = refl
 chunks_joined n (s ∷ digests) all =
     rw (flat_map-cons, take_at s (flat_map (λ x. x) digests) n all.0, drop_at s (flat_map (λ x. x) digests) n all.0, chunks_joined n digests all.1) refl
 
-length-joined : (n : ℕ) (digests : List (List ℕ)) → AllByRecursion (λ digest. length digest ≡ n) digests → length (flat_map (λ x. x) digests) ≡ n * length digests
+length-joined : (n : ℕ) (digests : List (List ℕ))
+    → AllByRecursion (λ digest. length digest ≡ n) digests
+    → length (flat_map (λ x. x) digests) ≡ n * length digests
 length-joined n [] all = omega arith
 length-joined n (s ∷ digests) all =
     let e : n * suc (length digests) ≡ n + n * length digests = grind arith in
@@ -197,25 +219,30 @@ length-joined n (s ∷ digests) all =
     omega (arith, e, later, all.0, whole)
 
 -- digests of this many bytes each, place by place
-pub digests_long : (digests : List (List ℕ)) → ((i : ℕ) → i < length digests → length (get_or digests i []) ≡ DIGEST_SIZE) → AllByRecursion (λ digest. length digest ≡ DIGEST_SIZE) digests
+pub digests_long : (digests : List (List ℕ))
+    → ((i : ℕ) → i < length digests → length (get_or digests i []) ≡ DIGEST_SIZE)
+    → AllByRecursion (λ digest. length digest ≡ DIGEST_SIZE) digests
 digests_long [] each = tt
 digests_long (s ∷ digests) each = (each 0 (omega arith), digests_long digests (λ i lt. each (suc i) (omega (arith, lt))))
 
-pub length-digests : (digests : List (List ℕ)) → IsDigestTable digests → length (flat_map (λ x. x) digests) ≡ table_size
+pub length-digests : (digests : List (List ℕ)) → IsDigestTable digests
+    → length (flat_map (λ x. x) digests) ≡ table_size
 length-digests digests table = omega (arith, length-joined DIGEST_SIZE digests table.each, table.count)
 
 pub record HoldsDigests (body : List ℕ) (digests : List (List ℕ)) : Type 0 where
   pub text : body ≡ flat_map (λ x. x) digests
   pub table : IsDigestTable digests
 
-pub digests_body : (body : List ℕ) (digests : List (List ℕ)) → read_digests body ≡ Ok digests → HoldsDigests body digests
+pub digests_body : (body : List ℕ) (digests : List (List ℕ)) → read_digests body ≡ Ok digests
+    → HoldsDigests body digests
 unfolding read_digests
 digests_body body digests e =
     let g = chosen_ok (eqb (length body) table_size) BadLength (first_chunks DIGEST_SIZE BUCKETS body) digests e in
     let len : length body ≡ table_size = eqb-true _ _ g.0 in
     subst (HoldsDigests body) g.1 (record { text = sym (joined_chunks DIGEST_SIZE BUCKETS body len); table = record { count = length-chunks DIGEST_SIZE BUCKETS body; each = chunks_long DIGEST_SIZE BUCKETS body len } })
 
-pub digests_again : (digests : List (List ℕ)) → IsDigestTable digests → read_digests (flat_map (λ x. x) digests) ≡ Ok digests
+pub digests_again : (digests : List (List ℕ)) → IsDigestTable digests
+    → read_digests (flat_map (λ x. x) digests) ≡ Ok digests
 unfolding read_digests
 digests_again digests table =
     let again : first_chunks DIGEST_SIZE BUCKETS (flat_map (λ x. x) digests) ≡ digests = subst (λ (k : ℕ). first_chunks DIGEST_SIZE k (flat_map (λ x. x) digests) ≡ digests) table.count (chunks_joined DIGEST_SIZE digests table.each) in

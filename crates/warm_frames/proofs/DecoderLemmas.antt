@@ -17,35 +17,44 @@ use Rattle.warm_frames.specs.Sizes.{frame_size, KnowsSize, SaysSize}
 use Rattle.warm_frames.proofs.SizeLemmas.{size_goes, known_stays, no_ok, err_is, lt_or_le, lt_or_is, size_over, header_enough, header_lasts, size_whole, size_settled, fault_of_body, fault_of_header, ShownIn}
 
 -- what is known stays true, whatever follows
-pub size_again : (begun more : List ℕ) (size : ℕ) → frame_size begun ≡ Ok size → frame_size (begun ++ more) ≡ Ok size
+pub size_again : (begun more : List ℕ) (size : ℕ) → frame_size begun ≡ Ok size
+    → frame_size (begun ++ more) ≡ Ok size
 size_again begun more size is = known_stays (frame_size begun) (frame_size (begun ++ more)) (size_goes begun more) (λ short. no_ok (sym short ∙ is)) ∙ is
 
 -- a size that the bytes say only with the piece is greater than what has begun
-pub size_above : (begun piece : List ℕ) (size : ℕ) → frame_size begun ≡ Err Truncated → frame_size (begun ++ piece) ≡ Ok size → length begun < size
+pub size_above : (begun piece : List ℕ) (size : ℕ) → frame_size begun ≡ Err Truncated
+    → frame_size (begun ++ piece) ≡ Ok size → length begun < size
 size_above begun piece size short is = size_over begun piece size short is
 
 -- what wasn't known and isn't with the piece
-pub still_unknown : (begun piece held : List ℕ) (known : Option ℕ) → KnowsSize begun known → frame_size (begun ++ piece) ≡ Err Truncated → held ≡ begun ++ piece → KnowsSize held known
+pub still_unknown : (begun piece held : List ℕ) (known : Option ℕ) → KnowsSize begun known
+    → frame_size (begun ++ piece) ≡ Err Truncated → held ≡ begun ++ piece → KnowsSize held known
 still_unknown begun piece held None knows short is = ap frame_size is ∙ short
 still_unknown begun piece held (Some size) knows short is = absurd (no_ok (sym short ∙ size_again begun piece size knows.0))
 
 -- ---- the answers of feed
 
 -- a decoder that knows something of a size isn't after a fault
-pub inside : (old : DecoderState) (failed : Bool) (begun piece : List ℕ) (size : Option ℕ) → state_of failed begun ≡ old → KnowsWith old piece size → (failed ≡ false) × SaysSize begun piece (Ok size)
+pub inside : (old : DecoderState) (failed : Bool) (begun piece : List ℕ) (size : Option ℕ)
+    → state_of failed begun ≡ old → KnowsWith old piece size
+    → (failed ≡ false) × SaysSize begun piece (Ok size)
 inside old true begun piece size view knows = absurd (subst (λ (o : DecoderState). KnowsWith o piece size) (sym view) knows)
 inside old false begun piece size view knows = (refl, subst (λ (o : DecoderState). KnowsWith o piece size) (sym view) knows)
 
 -- what is known where no size is, and where one is
-pub said_none : (begun piece : List ℕ) (size : Option ℕ) → ((n : ℕ) → size ≡ Some n → ⊥) → SaysSize begun piece (Ok size) → SaysSize begun piece (Ok None)
+pub said_none : (begun piece : List ℕ) (size : Option ℕ) → ((n : ℕ) → size ≡ Some n → ⊥)
+    → SaysSize begun piece (Ok size) → SaysSize begun piece (Ok None)
 said_none begun piece None none says = says
 said_none begun piece (Some n) none says = absurd (none n refl)
 
-pub said_some : (begun piece : List ℕ) (size : Option ℕ) (n : ℕ) → size ≡ Some n → SaysSize begun piece (Ok size) → SaysSize begun piece (Ok (Some n))
+pub said_some : (begun piece : List ℕ) (size : Option ℕ) (n : ℕ) → size ≡ Some n
+    → SaysSize begun piece (Ok size) → SaysSize begun piece (Ok (Some n))
 said_some begun piece size n is says = subst (λ (x : Option ℕ). SaysSize begun piece (Ok x)) is says
 
 -- all of the piece was taken
-pub took_all : (old : DecoderState) (failed : Bool) (begun held piece : List ℕ) (fed : Fed) → state_of failed begun ≡ old → failed ≡ false → fed.taken ≡ length piece → fed.message ≡ None → held ≡ begun ++ piece
+pub took_all : (old : DecoderState) (failed : Bool) (begun held piece : List ℕ) (fed : Fed)
+    → state_of failed begun ≡ old → failed ≡ false → fed.taken ≡ length piece → fed.message ≡ None
+    → held ≡ begun ++ piece
     → IsIncomplete (begun ++ piece) → FeedStep old piece (Ok fed) (state_of failed held)
 took_all old failed begun held piece fed view works all none is part =
     let stands : Inside begun ≡ old = ap (λ (b : Bool). state_of b begun) (sym works) ∙ view in
@@ -54,20 +63,25 @@ took_all old failed begun held piece fed view works all none is part =
     (all, part, ap (λ (b : Bool). state_of b held) works ∙ ap (λ (bs : List ℕ). Inside bs) is))
 
 -- a byte of the piece shows a fault
-pub broke : (old : DecoderState) (failed : Bool) (begun piece : List ℕ) (fault : FrameFault) → state_of failed begun ≡ old → failed ≡ false → ShownIn begun piece fault → FeedStep old piece (Err fault) Broken
+pub broke : (old : DecoderState) (failed : Bool) (begun piece : List ℕ) (fault : FrameFault)
+    → state_of failed begun ≡ old → failed ≡ false → ShownIn begun piece fault
+    → FeedStep old piece (Err fault) Broken
 broke old failed begun piece fault view works shown =
     let stands : Inside begun ≡ old = ap (λ (b : Bool). state_of b begun) (sym works) ∙ view in
     subst (λ (o : DecoderState). FeedStep o piece (Err fault) Broken) stands (inr (shown.0, shown.1, shown.2, refl))
 
 -- an allocation failure
-pub no_room : (old : DecoderState) (failed : Bool) (begun held piece : List ℕ) (fault : FrameFault) → state_of failed begun ≡ old → failed ≡ false → fault ≡ Memory → held ≡ begun → FeedStep old piece (Err fault) (state_of failed held)
+pub no_room : (old : DecoderState) (failed : Bool) (begun held piece : List ℕ) (fault : FrameFault)
+    → state_of failed begun ≡ old → failed ≡ false → fault ≡ Memory → held ≡ begun
+    → FeedStep old piece (Err fault) (state_of failed held)
 no_room old failed begun held piece fault view works memory is =
     let stands : Inside begun ≡ old = ap (λ (b : Bool). state_of b begun) (sym works) ∙ view in
     subst (λ (o : DecoderState). FeedStep o piece (Err fault) (state_of failed held)) stands
     (inl (memory, ap (λ (b : Bool). state_of b held) works ∙ ap (λ (bs : List ℕ). Inside bs) is))
 
 -- a fault of the header
-pub header_shown : (begun piece : List ℕ) (fault : FrameFault) → SaysSize begun piece (Err fault) → ShownIn begun piece fault
+pub header_shown : (begun piece : List ℕ) (fault : FrameFault) → SaysSize begun piece (Err fault)
+    → ShownIn begun piece fault
 header_shown begun piece fault says =
     let lasts : IsLasting fault = ⊎_elim (λ short. absurd (says.2 short)) (λ l. l) (header_lasts (begun ++ piece) fault says.0) in
     fault_of_header begun piece fault lasts says.1 says.0
@@ -75,7 +89,10 @@ header_shown begun piece fault says =
 -- ---- the header, put together
 
 -- what was written over the front and then behind it
-pub header_is : (held front zeros piece written : List ℕ) (more k : ℕ) → front ≡ held → written ≡ take more piece → more ≡ length written → take (length held + more) (put_mid (length held) k (front ++ zeros) written) ≡ held ++ take more piece
+pub header_is : (held front zeros piece written : List ℕ) (more k : ℕ) → front ≡ held
+    → written ≡ take more piece → more ≡ length written
+    → take (length held + more) (put_mid (length held) k (front ++ zeros) written)
+    ≡ held ++ take more piece
 header_is held front zeros piece written more k is_held is_more len =
     let long : length front ≡ length held = ap length is_held in
     let inside : length held ≤ length (front ++ zeros) = omega (arith, long, length-append front zeros) in
@@ -83,7 +100,9 @@ header_is held front zeros piece written more k is_held is_more len =
     ∙ (λ i. (take_at front zeros (length held) long ∙ is_held) i ++ is_more i)
 
 -- this prefix of the piece says what all of it says
-pub header_said : (held piece : List ℕ) (more : ℕ) → length held < HEADER_SIZE → more ≤ length piece → (more ≡ length piece) ⊎ (more ≡ HEADER_SIZE - length held) → frame_size (held ++ take more piece) ≡ frame_size (held ++ piece)
+pub header_said : (held piece : List ℕ) (more : ℕ) → length held < HEADER_SIZE → more ≤ length piece
+    → (more ≡ length piece) ⊎ (more ≡ HEADER_SIZE - length held)
+    → frame_size (held ++ take more piece) ≡ frame_size (held ++ piece)
 header_said held piece more few inside (inl whole) = ap (λ (p : List ℕ). frame_size (held ++ p)) (take_all more piece (omega (arith, whole)))
 header_said held piece more few inside (inr enough) =
     let front : List ℕ = held ++ take more piece in
@@ -106,19 +125,25 @@ less_than_one : 3 ≤ 1 → ⊥
 less_than_one le = omega (arith, le)
 
 -- an allocation failure leaves the bytes held
-pub memory_leaves : (begun end held : List ℕ) (fault : FrameFault) → frame_size (begun ++ end) ≡ Ok (length (begun ++ end)) → DecodesWith begun end (Err fault) held → fault ≡ Memory → held ≡ begun
+pub memory_leaves : (begun end held : List ℕ) (fault : FrameFault)
+    → frame_size (begun ++ end) ≡ Ok (length (begun ++ end))
+    → DecodesWith begun end (Err fault) held → fault ≡ Memory → held ≡ begun
 memory_leaves begun end held fault size (inl read) memory =
     let lasts : IsLasting Memory = subst IsLasting memory (size_whole (begun ++ end) fault size (sym read)) in
     absurd (less_than_one lasts.0)
 memory_leaves begun end held fault size (inr none) memory = none.1
 
 -- another fault is shown by the last byte
-pub body_shown : (begun piece held : List ℕ) (n : ℕ) (fault : FrameFault) → n ≤ length piece → frame_size (begun ++ take n piece) ≡ Ok (length (begun ++ take n piece)) → DecodesWith begun (take n piece) (Err fault) held → fault ≢ Memory → ShownIn begun piece fault
+pub body_shown : (begun piece held : List ℕ) (n : ℕ) (fault : FrameFault) → n ≤ length piece
+    → frame_size (begun ++ take n piece) ≡ Ok (length (begun ++ take n piece))
+    → DecodesWith begun (take n piece) (Err fault) held → fault ≢ Memory → ShownIn begun piece fault
 body_shown begun piece held n fault inside size (inl read) other = (n, inside, fault_of_body (begun ++ take n piece) fault size (sym read))
 body_shown begun piece held n fault inside size (inr none) other = absurd (other (err_is {A = Message} fault Memory none.0))
 
 -- the bytes up to the end are as many as the size says
-pub size_up_to : (begun piece : List ℕ) (size n : ℕ) → frame_size (begun ++ piece) ≡ Ok size → n + length begun ≡ size → n ≤ length piece → frame_size (begun ++ take n piece) ≡ Ok (length (begun ++ take n piece))
+pub size_up_to : (begun piece : List ℕ) (size n : ℕ) → frame_size (begun ++ piece) ≡ Ok size
+    → n + length begun ≡ size → n ≤ length piece
+    → frame_size (begun ++ take n piece) ≡ Ok (length (begun ++ take n piece))
 size_up_to begun piece size n is end enough =
     let front : List ℕ = begun ++ take n piece in
     let len : length front ≡ size = omega (arith, end, enough, length-append begun (take n piece), length-take n piece) in
@@ -127,17 +152,21 @@ size_up_to begun piece size n is end enough =
     sym whole ∙ ap frame_size parts ∙ is ∙ ap (λ (m : ℕ). Ok m) (sym len)
 
 -- what was known stays, where nothing was taken
-pub same_knows : (begun held : List ℕ) (known : Option ℕ) → held ≡ begun → KnowsSize begun known → KnowsSize held known
+pub same_knows : (begun held : List ℕ) (known : Option ℕ) → held ≡ begun → KnowsSize begun known
+    → KnowsSize held known
 same_knows begun held known is knows = subst (λ (h : List ℕ). KnowsSize h known) (sym is) knows
 
 -- what is known of the size, by what was kept of it
-pub known_size : (begun : List ℕ) (known : Option ℕ) (size : ℕ) → known ≡ Some size → KnowsSize begun known → KnowsSize begun (Some size)
+pub known_size : (begun : List ℕ) (known : Option ℕ) (size : ℕ) → known ≡ Some size
+    → KnowsSize begun known → KnowsSize begun (Some size)
 known_size begun known size is knows = subst (KnowsSize begun) is knows
 
-pub unknown_yet : (begun : List ℕ) (known : Option ℕ) → ((size : ℕ) → known ≡ Some size → ⊥) → KnowsSize begun known → frame_size begun ≡ Err Truncated
+pub unknown_yet : (begun : List ℕ) (known : Option ℕ) → ((size : ℕ) → known ≡ Some size → ⊥)
+    → KnowsSize begun known → frame_size begun ≡ Err Truncated
 unknown_yet begun None none knows = knows
 unknown_yet begun (Some size) none knows = absurd (none size refl)
 
 -- facts about the bytes held
-pub said : (bytes held piece : List ℕ) (r s : Result (Option ℕ) FrameFault) → bytes ≡ held → r ≡ s → SaysSize bytes piece r → SaysSize held piece s
+pub said : (bytes held piece : List ℕ) (r s : Result (Option ℕ) FrameFault) → bytes ≡ held → r ≡ s
+    → SaysSize bytes piece r → SaysSize held piece s
 said bytes held piece r s same is says = subst (λ (h : List ℕ). SaysSize h piece s) same (subst (SaysSize bytes piece) is says)

@@ -55,17 +55,22 @@ page n = 0 ∷ 0 ∷ 0 ∷ 0 ∷ 0 ∷ n ∷ []
 abbrev entries_frame : ℕ → ℕ → ℕ → List ℕ → List ℕ
 entries_frame sender len count text = letters ++ 1 ∷ 0 ∷ sender ∷ 0 ∷ 0 ∷ 0 ∷ len ∷ 0 ∷ 0 ∷ 0 ∷ count ∷ text
 
-nothing_encoded : encoding_in Narrow (Entries 3 0 []) ≡ letters ++ 1 ∷ 0 ∷ 3 ∷ 0 ∷ 0 ∷ 0 ∷ 4 ∷ 0 ∷ 0 ∷ 0 ∷ 0 ∷ []
+nothing_encoded : encoding_in Narrow (Entries 3 0 [])
+    ≡ letters ++ 1 ∷ 0 ∷ 3 ∷ 0 ∷ 0 ∷ 0 ∷ 4 ∷ 0 ∷ 0 ∷ 0 ∷ 0 ∷ []
 nothing_encoded = refl
 
-two_stamps_encoded : encoding_in Narrow (Entries 1 0 (twice 7 (at 20 1) (at 10 1) ∷ [])) ≡ entries_frame 1 0x1F 1 (page 7 ++ 2 ∷ (twenty ++ ten))
+two_stamps_encoded : encoding_in Narrow (Entries 1 0 (twice 7 (at 20 1) (at 10 1) ∷ []))
+    ≡ entries_frame 1 0x1F 1 (page 7 ++ 2 ∷ (twenty ++ ten))
 two_stamps_encoded = refl
 
-request_encoded : encoding_in Narrow (Want 2 0 6) ≡ letters ++ 3 ∷ 0 ∷ 2 ∷ 0 ∷ 0 ∷ 0 ∷ 8 ∷ 0 ∷ 0 ∷ 0 ∷ 0 ∷ 0 ∷ 0 ∷ 0 ∷ 6 ∷ []
+request_encoded : encoding_in Narrow (Want 2 0 6)
+    ≡ letters ++ 3 ∷ 0 ∷ 2 ∷ 0 ∷ 0 ∷ 0 ∷ 8 ∷ 0 ∷ 0 ∷ 0 ∷ 0 ∷ 0 ∷ 0 ∷ 0 ∷ 6 ∷ []
 request_encoded = refl
 
 -- the wide encoding of the request, and of an entry under a horizon
-request_written : encoding (Want 2 0 6) ≡ 0x4C ∷ 0x32 ∷ 0x47 ∷ 0x32 ∷ 3 ∷ 0 ∷ 2 ∷ 0 ∷ 0 ∷ 0 ∷ 0 ∷ 0 ∷ 0 ∷ 0 ∷ 0 ∷ 0 ∷ 0 ∷ 0 ∷ 8 ∷ 0 ∷ 0 ∷ 0 ∷ 0 ∷ 0 ∷ 0 ∷ 0 ∷ 6 ∷ []
+request_written : encoding (Want 2 0 6)
+    ≡ 0x4C ∷ 0x32 ∷ 0x47 ∷ 0x32 ∷ 3 ∷ 0 ∷ 2 ∷ 0 ∷ 0 ∷ 0 ∷ 0 ∷ 0 ∷ 0 ∷ 0 ∷ 0 ∷ 0 ∷ 0 ∷ 0 ∷ 8 ∷ 0 ∷ 0
+    ∷ 0 ∷ 0 ∷ 0 ∷ 0 ∷ 0 ∷ 6 ∷ []
 request_written = refl
 
 -- a page in ten bytes, its number's fourth byte from the end and its last
@@ -75,25 +80,30 @@ page_wide high n = 0 ∷ 0 ∷ 0 ∷ 0 ∷ 0 ∷ high ∷ 0 ∷ 0 ∷ 0 ∷ n �
 abbrev wide_frame : List ℕ → List ℕ
 wide_frame text = 0x4C ∷ 0x32 ∷ 0x47 ∷ 0x32 ∷ 1 ∷ 0 ∷ 1 ∷ 0 ∷ 0 ∷ 0 ∷ 0 ∷ 0 ∷ 0 ∷ 0 ∷ 12 ∷ 0 ∷ 0 ∷ 0 ∷ 0x23 ∷ 0 ∷ 0 ∷ 0 ∷ 1 ∷ text
 
-wide_written : encoding (Entries 1 12 (twice 7 (at 20 1) (at 10 1) ∷ [])) ≡ wide_frame (page_wide 0 7 ++ 2 ∷ (twenty ++ ten))
+wide_written : encoding (Entries 1 12 (twice 7 (at 20 1) (at 10 1) ∷ []))
+    ≡ wide_frame (page_wide 0 7 ++ 2 ∷ (twenty ++ ten))
 wide_written = refl
 
-wide_read : read_frame (wide_frame (page_wide 0 7 ++ 2 ∷ (twenty ++ ten))) ≡ Ok (Entries 1 12 (twice 7 (at 20 1) (at 10 1) ∷ []))
+wide_read : read_frame (wide_frame (page_wide 0 7 ++ 2 ∷ (twenty ++ ten)))
+    ≡ Ok (Entries 1 12 (twice 7 (at 20 1) (at 10 1) ∷ []))
 unfolding read_frame start_at length_at body_at read_message read_entries count_at all_entries entries_at entry_at read_page hist_at two_in
 wide_read = refl
 
 -- a page number above 32 bits is read
-wide_page_read : read_frame (wide_frame (page_wide 1 0 ++ 2 ∷ (twenty ++ ten))) ≡ Ok (Entries 1 12 (twice 4294967296 (at 20 1) (at 10 1) ∷ []))
+wide_page_read : read_frame (wide_frame (page_wide 1 0 ++ 2 ∷ (twenty ++ ten)))
+    ≡ Ok (Entries 1 12 (twice 4294967296 (at 20 1) (at 10 1) ∷ []))
 unfolding read_frame start_at length_at body_at read_message read_entries count_at all_entries entries_at entry_at read_page hist_at two_in
 wide_page_read = refl
 
 -- ---- readings
 
-two_stamps_read : read_frame (entries_frame 1 0x1F 1 (page 7 ++ 2 ∷ (twenty ++ ten))) ≡ Ok (Entries 1 0 (twice 7 (at 20 1) (at 10 1) ∷ []))
+two_stamps_read : read_frame (entries_frame 1 0x1F 1 (page 7 ++ 2 ∷ (twenty ++ ten)))
+    ≡ Ok (Entries 1 0 (twice 7 (at 20 1) (at 10 1) ∷ []))
 unfolding read_frame start_at length_at body_at read_message read_entries count_at all_entries entries_at entry_at read_page hist_at two_in
 two_stamps_read = refl
 
-rising_read : read_frame (entries_frame 1 0x26 2 (page 7 ++ 1 ∷ (twenty ++ page 8 ++ 1 ∷ ten))) ≡ Ok (Entries 1 0 (once 7 (at 20 1) ∷ once 8 (at 10 1) ∷ []))
+rising_read : read_frame (entries_frame 1 0x26 2 (page 7 ++ 1 ∷ (twenty ++ page 8 ++ 1 ∷ ten)))
+    ≡ Ok (Entries 1 0 (once 7 (at 20 1) ∷ once 8 (at 10 1) ∷ []))
 unfolding read_frame start_at length_at body_at read_message read_entries count_at all_entries entries_at entry_at read_page hist_at
 rising_read = refl
 
@@ -123,15 +133,18 @@ sender_65 : read_frame (letters ++ 1 ∷ 0 ∷ 65 ∷ []) ≡ Err BadSender
 unfolding read_frame start_at
 sender_65 = refl
 
-cut_short : read_frame (entries_frame 1 0x1F 1 (page 7 ++ 2 ∷ (twenty ++ take 9 ten))) ≡ Err Truncated
+cut_short : read_frame (entries_frame 1 0x1F 1 (page 7 ++ 2 ∷ (twenty ++ take 9 ten)))
+    ≡ Err Truncated
 unfolding read_frame start_at length_at body_at
 cut_short = refl
 
-a_byte_more : read_frame (entries_frame 1 0x1F 1 (page 7 ++ 2 ∷ (twenty ++ ten ++ 0 ∷ []))) ≡ Err BadLength
+a_byte_more : read_frame (entries_frame 1 0x1F 1 (page 7 ++ 2 ∷ (twenty ++ ten ++ 0 ∷ [])))
+    ≡ Err BadLength
 unfolding read_frame start_at length_at body_at
 a_byte_more = refl
 
-count_1001 : read_frame (letters ++ 1 ∷ 0 ∷ 1 ∷ 0 ∷ 0 ∷ 0 ∷ 4 ∷ 0 ∷ 0 ∷ 3 ∷ 0xE9 ∷ []) ≡ Err BadCount
+count_1001 : read_frame (letters ++ 1 ∷ 0 ∷ 1 ∷ 0 ∷ 0 ∷ 0 ∷ 4 ∷ 0 ∷ 0 ∷ 3 ∷ 0xE9 ∷ [])
+    ≡ Err BadCount
 unfolding read_frame start_at length_at body_at read_message read_entries count_at
 count_1001 = refl
 
@@ -147,7 +160,8 @@ equal_stamps : read_frame (entries_frame 1 0x1F 1 (page 7 ++ 2 ∷ (twenty ++ tw
 unfolding read_frame start_at length_at body_at read_message read_entries count_at all_entries entries_at entry_at read_page hist_at two_in
 equal_stamps = refl
 
-equal_pages : read_frame (entries_frame 1 0x26 2 (page 7 ++ 1 ∷ (twenty ++ page 7 ++ 1 ∷ ten))) ≡ Err BadOrder
+equal_pages : read_frame (entries_frame 1 0x26 2 (page 7 ++ 1 ∷ (twenty ++ page 7 ++ 1 ∷ ten)))
+    ≡ Err BadOrder
 unfolding read_frame start_at length_at body_at read_message read_entries count_at all_entries entries_at entry_at read_page hist_at
 equal_pages = refl
 

@@ -29,22 +29,28 @@ abbrev pub Only : {A : Type 0} → (FrameFault → Type 0) → Result A FrameFau
 Only P (Ok x) = Unit {0}
 Only P (Err e) = P e
 
-pub only_then : {A B : Type 0} (P : FrameFault → Type 0) (r : Result A FrameFault) (f : A → Result B FrameFault) → Only P r → ((x : A) → r ≡ Ok x → Only P (f x)) → Only P (r >>= f)
+pub only_then : {A B : Type 0} (P : FrameFault → Type 0) (r : Result A FrameFault)
+    (f : A → Result B FrameFault) → Only P r → ((x : A) → r ≡ Ok x → Only P (f x))
+    → Only P (r >>= f)
 only_then P (Ok x) f only each = each x refl
 only_then P (Err e) f only each = only
 
-pub only_fault : {A : Type 0} (P : FrameFault → Type 0) (r : Result A FrameFault) (e : FrameFault) → Only P r → r ≡ Err e → P e
+pub only_fault : {A : Type 0} (P : FrameFault → Type 0) (r : Result A FrameFault) (e : FrameFault)
+    → Only P r → r ≡ Err e → P e
 only_fault P r e only is = subst (λ (s : Result _ FrameFault). Only P s) is only
 
-pub only_want : (P : FrameFault → Type 0) (b : Bool) (fault : FrameFault) → P fault → Only P (want b fault)
+pub only_want : (P : FrameFault → Type 0) (b : Bool) (fault : FrameFault) → P fault
+    → Only P (want b fault)
 only_want P true fault p = tt
 only_want P false fault p = p
 
-only_cond : {A : Type 0} (P : FrameFault → Type 0) (b : Bool) (fault : FrameFault) (x : A) → (b ≡ true → P fault) → Only P (cond b (Err fault) (Ok x))
+only_cond : {A : Type 0} (P : FrameFault → Type 0) (b : Bool) (fault : FrameFault) (x : A)
+    → (b ≡ true → P fault) → Only P (cond b (Err fault) (Ok x))
 only_cond P true fault x p = p refl
 only_cond P false fault x p = tt
 
-only_chosen : {A : Type 0} (P : FrameFault → Type 0) (b : Bool) (fault : FrameFault) (x : A) → P fault → Only P (cond b (Ok x) (Err fault))
+only_chosen : {A : Type 0} (P : FrameFault → Type 0) (b : Bool) (fault : FrameFault) (x : A)
+    → P fault → Only P (cond b (Ok x) (Err fault))
 only_chosen P true fault x p = tt
 only_chosen P false fault x p = p
 
@@ -93,7 +99,8 @@ unfolding read_page
 page_lasts Narrow bytes = only_then IsLasting (front_at 6 BadLength bytes) _ (front_lasts 6 bytes) (λ six is_six. tt)
 page_lasts Wide bytes = only_then IsLasting (front_at 10 BadLength bytes) _ (front_lasts 10 bytes) (λ ten is_ten. tt)
 
-entry_lasts : (format : Format) (before : Option PageId) (bytes : List ℕ) → Only IsLasting (entry_at format before bytes)
+entry_lasts : (format : Format) (before : Option PageId) (bytes : List ℕ)
+    → Only IsLasting (entry_at format before bytes)
 unfolding entry_at
 entry_lasts format before bytes =
     only_then IsLasting (read_page format bytes) _ (page_lasts format bytes) (λ page is_page.
@@ -101,7 +108,8 @@ entry_lasts format before bytes =
     only_then IsLasting (byte_at BadLength page.1) _ (byte_lasts page.1) (λ tag is_tag.
     only_then IsLasting (hist_at tag.0 tag.1) _ (hist_lasts tag.0 tag.1) (λ hist is_hist. tt))))
 
-entries_last : (format : Format) (n : ℕ) (before : Option PageId) (bytes : List ℕ) → Only IsLasting (entries_at format n before bytes)
+entries_last : (format : Format) (n : ℕ) (before : Option PageId) (bytes : List ℕ)
+    → Only IsLasting (entries_at format n before bytes)
 unfolding entries_at
 entries_last format zero before bytes = tt
 entries_last format (suc n) before bytes =
@@ -118,7 +126,8 @@ body_lasts format body =
     only_then IsLasting (want (eqb (length entries.1) 0) BadLength) _ (only_want IsLasting (eqb (length entries.1) 0) BadLength bad_length) (λ ended is_ended. tt)))
 
 -- a fault of a body is there for good
-by_lasts : (kind : Kind) (format : Format) (sender horizon : ℕ) (body : List ℕ) → Only IsLasting (message_by kind format sender horizon body)
+by_lasts : (kind : Kind) (format : Format) (sender horizon : ℕ) (body : List ℕ)
+    → Only IsLasting (message_by kind format sender horizon body)
 unfolding read_digests
 by_lasts kinds.Entries format sender horizon body = only_then IsLasting (read_entries format body) _ (body_lasts format body) (λ entries is_entries. tt)
 by_lasts kinds.Digest format sender horizon body =
@@ -134,10 +143,12 @@ frame_lasts start body = by_lasts start.kind start.format start.sender start.hor
 abbrev pub ShortOrLasting : ℕ → ℕ → FrameFault → Type 0
 ShortOrLasting most len fault = ((fault ≡ Truncated) × (len < most)) ⊎ IsLasting fault
 
-pub number_short : (P : FrameFault → Type 0) (w : Width) (bytes : List ℕ) → (length bytes < byte_len w → P Truncated) → Only P (number_at w Truncated bytes)
+pub number_short : (P : FrameFault → Type 0) (w : Width) (bytes : List ℕ)
+    → (length bytes < byte_len w → P Truncated) → Only P (number_at w Truncated bytes)
 number_short P w bytes short = only_cond P (ltb (length bytes) (byte_len w)) Truncated (from_be_bytes w (take (byte_len w) bytes), drop (byte_len w) bytes) (λ test. short (grind (arith, nat_tests, test)))
 
-byte_short : (P : FrameFault → Type 0) (bytes : List ℕ) → (length bytes < 1 → P Truncated) → Only P (byte_at Truncated bytes)
+byte_short : (P : FrameFault → Type 0) (bytes : List ℕ) → (length bytes < 1 → P Truncated)
+    → Only P (byte_at Truncated bytes)
 byte_short P [] short = short (omega arith)
 byte_short P (b ∷ bytes) short = tt
 
@@ -149,13 +160,15 @@ kind_short P (suc (suc (suc zero))) bad = tt
 kind_short P (suc (suc (suc (suc n)))) bad = bad
 
 -- this many bytes were read
-pub number_long : (w : Width) (short : FrameFault) (bytes : List ℕ) (x : ℕ × List ℕ) → number_at w short bytes ≡ Ok x → length bytes ≡ byte_len w + length x.1
+pub number_long : (w : Width) (short : FrameFault) (bytes : List ℕ) (x : ℕ × List ℕ)
+    → number_at w short bytes ≡ Ok x → length bytes ≡ byte_len w + length x.1
 number_long w short bytes x e =
     let g = guard_ok (ltb (length bytes) (byte_len w)) short (from_be_bytes w (take (byte_len w) bytes), drop (byte_len w) bytes) x e in
     let long : byte_len w ≤ length bytes = ltb-false _ _ g.0 in
     subst (λ (p : ℕ × List ℕ). length bytes ≡ byte_len w + length p.1) g.1 (omega (arith, long, length-drop (byte_len w) bytes))
 
-pub byte_long : (short : FrameFault) (bytes : List ℕ) (x : ℕ × List ℕ) → byte_at short bytes ≡ Ok x → length bytes ≡ 1 + length x.1
+pub byte_long : (short : FrameFault) (bytes : List ℕ) (x : ℕ × List ℕ) → byte_at short bytes ≡ Ok x
+    → length bytes ≡ 1 + length x.1
 byte_long short [] x e = absurd cc
 byte_long short (b ∷ bytes) x e = subst (λ (p : ℕ × List ℕ). length (b ∷ bytes) ≡ 1 + length p.1) (ok_is (b, bytes) x e) (omega arith)
 
@@ -176,15 +189,18 @@ format_short P letters bad = cases (eqb letters MAGIC) (eqb letters NARROW_MAGIC
     cases false false = bad
 
 -- which format the letters have
-pub format_is : (letters : ℕ) (format : Format) → format_of letters ≡ Ok format → header_size format ≡ cond (eqb letters MAGIC) 19 11
+pub format_is : (letters : ℕ) (format : Format) → format_of letters ≡ Ok format
+    → header_size format ≡ cond (eqb letters MAGIC) 19 11
 format_is letters format e = cases (eqb letters MAGIC) (eqb letters NARROW_MAGIC) e
   where
-    cases : (a b : Bool) → cond a (done Wide) (cond b (done Narrow) (Err BadMagic)) ≡ Ok format → header_size format ≡ cond a 19 11
+    cases : (a b : Bool) → cond a (done Wide) (cond b (done Narrow) (Err BadMagic)) ≡ Ok format
+        → header_size format ≡ cond a 19 11
     cases true b is = ap header_size (sym (ok_is Wide format is))
     cases false true is = ap header_size (sym (ok_is Narrow format is))
     cases false false is = absurd cc
 
-horizon_short : (P : FrameFault → Type 0) (format : Format) (bytes : List ℕ) → (length bytes < 8 → header_size format ≡ 19 → P Truncated) → Only P (horizon_at format bytes)
+horizon_short : (P : FrameFault → Type 0) (format : Format) (bytes : List ℕ)
+    → (length bytes < 8 → header_size format ≡ 19 → P Truncated) → Only P (horizon_at format bytes)
 horizon_short P Narrow bytes short = tt
 horizon_short P Wide bytes short = number_short P w64 bytes (λ few. short few refl)
 
@@ -192,7 +208,8 @@ either_most : (b : Bool) → 11 ≤ cond b 19 11
 either_most true = omega arith
 either_most false = omega arith
 
-pub start_short : (bytes : List ℕ) → Only (ShortOrLasting (header_most bytes) (length bytes)) (start_at bytes)
+pub start_short : (bytes : List ℕ)
+    → Only (ShortOrLasting (header_most bytes) (length bytes)) (start_at bytes)
 unfolding start_at
 start_short bytes =
     let P = ShortOrLasting (header_most bytes) (length bytes) in

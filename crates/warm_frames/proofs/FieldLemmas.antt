@@ -30,20 +30,24 @@ abbrev pub done : {A : Type 0} → A → Result A FrameFault
 done x = Ok x
 
 -- the value of a step that did not fail
-pub bind_ok : {A B : Type 0} (r : Result A FrameFault) (f : A → Result B FrameFault) (y : B) → (r >>= f) ≡ Ok y → (x : A) × (r ≡ Ok x) × (f x ≡ Ok y)
+pub bind_ok : {A B : Type 0} (r : Result A FrameFault) (f : A → Result B FrameFault) (y : B)
+    → (r >>= f) ≡ Ok y → (x : A) × (r ≡ Ok x) × (f x ≡ Ok y)
 bind_ok (Ok x) f y e = (x, refl, e)
 bind_ok (Err d) f y e = absurd cc
 
 -- a test that did not fail
-pub want_ok : {B : Type 0} (b : Bool) (fault : FrameFault) (f : Bool → Result B FrameFault) (y : B) → (want b fault >>= f) ≡ Ok y → (b ≡ true) × (f true ≡ Ok y)
+pub want_ok : {B : Type 0} (b : Bool) (fault : FrameFault) (f : Bool → Result B FrameFault) (y : B)
+    → (want b fault >>= f) ≡ Ok y → (b ≡ true) × (f true ≡ Ok y)
 want_ok true fault f y e = (refl, e)
 want_ok false fault f y e = absurd cc
 
-pub guard_ok : {A : Type 0} (b : Bool) (fault : FrameFault) (x y : A) → cond b (Err fault) (Ok x) ≡ Ok y → (b ≡ false) × (x ≡ y)
+pub guard_ok : {A : Type 0} (b : Bool) (fault : FrameFault) (x y : A)
+    → cond b (Err fault) (Ok x) ≡ Ok y → (b ≡ false) × (x ≡ y)
 guard_ok true fault x y e = absurd cc
 guard_ok false fault x y e = (refl, cc)
 
-pub chosen_ok : {A : Type 0} (b : Bool) (fault : FrameFault) (x y : A) → cond b (Ok x) (Err fault) ≡ Ok y → (b ≡ true) × (x ≡ y)
+pub chosen_ok : {A : Type 0} (b : Bool) (fault : FrameFault) (x y : A)
+    → cond b (Ok x) (Err fault) ≡ Ok y → (b ≡ true) × (x ≡ y)
 chosen_ok true fault x y e = (refl, cc)
 chosen_ok false fault x y e = absurd cc
 
@@ -65,7 +69,8 @@ pub record TakesSome (n : ℕ) (bytes text rest : List ℕ) : Type 0 where
   pub len : length text ≡ n
   pub fits : IsBytes text
 
-pub front_takes : (n : ℕ) (short : FrameFault) (bytes : List ℕ) (x : List ℕ × List ℕ) → IsBytes bytes → front_at n short bytes ≡ Ok x → TakesSome n bytes x.0 x.1
+pub front_takes : (n : ℕ) (short : FrameFault) (bytes : List ℕ) (x : List ℕ × List ℕ)
+    → IsBytes bytes → front_at n short bytes ≡ Ok x → TakesSome n bytes x.0 x.1
 front_takes n short bytes x fits e =
     let g = guard_ok (ltb (length bytes) n) short (take n bytes, drop n bytes) x e in
     let long : n ≤ length bytes = ltb-false _ _ g.0 in
@@ -76,7 +81,8 @@ front_takes n short bytes x fits e =
     } in
     subst (λ (p : List ℕ × List ℕ). TakesSome n bytes p.0 p.1) g.1 made
 
-pub front_again : (n : ℕ) (short : FrameFault) (text rest : List ℕ) → length text ≡ n → front_at n short (text ++ rest) ≡ Ok (text, rest)
+pub front_again : (n : ℕ) (short : FrameFault) (text rest : List ℕ) → length text ≡ n
+    → front_at n short (text ++ rest) ≡ Ok (text, rest)
 front_again n short text rest len =
     let long : ltb (length (text ++ rest)) n ≡ false = le-ltb _ _ (omega (arith, length-append text rest)) in
     rw (long, take_at text rest n len, drop_at text rest n len) refl
@@ -84,7 +90,8 @@ front_again n short text rest len =
 pub IsBytes-later : (b : ℕ) (bytes : List ℕ) → IsBytes (b ∷ bytes) → IsBytes bytes
 IsBytes-later b bytes fits i = fits (suc i)
 
-pub byte_takes : (short : FrameFault) (bytes : List ℕ) (x : ℕ × List ℕ) → IsBytes bytes → byte_at short bytes ≡ Ok x → Takes bytes (x.0 ∷ []) x.1
+pub byte_takes : (short : FrameFault) (bytes : List ℕ) (x : ℕ × List ℕ) → IsBytes bytes
+    → byte_at short bytes ≡ Ok x → Takes bytes (x.0 ∷ []) x.1
 byte_takes short [] x fits e = absurd cc
 byte_takes short (b ∷ bytes) x fits e =
     subst (λ (p : ℕ × List ℕ). Takes (b ∷ bytes) (p.0 ∷ []) p.1) (ok_is (b, bytes) x e) (record { parts = refl; rest_fits = IsBytes-later b bytes fits })
@@ -93,7 +100,8 @@ byte_takes short (b ∷ bytes) x fits e =
 
 pub record IsWide (w : Width) (limit : ℕ) : Type 0 where
   pub len : (n : ℕ) → length (to_be_bytes w n) ≡ byte_len w
-  pub back : (bytes : List ℕ) → length bytes ≡ byte_len w → IsBytes bytes → to_be_bytes w (from_be_bytes w bytes) ≡ bytes
+  pub back : (bytes : List ℕ) → length bytes ≡ byte_len w → IsBytes bytes
+      → to_be_bytes w (from_be_bytes w bytes) ≡ bytes
   pub again : (n : ℕ) → n < limit → from_be_bytes w (to_be_bytes w n) ≡ n
   pub below : (bytes : List ℕ) → IsBytes bytes → from_be_bytes w bytes < limit
 
@@ -121,7 +129,9 @@ wide64 = record {
   below = λ bytes fits. omega (arith, fits 0, fits 1, fits 2, fits 3, fits 4, fits 5, fits 6, fits 7);
 }
 
-pub number_takes : (w : Width) (limit : ℕ) (short : FrameFault) (wide : IsWide w limit) (bytes : List ℕ) (x : ℕ × List ℕ) → IsBytes bytes → number_at w short bytes ≡ Ok x → Takes bytes (to_be_bytes w x.0) x.1 × (x.0 < limit)
+pub number_takes : (w : Width) (limit : ℕ) (short : FrameFault) (wide : IsWide w limit)
+    (bytes : List ℕ) (x : ℕ × List ℕ) → IsBytes bytes → number_at w short bytes ≡ Ok x
+    → Takes bytes (to_be_bytes w x.0) x.1 × (x.0 < limit)
 number_takes w limit short wide bytes x fits e =
     let g = guard_ok (ltb (length bytes) (byte_len w)) short (from_be_bytes w (take (byte_len w) bytes), drop (byte_len w) bytes) x e in
     let long : byte_len w ≤ length bytes = ltb-false _ _ g.0 in
@@ -133,7 +143,8 @@ number_takes w limit short wide bytes x fits e =
     } in
     subst (λ (p : ℕ × List ℕ). Takes bytes (to_be_bytes w p.0) p.1 × (p.0 < limit)) g.1 (made, wide.below (take (byte_len w) bytes) front-fits)
 
-pub number_again : (w : Width) (limit : ℕ) (short : FrameFault) (wide : IsWide w limit) (n : ℕ) (rest : List ℕ) → n < limit → number_at w short (to_be_bytes w n ++ rest) ≡ Ok (n, rest)
+pub number_again : (w : Width) (limit : ℕ) (short : FrameFault) (wide : IsWide w limit) (n : ℕ)
+    (rest : List ℕ) → n < limit → number_at w short (to_be_bytes w n ++ rest) ≡ Ok (n, rest)
 number_again w limit short wide n rest lt =
     let len = wide.len n in
     let long : ltb (length (to_be_bytes w n ++ rest)) (byte_len w) ≡ false = le-ltb _ _ (omega (arith, length-append (to_be_bytes w n) rest)) in
@@ -147,7 +158,8 @@ replica_is n e = grind (arith, nat_tests)
 pub replica_true : (n : ℕ) → IsReplica n → is_replica n ≡ true
 replica_true n h = grind (arith, nat_tests)
 
-pub stamp_takes : (ten : List ℕ) (s : Stamp) → length ten ≡ 10 → IsBytes ten → stamp_in ten ≡ Ok s → (ten ≡ bytes_of_stamp s) × IsStamp s
+pub stamp_takes : (ten : List ℕ) (s : Stamp) → length ten ≡ 10 → IsBytes ten → stamp_in ten ≡ Ok s
+    → (ten ≡ bytes_of_stamp s) × IsStamp s
 stamp_takes ten s len fits e =
     let g = chosen_ok (is_replica (stamp_of ten).replica) BadStamp (stamp_of ten) s e in
     subst (λ (t : Stamp). (ten ≡ bytes_of_stamp t) × IsStamp t) g.1 (sym (stamp_spelled ten len fits), IsStamp-of ten fits (replica_is _ g.0))
@@ -166,7 +178,9 @@ less_true o e = ap is_lt e
 
 -- ---- what is kept of a page
 
-two_takes : (later earlier : List ℕ) (h : PageHist) → length later ≡ 10 → length earlier ≡ 10 → IsBytes later → IsBytes earlier → two_in later earlier ≡ Ok h → (2 ∷ (later ++ earlier) ≡ hist_bytes h) × IsHist h
+two_takes : (later earlier : List ℕ) (h : PageHist) → length later ≡ 10 → length earlier ≡ 10
+    → IsBytes later → IsBytes earlier → two_in later earlier ≡ Ok h
+    → (2 ∷ (later ++ earlier) ≡ hist_bytes h) × IsHist h
 unfolding two_in
 two_takes later earlier h len1 len2 fits1 fits2 e =
     let a = bind_ok (stamp_in later) (λ last. stamp_in earlier >>= λ prev. want (is_lt (stamp_cmp prev last)) BadStamp >>= λ older. Ok (Twice (record { last = last; prev = prev }))) h e in
@@ -183,7 +197,8 @@ pub record TakesHist (tag : ℕ) (bytes : List ℕ) (x : PageHist × List ℕ) :
   pub taken : Takes (tag ∷ bytes) (hist_bytes x.0) x.1
   pub fits : IsHist x.0
 
-pub hist_takes : (tag : ℕ) (bytes : List ℕ) (x : PageHist × List ℕ) → IsBytes bytes → hist_at tag bytes ≡ Ok x → TakesHist tag bytes x
+pub hist_takes : (tag : ℕ) (bytes : List ℕ) (x : PageHist × List ℕ) → IsBytes bytes
+    → hist_at tag bytes ≡ Ok x → TakesHist tag bytes x
 unfolding hist_at
 hist_takes zero bytes x fits e = absurd cc
 hist_takes (suc zero) bytes x fits e =
@@ -224,7 +239,8 @@ pub hist_bytes-tag : (h : PageHist) → hist_bytes h ≡ hist_tag h ∷ stamps_b
 hist_bytes-tag (Once last) = refl
 hist_bytes-tag (Twice two) = refl
 
-pub hist_again : (h : PageHist) (rest : List ℕ) → IsHist h → hist_at (hist_tag h) (stamps_bytes h ++ rest) ≡ Ok (h, rest)
+pub hist_again : (h : PageHist) (rest : List ℕ) → IsHist h
+    → hist_at (hist_tag h) (stamps_bytes h ++ rest) ≡ Ok (h, rest)
 unfolding hist_at two_in
 hist_again (Once last) rest fits = rw (front_again 10 BadLength (bytes_of_stamp last) rest refl, stamp_in_again last fits) refl
 hist_again (Twice two) rest fits =
@@ -243,7 +259,8 @@ pub record TakesPage (format : Format) (bytes : List ℕ) (x : PageId × List �
   pub fits : IsPage x.0
   pub narrow : IsNarrowIn format x.0
 
-page_takes : (format : Format) (bytes : List ℕ) (x : PageId × List ℕ) → IsBytes bytes → read_page format bytes ≡ Ok x → TakesPage format bytes x
+page_takes : (format : Format) (bytes : List ℕ) (x : PageId × List ℕ) → IsBytes bytes
+    → read_page format bytes ≡ Ok x → TakesPage format bytes x
 unfolding read_page
 page_takes Narrow bytes x fits e =
     let a = bind_ok (front_at 6 BadLength bytes) (λ six. Ok (page_of_narrow six.0, six.1)) x e in
@@ -266,20 +283,23 @@ page_takes Wide bytes x fits e =
       narrow = tt;
     })
 
-page_at_again : (format : Format) (p : PageId) (rest : List ℕ) → IsPage p → IsNarrowIn format p → read_page format (page_bytes_in format p ++ rest) ≡ Ok (p, rest)
+page_at_again : (format : Format) (p : PageId) (rest : List ℕ) → IsPage p → IsNarrowIn format p
+    → read_page format (page_bytes_in format p ++ rest) ≡ Ok (p, rest)
 unfolding read_page
 page_at_again Narrow p rest fits narrow = rw (front_again 6 BadLength (narrow_bytes_of_page p) rest refl, narrow_again p (record { dev = fits.dev; no = narrow })) refl
 page_at_again Wide p rest fits narrow = rw (front_again 10 BadLength (bytes_of_page p) rest refl, page_again p fits) refl
 
 -- ---- entries
 
-pub record TakesEntry (format : Format) (before : Option PageId) (bytes : List ℕ) (x : Entry × List ℕ) : Type 0 where
+pub record TakesEntry (format : Format) (before : Option PageId) (bytes : List ℕ)
+    (x : Entry × List ℕ) : Type 0 where
   pub taken : Takes bytes (entry_bytes_in format x.0) x.1
   pub fits : IsEntry x.0
   pub narrow : IsNarrowIn format x.0.page
   pub greater : comes_after before x.0.page ≡ true
 
-pub entry_takes : (format : Format) (before : Option PageId) (bytes : List ℕ) (x : Entry × List ℕ) → IsBytes bytes → entry_at format before bytes ≡ Ok x → TakesEntry format before bytes x
+pub entry_takes : (format : Format) (before : Option PageId) (bytes : List ℕ) (x : Entry × List ℕ)
+    → IsBytes bytes → entry_at format before bytes ≡ Ok x → TakesEntry format before bytes x
 unfolding entry_at
 entry_takes format before bytes x fits e =
     let a = bind_ok (read_page format bytes) (λ page. want (comes_after before page.0) BadOrder >>= λ greater. byte_at BadLength page.1 >>= λ tag. hist_at tag.0 tag.1 >>= λ hist. Ok (record { page = page.0; hist = hist.0 }, hist.1)) x e in
@@ -299,7 +319,9 @@ entry_takes format before bytes x fits e =
       greater = g.0;
     })
 
-pub entry_again : (format : Format) (before : Option PageId) (e : Entry) (rest : List ℕ) → IsEntry e → IsNarrowIn format e.page → comes_after before e.page ≡ true → entry_at format before (entry_bytes_in format e ++ rest) ≡ Ok (e, rest)
+pub entry_again : (format : Format) (before : Option PageId) (e : Entry) (rest : List ℕ) → IsEntry e
+    → IsNarrowIn format e.page → comes_after before e.page ≡ true
+    → entry_at format before (entry_bytes_in format e ++ rest) ≡ Ok (e, rest)
 unfolding entry_at
 entry_again format before e rest fits narrow greater =
     let text = page_bytes_in format e.page in
@@ -308,7 +330,9 @@ entry_again format before e rest fits narrow greater =
     ap (entry_at format before) regrouped ∙ rw (page_at_again format e.page (hist_tag e.hist ∷ (stamps_bytes e.hist ++ rest)) fits.page narrow, greater, hist_again e.hist rest fits.hist) refl
 
 -- what is written of an entry is read
-pub written_again : (before : Option PageId) (e : Entry) (rest : List ℕ) → IsEntry e → comes_after before e.page ≡ true → written_entry_at before (entry_bytes_in Wide e ++ rest) ≡ Ok (e, rest)
+pub written_again : (before : Option PageId) (e : Entry) (rest : List ℕ) → IsEntry e
+    → comes_after before e.page ≡ true
+    → written_entry_at before (entry_bytes_in Wide e ++ rest) ≡ Ok (e, rest)
 written_again before e rest fits greater = entry_again Wide before e rest fits tt greater
 
 -- nothing is no entry

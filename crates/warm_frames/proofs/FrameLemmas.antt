@@ -46,7 +46,8 @@ kind_again kinds.Want = refl
 format_takes : (n : ℕ) (format : Format) → format_of n ≡ Ok format → n ≡ magic_of format
 format_takes n format e = cases (eqb n MAGIC) refl (eqb n NARROW_MAGIC) refl e
   where
-    cases : (a : Bool) → eqb n MAGIC ≡ a → (b : Bool) → eqb n NARROW_MAGIC ≡ b → cond a (done Wide) (cond b (done Narrow) (Err BadMagic)) ≡ Ok format → n ≡ magic_of format
+    cases : (a : Bool) → eqb n MAGIC ≡ a → (b : Bool) → eqb n NARROW_MAGIC ≡ b
+        → cond a (done Wide) (cond b (done Narrow) (Err BadMagic)) ≡ Ok format → n ≡ magic_of format
     cases true is_a b is_b is = eqb-true _ _ is_a ∙ ap magic_of (ok_is Wide format is)
     cases false is_a true is_b is = eqb-true _ _ is_b ∙ ap magic_of (ok_is Narrow format is)
     cases false is_a false is_b is = absurd cc
@@ -61,7 +62,8 @@ pub record TakesHorizon (format : Format) (bytes : List ℕ) (x : ℕ × List �
   pub few : x.0 < 2 ^ 64
   pub held : HoldsHorizon format x.0
 
-horizon_takes : (format : Format) (bytes : List ℕ) (x : ℕ × List ℕ) → IsBytes bytes → horizon_at format bytes ≡ Ok x → TakesHorizon format bytes x
+horizon_takes : (format : Format) (bytes : List ℕ) (x : ℕ × List ℕ) → IsBytes bytes
+    → horizon_at format bytes ≡ Ok x → TakesHorizon format bytes x
 horizon_takes Narrow bytes x fits e = subst (TakesHorizon Narrow bytes) (ok_is (0, bytes) x e) (record { taken = record { parts = refl; rest_fits = fits }; few = omega arith; held = refl })
 horizon_takes Wide bytes x fits e = let t = number_takes w64 (2 ^ 64) Truncated wide64 bytes x fits e in record { taken = t.0; few = t.1; held = tt }
 
@@ -75,7 +77,8 @@ pub record TakesStart (bytes : List ℕ) (x : Start × List ℕ) : Type 0 where
   pub few : x.0.horizon < 2 ^ 64
   pub held : HoldsHorizon x.0.format x.0.horizon
 
-pub start_takes : (bytes : List ℕ) (x : Start × List ℕ) → IsBytes bytes → start_at bytes ≡ Ok x → TakesStart bytes x
+pub start_takes : (bytes : List ℕ) (x : Start × List ℕ) → IsBytes bytes → start_at bytes ≡ Ok x
+    → TakesStart bytes x
 unfolding start_at
 start_takes bytes x fits e =
     let a = bind_ok (number_at w32 Truncated bytes) _ x e in
@@ -98,7 +101,10 @@ start_takes bytes x fits e =
     let made : Start × List ℕ = (start, h.0.1) in
     subst (TakesStart bytes) (ok_is made x h.2) (record { taken = whole; sender = replica_is f.0.0 good.0; few = t4.few; held = t4.held })
 
-pub start_again : (format : Format) (kind : Kind) (sender horizon : ℕ) (rest : List ℕ) → IsReplica sender → horizon < 2 ^ 64 → HoldsHorizon format horizon → (let s : Start = record { format = format; kind = kind; sender = sender; horizon = horizon } in start_at (start_bytes s ++ rest) ≡ Ok (s, rest))
+pub start_again : (format : Format) (kind : Kind) (sender horizon : ℕ) (rest : List ℕ)
+    → IsReplica sender → horizon < 2 ^ 64 → HoldsHorizon format horizon
+    → (let s : Start = record { format = format; kind = kind; sender = sender; horizon = horizon }
+    in start_at (start_bytes s ++ rest) ≡ Ok (s, rest))
 unfolding start_at
 start_again Narrow kind sender horizon rest good few none =
     let letters = number_again w32 (2 ^ 32) Truncated wide32 NARROW_MAGIC (kind_number kind ∷ (to_be_bytes w16 sender ++ rest)) (omega arith) in
@@ -111,19 +117,24 @@ start_again Wide kind sender horizon rest good few none =
 -- ---- the length and the body
 
 -- a length that was read is valid for the kind
-pub length_ok : (format : Format) (kind : Kind) (bytes : List ℕ) (x : ℕ × List ℕ) → length_at format kind bytes ≡ Ok x → (number_at w32 Truncated bytes ≡ Ok x) × (may_have format kind x.0 ≡ true)
+pub length_ok : (format : Format) (kind : Kind) (bytes : List ℕ) (x : ℕ × List ℕ)
+    → length_at format kind bytes ≡ Ok x
+    → (number_at w32 Truncated bytes ≡ Ok x) × (may_have format kind x.0 ≡ true)
 unfolding length_at
 length_ok format kind bytes x e =
     let a = bind_ok (number_at w32 Truncated bytes) (λ len. want (may_have format kind len.0) BadLength >>= λ allowed. Ok len) x e in
     let g = want_ok (may_have format kind a.0.0) BadLength (λ allowed. Ok a.0) x a.2 in
     subst (λ (y : ℕ × List ℕ). (number_at w32 Truncated bytes ≡ Ok y) × (may_have format kind y.0 ≡ true)) (ok_is a.0 x g.1) (a.1, g.0)
 
-pub length_again : (format : Format) (kind : Kind) (len : ℕ) (rest : List ℕ) → len < 2 ^ 32 → may_have format kind len ≡ true → length_at format kind (to_be_bytes w32 len ++ rest) ≡ Ok (len, rest)
+pub length_again : (format : Format) (kind : Kind) (len : ℕ) (rest : List ℕ) → len < 2 ^ 32
+    → may_have format kind len ≡ true
+    → length_at format kind (to_be_bytes w32 len ++ rest) ≡ Ok (len, rest)
 unfolding length_at
 length_again format kind len rest few allowed = rw (number_again w32 (2 ^ 32) Truncated wide32 len rest few, allowed) refl
 
 -- what is left of a whole body is as long as was said
-pub whole_ok : (len : ℕ) (rest body : List ℕ) → whole_body len rest ≡ Ok body → (len ≡ length rest) × (rest ≡ body)
+pub whole_ok : (len : ℕ) (rest body : List ℕ) → whole_body len rest ≡ Ok body
+    → (len ≡ length rest) × (rest ≡ body)
 whole_ok len rest body e =
     let g1 = want_ok (leb len (length rest)) Truncated (λ enough. want (leb (length rest) len) BadLength >>= λ exact. Ok rest) body e in
     let g2 = want_ok (leb (length rest) len) BadLength (λ exact. Ok rest) body g1.1 in
@@ -134,7 +145,8 @@ pub record TakesBody (format : Format) (kind : Kind) (bytes body : List ℕ) : T
   pub fits : IsBytes body
   pub allowed : may_have format kind (length body) ≡ true
 
-pub body_takes : (format : Format) (kind : Kind) (bytes body : List ℕ) → IsBytes bytes → body_at format kind bytes ≡ Ok body → TakesBody format kind bytes body
+pub body_takes : (format : Format) (kind : Kind) (bytes body : List ℕ) → IsBytes bytes
+    → body_at format kind bytes ≡ Ok body → TakesBody format kind bytes body
 unfolding body_at
 body_takes format kind bytes body fits e =
     let a = bind_ok (length_at format kind bytes) (λ len. whole_body len.0 len.1) body e in
@@ -148,14 +160,18 @@ body_takes format kind bytes body fits e =
     })
 
 -- a body is read where nothing follows it
-pub body_read : (format : Format) (kind : Kind) (body rest found : List ℕ) → length body < 2 ^ 32 → may_have format kind (length body) ≡ true → body_at format kind (to_be_bytes w32 (length body) ++ (body ++ rest)) ≡ Ok found → rest ≡ []
+pub body_read : (format : Format) (kind : Kind) (body rest found : List ℕ) → length body < 2 ^ 32
+    → may_have format kind (length body) ≡ true
+    → body_at format kind (to_be_bytes w32 (length body) ++ (body ++ rest)) ≡ Ok found → rest ≡ []
 unfolding body_at
 body_read format kind body rest found few allowed e =
     let read = ap (λ (r : Result (ℕ × List ℕ) FrameFault). r >>= λ len. whole_body len.0 len.1) (length_again format kind (length body) (body ++ rest) few allowed) in
     let w = whole_ok (length body) (body ++ rest) found (sym read ∙ e) in
     nil_from_length rest (omega (arith, w.0, length-append body rest))
 
-pub body_at_again : (format : Format) (kind : Kind) (body : List ℕ) → length body < 2 ^ 32 → may_have format kind (length body) ≡ true → body_at format kind (to_be_bytes w32 (length body) ++ body) ≡ Ok body
+pub body_at_again : (format : Format) (kind : Kind) (body : List ℕ) → length body < 2 ^ 32
+    → may_have format kind (length body) ≡ true
+    → body_at format kind (to_be_bytes w32 (length body) ++ body) ≡ Ok body
 unfolding body_at
 body_at_again format kind body few allowed =
     let reflexive : leb (length body) (length body) ≡ true = grind (arith, nat_tests) in
@@ -186,7 +202,10 @@ frame_body format (messages.Want sender horizon request) = to_be_bytes w64 reque
 abbrev pub start_of : Format → Message → Start
 start_of format f = record { format = format; kind = frame_kind f; sender = frame_sender f; horizon = frame_horizon f }
 
-encoding_parts : (format : Format) (f : Message) → encoding_in format f ≡ start_bytes (start_of format f) ++ (to_be_bytes w32 (length (frame_body format f)) ++ frame_body format f)
+encoding_parts : (format : Format) (f : Message)
+    → encoding_in format f
+    ≡ start_bytes (start_of format f)
+    ++ (to_be_bytes w32 (length (frame_body format f)) ++ frame_body format f)
 encoding_parts Narrow (messages.Entries sender horizon entries) = refl
 encoding_parts Narrow (messages.Digest sender horizon digests) = refl
 encoding_parts Narrow (messages.Want sender horizon request) = refl
@@ -195,19 +214,24 @@ encoding_parts Wide (messages.Digest sender horizon digests) = refl
 encoding_parts Wide (messages.Want sender horizon request) = refl
 
 -- what the format says of the horizon and the pages says that it can hold the frame
-holds_entries : (format : Format) (sender horizon : ℕ) (es : List Entry) → HoldsHorizon format horizon → AllByRecursion (λ e. IsNarrowIn format e.page) es → CanHold format (messages.Entries sender horizon es)
+holds_entries : (format : Format) (sender horizon : ℕ) (es : List Entry)
+    → HoldsHorizon format horizon → AllByRecursion (λ e. IsNarrowIn format e.page) es
+    → CanHold format (messages.Entries sender horizon es)
 holds_entries Narrow sender horizon es none narrow = (none, narrow)
 holds_entries Wide sender horizon es none narrow = tt
 
-holds_digest : (format : Format) (sender horizon : ℕ) (digests : List (List ℕ)) → HoldsHorizon format horizon → CanHold format (messages.Digest sender horizon digests)
+holds_digest : (format : Format) (sender horizon : ℕ) (digests : List (List ℕ))
+    → HoldsHorizon format horizon → CanHold format (messages.Digest sender horizon digests)
 holds_digest Narrow sender horizon digests none = none
 holds_digest Wide sender horizon digests none = tt
 
-holds_want : (format : Format) (sender horizon request : ℕ) → HoldsHorizon format horizon → CanHold format (messages.Want sender horizon request)
+holds_want : (format : Format) (sender horizon request : ℕ) → HoldsHorizon format horizon
+    → CanHold format (messages.Want sender horizon request)
 holds_want Narrow sender horizon request none = none
 holds_want Wide sender horizon request none = tt
 
-held_horizon : (format : Format) (f : Message) → CanHold format f → HoldsHorizon format (frame_horizon f)
+held_horizon : (format : Format) (f : Message) → CanHold format f
+    → HoldsHorizon format (frame_horizon f)
 held_horizon Narrow (messages.Entries sender horizon entries) holds = holds.0
 held_horizon Narrow (messages.Digest sender horizon digests) holds = holds
 held_horizon Narrow (messages.Want sender horizon request) holds = holds
@@ -217,7 +241,9 @@ wide_all : (es : List Entry) → AllByRecursion (λ e. IsNarrowIn Wide e.page) e
 wide_all [] = tt
 wide_all (e ∷ es) = (tt, wide_all es)
 
-held_pages : (format : Format) (sender horizon : ℕ) (es : List Entry) → CanHold format (messages.Entries sender horizon es) → AllByRecursion (λ e. IsNarrowIn format e.page) es
+held_pages : (format : Format) (sender horizon : ℕ) (es : List Entry)
+    → CanHold format (messages.Entries sender horizon es)
+    → AllByRecursion (λ e. IsNarrowIn format e.page) es
 held_pages Narrow sender horizon es holds = holds.1
 held_pages Wide sender horizon es holds = wide_all es
 
@@ -228,7 +254,10 @@ pub record IsFrameOf (start : Start) (body : List ℕ) (f : Message) : Type 0 wh
   pub fits : IsReplica start.sender → start.horizon < 2 ^ 64 → IsValidMessage f
   pub holds : HoldsHorizon start.format start.horizon → CanHold start.format f
 
-frame_takes : (kind : Kind) (format : Format) (sender horizon : ℕ) (body : List ℕ) (f : Message) → IsBytes body → may_have format kind (length body) ≡ true → message_by kind format sender horizon body ≡ Ok f → IsFrameOf (record { format = format; kind = kind; sender = sender; horizon = horizon }) body f
+frame_takes : (kind : Kind) (format : Format) (sender horizon : ℕ) (body : List ℕ) (f : Message)
+    → IsBytes body → may_have format kind (length body) ≡ true
+    → message_by kind format sender horizon body ≡ Ok f
+    → IsFrameOf (record { format = format; kind = kind; sender = sender; horizon = horizon }) body f
 frame_takes kinds.Entries format sender horizon body f fits allowed e =
     let a = bind_ok (read_entries format body) (λ entries. Ok (messages.Entries sender horizon entries)) f e in
     let t = entries_body format body a.0 fits a.1 in
@@ -245,14 +274,17 @@ frame_takes kinds.Want format sender horizon body f fits allowed e =
     let text : body ≡ to_be_bytes w64 a.0.0 = t.0.parts ∙ ap (λ (r : List ℕ). to_be_bytes w64 a.0.0 ++ r) nothing ∙ append-nil (to_be_bytes w64 a.0.0) in
     subst (IsFrameOf (record { format = format; kind = kinds.Want; sender = sender; horizon = horizon }) body) (ok_is (messages.Want sender horizon a.0.0) f a.2) (record { start_is = refl; body_is = text; fits = λ good few. (good, few, t.1); holds = λ none. holds_want format sender horizon a.0.0 none })
 
-frame_again : (format : Format) (f : Message) → IsValidMessage f → CanHold format f → message_by (frame_kind f) format (frame_sender f) (frame_horizon f) (frame_body format f) ≡ Ok f
+frame_again : (format : Format) (f : Message) → IsValidMessage f → CanHold format f
+    → message_by (frame_kind f) format (frame_sender f) (frame_horizon f) (frame_body format f)
+    ≡ Ok f
 frame_again format (messages.Entries sender horizon entries) fits holds = rw (body_again format entries fits.2 (held_pages format sender horizon entries holds)) refl
 frame_again format (messages.Digest sender horizon digests) fits holds = rw (digests_again digests fits.2) refl
 frame_again format (messages.Want sender horizon request) fits holds =
     let whole : number_at w64 BadLength (to_be_bytes w64 request) ≡ Ok (request, []) = ap (number_at w64 BadLength) (sym (append-nil (to_be_bytes w64 request))) ∙ number_again w64 (2 ^ 64) BadLength wide64 request [] fits.2 in
     ap (λ (r : Result (ℕ × List ℕ) FrameFault). r >>= λ m. Ok (messages.Want sender horizon m.0)) whole
 
-good_sender : (f : Message) → IsValidMessage f → IsReplica (frame_sender f) × (frame_horizon f < 2 ^ 64)
+good_sender : (f : Message) → IsValidMessage f
+    → IsReplica (frame_sender f) × (frame_horizon f < 2 ^ 64)
 good_sender (messages.Entries sender horizon entries) fits = (fits.0, fits.1)
 good_sender (messages.Digest sender horizon digests) fits = (fits.0, fits.1)
 good_sender (messages.Want sender horizon request) fits = (fits.0, fits.1)
@@ -289,7 +321,8 @@ body_length format (messages.Want sender horizon request) fits = record { few = 
 -- ---- whole frames
 
 -- what is read is encoded so
-pub frame_encodes : (bytes : List ℕ) (f : Message) → IsBytes bytes → read_frame bytes ≡ Ok f → Encodes bytes f
+pub frame_encodes : (bytes : List ℕ) (f : Message) → IsBytes bytes → read_frame bytes ≡ Ok f
+    → Encodes bytes f
 unfolding read_frame read_message
 frame_encodes bytes f fits e =
     let a = bind_ok (start_at bytes) _ f e in
@@ -309,7 +342,8 @@ frame_encodes bytes f fits e =
     )
 
 -- what is encoded so is read
-pub encoded_read : (format : Format) (bytes : List ℕ) (f : Message) → EncodesIn format bytes f → read_frame bytes ≡ Ok f
+pub encoded_read : (format : Format) (bytes : List ℕ) (f : Message) → EncodesIn format bytes f
+    → read_frame bytes ≡ Ok f
 unfolding read_frame read_message
 encoded_read format bytes f encodes =
     let len = body_length format f encodes.fits in
@@ -323,11 +357,13 @@ frame_read bytes f encodes = encoded_read encodes.0 bytes f encodes.1
 
 -- ---- the laws of the encoding
 
-pub encoding_is_injective : (bytes : List ℕ) (f g : Message) → Encodes bytes f → Encodes bytes g → f ≡ g
+pub encoding_is_injective : (bytes : List ℕ) (f g : Message) → Encodes bytes f → Encodes bytes g
+    → f ≡ g
 encoding_is_injective bytes f g first second = ok_is f g (sym (frame_read bytes f first) ∙ frame_read bytes g second)
 
 -- where an encoding is followed by more, no message is encoded
-pub prefix_free : (text rest : List ℕ) (f g : Message) → Encodes text f → Encodes (text ++ rest) g → rest ≡ []
+pub prefix_free : (text rest : List ℕ) (f g : Message) → Encodes text f → Encodes (text ++ rest) g
+    → rest ≡ []
 unfolding read_frame
 prefix_free text rest f g first second =
     let format = first.0 in

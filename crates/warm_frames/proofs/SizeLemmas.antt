@@ -22,12 +22,15 @@ use Rattle.warm_frames.proofs.FrameLemmas.{length_ok, frame_read}
 
 -- ---- results, with more bytes behind
 
--- With more bytes a value is the same but for the bytes behind it, and a fault is the same, unless bytes were too few.
+-- With more bytes a value is the same but for the bytes behind it, and a fault is the same, unless
+-- bytes were too few.
 abbrev pub Goes : {A : Type 0} → (A → A) → Result A FrameFault → Result A FrameFault → Type 0
 Goes grow (Ok x) later = later ≡ Ok (grow x)
 Goes grow (Err e) later = (e ≡ Truncated) ⊎ (later ≡ Err e)
 
-goes_on : {A B : Type 0} (grow : A → A) (more : B → B) (f g : A → Result B FrameFault) (r later : Result A FrameFault) → Goes grow r later → ((x : A) → Goes more (f x) (g (grow x))) → Goes more (r >>= f) (later >>= g)
+goes_on : {A B : Type 0} (grow : A → A) (more : B → B) (f g : A → Result B FrameFault)
+    (r later : Result A FrameFault) → Goes grow r later → ((x : A) → Goes more (f x) (g (grow x)))
+    → Goes more (r >>= f) (later >>= g)
 goes_on {A = A} grow more f g (Ok x) later same each = subst (λ (r : Result A FrameFault). Goes more (f x) (r >>= g)) (sym same) (each x)
 goes_on {A = A} grow more f g (Err e) later same each = ⊎_elim (λ short. inl short) (λ is. inr (ap (λ (r : Result A FrameFault). r >>= g) is)) same
 
@@ -42,7 +45,8 @@ pub either : (b : Bool) → (b ≡ true) ⊎ (b ≡ false)
 either true = inl refl
 either false = inr refl
 
-number_goes : (w : Width) (bytes more : List ℕ) → Goes (behind more) (number_at w Truncated bytes) (number_at w Truncated (bytes ++ more))
+number_goes : (w : Width) (bytes more : List ℕ)
+    → Goes (behind more) (number_at w Truncated bytes) (number_at w Truncated (bytes ++ more))
 number_goes w bytes more =
     ⊎_elim (λ short. rw (short) (inl refl))
     (λ long.
@@ -51,13 +55,15 @@ number_goes w bytes more =
     rw (long, longer, take-append-le (byte_len w) bytes more enough, drop-append-le (byte_len w) bytes more enough) refl)
     (either (ltb (length bytes) (byte_len w)))
 
-byte_goes : (bytes more : List ℕ) → Goes (behind more) (byte_at Truncated bytes) (byte_at Truncated (bytes ++ more))
+byte_goes : (bytes more : List ℕ)
+    → Goes (behind more) (byte_at Truncated bytes) (byte_at Truncated (bytes ++ more))
 byte_goes [] more = inl refl
 byte_goes (b ∷ bytes) more = refl
 
 -- ---- the header, with more bytes behind
 
-horizon_goes : (format : Format) (bytes more : List ℕ) → Goes (behind more) (horizon_at format bytes) (horizon_at format (bytes ++ more))
+horizon_goes : (format : Format) (bytes more : List ℕ)
+    → Goes (behind more) (horizon_at format bytes) (horizon_at format (bytes ++ more))
 horizon_goes Narrow bytes more = refl
 horizon_goes Wide bytes more = number_goes w64 bytes more
 
@@ -72,14 +78,16 @@ start_goes bytes more =
     goes_on (λ b. b) (behind more) _ _ _ _ (stays (want (is_replica sender.0) BadSender)) (λ good.
     goes_on (behind more) (behind more) _ _ _ _ (horizon_goes format sender.1 more) (λ horizon. refl)))))))
 
-length_goes : (format : Format) (kind : Kind) (bytes more : List ℕ) → Goes (behind more) (length_at format kind bytes) (length_at format kind (bytes ++ more))
+length_goes : (format : Format) (kind : Kind) (bytes more : List ℕ)
+    → Goes (behind more) (length_at format kind bytes) (length_at format kind (bytes ++ more))
 unfolding length_at
 length_goes format kind bytes more =
     goes_on (behind more) (behind more) _ _ _ _ (number_goes w32 bytes more) (λ len.
     goes_on (λ b. b) (behind more) _ _ _ _ (stays (want (may_have format kind len.0) BadLength)) (λ allowed. refl))
 
 -- a size or a fault that the header gives doesn't change, whatever follows
-pub size_goes : (bytes more : List ℕ) → Goes (λ n. n) (frame_size bytes) (frame_size (bytes ++ more))
+pub size_goes : (bytes more : List ℕ)
+    → Goes (λ n. n) (frame_size bytes) (frame_size (bytes ++ more))
 unfolding frame_size
 size_goes bytes more =
     goes_on (behind more) (λ n. n) _ _ _ _ (start_goes bytes more) (λ start.
@@ -95,25 +103,30 @@ pub no_err : {A : Type 0} {e : FrameFault} {x : A} → Ok x ≡ failed e → ⊥
 no_err is = absurd cc
 
 -- a size or a fault was known before, or the front says that it ends too soon
-front_ok : (front later : Result ℕ FrameFault) (size : ℕ) → Goes (λ n. n) front later → later ≡ Ok size → (front ≡ Ok size) ⊎ (front ≡ Err Truncated)
+front_ok : (front later : Result ℕ FrameFault) (size : ℕ) → Goes (λ n. n) front later
+    → later ≡ Ok size → (front ≡ Ok size) ⊎ (front ≡ Err Truncated)
 front_ok (Ok n) later size goes is = inl (sym goes ∙ is)
 front_ok (Err e) later size goes is = ⊎_elim (λ short. inr (ap (λ (f : FrameFault). Err f) short)) (λ same. absurd (no_ok (sym same ∙ is))) goes
 
-front_err : (front later : Result ℕ FrameFault) (e : FrameFault) → Goes (λ n. n) front later → later ≡ Err e → (front ≡ Err e) ⊎ (front ≡ Err Truncated)
+front_err : (front later : Result ℕ FrameFault) (e : FrameFault) → Goes (λ n. n) front later
+    → later ≡ Err e → (front ≡ Err e) ⊎ (front ≡ Err Truncated)
 front_err (Ok n) later e goes is = absurd (no_err (sym goes ∙ is))
 front_err (Err d) later e goes is = ⊎_elim (λ short. inr (ap (λ (f : FrameFault). Err f) short)) (λ same. inl (sym same ∙ is)) goes
 
-pub known_stays : (front later : Result ℕ FrameFault) → Goes (λ n. n) front later → (front ≡ Err Truncated → ⊥) → later ≡ front
+pub known_stays : (front later : Result ℕ FrameFault) → Goes (λ n. n) front later
+    → (front ≡ Err Truncated → ⊥) → later ≡ front
 known_stays (Ok n) later goes known = goes
 known_stays (Err e) later goes known = ⊎_elim (λ short. absurd (known (ap (λ (f : FrameFault). Err f) short))) (λ same. same) goes
 
 -- ---- what a header says
 
-horizon_long : (format : Format) (bytes : List ℕ) (x : ℕ × List ℕ) → horizon_at format bytes ≡ Ok x → length bytes + 11 ≡ header_size format + length x.1
+horizon_long : (format : Format) (bytes : List ℕ) (x : ℕ × List ℕ) → horizon_at format bytes ≡ Ok x
+    → length bytes + 11 ≡ header_size format + length x.1
 horizon_long Narrow bytes x e = subst (λ (y : ℕ × List ℕ). length bytes + 11 ≡ 11 + length y.1) (ok_is (0, bytes) x e) (omega arith)
 horizon_long Wide bytes x e = omega (arith, number_long w64 Truncated bytes x e)
 
--- what is read of a header as far as the horizon: how long it is, and that the letters are those of its format
+-- what is read of a header as far as the horizon: how long it is, and that the letters are those of
+-- its format
 pub record StartLong (bytes : List ℕ) (x : Start × List ℕ) : Type 0 where
   pub long : length bytes + 4 ≡ header_size x.0.format + length x.1
   pub most : header_most bytes ≡ header_size x.0.format
@@ -166,7 +179,8 @@ headed bytes size e =
     }
 
 -- fewer bytes than its size end too soon
-pub size_short : (bytes : List ℕ) (size : ℕ) → frame_size bytes ≡ Ok size → length bytes < size → read_frame bytes ≡ Err Truncated
+pub size_short : (bytes : List ℕ) (size : ℕ) → frame_size bytes ≡ Ok size → length bytes < size
+    → read_frame bytes ≡ Err Truncated
 size_short bytes size e lt =
     let h = headed bytes size e in
     let fewer : length h.rest < h.len = omega (arith, lt, h.size_is, h.length_is) in
@@ -174,7 +188,8 @@ size_short bytes size e lt =
     h.reads ∙ rw test refl
 
 -- more bytes are no frame
-pub size_long : (bytes : List ℕ) (size : ℕ) → frame_size bytes ≡ Ok size → size < length bytes → read_frame bytes ≡ Err BadLength
+pub size_long : (bytes : List ℕ) (size : ℕ) → frame_size bytes ≡ Ok size → size < length bytes
+    → read_frame bytes ≡ Err BadLength
 size_long bytes size e lt =
     let h = headed bytes size e in
     let more : h.len < length h.rest = omega (arith, lt, h.size_is, h.length_is) in
@@ -183,7 +198,8 @@ size_long bytes size e lt =
     h.reads ∙ rw (enough, exact) refl
 
 -- this many bytes are a frame, or have a lasting fault
-pub size_whole : (bytes : List ℕ) (e : FrameFault) → frame_size bytes ≡ Ok (length bytes) → read_frame bytes ≡ Err e → IsLasting e
+pub size_whole : (bytes : List ℕ) (e : FrameFault) → frame_size bytes ≡ Ok (length bytes)
+    → read_frame bytes ≡ Err e → IsLasting e
 size_whole bytes e size is =
     let h = headed bytes (length bytes) size in
     let as_many : h.len ≡ length h.rest = omega (arith, h.size_is, h.length_is) in
@@ -192,7 +208,8 @@ size_whole bytes e size is =
     let reads : read_frame bytes ≡ read_message h.start h.rest = h.reads ∙ rw (test, back) refl in
     only_fault IsLasting (read_message h.start h.rest) e (frame_lasts h.start h.rest) (sym reads ∙ is)
 
-most_bytes : (format : Format) (kind : Kind) (len : ℕ) → may_have format kind len ≡ true → len ≤ 4 + MAX_ENTRY_SIZE * MAX_ENTRIES
+most_bytes : (format : Format) (kind : Kind) (len : ℕ) → may_have format kind len ≡ true
+    → len ≤ 4 + MAX_ENTRY_SIZE * MAX_ENTRIES
 most_bytes Narrow kinds.Entries len e = grind (arith, nat_tests, e)
 most_bytes Wide kinds.Entries len e = grind (arith, nat_tests, e)
 most_bytes format kinds.Digest len e = grind (arith, nat_tests, e)
@@ -217,27 +234,34 @@ least_header Wide = omega arith
 pub err_is : {A : Type 0} (d e : FrameFault) → (is : failed {A = A} d ≡ failed e) → d ≡ e
 err_is d e is = cc
 
-err_then : {A B C : Type 0} (e : FrameFault) (r : Result A FrameFault) (f : A → Result B FrameFault) (g : A → Result C FrameFault) → ((x : A) → f x ≡ Err e → g x ≡ Err e) → (r >>= f) ≡ Err e → (r >>= g) ≡ Err e
+err_then : {A B C : Type 0} (e : FrameFault) (r : Result A FrameFault) (f : A → Result B FrameFault)
+    (g : A → Result C FrameFault) → ((x : A) → f x ≡ Err e → g x ≡ Err e) → (r >>= f) ≡ Err e
+    → (r >>= g) ≡ Err e
 err_then e (Ok x) f g each is = each x is
 err_then e (Err d) f g each is = ap (λ (x : FrameFault). Err x) (err_is d e is)
 
-err_twice : {A B C D : Type 0} (e : FrameFault) (r : Result A FrameFault) (f : A → Result B FrameFault) (g : A → Result C FrameFault) (k : C → Result D FrameFault) → ((x : A) → f x ≡ Err e → ⊥) → (r >>= f) ≡ Err e → ((r >>= g) >>= k) ≡ Err e
+err_twice : {A B C D : Type 0} (e : FrameFault) (r : Result A FrameFault)
+    (f : A → Result B FrameFault) (g : A → Result C FrameFault) (k : C → Result D FrameFault)
+    → ((x : A) → f x ≡ Err e → ⊥) → (r >>= f) ≡ Err e → ((r >>= g) >>= k) ≡ Err e
 err_twice e (Ok x) f g k each is = absurd (each x is)
 err_twice e (Err d) f g k each is = ap (λ (x : FrameFault). Err x) (err_is d e is)
 
 -- a fault of the header is that of the whole
-pub size_fault : (bytes : List ℕ) (e : FrameFault) → frame_size bytes ≡ Err e → read_frame bytes ≡ Err e
+pub size_fault : (bytes : List ℕ) (e : FrameFault) → frame_size bytes ≡ Err e
+    → read_frame bytes ≡ Err e
 unfolding frame_size read_frame body_at
 size_fault bytes e is =
     err_then e (start_at bytes) _ _ (λ start. err_twice e (length_at start.0.format start.0.kind start.1) _ _ _ (λ len made. no_err made)) is
 
-length_short : (P : FrameFault → Type 0) (format : Format) (kind : Kind) (bytes : List ℕ) → (length bytes < 4 → P Truncated) → P BadLength → Only P (length_at format kind bytes)
+length_short : (P : FrameFault → Type 0) (format : Format) (kind : Kind) (bytes : List ℕ)
+    → (length bytes < 4 → P Truncated) → P BadLength → Only P (length_at format kind bytes)
 unfolding length_at
 length_short P format kind bytes short bad =
     only_then P (number_at w32 Truncated bytes) _ (number_short P w32 bytes short) (λ len is_len.
     only_then P (want (may_have format kind len.0) BadLength) _ (only_want P (may_have format kind len.0) BadLength bad) (λ allowed is_allowed. tt))
 
-size_only : (bytes : List ℕ) → Only (ShortOrLasting (header_most bytes) (length bytes)) (frame_size bytes)
+size_only : (bytes : List ℕ)
+    → Only (ShortOrLasting (header_most bytes) (length bytes)) (frame_size bytes)
 unfolding frame_size
 size_only bytes =
     let P = ShortOrLasting (header_most bytes) (length bytes) in
@@ -250,7 +274,8 @@ pub truncated_mends : IsLasting Truncated → ⊥
 truncated_mends lasts = omega (arith, lasts.0)
 
 -- a header that isn't whole has fewer bytes than one of its format
-pub header_fewer : (bytes : List ℕ) → frame_size bytes ≡ Err Truncated → length bytes < header_most bytes
+pub header_fewer : (bytes : List ℕ) → frame_size bytes ≡ Err Truncated
+    → length bytes < header_most bytes
 header_fewer bytes e = ⊎_elim (λ short. short.1) (λ lasts. absurd (truncated_mends lasts)) (only_fault (ShortOrLasting (header_most bytes) (length bytes)) (frame_size bytes) Truncated (size_only bytes) e)
 
 most_header_of : (bytes : List ℕ) → header_most bytes ≤ HEADER_SIZE
@@ -268,12 +293,14 @@ pub header_short : (bytes : List ℕ) → frame_size bytes ≡ Err Truncated →
 header_short bytes e = omega (arith, header_fewer bytes e, most_header_of bytes)
 
 -- the letters are there from the fourth byte on
-letters_stay : (front later : Result (ℕ × List ℕ) FrameFault) (more : List ℕ) → Goes (behind more) front later → (front ≡ Err Truncated → ⊥) → most_of later ≡ most_of front
+letters_stay : (front later : Result (ℕ × List ℕ) FrameFault) (more : List ℕ)
+    → Goes (behind more) front later → (front ≡ Err Truncated → ⊥) → most_of later ≡ most_of front
 letters_stay (Ok x) later more goes known = ap most_of goes
 letters_stay (Err e) later more goes known = ⊎_elim (λ short. absurd (known (ap (λ (f : FrameFault). Err f) short))) (λ same. ap most_of same) goes
 
 -- bytes that say no size are fewer than the size that they say with more
-pub size_over : (begun more : List ℕ) (size : ℕ) → frame_size begun ≡ Err Truncated → frame_size (begun ++ more) ≡ Ok size → length begun < size
+pub size_over : (begun more : List ℕ) (size : ℕ) → frame_size begun ≡ Err Truncated
+    → frame_size (begun ++ more) ≡ Ok size → length begun < size
 size_over begun more size short is =
     let h = headed (begun ++ more) size is in
     let least = least_bytes h.start.format h.start.kind h.len h.allowed in
@@ -286,15 +313,18 @@ size_over begun more size short is =
     omega (arith, header_fewer begun short, same, h.most, h.size_is))
     (either (ltb (length begun) 4))
 
-pub header_lasts : (bytes : List ℕ) (e : FrameFault) → frame_size bytes ≡ Err e → (e ≡ Truncated) ⊎ IsLasting e
+pub header_lasts : (bytes : List ℕ) (e : FrameFault) → frame_size bytes ≡ Err e
+    → (e ≡ Truncated) ⊎ IsLasting e
 header_lasts bytes e is = ⊎_elim (λ short. inl short.0) (λ lasts. inr lasts) (only_fault (ShortOrLasting (header_most bytes) (length bytes)) (frame_size bytes) e (size_only bytes) is)
 
 -- a whole header says its size whatever follows
-pub header_enough : (bytes more : List ℕ) → HEADER_SIZE ≤ length bytes → frame_size (bytes ++ more) ≡ frame_size bytes
+pub header_enough : (bytes more : List ℕ) → HEADER_SIZE ≤ length bytes
+    → frame_size (bytes ++ more) ≡ frame_size bytes
 header_enough bytes more enough = known_stays (frame_size bytes) (frame_size (bytes ++ more)) (size_goes bytes more) (λ short. let few = header_short bytes short in omega (arith, few, enough))
 
 -- bytes that are as many as the size that they say with more say it themselves
-pub size_settled : (bytes more : List ℕ) (size : ℕ) → frame_size (bytes ++ more) ≡ Ok size → size ≤ length bytes → frame_size (bytes ++ more) ≡ frame_size bytes
+pub size_settled : (bytes more : List ℕ) (size : ℕ) → frame_size (bytes ++ more) ≡ Ok size
+    → size ≤ length bytes → frame_size (bytes ++ more) ≡ frame_size bytes
 size_settled bytes more size is enough = known_stays (frame_size bytes) (frame_size (bytes ++ more)) (size_goes bytes more) (λ short. let less = size_over bytes more size short is in omega (arith, less, enough))
 
 -- ---- fronts
@@ -309,15 +339,18 @@ part_without_header bytes e n =
     size_fault (take n bytes) Truncated (⊎_elim (λ is. is) (λ is. is) (front_err (frame_size (take n bytes)) (frame_size bytes) Truncated (size_front n bytes) e))
 
 -- fewer bytes than the size: a part of a frame
-pub front_with_header : (bytes : List ℕ) (size n : ℕ) → frame_size bytes ≡ Ok size → length (take n bytes) < size → read_frame (take n bytes) ≡ Err Truncated
+pub front_with_header : (bytes : List ℕ) (size n : ℕ) → frame_size bytes ≡ Ok size
+    → length (take n bytes) < size → read_frame (take n bytes) ≡ Err Truncated
 front_with_header bytes size n e lt =
     ⊎_elim (λ known. size_short (take n bytes) size known lt) (λ short. size_fault (take n bytes) Truncated short) (front_ok (frame_size (take n bytes)) (frame_size bytes) size (size_front n bytes) e)
 
-pub part_with_header : (bytes : List ℕ) (size : ℕ) → frame_size bytes ≡ Ok size → length bytes < size → IsIncomplete bytes
+pub part_with_header : (bytes : List ℕ) (size : ℕ) → frame_size bytes ≡ Ok size
+    → length bytes < size → IsIncomplete bytes
 part_with_header bytes size e lt n = front_with_header bytes size n e (omega (arith, lt, length-take n bytes))
 
 -- a whole body has its fault with the last byte
-pub fault_of_body : (bytes : List ℕ) (e : FrameFault) → frame_size bytes ≡ Ok (length bytes) → read_frame bytes ≡ Err e → ShowsFault bytes e
+pub fault_of_body : (bytes : List ℕ) (e : FrameFault) → frame_size bytes ≡ Ok (length bytes)
+    → read_frame bytes ≡ Err e → ShowsFault bytes e
 fault_of_body bytes e size is = record {
   read = is;
   lasting = size_whole bytes e size is;
@@ -328,7 +361,9 @@ abbrev pub ShownIn : List ℕ → List ℕ → FrameFault → Type 0
 ShownIn begun piece e = (n : ℕ) × (n ≤ length piece) × ShowsFault (begun ++ take n piece) e
 
 -- one byte more shows the fault
-shown_next : (begun : List ℕ) (b : ℕ) (e : FrameFault) → IsLasting e → frame_size begun ≡ Err Truncated → frame_size (begun ++ b ∷ []) ≡ Err e → ShowsFault (begun ++ b ∷ []) e
+shown_next : (begun : List ℕ) (b : ℕ) (e : FrameFault) → IsLasting e
+    → frame_size begun ≡ Err Truncated → frame_size (begun ++ b ∷ []) ≡ Err e
+    → ShowsFault (begun ++ b ∷ []) e
 shown_next begun b e lasts short is = record {
   read = size_fault (begun ++ b ∷ []) e is;
   lasting = lasts;
@@ -338,7 +373,8 @@ shown_next begun b e lasts short is = record {
 }
 
 -- a fault of the header is shown by a byte of the piece that brings it
-pub fault_of_header : (begun piece : List ℕ) (e : FrameFault) → IsLasting e → frame_size begun ≡ Err Truncated → frame_size (begun ++ piece) ≡ Err e → ShownIn begun piece e
+pub fault_of_header : (begun piece : List ℕ) (e : FrameFault) → IsLasting e
+    → frame_size begun ≡ Err Truncated → frame_size (begun ++ piece) ≡ Err e → ShownIn begun piece e
 fault_of_header begun [] e lasts short is =
     let same : frame_size begun ≡ Err e = ap frame_size (sym (append-nil begun)) ∙ is in
     absurd (truncated_mends (subst IsLasting (sym (err_is {A = ℕ} Truncated e (sym short ∙ same))) lasts))
@@ -364,14 +400,16 @@ pub lt_or_is : (a b : ℕ) → a ≤ b → (a < b) ⊎ (a ≡ b)
 lt_or_is a b le = ⊎_elim (λ lt. inl lt) (λ more. inr (omega (arith, le, more))) (lt_or_le a b)
 
 -- a header is there, and the bytes end too soon: they are fewer than the size
-below : (bytes : List ℕ) (size : ℕ) → frame_size bytes ≡ Ok size → read_frame bytes ≡ Err Truncated → length bytes < size
+below : (bytes : List ℕ) (size : ℕ) → frame_size bytes ≡ Ok size → read_frame bytes ≡ Err Truncated
+    → length bytes < size
 below bytes size is short =
     ⊎_elim (λ lt. lt)
     (λ le. ⊎_elim (λ more. absurd (differ (err_is {A = Message} BadLength Truncated (sym (size_long bytes size is more) ∙ short))))
     (λ same. absurd (truncated_mends (size_whole bytes Truncated (is ∙ ap (λ (n : ℕ). Ok n) same) short))) (lt_or_is size (length bytes) le))
     (lt_or_le (length bytes) size)
 
-by_size : (bytes : List ℕ) → read_frame bytes ≡ Err Truncated → (r : Result ℕ FrameFault) → frame_size bytes ≡ r → length bytes < HEADER_SIZE + 4 + MAX_ENTRY_SIZE * MAX_ENTRIES
+by_size : (bytes : List ℕ) → read_frame bytes ≡ Err Truncated → (r : Result ℕ FrameFault)
+    → frame_size bytes ≡ r → length bytes < HEADER_SIZE + 4 + MAX_ENTRY_SIZE * MAX_ENTRIES
 by_size bytes short (Err e) is =
     let truncated : e ≡ Truncated = err_is {A = Message} e Truncated (sym (size_fault bytes e is) ∙ short) in
     let few = header_short bytes (is ∙ ap (λ (x : FrameFault). Err x) truncated) in
@@ -384,16 +422,19 @@ by_size bytes short (Ok size) is =
     omega (arith, less, most, wide, h.size_is)
 
 -- a part of a frame has fewer bytes than the longest frame
-pub part_is_short : (bytes : List ℕ) → IsIncomplete bytes → length bytes < HEADER_SIZE + 4 + MAX_ENTRY_SIZE * MAX_ENTRIES
+pub part_is_short : (bytes : List ℕ) → IsIncomplete bytes
+    → length bytes < HEADER_SIZE + 4 + MAX_ENTRY_SIZE * MAX_ENTRIES
 part_is_short bytes part =
     let short : read_frame bytes ≡ Err Truncated = ap read_frame (sym (take_all (length bytes) bytes (omega arith))) ∙ part (length bytes) in
     by_size bytes short (frame_size bytes) refl
 
-at_least : (bytes : List ℕ) (size : ℕ) (e : FrameFault) → frame_size bytes ≡ Ok size → ShowsFault bytes e → size ≤ length bytes
+at_least : (bytes : List ℕ) (size : ℕ) (e : FrameFault) → frame_size bytes ≡ Ok size
+    → ShowsFault bytes e → size ≤ length bytes
 at_least bytes size e is shown =
     ⊎_elim (λ lt. absurd (truncated_mends (subst IsLasting (err_is {A = Message} e Truncated (sym shown.read ∙ size_short bytes size is lt)) shown.lasting))) (λ le. le) (lt_or_le (length bytes) size)
 
-no_frame : (bytes more : List ℕ) (e : FrameFault) (f : Message) → ShowsFault bytes e → read_frame (bytes ++ more) ≡ Ok f → (r : Result ℕ FrameFault) → frame_size bytes ≡ r → ⊥
+no_frame : (bytes more : List ℕ) (e : FrameFault) (f : Message) → ShowsFault bytes e
+    → read_frame (bytes ++ more) ≡ Ok f → (r : Result ℕ FrameFault) → frame_size bytes ≡ r → ⊥
 no_frame bytes more e f shown ok (Err d) is =
     let same : d ≡ e = err_is {A = Message} d e (sym (size_fault bytes d is) ∙ shown.read) in
     let stays_so : frame_size (bytes ++ more) ≡ Err d = known_stays (frame_size bytes) (frame_size (bytes ++ more)) (size_goes bytes more)
@@ -409,7 +450,8 @@ no_frame bytes more e f shown ok (Ok size) is =
     (lt_or_le size (length (bytes ++ more)))
 
 -- a fault stays, whatever follows
-pub fault_for_good : (bytes more : List ℕ) (e : FrameFault) (f : Message) → ShowsFault bytes e → Encodes (bytes ++ more) f → ⊥
+pub fault_for_good : (bytes more : List ℕ) (e : FrameFault) (f : Message) → ShowsFault bytes e
+    → Encodes (bytes ++ more) f → ⊥
 fault_for_good bytes more e f shown encodes = no_frame bytes more e f shown (frame_read (bytes ++ more) f encodes) (frame_size bytes) refl
 
 -- ---- for a decoder

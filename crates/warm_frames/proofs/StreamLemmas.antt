@@ -21,7 +21,8 @@ inside_is b c e = cc
 apart : (b : List ℕ) → Broken ≡ Inside b → ⊥
 apart b e = absurd cc
 
-broken_stays : (calls : List Feeding) (new : DecoderState) → Feedings Broken calls new → new ≡ Broken
+broken_stays : (calls : List Feeding) (new : DecoderState) → Feedings Broken calls new
+    → new ≡ Broken
 broken_stays [] new run = run
 broken_stays (c ∷ calls) new run = broken_stays calls new (subst (λ (s : DecoderState). Feedings s calls new) run.1.1 run.2)
 
@@ -33,8 +34,11 @@ nothing_is_part = part_without_header [] (nothing_short [] refl)
 abbrev pub Later : List Feeding → DecoderState → List ℕ → Type 0
 Later calls new rest = (part : List ℕ) → IsIncomplete part → Feedings (Inside part) calls new → Splits (part ++ taken_in calls) (messages_given calls) rest
 
-one_fed : (calls : List Feeding) (new : DecoderState) (rest begun piece : List ℕ) (taken : ℕ) (frame : Option Message) (next : DecoderState) → Later calls new rest → TakesPiece begun piece taken frame next → Feedings next calls new
-    → Splits (begun ++ (take taken piece ++ taken_in calls)) (option_to_list frame ++ messages_given calls) rest
+one_fed : (calls : List Feeding) (new : DecoderState) (rest begun piece : List ℕ) (taken : ℕ)
+    (frame : Option Message) (next : DecoderState) → Later calls new rest
+    → TakesPiece begun piece taken frame next → Feedings next calls new
+    → Splits (begun ++ (take taken piece ++ taken_in calls))
+    (option_to_list frame ++ messages_given calls) rest
 one_fed calls new rest begun piece taken None next later takes run =
     let after = later (begun ++ piece) takes.1 (subst (λ (s : DecoderState). Feedings s calls new) takes.2 run) in
     let whole : take taken piece ≡ piece = take_all taken piece (omega (arith, takes.0)) in
@@ -51,14 +55,19 @@ one_fed calls new rest begun piece taken (Some frame) next later takes run =
       part = after.part;
     }
 
-one_answered : (calls : List Feeding) (new : DecoderState) (rest begun piece : List ℕ) (answer : Result Fed FrameFault) (next : DecoderState) → Later calls new rest → IsIncomplete begun → new ≡ Inside rest → FeedStep (Inside begun) piece answer next → Feedings next calls new
-    → Splits (begun ++ (bytes_taken piece answer ++ taken_in calls)) (message_given answer ++ messages_given calls) rest
+one_answered : (calls : List Feeding) (new : DecoderState) (rest begun piece : List ℕ)
+    (answer : Result Fed FrameFault) (next : DecoderState) → Later calls new rest
+    → IsIncomplete begun → new ≡ Inside rest → FeedStep (Inside begun) piece answer next
+    → Feedings next calls new
+    → Splits (begun ++ (bytes_taken piece answer ++ taken_in calls))
+    (message_given answer ++ messages_given calls) rest
 one_answered calls new rest begun piece (Ok fed) next later part ends feeds run = one_fed calls new rest begun piece fed.taken fed.message next later feeds run
 one_answered calls new rest begun piece (Err fault) next later part ends (inl none) run = later begun part (subst (λ (s : DecoderState). Feedings s calls new) none.1 run)
 one_answered calls new rest begun piece (Err fault) next later part ends (inr breaks) run =
     absurd (apart rest (sym (broken_stays calls new (subst (λ (s : DecoderState). Feedings s calls new) breaks.3 run)) ∙ ends))
 
-fed_from : (calls : List Feeding) (new : DecoderState) (rest : List ℕ) → new ≡ Inside rest → Later calls new rest
+fed_from : (calls : List Feeding) (new : DecoderState) (rest : List ℕ) → new ≡ Inside rest
+    → Later calls new rest
 fed_from [] new rest ends begun part run =
     let same : begun ≡ rest = inside_is begun rest (sym run ∙ ends) in
     record { texts = []; whole = append-nil begun ∙ same; each = tt; part = subst IsIncomplete same part }
@@ -70,11 +79,14 @@ fed_from (c ∷ calls) new rest ends begun part run =
     (subst (λ (s : List ℕ). Splits (begun ++ s) (message_given c.answer ++ messages_given calls) rest) (sym bytes) all)
 
 -- the consumed bytes are the returned frames and a part of the next
-pub in_pieces : (calls : List Feeding) (rest : List ℕ) → Feedings (Inside []) calls (Inside rest) → Splits (taken_in calls) (messages_given calls) rest
+pub in_pieces : (calls : List Feeding) (rest : List ℕ) → Feedings (Inside []) calls (Inside rest)
+    → Splits (taken_in calls) (messages_given calls) rest
 in_pieces calls rest run = fed_from calls (Inside rest) rest refl [] nothing_is_part run
 
 -- and where a fault follows, the bytes up to it show it
-pub fault_in_pieces : (calls : List Feeding) (begun piece : List ℕ) (fault : FrameFault) → Feedings (Inside []) calls (Inside begun) → Breaks begun piece fault Broken → Fails (taken_in calls ++ piece) (messages_given calls) fault
+pub fault_in_pieces : (calls : List Feeding) (begun piece : List ℕ) (fault : FrameFault)
+    → Feedings (Inside []) calls (Inside begun) → Breaks begun piece fault Broken
+    → Fails (taken_in calls ++ piece) (messages_given calls) fault
 fault_in_pieces calls begun piece fault run breaks =
     let split = in_pieces calls begun run in
     let front = texts_of split.texts in
@@ -103,7 +115,8 @@ pub no_empty_frame : (f : Message) → Encodes [] f → ⊥
 no_empty_frame f encodes = no_ok (sym (nothing_is_part 0) ∙ frame_read [] f encodes)
 
 -- where one message's encoding is a prefix of another's, the two are equal
-front_text : (s t : List ℕ) (f g : Message) (x y : List ℕ) → Encodes s f → Encodes t g → s ++ x ≡ t ++ y → length s ≤ length t → s ≡ t
+front_text : (s t : List ℕ) (f g : Message) (x y : List ℕ) → Encodes s f → Encodes t g
+    → s ++ x ≡ t ++ y → length s ≤ length t → s ≡ t
 front_text s t f g x y is_f is_g same le =
     let rest = drop (length s) t in
     let parts : t ≡ s ++ rest = longer s x t y same le in
@@ -111,7 +124,8 @@ front_text s t f g x y is_f is_g same le =
     sym (append-nil s) ∙ ap (λ (r : List ℕ). s ++ r) (sym none) ∙ sym parts
 
 -- where two frames begin one text they are one
-pub first_text : (s t : List ℕ) (f g : Message) (x y : List ℕ) → Encodes s f → Encodes t g → s ++ x ≡ t ++ y → s ≡ t
+pub first_text : (s t : List ℕ) (f g : Message) (x y : List ℕ) → Encodes s f → Encodes t g
+    → s ++ x ≡ t ++ y → s ≡ t
 first_text s t f g x y is_f is_g same =
     ⊎_elim (λ lt. front_text s t f g x y is_f is_g same (omega (arith, lt))) (λ le. sym (front_text t s g f y x is_g is_f (sym same) le)) (lt_or_le (length s) (length t))
 
@@ -125,13 +139,16 @@ part_no_frame rest part text f more encodes is =
     let front : take n rest ≡ text = ap (take n) is ∙ take_at text more n refl in
     no_ok (sym (part n) ∙ ap read_frame front ∙ frame_read text f encodes)
 
-bad_no_frame : (bad later : List ℕ) (fault : FrameFault) → ShowsFault bad fault → NoFrame (bad ++ later)
+bad_no_frame : (bad later : List ℕ) (fault : FrameFault) → ShowsFault bad fault
+    → NoFrame (bad ++ later)
 bad_no_frame bad later fault shown text f more encodes is =
     ⊎_elim (λ lt. no_ok (sym (shown.not_before (length text) lt) ∙ ap read_frame (shorter text more bad later (sym is) (omega (arith, lt))) ∙ frame_read text f encodes))
     (λ le. fault_for_good bad (drop (length bad) text) fault f shown (subst (λ (w : List ℕ). Encodes w f) (longer bad later text more is le) encodes))
     (lt_or_le (length text) (length bad))
 
-same_reading : (ts us : List (List ℕ)) (fs gs : List Message) (r q : List ℕ) → EncodeAll ts fs → EncodeAll us gs → NoFrame r → NoFrame q → texts_of ts ++ r ≡ texts_of us ++ q → (fs ≡ gs) × (r ≡ q)
+same_reading : (ts us : List (List ℕ)) (fs gs : List Message) (r q : List ℕ) → EncodeAll ts fs
+    → EncodeAll us gs → NoFrame r → NoFrame q → texts_of ts ++ r ≡ texts_of us ++ q
+    → (fs ≡ gs) × (r ≡ q)
 same_reading [] [] [] [] r q all_f all_g none_r none_q same = (refl, same)
 same_reading [] us (f ∷ fs) gs r q all_f all_g none_r none_q same = absurd all_f
 same_reading (t ∷ ts) us [] gs r q all_f all_g none_r none_q same = absurd all_f
@@ -153,16 +170,19 @@ mended : (fault : FrameFault) → failed {A = Message} fault ≡ failed Truncate
 mended fault short lasting = truncated_mends (subst IsLasting (err_is {A = Message} fault Truncated short) lasting)
 
 -- what shows a fault isn't shorter than what shows one
-not_shorter : (a x b y : List ℕ) (e d : FrameFault) → ShowsFault a e → ShowsFault b d → a ++ x ≡ b ++ y → length b ≤ length a
+not_shorter : (a x b y : List ℕ) (e d : FrameFault) → ShowsFault a e → ShowsFault b d
+    → a ++ x ≡ b ++ y → length b ≤ length a
 not_shorter a x b y e d first second same =
     ⊎_elim (λ lt. absurd (mended e (sym first.read ∙ ap read_frame (sym (shorter a x b y same (omega (arith, lt)))) ∙ second.not_before (length a) lt) first.lasting)) (λ le. le) (lt_or_le (length a) (length b))
 
 -- a stream has one list of frames and one rest
-pub one_reading : (stream : List ℕ) (fs gs : List Message) (r q : List ℕ) → Splits stream fs r → Splits stream gs q → (fs ≡ gs) × (r ≡ q)
+pub one_reading : (stream : List ℕ) (fs gs : List Message) (r q : List ℕ) → Splits stream fs r
+    → Splits stream gs q → (fs ≡ gs) × (r ≡ q)
 one_reading stream fs gs r q a b = same_reading a.texts b.texts fs gs r q a.each b.each (part_no_frame r a.part) (part_no_frame q b.part) (sym a.whole ∙ b.whole)
 
 -- a part shows no fault
-pub part_or_fault : (stream : List ℕ) (fs gs : List Message) (r : List ℕ) (fault : FrameFault) → Splits stream fs r → Fails stream gs fault → ⊥
+pub part_or_fault : (stream : List ℕ) (fs gs : List Message) (r : List ℕ) (fault : FrameFault)
+    → Splits stream fs r → Fails stream gs fault → ⊥
 part_or_fault stream fs gs r fault a b =
     let same = same_reading a.texts b.texts fs gs r (b.bad ++ b.later) a.each b.each (part_no_frame r a.part) (bad_no_frame b.bad b.later fault b.shown) (sym a.whole ∙ b.whole) in
     let n = length b.bad in
@@ -170,7 +190,8 @@ part_or_fault stream fs gs r fault a b =
     mended fault (sym b.shown.read ∙ ap read_frame (sym front) ∙ a.part n) b.shown.lasting
 
 -- a stream has one fault, behind one list of frames
-pub one_fault : (stream : List ℕ) (fs gs : List Message) (e d : FrameFault) → Fails stream fs e → Fails stream gs d → (fs ≡ gs) × (e ≡ d)
+pub one_fault : (stream : List ℕ) (fs gs : List Message) (e d : FrameFault) → Fails stream fs e
+    → Fails stream gs d → (fs ≡ gs) × (e ≡ d)
 one_fault stream fs gs e d a b =
     let same = same_reading a.texts b.texts fs gs (a.bad ++ a.later) (b.bad ++ b.later) a.each b.each (bad_no_frame a.bad a.later e a.shown) (bad_no_frame b.bad b.later d b.shown) (sym a.whole ∙ b.whole) in
     let as_long : length b.bad ≤ length a.bad = not_shorter a.bad a.later b.bad b.later e d a.shown b.shown same.1 in

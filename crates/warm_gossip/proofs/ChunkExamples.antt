@@ -30,7 +30,8 @@ once n time = record { page = page n; hist = Once (at time) }
 abbrev twice : ℕ → ℕ → ℕ → Entry
 twice n last prev = record { page = page n; hist = Twice (record { last = at last; prev = at prev }) }
 
-in_chunks : chunks 2 (bucket_entries 1 (entries_of (history four))) ≡ (once 1 40 ∷ twice 65 50 20 ∷ []) ∷ (once 129 10 ∷ []) ∷ []
+in_chunks : chunks 2 (bucket_entries 1 (entries_of (history four)))
+    ≡ (once 1 40 ∷ twice 65 50 20 ∷ []) ∷ (once 129 10 ∷ []) ∷ []
 unfolding history
 in_chunks = refl
 

@@ -36,17 +36,20 @@ chosen bucket after = filter (λ e. is_next_in_bucket bucket after e.page)
 -- ---- the last page of some entries
 
 -- what is true of each page is true of the last
-last_has : (P : PageId → Type 0) (e : Entry) (es : List Entry) → AllByRecursion (λ x. P x.page) (e ∷ es) → (q : PageId) × (last_page (e ∷ es) ≡ Some q) × P q
+last_has : (P : PageId → Type 0) (e : Entry) (es : List Entry)
+    → AllByRecursion (λ x. P x.page) (e ∷ es) → (q : PageId) × (last_page (e ∷ es) ≡ Some q) × P q
 last_has P e [] all = (e.page, refl, all.0)
 last_has P e (f ∷ es) all = last_has P f es all.1
 
 -- all that are greater come after
-all_later : (p : PageId) (es : List Entry) → AllByRecursion (λ x. page_cmp p x.page ≡ Less) es → later (Some p) es ≡ es
+all_later : (p : PageId) (es : List Entry) → AllByRecursion (λ x. page_cmp p x.page ≡ Less) es
+    → later (Some p) es ≡ es
 all_later p [] all = refl
 all_later p (x ∷ es) all = rw all.0 (ap (λ t. x ∷ t) (all_later p es all.1))
 
 -- of rising entries those after the last page of the first ones are the others
-later-drop : (n : ℕ) (e : Entry) (es : List Entry) → PagesAscend (e ∷ es) → later (last_page (take (suc n) (e ∷ es))) (e ∷ es) ≡ drop (suc n) (e ∷ es)
+later-drop : (n : ℕ) (e : Entry) (es : List Entry) → PagesAscend (e ∷ es)
+    → later (last_page (take (suc n) (e ∷ es))) (e ∷ es) ≡ drop (suc n) (e ∷ es)
 later-drop zero e es rise = rw (tied_itself page_order.total e.page) (all_later e.page es rise.0)
 later-drop (suc n) e [] rise = rw (tied_itself page_order.total e.page) refl
 later-drop (suc n) e (f ∷ es) rise =
@@ -57,24 +60,30 @@ later-drop (suc n) e (f ∷ es) rise =
 
 -- ---- later entries of a bucket
 
-comes_after_too : (after : Option PageId) (q p : PageId) → comes_after after q ≡ true → comes_after (Some q) p ≡ true → comes_after after p ≡ true
+comes_after_too : (after : Option PageId) (q p : PageId) → comes_after after q ≡ true
+    → comes_after (Some q) p ≡ true → comes_after after p ≡ true
 comes_after_too None q p first second = refl
 comes_after_too (Some a) q p first second = rw (page_order.total.trans a q p (less_is _ first) (less_is _ second)) refl
 
 -- after a chosen page come those of the chosen ones that come after it
-chosen-later : (bucket : ℕ) (after : Option PageId) (q : PageId) → comes_after after q ≡ true → (es : List Entry) → chosen bucket (Some q) es ≡ later (Some q) (chosen bucket after es)
+chosen-later : (bucket : ℕ) (after : Option PageId) (q : PageId) → comes_after after q ≡ true
+    → (es : List Entry) → chosen bucket (Some q) es ≡ later (Some q) (chosen bucket after es)
 chosen-later bucket after q first [] = refl
 chosen-later bucket after q first (e ∷ es) = cases (page_bucket e.page == bucket) (comes_after after e.page) (comes_after (Some q) e.page) refl (comes_after_too after q e.page first) (chosen-later bucket after q first es)
   where
-    cases : (b u v : Bool) → comes_after (Some q) e.page ≡ v → (comes_after (Some q) e.page ≡ true → u ≡ true) → chosen bucket (Some q) es ≡ later (Some q) (chosen bucket after es)
-        → cond (b && v) (e ∷ chosen bucket (Some q) es) (chosen bucket (Some q) es) ≡ later (Some q) (cond (b && u) (e ∷ chosen bucket after es) (chosen bucket after es))
+    cases : (b u v : Bool) → comes_after (Some q) e.page ≡ v
+        → (comes_after (Some q) e.page ≡ true → u ≡ true)
+        → chosen bucket (Some q) es ≡ later (Some q) (chosen bucket after es)
+        → cond (b && v) (e ∷ chosen bucket (Some q) es) (chosen bucket (Some q) es)
+        ≡ later (Some q) (cond (b && u) (e ∷ chosen bucket after es) (chosen bucket after es))
     cases false u v is too rest = rest
     cases true true true is too rest = rw is (ap (λ t. e ∷ t) rest)
     cases true true false is too rest = rw is rest
     cases true false true is too rest = let never : false ≡ true = too is in absurd (cc)
     cases true false false is too rest = rest
 
-all_chosen : (bucket : ℕ) (after : Option PageId) (es : List Entry) → AllByRecursion (λ x. comes_after after x.page ≡ true) (chosen bucket after es)
+all_chosen : (bucket : ℕ) (after : Option PageId) (es : List Entry)
+    → AllByRecursion (λ x. comes_after after x.page ≡ true) (chosen bucket after es)
 all_chosen bucket after es = recursion_from_All (λ e. comes_after after e.page ≡ true) (chosen bucket after es) (All-weaker (λ e. is_next_in_bucket bucket after e.page ≡ true) (λ e. comes_after after e.page ≡ true)
     (λ e passes. (and_parts (page_bucket e.page == bucket) (comes_after after e.page) passes).1) (chosen bucket after es) (filter_passes (λ e. is_next_in_bucket bucket after e.page) es))
 
@@ -85,10 +94,14 @@ chosen-first bucket es = filter_agree (λ e. page_bucket e.page == bucket) (λ e
 -- ---- chunks
 
 -- what is sent is the first part of what is chosen
-chunk_is : (S : ReferenceSet) (bucket limit : ℕ) (after : Option PageId) (es : List Entry) → es ≡ chosen bucket after (entries_of (history S)) → chunk_after S bucket limit after ≡ take limit es
+chunk_is : (S : ReferenceSet) (bucket limit : ℕ) (after : Option PageId) (es : List Entry)
+    → es ≡ chosen bucket after (entries_of (history S))
+    → chunk_after S bucket limit after ≡ take limit es
 chunk_is S bucket limit after es is = sym (history-carried S bucket after limit) ∙ ap (take limit) (sym is)
 
-in_turn_from : (S : ReferenceSet) (bucket size n : ℕ) (after : Option PageId) (es : List Entry) → es ≡ chosen bucket after (entries_of (history S)) → length es ≤ n → AreInTurn S bucket (suc size) after (chunks_of (suc size) n es)
+in_turn_from : (S : ReferenceSet) (bucket size n : ℕ) (after : Option PageId) (es : List Entry)
+    → es ≡ chosen bucket after (entries_of (history S)) → length es ≤ n
+    → AreInTurn S bucket (suc size) after (chunks_of (suc size) n es)
 in_turn_from S bucket size zero after [] is few = chunk_is S bucket (suc size) after [] is ∙ take-nil (suc size)
 in_turn_from S bucket size zero after (x ∷ xs) is few = absurd (omega (arith, few))
 in_turn_from S bucket size (suc n) after [] is few = chunk_is S bucket (suc size) after [] is ∙ take-nil (suc size)

@@ -15,5 +15,6 @@ one_by_one P [] all = tt
 one_by_one P (x ∷ xs) all = (all 0 x (omega arith), one_by_one P xs (λ k d low. all (suc k) d (omega (arith, low))))
 
 -- what is true of each in one order is true in another
-pub in_other_order : {A : Type 0} (P : A → Type 0) (xs ys : List A) → IsPermutation xs ys → AllByRecursion P ys → AllByRecursion P xs
+pub in_other_order : {A : Type 0} (P : A → Type 0) (xs ys : List A) → IsPermutation xs ys
+    → AllByRecursion P ys → AllByRecursion P xs
 in_other_order P xs ys moved all = one_by_one P xs (All-permutation P ys xs (IsPermutation-sym xs ys moved) (at_each_place P ys all))

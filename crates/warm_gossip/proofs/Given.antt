@@ -17,10 +17,13 @@ pub same_alone : (old new : NodeView) → new ≡ old → new ≡ record old { p
 same_alone old new is = (none_changed old new is).0
 
 -- a refused call leaves everything but the pool unchanged
-pub refused_keeps : (old : NodeView) (call : Call) (why : NodeFault) (new : NodeView) → Refuses old call why new → new ≡ record old { pool = new.pool }
+pub refused_keeps : (old : NodeView) (call : Call) (why : NodeFault) (new : NodeView)
+    → Refuses old call why new → new ≡ record old { pool = new.pool }
 refused_keeps old call why new r = (refused old new call why r).0
 
-goes_on : (S : ReferenceSet) (calls : List (Entry Call Reply)) (old last : NodeView) → old.history ≡ history S → Runs Step old calls last → last.history ≡ history (given_by_calls S calls)
+goes_on : (S : ReferenceSet) (calls : List (Entry Call Reply)) (old last : NodeView)
+    → old.history ≡ history S → Runs Step old calls last
+    → last.history ≡ history (given_by_calls S calls)
 goes_on S [] old last is runs = ap (λ (n : NodeView). n.history) (sym runs) ∙ is
 goes_on S (e ∷ es) old last is runs = goes_on (given_by_call S e.call e.reply) es runs.0 last (step_leads S e.call e.reply old runs.0 is runs.1).0 runs.2
 

@@ -25,7 +25,8 @@ use Rattle.warm_rank.proofs.EvictionLemmas.{eviction_order}
 -- ---- the items of a list
 
 -- what is true of all is true of each
-pub all_has : {A : Type 0} (P : A → Type 0) (xs : List A) (x : A) → AllByRecursion P xs → Has xs x → P x
+pub all_has : {A : Type 0} (P : A → Type 0) (xs : List A) (x : A) → AllByRecursion P xs → Has xs x
+    → P x
 all_has P [] x all has = absurd has
 all_has P (y ∷ ys) x all (inl is) = subst P is all.0
 all_has P (y ∷ ys) x all (inr later) = all_has P ys x all.1 later
@@ -44,7 +45,9 @@ has_contains xs x has = all_has (Contains xs) xs x (recursion_from_All (Contains
 -- ---- which pages a warm-up list has
 
 -- where a rising list is cut, what comes before an item that is left is left
-cut_closed : {A : Type 0} (cmp : A → A → Ordering) → IsStrictOrder cmp → (n : ℕ) (xs : List A) → IsAscending cmp xs → (x y : A) → Has (take n xs) x → Has xs y → cmp y x ≡ Less → Has (take n xs) y
+cut_closed : {A : Type 0} (cmp : A → A → Ordering) → IsStrictOrder cmp → (n : ℕ) (xs : List A)
+    → IsAscending cmp xs → (x y : A) → Has (take n xs) x → Has xs y → cmp y x ≡ Less
+    → Has (take n xs) y
 cut_closed cmp order zero xs rising x y has there less = absurd has
 cut_closed cmp order (suc n) [] rising x y has there less = absurd has
 cut_closed cmp order (suc n) (z ∷ zs) rising x y has (inl is) less = inl is
@@ -56,16 +59,19 @@ cut_closed cmp order (suc n) (z ∷ zs) rising x y (inl is) (inr later) less =
 cut_closed cmp order (suc n) (z ∷ zs) rising x y (inr has) (inr later) less = inr (cut_closed cmp order n zs rising.1 x y has later less)
 
 -- a page is named, or no reference is to it
-named_or_not : (S : List Reference) (p : PageId) → Has (map (λ (r : Reference). r.page) S) p ⊎ (list_references_to S p ≡ [])
+named_or_not : (S : List Reference) (p : PageId)
+    → Has (map (λ (r : Reference). r.page) S) p ⊎ (list_references_to S p ≡ [])
 named_or_not [] p = inr refl
 named_or_not (r ∷ S) p = cases (named_or_not S p)
   where
-    cases : Has (map (λ (x : Reference). x.page) S) p ⊎ (list_references_to S p ≡ []) → Has (map (λ (x : Reference). x.page) (r ∷ S)) p ⊎ (list_references_to (r ∷ S) p ≡ [])
+    cases : Has (map (λ (x : Reference). x.page) S) p ⊎ (list_references_to S p ≡ [])
+        → Has (map (λ (x : Reference). x.page) (r ∷ S)) p ⊎ (list_references_to (r ∷ S) p ≡ [])
     cases (inl has) = inl (inr has)
     cases (inr none) = by_cases (page_cmp r.page p) _ (λ less. inr (rw less none)) (λ tied. inl (inl (page_order.same r.page p tied))) (λ more. inr (rw more none))
 
 -- no page that is named leaves before one that isn't
-leaves_first : (p q : PageId) (x : Option PageHist) → is_some x ≡ true → key_cmp (rank_key p x) (rank_key q None) ≡ Less → ⊥
+leaves_first : (p q : PageId) (x : Option PageHist) → is_some x ≡ true
+    → key_cmp (rank_key p x) (rank_key q None) ≡ Less → ⊥
 leaves_first p q None some less = absurd (cc)
 leaves_first p q (Some (Once last)) some less = absurd (cc)
 leaves_first p q (Some (Twice two)) some less = absurd (cc)
@@ -81,7 +87,8 @@ after_named S p q named before = elim (named_or_not (references S) q) [
 ]
 
 -- with a page of the list all that leave after it are in the list
-pub after_listed : (S : ReferenceSet) (n : ℕ) (p q : PageId) → Contains (hottest_pages S n) p → IsBefore S p q → Contains (hottest_pages S n) q
+pub after_listed : (S : ReferenceSet) (n : ℕ) (p q : PageId) → Contains (hottest_pages S n) p
+    → IsBefore S p q → Contains (hottest_pages S n) q
 after_listed S n p q contained before =
     let falls = flip_args (eviction_cmp S) in
     let order = IsStrictOrder-flip (eviction_cmp S) (eviction_order S) in

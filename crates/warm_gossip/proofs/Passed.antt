@@ -30,7 +30,8 @@ use Rattle.warm_gossip.proofs.WarmUpLemmas.{came_in, frames_count, has_same, res
 -- ---- where no page is evicted
 
 -- then the passed pages stay passed
-stay_passed : (h : HistoryView) (v w : PoolView) (p : PageId) (placed : Placed) (ps : List PageId) (n : ℕ) → w.devices ≡ v.devices → length w.frames ≡ length v.frames
+stay_passed : (h : HistoryView) (v w : PoolView) (p : PageId) (placed : Placed) (ps : List PageId)
+    (n : ℕ) → w.devices ≡ v.devices → length w.frames ≡ length v.frames
     → IsPlaced v p placed w → placed.evicted ≡ None → IsUnderWay h v ps n → IsUnderWay h w ps n
 stay_passed h v w p placed ps n devices count is none under = record {
   hottest = subst (λ k. IsWarmUp h k ps) (sym count) under.hottest;
@@ -43,7 +44,9 @@ stay_passed h v w p placed ps n devices count is none under = record {
 -- ---- the pages that are kept, if any are
 
 -- what holds of these pages holds where they are kept
-where_kept : (h : HistoryView) (v w : PoolView) (x : WarmUp) (n : ℕ) → ((ps : List PageId) → IsUnderWay h v ps x.passed → IsUnderWay h w ps n) → IsWarming h v x → IsWarming h w (record x { passed = n })
+where_kept : (h : HistoryView) (v w : PoolView) (x : WarmUp) (n : ℕ)
+    → ((ps : List PageId) → IsUnderWay h v ps x.passed → IsUnderWay h w ps n) → IsWarming h v x
+    → IsWarming h w (record x { passed = n })
 where_kept h v w x n goes under = elim x.pages as (λ o. IfSome o (λ ps. IsUnderWay h v ps.items x.passed) → IfSome o (λ ps. IsUnderWay h w ps.items n)) [ None ↦ λ none. none | Some ps ↦ λ u. goes ps.items u ] under
 
 -- nothing is kept
@@ -53,15 +56,18 @@ none_kept h v x none = subst (λ o. IfSome o (λ ps. IsUnderWay h v ps.items x.p
 -- ---- pins
 
 -- a page that is pinned leaves the pages passed that are passed still
-at_pin : (h : HistoryView) (v w : PoolView) (p : PageId) (placed : Placed) (ps : List PageId) (m n : ℕ) → w.devices ≡ v.devices → length w.frames ≡ length v.frames
-    → IsPlaced v p placed w → PassedAtPin placed.evicted m n → IsUnderWay h v ps m → IsUnderWay h w ps n
+at_pin : (h : HistoryView) (v w : PoolView) (p : PageId) (placed : Placed) (ps : List PageId)
+    (m n : ℕ) → w.devices ≡ v.devices → length w.frames ≡ length v.frames
+    → IsPlaced v p placed w → PassedAtPin placed.evicted m n → IsUnderWay h v ps m
+    → IsUnderWay h w ps n
 at_pin h v w p placed ps m n devices count is (inl none) under = record {
   hottest = subst (λ k. IsWarmUp h k ps) (sym count) under.hottest;
   past = λ j before. absurd (omega (arith, none, before));
 }
 at_pin h v w p placed ps m n devices count is (inr (none, same)) under = stay_passed h v w p placed ps n devices count is none (subst (IsUnderWay h v ps) (sym same) under)
 
-pub pinned : (h : HistoryView) (v w : PoolView) (p : PageId) (placed : Placed) (x : WarmUp) (n : ℕ) → PassedAtPin placed.evicted x.passed n → Pinned h v p placed.slot w → IsPlaced v p placed w
+pub pinned : (h : HistoryView) (v w : PoolView) (p : PageId) (placed : Placed) (x : WarmUp) (n : ℕ)
+    → PassedAtPin placed.evicted x.passed n → Pinned h v p placed.slot w → IsPlaced v p placed w
     → IsWarming h v x → IsWarming h w (record x { passed = n })
 pinned h v w p placed x n passed (has, adds_or_puts) is = elim adds_or_puts [
   | inl adds ↦
@@ -72,7 +78,8 @@ pinned h v w p placed x n passed (has, adds_or_puts) is = elim adds_or_puts [
 -- ---- steps of the warm-up
 
 -- of two items of a rising list, the one that comes first is below the other
-rises_at : {A : Type 0} (cmp : A → A → Ordering) (xs : List A) (d : A) → IsAscending cmp xs → (j i : ℕ) → j < i → i < length xs → cmp (get_or xs j d) (get_or xs i d) ≡ Less
+rises_at : {A : Type 0} (cmp : A → A → Ordering) (xs : List A) (d : A) → IsAscending cmp xs
+    → (j i : ℕ) → j < i → i < length xs → cmp (get_or xs j d) (get_or xs i d) ≡ Less
 rises_at cmp [] d rising j i before there = absurd (omega (arith, there))
 rises_at cmp (x ∷ xs) d rising j zero before there = absurd (omega (arith, before))
 rises_at cmp (x ∷ xs) d rising zero (suc i) before there =
@@ -81,15 +88,18 @@ rises_at cmp (x ∷ xs) d rising zero (suc i) before there =
 rises_at cmp (x ∷ xs) d rising (suc j) (suc i) before there = rises_at cmp xs d rising.1 j i (omega (arith, before)) (omega (arith, there))
 
 -- of two pages of a warm-up list, the one that comes first leaves after the other
-leaves_later : (S : ReferenceSet) (n : ℕ) (ps : List PageId) → ps ≡ hottest_pages S n → (j i : ℕ) → j < i → i < length ps → IsBefore S (nth_page ps i) (nth_page ps j)
+leaves_later : (S : ReferenceSet) (n : ℕ) (ps : List PageId) → ps ≡ hottest_pages S n → (j i : ℕ)
+    → j < i → i < length ps → IsBefore S (nth_page ps i) (nth_page ps j)
 leaves_later S n ps is j i before there =
     let falls = flip_args (eviction_cmp S) in
     let rising : IsAscending falls (hottest_pages S n) = rising_take falls n (distinct falls (pages S)) (distinct_rises falls (IsStrictOrder-flip (eviction_cmp S) (eviction_order S)) (pages S)) in
     rises_at falls ps (record { dev = 0; no = 0 }) (subst (IsAscending falls) (sym is) rising) j i before there
 
 -- a page that is loaded is passed too, where it evicted none of those before it
-pub loaded : (h : HistoryView) (v w : PoolView) (ps : List PageId) (slot : Slot) (evicted : Option PageId) (at n : ℕ) → IsHistory h → at < length ps → IsUnderWay h v ps at
-    → PutsIn h v (nth_page ps at) 0 slot w → evicted ≡ (frame_at v slot.index).page → PassedAtLoad h (nth_page ps at) evicted at n → IsUnderWay h w ps n
+pub loaded : (h : HistoryView) (v w : PoolView) (ps : List PageId) (slot : Slot)
+    (evicted : Option PageId) (at n : ℕ) → IsHistory h → at < length ps → IsUnderWay h v ps at
+    → PutsIn h v (nth_page ps at) 0 slot w → evicted ≡ (frame_at v slot.index).page
+    → PassedAtLoad h (nth_page ps at) evicted at n → IsUnderWay h w ps n
 loaded h v w ps slot evicted at n whole there under puts is moves = record {
   hottest = subst (λ k. IsWarmUp h k ps) (sym (frames_count puts)) under.hottest;
   past = elim moves [ inl none ↦ λ j before. absurd (omega (arith, none, before)) | inr (next, none_before) ↦ past next none_before ];
@@ -102,7 +112,8 @@ loaded h v w ps slot evicted at n whole there under puts is moves = record {
     devices = ap (λ x. x.devices) puts.becomes
 
     -- a page before the loaded one in the list leaves after it, so it was not evicted
-    put_out : IsNoneBefore h (nth_page ps at) evicted → (j : ℕ) → j < at → (frame_at v slot.index).page ≡ Some (nth_page ps j) → ⊥
+    put_out : IsNoneBefore h (nth_page ps at) evicted → (j : ℕ) → j < at
+        → (frame_at v slot.index).page ≡ Some (nth_page ps j) → ⊥
     put_out none_before j before held =
         let q = nth_page ps j in
         let first : IsBefore S q (nth_page ps at) = subst (IsNoneBefore h (nth_page ps at)) (is ∙ held) none_before in
@@ -123,8 +134,10 @@ loaded h v w ps slot evicted at n whole there under puts is moves = record {
 
 -- ---- the page to load next
 
-pub none_left : (v : PoolView) (ps : List PageId) (at : ℕ) → IsPast ps at v → length ps ≤ at → IsFirstLoadable v ps None
+pub none_left : (v : PoolView) (ps : List PageId) (at : ℕ) → IsPast ps at v → length ps ≤ at
+    → IsFirstLoadable v ps None
 none_left v ps at past all j there = past j (omega (arith, there, all)) there
 
-pub first_there : (v : PoolView) (ps : List PageId) (at : ℕ) → IsPast ps at v → at < length ps → IsLoadable v (nth_page ps at) → IsFirstLoadable v ps (Some (nth_page ps at))
+pub first_there : (v : PoolView) (ps : List PageId) (at : ℕ) → IsPast ps at v → at < length ps
+    → IsLoadable v (nth_page ps at) → IsFirstLoadable v ps (Some (nth_page ps at))
 first_there v ps at past there loadable = (at, there, refl, loadable, λ j before. past j before (omega (arith, before, there)))

@@ -68,7 +68,9 @@ none_more : (S : ReferenceSet) → S ∪ set_of_list [] ≡ S
 none_more S = λ i. record { horizon = no_greater S.horizon 0 (omega arith) i; given = append-nil S.given i }
 
 -- messages that come one after the other bring all that each brings
-pub receives_refs : (id : ℕ) (S : ReferenceSet) (messages answers : List Message) (new : HistoryView) → Receives id (history S) messages answers new → new ≡ history (S ∪ all_refs messages)
+pub receives_refs : (id : ℕ) (S : ReferenceSet) (messages answers : List Message)
+    (new : HistoryView) → Receives id (history S) messages answers new
+    → new ≡ history (S ∪ all_refs messages)
 receives_refs id S [] answers new receives = receives.1 ∙ ap history (sym (none_more S))
 receives_refs id S (message ∷ messages) answers new receives =
     receives_refs id (S ∪ refs_in message) messages receives.1 new (subst (λ h. Receives id h messages receives.1 new) (history_first S (refs_in message)) receives.3)
@@ -87,8 +89,10 @@ CarriesEntries other = ⊥
 
 -- where messages of entries come, and then a request, the request alone is answered, from what is
 -- known in the end
-receives_request : (id sender horizon request : ℕ) (h : HistoryView) (messages answers : List Message) (new : HistoryView) → AllByRecursion CarriesEntries messages
-    → Receives id h (messages ++ Want sender horizon request ∷ []) answers new → answers ≡ requested_messages id new request
+receives_request : (id sender horizon request : ℕ) (h : HistoryView)
+    (messages answers : List Message) (new : HistoryView) → AllByRecursion CarriesEntries messages
+    → Receives id h (messages ++ Want sender horizon request ∷ []) answers new
+    → answers ≡ requested_messages id new request
 receives_request id sender horizon request h [] answers new all receives =
     receives.4 ∙ ap (λ t. receives.0 ++ t) receives.3.0 ∙ append-nil receives.0 ∙ receives.2 ∙ ap (λ (k : HistoryView). requested_messages id k request) (sym receives.3.1)
 receives_request id sender horizon request h (Entries from time entries ∷ messages) answers new all receives =
@@ -96,23 +100,29 @@ receives_request id sender horizon request h (Entries from time entries ∷ mess
 receives_request id sender horizon request h (other ∷ messages) answers new all receives = absurd all.0
 
 -- where messages of entries come alone, there is no answer
-none_answered : (id : ℕ) (h : HistoryView) (messages answers : List Message) (new : HistoryView) → AllByRecursion CarriesEntries messages → Receives id h messages answers new → answers ≡ []
+none_answered : (id : ℕ) (h : HistoryView) (messages answers : List Message) (new : HistoryView)
+    → AllByRecursion CarriesEntries messages → Receives id h messages answers new → answers ≡ []
 none_answered id h [] answers new all receives = receives.0
 none_answered id h (Entries sender horizon entries ∷ messages) answers new all receives =
     receives.4 ∙ ap (λ t. t ++ receives.1) receives.2 ∙ none_answered id (history_after h (Entries sender horizon entries)) messages receives.1 new all.1 receives.3
 none_answered id h (other ∷ messages) answers new all receives = absurd all.0
 
 -- what is true of messages of entries is true of the messages of buckets
-entries_in_messages : (P : Message → Type 0) (id horizon : ℕ) → ((part : List Entry) → P (Entries id horizon part)) → (parts : List (List Entry)) → AllByRecursion P (map (λ part. Entries id horizon part) parts)
+entries_in_messages : (P : Message → Type 0) (id horizon : ℕ)
+    → ((part : List Entry) → P (Entries id horizon part)) → (parts : List (List Entry))
+    → AllByRecursion P (map (λ part. Entries id horizon part) parts)
 entries_in_messages P id horizon each [] = tt
 entries_in_messages P id horizon each (part ∷ parts) = (each part, entries_in_messages P id horizon each parts)
 
-bucket_by_bucket : (P : Message → Type 0) (id : ℕ) (h : HistoryView) → ((part : List Entry) → P (Entries id h.horizon part)) → (buckets : List ℕ) → AllByRecursion P (flat_map (bucket_messages id h) buckets)
+bucket_by_bucket : (P : Message → Type 0) (id : ℕ) (h : HistoryView)
+    → ((part : List Entry) → P (Entries id h.horizon part)) → (buckets : List ℕ)
+    → AllByRecursion P (flat_map (bucket_messages id h) buckets)
 bucket_by_bucket P id h each [] = tt
 bucket_by_bucket P id h each (bucket ∷ buckets) =
     all_append P (bucket_messages id h bucket) (flat_map (bucket_messages id h) buckets) (entries_in_messages P id h.horizon each (chunks MAX_ENTRIES (bucket_entries bucket (entries_of h)))) (bucket_by_bucket P id h each buckets)
 
-wanted_carry : (id request : ℕ) (h : HistoryView) → AllByRecursion CarriesEntries (requested_messages id h request)
+wanted_carry : (id request : ℕ) (h : HistoryView)
+    → AllByRecursion CarriesEntries (requested_messages id h request)
 wanted_carry id request h = bucket_by_bucket CarriesEntries id h (λ part. tt) (requested_buckets request)
 
 -- ---- their horizons
@@ -120,25 +130,32 @@ wanted_carry id request h = bucket_by_bucket CarriesEntries id h (λ part. tt) (
 abbrev IsAt : ℕ → Message → Type 0
 IsAt horizon message = (refs_in message).horizon ≡ horizon
 
-wanted_at : (id request : ℕ) (h : HistoryView) → AllByRecursion (IsAt h.horizon) (requested_messages id h request)
+wanted_at : (id request : ℕ) (h : HistoryView)
+    → AllByRecursion (IsAt h.horizon) (requested_messages id h request)
 wanted_at id request h = bucket_by_bucket (IsAt h.horizon) id h (λ part. refl) (requested_buckets request)
 
-at_most : (horizon : ℕ) (messages : List Message) → AllByRecursion (IsAt horizon) messages → (all_refs messages).horizon ≤ horizon
+at_most : (horizon : ℕ) (messages : List Message) → AllByRecursion (IsAt horizon) messages
+    → (all_refs messages).horizon ≤ horizon
 at_most horizon [] all = omega arith
 at_most horizon (message ∷ messages) all = omega (arith, all.0, at_most horizon messages all.1)
 
-at_last : (horizon : ℕ) (messages : List Message) (last : Message) → AllByRecursion (IsAt horizon) messages → IsAt horizon last → (all_refs (messages ++ last ∷ [])).horizon ≡ horizon
+at_last : (horizon : ℕ) (messages : List Message) (last : Message)
+    → AllByRecursion (IsAt horizon) messages → IsAt horizon last
+    → (all_refs (messages ++ last ∷ [])).horizon ≡ horizon
 at_last horizon [] last all is = omega (arith, is)
 at_last horizon (message ∷ messages) last all is = omega (arith, all.0, at_last horizon messages last all.1 is)
 
 -- ---- the references of wanted messages
 
-held_by-append : (es fs : List Entry) → references_of_entries (es ++ fs) ≡ references_of_entries es ++ references_of_entries fs
+held_by-append : (es fs : List Entry)
+    → references_of_entries (es ++ fs) ≡ references_of_entries es ++ references_of_entries fs
 held_by-append [] fs = refl
 held_by-append (e ∷ es) fs = ap (λ t. references_of_entry e ++ t) (held_by-append es fs) ∙ sym (append_assoc (references_of_entry e) (references_of_entries es) (references_of_entries fs))
 
 -- chunks together hold what the list holds
-chunks_hold : (id horizon size n : ℕ) (es : List Entry) → 0 < size → length es ≤ n → all_given (map (λ part. Entries id horizon part) (chunks_of size n es)) ≡ references_of_entries es
+chunks_hold : (id horizon size n : ℕ) (es : List Entry) → 0 < size → length es ≤ n
+    → all_given (map (λ part. Entries id horizon part) (chunks_of size n es))
+    ≡ references_of_entries es
 chunks_hold id horizon size zero [] some few = refl
 chunks_hold id horizon size zero (e ∷ es) some few = absurd (omega (arith, few))
 chunks_hold id horizon size (suc n) [] some few = refl
@@ -150,11 +167,14 @@ chunks_hold id horizon size (suc n) (e ∷ es) some few =
     ∙ sym (held_by-append front later)
     ∙ ap references_of_entries (take-append-drop size (e ∷ es))
 
-entry_messages_hold : (id horizon : ℕ) (es : List Entry) → all_given (entry_messages id horizon es) ≡ references_of_entries es
+entry_messages_hold : (id horizon : ℕ) (es : List Entry)
+    → all_given (entry_messages id horizon es) ≡ references_of_entries es
 entry_messages_hold id horizon es = chunks_hold id horizon MAX_ENTRIES (length es) es (omega arith) (omega arith)
 
 -- whether an entry is chosen by its page, or its references are, is the same
-kept_entry : (test : PageId → Bool) (page : PageId) (h : PageHist) → kept test (references_of_entry (record { page = page; hist = h })) ≡ cond (test page) (references_of_entry (record { page = page; hist = h })) []
+kept_entry : (test : PageId → Bool) (page : PageId) (h : PageHist)
+    → kept test (references_of_entry (record { page = page; hist = h }))
+    ≡ cond (test page) (references_of_entry (record { page = page; hist = h })) []
 kept_entry test page (Once s) =
     let r : Reference = record { page = page; stamp = s } in
     elim (test page) as (λ b. cond b (r ∷ []) [] ≡ cond b (r ∷ []) []) [ true ↦ refl | false ↦ refl ]
@@ -163,7 +183,8 @@ kept_entry test page (Twice t) =
     let older : Reference = record { page = page; stamp = t.prev } in
     elim (test page) as (λ b. cond b (r ∷ cond b (older ∷ []) []) (cond b (older ∷ []) []) ≡ cond b (r ∷ older ∷ []) []) [ true ↦ refl | false ↦ refl ]
 
-held_by-filter : (test : PageId → Bool) (es : List Entry) → references_of_entries (filter (λ e. test e.page) es) ≡ kept test (references_of_entries es)
+held_by-filter : (test : PageId → Bool) (es : List Entry)
+    → references_of_entries (filter (λ e. test e.page) es) ≡ kept test (references_of_entries es)
 held_by-filter test [] = refl
 held_by-filter test (e ∷ es) =
     cases (test e.page) (held_by-filter test es)
@@ -173,7 +194,9 @@ held_by-filter test (e ∷ es) =
     chosen : List Entry
     chosen = filter (λ e. test e.page) es
 
-    cases : (t : Bool) → references_of_entries chosen ≡ kept test (references_of_entries es) → references_of_entries (cond t (e ∷ chosen) chosen) ≡ cond t (references_of_entry e) [] ++ kept test (references_of_entries es)
+    cases : (t : Bool) → references_of_entries chosen ≡ kept test (references_of_entries es)
+        → references_of_entries (cond t (e ∷ chosen) chosen)
+        ≡ cond t (references_of_entry e) [] ++ kept test (references_of_entries es)
     cases true later = ap (λ t. references_of_entry e ++ t) later
     cases false later = later
 
@@ -181,7 +204,9 @@ held_by-filter test (e ∷ es) =
 abbrev of_bucket : List Reference → ℕ → List Reference
 of_bucket R bucket = kept (λ p. page_bucket p == bucket) R
 
-buckets_hold : (id : ℕ) (h : HistoryView) (buckets : List ℕ) → all_given (flat_map (bucket_messages id h) buckets) ≡ flat_map (of_bucket (references_of_entries (entries_of h))) buckets
+buckets_hold : (id : ℕ) (h : HistoryView) (buckets : List ℕ)
+    → all_given (flat_map (bucket_messages id h) buckets)
+    ≡ flat_map (of_bucket (references_of_entries (entries_of h))) buckets
 buckets_hold id h [] = refl
 buckets_hold id h (bucket ∷ buckets) =
     flat_map-append given_in (bucket_messages id h bucket) (flat_map (bucket_messages id h) buckets)
@@ -194,7 +219,9 @@ none_joined : (S : List Reference) (p : PageId) → joined None (list_hist S p) 
 none_joined S p = sym (hist-append [] S p)
 
 -- the references of some buckets say of their pages what all say
-hist-buckets : (R : List Reference) (buckets : List ℕ) (p : PageId) → list_hist (flat_map (of_bucket R) buckets) p ≡ cond (list_any (λ bucket. page_bucket p == bucket) buckets) (list_hist R p) None
+hist-buckets : (R : List Reference) (buckets : List ℕ) (p : PageId)
+    → list_hist (flat_map (of_bucket R) buckets) p
+    ≡ cond (list_any (λ bucket. page_bucket p == bucket) buckets) (list_hist R p) None
 hist-buckets R [] p = refl
 hist-buckets R (bucket ∷ buckets) p =
     let any = list_any (λ b. page_bucket p == b) buckets in
@@ -203,13 +230,16 @@ hist-buckets R (bucket ∷ buckets) p =
     ∙ ap (joined (cond (page_bucket p == bucket) (list_hist R p) None)) (hist-buckets R buckets p)
     ∙ cases (page_bucket p == bucket) any
   where
-    cases : (x y : Bool) → joined (cond x (list_hist R p) None) (cond y (list_hist R p) None) ≡ cond (x || y) (list_hist R p) None
+    cases : (x y : Bool) → joined (cond x (list_hist R p) None) (cond y (list_hist R p) None)
+        ≡ cond (x || y) (list_hist R p) None
     cases true true = joined_same R p
     cases true false = joined_none R p
     cases false true = none_joined R p
     cases false false = refl
 
-any_bucket : (request : ℕ) (p : PageId) → list_any (λ bucket. page_bucket p == bucket) (requested_buckets request) ≡ (bit_at request (page_bucket p) == 1)
+any_bucket : (request : ℕ) (p : PageId)
+    → list_any (λ bucket. page_bucket p == bucket) (requested_buckets request)
+    ≡ (bit_at request (page_bucket p) == 1)
 unfolding requested_buckets
 any_bucket request p =
     let n : ℕ = page_bucket p in
@@ -223,7 +253,9 @@ abbrev in_request : ℕ → PageId → Bool
 in_request request p = bit_at request (page_bucket p) == 1
 
 -- wanted messages say of each page what the references of the wanted buckets do
-hist-wanted : (id request : ℕ) (h : HistoryView) (p : PageId) → list_hist (all_given (requested_messages id h request)) p ≡ list_hist (kept (in_request request) (references_of_entries (entries_of h))) p
+hist-wanted : (id request : ℕ) (h : HistoryView) (p : PageId)
+    → list_hist (all_given (requested_messages id h request)) p
+    ≡ list_hist (kept (in_request request) (references_of_entries (entries_of h))) p
 hist-wanted id request h p =
     ap (λ (R : List Reference). list_hist R p) (buckets_hold id h (requested_buckets request))
     ∙ hist-buckets (references_of_entries (entries_of h)) (requested_buckets request) p
@@ -233,7 +265,9 @@ hist-wanted id request h p =
 -- ---- what both know in the end
 
 -- a list said before another, and in it again, says what it says once
-hist_again : (S T : List Reference) (p : PageId) → joined (list_hist T p) (joined (list_hist S p) (list_hist T p)) ≡ joined (list_hist T p) (list_hist S p)
+hist_again : (S T : List Reference) (p : PageId)
+    → joined (list_hist T p) (joined (list_hist S p) (list_hist T p))
+    ≡ joined (list_hist T p) (list_hist S p)
 hist_again S T p =
     ap (joined (list_hist T p)) (sym (hist-append S T p) ∙ hist_swap S T p)
     ∙ sym (hist-append T (T ++ S) p)
@@ -242,7 +276,9 @@ hist_again S T p =
     ∙ ap (λ x. joined x (list_hist S p)) (hist-append T T p ∙ joined_same T p)
 
 -- the answer for the wanted buckets says no more than they said before the request
-hist_back : (request : ℕ) (S T : List Reference) (p : PageId) → list_hist (T ++ kept (in_request request) (S ++ kept (in_request request) T)) p ≡ list_hist (T ++ kept (in_request request) S) p
+hist_back : (request : ℕ) (S T : List Reference) (p : PageId)
+    → list_hist (T ++ kept (in_request request) (S ++ kept (in_request request) T)) p
+    ≡ list_hist (T ++ kept (in_request request) S) p
 hist_back request S T p =
     let test = in_request request in
     hist-append T (kept test (S ++ kept test T)) p
@@ -252,18 +288,23 @@ hist_back request S T p =
     ∙ sym (ap (joined (list_hist T p)) (hist-kept test S p))
     ∙ sym (hist-append T (kept test S) p)
   where
-    cases : (t : Bool) → joined (list_hist T p) (cond t (joined (list_hist S p) (cond t (list_hist T p) None)) None) ≡ joined (list_hist T p) (cond t (list_hist S p) None)
+    cases : (t : Bool) → joined (list_hist T p)
+        (cond t (joined (list_hist S p) (cond t (list_hist T p) None)) None)
+        ≡ joined (list_hist T p) (cond t (list_hist S p) None)
     cases true = hist_again S T p
     cases false = refl
 
 -- sets that, united with S, agree on each page and have the same horizon, have one history with it
-given_alike : (S A B : ReferenceSet) → max S.horizon A.horizon ≡ max S.horizon B.horizon → ((p : PageId) → list_hist (S.given ++ A.given) p ≡ list_hist (S.given ++ B.given) p) → history (S ∪ A) ≡ history (S ∪ B)
+given_alike : (S A B : ReferenceSet) → max S.horizon A.horizon ≡ max S.horizon B.horizon
+    → ((p : PageId) → list_hist (S.given ++ A.given) p ≡ list_hist (S.given ++ B.given) p)
+    → history (S ∪ A) ≡ history (S ∪ B)
 given_alike S A B horizons alike = same_hists (S ∪ A) (S ∪ B) horizons (λ p.
     ap (λ m. list_hist (references_from m (S.given ++ A.given)) p) horizons
     ∙ kept_alike (max S.horizon B.horizon) (S.given ++ A.given) (S.given ++ B.given) alike p)
 
 -- and so where the second alone says the same
-second_alike : (S A B : ReferenceSet) → max S.horizon A.horizon ≡ max S.horizon B.horizon → ((p : PageId) → list_hist A.given p ≡ list_hist B.given p) → history (S ∪ A) ≡ history (S ∪ B)
+second_alike : (S A B : ReferenceSet) → max S.horizon A.horizon ≡ max S.horizon B.horizon
+    → ((p : PageId) → list_hist A.given p ≡ list_hist B.given p) → history (S ∪ A) ≡ history (S ∪ B)
 second_alike S A B horizons alike = given_alike S A B horizons (λ p. hist-append S.given A.given p ∙ ap (joined (list_hist S.given p)) (alike p) ∙ sym (hist-append S.given B.given p))
 
 -- the request of i, and the answer of j, of the buckets of the request
@@ -275,7 +316,9 @@ abbrev asking : ℕ → HistoryView → ℕ → List Message
 asking j g request = requested_messages j g request ++ Want j g.horizon request ∷ []
 
 -- i takes in what j has of these buckets
-first_after : (i j request : ℕ) (h g : HistoryView) (given : List Message) (h' : HistoryView) → IsHistory h → Receives i h (asking j g request) given h' → h' ≡ history (references_of h ∪ in_buckets request (references_of g))
+first_after : (i j request : ℕ) (h g : HistoryView) (given : List Message) (h' : HistoryView)
+    → IsHistory h → Receives i h (asking j g request) given h'
+    → h' ≡ history (references_of h ∪ in_buckets request (references_of g))
 first_after i j request h g given h' whole received =
     let S = references_of h in
     let messages : List Message = requested_messages j g request in
@@ -287,8 +330,11 @@ first_after i j request h g given h' whole received =
     ∙ second_alike S A (in_buckets request (references_of g)) (ap (max h.horizon) at) (λ p. ap (λ (R : List Reference). list_hist R p) told ∙ hist-wanted j request g p)
 
 -- and j receives what i then has of them, which for j is no more than what i had before
-second_after : (i j request : ℕ) (h g : HistoryView) (given last : List Message) (h' g' : HistoryView) → IsHistory g → h.horizon ≤ g.horizon → h' ≡ history (references_of h ∪ in_buckets request (references_of g))
-    → given ≡ requested_messages i h' request → Receives j g given last g' → g' ≡ history (references_of g ∪ in_buckets request (references_of h))
+second_after : (i j request : ℕ) (h g : HistoryView) (given last : List Message)
+    (h' g' : HistoryView) → IsHistory g → h.horizon ≤ g.horizon
+    → h' ≡ history (references_of h ∪ in_buckets request (references_of g))
+    → given ≡ requested_messages i h' request → Receives j g given last g'
+    → g' ≡ history (references_of g ∪ in_buckets request (references_of h))
 second_after i j request h g given last h' g' whole le is answered back =
     let S = references_of h in
     let T = references_of g in
@@ -312,8 +358,10 @@ second_after i j request h g given last h' g' whole le is answered back =
     ∙ history_alike T T B Z refl refl (λ p. refl) (λ p. ap (λ (R : List Reference). list_hist R p) (kept-references Z))
     ∙ given_alike T Z (in_buckets request S) (omega (arith, le)) (λ p. hist_back request S.given T.given p)
 
-exchanged : (i j request : ℕ) (h g : HistoryView) (given last : List Message) (h' g' : HistoryView) → IsHistory h → IsHistory g → h.horizon ≤ g.horizon
-    → Receives i h (asking j g request) given h' → Receives j g given last g' → Exchanged request h g h' g'
+exchanged : (i j request : ℕ) (h g : HistoryView) (given last : List Message) (h' g' : HistoryView)
+    → IsHistory h → IsHistory g → h.horizon ≤ g.horizon
+    → Receives i h (asking j g request) given h' → Receives j g given last g'
+    → Exchanged request h g h' g'
 exchanged i j request h g given last h' g' whole other le received back =
     let first = first_after i j request h g given h' whole received in
     let answered = receives_request i j g.horizon request h (requested_messages j g request) given h' (wanted_carry j request g) received in
@@ -325,22 +373,26 @@ none_wanted [] = refl
 none_wanted (r ∷ S) = rw (bit_at-zero (page_bucket r.page)) (none_wanted S)
 
 -- so nothing is exchanged by it but the horizon
-nothing_wanted : (S : ReferenceSet) (h : HistoryView) → history (S ∪ in_buckets 0 (references_of h)) ≡ history (with_horizon h.horizon S)
+nothing_wanted : (S : ReferenceSet) (h : HistoryView)
+    → history (S ∪ in_buckets 0 (references_of h)) ≡ history (with_horizon h.horizon S)
 nothing_wanted S h = ap (λ (R : List Reference). history (S ∪ record { horizon = h.horizon; given = R })) (none_wanted (references_of_entries (entries_of h)))
 
 -- ---- the digests
 
-same_difference : (request : ℕ) (h g : HistoryView) → IsDiffering (digests_of (entries_of h)) g request → IsDifferenceOf h g request
+same_difference : (request : ℕ) (h g : HistoryView)
+    → IsDiffering (digests_of (entries_of h)) g request → IsDifferenceOf h g request
 same_difference request h g differ bucket low = rw (← digest_is (entries_of h) bucket low, ← digest_is (entries_of g) bucket low) (differ bucket low)
 
-other_way : (request : ℕ) (h g : HistoryView) → IsDifferenceOf h g request → IsDifferenceOf g h request
+other_way : (request : ℕ) (h g : HistoryView) → IsDifferenceOf h g request
+    → IsDifferenceOf g h request
 other_way request h g differ bucket low = ((λ set same. (differ bucket low).0 set (sym same)), (λ other. (differ bucket low).1 (λ same. other (sym same))))
 
 collision_too : (h g : HistoryView) → IsCollision h g → IsCollision g h
 collision_too h g c = record { bucket = c.bucket; low = c.low; differ = (λ same. c.differ (sym same)); same_digest = sym c.same_digest }
 
 -- no bit of a request is set where no digest differs
-own_request : (request : ℕ) (h : HistoryView) → request < 2 ^ 64 → IsDiffering (digests_of (entries_of h)) h request → request ≡ 0
+own_request : (request : ℕ) (h : HistoryView) → request < 2 ^ 64
+    → IsDiffering (digests_of (entries_of h)) h request → request ≡ 0
 own_request request h fits differ = same_from_bits_below 64 request 0 fits (omega arith) (λ bucket low.
     let set : bit_at request bucket ≢ 1 = λ one. (differ bucket low).0 one refl in
     omega (arith, bit_at-lt request bucket, bit_at-zero bucket, set))
@@ -364,7 +416,11 @@ exchange_gives h g whole other =
 without_horizon : (h : HistoryView) → IsHistory h → IsHistory (history_of_entries (entries_of h))
 without_horizon h whole = record { pages_ascend = whole.pages_ascend; stamps_descend = whole.stamps_descend; none_older = never_older (entries_of h) }
 
-held_alone : (h g : HistoryView) → IsHistory h → IsHistory g → Fits h → Fits g → IsDifferenceOf h g 0 → (history_of_entries (entries_of g) ≡ join (history_of_entries (entries_of g)) (history_of_entries (entries_of h))) ⊎ IsCollision h g
+held_alone : (h g : HistoryView) → IsHistory h → IsHistory g → Fits h → Fits g
+    → IsDifferenceOf h g 0
+    → (history_of_entries (entries_of g)
+    ≡ join (history_of_entries (entries_of g)) (history_of_entries (entries_of h)))
+    ⊎ IsCollision h g
 held_alone h g whole other fits others differ =
     let k = history_of_entries (entries_of h) in
     let l = history_of_entries (entries_of g) in
@@ -373,7 +429,8 @@ held_alone h g whole other fits others differ =
       | inr c ↦ inr (record { bucket = c.bucket; low = c.low; differ = c.differ; same_digest = c.same_digest })
     ]
 
-same_entries : (h g : HistoryView) → IsHistory h → IsHistory g → Fits h → Fits g → IsDifferenceOf h g 0 → (entries_of h ≡ entries_of g) ⊎ IsCollision h g
+same_entries : (h g : HistoryView) → IsHistory h → IsHistory g → Fits h → Fits g
+    → IsDifferenceOf h g 0 → (entries_of h ≡ entries_of g) ⊎ IsCollision h g
 same_entries h g whole other fits others differ = elim (held_alone h g whole other fits others differ) [
   | inr c ↦ inr c
   | inl second ↦ elim (held_alone g h other whole others fits (other_way 0 h g differ)) [
@@ -388,7 +445,8 @@ shortened_fits : (horizon : ℕ) (h : PageHist) → IsHist h → IsHist (shorten
 shortened_fits horizon (Once last) is = is
 shortened_fits horizon (Twice two) is = elim (is_kept horizon two.prev) as (λ b. IsHist (cond b (Twice two) (Once two.last))) [ true ↦ is | false ↦ is.0 ]
 
-kept_fits : (horizon : ℕ) (es : List Entry) → AllByRecursion IsEntry es → AllByRecursion IsEntry (kept_entries horizon es)
+kept_fits : (horizon : ℕ) (es : List Entry) → AllByRecursion IsEntry es
+    → AllByRecursion IsEntry (kept_entries horizon es)
 kept_fits horizon [] all = tt
 kept_fits horizon (e ∷ es) all =
     let rest : List Entry = filter (λ e. is_recent horizon e.hist) es in
@@ -396,7 +454,8 @@ kept_fits horizon (e ∷ es) all =
     elim (is_recent horizon e.hist) as (λ b. AllByRecursion IsEntry (map (shortened_entry horizon) (cond b (e ∷ rest) rest))) [ true ↦ (here, kept_fits horizon es all.1) | false ↦ kept_fits horizon es all.1 ]
 
 -- a history of valid entries has only valid entries after it is raised
-raised_fits : (h : HistoryView) (time : ℕ) → IsHistory h → Fits h → Fits (history (with_horizon time (references_of h)))
+raised_fits : (h : HistoryView) (time : ℕ) → IsHistory h → Fits h
+    → Fits (history (with_horizon time (references_of h)))
 raised_fits h time whole fits =
     let m : ℕ = max h.horizon time in
     let es = entries_of h in
@@ -405,7 +464,8 @@ raised_fits h time whole fits =
     subst (AllByRecursion IsEntry) (sym left) (kept_fits m es fits)
 
 -- the join with a history that is raised to one's own horizon is the join with it
-join_offered : (h g : HistoryView) → join h (history (with_horizon h.horizon (references_of g))) ≡ join h g
+join_offered : (h g : HistoryView)
+    → join h (history (with_horizon h.horizon (references_of g))) ≡ join h g
 join_offered h g =
     let a : ℕ = h.horizon in
     let b : ℕ = g.horizon in
@@ -422,11 +482,14 @@ own_digests_unanswered i j h answers whole is =
     is.3 ∙ if_zero is.0 [] (asking j (history_after h (offer i h)) is.0) (own_request is.0 h is.1 differ)
 
 -- what j answers is nothing, or it is not: so then is what comes after it
-abbrev Asked : ℕ → ℕ → HistoryView → HistoryView → HistoryView → HistoryView → ℕ → List Message → List Message → List Message → Type 0
+abbrev Asked : ℕ → ℕ → HistoryView → HistoryView → HistoryView → HistoryView → ℕ → List Message
+    → List Message → List Message → Type 0
 Asked i j h g h' g' request messages given last =
     ((request ≡ 0) × (messages ≡ []) × (last ≡ []) × (h' ≡ h) × (g' ≡ g)) ⊎ (Receives i h (asking j g request) given h' × Receives j g given last g')
 
-asked : (i j : ℕ) (h g h' g' : HistoryView) (round : HistoryRound i j h g h' g') → Asked i j h (history_after g (offer i h)) h' g' round.offered.0 round.asked round.given round.last
+asked : (i j : ℕ) (h g h' g' : HistoryView) (round : HistoryRound i j h g h' g')
+    → Asked i j h (history_after g (offer i h)) h' g' round.offered.0 round.asked round.given
+    round.last
 asked i j h g h' g' round =
     let request : ℕ = round.offered.0 in
     let k : HistoryView = history_after g (offer i h) in
@@ -446,8 +509,11 @@ asked i j h g h' g' round =
 abbrev Both : HistoryView → HistoryView → HistoryView → List Message → Type 0
 Both all h' g' messages = (entries_of h' ≡ entries_of all) × (g' ≡ all) × ((messages ≡ [] → ⊥) → h' ≡ all)
 
-both_join : (i j request : ℕ) (h g h' g' : HistoryView) (messages given last : List Message) → IsHistory h → IsHistory g → h.horizon ≤ g.horizon → Fits h → Fits g → IsDifferenceOf h g request
-    → Asked i j h g h' g' request messages given last → Both (join h g) h' g' messages ⊎ IsCollision h g
+both_join : (i j request : ℕ) (h g h' g' : HistoryView) (messages given last : List Message)
+    → IsHistory h → IsHistory g → h.horizon ≤ g.horizon → Fits h → Fits g
+    → IsDifferenceOf h g request
+    → Asked i j h g h' g' request messages given last
+    → Both (join h g) h' g' messages ⊎ IsCollision h g
 both_join i j request h g h' g' messages given last whole other le fits others differ (inl (zero_is, nothing, ended, first, second)) =
     let none : IsDifferenceOf h g 0 = subst (λ m. IsDifferenceOf h g m) zero_is differ in
     elim (same_entries h g whole other fits others none) [

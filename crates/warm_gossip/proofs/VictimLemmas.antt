@@ -55,7 +55,8 @@ pub none_changed : (old new : NodeView) → new ≡ old → KeepsNode old new
 none_changed old new same = subst (KeepsNode old) (sym same) (refl, λ i. refl)
 
 -- where the pin count of one frame changes
-pub fixes_change : (v w : PoolView) (k n : ℕ) → k < length v.frames → w.frames ≡ set v.frames k (record (frame_at v k) { fixes = n }) → KeepsPages v w
+pub fixes_change : (v w : PoolView) (k n : ℕ) → k < length v.frames
+    → w.frames ≡ set v.frames k (record (frame_at v k) { fixes = n }) → KeepsPages v w
 fixes_change v w k n there becomes i =
     let changed : FrameView = record (frame_at v k) { fixes = n } in
     same_frames (record v { frames = set v.frames k changed }) w becomes i
@@ -64,24 +65,28 @@ fixes_change v w k n there becomes i =
 failed : (v w : PoolView) (k : ℕ) → FailsAt v k w → KeepsPages v w
 failed v w k fails = same_frames v w (ap (λ x. x.frames) fails.becomes)
 
-put_refused : (h : HistoryView) (v w : PoolView) (p : PageId) (why : PoolFault) → PutRefused h v p why w → KeepsPages v w
+put_refused : (h : HistoryView) (v w : PoolView) (p : PageId) (why : PoolFault)
+    → PutRefused h v p why w → KeepsPages v w
 put_refused h v w p AllFixed refused = same_pool v w refused.1
 put_refused h v w p FixesFull refused = same_pool v w refused.1
 put_refused h v w p ReadFault refused = failed v w p.dev refused.1
 put_refused h v w p WriteBack (i, q, below, holds, fails) = failed v w q.dev fails
 put_refused h v w p why refused = absurd refused
 
-load_refused : (h : HistoryView) (v w : PoolView) (p : PageId) (why : PoolFault) → LoadRefused h v p why w → KeepsPages v w
+load_refused : (h : HistoryView) (v w : PoolView) (p : PageId) (why : PoolFault)
+    → LoadRefused h v p why w → KeepsPages v w
 load_refused h v w p NoDevice refused = same_pool v w refused.1
 load_refused h v w p NoPage refused = same_pool v w refused.2
 load_refused h v w p why refused = put_refused h v w p why refused.2
 
-pin_refused : (h : HistoryView) (v w : PoolView) (p : PageId) (why : PoolFault) → PinRefused h v p why w → KeepsPages v w
+pin_refused : (h : HistoryView) (v w : PoolView) (p : PageId) (why : PoolFault)
+    → PinRefused h v p why w → KeepsPages v w
 pin_refused h v w p FixesFull refused = elim refused [ inl full ↦ same_pool v w full.2 | inr load ↦ load_refused h v w p FixesFull load ]
 pin_refused h v w p why refused = load_refused h v w p why refused
 
 -- a refused call leaves every page in its frame, and everything but the pool unchanged
-pub refused : (old new : NodeView) (call : Call) (why : NodeFault) → Refuses old call why new → KeepsNode old new
+pub refused : (old new : NodeView) (call : Call) (why : NodeFault) → Refuses old call why new
+    → KeepsNode old new
 refused old new (Absorb batch) Memory same = none_changed old new same
 refused old new (Send bucket after) Memory same = none_changed old new same
 refused old new Offer Memory same = none_changed old new same
@@ -106,7 +111,8 @@ none_given : history_of_entries [] ≡ history (set_of_list [])
 unfolding history
 none_given = refl
 
-pinned : (h : HistoryView) (v w : PoolView) (p : PageId) (slot : Slot) → AddsFix v p slot w ⊎ PutsIn h v p 1 slot w → KeepsPages v w ⊎ PutsPage h v w
+pinned : (h : HistoryView) (v w : PoolView) (p : PageId) (slot : Slot)
+    → AddsFix v p slot w ⊎ PutsIn h v p 1 slot w → KeepsPages v w ⊎ PutsPage h v w
 pinned h v w p slot (inl adds) = inl (fixes_change v w slot.index _ adds.there (ap (λ x. x.frames) adds.becomes))
 pinned h v w p slot (inr puts) = inr (p, 1, slot, puts)
 
@@ -115,18 +121,24 @@ pinned h v w p slot (inr puts) = inr (p, 1, slot, puts)
 abbrev pub Leads : ReferenceSet → Call → NodeView → NodeView → Type 0
 Leads S call old new = (new.history ≡ history S) × (call ≢ Restart → KeepsPages old.pool new.pool ⊎ PutsPage old.history old.pool new.pool)
 
-leads_alone : (S : ReferenceSet) (call : Call) (old new : NodeView) → old.history ≡ history S → KeepsNode old new → Leads S call old new
+leads_alone : (S : ReferenceSet) (call : Call) (old new : NodeView) → old.history ≡ history S
+    → KeepsNode old new → Leads S call old new
 leads_alone S call old new is (alone, keeps) = (ap (λ n. n.history) alone ∙ is, λ other. inl keeps)
 
-leads_same : (S : ReferenceSet) (call : Call) (old new : NodeView) → old.history ≡ history S → new ≡ old → Leads S call old new
+leads_same : (S : ReferenceSet) (call : Call) (old new : NodeView) → old.history ≡ history S
+    → new ≡ old → Leads S call old new
 leads_same S call old new is same = leads_alone S call old new is (none_changed old new same)
 
-leads_with : (S T : ReferenceSet) (call : Call) (old new : NodeView) → old.history ≡ history S → new ≡ record old { history = history (references_of old.history ∪ T) } → Leads (S ∪ T) call old new
+leads_with : (S T : ReferenceSet) (call : Call) (old new : NodeView) → old.history ≡ history S
+    → new ≡ record old { history = history (references_of old.history ∪ T) }
+    → Leads (S ∪ T) call old new
 leads_with S T call old new is step =
     (ap (λ n. n.history) step ∙ ap (λ h. history (references_of h ∪ T)) is ∙ history_first S T, λ other. inl (same_pool old.pool new.pool (ap (λ n. n.pool) step)))
 
 -- a call leads to the history of the references given before and of those that it gives
-pub step_leads : (S : ReferenceSet) (call : Call) (reply : Reply) (old new : NodeView) → old.history ≡ history S → Step old call reply new → Leads (given_by_call S call reply) call old new
+pub step_leads : (S : ReferenceSet) (call : Call) (reply : Reply) (old new : NodeView)
+    → old.history ≡ history S → Step old call reply new
+    → Leads (given_by_call S call reply) call old new
 step_leads S (Absorb batch) Done old new is step = leads_with S (set_of_list batch) (Absorb batch) old new is step
 step_leads S (Send bucket after) (Sent message) old new is step = leads_same S (Send bucket after) old new is step.1
 step_leads S Offer (Sent message) old new is step = leads_same S Offer old new is step.1
@@ -148,18 +160,22 @@ step_leads S call reply old new is step = absurd step
 -- ---- the page that leaves
 
 -- the frame into which a page was loaded is one of the frames
-pub frame_is_there : {h : HistoryView} {v w : PoolView} {p : PageId} {fixes : ℕ} {slot : Slot} → PutsIn h v p fixes slot w → slot.index < length v.frames
+pub frame_is_there : {h : HistoryView} {v w : PoolView} {p : PageId} {fixes : ℕ} {slot : Slot}
+    → PutsIn h v p fixes slot w → slot.index < length v.frames
 frame_is_there puts = elim puts.place [ inl free ↦ free.there | inr victim ↦ victim.there ]
 
 -- what holds of the frame into which a page was put, and of the others, holds of each
-pub frames_after : {h : HistoryView} {v w : PoolView} {p : PageId} {fixes : ℕ} {slot : Slot} → PutsIn h v p fixes slot w → (P : ℕ → FrameView → Type 0)
-    → P slot.index (record { page = Some p; generation = slot.generation; fixes = fixes }) → ((j : ℕ) → j ≢ slot.index → P j (frame_at v j)) → (i : ℕ) → P i (frame_at w i)
+pub frames_after : {h : HistoryView} {v w : PoolView} {p : PageId} {fixes : ℕ} {slot : Slot}
+    → PutsIn h v p fixes slot w → (P : ℕ → FrameView → Type 0)
+    → P slot.index (record { page = Some p; generation = slot.generation; fixes = fixes })
+    → ((j : ℕ) → j ≢ slot.index → P j (frame_at v j)) → (i : ℕ) → P i (frame_at w i)
 frames_after {h} {v} {w} {p} {fixes} {slot} puts P here others i =
     subst (λ x. P i (frame_at x i)) (sym puts.becomes) (at_set no_frame P v.frames slot.index _ (frame_is_there puts) here others i)
 
 -- the page of the frame into which another was loaded was the victim among the unpinned pages, and
 -- every frame had a page
-pub victim_left : {h : HistoryView} {v w : PoolView} {p : PageId} {fixes : ℕ} {slot : Slot} → PutsIn h v p fixes slot w → (q : PageId) → (frame_at v slot.index).page ≡ Some q
+pub victim_left : {h : HistoryView} {v w : PoolView} {p : PageId} {fixes : ℕ} {slot : Slot}
+    → PutsIn h v p fixes slot w → (q : PageId) → (frame_at v slot.index).page ≡ Some q
     → HasNoFreeFrame v × IsVictim (references_of h) (unfixed_pages v) (Some q)
 victim_left {h} {v} puts q held = elim puts.place [
   | inl free ↦ let no : None ≡ Some q = sym free.free ∙ held in absurd (cc)
@@ -167,16 +183,21 @@ victim_left {h} {v} puts q held = elim puts.place [
 ]
 
 -- a page that leaves was in that frame
-leaves_as_victim : {h : HistoryView} {v w : PoolView} {p : PageId} {fixes : ℕ} {slot : Slot} → PutsIn h v p fixes slot w → (q : PageId) → IsEvicted v w q → IsVictim (references_of h) (unfixed_pages v) (Some q)
+leaves_as_victim : {h : HistoryView} {v w : PoolView} {p : PageId} {fixes : ℕ} {slot : Slot}
+    → PutsIn h v p fixes slot w → (q : PageId) → IsEvicted v w q
+    → IsVictim (references_of h) (unfixed_pages v) (Some q)
 leaves_as_victim {h} {v} puts q (was, gone) =
     frames_after puts (λ i f. (frame_at v i).page ≡ Some q → f.page ≢ Some q → IsVictim (references_of h) (unfixed_pages v) (Some q))
     (λ held other. (victim_left puts q held).1) (λ j other held none. absurd (none held)) was.frame was.holds (gone was.frame)
 
-leaves_farthest : (S : ReferenceSet) (h : HistoryView) (v w : PoolView) → StandsFor h S → KeepsPages v w ⊎ PutsPage h v w → (q : PageId) → IsEvicted v w q → IsFarthest S (unfixed_pages v) q
+leaves_farthest : (S : ReferenceSet) (h : HistoryView) (v w : PoolView) → StandsFor h S
+    → KeepsPages v w ⊎ PutsPage h v w → (q : PageId) → IsEvicted v w q
+    → IsFarthest S (unfixed_pages v) q
 leaves_farthest S h v w stands (inl keeps) q (was, gone) = absurd (gone was.frame (keeps was.frame ∙ was.holds))
 leaves_farthest S h v w stands (inr puts) q leaves = victim_is_farthest h S stands (unfixed_pages v) q (leaves_as_victim puts.3 q leaves)
 
-named_farthest : (S : ReferenceSet) (old new : NodeView) → StandsFor old.history S → (v : PageId) → Step old Victim (Page (Some v)) new → IsFarthest S (unfixed_pages old.pool) v
+named_farthest : (S : ReferenceSet) (old new : NodeView) → StandsFor old.history S → (v : PageId)
+    → Step old Victim (Page (Some v)) new → IsFarthest S (unfixed_pages old.pool) v
 named_farthest S old new stands v step = victim_is_farthest old.history S stands (unfixed_pages old.pool) v step.0
 
 pub victims_are_farthest : VictimsAreFarthest
@@ -187,7 +208,8 @@ victims_are_farthest S old new call reply stands step = record {
 
 -- ---- what a node answers, over the references for which its history stands
 
-pub victim_over : (h : HistoryView) (S : ReferenceSet) → StandsFor h S → (U : List PageId) (v : Option PageId) → IsVictim (references_of h) U v → IsVictim S U v
+pub victim_over : (h : HistoryView) (S : ReferenceSet) → StandsFor h S
+    → (U : List PageId) (v : Option PageId) → IsVictim (references_of h) U v → IsVictim S U v
 victim_over h S stands U None none = none
 victim_over h S stands U (Some v) victim = (victim.0, λ q has other. sym ((truncation_keeps_order h S stands).evicted_alike v q) ∙ victim.1 q has other)
 

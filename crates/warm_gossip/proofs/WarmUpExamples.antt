@@ -67,24 +67,31 @@ abbrev hot : NodeView
 hot = node (held 1 2) (held 2 1)
 
 -- a page that is in neither frame is in none
-away : (first second : FrameView) (p : PageId) → is_page p first.page ≡ false → is_page p second.page ≡ false → IsAbsent (pool first second) p
+away : (first second : FrameView) (p : PageId) → is_page p first.page ≡ false
+    → is_page p second.page ≡ false → IsAbsent (pool first second) p
 away first second p one other zero held = absurd (false≢true (sym one ∙ found_page p first.page held))
 away first second p one other (suc zero) held = absurd (false≢true (sym other ∙ found_page p second.page held))
 away first second p one other (suc (suc i)) held = let never : None ≡ Some p = held in absurd (cc)
 
 -- ---- no byte of any page changes
 
-no_bytes : (first second : FrameView) (dev number : ℕ) → (device_at (pool first second) dev).honest ≡ false → contents_at (pool first second) (record { dev = dev; no = number }) ≡ []
+no_bytes : (first second : FrameView) (dev number : ℕ)
+    → (device_at (pool first second) dev).honest ≡ false
+    → contents_at (pool first second) (record { dev = dev; no = number }) ≡ []
 no_bytes first second zero number is = let never : true ≡ false = is in absurd (cc)
 no_bytes first second (suc dev) number is = refl
 
-one_byte : (m n g k : ℕ) → length (contents_at (pool (held m g) (held n k)) (page m)) ≡ 1 → length (contents_at (pool (held m g) (held n k)) (page n)) ≡ 1
-    → (i : ℕ) (p : PageId) → (frame_at (pool (held m g) (held n k)) i).page ≡ Some p → length (contents_at (pool (held m g) (held n k)) p) ≡ 1
+one_byte : (m n g k : ℕ) → length (contents_at (pool (held m g) (held n k)) (page m)) ≡ 1
+    → length (contents_at (pool (held m g) (held n k)) (page n)) ≡ 1
+    → (i : ℕ) (p : PageId) → (frame_at (pool (held m g) (held n k)) i).page ≡ Some p
+    → length (contents_at (pool (held m g) (held n k)) p) ≡ 1
 one_byte m n g k first second zero p is = let same : page m ≡ p = cc in subst (λ q. length (contents_at (pool (held m g) (held n k)) q) ≡ 1) same first
 one_byte m n g k first second (suc zero) p is = let same : page n ≡ p = cc in subst (λ q. length (contents_at (pool (held m g) (held n k)) q) ≡ 1) same second
 one_byte m n g k first second (suc (suc i)) p is = let never : None ≡ Some p = is in absurd (cc)
 
-keeps : (first second : FrameView) (m n g k : ℕ) → length (contents_at (pool (held m g) (held n k)) (page m)) ≡ 1 → length (contents_at (pool (held m g) (held n k)) (page n)) ≡ 1
+keeps : (first second : FrameView) (m n g k : ℕ)
+    → length (contents_at (pool (held m g) (held n k)) (page m)) ≡ 1
+    → length (contents_at (pool (held m g) (held n k)) (page n)) ≡ 1
     → KeepsContents (pool first second) (pool (held m g) (held n k))
 keeps first second m n g k one other = record {
   honest = λ p has is. refl;
@@ -99,7 +106,8 @@ next_is_2 : IsNextWarm cold (Some (page 2))
 unfolding eviction_cmp history
 next_is_2 = (0, omega arith, refl, (record { device = omega arith; number = omega arith }, away (held 0 1) free (page 2) refl refl), λ j lt. absurd (omega (arith, lt)))
 
-puts_2 : PutsIn (history heated) (pool (held 0 1) free) (page 2) 0 (record { index = 1; generation = 1 }) (pool (held 0 1) (held 2 1))
+puts_2 : PutsIn (history heated) (pool (held 0 1) free) (page 2) 0
+    (record { index = 1; generation = 1 }) (pool (held 0 1) (held 2 1))
 puts_2 = record {
   absent = next_is_2.3.1;
   place = inl (record { there = omega arith; free = refl; least = taken });
@@ -122,7 +130,8 @@ next_is_1 : IsNextWarm warmer (Some (page 1))
 unfolding eviction_cmp history
 next_is_1 = (1, omega arith, refl, (record { device = omega arith; number = omega arith }, away (held 0 1) (held 2 1) (page 1) refl refl), not_before)
   where
-    not_before : (j : ℕ) → j < 1 → IsLoadable (pool (held 0 1) (held 2 1)) (nth_page (page 2 ∷ page 1 ∷ []) j) → ⊥
+    not_before : (j : ℕ) → j < 1
+        → IsLoadable (pool (held 0 1) (held 2 1)) (nth_page (page 2 ∷ page 1 ∷ []) j) → ⊥
     not_before zero lt loadable = loadable.1 1 refl
     not_before (suc j) lt loadable = absurd (omega (arith, lt))
 
@@ -130,12 +139,14 @@ victim_is_0 : IsVictim (references_of (history heated)) (page 0 ∷ page 2 ∷ [
 unfolding eviction_cmp history
 victim_is_0 = ((0, omega arith, refl), others)
   where
-    others : (q : PageId) → Contains (page 0 ∷ page 2 ∷ []) q → q ≢ page 0 → IsBefore (references_of (history heated)) (page 0) q
+    others : (q : PageId) → Contains (page 0 ∷ page 2 ∷ []) q → q ≢ page 0
+        → IsBefore (references_of (history heated)) (page 0) q
     others q (zero, lt, is) differ = absurd (differ (sym is))
     others q (suc zero, lt, is) differ = subst (IsBefore (references_of (history heated)) (page 0)) is refl
     others q (suc (suc k), lt, is) differ = absurd (omega arith)
 
-puts_1 : PutsIn (history heated) (pool (held 0 1) (held 2 1)) (page 1) 0 (record { index = 0; generation = 2 }) (pool (held 1 2) (held 2 1))
+puts_1 : PutsIn (history heated) (pool (held 0 1) (held 2 1)) (page 1) 0
+    (record { index = 0; generation = 2 }) (pool (held 1 2) (held 2 1))
 puts_1 = record {
   absent = next_is_1.3.1;
   place = inr (record { there = omega arith; full = full; page = page 0; holds = refl; unfixed = refl; victim = victim_is_0 });

@@ -46,11 +46,15 @@ held_or_not p o = elim (cases_Bool (is_page p o)) [ inl is ↦ inl (page_found p
 pub resident_or_absent : (v : PoolView) (p : PageId) → IsResident v p ⊎ IsAbsent v p
 resident_or_absent v p = elim (go v.frames) [ inl (k, lt, is) ↦ inl (record { frame = k; there = lt; holds = is }) | inr none ↦ inr none ]
   where
-    first : (f : FrameView) (fs : List FrameView) → f.page ≢ Some p → ((k : ℕ) → (get_or fs k no_frame).page ≢ Some p) → (k : ℕ) → (get_or (f ∷ fs) k no_frame).page ≢ Some p
+    first : (f : FrameView) (fs : List FrameView) → f.page ≢ Some p
+        → ((k : ℕ) → (get_or fs k no_frame).page ≢ Some p) → (k : ℕ)
+        → (get_or (f ∷ fs) k no_frame).page ≢ Some p
     first f fs away none zero = away
     first f fs away none (suc k) = none k
 
-    go : (fs : List FrameView) → ((k : ℕ) × (k < length fs) × ((get_or fs k no_frame).page ≡ Some p)) ⊎ ((k : ℕ) → (get_or fs k no_frame).page ≢ Some p)
+    go : (fs : List FrameView)
+        → ((k : ℕ) × (k < length fs) × ((get_or fs k no_frame).page ≡ Some p))
+        ⊎ ((k : ℕ) → (get_or fs k no_frame).page ≢ Some p)
     go [] = inr (λ k is. let no : None ≡ Some p = is in absurd (cc))
     go (f ∷ fs) = elim (held_or_not p f.page) [
       | inl is ↦ inl (0, omega arith, is)
@@ -58,7 +62,9 @@ resident_or_absent v p = elim (go v.frames) [ inl (k, lt, is) ↦ inl (record { 
     ]
 
 -- where no page is pinned, the page of each frame is unpinned
-unfixed_has : (fs : List FrameView) → ((i : ℕ) → (get_or fs i no_frame).fixes ≡ 0) → (i : ℕ) (p : PageId) → (get_or fs i no_frame).page ≡ Some p → Has (pages_in (map unfixed_page fs)) p
+unfixed_has : (fs : List FrameView) → ((i : ℕ) → (get_or fs i no_frame).fixes ≡ 0)
+    → (i : ℕ) (p : PageId) → (get_or fs i no_frame).page ≡ Some p
+    → Has (pages_in (map unfixed_page fs)) p
 unfixed_has [] unfixed i p is = let no : None ≡ Some p = is in absurd (cc)
 unfixed_has (f ∷ fs) unfixed zero p is = rw (unfixed 0, is) (inl refl)
 unfixed_has (f ∷ fs) unfixed (suc i) p is =
@@ -74,7 +80,8 @@ same_page p q = (λ tied. page_order.same p q (is_equal (page_cmp p q) tied), λ
 
 -- Where every frame has a page and each page is in one frame, no list of as many pages as there are
 -- frames has all of these and one more.
-crowded : (v : PoolView) → PagesDiffer v → HasNoFreeFrame v → (q : PageId) → IsAbsent v q → (ps : List PageId) → length ps ≤ length v.frames → Contains ps q
+crowded : (v : PoolView) → PagesDiffer v → HasNoFreeFrame v → (q : PageId) → IsAbsent v q
+    → (ps : List PageId) → length ps ≤ length v.frames → Contains ps q
     → ((i : ℕ) (r : PageId) → (frame_at v i).page ≡ Some r → Contains ps r) → ⊥
 crowded v differ full q absent ps few listed within =
     let more = length-le_from_is_member (eq_by_cmp_equiv page_order.total) (q ∷ held) ps (IsDistinct-from_apart (eq_by_cmp page_cmp) (q ∷ held) apart)
@@ -93,7 +100,8 @@ crowded v differ full q absent ps few listed within =
         let there : i < length v.frames = omega (arith, lt, length-map v.frames (λ f. unwrap_or f.page q)) in
         filled (frame_at v i).page (full i there) ∙ ap Some (sym (get_or-map (λ f. unwrap_or f.page q) v.frames i no_frame d there))
 
-    apart : (i j : ℕ) (d : PageId) → i < j → j < length (q ∷ held) → eq_by_cmp page_cmp (get_or (q ∷ held) i d) (get_or (q ∷ held) j d) ≡ false
+    apart : (i j : ℕ) (d : PageId) → i < j → j < length (q ∷ held)
+        → eq_by_cmp page_cmp (get_or (q ∷ held) i d) (get_or (q ∷ held) j d) ≡ false
     apart i zero d before lt = absurd (omega (arith, before))
     apart zero (suc j) d before lt = differs q (get_or held j d) (λ is. absent j (is_held j d (omega (arith, lt)) ∙ ap Some (sym is)))
     apart (suc i) (suc j) d before lt = differs (get_or held i d) (get_or held j d) (λ is.
@@ -118,7 +126,8 @@ few_listed : (S : ReferenceSet) (n : ℕ) → length (hottest_pages S n) ≤ n
 few_listed S n = omega (arith, length-take n (distinct (flip_args (eviction_cmp S)) (pages S)))
 
 -- the page r is in the list, where the page p of the list leaves and r does not leave before it
-victim_last : (S : ReferenceSet) (n : ℕ) (U : List PageId) (p : PageId) → IsVictim S U (Some p) → Contains (hottest_pages S n) p → (r : PageId) → Contains U r → Contains (hottest_pages S n) r
+victim_last : (S : ReferenceSet) (n : ℕ) (U : List PageId) (p : PageId) → IsVictim S U (Some p)
+    → Contains (hottest_pages S n) p → (r : PageId) → Contains U r → Contains (hottest_pages S n) r
 victim_last S n U p victim listed r has = elim (held_or_not p (Some r)) [
   | inl is ↦ let same : r ≡ p = cc in subst (Contains (hottest_pages S n)) (sym same) listed
   | inr other ↦ after_listed S n p r listed (victim.1 r has (λ is. other (ap Some is)))
@@ -127,8 +136,10 @@ victim_last S n U p victim listed r has = elim (held_or_not p (Some r)) [
 -- While no page is pinned, a page of the list stays in its frame where another page of the list is
 -- loaded: if it left, it was the victim, so that all resident pages are in the list, and the other
 -- too, which are too many.
-stays : (S : ReferenceSet) (n : ℕ) (s : NodeView) {w : PoolView} {q : PageId} {slot : Slot} → IsWarming S n s → PutsIn s.history s.pool q 0 slot w → Contains (hottest_pages S n) q
-    → (p : PageId) → Contains (hottest_pages S n) p → (i : ℕ) → (frame_at s.pool i).page ≡ Some p → (frame_at w i).page ≡ Some p
+stays : (S : ReferenceSet) (n : ℕ) (s : NodeView) {w : PoolView} {q : PageId} {slot : Slot}
+    → IsWarming S n s → PutsIn s.history s.pool q 0 slot w → Contains (hottest_pages S n) q
+    → (p : PageId) → Contains (hottest_pages S n) p → (i : ℕ) → (frame_at s.pool i).page ≡ Some p
+    → (frame_at w i).page ≡ Some p
 stays S n s {w} {q} {slot} warming puts new p listed =
     frames_after puts (λ i f. (frame_at s.pool i).page ≡ Some p → f.page ≡ Some p) (λ held. absurd (too_many held)) (λ j other held. held)
   where
@@ -141,15 +152,18 @@ stays S n s {w} {q} {slot} warming puts new p listed =
         (λ i r is. last r (has_contains U r (unfixed_has s.pool.frames warming.unfixed i r is)))
 
 -- there are as many frames as before
-pub frames_count : {h : HistoryView} {v w : PoolView} {q : PageId} {fixes : ℕ} {slot : Slot} → PutsIn h v q fixes slot w → length w.frames ≡ length v.frames
+pub frames_count : {h : HistoryView} {v w : PoolView} {q : PageId} {fixes : ℕ} {slot : Slot}
+    → PutsIn h v q fixes slot w → length w.frames ≡ length v.frames
 frames_count {h} {v} {w} {q} {fixes} {slot} puts = ap (λ x. length x.frames) puts.becomes ∙ length-set v.frames slot.index _
 
 -- the page is in the frame into which it was put
-pub came_in : {h : HistoryView} {v w : PoolView} {q : PageId} {fixes : ℕ} {slot : Slot} → PutsIn h v q fixes slot w → (frame_at w slot.index).page ≡ Some q
+pub came_in : {h : HistoryView} {v w : PoolView} {q : PageId} {fixes : ℕ} {slot : Slot}
+    → PutsIn h v q fixes slot w → (frame_at w slot.index).page ≡ Some q
 came_in {h} {v} {w} {q} {fixes} {slot} puts = frames_after puts (λ i f. i ≡ slot.index → f.page ≡ Some q) (λ same. refl) (λ j other same. absurd (other same)) slot.index refl
 
 -- still no page is in two frames
-differ_after : {h : HistoryView} {v w : PoolView} {q : PageId} {slot : Slot} → PutsIn h v q 0 slot w → PagesDiffer v → PagesDiffer w
+differ_after : {h : HistoryView} {v w : PoolView} {q : PageId} {slot : Slot} → PutsIn h v q 0 slot w
+    → PagesDiffer v → PagesDiffer w
 differ_after {h} {v} {w} {q} {slot} puts differ i j p first =
     frames_after puts (λ k f. f.page ≡ Some p → (l : ℕ) → (frame_at w l).page ≡ Some p → k ≡ l)
     (λ came. frames_after puts (λ l f. f.page ≡ Some p → slot.index ≡ l) (λ same. refl) (λ l other had. absurd (puts.absent l (had ∙ sym came))))
@@ -163,11 +177,14 @@ record Advances (S : ReferenceSet) (n k : ℕ) (old new : NodeView) : Type 0 whe
   past : IsPast (hottest_pages S n) (suc k) new.pool
 
 -- the page to load next is one of the list
-next_listed : (S : ReferenceSet) (n : ℕ) (s : NodeView) (next : Option PageId) → IsWarming S n s → IsNextWarm s next → IsFirstLoadable s.pool (hottest_pages S n) next
+next_listed : (S : ReferenceSet) (n : ℕ) (s : NodeView) (next : Option PageId) → IsWarming S n s
+    → IsNextWarm s next → IsFirstLoadable s.pool (hottest_pages S n) next
 next_listed S n s next warming first =
     subst (λ ps. IsFirstLoadable s.pool ps next) ((truncation_keeps_order s.history S warming.stands).hottest_alike (length s.pool.frames) ∙ ap (hottest_pages S) warming.count) first
 
-advance : (S : ReferenceSet) (n k : ℕ) (old new : NodeView) (loaded : Option PageId) → IsWarming S n old → Step old WarmStep (Loaded loaded) new → IsPast (hottest_pages S n) k old.pool → Advances S n k old new
+advance : (S : ReferenceSet) (n k : ℕ) (old new : NodeView) (loaded : Option PageId)
+    → IsWarming S n old → Step old WarmStep (Loaded loaded) new
+    → IsPast (hottest_pages S n) k old.pool → Advances S n k old new
 advance S n k old new None warming step past = record {
   warming = subst (IsWarming S n) (sym step.1) warming;
   devices = ap (λ s. s.pool.devices) step.1;
@@ -199,7 +216,8 @@ advance S n k old new (Some q) warming step past =
 
 -- ---- as many steps as the list has pages
 
-loads : (S : ReferenceSet) (n m k : ℕ) (old new : NodeView) → IsWarming S n old → WarmSteps m old new → IsPast (hottest_pages S n) k old.pool → n ≤ k + m
+loads : (S : ReferenceSet) (n m k : ℕ) (old new : NodeView) → IsWarming S n old
+    → WarmSteps m old new → IsPast (hottest_pages S n) k old.pool → n ≤ k + m
     → (p : PageId) → Contains (hottest_pages S n) p → HasPage old.pool p → IsResident new.pool p
 loads S n zero k old new warming same past all p listed has = elim (resident_or_absent new.pool p) [
   | inl there ↦ there

@@ -12,12 +12,15 @@ use Rattle.warm_random.specs.declared.Line.{Line}
 use Rattle.warm_random.specs.declared.Line.TheVariants.{Ref}
 
 -- what is drawn first, and then the rest
-drawn_then : {A B : Type 0} (first : Draw A) (next : A → Draw B) (a : A) (g g1 : Lcg) (rest : B × Lcg) → (a, g1) ≡ first g → rest ≡ next a g1 → rest ≡ (first >>= next) g
+drawn_then : {A B : Type 0} (first : Draw A) (next : A → Draw B) (a : A) (g g1 : Lcg)
+    (rest : B × Lcg) → (a, g1) ≡ first g → rest ≡ next a g1 → rest ≡ (first >>= next) g
 drawn_then first next a g g1 rest e more = more ∙ ap (λ x. next x.0 x.1) e
 
 -- a word that is 0 to 3 modulo 8 begins a reference
-pub ref_drawn : (replicas workers time sends kind i w p : ℕ) (g g1 g2 g3 g4 : Lcg) → (kind, g1) ≡ below 8 g → nat_le kind 3 ≡ true
-    → (i, g2) ≡ draw_up_to replicas g1 → (w, g3) ≡ draw_up_to workers g2 → (p, g4) ≡ below 256 g3 → (Ref i w p time, g4) ≡ line replicas workers time sends g
+pub ref_drawn : (replicas workers time sends kind i w p : ℕ) (g g1 g2 g3 g4 : Lcg)
+    → (kind, g1) ≡ below 8 g → nat_le kind 3 ≡ true
+    → (i, g2) ≡ draw_up_to replicas g1 → (w, g3) ≡ draw_up_to workers g2 → (p, g4) ≡ below 256 g3
+    → (Ref i w p time, g4) ≡ line replicas workers time sends g
 ref_drawn replicas workers time sends kind i w p g g1 g2 g3 g4 e is_ref e1 e2 e3 =
     let page : ℕ → ℕ → ℕ → Draw Line = λ i w p. always (Ref i w p time) in
     let worker : ℕ → ℕ → Draw Line = λ i w. below 256 >>= page i w in
@@ -29,8 +32,12 @@ ref_drawn replicas workers time sends kind i w p g g1 g2 g3 g4 e is_ref e1 e2 e3
 
 -- ---- one line more
 
-pub draws_more : (replicas workers n sends : ℕ) (next : Line) (g g1 g2 : Lcg) → g1 ≡ (random_lines replicas workers n g).1 → sends ≡ count_by is_send (random_lines replicas workers n g).0
-    → (next, g2) ≡ line replicas workers (n + 1) sends g1 → ((random_lines replicas workers n g).0 ++ next ∷ [], g2) ≡ random_lines replicas workers (n + 1) g
+pub draws_more : (replicas workers n sends : ℕ) (next : Line) (g g1 g2 : Lcg)
+    → g1 ≡ (random_lines replicas workers n g).1
+    → sends ≡ count_by is_send (random_lines replicas workers n g).0
+    → (next, g2) ≡ line replicas workers (n + 1) sends g1
+    → ((random_lines replicas workers n g).0 ++ next ∷ [], g2)
+    ≡ random_lines replicas workers (n + 1) g
 unfolding random_lines
 draws_more replicas workers n sends next g g1 g2 is counts e =
     rw (add-one, ← is, ← counts) (ap (λ (x : Line × Lcg). ((random_lines replicas workers n g).0 ++ x.0 ∷ [], x.1)) e)
@@ -45,12 +52,16 @@ one_at_most next n e = elim (is_send next) as (λ (b : Bool). n ≡ cond b 1 0 �
   | false ↦ λ is. omega (arith, is)
 ] e
 
-count_one_more : (before : List Line) (next : Line) → count_by is_send (before ++ next ∷ []) ≡ count_by is_send before + cond (is_send next) 1 0
+count_one_more : (before : List Line) (next : Line)
+    → count_by is_send (before ++ next ∷ []) ≡ count_by is_send before + cond (is_send next) 1 0
 count_one_more before next = sum_by-append (λ x. cond (is_send x) 1 0) before (next ∷ []) ∙ omega arith
 
-pub sends_more : (before : List Line) (next : Line) (sends more : ℕ) → sends ≡ count_by is_send before → more ≡ cond (is_send next) 1 0 → sends + more ≡ count_by is_send (before ++ next ∷ [])
+pub sends_more : (before : List Line) (next : Line) (sends more : ℕ)
+    → sends ≡ count_by is_send before → more ≡ cond (is_send next) 1 0
+    → sends + more ≡ count_by is_send (before ++ next ∷ [])
 sends_more before next sends more counts is =
     rw (count_one_more before next, counts, is) refl
 
-pub text_more : (before : List Line) (next : Line) → flat_map line_text before ++ line_text next ≡ flat_map line_text (before ++ next ∷ [])
+pub text_more : (before : List Line) (next : Line)
+    → flat_map line_text before ++ line_text next ≡ flat_map line_text (before ++ next ∷ [])
 text_more before next = sym (flat_map-append line_text before (next ∷ []) ∙ ap (λ (t : List ℕ). flat_map line_text before ++ t) (flat_map-cons line_text next [] ∙ append-nil (line_text next)))

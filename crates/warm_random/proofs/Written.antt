@@ -9,7 +9,8 @@ Appends-none None = tt
 Appends-none (Some xs) = sym (append-nil xs)
 
 -- one text after another
-pub Appends-then : (a b c : Option (List ℕ)) (x y : List ℕ) → Appends a b x → Appends b c y → Appends a c (x ++ y)
+pub Appends-then : (a b c : Option (List ℕ)) (x y : List ℕ) → Appends a b x → Appends b c y
+    → Appends a c (x ++ y)
 Appends-then None b c x y h k = tt
 Appends-then (Some xs) None c x y h k = absurd h
 Appends-then (Some xs) (Some ys) None x y h k = absurd k

@@ -9,7 +9,8 @@ use Rattle.warm_replica.specs.declared.replies.Run.{Run}
 use Rattle.warm_replica.specs.Replied.{IsTaken, ended, replies_of}
 
 -- one run more
-pub ended_more : (runs : List Run) (run : Run) → ended (runs ++ run ∷ []) ≡ replies_of runs run.touched ++ run.reply ∷ []
+pub ended_more : (runs : List Run) (run : Run)
+    → ended (runs ++ run ∷ []) ≡ replies_of runs run.touched ++ run.reply ∷ []
 ended_more [] run = refl
 ended_more (r ∷ runs) run =
     let one = replicate r.touched Touched in
@@ -20,7 +21,8 @@ ended_more (r ∷ runs) run =
     ∙ (sym (append_assoc one (rest ++ more) last) ∙ ap (λ (l : List StepReply). l ++ last) (sym (append_assoc one rest more)))
 
 -- one reply more, which ends the touches before it
-pub reply_more : (runs : List Run) (run : Run) → replies_of (runs ++ run ∷ []) 0 ≡ replies_of runs run.touched ++ run.reply ∷ []
+pub reply_more : (runs : List Run) (run : Run)
+    → replies_of (runs ++ run ∷ []) 0 ≡ replies_of runs run.touched ++ run.reply ∷ []
 reply_more runs run = append-nil (ended (runs ++ run ∷ [])) ∙ ended_more runs run
 
 ended_append : (xs ys : List Run) → ended (xs ++ ys) ≡ ended xs ++ ended ys
@@ -38,7 +40,8 @@ pub replies_long : (runs : List Run) (n : ℕ) → length runs + n ≤ length (r
 replies_long runs n = omega (arith, ended_long runs, length-append (ended runs) (replicate n Touched), length-replicate n Touched)
 
 -- where there is capacity for all replies, those of the first runs leave some for the next run's
-pub run_fits : (all xs rest : List Run) (run : Run) (n capacity : ℕ) → xs ++ run ∷ rest ≡ all → length (replies_of all n) ≤ capacity → length (ended xs) + run.touched + 1 ≤ capacity
+pub run_fits : (all xs rest : List Run) (run : Run) (n capacity : ℕ) → xs ++ run ∷ rest ≡ all
+    → length (replies_of all n) ≤ capacity → length (ended xs) + run.touched + 1 ≤ capacity
 run_fits all xs rest run n capacity is fits = omega (
   arith,
   ap (λ (l : List Run). length (ended l)) is,
@@ -57,7 +60,8 @@ ended_taken (run ∷ runs) h =
     All-append IsTaken (replicate run.touched Touched) (run.reply ∷ ended runs) (All-replicate IsTaken run.touched Touched tt)
     (All-cons IsTaken run.reply (ended runs) (All-head (λ (r : Run). IsTaken r.reply) run runs h) (ended_taken runs (All-tail (λ (r : Run). IsTaken r.reply) run runs h)))
 
-pub taken_if : (runs : List Run) (n : ℕ) → All (λ run. IsTaken run.reply) runs → All IsTaken (replies_of runs n)
+pub taken_if : (runs : List Run) (n : ℕ) → All (λ run. IsTaken run.reply) runs
+    → All IsTaken (replies_of runs n)
 taken_if runs n h = All-append IsTaken (ended runs) (replicate n Touched) (ended_taken runs h) (All-replicate IsTaken n Touched tt)
 
 -- what is true of all is true of those behind
@@ -65,7 +69,8 @@ all_behind : (n : ℕ) (l : List StepReply) → All IsTaken (replicate n Touched
 all_behind zero l h = h
 all_behind (suc n) l h = all_behind n l (All-tail IsTaken Touched (replicate n Touched ++ l) h)
 
-pub taken_only_if : (runs : List Run) (n : ℕ) → All IsTaken (replies_of runs n) → All (λ run. IsTaken run.reply) runs
+pub taken_only_if : (runs : List Run) (n : ℕ) → All IsTaken (replies_of runs n)
+    → All (λ run. IsTaken run.reply) runs
 taken_only_if [] n h = All-nil (λ (r : Run). IsTaken r.reply)
 taken_only_if (run ∷ runs) n h =
     let split = subst (λ (l : List StepReply). All IsTaken l) (append_assoc (replicate run.touched Touched) (run.reply ∷ ended runs) (replicate n Touched)) h in

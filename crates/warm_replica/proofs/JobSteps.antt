@@ -9,8 +9,10 @@ use Rattle.warm_gossip.specs.declared.call.Reply.{Reply}
 use Rattle.warm_replica.specs.declared.job.Step.{Step}
 use Rattle.warm_replica.specs.declared.job.StepReply.{StepReply}
 
-pub gave_one_more : (capacity n : ℕ) (spent between after : Bool) (held mid end : List Reference) (ss : List Step) (rs : List StepReply) (s : Step) (r : StepReply) (calls one : Calls)
-    → AllGave capacity n spent held ss rs between mid calls → Gave capacity n between mid s r after end one
+pub gave_one_more : (capacity n : ℕ) (spent between after : Bool) (held mid end : List Reference)
+    (ss : List Step) (rs : List StepReply) (s : Step) (r : StepReply) (calls one : Calls)
+    → AllGave capacity n spent held ss rs between mid calls
+    → Gave capacity n between mid s r after end one
     → AllGave capacity n spent held (ss ++ s ∷ []) (rs ++ r ∷ []) after end (calls ++ one)
 gave_one_more capacity n spent between after held mid end [] [] s r calls one h g =
     let from : Gave capacity n spent held s r after end one = subst (λ (a : Bool). Gave capacity n a held s r after end one) h.0 (subst (λ (q : List Reference). Gave capacity n between q s r after end one) h.1 g) in
@@ -24,7 +26,9 @@ module _ {X : Type 0} where
   pub steps_none : (w : Working X Call Reply) → StepsWent w [] [] w
   steps_none w = ([], (refl, refl, refl), refl, Extended-self w.pass.view)
 
-  pub steps_more : (a b c : Working X Call Reply) (ss : List Step) (rs : List StepReply) (s : Step) (r : StepReply) → StepsWent a ss rs b → StepWent b s r c → StepsWent a (ss ++ s ∷ []) (rs ++ r ∷ []) c
+  pub steps_more : (a b c : Working X Call Reply) (ss : List Step) (rs : List StepReply) (s : Step)
+      (r : StepReply) → StepsWent a ss rs b → StepWent b s r c
+      → StepsWent a (ss ++ s ∷ []) (rs ++ r ∷ []) c
   steps_more a b c ss rs s r h g =
       let capacity : b.buffer.capacity ≡ a.buffer.capacity = h.2 in
       let number : b.pass.view.number ≡ a.pass.view.number = h.3.number in

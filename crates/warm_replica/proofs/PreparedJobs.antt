@@ -15,8 +15,10 @@ use Rattle.warm_replica.specs.Pairs.{Pairs, Triples}
 use Rattle.warm_replica.specs.Replied.{Replied}
 use Rattle.warm_replica.proofs.Fans.{fan_ends}
 
-pub pairs_triples : {A B D E : Type 0} (P : A → B → Type 0) (Q : B → D → E → Type 0) (S : A → D → E → Type 0) → ((a : A) (b : B) (d : D) (e : E) → P a b → Q b d e → S a d e)
-    → (xs : List A) (ys : List B) (zs : List D) (ws : List E) → Pairs P xs ys → Triples Q ys zs ws → Triples S xs zs ws
+pub pairs_triples : {A B D E : Type 0} (P : A → B → Type 0) (Q : B → D → E → Type 0)
+    (S : A → D → E → Type 0) → ((a : A) (b : B) (d : D) (e : E) → P a b → Q b d e → S a d e)
+    → (xs : List A) (ys : List B) (zs : List D) (ws : List E) → Pairs P xs ys → Triples Q ys zs ws
+    → Triples S xs zs ws
 pairs_triples P Q S f [] [] [] [] h g = tt
 pairs_triples P Q S f (a ∷ xs) (b ∷ ys) (d ∷ zs) (e ∷ ws) h g = (f a b d e h.0 g.0, pairs_triples P Q S f xs ys zs ws h.1 g.1)
 pairs_triples P Q S f [] [] [] (e ∷ ws) h g = absurd g
@@ -30,11 +32,14 @@ pairs_triples P Q S f (a ∷ xs) (b ∷ ys) (d ∷ zs) [] h g = absurd g
 
 module _ {X : Type 0} (goes : X → Call → Reply → X → Type 0) where
   -- the pass of a run of jobs was ended into this one
-  pub has_seen_more : (v own w : View X Call Reply) (n : ℕ) (more : List (EndedPass Call Reply)) → Widened (new_pass v n) more own → Joined goes v own w → HasSeenMore v w
+  pub has_seen_more : (v own w : View X Call Reply) (n : ℕ) (more : List (EndedPass Call Reply))
+      → Widened (new_pass v n) more own → Joined goes v own w → HasSeenMore v w
   has_seen_more v own w n more wide joined = (as_ended own ∷ more, fan_ends goes v own w n more wide joined)
 
-  pub jobs_went : (v own w : View X Call Reply) (n : ℕ) (jobs : List Job) (prepared : List PreparedJob) (all : List Replied) (more : List (EndedPass Call Reply))
-      → ArePrepared jobs prepared → Widened (new_pass v n) more own → Joined goes v own w → Triples PreparedJobWentAs prepared all more → JobsWent v jobs all w
+  pub jobs_went : (v own w : View X Call Reply) (n : ℕ) (jobs : List Job)
+      (prepared : List PreparedJob) (all : List Replied) (more : List (EndedPass Call Reply))
+      → ArePrepared jobs prepared → Widened (new_pass v n) more own → Joined goes v own w
+      → Triples PreparedJobWentAs prepared all more → JobsWent v jobs all w
   jobs_went v own w n jobs prepared all more same wide joined went = (
     as_ended own,
     more,

@@ -50,9 +50,12 @@ module _ {X : Type 0} (v w : Working X Call Reply) (step : Step) where
   mark_stands : w.pass.view ≡ marked v.pass.view → w.pass.view.found_last ≡ true
   mark_stands spent = ap (λ (u : View X Call Reply). u.found_last) spent
 
-  pub touched : (r : Reference) (result : Result (Unit {0}) Back) (u : Unit {0}) → step ≡ Touch r → result ≡ Ok u → w.pass ≡ v.pass
-      → (length v.buffer.refs < v.buffer.capacity → IsOk result × (w.buffer ≡ record v.buffer { refs = v.buffer.refs ++ r ∷ [] }))
-      → (v.buffer.capacity ≤ length v.buffer.refs → (result ≡ Err (record { 0 = r })) × (w.buffer ≡ v.buffer)) → StepWent v step Touched w
+  pub touched : (r : Reference) (result : Result (Unit {0}) Back) (u : Unit {0}) → step ≡ Touch r
+      → result ≡ Ok u → w.pass ≡ v.pass
+      → (length v.buffer.refs < v.buffer.capacity
+      → IsOk result × (w.buffer ≡ record v.buffer { refs = v.buffer.refs ++ r ∷ [] }))
+      → (v.buffer.capacity ≤ length v.buffer.refs
+      → (result ≡ Err (record { 0 = r })) × (w.buffer ≡ v.buffer)) → StepWent v step Touched w
   touched r result u is good pass taken full =
       let some : length v.buffer.refs < v.buffer.capacity = lt_of_not-le (λ all. not_both result u (record { 0 = r }) good (full all).0) in
       let buffer = (taken some).1 in (
@@ -62,9 +65,12 @@ module _ {X : Type 0} (v w : Working X Call Reply) (step : Step) where
         stays pass,
       )
 
-  pub was_full : (r : Reference) (result : Result (Unit {0}) Back) (back : Back) → step ≡ Touch r → result ≡ Err back → w.pass ≡ v.pass
-      → (length v.buffer.refs < v.buffer.capacity → IsOk result × (w.buffer ≡ record v.buffer { refs = v.buffer.refs ++ r ∷ [] }))
-      → (v.buffer.capacity ≤ length v.buffer.refs → (result ≡ Err (record { 0 = r })) × (w.buffer ≡ v.buffer)) → StepWent v step (Full back.0) w
+  pub was_full : (r : Reference) (result : Result (Unit {0}) Back) (back : Back) → step ≡ Touch r
+      → result ≡ Err back → w.pass ≡ v.pass
+      → (length v.buffer.refs < v.buffer.capacity
+      → IsOk result × (w.buffer ≡ record v.buffer { refs = v.buffer.refs ++ r ∷ [] }))
+      → (v.buffer.capacity ≤ length v.buffer.refs
+      → (result ≡ Err (record { 0 = r })) × (w.buffer ≡ v.buffer)) → StepWent v step (Full back.0) w
   was_full r result back is bad pass taken full =
       let below : v.buffer.capacity < suc (length v.buffer.refs) = lt_of_not-le (λ some. good_bad result back (taken some).0 bad) in
       let all : v.buffer.capacity ≤ length v.buffer.refs = omega (arith, below) in
@@ -76,7 +82,8 @@ module _ {X : Type 0} (v w : Working X Call Reply) (step : Step) where
         stays pass,
       )
 
-  pub was_flushed : (goes : X → Call → Reply → X → Type 0) → step ≡ Flush → Flushes goes v w → StepWent v step Flushed w
+  pub was_flushed : (goes : X → Call → Reply → X → Type 0) → step ≡ Flush → Flushes goes v w
+      → StepWent v step Flushed w
   was_flushed goes is flushes = (
     entry v.pass.view.number (Absorb v.buffer.refs) Done ∷ [],
     subst (GaveTo Flushed (entry v.pass.view.number (Absorb v.buffer.refs) Done ∷ [])) (sym is)
@@ -85,7 +92,8 @@ module _ {X : Type 0} (v w : Working X Call Reply) (step : Step) where
     Extended-called goes v.pass.view w.pass.view (Absorb v.buffer.refs) Done flushes.absorbs,
   )
 
-  pub was_kept : (goes : X → Call → Reply → X → Type 0) (fault : FlushFault) → step ≡ Flush → KeepsBatch goes v fault w → StepWent v step (Failed fault) w
+  pub was_kept : (goes : X → Call → Reply → X → Type 0) (fault : FlushFault) → step ≡ Flush
+      → KeepsBatch goes v fault w → StepWent v step (Failed fault) w
   was_kept goes TurnsSpent is kept = (
     [],
     subst (GaveTo (Failed TurnsSpent) []) (sym is) (mark_stands kept.1, ap (λ (b : Buffered). b.refs) kept.0, refl),
@@ -109,7 +117,8 @@ module _ {X : Type 0} (v w : Working X Call Reply) (step : Step) where
       ))
       kept.1
 
-  pub was_spent : (call : Call) → step ≡ job_step.Call call → w.buffer ≡ v.buffer → w.pass.view ≡ marked v.pass.view → StepWent v step (Failed TurnsSpent) w
+  pub was_spent : (call : Call) → step ≡ job_step.Call call → w.buffer ≡ v.buffer
+      → w.pass.view ≡ marked v.pass.view → StepWent v step (Failed TurnsSpent) w
   was_spent call is same spent = (
     [],
     subst (GaveTo (Failed TurnsSpent) []) (sym is) (mark_stands spent, ap (λ (b : Buffered). b.refs) same, refl),

@@ -7,17 +7,20 @@ use Rattle.std.specs.Prelude.{codes, flat_map}
 use Rattle.warm_schedule.specs.Answers.{byte_text, bytes_text, hex_text}
 
 -- two items are put behind those that stand there
-two_put : (xs : List ℕ) (n : ℕ) (a b : ℕ) → n + 1 < length xs → take (n + 1 + 1) (set (set xs n a) (n + 1) b) ≡ take n xs ++ a ∷ b ∷ []
+two_put : (xs : List ℕ) (n : ℕ) (a b : ℕ) → n + 1 < length xs
+    → take (n + 1 + 1) (set (set xs n a) (n + 1) b) ≡ take n xs ++ a ∷ b ∷ []
 two_put xs n a b lt =
     let first = take_more_set xs n a (omega (arith, lt)) in
     let second = take_more_set (set xs n a) (n + 1) b (omega (arith, lt, length-set xs n a)) in
     second ∙ ap (λ (t : List ℕ). t ++ b ∷ []) first ∙ append_assoc (take n xs) (a ∷ []) (b ∷ [])
 
 -- the digits of one more byte
-pub digits_more : (digits bytes : List ℕ) (i high low : ℕ) → 2 * i + 1 < length digits → i < length bytes
+pub digits_more : (digits bytes : List ℕ) (i high low : ℕ) → 2 * i + 1 < length digits
+    → i < length bytes
     → high ≡ hex_text (get_or bytes i 0 / 16) → low ≡ hex_text (get_or bytes i 0 % 16)
     → take (2 * i) digits ≡ flat_map byte_text (take i bytes)
-    → take (2 * (i + 1)) (set (set digits (2 * i) high) (2 * i + 1) low) ≡ flat_map byte_text (take (i + 1) bytes)
+    → take (2 * (i + 1)) (set (set digits (2 * i) high) (2 * i + 1) low)
+    ≡ flat_map byte_text (take (i + 1) bytes)
 digits_more digits bytes i high low lt there is_high is_low so_far =
     let byte = get_or bytes i 0 in
     let put = set (set digits (2 * i) high) (2 * i + 1) low in
@@ -29,6 +32,7 @@ digits_more digits bytes i high low lt there is_high is_low so_far =
     ∙ ap (λ (t : List ℕ). t ++ high ∷ low ∷ []) so_far ∙ ap (λ (t : List ℕ). flat_map byte_text (take i bytes) ++ t) pair ∙ sym text
 
 -- bytes are printed after a space
-pub some_text : (bytes : List ℕ) → 0 < length bytes → bytes_text bytes ≡ codes " " ++ flat_map byte_text bytes
+pub some_text : (bytes : List ℕ) → 0 < length bytes
+    → bytes_text bytes ≡ codes " " ++ flat_map byte_text bytes
 some_text [] some = absurd (omega (arith, some))
 some_text (byte ∷ bytes) some = refl

@@ -47,7 +47,8 @@ send_line : line_of (codes "send 1 63") ≡ Some (meant.Event (Send 1 63 None))
 unfolding line_of commands words number_up_to number_field after_field send_of
 send_line = refl
 
-send_after : line_of (codes "send 1 0 0:63936") ≡ Some (meant.Event (Send 1 0 (Some (page 0 63936))))
+send_after : line_of (codes "send 1 0 0:63936")
+    ≡ Some (meant.Event (Send 1 0 (Some (page 0 63936))))
 unfolding line_of commands words number_up_to page_of_word number_field after_field send_of
 send_after = refl
 
@@ -55,7 +56,8 @@ no_such_bucket : line_of (codes "send 1 64") ≡ None
 unfolding line_of commands words number_up_to number_field send_of
 no_such_bucket = refl
 
-greatest_frame : line_of (codes "deliver 65535 18446744073709551615") ≡ Some (meant.Event (Deliver 65535 18446744073709551615))
+greatest_frame : line_of (codes "deliver 65535 18446744073709551615")
+    ≡ Some (meant.Event (Deliver 65535 18446744073709551615))
 unfolding line_of commands words number_up_to number_field deliver_of
 greatest_frame = refl
 
@@ -75,12 +77,15 @@ horizon_line : line_of (codes "horizon 1 15") ≡ Some (meant.Event (Horizon 1 1
 unfolding line_of commands words number_up_to number_field horizon_of
 horizon_line = refl
 
-greatest_horizon : line_of (codes "horizon 65535 18446744073709551615") ≡ Some (meant.Event (Horizon 65535 18446744073709551615))
+greatest_horizon : line_of (codes "horizon 65535 18446744073709551615")
+    ≡ Some (meant.Event (Horizon 65535 18446744073709551615))
 unfolding line_of commands words number_up_to number_field horizon_of
 greatest_horizon = refl
 
 -- a replica and a time out of range, no time, and a word too many
-no_horizons : (line_of (codes "horizon 65536 1") ≡ None) × (line_of (codes "horizon 1 18446744073709551616") ≡ None) × (line_of (codes "horizon 1") ≡ None) × (line_of (codes "horizon 1 15 1") ≡ None)
+no_horizons : (line_of (codes "horizon 65536 1") ≡ None)
+    × (line_of (codes "horizon 1 18446744073709551616") ≡ None)
+    × (line_of (codes "horizon 1") ≡ None) × (line_of (codes "horizon 1 15 1") ≡ None)
 unfolding line_of commands words number_up_to number_field horizon_of
 no_horizons = (refl, refl, refl, refl)
 
@@ -101,34 +106,41 @@ pin_line : line_of (codes "pin 1 0:255") ≡ Some (meant.Event (Pin 1 (page 0 25
 unfolding line_of commands words number_up_to page_of_word number_field page_field pin_of
 pin_line = refl
 
-greatest_page : line_of (codes "pin 1 65535:18446744073709551615") ≡ Some (meant.Event (Pin 1 (page 65535 18446744073709551615)))
+greatest_page : line_of (codes "pin 1 65535:18446744073709551615")
+    ≡ Some (meant.Event (Pin 1 (page 65535 18446744073709551615)))
 unfolding line_of commands words number_up_to page_of_word number_field page_field pin_of
 greatest_page = refl
 
 -- a page number and a device out of range
-no_such_pages : (line_of (codes "pin 1 0:18446744073709551616") ≡ None) × (line_of (codes "pin 1 65536:0") ≡ None)
+no_such_pages : (line_of (codes "pin 1 0:18446744073709551616") ≡ None)
+    × (line_of (codes "pin 1 65536:0") ≡ None)
 unfolding line_of commands words number_up_to page_of_word number_field page_field pin_of
 no_such_pages = (refl, refl)
 
-unpin_line : line_of (codes "unpin 1 4294967295.18446744073709551615") ≡ Some (meant.Event (Unpin 1 (slot 4294967295 18446744073709551615)))
+unpin_line : line_of (codes "unpin 1 4294967295.18446744073709551615")
+    ≡ Some (meant.Event (Unpin 1 (slot 4294967295 18446744073709551615)))
 unfolding line_of commands words number_up_to slot_of_word number_field slot_field unpin_of
 unpin_line = refl
 
 -- no dot, two dots, and a frame out of range
-no_slots : (line_of (codes "unpin 1 0") ≡ None) × (line_of (codes "unpin 1 0.1.2") ≡ None) × (line_of (codes "unpin 1 4294967296.1") ≡ None)
+no_slots : (line_of (codes "unpin 1 0") ≡ None) × (line_of (codes "unpin 1 0.1.2") ≡ None)
+    × (line_of (codes "unpin 1 4294967296.1") ≡ None)
 unfolding line_of commands words number_up_to slot_of_word number_field slot_field unpin_of
 no_slots = (refl, refl, refl)
 
-put_line : line_of (codes "put 1 0.1 15 CAfe09") ≡ Some (meant.Event (Put 1 (slot 0 1) 15 (202 ∷ 254 ∷ 9 ∷ [])))
+put_line : line_of (codes "put 1 0.1 15 CAfe09")
+    ≡ Some (meant.Event (Put 1 (slot 0 1) 15 (202 ∷ 254 ∷ 9 ∷ [])))
 unfolding line_of commands words number_up_to slot_of_word bytes_of_hex number_field slot_field bytes_field put_of
 put_line = refl
 
 -- an odd number of digits, none, another letter, and a word too many
-no_bytes : (line_of (codes "put 1 0.1 0 CAF") ≡ None) × (line_of (codes "put 1 0.1 0 ") ≡ None) × (line_of (codes "put 1 0.1 0 CG") ≡ None) × (line_of (codes "put 1 0.1 0 CA FE") ≡ None)
+no_bytes : (line_of (codes "put 1 0.1 0 CAF") ≡ None) × (line_of (codes "put 1 0.1 0 ") ≡ None)
+    × (line_of (codes "put 1 0.1 0 CG") ≡ None) × (line_of (codes "put 1 0.1 0 CA FE") ≡ None)
 unfolding line_of commands words number_up_to slot_of_word bytes_of_hex number_field slot_field bytes_field put_of
 no_bytes = (refl, refl, refl, refl)
 
-get_line : line_of (codes "get 1 0.1 16 4294967295") ≡ Some (meant.Event (Get 1 (slot 0 1) 16 4294967295))
+get_line : line_of (codes "get 1 0.1 16 4294967295")
+    ≡ Some (meant.Event (Get 1 (slot 0 1) 16 4294967295))
 unfolding line_of commands words number_up_to slot_of_word number_field slot_field get_of
 get_line = refl
 
@@ -166,7 +178,13 @@ two_lines = refl
 
 -- ---- answers
 
-shown : answer_text (Shown (history_of_entries (record { page = page 0 1; hist = Twice (record { last = stamp 30 1; prev = stamp 20 1 }) } ∷ record { page = page 9 1; hist = Once (stamp 7 2) } ∷ []))) ≡ codes "0:1 last 30@1 prev 20@1\n9:1 last 7@2\nend 2\n"
+shown : answer_text (Shown
+    (history_of_entries (record {
+      page = page 0 1;
+      hist = Twice (record { last = stamp 30 1; prev = stamp 20 1 });
+    }
+    ∷ record { page = page 9 1; hist = Once (stamp 7 2) } ∷ [])))
+    ≡ codes "0:1 last 30@1 prev 20@1\n9:1 last 7@2\nend 2\n"
 unfolding digits
 shown = refl
 
@@ -174,7 +192,8 @@ shown_nothing : answer_text (Shown (history_of_entries [])) ≡ codes "end 0\n"
 unfolding digits
 shown_nothing = refl
 
-horizon_kept : (answer_text (Kept 15) ≡ codes "horizon 15\n") × (answer_text (Kept 18446744073709551615) ≡ codes "horizon 18446744073709551615\n")
+horizon_kept : (answer_text (Kept 15) ≡ codes "horizon 15\n")
+    × (answer_text (Kept 18446744073709551615) ≡ codes "horizon 18446744073709551615\n")
 unfolding digits
 horizon_kept = (refl, refl)
 
@@ -220,23 +239,32 @@ page_loaded = refl
 no_page_loaded : answer_text (Loaded None) ≡ codes "none\n"
 no_page_loaded = refl
 
-no_such_thing : (answer_text (Refused NoSuchReplica) ≡ codes "refused 14 NoSuchReplica\n") × (answer_text (Refused NoSuchWorker) ≡ codes "refused 15 NoSuchWorker\n") × (answer_text (Refused NoSuchFrame) ≡ codes "refused 16 NoSuchFrame\n")
+no_such_thing : (answer_text (Refused NoSuchReplica) ≡ codes "refused 14 NoSuchReplica\n")
+    × (answer_text (Refused NoSuchWorker) ≡ codes "refused 15 NoSuchWorker\n")
+    × (answer_text (Refused NoSuchFrame) ≡ codes "refused 16 NoSuchFrame\n")
 unfolding digits
 no_such_thing = (refl, refl, refl)
 
-of_the_node : (answer_text (Refused (Node Memory)) ≡ codes "refused 1 Memory\n") × (answer_text (Refused (Node StaleSlot)) ≡ codes "refused 13 StaleSlot\n")
+of_the_node : (answer_text (Refused (Node Memory)) ≡ codes "refused 1 Memory\n")
+    × (answer_text (Refused (Node StaleSlot)) ≡ codes "refused 13 StaleSlot\n")
 unfolding digits
 of_the_node = (refl, refl)
 
-of_pages : (answer_text (Refused (Node (Pool NoDevice))) ≡ codes "refused 4 NoDevice\n") × (answer_text (Refused (Node (Pool NoPage))) ≡ codes "refused 5 NoPage\n") × (answer_text (Refused (Node (Pool AllFixed))) ≡ codes "refused 6 AllFixed\n")
+of_pages : (answer_text (Refused (Node (Pool NoDevice))) ≡ codes "refused 4 NoDevice\n")
+    × (answer_text (Refused (Node (Pool NoPage))) ≡ codes "refused 5 NoPage\n")
+    × (answer_text (Refused (Node (Pool AllFixed))) ≡ codes "refused 6 AllFixed\n")
 unfolding digits
 of_pages = (refl, refl, refl)
 
-of_devices : (answer_text (Refused (Node (Pool ReadFault))) ≡ codes "refused 7 ReadFault\n") × (answer_text (Refused (Node (Pool WriteBack))) ≡ codes "refused 8 WriteBack\n") × (answer_text (Refused (Node (Pool Fault))) ≡ codes "refused 12 Fault\n")
+of_devices : (answer_text (Refused (Node (Pool ReadFault))) ≡ codes "refused 7 ReadFault\n")
+    × (answer_text (Refused (Node (Pool WriteBack))) ≡ codes "refused 8 WriteBack\n")
+    × (answer_text (Refused (Node (Pool Fault))) ≡ codes "refused 12 Fault\n")
 unfolding digits
 of_devices = (refl, refl, refl)
 
-of_fixes : (answer_text (Refused (Node (Pool FixesFull))) ≡ codes "refused 9 FixesFull\n") × (answer_text (Refused (Node (Pool OutOfPage))) ≡ codes "refused 10 OutOfPage\n") × (answer_text (Refused (Node (Pool Fixed))) ≡ codes "refused 11 Fixed\n")
+of_fixes : (answer_text (Refused (Node (Pool FixesFull))) ≡ codes "refused 9 FixesFull\n")
+    × (answer_text (Refused (Node (Pool OutOfPage))) ≡ codes "refused 10 OutOfPage\n")
+    × (answer_text (Refused (Node (Pool Fixed))) ≡ codes "refused 11 Fixed\n")
 unfolding digits
 of_fixes = (refl, refl, refl)
 
@@ -257,7 +285,8 @@ abbrev replica_with : List Reference → List Reference → ModelState
 replica_with reach waiting = record { capacity = 64; replicas = record { reach = set_of_list reach; pending = waiting ∷ [] ∷ []; pool = no_pool } ∷ []; records = [] }
 
 -- one replica with two workers: refusals, a comment and a bad line
-refusals : Printed (replica_with [] []) (codes "ref 2 1 0:1 5\nflush 1 3\n# x\nbad\n") (codes "refused 14 NoSuchReplica\nrefused 15 NoSuchWorker\nbad line 4\n") (replica_with [] [])
+refusals : Printed (replica_with [] []) (codes "ref 2 1 0:1 5\nflush 1 3\n# x\nbad\n")
+    (codes "refused 14 NoSuchReplica\nrefused 15 NoSuchWorker\nbad line 4\n") (replica_with [] [])
 unfolding meaning line_of commands words number_up_to page_of_word number_field page_field refer_of flush_of digits
 refusals =
     let start : ModelState = replica_with [] [] in (
@@ -291,7 +320,8 @@ refusals =
     )
 
 -- a reference waits, reaches the history, and is shown
-reference : Printed (replica_with [] []) (codes "ref 1 1 0:1 10\nshow 1\nflush 1 1\nshow 1\n") (codes "ok\nend 0\nok\n0:1 last 10@1\nend 1\n") (replica_with (seen ∷ []) [])
+reference : Printed (replica_with [] []) (codes "ref 1 1 0:1 10\nshow 1\nflush 1 1\nshow 1\n")
+    (codes "ok\nend 0\nok\n0:1 last 10@1\nend 1\n") (replica_with (seen ∷ []) [])
 unfolding meaning line_of commands words number_up_to page_of_word number_field page_field refer_of flush_of show_of history digits
 reference = (
   codes "ok\n",

@@ -8,7 +8,8 @@ use Rattle.warm_devices.specs.Device.{DeviceState}
 use Rattle.warm_pool.specs.declared.TheConstants.{MAX_DEVICES}
 use Rattle.warm_world.specs.Opening.{AreFew}
 
-few_more : (lists : List (List DeviceState)) (list : List DeviceState) → AreFew lists → length list ≤ MAX_DEVICES → AreFew (lists ++ list ∷ [])
+few_more : (lists : List (List DeviceState)) (list : List DeviceState) → AreFew lists
+    → length list ≤ MAX_DEVICES → AreFew (lists ++ list ∷ [])
 few_more lists list few here = λ k lt. elim (cases_eq k (length lists)) [
   | inl e ↦ rw e (rw get_or-append_seam here)
   | inr ne ↦
@@ -17,5 +18,7 @@ few_more lists list few here = λ k lt. elim (cases_eq k (length lists)) [
 ]
 
 -- one list more, of which `read` gives the devices
-pub few_pushed : {A : Type 0} (read : A → List DeviceState) (lists : List A) (list : A) → AreFew (map read lists) → length (read list) ≤ MAX_DEVICES → AreFew (map read (lists ++ list ∷ []))
+pub few_pushed : {A : Type 0} (read : A → List DeviceState) (lists : List A) (list : A)
+    → AreFew (map read lists) → length (read list) ≤ MAX_DEVICES
+    → AreFew (map read (lists ++ list ∷ []))
 few_pushed read lists list few here = rw map-append (few_more (map read lists) (read list) few here)

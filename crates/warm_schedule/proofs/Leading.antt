@@ -6,7 +6,8 @@ use Rattle.std.specs.List.{prefix_len}
 use Rattle.warm_schedule.specs.Fields.{◌>>=◌, digit_of, digits_after, number_up_to, up_to}
 use Rattle.warm_schedule.specs.Heads.{is_digit, leading_digits, after_digits}
 
-pub digit_more : (c : ℕ) (cs : List ℕ) → is_digit c ≡ true → leading_digits (c ∷ cs) ≡ c ∷ leading_digits cs
+pub digit_more : (c : ℕ) (cs : List ℕ) → is_digit c ≡ true
+    → leading_digits (c ∷ cs) ≡ c ∷ leading_digits cs
 digit_more c cs e = take_while-cons is_digit c cs ∙ (rw e refl)
 
 pub digit_stop : (c : ℕ) (cs : List ℕ) → is_digit c ≡ false → leading_digits (c ∷ cs) ≡ []
@@ -39,11 +40,13 @@ no_digit c e = rw e refl
 pub stop : (n x : ℕ) (rest : List ℕ) → digit_of x ≡ None → digits_after n (x ∷ rest) ≡ None
 stop n x rest h = ap (λ (o : Option ℕ). o >>= λ e. digits_after (10 * n + e) rest) h
 
-pub no_digits : (n : ℕ) (o : Option ℕ) (rest : List ℕ) → ((m : ℕ) → digits_after m rest ≡ None) → (o >>= λ d. digits_after (10 * n + d) rest) ≡ None
+pub no_digits : (n : ℕ) (o : Option ℕ) (rest : List ℕ) → ((m : ℕ) → digits_after m rest ≡ None)
+    → (o >>= λ d. digits_after (10 * n + d) rest) ≡ None
 no_digits n None rest none = refl
 no_digits n (Some d) rest none = none (10 * n + d)
 
-pub none_up_to : (limit : ℕ) (text : List ℕ) → ((n : ℕ) → digits_after n text ≡ None) → number_up_to limit text ≡ None
+pub none_up_to : (limit : ℕ) (text : List ℕ) → ((n : ℕ) → digits_after n text ≡ None)
+    → number_up_to limit text ≡ None
 unfolding number_up_to
 none_up_to limit [] none = refl
 none_up_to limit (c ∷ cs) none = ap (up_to limit) (none 0)
@@ -62,12 +65,14 @@ end_or_other (c ∷ cs) = elim (cases_Bool (is_digit c)) [
   | inr other ↦ inr (record { first = c; others = cs; parts = after_stop c cs other; no_digit = other })
 ]
 
-other_digits : (n : ℕ) (text rest : List ℕ) → after_digits text ≡ rest → IsOther rest → digits_after n text ≡ None
+other_digits : (n : ℕ) (text rest : List ℕ) → after_digits text ≡ rest → IsOther rest
+    → digits_after n text ≡ None
 other_digits n [] rest after other = let never : [] ≡ other.first ∷ other.others = after ∙ other.parts in absurd (cc)
 other_digits n (c ∷ cs) rest after other = elim (cases_Bool (is_digit c)) [
   | inl digit ↦ no_digits n (digit_of c) cs (λ m. other_digits m cs rest (sym (after_more c cs digit) ∙ after) other)
   | inr here ↦ stop n c cs (no_digit c here)
 ]
 
-pub other_number : (limit : ℕ) (text rest : List ℕ) → after_digits text ≡ rest → IsOther rest → number_up_to limit text ≡ None
+pub other_number : (limit : ℕ) (text rest : List ℕ) → after_digits text ≡ rest → IsOther rest
+    → number_up_to limit text ≡ None
 other_number limit text rest after other = none_up_to limit text (λ n. other_digits n text rest after other)

@@ -11,7 +11,8 @@ use Rattle.warm_schedule.proofs.Words.{first_word, word_then, words_later, numbe
 use Rattle.warm_schedule.proofs.Parts.{two_of, pair_end}
 
 -- the words of a text that begins with no space
-word_first : (c : ℕ) (cs : List ℕ) → behind 32 (c ∷ cs) ≡ None → words (c ∷ cs) ≡ first_word (c ∷ cs) ∷ words_later (c ∷ cs)
+word_first : (c : ℕ) (cs : List ℕ) → behind 32 (c ∷ cs) ≡ None
+    → words (c ∷ cs) ≡ first_word (c ∷ cs) ∷ words_later (c ∷ cs)
 unfolding words
 word_first c cs none = elim (cases_eq c 32) [
   | inl space ↦
@@ -24,7 +25,8 @@ word_first c cs none = elim (cases_eq c 32) [
 -- ---- numbers
 
 pub number_read : (limit : ℕ) (text : List ℕ) → behind 32 text ≡ None
-    → number_field limit (words text) ≡ (number_at limit text >>= λ (n : ℕ × List ℕ). words_behind n.1 >>= λ later. Some (n.0, later))
+    → number_field limit (words text)
+    ≡ (number_at limit text >>= λ (n : ℕ × List ℕ). words_behind n.1 >>= λ later. Some (n.0, later))
 unfolding number_field number_at number_up_to words
 number_read limit [] none = refl
 number_read limit (c ∷ cs) none = ap (number_field limit) (word_first c cs none) ∙ number_end limit (c ∷ cs) (λ n later. Some (n, later))
@@ -33,7 +35,8 @@ number_read limit (c ∷ cs) none = ap (number_field limit) (word_first c cs non
 
 -- what is made of two numbers is used
 made_then : {A B : Type 0} (first second : Option ℕ) (join : ℕ → ℕ → A) (make : A → Option B)
-    → ((first >>= λ d. second >>= λ n. Some (join d n)) >>= make) ≡ (first >>= λ d. second >>= λ n. make (join d n))
+    → ((first >>= λ d. second >>= λ n. Some (join d n)) >>= make)
+    ≡ (first >>= λ d. second >>= λ n. make (join d n))
 made_then None second join make = refl
 made_then (Some d) None join make = refl
 made_then (Some d) (Some n) join make = refl
@@ -41,7 +44,8 @@ made_then (Some d) (Some n) join make = refl
 abbrev page : ℕ → ℕ → PageId
 page d n = record { dev = d; no = n }
 
-page_then : {A : Type 0} (parts : List (List ℕ)) (make : PageId → Option A) → (page_of_parts parts >>= make) ≡ two_of 65535 (λ d n. make (page d n)) parts
+page_then : {A : Type 0} (parts : List (List ℕ)) (make : PageId → Option A)
+    → (page_of_parts parts >>= make) ≡ two_of 65535 (λ d n. make (page d n)) parts
 page_then [] make = refl
 page_then (device ∷ []) make = refl
 page_then (device ∷ number ∷ []) make = made_then (number_up_to 65535 device) (number_up_to 18446744073709551615 number) page make
@@ -58,7 +62,8 @@ page_read (c ∷ cs) none =
 abbrev slot : ℕ → ℕ → Slot
 slot s g = record { index = s; generation = g }
 
-slot_then : {A : Type 0} (parts : List (List ℕ)) (make : Slot → Option A) → (slot_of_parts parts >>= make) ≡ two_of 4294967295 (λ s g. make (slot s g)) parts
+slot_then : {A : Type 0} (parts : List (List ℕ)) (make : Slot → Option A)
+    → (slot_of_parts parts >>= make) ≡ two_of 4294967295 (λ s g. make (slot s g)) parts
 slot_then [] make = refl
 slot_then (frame ∷ []) make = refl
 slot_then (frame ∷ generation ∷ []) make = made_then (number_up_to 4294967295 frame) (number_up_to 18446744073709551615 generation) slot make
@@ -82,11 +87,14 @@ after_nothing (c ∷ cs) none = absurd (omega arith)
 abbrev as_some : PageId × List (List ℕ) → Option (Option PageId × List (List ℕ))
 as_some x = Some (Some x.0, x.1)
 
-some_page : (page : Option PageId) (later : List (List ℕ)) → (page >>= λ p. as_some (p, later)) ≡ ((page >>= λ p. Some (let x : PageId × List (List ℕ) = (p, later) in x)) >>= as_some)
+some_page : (page : Option PageId) (later : List (List ℕ))
+    → (page >>= λ p. as_some (p, later))
+    ≡ ((page >>= λ p. Some (let x : PageId × List (List ℕ) = (p, later) in x)) >>= as_some)
 some_page None later = refl
 some_page (Some p) later = refl
 
-pub after_read : (text : List ℕ) → behind 32 text ≡ None → 0 < length text → after_field (words text) ≡ (page_at text >>= as_some)
+pub after_read : (text : List ℕ) → behind 32 text ≡ None → 0 < length text
+    → after_field (words text) ≡ (page_at text >>= as_some)
 unfolding after_field page_field
 after_read [] none some = absurd (omega arith)
 after_read (c ∷ cs) none some =

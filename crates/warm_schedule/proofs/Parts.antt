@@ -30,7 +30,8 @@ other_here : (s c : ℕ) (cs : List ℕ) → c ≢ s → behind s (c ∷ cs) ≡
 other_here s c cs other = rw (ne_eqb c s other) refl
 
 -- the digits are the first part
-split_pair : (s : ℕ) (word rest : List ℕ) → digit_of s ≡ None → behind s (after_digits word) ≡ Some rest → split s word ≡ leading_digits word ∷ split s rest
+split_pair : (s : ℕ) (word rest : List ℕ) → digit_of s ≡ None
+    → behind s (after_digits word) ≡ Some rest → split s word ≡ leading_digits word ∷ split s rest
 split_pair s [] rest none e = let never : None ≡ Some rest = e in absurd (cc)
 split_pair s (c ∷ cs) rest none e = elim (cases_Bool (is_digit c)) [
   | inl digit ↦
@@ -57,7 +58,8 @@ record IsBroken (s : ℕ) (word : List ℕ) : Type 0 where
   no_number : (n : ℕ) → digits_after n first ≡ None
 
 -- no separator there: the word has one part, or is broken
-whole_or_broken : (s : ℕ) (word : List ℕ) → digit_of s ≡ None → behind s (after_digits word) ≡ None → (split s word ≡ word ∷ []) ⊎ IsBroken s word
+whole_or_broken : (s : ℕ) (word : List ℕ) → digit_of s ≡ None → behind s (after_digits word) ≡ None
+    → (split s word ≡ word ∷ []) ⊎ IsBroken s word
 whole_or_broken s [] none e = inl refl
 whole_or_broken s (c ∷ cs) none e = elim (cases_Bool (is_digit c)) [
   | inl digit ↦
@@ -78,12 +80,15 @@ whole_or_broken s (c ∷ cs) none e = elim (cases_Bool (is_digit c)) [
       ]
 ]
 
-none_of : {A : Type 0} (limit : ℕ) (make : ℕ → ℕ → Option A) (first : List ℕ) (others : List (List ℕ)) → number_up_to limit first ≡ None → two_of limit make (first ∷ others) ≡ None
+none_of : {A : Type 0} (limit : ℕ) (make : ℕ → ℕ → Option A) (first : List ℕ)
+    (others : List (List ℕ)) → number_up_to limit first ≡ None
+    → two_of limit make (first ∷ others) ≡ None
 none_of limit make first [] e = refl
 none_of limit make first (second ∷ []) e = rw e refl
 none_of limit make first (second ∷ third ∷ others) e = refl
 
-no_pair : {A : Type 0} (s limit : ℕ) (make : ℕ → ℕ → Option A) (word : List ℕ) → digit_of s ≡ None → behind s (after_digits word) ≡ None → two_of limit make (split s word) ≡ None
+no_pair : {A : Type 0} (s limit : ℕ) (make : ℕ → ℕ → Option A) (word : List ℕ) → digit_of s ≡ None
+    → behind s (after_digits word) ≡ None → two_of limit make (split s word) ≡ None
 no_pair s limit make word none e = elim (whole_or_broken s word none e) [
   | inl whole ↦ rw whole refl
   | inr b ↦ rw b.pieces (none_of limit make b.first b.others (none_up_to limit b.first b.no_number))
@@ -99,7 +104,8 @@ record IsParted (s : ℕ) (text : List ℕ) : Type 0 where
   pieces : split s text ≡ first ∷ second ∷ others
   no_number : (n : ℕ) → digits_after n text ≡ None
 
-whole_or_parted : (s : ℕ) (text : List ℕ) → digit_of s ≡ None → (split s text ≡ text ∷ []) ⊎ IsParted s text
+whole_or_parted : (s : ℕ) (text : List ℕ) → digit_of s ≡ None
+    → (split s text ≡ text ∷ []) ⊎ IsParted s text
 whole_or_parted s [] none = inl refl
 whole_or_parted s (c ∷ cs) none = elim (cases_eq c s) [
   | inl here ↦
@@ -112,11 +118,14 @@ whole_or_parted s (c ∷ cs) none = elim (cases_eq c s) [
 ]
 
 -- nothing is made of two numbers of which the second is none
-none_of_two : {A : Type 0} (first second : Option ℕ) (make : ℕ → ℕ → Option A) → second ≡ None → None ≡ (first >>= λ d. second >>= λ n. make d n)
+none_of_two : {A : Type 0} (first second : Option ℕ) (make : ℕ → ℕ → Option A) → second ≡ None
+    → None ≡ (first >>= λ d. second >>= λ n. make d n)
 none_of_two None second make none = refl
 none_of_two (Some d) second make none = sym (ap (λ (o : Option ℕ). o >>= λ n. make d n) none)
 
-two_whole : {A : Type 0} (s limit : ℕ) (make : ℕ → ℕ → Option A) (first second : List ℕ) → digit_of s ≡ None → two_of limit make (first ∷ split s second) ≡ two_of limit make (first ∷ second ∷ [])
+two_whole : {A : Type 0} (s limit : ℕ) (make : ℕ → ℕ → Option A) (first second : List ℕ)
+    → digit_of s ≡ None → two_of limit make (first ∷ split s second)
+    ≡ two_of limit make (first ∷ second ∷ [])
 two_whole s limit make first second none = elim (whole_or_parted s second none) [
   | inl whole ↦ rw whole refl
   | inr p ↦ rw p.pieces (none_of_two (number_up_to limit first) (number_up_to 18446744073709551615 second) make (none_up_to _ second p.no_number))
@@ -124,7 +133,8 @@ two_whole s limit make first second none = elim (whole_or_parted s second none) 
 
 -- ---- two numbers, and the end of their word
 
-behind_word : (s : ℕ) (rest : List ℕ) → s ≢ 32 → behind s (first_word rest) ≡ option_map first_word (behind s rest)
+behind_word : (s : ℕ) (rest : List ℕ) → s ≢ 32
+    → behind s (first_word rest) ≡ option_map first_word (behind s rest)
 behind_word s [] other = refl
 behind_word s (c ∷ cs) other = elim (cases_eq c 32) [
   | inl space ↦
@@ -137,7 +147,8 @@ behind_word s (c ∷ cs) other = elim (cases_eq c 32) [
 ]
 
 -- the words behind the word are those behind its separator
-later_behind : (s : ℕ) (rest after : List ℕ) → s ≢ 32 → behind s rest ≡ Some after → words_later rest ≡ words_later after
+later_behind : (s : ℕ) (rest after : List ℕ) → s ≢ 32 → behind s rest ≡ Some after
+    → words_later rest ≡ words_later after
 later_behind s [] after other e = let never : None ≡ Some after = e in absurd (cc)
 later_behind s (c ∷ cs) after other e = elim (cases_eq c s) [
   | inl same ↦
@@ -151,15 +162,19 @@ later_behind s (c ∷ cs) after other e = elim (cases_eq c s) [
 ]
 
 -- what is read of a number goes on alike
-same_rest : {A B : Type 0} (o : Option A) (f g : A → Option B) → ((x : A) → f x ≡ g x) → (o >>= λ x. f x) ≡ (o >>= λ x. g x)
+same_rest : {A B : Type 0} (o : Option A) (f g : A → Option B) → ((x : A) → f x ≡ g x)
+    → (o >>= λ x. f x) ≡ (o >>= λ x. g x)
 same_rest None f g e = refl
 same_rest (Some x) f g e = e x
 
 -- the first word is two numbers where it ends behind the second; `o` is what is behind the first
 -- separator
-pub pair_end : {A : Type 0} (s limit : ℕ) (text : List ℕ) (make : ℕ → ℕ → List (List ℕ) → Option A) (o : Option (List ℕ)) → digit_of s ≡ None → s ≢ 32 → behind s (after_digits text) ≡ o
+pub pair_end : {A : Type 0} (s limit : ℕ) (text : List ℕ) (make : ℕ → ℕ → List (List ℕ) → Option A)
+    (o : Option (List ℕ)) → digit_of s ≡ None → s ≢ 32 → behind s (after_digits text) ≡ o
     → two_of limit (λ d n. make d n (words_later text)) (split s (first_word text))
-    ≡ (number_at limit text >>= λ (d : ℕ × List ℕ). behind s d.1 >>= λ rest. number_at 18446744073709551615 rest >>= λ (n : ℕ × List ℕ). words_behind n.1 >>= λ later. make d.0 n.0 later)
+    ≡ (number_at limit text >>= λ (d : ℕ × List ℕ). behind s d.1
+    >>= λ rest. number_at 18446744073709551615 rest >>= λ (n : ℕ × List ℕ). words_behind n.1
+    >>= λ later. make d.0 n.0 later)
 unfolding number_at
 pair_end s limit text make None none other e =
     let digits = number_up_to limit (leading_digits text) in

@@ -41,7 +41,8 @@ Rows state number [] last = last ≡ state
 Rows state number (row ∷ rest) last =
     (next : ModelState) × LineAnswered state number (meaning row.0) row.1 next × Rows next (number + 1) rest last
 
-printed : (state last : ModelState) (number : ℕ) (table : List (List ℕ × List ℕ)) → Rows state number table last → PrintedFrom state number (said table) (answers table) last
+printed : (state last : ModelState) (number : ℕ) (table : List (List ℕ × List ℕ))
+    → Rows state number table last → PrintedFrom state number (said table) (answers table) last
 printed state last number [] rows = (refl, rows)
 printed state last number (row ∷ rest) rows = (row.1, answers rest, rows.0, rows.1, printed rows.0 last (number + 1) rest rows.2, refl)
 
@@ -173,7 +174,11 @@ brought_table =
     ∷ (codes "horizon 2 0", codes "horizon 9\n")
     ∷ []
 
-brought : Printed (both (has 0 (at 1 20 1 ∷ [])) (has 0 (at 1 8 2 ∷ at 1 9 2 ∷ [])) []) (codes "horizon 1 9\nsend 1 1\ndeliver 2 1\nshow 2\nhorizon 2 0") (codes "horizon 9\nframe 1\ntook 0\n0:1 last 20@1 prev 9@2\nend 1\nhorizon 9\n") (both (has 9 (at 1 20 1 ∷ [])) (has 9 (at 1 8 2 ∷ at 1 9 2 ∷ at 1 20 1 ∷ [])) (newer_frame ∷ []))
+brought : Printed (both (has 0 (at 1 20 1 ∷ [])) (has 0 (at 1 8 2 ∷ at 1 9 2 ∷ [])) [])
+    (codes "horizon 1 9\nsend 1 1\ndeliver 2 1\nshow 2\nhorizon 2 0")
+    (codes "horizon 9\nframe 1\ntook 0\n0:1 last 20@1 prev 9@2\nend 1\nhorizon 9\n")
+    (both (has 9 (at 1 20 1 ∷ [])) (has 9 (at 1 8 2 ∷ at 1 9 2 ∷ at 1 20 1 ∷ []))
+    (newer_frame ∷ []))
 unfolding meaning line_of commands words number_up_to number_field after_field send_of deliver_of horizon_of show_of history digits
 brought = printed (both (has 0 (at 1 20 1 ∷ [])) (has 0 (at 1 8 2 ∷ at 1 9 2 ∷ [])) []) (both (has 9 (at 1 20 1 ∷ [])) (has 9 (at 1 8 2 ∷ at 1 9 2 ∷ at 1 20 1 ∷ [])) (newer_frame ∷ [])) 1 brought_table (
   both (has 9 (at 1 20 1 ∷ [])) (has 0 (at 1 8 2 ∷ at 1 9 2 ∷ [])) [],
@@ -212,7 +217,10 @@ sent_then_forgotten_table =
     ∷ (codes "show 2", codes "end 0\n")
     ∷ []
 
-sent_then_forgotten : Printed (both (has 0 []) (has 0 []) []) (codes "ref 1 1 0:1 10\nflush 1 1\nsend 1 1\ndeliver 2 1\nhorizon 2 50\nshow 2") (codes "ok\nok\nframe 1\ntook 0\nhorizon 50\nend 0\n") (both (has 0 (at 1 10 1 ∷ [])) (has 50 (at 1 10 1 ∷ [])) (entry_frame ∷ []))
+sent_then_forgotten : Printed (both (has 0 []) (has 0 []) [])
+    (codes "ref 1 1 0:1 10\nflush 1 1\nsend 1 1\ndeliver 2 1\nhorizon 2 50\nshow 2")
+    (codes "ok\nok\nframe 1\ntook 0\nhorizon 50\nend 0\n")
+    (both (has 0 (at 1 10 1 ∷ [])) (has 50 (at 1 10 1 ∷ [])) (entry_frame ∷ []))
 unfolding meaning line_of commands words number_up_to page_of_word number_field page_field after_field refer_of flush_of send_of deliver_of horizon_of show_of history digits
 sent_then_forgotten = printed (both (has 0 []) (has 0 []) []) (both (has 0 (at 1 10 1 ∷ [])) (has 50 (at 1 10 1 ∷ [])) (entry_frame ∷ [])) 1 sent_then_forgotten_table (
   both (one no_pool (kept 0 []) (at 1 10 1 ∷ [])) (has 0 []) [],
@@ -255,7 +263,13 @@ requested_table =
     ∷ (codes "horizon 1 0", codes "horizon 50\n")
     ∷ []
 
-requested : (digests : List (List ℕ)) → IsDiffering digests (history_of_entries_at 50 []) 2 → Printed (both (has 0 (at 1 10 1 ∷ [])) (has 50 (at 1 10 1 ∷ [])) (entry_frame ∷ Digests 1 0 digests ∷ [])) (codes "deliver 2 2\ndeliver 1 3\nshow 1\nhorizon 1 0") (codes "took 1 from 3\ntook 0\nend 0\nhorizon 50\n") (both (has 50 (at 1 10 1 ∷ [])) (has 50 (at 1 10 1 ∷ [])) (entry_frame ∷ Digests 1 0 digests ∷ request_frame ∷ []))
+requested : (digests : List (List ℕ)) → IsDiffering digests (history_of_entries_at 50 []) 2
+    → Printed (both (has 0 (at 1 10 1 ∷ [])) (has 50 (at 1 10 1 ∷ []))
+    (entry_frame ∷ Digests 1 0 digests ∷ []))
+    (codes "deliver 2 2\ndeliver 1 3\nshow 1\nhorizon 1 0")
+    (codes "took 1 from 3\ntook 0\nend 0\nhorizon 50\n")
+    (both (has 50 (at 1 10 1 ∷ [])) (has 50 (at 1 10 1 ∷ []))
+    (entry_frame ∷ Digests 1 0 digests ∷ request_frame ∷ []))
 unfolding meaning line_of commands words number_up_to number_field deliver_of horizon_of show_of history requested_buckets digits
 requested digests differ = printed (both (has 0 (at 1 10 1 ∷ [])) (has 50 (at 1 10 1 ∷ [])) (entry_frame ∷ Digests 1 0 digests ∷ [])) (both (has 50 (at 1 10 1 ∷ [])) (has 50 (at 1 10 1 ∷ [])) (entry_frame ∷ Digests 1 0 digests ∷ request_frame ∷ [])) 1 requested_table (
   both (has 0 (at 1 10 1 ∷ [])) (has 50 (at 1 10 1 ∷ [])) (entry_frame ∷ Digests 1 0 digests ∷ request_frame ∷ []),
@@ -301,7 +315,10 @@ wide_table =
     ∷ (codes "pin 1 0:4294967296", codes "refused 5 NoPage\n")
     ∷ []
 
-wide : Printed (both (knows []) (knows []) []) (codes "ref 1 1 0:4294967296 5\nflush 1 1\nsend 1 0\ndeliver 2 1\nshow 2\npin 1 0:4294967296") (codes "ok\nok\nframe 1\ntook 0\n0:4294967296 last 5@1\nend 1\nrefused 5 NoPage\n") (both (knows (wide_reference ∷ [])) (knows (wide_reference ∷ [])) (wide_frame ∷ []))
+wide : Printed (both (knows []) (knows []) [])
+    (codes "ref 1 1 0:4294967296 5\nflush 1 1\nsend 1 0\ndeliver 2 1\nshow 2\npin 1 0:4294967296")
+    (codes "ok\nok\nframe 1\ntook 0\n0:4294967296 last 5@1\nend 1\nrefused 5 NoPage\n")
+    (both (knows (wide_reference ∷ [])) (knows (wide_reference ∷ [])) (wide_frame ∷ []))
 unfolding meaning line_of commands words number_up_to page_of_word number_field page_field after_field refer_of flush_of send_of deliver_of pin_of show_of history digits
 wide = printed (both (knows []) (knows []) []) (both (knows (wide_reference ∷ [])) (knows (wide_reference ∷ [])) (wide_frame ∷ [])) 1 wide_table (
   both (one small (kept 0 []) (wide_reference ∷ [])) (knows []) [],

@@ -11,19 +11,23 @@ use Rattle.warm_schedule.specs.Printed.{LineAnswered, PrintedFrom}
 use Rattle.warm_schedule.specs.Laws.{LineIs, LinesAre}
 
 -- the events of lines, answered so, and the run by them
-pub record RunOfLines (state : ModelState) (number : ℕ) (rest : List (List ℕ)) (out : List ℕ) (last : ModelState) : Type 0 where
+pub record RunOfLines (state : ModelState) (number : ℕ) (rest : List (List ℕ)) (out : List ℕ)
+    (last : ModelState) : Type 0 where
   pub events : List Event
   pub answers : List Answer
   pub lines_are : LinesAre number rest events answers out
   pub run : Run state events answers last
 
 -- a run from the same state
-run_from : (a b : ModelState) (events : List Event) (answers : List Answer) (last : ModelState) → b ≡ a → Run b events answers last → Run a events answers last
+run_from : (a b : ModelState) (events : List Event) (answers : List Answer) (last : ModelState)
+    → b ≡ a → Run b events answers last → Run a events answers last
 run_from a b events answers last same run = subst (λ (m : ModelState). Run m events answers last) same run
 
 -- one line before others
-line_first : (state next last : ModelState) (number : ℕ) (said : Option Line) (line : List ℕ) (rest : List (List ℕ)) (front back : List ℕ) → said ≡ meaning line
-    → LineAnswered state number said front next → RunOfLines next (number + 1) rest back last → RunOfLines state number (line ∷ rest) (front ++ back) last
+line_first : (state next last : ModelState) (number : ℕ) (said : Option Line) (line : List ℕ)
+    (rest : List (List ℕ)) (front back : List ℕ) → said ≡ meaning line
+    → LineAnswered state number said front next → RunOfLines next (number + 1) rest back last
+    → RunOfLines state number (line ∷ rest) (front ++ back) last
 line_first state next last number None line rest front back is answered r = record {
   events = r.events;
   answers = r.answers;
@@ -49,7 +53,8 @@ line_first state next last number (Some (meant.Event event)) line rest front bac
   run = run_from state next r.events r.answers last refused.2 r.run;
 }
 
-pub run_of_lines : (state last : ModelState) (number : ℕ) (rest : List (List ℕ)) (out : List ℕ) → PrintedFrom state number rest out last → RunOfLines state number rest out last
+pub run_of_lines : (state last : ModelState) (number : ℕ) (rest : List (List ℕ)) (out : List ℕ)
+    → PrintedFrom state number rest out last → RunOfLines state number rest out last
 run_of_lines state last number [] out printed = record { events = []; answers = []; lines_are = (refl, refl, printed.0); run = printed.1 }
 run_of_lines state last number (line ∷ rest) out printed =
     let later : RunOfLines printed.2 (number + 1) rest printed.1 last = run_of_lines printed.2 last (number + 1) rest printed.1 printed.4 in

@@ -6,7 +6,8 @@ use Rattle.std.proofs.lemmas.Bool.{eqb-true, eqb-false}
 use Rattle.warm_schedule.specs.Text.{split, onto_first, words}
 
 -- the first separator of a text
-pub cut_found : (separator : ℕ) (text : List ℕ) (i : ℕ) → i < length text → get_or text i 0 ≡ separator → ((k : ℕ) → k < i → get_or text k 0 ≢ separator)
+pub cut_found : (separator : ℕ) (text : List ℕ) (i : ℕ) → i < length text
+    → get_or text i 0 ≡ separator → ((k : ℕ) → k < i → get_or text k 0 ≢ separator)
     → split separator text ≡ take i text ∷ split separator (drop (suc i) text)
 cut_found s [] i lt here before = absurd (omega arith)
 cut_found s (c ∷ cs) zero lt here before = rw (eq-eqb c s here) refl
@@ -16,7 +17,8 @@ cut_found s (c ∷ cs) (suc i) lt here before =
     rw (ne_eqb c s other, rest) refl
 
 -- a text without a separator
-pub cut_none : (separator : ℕ) (text : List ℕ) → ((k : ℕ) → k < length text → get_or text k 0 ≢ separator) → split separator text ≡ text ∷ []
+pub cut_none : (separator : ℕ) (text : List ℕ)
+    → ((k : ℕ) → k < length text → get_or text k 0 ≢ separator) → split separator text ≡ text ∷ []
 cut_none s [] none = refl
 cut_none s (c ∷ cs) none =
     let other : c ≢ s = none 0 (omega arith) in
@@ -24,17 +26,20 @@ cut_none s (c ∷ cs) none =
     rw (ne_eqb c s other, rest) refl
 
 -- an empty piece is no word
-pub words_skip : (line piece after : List ℕ) → split 32 line ≡ piece ∷ split 32 after → length piece ≡ 0 → words line ≡ words after
+pub words_skip : (line piece after : List ℕ) → split 32 line ≡ piece ∷ split 32 after
+    → length piece ≡ 0 → words line ≡ words after
 unfolding words
 words_skip line [] after e none = rw e refl
 words_skip line (c ∷ cs) after e none = absurd (omega arith)
 
-pub words_first : (line piece after : List ℕ) → split 32 line ≡ piece ∷ split 32 after → 0 < length piece → words line ≡ piece ∷ words after
+pub words_first : (line piece after : List ℕ) → split 32 line ≡ piece ∷ split 32 after
+    → 0 < length piece → words line ≡ piece ∷ words after
 unfolding words
 words_first line [] after e some = absurd (omega arith)
 words_first line (c ∷ cs) after e some = rw e refl
 
-pub words_last : (line : List ℕ) → split 32 line ≡ line ∷ [] → 0 < length line → words line ≡ line ∷ words []
+pub words_last : (line : List ℕ) → split 32 line ≡ line ∷ [] → 0 < length line
+    → words line ≡ line ∷ words []
 unfolding words
 words_last [] e some = absurd (omega arith)
 words_last (c ∷ cs) e some = rw e refl
@@ -45,7 +50,8 @@ words_none [] e = refl
 words_none (c ∷ cs) e = absurd (omega arith)
 
 -- the code's range from behind a separator to the end
-pub rest_is : (text : List ℕ) (i : ℕ) → take (length text - (i + 1)) (drop (i + 1) text) ≡ drop (suc i) text
+pub rest_is : (text : List ℕ) (i : ℕ)
+    → take (length text - (i + 1)) (drop (i + 1) text) ≡ drop (suc i) text
 rest_is text i = rw add-one (take_all (length text - suc i) (drop (suc i) text) (omega (arith, length-drop (suc i) text)))
 
 pub no_bytes : (b : Bool) (xs : List ℕ) → b ≡ eqb (length xs) 0 → b ≡ true → length xs ≡ 0
@@ -55,14 +61,19 @@ pub some_bytes : (b : Bool) (xs : List ℕ) → b ≡ eqb (length xs) 0 → b �
 some_bytes b xs e is = let other : length xs ≢ 0 = eqb-false _ _ (sym e ∙ is) in omega arith
 
 -- there is always a piece
-onto_some : (c : ℕ) (ps : List (List ℕ)) → (piece : List ℕ) × (pieces : List (List ℕ)) × (onto_first c ps ≡ piece ∷ pieces)
+onto_some : (c : ℕ) (ps : List (List ℕ))
+    → (piece : List ℕ) × (pieces : List (List ℕ)) × (onto_first c ps ≡ piece ∷ pieces)
 onto_some c [] = (c ∷ [], [], refl)
 onto_some c (p ∷ ps) = (c ∷ p, ps, refl)
 
-cond_some_piece : (b : Bool) (xs ys : List (List ℕ)) → ((piece : List ℕ) × (pieces : List (List ℕ)) × (xs ≡ piece ∷ pieces)) → ((piece : List ℕ) × (pieces : List (List ℕ)) × (ys ≡ piece ∷ pieces)) → (piece : List ℕ) × (pieces : List (List ℕ)) × (cond b xs ys ≡ piece ∷ pieces)
+cond_some_piece : (b : Bool) (xs ys : List (List ℕ))
+    → ((piece : List ℕ) × (pieces : List (List ℕ)) × (xs ≡ piece ∷ pieces))
+    → ((piece : List ℕ) × (pieces : List (List ℕ)) × (ys ≡ piece ∷ pieces))
+    → (piece : List ℕ) × (pieces : List (List ℕ)) × (cond b xs ys ≡ piece ∷ pieces)
 cond_some_piece true xs ys h k = h
 cond_some_piece false xs ys h k = k
 
-pub first_of_split : (s : ℕ) (text : List ℕ) → (piece : List ℕ) × (pieces : List (List ℕ)) × (split s text ≡ piece ∷ pieces)
+pub first_of_split : (s : ℕ) (text : List ℕ)
+    → (piece : List ℕ) × (pieces : List (List ℕ)) × (split s text ≡ piece ∷ pieces)
 first_of_split s [] = ([], [], refl)
 first_of_split s (c ∷ cs) = cond_some_piece (eqb c s) ([] ∷ split s cs) (onto_first c (split s cs)) ([], split s cs, refl) (onto_some c (split s cs))

@@ -43,7 +43,8 @@ use Rattle.warm_schedule.specs.declared.parse.LineFault.TheVariants.{Memory, Bad
 -- ---- the line that has begun, as it is held
 
 -- more bytes of a line of which the first `most` are held
-held_more : (most : ℕ) (held line piece : List ℕ) → held ≡ take most line → held ++ take (most - length held) piece ≡ take most (line ++ piece)
+held_more : (most : ℕ) (held line piece : List ℕ) → held ≡ take most line
+    → held ++ take (most - length held) piece ≡ take most (line ++ piece)
 held_more most held line piece is = elim (cases_lt (length held) most) [
   | inl under ↦
       let short : length line < most = omega (arith, ap (λ (xs : List ℕ). length xs) is, length-take most line, under) in
@@ -60,7 +61,8 @@ is_line_more : (line piece : List ℕ) → IsLine line → IsLine piece → IsLi
 is_line_more [] piece h more = more
 is_line_more (c ∷ cs) piece h more = (h.0, is_line_more cs piece h.1 more)
 
-pub holds_more : (held line piece : List ℕ) → IsLine piece → HoldsLine held line → HoldsLine (held ++ take (MAX_LINE + 1 - length held) piece) (line ++ piece)
+pub holds_more : (held line piece : List ℕ) → IsLine piece → HoldsLine held line
+    → HoldsLine (held ++ take (MAX_LINE + 1 - length held) piece) (line ++ piece)
 holds_more held line piece more h = record { held_is = held_more (MAX_LINE + 1) held line piece h.held_is; is_line = is_line_more line piece h.is_line more }
 
 take_least : (most : ℕ) (piece : List ℕ) → take (min (length piece) most) piece ≡ take most piece
@@ -75,7 +77,9 @@ take_least most piece = elim (cases_lt most (length piece)) [
 ]
 
 -- bytes are held as they come, up to one more than a line may have
-pub adds_held : (a b : SessionView) (piece : List ℕ) (left kept : ℕ) → IsLine piece → b.world ≡ a.world → b.number ≡ a.number → left ≡ MAX_LINE + 1 - length a.held → kept ≡ min (length piece) left
+pub adds_held : (a b : SessionView) (piece : List ℕ) (left kept : ℕ) → IsLine piece
+    → b.world ≡ a.world → b.number ≡ a.number → left ≡ MAX_LINE + 1 - length a.held
+    → kept ≡ min (length piece) left
     → b.held ≡ a.held ++ take kept piece → AddsBytes a piece b
 adds_held a b piece left kept more world number left_is least held =
     let taken : take kept piece ≡ take (MAX_LINE + 1 - length a.held) piece = ap (λ (n : ℕ). take n piece) least ∙ take_least left piece ∙ ap (λ (n : ℕ). take n piece) left_is in
@@ -130,21 +134,24 @@ read_line said l is = sym (ok_of_ok_or said) ∙ ap result_ok (sym is)
 pub read_bad : (said : Option Line) → Err Bad ≡ ok_or said Bad → said ≡ None
 read_bad said is = sym (ok_of_ok_or said) ∙ ap result_ok (sym is)
 
-pub read_put : (said : Option Line) → MatchOption said ⊥ PutsBytes → (event : Event) × (said ≡ Some (meant.Event event)) × IsPut event
+pub read_put : (said : Option Line) → MatchOption said ⊥ PutsBytes
+    → (event : Event) × (said ≡ Some (meant.Event event)) × IsPut event
 read_put None puts = absurd puts
 read_put (Some meant.Nothing) puts = absurd puts
 read_put (Some (meant.Event event)) puts = (event, refl, puts)
 
 -- ---- what was written
 
-pub Appends-kept : (a b c : Option (List ℕ)) (x : List ℕ) → Appends a b x → Keeps b c → Appends a c x
+pub Appends-kept : (a b c : Option (List ℕ)) (x : List ℕ) → Appends a b x → Keeps b c
+    → Appends a c x
 Appends-kept None b c x h k = tt
 Appends-kept (Some xs) None c x h k = absurd h
 Appends-kept (Some xs) (Some ys) None x h k = absurd k
 Appends-kept (Some xs) (Some ys) (Some zs) x h k = k ∙ h
 
 -- what a last call writes comes after what was written before it
-pub written_then : {A E : Type 0} (r : Result A E) (a b c : Option (List ℕ)) (x y : List ℕ) → Appends a b x → OnOk r (Appends b c y) → OnOk r (Appends a c (x ++ y))
+pub written_then : {A E : Type 0} (r : Result A E) (a b c : Option (List ℕ)) (x y : List ℕ)
+    → Appends a b x → OnOk r (Appends b c y) → OnOk r (Appends a c (x ++ y))
 written_then (Ok v) a b c x y h k = Appends-then a b c x y h k
 written_then (Err e) a b c x y h k = tt
 
@@ -173,7 +180,8 @@ pub Goes-none : (s : SessionView) → ReadsOn s [] [] s
 unfolding ReadsOn
 Goes-none s = λ state begun h. (state, begun, h, λ tail rest last printed. printed)
 
-pub Goes-then : (a b c : SessionView) (x y o q : List ℕ) → ReadsOn a x o b → ReadsOn b y q c → ReadsOn a (x ++ y) (o ++ q) c
+pub Goes-then : (a b c : SessionView) (x y o q : List ℕ) → ReadsOn a x o b → ReadsOn b y q c
+    → ReadsOn a (x ++ y) (o ++ q) c
 unfolding ReadsOn
 Goes-then a b c x y o q ab bc = λ state begun h.
     let first = ab state begun h in
@@ -207,7 +215,9 @@ pub no_line : (held : List ℕ) → held ≡ [] → HoldsLine held []
 no_line held none = record { held_is = none; is_line = tt }
 
 -- the same line answers the same
-said_so : (old : ModelState) (number : ℕ) (read said : Option Line) (out : List ℕ) (new : ModelState) → read ≡ said → LineAnswered old number read out new → LineAnswered old number said out new
+said_so : (old : ModelState) (number : ℕ) (read said : Option Line) (out : List ℕ)
+    (new : ModelState) → read ≡ said → LineAnswered old number read out new
+    → LineAnswered old number said out new
 said_so old number read said out new e answered = subst (λ (o : Option Line). LineAnswered old number o out new) e answered
 
 -- the line that has begun and ends with these bytes was answered by this
@@ -216,13 +226,15 @@ AnswersBegun old piece out world = (state : ModelState) (begun : List ℕ) → S
     → (next : ModelState) × StandsFor world next × LineAnswered state old.number (meaning (begun ++ piece)) out next
 
 -- a line that stands whole in its last bytes
-pub answers_whole : (a : SessionView) (piece out : List ℕ) (w : WorldView) → length a.held ≡ 0 → AnswersLine a.world a.number piece out w → AnswersBegun a piece out w
+pub answers_whole : (a : SessionView) (piece out : List ℕ) (w : WorldView) → length a.held ≡ 0
+    → AnswersLine a.world a.number piece out w → AnswersBegun a piece out w
 answers_whole a piece out w none answered = λ state begun h.
     let next = answered state h.stands in
     (next.0, next.1, rw (none_begun a.held begun none h.begun) next.2)
 
 -- a line that is held when its last bytes have come
-pub answers_held : (a b : SessionView) (piece out : List ℕ) (w : WorldView) → AddsBytes a piece b → AnswersLine b.world b.number b.held out w → AnswersBegun a piece out w
+pub answers_held : (a b : SessionView) (piece out : List ℕ) (w : WorldView) → AddsBytes a piece b
+    → AnswersLine b.world b.number b.held out w → AnswersBegun a piece out w
 answers_held a b piece out w adds answered = λ state begun h.
     let next = answered state (stands_too a.world b.world state adds.world h.stands) in
     let means : meaning b.held ≡ meaning (begun ++ piece) = says b.held (begun ++ piece) (adds.begun begun h.begun) in
@@ -230,7 +242,9 @@ answers_held a b piece out w adds answered = λ state begun h.
     (next.0, next.1, said_so state a.number (meaning b.held) (meaning (begun ++ piece)) out next.0 means numbered)
 
 -- the end of a line
-pub Goes-end : (a b : SessionView) (piece out : List ℕ) → IsLine piece → AnswersBegun a piece out b.world → b.number ≡ a.number + 1 → b.held ≡ [] → ReadsOn a (piece ++ 10 ∷ []) out b
+pub Goes-end : (a b : SessionView) (piece out : List ℕ) → IsLine piece
+    → AnswersBegun a piece out b.world → b.number ≡ a.number + 1 → b.held ≡ []
+    → ReadsOn a (piece ++ 10 ∷ []) out b
 unfolding ReadsOn
 Goes-end a b piece out line answered number none = λ state begun h.
     let next = answered state begun h in
@@ -246,10 +260,12 @@ Goes-end a b piece out line answered number none = λ state begun h.
 -- ---- a line, answered
 
 -- the same line is answered the same
-pub answers_same : (w v : WorldView) (number : ℕ) (line other out : List ℕ) → line ≡ other → AnswersLine w number line out v → AnswersLine w number other out v
+pub answers_same : (w v : WorldView) (number : ℕ) (line other out : List ℕ) → line ≡ other
+    → AnswersLine w number line out v → AnswersLine w number other out v
 answers_same w v number line other out same answered = subst (λ (xs : List ℕ). AnswersLine w number xs out v) same answered
 
-module _ (line : List ℕ) (read : Result Line LineFault) (reads : Reads PutsBytes (meaning line) read) where
+module _ (line : List ℕ) (read : Result Line LineFault)
+    (reads : Reads PutsBytes (meaning line) read) where
   read_as : (made : Result Line LineFault) → read ≡ made → Reads PutsBytes (meaning line) made
   read_as made is = subst (λ (r : Result Line LineFault). Reads PutsBytes (meaning line) r) is reads
 
@@ -259,7 +275,8 @@ module _ (line : List ℕ) (read : Result Line LineFault) (reads : Reads PutsByt
   pub was_line : (l : Line) → read ≡ Ok l → Some l ≡ meaning line
   was_line l is = sym (read_line (meaning line) l (read_as (Ok l) is))
 
-  pub was_put : read ≡ Err Memory → (event : Event) × (Some (meant.Event event) ≡ meaning line) × IsPut event
+  pub was_put : read ≡ Err Memory
+      → (event : Event) × (Some (meant.Event event) ≡ meaning line) × IsPut event
   was_put is =
       let put = read_put (meaning line) (read_as (Err Memory) is) in
       (put.0, sym put.1, put.2)
@@ -271,16 +288,20 @@ module _ (world : WorldView) (number : ℕ) (line : List ℕ) where
   pub answers_nothing : Some meant.Nothing ≡ meaning line → AnswersLine world number line [] world
   answers_nothing means = λ state stands. (state, stands, said_so state number (Some meant.Nothing) _ _ state means (refl, refl))
 
-  pub answers_event : (event : Event) (answer : Answer) (w : WorldView) → Some (meant.Event event) ≡ meaning line → Steps world event answer w → AnswersLine world number line (answer_text answer) w
+  pub answers_event : (event : Event) (answer : Answer) (w : WorldView)
+      → Some (meant.Event event) ≡ meaning line → Steps world event answer w
+      → AnswersLine world number line (answer_text answer) w
   answers_event event answer w means steps = λ state stands.
       let step = steps state stands in
       (step.new, step.stands, said_so state number (Some (meant.Event event)) _ _ step.new means (inl (answer, step.next, refl)))
 
-  pub answers_no_memory : ((event : Event) × (Some (meant.Event event) ≡ meaning line) × IsPut event) → AnswersLine world number line (refused_text (Node node_fault.Memory)) world
+  pub answers_no_memory : ((event : Event) × (Some (meant.Event event) ≡ meaning line)
+      × IsPut event) → AnswersLine world number line (refused_text (Node node_fault.Memory)) world
   answers_no_memory put = λ state stands. (state, stands, said_so state number (Some (meant.Event put.0)) _ _ state put.1 (inr (put.2, refl, refl)))
 
 -- the last line is answered, and then it is the end
-pub Ends-answer : (a : SessionView) (out more : List ℕ) (w : WorldView) → AnswersLine a.world a.number a.held out w → PrintsEnding w more → Ends a out more
+pub Ends-answer : (a : SessionView) (out more : List ℕ) (w : WorldView)
+    → AnswersLine a.world a.number a.held out w → PrintsEnding w more → Ends a out more
 unfolding Ends
 Ends-answer a out more w answered settles = λ state begun h.
     let next = answered state h.stands in
@@ -289,7 +310,8 @@ Ends-answer a out more w answered settles = λ state begun h.
     (next.0, printed, settles next.0 out next.1)
 
 -- the devices did not take what waited for them
-pub settles_ill : (old new : WorldView) (why : NodeFault) → FinishFails old why new → PrintsEnding old end_refused
+pub settles_ill : (old new : WorldView) (why : NodeFault) → FinishFails old why new
+    → PrintsEnding old end_refused
 settles_ill old new why fails = λ m answers stands.
     let k : ℕ = fails.1.replica in
     let none : ReplicaView = record { node = record { id = 0; history = history_of_entries []; pool = no_pool }; buffers = [] } in
@@ -310,16 +332,20 @@ settles_ill old new why fails = λ m answers stands.
     )
 
 -- the same bytes
-pub Goes-bytes : (a b : SessionView) (x y out : List ℕ) → x ≡ y → ReadsOn a x out b → ReadsOn a y out b
+pub Goes-bytes : (a b : SessionView) (x y out : List ℕ) → x ≡ y → ReadsOn a x out b
+    → ReadsOn a y out b
 Goes-bytes a b x y out same goes = subst (λ (bytes : List ℕ). ReadsOn a bytes out b) same goes
 
 -- what was printed before is printed first
-ends_after : (m : ModelState) (first answers out : List ℕ) → EndsIn m answers out → EndsIn m (first ++ answers) (first ++ out)
+ends_after : (m : ModelState) (first answers out : List ℕ) → EndsIn m answers out
+    → EndsIn m (first ++ answers) (first ++ out)
 ends_after m first answers out (inl same) = inl (ap (λ (xs : List ℕ). first ++ xs) same)
 ends_after m first answers out (inr refused) = inr (refused.0, ap (λ (xs : List ℕ). first ++ xs) refused.1 ∙ sym (append_assoc first answers end_refused))
 
 -- a session that was fresh and reached the end of the input
-pub Goes-whole : (a b : SessionView) (state : ModelState) (bytes out answers closing : List ℕ) → ReadsOn a bytes out b → Ends b answers closing → SessionStands a state [] → a.number ≡ 1 → Played state bytes (out ++ (answers ++ closing))
+pub Goes-whole : (a b : SessionView) (state : ModelState) (bytes out answers closing : List ℕ)
+    → ReadsOn a bytes out b → Ends b answers closing → SessionStands a state [] → a.number ≡ 1
+    → Played state bytes (out ++ (answers ++ closing))
 unfolding ReadsOn Ends
 Goes-whole a b state bytes out answers closing goes ends fresh first =
     let g = goes state [] fresh in
@@ -338,19 +364,22 @@ pub Consumes-none : (old : Option (List ℕ)) → Consumes old old []
 Consumes-none None = tt
 Consumes-none (Some xs) = refl
 
-pub Consumes-then : (a b c : Option (List ℕ)) (x y : List ℕ) → Consumes a b x → Consumes b c y → Consumes a c (x ++ y)
+pub Consumes-then : (a b c : Option (List ℕ)) (x y : List ℕ) → Consumes a b x → Consumes b c y
+    → Consumes a c (x ++ y)
 Consumes-then None b c x y h k = tt
 Consumes-then (Some xs) None c x y h k = absurd h
 Consumes-then (Some xs) (Some ys) None x y h k = absurd k
 Consumes-then (Some xs) (Some ys) (Some zs) x y h k = h ∙ ap (λ (t : List ℕ). x ++ t) k ∙ sym (append_assoc x y zs)
 
 -- all was read
-pub Consumes-all : (old new : Option (List ℕ)) (seen : List ℕ) → Consumes old new seen → IsAtEnd new → IfSome old (λ text. text ≡ seen)
+pub Consumes-all : (old new : Option (List ℕ)) (seen : List ℕ) → Consumes old new seen → IsAtEnd new
+    → IfSome old (λ text. text ≡ seen)
 Consumes-all None new seen h e = tt
 Consumes-all (Some xs) None seen h e = absurd h
 Consumes-all (Some xs) (Some ys) seen h e = h ∙ ap (λ (t : List ℕ). seen ++ t) e ∙ append-nil seen
 
-pub if_some_map : {A : Type 0} (o : Option A) (P Q : A → Type 0) → ((x : A) → P x → Q x) → IfSome o P → IfSome o Q
+pub if_some_map : {A : Type 0} (o : Option A) (P Q : A → Type 0) → ((x : A) → P x → Q x)
+    → IfSome o P → IfSome o Q
 if_some_map None P Q f h = tt
 if_some_map (Some x) P Q f h = f x h
 
@@ -360,10 +389,12 @@ Consumes-kept (Some xs) None k = absurd k
 Consumes-kept (Some xs) (Some ys) k = sym k
 
 -- the same text
-pub Played-text : (state : ModelState) (a b out : List ℕ) → a ≡ b → Played state a out → Played state b out
+pub Played-text : (state : ModelState) (a b out : List ℕ) → a ≡ b → Played state a out
+    → Played state b out
 Played-text state a b out same played = subst (λ (text : List ℕ). Played state text out) same played
 
 -- over devices that fit, what stops a play is why it does not reach its end
-pub stopped_play : (setup : Sizes) (devices : List (List DeviceState)) (why : PlayFault) → AreFitting setup devices → StopsPlay why → PlayRefused setup devices why
+pub stopped_play : (setup : Sizes) (devices : List (List DeviceState)) (why : PlayFault)
+    → AreFitting setup devices → StopsPlay why → PlayRefused setup devices why
 stopped_play setup devices play_fault.BadDevices fits stops = absurd stops
 stopped_play setup devices why fits stops = (fits, stops)

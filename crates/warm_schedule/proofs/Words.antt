@@ -75,24 +75,29 @@ pieces_after (c ∷ cs) = elim (cases_Bool (is_digit c)) [
 pub later_is : (text rest : List ℕ) → after_digits text ≡ rest → words_later text ≡ words_later rest
 later_is text rest e = ap (filter has_bytes) (sym (pieces_after text) ∙ ap pieces_behind e)
 
-word_is_digits : (text : List ℕ) → first_word (after_digits text) ≡ [] → first_word text ≡ leading_digits text
+word_is_digits : (text : List ℕ) → first_word (after_digits text) ≡ []
+    → first_word text ≡ leading_digits text
 word_is_digits text e = sym (all_digits (first_word text) (word_after text ∙ e)) ∙ word_digits text
 
 -- ---- what is read of a number and of what follows it
 
 -- what follows the number is looked at, and then both are used
-pub looks_on : {A B : Type 0} (look : List ℕ → Option B) (make : ℕ → B → Option A) (number : Option ℕ) (rest : List ℕ) (found : Option B) → look rest ≡ found
-    → (number >>= λ n. found >>= λ b. make n b) ≡ (option_map (λ n. (n, rest)) number >>= λ (x : ℕ × List ℕ). look x.1 >>= λ b. make x.0 b)
+pub looks_on : {A B : Type 0} (look : List ℕ → Option B) (make : ℕ → B → Option A)
+    (number : Option ℕ) (rest : List ℕ) (found : Option B) → look rest ≡ found
+    → (number >>= λ n. found >>= λ b. make n b)
+    ≡ (option_map (λ n. (n, rest)) number >>= λ (x : ℕ × List ℕ). look x.1 >>= λ b. make x.0 b)
 looks_on look make None rest found e = refl
 looks_on look make (Some n) rest found e = sym (ap (λ (o : Option _). o >>= λ b. make n b) e)
 
-pub nothing_then : {A B : Type 0} (o : Option A) (none : A → Option B) → ((a : A) → none a ≡ None) → None ≡ (o >>= λ a. none a)
+pub nothing_then : {A B : Type 0} (o : Option A) (none : A → Option B) → ((a : A) → none a ≡ None)
+    → None ≡ (o >>= λ a. none a)
 nothing_then None none h = refl
 nothing_then (Some a) none h = sym (h a)
 
 -- the first word spells the number of its digits where the word ends behind them
 pub number_end : {A : Type 0} (limit : ℕ) (text : List ℕ) (make : ℕ → List (List ℕ) → Option A)
-    → (number_up_to limit (first_word text) >>= λ n. make n (words_later text)) ≡ (number_at limit text >>= λ (x : ℕ × List ℕ). words_behind x.1 >>= λ later. make x.0 later)
+    → (number_up_to limit (first_word text) >>= λ n. make n (words_later text))
+    ≡ (number_at limit text >>= λ (x : ℕ × List ℕ). words_behind x.1 >>= λ later. make x.0 later)
 unfolding number_at words
 number_end limit text make =
     let digits = number_up_to limit (leading_digits text) in

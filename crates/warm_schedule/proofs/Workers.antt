@@ -7,6 +7,8 @@ use Rattle.warm_schedule.specs.declared.parse.Line.TheVariants as meant
 use Rattle.warm_schedule.specs.Workers.{worker_request_in}
 
 -- a put is not a request to a worker, whether its bytes are spelled or not
-pub put_is_for_no_worker : (replica : ℕ) (slot : Slot) (at : ℕ) (bytes : Option (List ℕ)) → Err (record {}) ≡ worker_request_in (option_map meant.Event (option_map (Put replica slot at) bytes))
+pub put_is_for_no_worker : (replica : ℕ) (slot : Slot) (at : ℕ) (bytes : Option (List ℕ))
+    → Err (record {}) ≡ worker_request_in
+    (option_map meant.Event (option_map (Put replica slot at) bytes))
 put_is_for_no_worker replica slot at None = refl
 put_is_for_no_worker replica slot at (Some bytes) = refl

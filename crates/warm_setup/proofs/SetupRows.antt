@@ -13,7 +13,8 @@ empty : meaning [] ≡ Ok defaults
 unfolding toml_on_literals key_by_key
 empty = refl
 
-two_frames : meaning (codes "frames = 2") ≡ Ok (record defaults { sizes = record defaults.sizes { frames = 2 } })
+two_frames : meaning (codes "frames = 2")
+    ≡ Ok (record defaults { sizes = record defaults.sizes { frames = 2 } })
 unfolding toml_on_literals key_by_key with_key number_to
 two_frames = refl
 
@@ -33,7 +34,8 @@ no_value : meaning (codes "frames =") ≡ Err NotToml
 unfolding toml_on_literals key_by_key with_key number_to
 no_value = refl
 
-file_device : meaning (codes "device = [{pages = 8, path = \"a\"}]") ≡ Ok (record defaults { devices = record { pages = 8; path = Some (codes "a") } ∷ [] })
+file_device : meaning (codes "device = [{pages = 8, path = \"a\"}]")
+    ≡ Ok (record defaults { devices = record { pages = 8; path = Some (codes "a") } ∷ [] })
 unfolding toml_on_literals key_by_key with_key number_to text_in devices_in devices_of each device_in with_device_key
 file_device = refl
 

@@ -11,35 +11,50 @@ use Rattle.warm_setup.specs.declared.command.Cmd.TheVariants.{Play, Random, Thre
 use Rattle.warm_setup.specs.Words.{command_by, number_in, argument_number, random_by, threads_by}
 use Rattle.warm_setup.specs.declared.command.Cmd.{Cmd}
 
-pub found_is : (found : Option (Text × List Row)) (name : Text) (rows : List Row) → Some name ≡ option_map (λ p. p.0) found → Some rows ≡ option_map (λ p. p.1) found → found ≡ Some (name, rows)
+pub found_is : (found : Option (Text × List Row)) (name : Text) (rows : List Row)
+    → Some name ≡ option_map (λ p. p.0) found → Some rows ≡ option_map (λ p. p.1) found
+    → found ≡ Some (name, rows)
 found_is None name rows e f = absurd cc
 found_is (Some p) name rows e f =
     let name_is : p.0 ≡ name = cc in
     let rows_are : p.1 ≡ rows = cc in
     rw (← name_is, ← rows_are) refl
 
-pub asks_play : (found : Option (Text × List Row)) (name : Text) (rows : List Row) (file setup : Option Text) → found ≡ Some (name, rows) → true ≡ bytes_eq name (codes "play")
-    → file ≡ first_of (codes "file") rows → setup ≡ first_of (codes "setup") rows → Some (Play file setup) ≡ option_and_then command_by found
+pub asks_play : (found : Option (Text × List Row)) (name : Text) (rows : List Row)
+    (file setup : Option Text) → found ≡ Some (name, rows) → true ≡ bytes_eq name (codes "play")
+    → file ≡ first_of (codes "file") rows → setup ≡ first_of (codes "setup") rows
+    → Some (Play file setup) ≡ option_and_then command_by found
 asks_play found name rows file setup is eq f s = rw (is, ← eq, f, s) refl
 
-pub asks_random : (found : Option (Text × List Row)) (name : Text) (rows : List Row) (asked : Option Cmd) → found ≡ Some (name, rows) → false ≡ bytes_eq name (codes "play") → true ≡ bytes_eq name (codes "random")
+pub asks_random : (found : Option (Text × List Row)) (name : Text) (rows : List Row)
+    (asked : Option Cmd) → found ≡ Some (name, rows) → false ≡ bytes_eq name (codes "play")
+    → true ≡ bytes_eq name (codes "random")
     → asked ≡ random_by rows → asked ≡ option_and_then command_by found
 asks_random found name rows asked is other eq by = rw (is, ← other, ← eq) by
 
-pub asks_threads : (found : Option (Text × List Row)) (name : Text) (rows : List Row) (asked : Option Cmd) → found ≡ Some (name, rows) → false ≡ bytes_eq name (codes "play") → false ≡ bytes_eq name (codes "random")
-    → true ≡ bytes_eq name (codes "threads") → asked ≡ threads_by rows → asked ≡ option_and_then command_by found
+pub asks_threads : (found : Option (Text × List Row)) (name : Text) (rows : List Row)
+    (asked : Option Cmd) → found ≡ Some (name, rows) → false ≡ bytes_eq name (codes "play")
+    → false ≡ bytes_eq name (codes "random")
+    → true ≡ bytes_eq name (codes "threads") → asked ≡ threads_by rows
+    → asked ≡ option_and_then command_by found
 asks_threads found name rows asked is other also eq by = rw (is, ← other, ← also, ← eq) by
 
-pub threads_asked : (rows : List Row) (file : Text) (setup : Option Text) → Some file ≡ first_of (codes "file") rows → setup ≡ first_of (codes "setup") rows → Some (Threads file setup) ≡ threads_by rows
+pub threads_asked : (rows : List Row) (file : Text) (setup : Option Text)
+    → Some file ≡ first_of (codes "file") rows → setup ≡ first_of (codes "setup") rows
+    → Some (Threads file setup) ≡ threads_by rows
 threads_asked rows file setup f s = rw (← f, s) refl
 
-pub random_asked : (rows : List Row) (seed events : ℕ) (setup : Option Text) → Some seed ≡ argument_number (2 ^ 64 - 1) (codes "seed") rows → Some events ≡ argument_number (2 ^ 32 - 1) (codes "events") rows → setup ≡ first_of (codes "setup") rows
+pub random_asked : (rows : List Row) (seed events : ℕ) (setup : Option Text)
+    → Some seed ≡ argument_number (2 ^ 64 - 1) (codes "seed") rows
+    → Some events ≡ argument_number (2 ^ 32 - 1) (codes "events") rows
+    → setup ≡ first_of (codes "setup") rows
     → Some (Random seed events setup) ≡ random_by rows
 random_asked rows seed events setup s e f = rw (← s, ← e, f) refl
 
 -- ---- numbers
 
-is_number : (most : ℕ) (t : Text) → is_unsigned_in 0 most t ≡ true → Some (digits_value 10 (without_leading_plus t)) ≡ number_in most t
+is_number : (most : ℕ) (t : Text) → is_unsigned_in 0 most t ≡ true
+    → Some (digits_value 10 (without_leading_plus t)) ≡ number_in most t
 unfolding number_in
 is_number most t e = rw e refl
 
@@ -48,7 +63,8 @@ unfolding number_in
 is_no_number most t e = rw e refl
 
 -- a typed getter reads the number that the definition reads
-reads_number : (E : Type 0) (G : List ℕ → Result ℕ E → Type 0) (k most : ℕ) (t : List ℕ) (r : Option ℕ) → ((u : List ℕ) (x : Result ℕ E) → G u x → ParsesUnsigned k 10 u x)
+reads_number : (E : Type 0) (G : List ℕ → Result ℕ E → Type 0) (k most : ℕ) (t : List ℕ)
+    (r : Option ℕ) → ((u : List ℕ) (x : Result ℕ E) → G u x → ParsesUnsigned k 10 u x)
     → most + 1 ≡ 2 ^ k → 2 ^ k ≤ 2 ^ 64 → ReadsOne G t r → r ≡ number_in most t
 reads_number E G k most t (Some v) only is few read =
     let parsed = only t (Ok v) read in
@@ -64,12 +80,16 @@ reads_number E G k most t None only is few read =
     by_bool true passes fails = passes refl
     by_bool false passes fails = fails refl
 
-pub reads_argument : (E : Type 0) (G : List ℕ → Result ℕ E → Type 0) (k most : ℕ) (given : Option Text) (r : Option ℕ) → ((u : List ℕ) (x : Result ℕ E) → G u x → ParsesUnsigned k 10 u x)
-    → most + 1 ≡ 2 ^ k → 2 ^ k ≤ 2 ^ 64 → (given ≡ None → r ≡ None) → ((t : List ℕ) → given ≡ Some t → ReadsOne G t r) → r ≡ option_and_then (number_in most) given
+pub reads_argument : (E : Type 0) (G : List ℕ → Result ℕ E → Type 0) (k most : ℕ)
+    (given : Option Text) (r : Option ℕ)
+    → ((u : List ℕ) (x : Result ℕ E) → G u x → ParsesUnsigned k 10 u x)
+    → most + 1 ≡ 2 ^ k → 2 ^ k ≤ 2 ^ 64 → (given ≡ None → r ≡ None)
+    → ((t : List ℕ) → given ≡ Some t → ReadsOne G t r) → r ≡ option_and_then (number_in most) given
 reads_argument E G k most None r only is few none value = none refl
 reads_argument E G k most (Some t) r only is few none value = reads_number E G k most t r only is few (value t refl)
 
-pub mapped_twice : {A B C : Type 0} (f : A → B) (g : B → C) (o : Option A) → option_map (λ a. g (f a)) o ≡ option_map g (option_map f o)
+pub mapped_twice : {A B C : Type 0} (f : A → B) (g : B → C) (o : Option A)
+    → option_map (λ a. g (f a)) o ≡ option_map g (option_map f o)
 mapped_twice f g None = refl
 mapped_twice f g (Some a) = refl
 

@@ -31,14 +31,16 @@ stamp_again s fits =
     let replicas : from_be_bytes w16 (to_be_bytes w16 s.replica) ≡ s.replica = from_be_bytes-to_be_bytes_2 s.replica (omega (arith, fits.replica)) in
     λ i. record { time = times i; replica = replicas i }
 
-pub stamp_spelled : (ten : List ℕ) → length ten ≡ 10 → IsBytes ten → bytes_of_stamp (stamp_of ten) ≡ ten
+pub stamp_spelled : (ten : List ℕ) → length ten ≡ 10 → IsBytes ten
+    → bytes_of_stamp (stamp_of ten) ≡ ten
 stamp_spelled ten len fits =
     let time : to_be_bytes w64 (from_be_bytes w64 (take 8 ten)) ≡ take 8 ten = be_bytes_8 (take 8 ten) _ (omega (arith, length-take 8 ten)) (IsBytes-take 8 ten fits) refl in
     let replica : to_be_bytes w16 (from_be_bytes w16 (drop 8 ten)) ≡ drop 8 ten = be_bytes_2 (drop 8 ten) _ (omega (arith, length-drop 8 ten)) (IsBytes-drop 8 ten fits) refl in
     let both : bytes_of_stamp (stamp_of ten) ≡ take 8 ten ++ drop 8 ten = λ i. time i ++ replica i in
     both ∙ take-append-drop 8 ten
 
-pub IsStamp-of : (ten : List ℕ) → IsBytes ten → IsReplica (stamp_of ten).replica → IsStamp (stamp_of ten)
+pub IsStamp-of : (ten : List ℕ) → IsBytes ten → IsReplica (stamp_of ten).replica
+    → IsStamp (stamp_of ten)
 IsStamp-of ten fits replica = record {
   time = let front = IsBytes-take 8 ten fits in omega (arith, front 0, front 1, front 2, front 3, front 4, front 5, front 6, front 7);
   replica = replica;
@@ -52,7 +54,8 @@ page_again p fits =
     let nos : from_be_bytes w64 (to_be_bytes w64 p.no) ≡ p.no = from_be_bytes-to_be_bytes_8 p.no fits.no in
     λ i. record { dev = devs i; no = nos i }
 
-pub page_spelled : (ten : List ℕ) → length ten ≡ 10 → IsBytes ten → bytes_of_page (page_from_bytes ten) ≡ ten
+pub page_spelled : (ten : List ℕ) → length ten ≡ 10 → IsBytes ten
+    → bytes_of_page (page_from_bytes ten) ≡ ten
 page_spelled ten len fits =
     let dev : to_be_bytes w16 (from_be_bytes w16 (take 2 ten)) ≡ take 2 ten = be_bytes_2 (take 2 ten) _ (omega (arith, length-take 2 ten)) (IsBytes-take 2 ten fits) refl in
     let no : to_be_bytes w64 (from_be_bytes w64 (drop 2 ten)) ≡ drop 2 ten = be_bytes_8 (drop 2 ten) _ (omega (arith, length-drop 2 ten)) (IsBytes-drop 2 ten fits) refl in
@@ -78,7 +81,8 @@ narrow_again p fits =
     let nos : from_be_bytes w32 (to_be_bytes w32 p.no) ≡ p.no = from_be_bytes-to_be_bytes_4 p.no fits.no in
     λ i. record { dev = devs i; no = nos i }
 
-pub narrow_spelled : (six : List ℕ) → length six ≡ 6 → IsBytes six → narrow_bytes_of_page (page_of_narrow six) ≡ six
+pub narrow_spelled : (six : List ℕ) → length six ≡ 6 → IsBytes six
+    → narrow_bytes_of_page (page_of_narrow six) ≡ six
 narrow_spelled six len fits =
     let dev : to_be_bytes w16 (from_be_bytes w16 (take 2 six)) ≡ take 2 six = be_bytes_2 (take 2 six) _ (omega (arith, length-take 2 six)) (IsBytes-take 2 six fits) refl in
     let no : to_be_bytes w32 (from_be_bytes w32 (drop 2 six)) ≡ drop 2 six = be_bytes_4 (drop 2 six) _ (omega (arith, length-drop 2 six)) (IsBytes-drop 2 six fits) refl in

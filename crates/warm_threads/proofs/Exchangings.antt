@@ -23,7 +23,8 @@ use Rattle.warm_threads.proofs.Numberings.{numbered_more}
 use Rattle.warm_threads.proofs.Runnings.{runs_then}
 
 -- the page of the last entry
-pub last_page_at : (es : List Entry) (i : ℕ) (e : Entry) → suc i ≡ length es → e ≡ get_or es i e → last_page es ≡ Some e.page
+pub last_page_at : (es : List Entry) (i : ℕ) (e : Entry) → suc i ≡ length es → e ≡ get_or es i e
+    → last_page es ≡ Some e.page
 last_page_at [] i e long is = absurd (omega (arith, long))
 last_page_at (x ∷ []) zero e long is = ap (λ (y : Entry). Some y.page) (sym is)
 last_page_at (x ∷ []) (suc i) e long is = absurd (omega (arith, long))
@@ -31,7 +32,9 @@ last_page_at (x ∷ y ∷ es) zero e long is = absurd (omega (arith, long))
 last_page_at (x ∷ y ∷ es) (suc i) e long is = last_page_at (y ∷ es) i e (omega (arith, long)) is
 
 -- a full message, and then what comes after it
-sends_more : (bucket : ℕ) (after : Option PageId) (message : Message) (more : Calls) → MAX_ENTRIES ≤ length (entries_in message) → SendsBucket bucket (last_page (entries_in message)) more
+sends_more : (bucket : ℕ) (after : Option PageId) (message : Message) (more : Calls)
+    → MAX_ENTRIES ≤ length (entries_in message)
+    → SendsBucket bucket (last_page (entries_in message)) more
     → SendsBucket bucket after (entry 0 (Send bucket after) (Sent message) ∷ more)
 sends_more bucket after message [] full h = absurd h
 sends_more bucket after message (e ∷ es) full h = (message, (refl, refl), full, h)
@@ -41,13 +44,16 @@ module _ {X : Type 0} (goes : X → Call → Reply → X → Type 0) where
   pub record IsSending (bucket : ℕ) (x : X) (after : Option PageId) (z : X) : Type 0 where
     pub calls : Calls
     pub runs : Runs goes x calls z
-    pub rest : (more : Calls) → SendsBucket bucket after more → SendsBucket bucket None (calls ++ more)
+    pub rest : (more : Calls) → SendsBucket bucket after more
+        → SendsBucket bucket None (calls ++ more)
 
   pub sending_none : (bucket : ℕ) (x : X) → IsSending bucket x None x
   sending_none bucket x = record { calls = []; runs = refl; rest = λ more h. h }
 
-  pub sending_more : (bucket : ℕ) (x y z : X) (after : Option PageId) (message : Message) (page : PageId) → IsSending bucket x after y → goes y (Send bucket after) (Sent message) z
-      → MAX_ENTRIES ≤ length (entries_in message) → last_page (entries_in message) ≡ Some page → IsSending bucket x (Some page) z
+  pub sending_more : (bucket : ℕ) (x y z : X) (after : Option PageId) (message : Message)
+      (page : PageId) → IsSending bucket x after y → goes y (Send bucket after) (Sent message) z
+      → MAX_ENTRIES ≤ length (entries_in message) → last_page (entries_in message) ≡ Some page
+      → IsSending bucket x (Some page) z
   sending_more bucket x y z after message page h step full last =
       let one = entry 0 (Send bucket after) (Sent message) in
       record {
@@ -57,7 +63,9 @@ module _ {X : Type 0} (goes : X → Call → Reply → X → Type 0) where
             (h.rest (one ∷ more) (sends_more bucket after message more full (subst (λ (p : Option PageId). SendsBucket bucket p more) (sym last) sends)));
       }
 
-  pub sending_last : (bucket : ℕ) (x y z : X) (after : Option PageId) (message : Message) → IsSending bucket x after y → goes y (Send bucket after) (Sent message) z → length (entries_in message) < MAX_ENTRIES
+  pub sending_last : (bucket : ℕ) (x y z : X) (after : Option PageId) (message : Message)
+      → IsSending bucket x after y → goes y (Send bucket after) (Sent message) z
+      → length (entries_in message) < MAX_ENTRIES
       → LeadsBy goes (SendsBucket bucket None) x z
   sending_last bucket x y z after message h step few =
       let one = entry 0 (Send bucket after) (Sent message) in
@@ -73,7 +81,8 @@ module _ {X : Type 0} (goes : X → Call → Reply → X → Type 0) where
   pub sent_none : (x : X) → HaveSent 0 x x
   sent_none x = record { parts = []; runs = refl; count = refl; each = tt }
 
-  pub sent_more : (bucket : ℕ) (x y z : X) → HaveSent bucket x y → LeadsBy goes (SendsBucket bucket None) y z → HaveSent (bucket + 1) x z
+  pub sent_more : (bucket : ℕ) (x y z : X) → HaveSent bucket x y
+      → LeadsBy goes (SendsBucket bucket None) y z → HaveSent (bucket + 1) x z
   sent_more bucket x y z h led =
       let whole : Calls → Calls = λ part. part in
       record {
@@ -83,18 +92,22 @@ module _ {X : Type 0} (goes : X → Call → Reply → X → Type 0) where
         each = numbered_more 0 bucket (λ b part. SendsBucket b None part) h.parts led.0 (omega (arith, h.count)) h.each led.2;
       }
 
-  pub sent_all : (bucket : ℕ) (x z : X) → bucket ≡ BUCKETS → HaveSent bucket x z → LeadsBy goes SendsAll x z
+  pub sent_all : (bucket : ℕ) (x z : X) → bucket ≡ BUCKETS → HaveSent bucket x z
+      → LeadsBy goes SendsAll x z
   sent_all bucket x z is h = (flat_map (λ part. part) h.parts, h.runs, record { parts = h.parts; whole = refl; count = omega (arith, h.count, is); each = h.each })
 
   -- messages that were received
   pub received_none : (x : X) → LeadsBy goes (All IsReceipt) x x
   received_none x = ([], refl, λ k d low. absurd (omega (arith, low)))
 
-  receipt : (message : Message) (answers : List Message) → All IsReceipt (entry 0 (Receive message) (Answers answers) ∷ [])
+  receipt : (message : Message) (answers : List Message)
+      → All IsReceipt (entry 0 (Receive message) (Answers answers) ∷ [])
   receipt message answers zero d low = (message, answers, refl, refl)
   receipt message answers (suc k) d low = absurd (omega (arith, low))
 
-  pub received_more : (x y z : X) → LeadsBy goes (All IsReceipt) x y → (message : Message) (answers : List Message) → goes y (Receive message) (Answers answers) z → LeadsBy goes (All IsReceipt) x z
+  pub received_more : (x y z : X) → LeadsBy goes (All IsReceipt) x y
+      → (message : Message) (answers : List Message) → goes y (Receive message) (Answers answers) z
+      → LeadsBy goes (All IsReceipt) x z
   received_more x y z h message answers step =
       let one = entry 0 (Receive message) (Answers answers) in
       (h.0 ++ one ∷ [], runs_then goes x y z h.0 (one ∷ []) h.1 (z, step, refl), All-append IsReceipt h.0 (one ∷ []) h.2 (receipt message answers))

@@ -16,8 +16,12 @@ use Rattle.warm_threads.specs.Played.{Played}
 use Rattle.warm_threads.specs.Shown.{replicas_text}
 use Rattle.warm_threads.specs.Works.{Went}
 
-pub played_of : {E : Type 0} (result : Result (Unit {0}) E) (text old new : Option (List ℕ)) (s : Sizes) (devices : List (List DeviceState)) (starts ends : List NodeView) (jobs : List (Vec Job))
-    → starts ≡ map node_view (nodes_over s 1 devices) → IfSome text (λ t. AreJobsOf s (asks s (lines t)) jobs) → Went Step starts jobs ends → OnOk result (Appends old new (replicas_text 1 ends))
+pub played_of : {E : Type 0} (result : Result (Unit {0}) E) (text old new : Option (List ℕ))
+    (s : Sizes) (devices : List (List DeviceState)) (starts ends : List NodeView)
+    (jobs : List (Vec Job))
+    → starts ≡ map node_view (nodes_over s 1 devices)
+    → IfSome text (λ t. AreJobsOf s (asks s (lines t)) jobs) → Went Step starts jobs ends
+    → OnOk result (Appends old new (replicas_text 1 ends))
     → OnOk result (IfSome text (λ t. (out : List ℕ) × Played s devices t out × Appends old new out))
 played_of (Err why) text old new s devices starts ends jobs opened asked went printed = tt
 played_of (Ok done) None old new s devices starts ends jobs opened asked went printed = tt

@@ -17,12 +17,15 @@ use Rattle.warm_threads.specs.Works.{LeadsBy, Works, WentOn, Went}
 use Rattle.warm_threads.proofs.Pairings.{pairs_then, triples_of}
 
 module _ {X : Type 0} (goes : X → Call → Reply → X → Type 0) where
-  pub runs_then : (x y z : X) (first second : Calls) → Runs goes x first y → Runs goes y second z → Runs goes x (first ++ second) z
+  pub runs_then : (x y z : X) (first second : Calls) → Runs goes x first y → Runs goes y second z
+      → Runs goes x (first ++ second) z
   runs_then x y z [] second h g = subst (λ w. Runs goes w second z) (sym h) g
   runs_then x y z (e ∷ es) second h g = (h.0, h.1, runs_then h.0 y z es second h.2 g)
 
   -- jobs that were run from the opening of a turn on, and a machine that the turn gave back
-  pub jobs_work : (x z : X) (w : View X Call Reply) (jobs : List Job) (replies : List Replied) → JobsWent (first_pass x) jobs replies w → All AreTaken replies → IsLast goes x w z → Works goes jobs x z
+  pub jobs_work : (x z : X) (w : View X Call Reply) (jobs : List Job) (replies : List Replied)
+      → JobsWent (first_pass x) jobs replies w → All AreTaken replies → IsLast goes x w z
+      → Works goes jobs x z
   jobs_work x z w jobs replies went taken last =
       let fan = went.0 in
       let more = went.1 in
@@ -44,9 +47,12 @@ module _ {X : Type 0} (goes : X → Call → Reply → X → Type 0) where
     sends : LeadsBy goes SendsAll x shared
     receives : LeadsBy goes (All IsReceipt) shared z
 
-  -- runs of these machines and jobs that have worked, and machines that have sent and received since
-  pub went_all : {C K H M : Type 0} (view : M → X) (first : List M) (lists : List (Vec Job)) (cs : List C) (ks : List K) (hs : List H) (ms : List M)
-      → (machine : C → M) (jobs : C → Vec Job) (known : K → M) (heard : H → M) → map machine cs ≡ first → map jobs cs ≡ lists
+  -- runs of these machines and jobs that have worked, and machines that have sent and received
+  -- since
+  pub went_all : {C K H M : Type 0} (view : M → X) (first : List M) (lists : List (Vec Job))
+      (cs : List C) (ks : List K) (hs : List H) (ms : List M)
+      → (machine : C → M) (jobs : C → Vec Job) (known : K → M) (heard : H → M)
+      → map machine cs ≡ first → map jobs cs ≡ lists
       → Pairs (λ r k. Works goes (jobs r).items (view (machine r)) (view (known k))) cs ks
       → Pairs (λ k h. LeadsBy goes SendsAll (view (known k)) (view (heard h))) ks hs
       → Pairs (λ h m. LeadsBy goes (All IsReceipt) (view (heard h)) (view m)) hs ms

@@ -13,6 +13,8 @@ usable_then (Ok x) Q usable = usable
 usable_then (Err e) Q usable = tt
 
 -- usable devices are refused only because of an allocation failure
-pub memory_refuses : {A : Type 0} (s : Sizes) (devices : List (List DeviceState)) (r : Result A PlayFault) → AreUsable s devices → IfErr r (λ why. why ≡ Memory) → IfErr r (λ why. ThreadsPlayRefused s devices why)
+pub memory_refuses : {A : Type 0} (s : Sizes) (devices : List (List DeviceState))
+    (r : Result A PlayFault) → AreUsable s devices → IfErr r (λ why. why ≡ Memory)
+    → IfErr r (λ why. ThreadsPlayRefused s devices why)
 memory_refuses s devices (Ok x) usable h = tt
 memory_refuses s devices (Err why) usable h = subst (λ (w : PlayFault). ThreadsPlayRefused s devices w) (sym h) usable

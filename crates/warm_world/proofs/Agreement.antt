@@ -19,7 +19,8 @@ histories_are_exact w m st i number =
     let lt : index_of_number i < length m.replicas = omega (arith, number.from_one, number.in_range) in
     rw same (get_or-map (λ (r : ReplicaState). history r.reach) m.replicas (index_of_number i) no_replica (history_of_entries []) lt)
 
-pub models_agree : (m : ModelState) (i j : ℕ) → SameReferences (reach_of m i) (reach_of m j) → Alike m i j
+pub models_agree : (m : ModelState) (i j : ℕ) → SameReferences (reach_of m i) (reach_of m j)
+    → Alike m i j
 models_agree m i j same = record { histories = history_of_set (reach_of m i) (reach_of m j) same; ranking = same_references_rank_alike (reach_of m i) (reach_of m j) same }
 
 pub replicas_agree : (w : WorldView) (m : ModelState) → StandsFor w m → ReplicasAgree w m

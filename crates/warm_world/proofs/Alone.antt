@@ -23,15 +23,18 @@ use Rattle.warm_world.specs.Replicas.{SomeReply}
 abbrev pub IsAlone : NodeView → NodeView → Type 0
 IsAlone old new = new ≡ record old { pool = new.pool }
 
-pool_alone : (old new : NodeView) (pool : PoolView) → (let n : NodeView = record old { pool = pool } in new ≡ n) → IsAlone old new
+pool_alone : (old new : NodeView) (pool : PoolView)
+    → (let n : NodeView = record old { pool = pool } in new ≡ n) → IsAlone old new
 pool_alone old new pool is = is ∙ ap (λ (p : PoolView). let n : NodeView = record old { pool = p } in n) (ap (λ (n : NodeView). n.pool) (sym is))
 
-refused_alone : (old new : NodeView) (asked : Option Call) (why : NodeFault) → SomeReply old asked (Some (reply.Refused why)) new → IsAlone old new
+refused_alone : (old new : NodeView) (asked : Option Call) (why : NodeFault)
+    → SomeReply old asked (Some (reply.Refused why)) new → IsAlone old new
 refused_alone old new (Some asked) why r = refused_keeps old asked why new r
 refused_alone old new None why r = absurd r
 
 -- so does the call that an event makes
-pub replies_alone : (old new : NodeView) (event : Event) (answer : Answer) → SomeReply old (call_of event) (reply_of answer) new → IsAlone old new
+pub replies_alone : (old new : NodeView) (event : Event) (answer : Answer)
+    → SomeReply old (call_of event) (reply_of answer) new → IsAlone old new
 replies_alone old new (Pin i p) (Pinned slot) step = step.0
 replies_alone old new (Unpin i slot) Done step = pool_alone old new _ step.1
 replies_alone old new (Put i slot at bytes) Done step = step.1.0
@@ -44,15 +47,18 @@ replies_alone old new event (Refused (Node why)) step = refused_alone old new (c
 replies_alone old new event answer step = absurd step
 
 -- a call of the history is refused only because of an allocation failure
-pub send_refused : (old new : NodeView) (bucket : ℕ) (after : Option PageId) (why : NodeFault) → Refuses old (call.Send bucket after) why new → why ≡ Memory
+pub send_refused : (old new : NodeView) (bucket : ℕ) (after : Option PageId) (why : NodeFault)
+    → Refuses old (call.Send bucket after) why new → why ≡ Memory
 send_refused old new bucket after Memory r = refl
 send_refused old new bucket after why r = absurd r
 
 -- and changes nothing then
-pub offer_refused : (old new : NodeView) (why : NodeFault) → Refuses old call.Offer why new → (why ≡ Memory) × (new ≡ old)
+pub offer_refused : (old new : NodeView) (why : NodeFault) → Refuses old call.Offer why new
+    → (why ≡ Memory) × (new ≡ old)
 offer_refused old new Memory r = (refl, r)
 offer_refused old new why r = absurd r
 
-pub receive_refused : (old new : NodeView) (message : Message) (why : NodeFault) → Refuses old (call.Receive message) why new → (why ≡ Memory) × (new ≡ old)
+pub receive_refused : (old new : NodeView) (message : Message) (why : NodeFault)
+    → Refuses old (call.Receive message) why new → (why ≡ Memory) × (new ≡ old)
 receive_refused old new message Memory r = (refl, r)
 receive_refused old new message why r = absurd r

@@ -19,11 +19,15 @@ use Rattle.warm_world.specs.Next.{IsNamed, Next, SomeNodeReplies, call_of, repli
 pub pool_kept : (m : ModelState) (i : ℕ) → set_pool m i (pool_of m i) ≡ m
 pool_kept m i = ap (λ (rs : List ReplicaState). let s : ModelState = record m { replicas = rs } in s) (set-get_or m.replicas (index_of_number i) no_replica)
 
-unchanged : (old new : ModelState) (i : ℕ) (pool : PoolView) → (let n : NodeView = record (node_of old i) { pool = pool } in n ≡ node_of old i) → new ≡ set_pool old i pool → new ≡ old
+unchanged : (old new : ModelState) (i : ℕ) (pool : PoolView)
+    → (let n : NodeView = record (node_of old i) { pool = pool } in n ≡ node_of old i)
+    → new ≡ set_pool old i pool → new ≡ old
 unchanged old new i pool same is = is ∙ ap (set_pool old i) (ap (λ (n : NodeView). n.pool) same) ∙ pool_kept old i
 
-pub next_of_reply : (old : ModelState) (event : Event) (answer : Answer) (new : ModelState) → IsNamed (shape old) event
-    → SomeNodeReplies old (replica_of event) (call_of event) (reply_of answer) new → Next old event answer new
+pub next_of_reply : (old : ModelState) (event : Event) (answer : Answer) (new : ModelState)
+    → IsNamed (shape old) event
+    → SomeNodeReplies old (replica_of event) (call_of event) (reply_of answer) new
+    → Next old event answer new
 next_of_reply old (Refer i w page time) answer new named r = absurd r
 next_of_reply old (Flush i w) answer new named r = absurd r
 next_of_reply old (Send i bucket after) answer new named r = absurd r

@@ -26,7 +26,9 @@ use Rattle.warm_world.proofs.Pairs.{Pairwise-nil, Pairwise-of}
 use Rattle.warm_world.proofs.Worlds.{named_too, node_at, place_in, replica_changes, stands_at, world}
 
 -- entries are answered by nothing
-unanswered : (id sender horizon : ℕ) (h : HistoryView) (es : List Entry) (message : Message) (answers : List Message) → message ≡ Entries sender horizon es → IsAnswer id h message answers → answers ≡ []
+unanswered : (id sender horizon : ℕ) (h : HistoryView) (es : List Entry) (message : Message)
+    (answers : List Message) → message ≡ Entries sender horizon es → IsAnswer id h message answers
+    → answers ≡ []
 unanswered id sender horizon h es message answers is answer = subst (λ m. IsAnswer id h m answers) is answer
 
 -- the message is not of entries
@@ -34,18 +36,25 @@ abbrev IsNoEntries : Message → Type 0
 IsNoEntries message = (sender horizon : ℕ) (es : List Entry) → message ≡ Entries sender horizon es → ⊥
 
 -- digests and a request bring their horizon alone
-pub horizon_alone : (h : HistoryView) (message : Message) → IsNoEntries message → history_after h message ≡ history (with_horizon (horizon_in message) (references_of h))
+pub horizon_alone : (h : HistoryView) (message : Message) → IsNoEntries message
+    → history_after h message ≡ history (with_horizon (horizon_in message) (references_of h))
 horizon_alone h (Entries sender time es) other = absurd (other sender time es refl)
 horizon_alone h (Digest sender time digests) other = refl
 horizon_alone h (Want sender time request) other = refl
 
 module _ {A : Type 0} (f : A → ReplicaView) (xs : List A) (messages : List (List ℕ)) where
-  pub delivered : (m : ModelState) (j k count first : ℕ) (x y : A) (message : Message) (answers : List Message) (n : NodeView) (messages' : List (List ℕ))
-      → StandsFor (world f xs messages xs) m → IsNamed (view_shape (world f xs messages xs)) (Deliver j k) → x ≡ get_or xs (index_of_number j) x
-      → message ≡ message_kept (record_at m (index_of_number k)) → IsAnswer (f x).node.id (f x).node.history message answers → n ≡ record (f x).node { history = history_after (f x).node.history message }
+  pub delivered : (m : ModelState) (j k count first : ℕ) (x y : A) (message : Message)
+      (answers : List Message) (n : NodeView) (messages' : List (List ℕ))
+      → StandsFor (world f xs messages xs) m
+      → IsNamed (view_shape (world f xs messages xs)) (Deliver j k)
+      → x ≡ get_or xs (index_of_number j) x
+      → message ≡ message_kept (record_at m (index_of_number k))
+      → IsAnswer (f x).node.id (f x).node.history message answers
+      → n ≡ record (f x).node { history = history_after (f x).node.history message }
       → f y ≡ record (f x) { node = n } → KeepsAll messages answers messages'
       → count ≡ length answers → first ≡ if count == 0 then 0 else length messages' - count + 1
-      → Stepped m (Deliver j k) (Took count first) (record (world f xs messages (set xs (index_of_number j) y)) { messages = messages' })
+      → Stepped m (Deliver j k) (Took count first)
+      (record (world f xs messages (set xs (index_of_number j) y)) { messages = messages' })
   delivered m j k count first x y message answers n messages' st named is of_record answer joins becomes keeps many from =
       let p = index_of_number j in
       let kept = record_at m (index_of_number k) in
@@ -86,9 +95,14 @@ module _ {A : Type 0} (f : A → ReplicaView) (xs : List A) (messages : List (Li
       }
 
   -- entries come: they have no answer
-  pub taken : (m : ModelState) (j k sender horizon : ℕ) (es : List Entry) (x y : A) (message : Message) (answers : List Message) (n : NodeView)
-      → StandsFor (world f xs messages xs) m → IsNamed (view_shape (world f xs messages xs)) (Deliver j k) → x ≡ get_or xs (index_of_number j) x
-      → message ≡ message_kept (record_at m (index_of_number k)) → message ≡ Entries sender horizon es → IsAnswer (f x).node.id (f x).node.history message answers
+  pub taken : (m : ModelState) (j k sender horizon : ℕ) (es : List Entry) (x y : A)
+      (message : Message) (answers : List Message) (n : NodeView)
+      → StandsFor (world f xs messages xs) m
+      → IsNamed (view_shape (world f xs messages xs)) (Deliver j k)
+      → x ≡ get_or xs (index_of_number j) x
+      → message ≡ message_kept (record_at m (index_of_number k))
+      → message ≡ Entries sender horizon es
+      → IsAnswer (f x).node.id (f x).node.history message answers
       → n ≡ record (f x).node { history = history_after (f x).node.history message }
       → f y ≡ record (f x) { node = n }
       → Stepped m (Deliver j k) (Took 0 0) (world f xs messages (set xs (index_of_number j) y))
@@ -98,12 +112,24 @@ module _ {A : Type 0} (f : A → ReplicaView) (xs : List A) (messages : List (Li
       delivered m j k 0 0 x y message answers n messages st named is of_record answered joins becomes (subst (λ fs. KeepsAll messages fs messages) (sym none) keeps) (sym (ap length none)) refl
 
   -- digests or a request come, and their answers are stored: then the horizon rises
-  pub raised_after : (m : ModelState) (j k : ℕ) (x y z : A) (message : Message) (answers : List Message) (messages' : List (List ℕ)) (answer : Answer)
-      → StandsFor (world f xs messages xs) m → IsNamed (view_shape (world f xs messages xs)) (Deliver j k) → x ≡ get_or xs (index_of_number j) x
-      → message ≡ message_kept (record_at m (index_of_number k)) → IsNoEntries message → IsAnswer (f x).node.id (f x).node.history message answers
-      → f y ≡ f x → f z ≡ record (f y) { node = record (f y).node { history = history (with_horizon (horizon_in message) (references_of (f y).node.history)) } }
+  pub raised_after : (m : ModelState) (j k : ℕ) (x y z : A) (message : Message)
+      (answers : List Message) (messages' : List (List ℕ)) (answer : Answer)
+      → StandsFor (world f xs messages xs) m
+      → IsNamed (view_shape (world f xs messages xs)) (Deliver j k)
+      → x ≡ get_or xs (index_of_number j) x
+      → message ≡ message_kept (record_at m (index_of_number k)) → IsNoEntries message
+      → IsAnswer (f x).node.id (f x).node.history message answers
+      → f y ≡ f x → f z ≡ record (f
+      y) {
+        node = record (f y).node {
+          history = history
+              (with_horizon (horizon_in message) (references_of (f y).node.history));
+        };
+      }
       → StoresAnswers messages answers answer messages'
-      → Stepped m (Deliver j k) answer (record (world f xs messages (set (set xs (index_of_number j) y) (index_of_number j) z)) { messages = messages' })
+      → Stepped m (Deliver j k) answer
+      (record (world f xs messages
+      (set (set xs (index_of_number j) y) (index_of_number j) z)) { messages = messages' })
   raised_after m j k x y z message answers messages' (Took count first) st named is of_record other answered same becomes kept =
       let n : NodeView = record (f x).node { history = history_after (f x).node.history message } in
       let horizon = horizon_in message in

@@ -17,13 +17,18 @@ use Rattle.warm_world.specs.Stands.{CountsFailure, ReplicaStands, StandsFor}
 use Rattle.warm_world.proofs.Pairs.{Pairwise-set}
 use Rattle.warm_world.proofs.Worlds.{shown_at, world, world_stays}
 
-module _ {A : Type 0} (f : A → ReplicaView) (xs : List A) (messages : List (List ℕ)) (k : ℕ) (x y : A) where
+module _ {A : Type 0} (f : A → ReplicaView) (xs : List A) (messages : List (List ℕ)) (k : ℕ)
+    (x y : A) where
   -- where the replica's node shows what it showed, so does the world
-  pub same_if : {T E : Type 0} (result : Result T E) → k < length xs → x ≡ get_or xs k x → (f y).buffers ≡ (f x).buffers → OnOk result ((f y).node ≡ (f x).node) → OnOk result (world f xs messages (set xs k y) ≡ world f xs messages xs)
+  pub same_if : {T E : Type 0} (result : Result T E) → k < length xs → x ≡ get_or xs k x
+      → (f y).buffers ≡ (f x).buffers → OnOk result ((f y).node ≡ (f x).node)
+      → OnOk result (world f xs messages (set xs k y) ≡ world f xs messages xs)
   same_if (Ok done) lt is alike same = world_stays f xs messages k x y lt is (rw (← same, ← alike) refl)
   same_if (Err why) lt is alike same = tt
 
-  failed : k < length xs → x ≡ get_or xs k x → (f y).buffers ≡ (f x).buffers → OnPool IsFailed (f x).node (f y).node → FailsAtIndex k (world f xs messages xs) (world f xs messages (set xs k y))
+  failed : k < length xs → x ≡ get_or xs k x → (f y).buffers ≡ (f x).buffers
+      → OnPool IsFailed (f x).node (f y).node
+      → FailsAtIndex k (world f xs messages xs) (world f xs messages (set xs k y))
   failed lt is alike did = let fails : FailsOf (world f xs messages xs) (world f xs messages (set xs k y)) = record {
     replica = k;
     there = subst (λ n. k < n) (sym (length-map xs f)) lt;
@@ -37,33 +42,42 @@ module _ {A : Type 0} (f : A → ReplicaView) (xs : List A) (messages : List (Li
   } in (fails, refl)
 
   -- where writing back has failed, it has for this replica
-  pub fails_if : {T : Type 0} (result : Result T NodeFault) → k < length xs → x ≡ get_or xs k x → (f y).buffers ≡ (f x).buffers
-      → IfErr result (λ why. (why ≡ Pool Fault) × OnPool IsFailed (f x).node (f y).node) → IfErr result (λ why. (why ≡ Pool Fault) × FailsAtIndex k (world f xs messages xs) (world f xs messages (set xs k y)))
+  pub fails_if : {T : Type 0} (result : Result T NodeFault) → k < length xs → x ≡ get_or xs k x
+      → (f y).buffers ≡ (f x).buffers
+      → IfErr result (λ why. (why ≡ Pool Fault) × OnPool IsFailed (f x).node (f y).node)
+      → IfErr result (λ why. (why ≡ Pool Fault)
+      × FailsAtIndex k (world f xs messages xs) (world f xs messages (set xs k y)))
   fails_if (Ok done) lt is alike did = tt
   fails_if (Err why) lt is alike did = (did.0, failed lt is alike did.1)
 
 -- the nodes up to this one are settled where those before it were, and it is
 module _ {A : Type 0} (g : A → NodeState) (xs : List A) (k : ℕ) (y : A) where
-  settled_next : k < length xs → AreSettledBefore k (map g xs) → IsSettled (g y).pool → AreSettledBefore (k + 1) (set (map g xs) k (g y))
+  settled_next : k < length xs → AreSettledBefore k (map g xs) → IsSettled (g y).pool
+      → AreSettledBefore (k + 1) (set (map g xs) k (g y))
   settled_next lt before here j other low = elim (cases_eq j k) [
     | inl same ↦ rw same (rw (get_or-set_same (map g xs) k (g y) other (subst (λ n. k < n) (sym (length-map xs g)) lt)) here)
     | inr apart ↦ rw (get_or-set_other (map g xs) k j (g y) other apart) (before j other (omega (arith, low, apart)))
   ]
 
-  pub settled_if : {T E : Type 0} (result : Result T E) → k < length xs → AreSettledBefore k (map g xs) → OnOk result (IsSettled (g y).pool) → OnOk result (AreSettledBefore (k + 1) (map g (set xs k y)))
+  pub settled_if : {T E : Type 0} (result : Result T E) → k < length xs
+      → AreSettledBefore k (map g xs) → OnOk result (IsSettled (g y).pool)
+      → OnOk result (AreSettledBefore (k + 1) (map g (set xs k y)))
   settled_if (Ok done) lt before here = subst (AreSettledBefore (k + 1)) (sym (map-set g xs k y)) (settled_next lt before here)
   settled_if (Err why) lt before here = tt
 
 -- nodes at other places are unchanged
-pub others_same : {A : Type 0} (g : A → NodeState) (xs : List A) (k : ℕ) (y : A) (j : ℕ) (other : NodeState) → j ≢ k → get_or (map g (set xs k y)) j other ≡ get_or (map g xs) j other
+pub others_same : {A : Type 0} (g : A → NodeState) (xs : List A) (k : ℕ) (y : A) (j : ℕ)
+    (other : NodeState) → j ≢ k → get_or (map g (set xs k y)) j other ≡ get_or (map g xs) j other
 others_same g xs k y j other apart = ap (λ nodes. get_or nodes j other) (map-set g xs k y) ∙ get_or-set_other (map g xs) k j (g y) other apart
 
 -- what fails in a world that shows what it showed fails in that, and the pools were written back in
 -- order up to there
-pub fails_since : (old mid new : WorldView) (k : ℕ) (why : NodeFault) → mid ≡ old → (why ≡ Pool Fault) × FailsAtIndex k mid new → FinishFails old why new
+pub fails_since : (old mid new : WorldView) (k : ℕ) (why : NodeFault) → mid ≡ old
+    → (why ≡ Pool Fault) × FailsAtIndex k mid new → FinishFails old why new
 fails_since old mid new k why same did = (did.0, subst (λ w. FailsOf w new) same did.1.0)
 
-pub stops_in_order : {D : Type 0} (old mid new : World D) (k : ℕ) → world_view mid ≡ world_view old → IsSettledBefore k mid → AreSameFrom k old mid → AreSameBut k mid new
+pub stops_in_order : {D : Type 0} (old mid new : World D) (k : ℕ) → world_view mid ≡ world_view old
+    → IsSettledBefore k mid → AreSameFrom k old mid → AreSameBut k mid new
     → FailsAtIndex k (world_view mid) (world_view new) → StopsInOrder old new
 stops_in_order old mid new k same settled later kept did =
     let at : FailsAtIndex k (world_view old) (world_view new) = subst (λ w. FailsAtIndex k w (world_view new)) same did in

@@ -31,12 +31,16 @@ own_history : (S : ReferenceSet) → history (references_of (history S)) ≡ his
 own_history S = same_hists (references_of (history S)) S (horizon-history S) (hist_refs-history S)
 
 -- what is carried of a history is what is carried of the references for which it stands
-carried_alike : (S : ReferenceSet) (bucket : ℕ) (after : Option PageId) (limit : ℕ) → entries_of (history (carried (references_of (history S)) bucket after limit)) ≡ entries_of (history (carried S bucket after limit))
+carried_alike : (S : ReferenceSet) (bucket : ℕ) (after : Option PageId) (limit : ℕ)
+    → entries_of (history (carried (references_of (history S)) bucket after limit))
+    ≡ entries_of (history (carried S bucket after limit))
 carried_alike S bucket after limit = sym (history-carried (references_of (history S)) bucket after limit) ∙ rw (own_history S) (history-carried S bucket after limit)
 
 -- what a node sends, and the digests that it offers, are those of the references for which its
 -- history stands
-pub sent_kept : (m : ModelState) (n : NodeView) (message : Message) (i bucket : ℕ) (after : Option PageId) → message ≡ sent n.id n.history bucket after → n ≡ node_of m i → message ≡ message_kept (References i (carried (reach_of m i) bucket after MAX_ENTRIES))
+pub sent_kept : (m : ModelState) (n : NodeView) (message : Message) (i bucket : ℕ)
+    (after : Option PageId) → message ≡ sent n.id n.history bucket after → n ≡ node_of m i
+    → message ≡ message_kept (References i (carried (reach_of m i) bucket after MAX_ENTRIES))
 sent_kept m n message i bucket after is node =
     let S = reach_of m i in
     is ∙ ap (λ (v : NodeView). sent v.id v.history bucket after) node
@@ -45,53 +49,66 @@ sent_kept m n message i bucket after is node =
 abbrev pub offer_record : ℕ → ReferenceSet → MessageRecord
 offer_record i S = Digests i S.horizon (digests_of (entries_of (history S)))
 
-pub offered_kept : (i : ℕ) (S : ReferenceSet) → offer i (history S) ≡ message_kept (offer_record i S)
+pub offered_kept : (i : ℕ) (S : ReferenceSet)
+    → offer i (history S) ≡ message_kept (offer_record i S)
 offered_kept i S = ap (λ m. Digest i m (digests_of (entries_of (history S)))) (horizon-history S)
 
-pub offers_kept : (m : ModelState) (n : NodeView) (message : Message) (i : ℕ) → message ≡ offer n.id n.history → n ≡ node_of m i → message ≡ message_kept (offer_record i (reach_of m i))
+pub offers_kept : (m : ModelState) (n : NodeView) (message : Message) (i : ℕ)
+    → message ≡ offer n.id n.history → n ≡ node_of m i
+    → message ≡ message_kept (offer_record i (reach_of m i))
 offers_kept m n message i is node = is ∙ ap (λ (v : NodeView). offer v.id v.history) node ∙ offered_kept i (reach_of m i)
 
 -- ---- what a replica answers
 
-chunk_messages : (i : ℕ) (S : ReferenceSet) (bucket : ℕ) (after : Option PageId) (ps : List (List Entry)) → AreInTurn S bucket MAX_ENTRIES after ps
+chunk_messages : (i : ℕ) (S : ReferenceSet) (bucket : ℕ) (after : Option PageId)
+    (ps : List (List Entry)) → AreInTurn S bucket MAX_ENTRIES after ps
     → map (λ part. Entries i S.horizon part) ps ≡ map message_kept (records_of i S bucket after ps)
 chunk_messages i S bucket after [] turn = refl
 chunk_messages i S bucket after (chunk ∷ others) turn =
     rw (← turn.0) (ap (λ fs. Entries i S.horizon chunk ∷ fs) (chunk_messages i S bucket (last_page chunk) others turn.2))
 
-bucket_kept : (i : ℕ) (S : ReferenceSet) (bucket : ℕ) → bucket_messages i (history S) bucket ≡ map message_kept (bucket_records i S bucket)
+bucket_kept : (i : ℕ) (S : ReferenceSet) (bucket : ℕ)
+    → bucket_messages i (history S) bucket ≡ map message_kept (bucket_records i S bucket)
 bucket_kept i S bucket =
     let parts = chunks MAX_ENTRIES (bucket_entries bucket (entries_of (history S))) in
     ap (λ m. map (λ part. Entries i m part) parts) (horizon-history S) ∙ chunk_messages i S bucket None parts (chunks_in_turn S bucket MAX_ENTRIES (omega arith))
 
-buckets_kept : (i : ℕ) (S : ReferenceSet) (bs : List ℕ) → flat_map (bucket_messages i (history S)) bs ≡ map message_kept (flat_map (bucket_records i S) bs)
+buckets_kept : (i : ℕ) (S : ReferenceSet) (bs : List ℕ)
+    → flat_map (bucket_messages i (history S)) bs
+    ≡ map message_kept (flat_map (bucket_records i S) bs)
 buckets_kept i S [] = refl
 buckets_kept i S (b ∷ bs) =
     rw (bucket_kept i S b, buckets_kept i S bs) (sym (map-append message_kept (bucket_records i S b) (flat_map (bucket_records i S) bs)))
 
-pub wanted_kept : (i : ℕ) (S : ReferenceSet) (request : ℕ) → requested_messages i (history S) request ≡ map message_kept (requested_records i S request)
+pub wanted_kept : (i : ℕ) (S : ReferenceSet) (request : ℕ)
+    → requested_messages i (history S) request ≡ map message_kept (requested_records i S request)
 wanted_kept i S request = buckets_kept i S (requested_buckets request)
 
 -- the history of a replica after it received a record's message
-pub history_after_reach : (S : ReferenceSet) (kept : MessageRecord) → history_after (history S) (message_kept kept) ≡ history (reach_after S kept)
+pub history_after_reach : (S : ReferenceSet) (kept : MessageRecord)
+    → history_after (history S) (message_kept kept) ≡ history (reach_after S kept)
 history_after_reach S (References sender rs) = entries_bring_all sender S rs
 history_after_reach S (Digests sender horizon digests) = history_first S (record { horizon = horizon; given = [] })
 history_after_reach S (Request sender horizon request) = history_first S (record { horizon = horizon; given = [] })
 
 -- The records of what a replica answers to a record's message.
-pub record RecordsOf (i : ℕ) (S : ReferenceSet) (kept : MessageRecord) (messages : List Message) : Type 0 where
+pub record RecordsOf (i : ℕ) (S : ReferenceSet) (kept : MessageRecord)
+    (messages : List Message) : Type 0 where
   pub added : List MessageRecord
   pub answers : AreAnswers i (reach_after S kept) kept added
   pub are : messages ≡ map message_kept added
 
 pub asking_or_none : (i : ℕ) (S : ReferenceSet) (request : ℕ) (none : Bool)
-    → cond none [] (requested_messages i (history S) request ++ Want i (history S).horizon request ∷ []) ≡ map message_kept (cond none [] (requested_records i S request ++ Request i S.horizon request ∷ []))
+    → cond none [] (requested_messages i (history S) request ++ Want i (history S).horizon request
+    ∷ []) ≡ map message_kept
+    (cond none [] (requested_records i S request ++ Request i S.horizon request ∷ []))
 asking_or_none i S request true = refl
 asking_or_none i S request false =
     ap (λ m. requested_messages i (history S) request ++ Want i m request ∷ []) (horizon-history S)
     ∙ rw (wanted_kept i S request) (sym (map-append message_kept (requested_records i S request) (Request i S.horizon request ∷ [])))
 
-pub answer_records : (i : ℕ) (S : ReferenceSet) (kept : MessageRecord) (messages : List Message) → IsAnswer i (history S) (message_kept kept) messages → RecordsOf i S kept messages
+pub answer_records : (i : ℕ) (S : ReferenceSet) (kept : MessageRecord) (messages : List Message)
+    → IsAnswer i (history S) (message_kept kept) messages → RecordsOf i S kept messages
 answer_records i S (References sender rs) messages none = record { added = []; answers = refl; are = none }
 answer_records i S (Request sender horizon request) messages are =
     let T = reach_after S (Request sender horizon request) in

@@ -22,24 +22,35 @@ use Rattle.warm_world.specs.Stands.{EncodesRecord, StandsFor, Stepped, message_k
 use Rattle.warm_world.proofs.Pairs.{Pairwise-append, Pairwise-push}
 
 -- one message more is encoded
-pub encoded_more : (all all' : List (Vec ℕ)) (v : Vec ℕ) (fs : List Message) (i : ℕ) (f : Message) → Pairwise (λ _ bytes message. EncodesMessage bytes message) (map (λ b. b.items) all) (take i fs)
-    → i < length fs → f ≡ get_or fs i f → all' ≡ all ++ v ∷ [] → EncodesMessage v.items f → Pairwise (λ _ bytes message. EncodesMessage bytes message) (map (λ b. b.items) all') (take (i + 1) fs)
+pub encoded_more : (all all' : List (Vec ℕ)) (v : Vec ℕ) (fs : List Message) (i : ℕ) (f : Message)
+    → Pairwise (λ _ bytes message. EncodesMessage bytes message) (map (λ b. b.items) all)
+    (take i fs)
+    → i < length fs → f ≡ get_or fs i f → all' ≡ all ++ v ∷ [] → EncodesMessage v.items f
+    → Pairwise (λ _ bytes message. EncodesMessage bytes message) (map (λ b. b.items) all')
+    (take (i + 1) fs)
 encoded_more all all' v fs i f so_far lt is more here =
     let items : Vec ℕ → List ℕ = λ b. b.items in
     rw (more, map-append items all (v ∷ []), take_more fs i f lt)
     (Pairwise-push (λ _ bytes message. EncodesMessage bytes message) (map items all) (take i fs) v.items (get_or fs i f) so_far (subst (EncodesMessage v.items) is here))
 
 -- the bytes of a record's message encode the record
-pub encodes_kept : (bytes : List ℕ) (message : Message) (kept : MessageRecord) → message ≡ message_kept kept → EncodesMessage bytes message → EncodesRecord bytes kept
+pub encodes_kept : (bytes : List ℕ) (message : Message) (kept : MessageRecord)
+    → message ≡ message_kept kept → EncodesMessage bytes message → EncodesRecord bytes kept
 encodes_kept bytes message kept is codes = record { encodes = subst (Encodes bytes) is codes.encodes; exact = codes.exact ∙ ap encoding is }
 
 -- messages are kept after the others
-pub messages_join : (w : WorldView) (m : ModelState) (added : List (List ℕ)) (rs : List MessageRecord) → StandsFor w m → Pairwise (λ _ bytes kept. EncodesRecord bytes kept) added rs → StandsFor (record w { messages = w.messages ++ added }) (add_records m rs)
+pub messages_join : (w : WorldView) (m : ModelState) (added : List (List ℕ))
+    (rs : List MessageRecord) → StandsFor w m
+    → Pairwise (λ _ bytes kept. EncodesRecord bytes kept) added rs
+    → StandsFor (record w { messages = w.messages ++ added }) (add_records m rs)
 messages_join w m added rs st coded = record { replicas = st.replicas; messages = Pairwise-append EncodesRecord w.messages added m.records rs st.messages coded }
 
 -- what is decoded of the bytes of a number is the message of the record of that number
-pub decoded_is : (w : WorldView) (m : ModelState) (k : ℕ) (vs : List (Vec ℕ)) (v : Vec ℕ) (bytes : List ℕ) (result : Result Message FrameFault) (message : Message) → StandsFor w m
-    → w.messages ≡ map (λ b. b.items) vs → IsNumber k (length w.messages) → v ≡ get_or vs (index_of_number k) v → bytes ≡ v.items → FindsEncoded bytes result → result ≡ Ok message → message ≡ message_kept (record_at m (index_of_number k))
+pub decoded_is : (w : WorldView) (m : ModelState) (k : ℕ) (vs : List (Vec ℕ)) (v : Vec ℕ)
+    (bytes : List ℕ) (result : Result Message FrameFault) (message : Message) → StandsFor w m
+    → w.messages ≡ map (λ b. b.items) vs → IsNumber k (length w.messages)
+    → v ≡ get_or vs (index_of_number k) v → bytes ≡ v.items → FindsEncoded bytes result
+    → result ≡ Ok message → message ≡ message_kept (record_at m (index_of_number k))
 decoded_is w m k vs v bytes result message st are number is same finds found =
     let kept = record_at m (index_of_number k) in
     let lt : index_of_number k < length w.messages = omega (arith, number.from_one, number.in_range) in
@@ -53,8 +64,11 @@ decoded_is w m k vs v bytes result message st are number is same finds found =
     ]
 
 -- the message of a record is stored after the others, or refused
-pub kept_one : (w w' : WorldView) (m : ModelState) (event : Event) (message : Message) (answer : Answer) (kept : MessageRecord) → StandsFor w m → message ≡ message_kept kept → Keeps w message answer w'
-    → ((k : ℕ) (new : ModelState) → k ≡ length new.records → new ≡ add_records m (kept ∷ []) → Next m event (FrameNo k) new)
+pub kept_one : (w w' : WorldView) (m : ModelState) (event : Event) (message : Message)
+    (answer : Answer) (kept : MessageRecord) → StandsFor w m → message ≡ message_kept kept
+    → Keeps w message answer w'
+    → ((k : ℕ) (new : ModelState) → k ≡ length new.records → new ≡ add_records m (kept ∷ [])
+    → Next m event (FrameNo k) new)
     → Next m event (Refused (Node Memory)) m → Stepped m event answer w'
 kept_one w w' m event message (FrameNo k) kept st is keeps next none =
     let encodes = encodes_kept keeps.0 message kept is keeps.1 in

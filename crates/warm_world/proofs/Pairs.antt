@@ -6,7 +6,9 @@ use Rattle.std.proofs.Math.Seq.{get_or-append_seam}
 use Rattle.std.proofs.lemmas.Bool.{cases_eq, cases_lt}
 use Rattle.warm_world.specs.Lists.{Pairwise}
 
-pub Pairwise-set : {A B : Type 0} (R : ℕ → A → B → Type 0) (xs : List A) (ys : List B) (i : ℕ) (x : A) (y : B) → Pairwise R xs ys → i < length xs → R i x y → Pairwise R (set xs i x) (set ys i y)
+pub Pairwise-set : {A B : Type 0} (R : ℕ → A → B → Type 0) (xs : List A) (ys : List B) (i : ℕ)
+    (x : A) (y : B) → Pairwise R xs ys → i < length xs → R i x y
+    → Pairwise R (set xs i x) (set ys i y)
 Pairwise-set R xs ys i x y all lt here = record {
   same_length = length-set xs i x ∙ all.same_length ∙ sym (length-set ys i y);
   each = λ j a b in_range.
@@ -18,7 +20,8 @@ Pairwise-set R xs ys i x y all lt here = record {
       ];
 }
 
-pub Pairwise-push : {A B : Type 0} (R : ℕ → A → B → Type 0) (xs : List A) (ys : List B) (x : A) (y : B) → Pairwise R xs ys → R (length xs) x y → Pairwise R (xs ++ x ∷ []) (ys ++ y ∷ [])
+pub Pairwise-push : {A B : Type 0} (R : ℕ → A → B → Type 0) (xs : List A) (ys : List B) (x : A)
+    (y : B) → Pairwise R xs ys → R (length xs) x y → Pairwise R (xs ++ x ∷ []) (ys ++ y ∷ [])
 Pairwise-push R xs ys x y all here = record {
   same_length = omega (arith, length-append xs (x ∷ []), length-append ys (y ∷ []), all.same_length);
   each = λ j a b in_range.
@@ -32,7 +35,9 @@ Pairwise-push R xs ys x y all here = record {
 }
 
 -- what the relation keeps is the same at each place
-pub Pairwise-map : {A B C : Type 0} (R : ℕ → A → B → Type 0) (f : A → C) (g : B → C) (xs : List A) (ys : List B) → ((i : ℕ) (a : A) (b : B) → R i a b → f a ≡ g b) → Pairwise R xs ys → map f xs ≡ map g ys
+pub Pairwise-map : {A B C : Type 0} (R : ℕ → A → B → Type 0) (f : A → C) (g : B → C) (xs : List A)
+    (ys : List B) → ((i : ℕ) (a : A) (b : B) → R i a b → f a ≡ g b) → Pairwise R xs ys
+    → map f xs ≡ map g ys
 Pairwise-map R f g [] [] same all = refl
 Pairwise-map R f g [] (y ∷ ys) same all = absurd (omega (arith, all.same_length))
 Pairwise-map R f g (x ∷ xs) [] same all = absurd (omega (arith, all.same_length))
@@ -49,7 +54,9 @@ pub Pairwise-nil : {A B : Type 0} (R : ℕ → A → B → Type 0) → Pairwise 
 Pairwise-nil R = record { same_length = refl; each = λ i a b lt. absurd (omega (arith, lt)) }
 
 -- one list related after another, where the relation does not depend on the place
-pub Pairwise-append : {A B : Type 0} (R : A → B → Type 0) (xs ys' : List A) (ys zs : List B) → Pairwise (λ _ a b. R a b) xs ys → Pairwise (λ _ a b. R a b) ys' zs → Pairwise (λ _ a b. R a b) (xs ++ ys') (ys ++ zs)
+pub Pairwise-append : {A B : Type 0} (R : A → B → Type 0) (xs ys' : List A) (ys zs : List B)
+    → Pairwise (λ _ a b. R a b) xs ys → Pairwise (λ _ a b. R a b) ys' zs
+    → Pairwise (λ _ a b. R a b) (xs ++ ys') (ys ++ zs)
 Pairwise-append R xs ys' ys zs first second = record {
   same_length = omega (arith, length-append xs ys', length-append ys zs, first.same_length, second.same_length);
   each = λ j a b in_range. elim (cases_lt j (length xs)) [
@@ -61,7 +68,9 @@ Pairwise-append R xs ys' ys zs first second = record {
 }
 
 -- what holds of related items holds of those that the second list is made of
-pub Pairwise-of : {A B C : Type 0} (R : A → B → Type 0) (P : A → C → Type 0) (f : C → B) (xs : List A) (cs : List C) → ((a : A) (c : C) → R a (f c) → P a c) → Pairwise (λ _ a b. R a b) xs (map f cs) → Pairwise (λ _ a c. P a c) xs cs
+pub Pairwise-of : {A B C : Type 0} (R : A → B → Type 0) (P : A → C → Type 0) (f : C → B)
+    (xs : List A) (cs : List C) → ((a : A) (c : C) → R a (f c) → P a c)
+    → Pairwise (λ _ a b. R a b) xs (map f cs) → Pairwise (λ _ a c. P a c) xs cs
 Pairwise-of R P f xs cs from all = record {
   same_length = all.same_length ∙ length-map cs f;
   each = λ j a c lt.

@@ -32,7 +32,9 @@ use Rattle.warm_world.specs.Rounds.{IsNotRefused, NoneRefused, deliveries, new_m
 -- ---- the records of an answer, as the messages that a node answers
 
 -- the answers of the model are answers of the node
-pub answers_kept : (i : ℕ) (S : ReferenceSet) (kept : MessageRecord) (added : List MessageRecord) → AreAnswers i (reach_after S kept) kept added → IsAnswer i (history S) (message_kept kept) (map message_kept added)
+pub answers_kept : (i : ℕ) (S : ReferenceSet) (kept : MessageRecord) (added : List MessageRecord)
+    → AreAnswers i (reach_after S kept) kept added
+    → IsAnswer i (history S) (message_kept kept) (map message_kept added)
 answers_kept i S (References sender refs) added is = ap (map message_kept) is
 answers_kept i S (Request sender horizon request) added is =
     let kept = Request sender horizon request in
@@ -52,7 +54,8 @@ record IsDelivery (old : ModelState) (j k : ℕ) (new : ModelState) : Type 0 whe
   first : ℕ
   done : Delivered old j (record_at old (index_of_number k)) count first new
 
-delivery : (old : ModelState) (j k : ℕ) (answer : Answer) (new : ModelState) → IsNotRefused answer → Next old (Deliver j k) answer new → IsDelivery old j k new
+delivery : (old : ModelState) (j k : ℕ) (answer : Answer) (new : ModelState) → IsNotRefused answer
+    → Next old (Deliver j k) answer new → IsDelivery old j k new
 delivery old j k (Took count first) new taken next = record { named = next.0; count = count; first = first; done = next.1 }
 delivery old j k (Refused fault) new taken next = absurd taken
 delivery old j k answer new taken next = absurd next.1
@@ -61,19 +64,24 @@ abbrev nth : List MessageRecord → ℕ → MessageRecord
 nth records k = slice_index_or records k (References 0 (set_of_list []))
 
 -- the record after the first ones
-next_record : (records before : List MessageRecord) (kept : MessageRecord) (after : List MessageRecord) → records ≡ before ++ kept ∷ after → nth records (index_of_number (length before + 1)) ≡ kept
+next_record : (records before : List MessageRecord) (kept : MessageRecord)
+    (after : List MessageRecord) → records ≡ before ++ kept ∷ after
+    → nth records (index_of_number (length before + 1)) ≡ kept
 next_record records before kept after is =
     let at : index_of_number (length before + 1) ≡ length before + 0 = omega arith in
     ap (nth records) at ∙ ap (λ (all : List MessageRecord). nth all (length before + 0)) is ∙ get_or-append-add before (kept ∷ after) 0 (References 0 (set_of_list []))
 
 -- what a delivery does to what reached the replicas, and to the records
-record IsReceived (j : ℕ) (kept : MessageRecord) (added : List MessageRecord) (old new : ModelState) : Type 0 where
+record IsReceived (j : ℕ) (kept : MessageRecord) (added : List MessageRecord)
+    (old new : ModelState) : Type 0 where
   answers : IsAnswer j (known_to old j) (message_kept kept) (map message_kept added)
   history_is : known_to new j ≡ history_after (known_to old j) (message_kept kept)
   others : (i : ℕ) → index_of_number i ≢ index_of_number j → reach_of new i ≡ reach_of old i
   records : new.records ≡ old.records ++ added
 
-is_received : (old : ModelState) (j k : ℕ) (kept : MessageRecord) (new : ModelState) (d : IsDelivery old j k new) → record_at old (index_of_number k) ≡ kept → IsReceived j kept d.done.added old new
+is_received : (old : ModelState) (j k : ℕ) (kept : MessageRecord) (new : ModelState)
+    (d : IsDelivery old j k new) → record_at old (index_of_number k) ≡ kept
+    → IsReceived j kept d.done.added old new
 is_received old j k kept new d is =
     let S : ReferenceSet = reach_of old j in
     let next : ReplicaState = record (replica old (index_of_number j)) { reach = reach_after S (record_at old (index_of_number k)) } in
@@ -90,14 +98,18 @@ is_received old j k kept new d is =
 
 -- the replica j has received these records, its answers were stored, and nothing else reached a
 -- replica
-record ReceivedAll (j : ℕ) (received_ones : List MessageRecord) (old new : ModelState) : Type 0 where
+record ReceivedAll (j : ℕ) (received_ones : List MessageRecord)
+    (old new : ModelState) : Type 0 where
   added : List MessageRecord
   records : new.records ≡ old.records ++ added
-  receives : Receives j (known_to old j) (map message_kept received_ones) (map message_kept added) (known_to new j)
+  receives : Receives j (known_to old j) (map message_kept received_ones) (map message_kept added)
+      (known_to new j)
   others : (i : ℕ) → index_of_number i ≢ index_of_number j → reach_of new i ≡ reach_of old i
 
-receives_run : (j : ℕ) (fs before after : List MessageRecord) (old new : ModelState) (answers : List Answer) → old.records ≡ before ++ (fs ++ after)
-    → Run old (deliveries j (length before) (length fs)) answers new → AllByRecursion IsNotRefused answers → ReceivedAll j fs old new
+receives_run : (j : ℕ) (fs before after : List MessageRecord) (old new : ModelState)
+    (answers : List Answer) → old.records ≡ before ++ (fs ++ after)
+    → Run old (deliveries j (length before) (length fs)) answers new
+    → AllByRecursion IsNotRefused answers → ReceivedAll j fs old new
 receives_run j [] before after old new [] is run taken = record {
   added = [];
   records = ap (λ (m : ModelState). m.records) run ∙ sym (append-nil old.records);
@@ -133,7 +145,9 @@ receives_run j (f ∷ fs) before after old new (answer ∷ answers) is run taken
     }
 
 -- the replica j receives what was stored between two states
-receives_new : (j : ℕ) (fs : List MessageRecord) (before after new : ModelState) → after.records ≡ before.records ++ fs → NoneRefused after (new_messages_to j before after) new → ReceivedAll j fs after new
+receives_new : (j : ℕ) (fs : List MessageRecord) (before after new : ModelState)
+    → after.records ≡ before.records ++ fs → NoneRefused after (new_messages_to j before after) new
+    → ReceivedAll j fs after new
 receives_new j fs before after new is come =
     let many : length after.records - length before.records ≡ length fs = omega (arith, ap length is, length-append before.records fs) in
     receives_run j fs before.records [] after new come.answers (is ∙ ap (λ (rs : List MessageRecord). before.records ++ rs) (sym (append-nil fs)))
@@ -141,12 +155,15 @@ receives_new j fs before after new is come =
 
 -- ---- the offer
 
-offer_kept : (old : ModelState) (i : ℕ) (answer : Answer) (new : ModelState) → IsNotRefused answer → Next old (Offer i) answer new → new ≡ add_records old (offer_record i (reach_of old i) ∷ [])
+offer_kept : (old : ModelState) (i : ℕ) (answer : Answer) (new : ModelState) → IsNotRefused answer
+    → Next old (Offer i) answer new → new ≡ add_records old (offer_record i (reach_of old i) ∷ [])
 offer_kept old i (FrameNo k) new taken next = next.1.1
 offer_kept old i (Refused fault) new taken next = absurd taken
 offer_kept old i answer new taken next = absurd next.1
 
-offered_is : (old : ModelState) (i : ℕ) (answers : List Answer) (new : ModelState) → Run old (Offer i ∷ []) answers new → AllByRecursion IsNotRefused answers → new ≡ add_records old (offer_record i (reach_of old i) ∷ [])
+offered_is : (old : ModelState) (i : ℕ) (answers : List Answer) (new : ModelState)
+    → Run old (Offer i ∷ []) answers new → AllByRecursion IsNotRefused answers
+    → new ≡ add_records old (offer_record i (reach_of old i) ∷ [])
 offered_is old i [] new run taken = absurd run
 offered_is old i (answer ∷ []) new run taken = run.2 ∙ offer_kept old i answer run.0 taken.0 run.1
 offered_is old i (answer ∷ other ∷ answers) new run taken = absurd run.2
@@ -158,7 +175,8 @@ none_mapped [] is = refl
 none_mapped (r ∷ rs) is = absurd (cc)
 
 -- a replica that receives nothing answers nothing, and its history is unchanged
-receives_nothing : (j : ℕ) (fs : List MessageRecord) (old new : ModelState) → fs ≡ [] → (all : ReceivedAll j fs old new) → (all.added ≡ []) × (known_to new j ≡ known_to old j)
+receives_nothing : (j : ℕ) (fs : List MessageRecord) (old new : ModelState) → fs ≡ []
+    → (all : ReceivedAll j fs old new) → (all.added ≡ []) × (known_to new j ≡ known_to old j)
 receives_nothing j fs old new none all =
     let receives : Receives j (known_to old j) [] (map message_kept all.added) (known_to new j) =
     subst (λ (rs : List MessageRecord). Receives j (known_to old j) (map message_kept rs) (map message_kept all.added) (known_to new j)) none all.receives in
@@ -168,7 +186,9 @@ receives_nothing j fs old new none all =
 abbrev pub raised_by : ℕ → ℕ → ModelState → HistoryView
 raised_by i j m = history (with_horizon (reach_of m i).horizon (reach_of m j))
 
-round_joins : (i j : ℕ) (old new : ModelState) → Fits (known_to old i) → Fits (known_to old j) → (round : GossipRound i j old new) → AreJoined round ⊎ IsCollision (known_to old i) (raised_by i j old)
+round_joins : (i j : ℕ) (old new : ModelState) → Fits (known_to old i) → Fits (known_to old j)
+    → (round : GossipRound i j old new)
+    → AreJoined round ⊎ IsCollision (known_to old i) (raised_by i j old)
 round_joins i j old new fits others round = elim (cases_eq (index_of_number i) (index_of_number j)) [
   | inl same ↦ inl (own same)
   | inr other ↦ elim (node_rounds.gossip_round_joins i j h g (known_to new i) (known_to new j) (IsHistory-history (reach_of old i)) (IsHistory-history (reach_of old j)) fits others (between other)) [
@@ -206,7 +226,8 @@ round_joins i j old new fits others round = elim (cases_eq (index_of_number i) (
     no_more none = first.records ∙ ap (λ (rs : List MessageRecord). round.offered.records ++ rs) none ∙ append-nil round.offered.records
 
     -- what j receives of the offer
-    offer_heard : Receives j g (offer i h ∷ []) (map message_kept first.added) (known_to round.asked j)
+    offer_heard : Receives j g (offer i h ∷ []) (map message_kept first.added)
+        (known_to round.asked j)
     offer_heard =
         subst (λ (k : HistoryView). Receives j k (offer i h ∷ []) (map message_kept first.added) (known_to round.asked j)) (knew j)
         (subst (λ (f : Message). Receives j (known_to round.offered j) (f ∷ []) (map message_kept first.added) (known_to round.asked j)) (sym (offered_kept i (reach_of old i))) first.receives)
@@ -220,7 +241,8 @@ round_joins i j old new fits others round = elim (cases_eq (index_of_number i) (
     knows : known_to round.asked j ≡ history_after g (offer i h)
     knows = offer_heard.3.1
 
-    between : index_of_number i ≢ index_of_number j → node.HistoryRound i j h g (known_to new i) (known_to new j)
+    between : index_of_number i ≢ index_of_number j
+        → node.HistoryRound i j h g (known_to new i) (known_to new j)
     between other =
         let back : index_of_number j ≢ index_of_number i = λ same. other (sym same) in
         let before : known_to round.asked i ≡ h = ap history (first.others i other) ∙ knew i in

@@ -10,7 +10,9 @@ use Rattle.warm_world.proofs.Victims.{victims_are_farthest}
 use Rattle.warm_world.proofs.Agreement.{histories_are_exact, models_agree, replicas_agree}
 
 -- a run, and one event more
-pub Run-more : (old : ModelState) (events : List Event) (answers : List Answer) (mid : ModelState) (event : Event) (answer : Answer) (new : ModelState) → Run old events answers mid → Next mid event answer new → Run old (events ++ event ∷ []) (answers ++ answer ∷ []) new
+pub Run-more : (old : ModelState) (events : List Event) (answers : List Answer) (mid : ModelState)
+    (event : Event) (answer : Answer) (new : ModelState) → Run old events answers mid
+    → Next mid event answer new → Run old (events ++ event ∷ []) (answers ++ answer ∷ []) new
 Run-more old [] [] mid event answer new is next =
     let P : ModelState → Type 0 = λ m. Next m event answer new in
     (new, subst P is next, refl)
@@ -19,7 +21,8 @@ Run-more old (e ∷ events) [] mid event answer new never next = absurd never
 Run-more old (e ∷ events) (a ∷ answers) mid event answer new run next = (run.0, run.1, Run-more run.0 events answers mid event answer new run.2 next)
 
 -- every run is right
-each_victim : (old : ModelState) (events : List Event) (answers : List Answer) (new : ModelState) (run : Run old events answers new) → EachVictim old events answers new run
+each_victim : (old : ModelState) (events : List Event) (answers : List Answer) (new : ModelState)
+    (run : Run old events answers new) → EachVictim old events answers new run
 each_victim old [] [] new run = tt
 each_victim old [] (a ∷ answers) new never = absurd never
 each_victim old (e ∷ events) [] new never = absurd never
@@ -28,7 +31,10 @@ each_victim old (e ∷ events) (a ∷ answers) new run = (victims_are_farthest o
 pub runs_are_right : RunsAreRight
 runs_are_right old events answers new run = record { agree = models_agree new; victims = each_victim old events answers new run }
 
-pub ran_more : (old : ModelState) (events : List Event) (answers : List Answer) (w w' : WorldView) (event : Event) (answer : Answer) → Ran old events answers w → ((m : ModelState) → StandsFor w m → Stepped m event answer w') → Ran old (events ++ event ∷ []) (answers ++ answer ∷ []) w'
+pub ran_more : (old : ModelState) (events : List Event) (answers : List Answer) (w w' : WorldView)
+    (event : Event) (answer : Answer) → Ran old events answers w
+    → ((m : ModelState) → StandsFor w m → Stepped m event answer w')
+    → Ran old (events ++ event ∷ []) (answers ++ answer ∷ []) w'
 ran_more old events answers w w' event answer ran steps =
     let stepped = steps ran.new ran.stands in
     record {

@@ -25,18 +25,22 @@ use Rattle.warm_world.proofs.Worlds.{replica_there}
 abbrev WasAsked : ModelState → ℕ → Call → ModelState → Type 0
 WasAsked old i asked new = (new ≡ old) ⊎ ((index_of_number i < length old.replicas) × ((given : Option Reply) × SomeNodeReplies old i (Some asked) given new))
 
-pinned : (old : ModelState) (i : ℕ) (p : PageId) (answer : Answer) (new : ModelState) → Next old (Pin i p) answer new → WasAsked old i (call.Pin p) new
+pinned : (old : ModelState) (i : ℕ) (p : PageId) (answer : Answer) (new : ModelState)
+    → Next old (Pin i p) answer new → WasAsked old i (call.Pin p) new
 pinned old i p (Refused (Node why)) new next = inr (replica_there old (Pin i p) next.0, (Some (reply.Refused why), next.1))
 pinned old i p (Refused fault) new next = inl next.1
 pinned old i p answer new next = inr (replica_there old (Pin i p) next.0, (reply_of answer, next.1))
 
-warmed : (old : ModelState) (i : ℕ) (answer : Answer) (new : ModelState) → Next old (WarmStep i) answer new → WasAsked old i call.WarmStep new
+warmed : (old : ModelState) (i : ℕ) (answer : Answer) (new : ModelState)
+    → Next old (WarmStep i) answer new → WasAsked old i call.WarmStep new
 warmed old i (Refused (Node why)) new next = inr (replica_there old (WarmStep i) next.0, (Some (reply.Refused why), next.1))
 warmed old i (Refused fault) new next = inl next.1
 warmed old i answer new next = inr (replica_there old (WarmStep i) next.0, (reply_of answer, next.1))
 
 -- what leaves the replica's pool leaves its node's at the call
-left_by : (old : ModelState) (i : ℕ) (asked : Call) (new : ModelState) → asked ≢ call.Restart → WasAsked old i asked new → (page : PageId) → IsEvictedFrom i old new page → IsRightVictim i old page
+left_by : (old : ModelState) (i : ℕ) (asked : Call) (new : ModelState) → asked ≢ call.Restart
+    → WasAsked old i asked new → (page : PageId) → IsEvictedFrom i old new page
+    → IsRightVictim i old page
 left_by old i asked new other (inl same) page leaves =
     absurd (subst (λ (m : ModelState). IsAbsent (pool_of m i) page) same leaves.after leaves.before.frame leaves.before.holds)
 left_by old i asked new other (inr (low, (Some given, does))) page leaves =
@@ -47,17 +51,21 @@ left_by old i asked new other (inr (low, (Some given, does))) page leaves =
     (node.victims_are_farthest (reach_of old i) (node_of old i) (record (node_of old i) { pool = pool }) asked given refl does.1).leaves page other (leaves.before, gone)
 left_by old i asked new other (inr (low, (None, never))) page leaves = absurd never
 
-left_of : (old : ModelState) (event : Event) (answer : Answer) (new : ModelState) → Next old event answer new → (i : ℕ) (page : PageId) → MayLoad i event → IsEvictedFrom i old new page → IsRightVictim i old page
+left_of : (old : ModelState) (event : Event) (answer : Answer) (new : ModelState)
+    → Next old event answer new → (i : ℕ) (page : PageId) → MayLoad i event
+    → IsEvictedFrom i old new page → IsRightVictim i old page
 left_of old (Pin j p) answer new next i page is leaves =
     subst (λ n. IsEvictedFrom n old new page → IsRightVictim n old page) is (left_by old j (call.Pin p) new (λ same. absurd (cc)) (pinned old j p answer new next) page) leaves
 left_of old (WarmStep j) answer new next i page is leaves =
     subst (λ n. IsEvictedFrom n old new page → IsRightVictim n old page) is (left_by old j call.WarmStep new (λ same. absurd (cc)) (warmed old j answer new next) page) leaves
 left_of old event answer new next i page is leaves = absurd is
 
-named_of : (old : ModelState) (i : ℕ) (page : PageId) (new : ModelState) → Next old (Victim i) (Page (Some page)) new → IsRightVictim i old page
+named_of : (old : ModelState) (i : ℕ) (page : PageId) (new : ModelState)
+    → Next old (Victim i) (Page (Some page)) new → IsRightVictim i old page
 named_of old i page new next = victim_is_farthest (history (reach_of old i)) (reach_of old i) refl (unfixed_pages (pool_of old i)) page next.1.1.0
 
-pub victims_are_farthest : (old : ModelState) (event : Event) (answer : Answer) (new : ModelState) → Next old event answer new → VictimsAreFarthest old event answer new
+pub victims_are_farthest : (old : ModelState) (event : Event) (answer : Answer) (new : ModelState)
+    → Next old event answer new → VictimsAreFarthest old event answer new
 victims_are_farthest old event answer new next = record {
   named = λ i page e a. named_of old i page new (subst (λ x. Next old (Victim i) x new) a (subst (λ v. Next old v answer new) e next));
   left = left_of old event answer new next;

@@ -34,7 +34,8 @@ record IsWarmStep (old : ModelState) (i : ℕ) (new : ModelState) : Type 0 where
   loaded : Option PageId
   asked : NodeReplies old i call.WarmStep (reply.Loaded loaded) new
 
-warm_step : (old : ModelState) (i : ℕ) (answer : Answer) (new : ModelState) → IsNotRefused answer → Next old (WarmStep i) answer new → IsWarmStep old i new
+warm_step : (old : ModelState) (i : ℕ) (answer : Answer) (new : ModelState) → IsNotRefused answer
+    → Next old (WarmStep i) answer new → IsWarmStep old i new
 warm_step old i (Loaded page) new taken next = record { named = next.0; loaded = page; asked = next.1 }
 warm_step old i (Refused fault) new taken next = absurd taken
 warm_step old i Done new taken next = absurd next.1.1
@@ -45,7 +46,8 @@ warm_step old i (Pages pages) new taken next = absurd next.1.1
 warm_step old i answer new taken next = absurd next.1
 
 -- it is a step of the replica's node
-node_steps : (old : ModelState) (i : ℕ) (new : ModelState) (w : IsWarmStep old i new) → Step (node_of old i) call.WarmStep (reply.Loaded w.loaded) (node_of new i)
+node_steps : (old : ModelState) (i : ℕ) (new : ModelState) (w : IsWarmStep old i new)
+    → Step (node_of old i) call.WarmStep (reply.Loaded w.loaded) (node_of new i)
 node_steps old i new w =
     let pool : PoolView = w.asked.0 in
     let next : ReplicaState = record (replica old (index_of_number i)) { pool = pool } in
@@ -55,7 +57,9 @@ node_steps old i new w =
 
 -- ---- steps one after the other
 
-steps_run : (i n : ℕ) (old new : ModelState) (answers : List Answer) → Run old (replicate n (WarmStep i)) answers new → AllByRecursion IsNotRefused answers → WarmSteps n (node_of old i) (node_of new i)
+steps_run : (i n : ℕ) (old new : ModelState) (answers : List Answer)
+    → Run old (replicate n (WarmStep i)) answers new → AllByRecursion IsNotRefused answers
+    → WarmSteps n (node_of old i) (node_of new i)
 steps_run i zero old new [] run taken = ap (λ (m : ModelState). node_of m i) run
 steps_run i zero old new (answer ∷ answers) run taken = absurd run
 steps_run i (suc n) old new [] run taken = absurd run
@@ -82,19 +86,24 @@ no_node = opened_node 0 (fresh_pool 0 0 [])
 abbrev unseen : ReplicaView
 unseen = record { node = node_view no_node; buffers = [] }
 
-module _ {A : Type 0} (g : A → NodeState) (f : A → ReplicaView) (shown : (x : A) → (f x).node ≡ node_view (g x)) where
-  same_nodes : (xs : List A) → map (λ (r : ReplicaView). r.node) (map f xs) ≡ map node_view (map g xs)
+module _ {A : Type 0} (g : A → NodeState) (f : A → ReplicaView)
+    (shown : (x : A) → (f x).node ≡ node_view (g x)) where
+  same_nodes : (xs : List A)
+      → map (λ (r : ReplicaView). r.node) (map f xs) ≡ map node_view (map g xs)
   same_nodes [] = refl
   same_nodes (x ∷ xs) = let head : (f x).node ≡ node_view (g x) = shown x in let tail : map (λ (r : ReplicaView). r.node) (map f xs) ≡ map node_view (map g xs) = same_nodes xs in cc
 
-  node_shown : (xs : List A) (k : ℕ) → (get_or (map f xs) k unseen).node ≡ node_view (get_or (map g xs) k no_node)
+  node_shown : (xs : List A) (k : ℕ)
+      → (get_or (map f xs) k unseen).node ≡ node_view (get_or (map g xs) k no_node)
   node_shown xs k =
       sym (get_or-map (λ (r : ReplicaView). r.node) (map f xs) k unseen)
       ∙ ap (λ (ns : List NodeView). get_or ns k (node_view no_node)) (same_nodes xs)
       ∙ get_or-map node_view (map g xs) k no_node
 
   -- no page of its pools is in two frames
-  pub pools_differ : (xs : List A) (messages : List (List ℕ)) (m : ModelState) → ArePools (map g xs) → (let w : WorldView = record { replicas = map f xs; messages = messages } in StandsFor w m) → PoolsDiffer m
+  pub pools_differ : (xs : List A) (messages : List (List ℕ)) (m : ModelState) → ArePools (map g xs)
+      → (let w : WorldView = record { replicas = map f xs; messages = messages } in StandsFor w m)
+      → PoolsDiffer m
   pools_differ xs messages m fit stands i =
       let k : ℕ = index_of_number i in
       elim (cases_lt k (length xs)) [

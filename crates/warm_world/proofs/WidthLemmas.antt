@@ -38,21 +38,25 @@ use Rattle.warm_world.specs.Widths.{EventFits, ReachFits, ReplicaFits, RecordFit
 
 -- ---- lists
 
-all_get : {A : Type 0} (P : A → Type 0) (xs : List A) (k : ℕ) (d : A) → AllByRecursion P xs → P d → P (slice_index_or xs k d)
+all_get : {A : Type 0} (P : A → Type 0) (xs : List A) (k : ℕ) (d : A) → AllByRecursion P xs → P d
+    → P (slice_index_or xs k d)
 all_get P [] k d all own = own
 all_get P (x ∷ xs) zero d all own = all.0
 all_get P (x ∷ xs) (suc k) d all own = all_get P xs k d all.1 own
 
-all_set : {A : Type 0} (P : A → Type 0) (xs : List A) (k : ℕ) (x : A) → AllByRecursion P xs → P x → AllByRecursion P (slice_set xs k x)
+all_set : {A : Type 0} (P : A → Type 0) (xs : List A) (k : ℕ) (x : A) → AllByRecursion P xs → P x
+    → AllByRecursion P (slice_set xs k x)
 all_set P [] k x all own = tt
 all_set P (y ∷ ys) zero x all own = (own, all.1)
 all_set P (y ∷ ys) (suc k) x all own = (all.0, all_set P ys k x all.1 own)
 
-all_map : {A B : Type 0} (P : B → Type 0) (f : A → B) (xs : List A) → ((x : A) → P (f x)) → AllByRecursion P (map f xs)
+all_map : {A B : Type 0} (P : B → Type 0) (f : A → B) (xs : List A) → ((x : A) → P (f x))
+    → AllByRecursion P (map f xs)
 all_map P f [] each = tt
 all_map P f (x ∷ xs) each = (each x, all_map P f xs each)
 
-all_replicate : {A : Type 0} (P : A → Type 0) (n : ℕ) (x : A) → P x → AllByRecursion P (replicate n x)
+all_replicate : {A : Type 0} (P : A → Type 0) (n : ℕ) (x : A) → P x
+    → AllByRecursion P (replicate n x)
 all_replicate P zero x own = tt
 all_replicate P (suc n) x own = (own, all_replicate P n x own)
 
@@ -80,14 +84,16 @@ histories_fit m i fits = history_fits (reach_of m i) (replica_fits m (index_of_n
 
 -- ---- what each event makes
 
-replica_set : (m : ModelState) (k : ℕ) (r : ReplicaState) → ModelFits m → ReplicaFits r → ModelFits (set_replica m k r)
+replica_set : (m : ModelState) (k : ℕ) (r : ReplicaState) → ModelFits m → ReplicaFits r
+    → ModelFits (set_replica m k r)
 replica_set m k r fits own = record {
   few = omega (arith, fits.few, length-set m.replicas k r);
   replicas = all_set ReplicaFits m.replicas k r fits.replicas own;
   records = fits.records;
 }
 
-records_added : (m : ModelState) (rs : List MessageRecord) → ModelFits m → AllByRecursion RecordFits rs → ModelFits (add_records m rs)
+records_added : (m : ModelState) (rs : List MessageRecord) → ModelFits m
+    → AllByRecursion RecordFits rs → ModelFits (add_records m rs)
 records_added m rs fits all = record {
   few = fits.few;
   replicas = fits.replicas;
@@ -108,13 +114,15 @@ flushed_fits k r fits = record {
   waiting = all_set AreReferences r.pending k [] fits.waiting tt;
 }
 
-put_last_fits : (k : ℕ) (x : Reference) (r : ReplicaState) → IsReference x → ReplicaFits r → ReplicaFits (put_last k x r)
+put_last_fits : (k : ℕ) (x : Reference) (r : ReplicaState) → IsReference x → ReplicaFits r
+    → ReplicaFits (put_last k x r)
 put_last_fits k x r own fits = record {
   reached = fits.reached;
   waiting = all_set AreReferences r.pending k (pending r k ++ x ∷ []) fits.waiting (all_append IsReference (pending r k) (x ∷ []) (pending_fits r k fits) (own, tt));
 }
 
-referred_fits : (capacity k : ℕ) (x : Reference) (r : ReplicaState) → IsReference x → ReplicaFits r → ReplicaFits (referred capacity k x r)
+referred_fits : (capacity k : ℕ) (x : Reference) (r : ReplicaState) → IsReference x → ReplicaFits r
+    → ReplicaFits (referred capacity k x r)
 referred_fits capacity k x r own fits = elim (nat_le capacity (length (pending r k))) as (λ b. ReplicaFits (put_last k x (if b then flushed k r else r))) [
   | true ↦ put_last_fits k x (flushed k r) own (flushed_fits k r fits)
   | false ↦ put_last_fits k x r own fits
@@ -123,7 +131,8 @@ referred_fits capacity k x r own fits = elim (nat_le capacity (length (pending r
 restarted_fits : (pool : PoolView) (r : ReplicaState) → ReplicaFits (restarted pool r)
 restarted_fits pool r = record { reached = these_fit [] tt; waiting = all_map AreReferences (λ _. []) r.pending (λ _. tt) }
 
-raised_fits : (time : ℕ) (r : ReplicaState) → time < 2 ^ 64 → ReplicaFits r → ReplicaFits (raised_replica time r)
+raised_fits : (time : ℕ) (r : ReplicaState) → time < 2 ^ 64 → ReplicaFits r
+    → ReplicaFits (raised_replica time r)
 raised_fits time r low fits = record {
   reached = both_fit r.reach (record { horizon = time; given = [] }) fits.reached (record { horizon = low; references = tt });
   waiting = fits.waiting;
@@ -131,35 +140,44 @@ raised_fits time r low fits = record {
 
 -- ---- answered records
 
-carried_fits : (S : ReferenceSet) (bucket : ℕ) (after : Option PageId) → ReachFits S → ReachFits (carried S bucket after MAX_ENTRIES)
+carried_fits : (S : ReferenceSet) (bucket : ℕ) (after : Option PageId) → ReachFits S
+    → ReachFits (carried S bucket after MAX_ENTRIES)
 carried_fits S bucket after all = record {
   horizon = all.horizon;
   references = rw (references-those (λ r. list_any (λ p. is_eq (page_cmp p r.page)) (pages_carried S bucket after MAX_ENTRIES)) S) (all_filter IsReference _ (references S) all.references);
 }
 
-records_fit : (i : ℕ) (S : ReferenceSet) (bucket : ℕ) (after : Option PageId) (parts : List (List Entry)) → ReachFits S → AllByRecursion RecordFits (records_of i S bucket after parts)
+records_fit : (i : ℕ) (S : ReferenceSet) (bucket : ℕ) (after : Option PageId)
+    (parts : List (List Entry)) → ReachFits S
+    → AllByRecursion RecordFits (records_of i S bucket after parts)
 records_fit i S bucket after [] all = tt
 records_fit i S bucket after (part ∷ parts) all = (carried_fits S bucket after all, records_fit i S bucket (last_page part) parts all)
 
-buckets_fit : (i : ℕ) (S : ReferenceSet) (buckets : List ℕ) → ReachFits S → AllByRecursion RecordFits (flat_map (bucket_records i S) buckets)
+buckets_fit : (i : ℕ) (S : ReferenceSet) (buckets : List ℕ) → ReachFits S
+    → AllByRecursion RecordFits (flat_map (bucket_records i S) buckets)
 buckets_fit i S [] all = tt
 buckets_fit i S (bucket ∷ buckets) all =
     all_append RecordFits (bucket_records i S bucket) (flat_map (bucket_records i S) buckets) (records_fit i S bucket None _ all) (buckets_fit i S buckets all)
 
-wanted_fit : (i : ℕ) (S : ReferenceSet) (request : ℕ) → ReachFits S → AllByRecursion RecordFits (requested_records i S request)
+wanted_fit : (i : ℕ) (S : ReferenceSet) (request : ℕ) → ReachFits S
+    → AllByRecursion RecordFits (requested_records i S request)
 wanted_fit i S request all = buckets_fit i S (requested_buckets request) all
 
-asking_fits : (i : ℕ) (S : ReferenceSet) (request : ℕ) (none : Bool) → ReachFits S → AllByRecursion RecordFits (if none then [] else requested_records i S request ++ Request i S.horizon request ∷ [])
+asking_fits : (i : ℕ) (S : ReferenceSet) (request : ℕ) (none : Bool) → ReachFits S
+    → AllByRecursion RecordFits
+    (if none then [] else requested_records i S request ++ Request i S.horizon request ∷ [])
 asking_fits i S request true all = tt
 asking_fits i S request false all =
     all_append RecordFits (requested_records i S request) (Request i S.horizon request ∷ []) (wanted_fit i S request all) (record { horizon = all.horizon; references = tt }, tt)
 
-answers_fit : (i : ℕ) (S : ReferenceSet) (kept : MessageRecord) (added : List MessageRecord) → ReachFits S → AreAnswers i S kept added → AllByRecursion RecordFits added
+answers_fit : (i : ℕ) (S : ReferenceSet) (kept : MessageRecord) (added : List MessageRecord)
+    → ReachFits S → AreAnswers i S kept added → AllByRecursion RecordFits added
 answers_fit i S (References sender refs) added all is = subst (AllByRecursion RecordFits) (sym is) tt
 answers_fit i S (Request sender horizon request) added all is = subst (AllByRecursion RecordFits) (sym is) (wanted_fit i S request all)
 answers_fit i S (Digests sender horizon digests) added all is = subst (AllByRecursion RecordFits) (sym is.3) (asking_fits i S is.0 (is.0 == 0) all)
 
-delivered_fits : (old : ModelState) (j k count first : ℕ) (new : ModelState) → ModelFits old → Delivered old j (record_at old k) count first new → ModelFits new
+delivered_fits : (old : ModelState) (j k count first : ℕ) (new : ModelState) → ModelFits old
+    → Delivered old j (record_at old k) count first new → ModelFits new
 delivered_fits old j k count first new fits done =
     let own : ReplicaFits (replica old (index_of_number j)) = replica_fits old (index_of_number j) fits in
     let kept : MessageRecord = record_at old k in
@@ -175,11 +193,13 @@ delivered_fits old j k count first new fits done =
 same_fits : (old new : ModelState) → new ≡ old → ModelFits old → ModelFits new
 same_fits old new is fits = subst ModelFits (sym is) fits
 
-replied_fits : (old : ModelState) (i : ℕ) (asked : Option Call) (replied : Option Reply) (new : ModelState) → ModelFits old → SomeNodeReplies old i asked replied new → ModelFits new
+replied_fits : (old : ModelState) (i : ℕ) (asked : Option Call) (replied : Option Reply)
+    (new : ModelState) → ModelFits old → SomeNodeReplies old i asked replied new → ModelFits new
 replied_fits old i (Some asked) (Some replied) new fits r = same_fits _ new r.2 (pool_set old i r.0 fits)
 replied_fits old i asked replied new fits r = absurd r
 
-refused_fits : (old : ModelState) (event : Event) (why : NodeFault) (new : ModelState) → ModelFits old → RefusesEvent old event why new → ModelFits new
+refused_fits : (old : ModelState) (event : Event) (why : NodeFault) (new : ModelState)
+    → ModelFits old → RefusesEvent old event why new → ModelFits new
 refused_fits old (Restart i) why new fits r = same_fits _ new r.2 (pool_set old i r.0 fits)
 refused_fits old (Refer i w page time) Memory new fits r = same_fits old new r.1 fits
 refused_fits old (Flush i w) Memory new fits r = same_fits old new r fits
@@ -190,7 +210,9 @@ refused_fits old (Warm i n) Memory new fits r = same_fits old new r fits
 refused_fits old (Show i) Memory new fits r = same_fits old new r fits
 refused_fits old event why new fits r = replied_fits old (replica_of event) (call_of event) (Some (reply.Refused why)) new fits r
 
-effect_fits : (old : ModelState) (event : Event) (answer : Answer) (new : ModelState) → ModelFits old → EventFits event → IsNamed (shape old) event → Effect old event answer new → ModelFits new
+effect_fits : (old : ModelState) (event : Event) (answer : Answer) (new : ModelState)
+    → ModelFits old → EventFits event → IsNamed (shape old) event → Effect old event answer new
+    → ModelFits new
 effect_fits old (Refer i w page time) Done new fits own named done =
     let low : i ≤ MAX_REPLICAS = omega (arith, named.replica_there.in_range, fits.few, length-map old.replicas (λ r. length r.pending)) in
     let made : IsReference (stamped i page time) = record { page = own.0; stamp = record { time = own.1; replica = (named.replica_there.from_one, low) } } in
@@ -207,7 +229,8 @@ effect_fits old (Horizon i time) (Kept horizon) new fits own named done =
 effect_fits old (Show i) (Shown entries) new fits own named done = same_fits old new done.1 fits
 effect_fits old event answer new fits own named done = replied_fits old (replica_of event) (call_of event) (reply_of answer) new fits done
 
-step_fits : (old : ModelState) (event : Event) (answer : Answer) (new : ModelState) → ModelFits old → EventFits event → Next old event answer new → ModelFits new
+step_fits : (old : ModelState) (event : Event) (answer : Answer) (new : ModelState) → ModelFits old
+    → EventFits event → Next old event answer new → ModelFits new
 step_fits old event (Refused (Node why)) new fits own next = refused_fits old event why new fits next.1
 step_fits old event (Refused fault) new fits own next = same_fits old new next.1 fits
 step_fits old event answer new fits own next = effect_fits old event answer new fits own next.0 next.1

@@ -33,32 +33,40 @@ same_shape w m st =
     let messages : length w.messages ≡ length m.records = st.messages.same_length in
     cc
 
-pub named_too : (w : WorldView) (m : ModelState) (event : Event) → StandsFor w m → IsNamed (view_shape w) event → IsNamed (shape m) event
+pub named_too : (w : WorldView) (m : ModelState) (event : Event) → StandsFor w m
+    → IsNamed (view_shape w) event → IsNamed (shape m) event
 named_too w m event st named = let P : Shape → Type 0 = λ s. IsNamed s event in subst P (same_shape w m st) named
 
 -- what is named does not exist: the event is refused, and nothing changes
-pub missing_too : (w : WorldView) (m : ModelState) (event : Event) (fault : WorldFault) → StandsFor w m → IsMissing (view_shape w) event fault → Stepped m event (Refused fault) w
+pub missing_too : (w : WorldView) (m : ModelState) (event : Event) (fault : WorldFault)
+    → StandsFor w m → IsMissing (view_shape w) event fault → Stepped m event (Refused fault) w
 missing_too w m event (Node why) st missing = absurd missing
 missing_too w m event NoSuchReplica st missing = let P : Shape → Type 0 = λ s. IsMissing s event NoSuchReplica in record { new = m; next = (subst P (same_shape w m st) missing, refl); stands = st }
 missing_too w m event NoSuchWorker st missing = let P : Shape → Type 0 = λ s. IsMissing s event NoSuchWorker in record { new = m; next = (subst P (same_shape w m st) missing, refl); stands = st }
 missing_too w m event NoSuchFrame st missing = let P : Shape → Type 0 = λ s. IsMissing s event NoSuchFrame in record { new = m; next = (subst P (same_shape w m st) missing, refl); stands = st }
 
 -- an allocation failed, and nothing changes
-pub no_memory_still : (w : WorldView) (m : ModelState) (event : Event) (why : NodeFault) → StandsFor w m → why ≡ Memory → Next m event (Refused (Node Memory)) m → Stepped m event (Refused (Node why)) w
+pub no_memory_still : (w : WorldView) (m : ModelState) (event : Event) (why : NodeFault)
+    → StandsFor w m → why ≡ Memory → Next m event (Refused (Node Memory)) m
+    → Stepped m event (Refused (Node why)) w
 no_memory_still w m event why st is next = record { new = m; next = subst (λ f. Next m event (Refused (Node f)) m) (sym is) next; stands = st }
 
 -- ---- what the replicas of a world show, with that of one of them changed
 
 -- the replica that an event names is there
-pub replica_there : (m : ModelState) (event : Event) → IsNamed (shape m) event → index_of_number (replica_of event) < length m.replicas
+pub replica_there : (m : ModelState) (event : Event) → IsNamed (shape m) event
+    → index_of_number (replica_of event) < length m.replicas
 replica_there m event named = omega (arith, named.replica_there.from_one, named.replica_there.in_range, length-map m.replicas (λ (r : ReplicaState). length r.pending))
 
 -- it is the one that was put there
-pub replica_set_at : (m : ModelState) (event : Event) (r : ReplicaState) → IsNamed (shape m) event → replica (set_replica m (index_of_number (replica_of event)) r) (index_of_number (replica_of event)) ≡ r
+pub replica_set_at : (m : ModelState) (event : Event) (r : ReplicaState) → IsNamed (shape m) event
+    → replica (set_replica m (index_of_number (replica_of event)) r)
+    (index_of_number (replica_of event)) ≡ r
 replica_set_at m event r named = get_or-set_same m.replicas (index_of_number (replica_of event)) r no_replica (replica_there m event named)
 
 -- what a replica at an index shows
-pub shown_at : {A : Type 0} (f : A → ReplicaView) (xs : List A) (k : ℕ) (x : A) (other : ReplicaView) → k < length xs → x ≡ get_or xs k x → get_or (map f xs) k other ≡ f x
+pub shown_at : {A : Type 0} (f : A → ReplicaView) (xs : List A) (k : ℕ) (x : A)
+    (other : ReplicaView) → k < length xs → x ≡ get_or xs k x → get_or (map f xs) k other ≡ f x
 shown_at f xs k x other lt is = get_or-map f xs k x other lt ∙ ap f (sym is)
 
 module _ {A : Type 0} (f : A → ReplicaView) (xs : List A) (messages : List (List ℕ)) where
@@ -67,39 +75,53 @@ module _ {A : Type 0} (f : A → ReplicaView) (xs : List A) (messages : List (Li
   world ys = record { replicas = map f ys; messages = messages }
 
   -- where the replica at an index shows what it showed, so does the world
-  pub world_stays : (k : ℕ) (x y : A) → k < length xs → x ≡ get_or xs k x → f y ≡ f x → world (set xs k y) ≡ world xs
+  pub world_stays : (k : ℕ) (x y : A) → k < length xs → x ≡ get_or xs k x → f y ≡ f x
+      → world (set xs k y) ≡ world xs
   world_stays k x y lt is same = ap (λ (rs : List ReplicaView). let w : WorldView = record { replicas = rs; messages = messages } in w)
       (map-set f xs k y ∙ ap (set (map f xs) k) (same ∙ sym (shown_at f xs k x (f x) lt is)) ∙ set-get_or (map f xs) k (f x))
 
   -- the replica that an event names has a place
-  pub place_in : (event : Event) → IsNamed (view_shape (world xs)) event → index_of_number (replica_of event) < length xs
+  pub place_in : (event : Event) → IsNamed (view_shape (world xs)) event
+      → index_of_number (replica_of event) < length xs
   place_in event named = omega (arith, named.replica_there.from_one, named.replica_there.in_range, length-map xs f, length-map (map f xs) (λ (r : ReplicaView). length r.buffers))
 
   -- as many workers as its buffers are
-  pub workers_at : (i : ℕ) (x : A) → IsNumber i (length (map (λ (r : ReplicaView). length r.buffers) (map f xs))) → x ≡ get_or xs (index_of_number i) x → length (f x).buffers ≡ get_or (map (λ (r : ReplicaView). length r.buffers) (map f xs)) (index_of_number i) 0
+  pub workers_at : (i : ℕ) (x : A)
+      → IsNumber i (length (map (λ (r : ReplicaView). length r.buffers) (map f xs)))
+      → x ≡ get_or xs (index_of_number i) x
+      → length (f x).buffers
+      ≡ get_or (map (λ (r : ReplicaView). length r.buffers) (map f xs)) (index_of_number i) 0
   workers_at i x number is =
       let lt : index_of_number i < length xs = omega (arith, number.from_one, number.in_range, length-map xs f, length-map (map f xs) (λ (r : ReplicaView). length r.buffers)) in
       sym (get_or-map (λ (r : ReplicaView). length r.buffers) (map f xs) (index_of_number i) (f x) 0 (subst (λ n. index_of_number i < n) (sym (length-map xs f)) lt)
       ∙ ap (λ (r : ReplicaView). length r.buffers) (shown_at f xs (index_of_number i) x (f x) lt is))
 
   -- the worker of a number has a buffer
-  pub worker_in : (i w : ℕ) (x : A) → IsNumber i (length (map (λ (r : ReplicaView). length r.buffers) (map f xs))) → x ≡ get_or xs (index_of_number i) x
-      → IsNumber w (get_or (map (λ (r : ReplicaView). length r.buffers) (map f xs)) (index_of_number i) 0) → index_of_number w < length (f x).buffers
+  pub worker_in : (i w : ℕ) (x : A)
+      → IsNumber i (length (map (λ (r : ReplicaView). length r.buffers) (map f xs)))
+      → x ≡ get_or xs (index_of_number i) x
+      → IsNumber w (get_or (map (λ (r : ReplicaView). length r.buffers) (map f xs))
+      (index_of_number i) 0) → index_of_number w < length (f x).buffers
   worker_in i w x there is number = omega (arith, number.from_one, number.in_range, workers_at i x there is)
 
   -- the replica at an index stands for that of the model
-  pub stands_at : (m : ModelState) (k : ℕ) (x : A) → StandsFor (world xs) m → k < length xs → x ≡ get_or xs k x → ReplicaStands m.capacity k (f x) (replica m k)
+  pub stands_at : (m : ModelState) (k : ℕ) (x : A) → StandsFor (world xs) m → k < length xs
+      → x ≡ get_or xs k x → ReplicaStands m.capacity k (f x) (replica m k)
   stands_at m k x st lt is =
       subst (λ r. ReplicaStands m.capacity k r (replica m k)) (shown_at f xs k x (f x) lt is) (st.replicas.each k (f x) no_replica (subst (λ n. k < n) (sym (length-map xs f)) lt))
 
   -- the node of the replica that an event names is that of the model
-  pub node_at : (m : ModelState) (event : Event) (x : A) → StandsFor (world xs) m → IsNamed (view_shape (world xs)) event → x ≡ get_or xs (index_of_number (replica_of event)) x → (f x).node ≡ node_of m (replica_of event)
+  pub node_at : (m : ModelState) (event : Event) (x : A) → StandsFor (world xs) m
+      → IsNamed (view_shape (world xs)) event → x ≡ get_or xs (index_of_number (replica_of event)) x
+      → (f x).node ≡ node_of m (replica_of event)
   node_at m event x st named is =
       let k = index_of_number (replica_of event) in
       let number : k + 1 ≡ replica_of event = omega (arith, named.replica_there.from_one) in
       (stands_at m k x st (place_in event named) is).node_is ∙ ap (λ (i : ℕ). let v : NodeView = record { id = i; history = history (replica m k).reach; pool = (replica m k).pool } in v) number
 
-  pub replica_changes : (m : ModelState) (k : ℕ) (y : A) (r : ReplicaState) → StandsFor (world xs) m → k < length xs → ReplicaStands m.capacity k (f y) r → StandsFor (world (set xs k y)) (set_replica m k r)
+  pub replica_changes : (m : ModelState) (k : ℕ) (y : A) (r : ReplicaState) → StandsFor (world xs) m
+      → k < length xs → ReplicaStands m.capacity k (f y) r
+      → StandsFor (world (set xs k y)) (set_replica m k r)
   replica_changes m k y r st lt here = record {
     replicas = subst (λ rs. Pairwise (ReplicaStands m.capacity) rs (set m.replicas k r)) (sym (map-set f xs k y))
         (Pairwise-set (ReplicaStands m.capacity) (map f xs) m.replicas k (f y) r st.replicas (subst (λ n. k < n) (sym (length-map xs f)) lt) here);
@@ -107,9 +129,14 @@ module _ {A : Type 0} (f : A → ReplicaView) (xs : List A) (messages : List (Li
   }
 
   -- an event that changes one replica: what that stood for, and what it stands for
-  pub changes : (m : ModelState) (event : Event) (answer : Answer) (x y : A) (r : ReplicaState) → StandsFor (world xs) m → IsNamed (view_shape (world xs)) event → x ≡ get_or xs (index_of_number (replica_of event)) x
-      → (let k : ℕ = index_of_number (replica_of event) in ReplicaStands m.capacity k (f x) (replica m k) → ReplicaStands m.capacity k (f y) r)
-      → (IsNamed (shape m) event → Next m event answer (set_replica m (index_of_number (replica_of event)) r)) → Stepped m event answer (world (set xs (index_of_number (replica_of event)) y))
+  pub changes : (m : ModelState) (event : Event) (answer : Answer) (x y : A) (r : ReplicaState)
+      → StandsFor (world xs) m → IsNamed (view_shape (world xs)) event
+      → x ≡ get_or xs (index_of_number (replica_of event)) x
+      → (let k : ℕ = index_of_number (replica_of event)
+      in ReplicaStands m.capacity k (f x) (replica m k) → ReplicaStands m.capacity k (f y) r)
+      → (IsNamed (shape m) event
+      → Next m event answer (set_replica m (index_of_number (replica_of event)) r))
+      → Stepped m event answer (world (set xs (index_of_number (replica_of event)) y))
   changes m event answer x y r st named is becomes next =
       let k = index_of_number (replica_of event) in
       let lt = place_in event named in
@@ -120,12 +147,18 @@ module _ {A : Type 0} (f : A → ReplicaView) (xs : List A) (messages : List (Li
       }
 
   -- an event that leaves the replica unchanged
-  pub replica_stays : (m : ModelState) (event : Event) (x y : A) → StandsFor (world xs) m → IsNamed (view_shape (world xs)) event → x ≡ get_or xs (index_of_number (replica_of event)) x → f y ≡ f x → StandsFor (world (set xs (index_of_number (replica_of event)) y)) m
+  pub replica_stays : (m : ModelState) (event : Event) (x y : A) → StandsFor (world xs) m
+      → IsNamed (view_shape (world xs)) event → x ≡ get_or xs (index_of_number (replica_of event)) x
+      → f y ≡ f x → StandsFor (world (set xs (index_of_number (replica_of event)) y)) m
   replica_stays m event x y st named is same = rw (world_stays (index_of_number (replica_of event)) x y (place_in event named) is same) st
 
   -- an event for which an allocation failed, and that leaves the replica unchanged
-  pub no_memory : (m : ModelState) (event : Event) (x y : A) (why : NodeFault) → StandsFor (world xs) m → IsNamed (view_shape (world xs)) event → x ≡ get_or xs (index_of_number (replica_of event)) x → f y ≡ f x → why ≡ Memory
-      → (IsNamed (shape m) event → ReplicaStands m.capacity (index_of_number (replica_of event)) (f x) (replica m (index_of_number (replica_of event))) → Next m event (Refused (Node Memory)) m)
+  pub no_memory : (m : ModelState) (event : Event) (x y : A) (why : NodeFault)
+      → StandsFor (world xs) m → IsNamed (view_shape (world xs)) event
+      → x ≡ get_or xs (index_of_number (replica_of event)) x → f y ≡ f x → why ≡ Memory
+      → (IsNamed (shape m) event
+      → ReplicaStands m.capacity (index_of_number (replica_of event)) (f x)
+      (replica m (index_of_number (replica_of event))) → Next m event (Refused (Node Memory)) m)
       → Stepped m event (Refused (Node why)) (world (set xs (index_of_number (replica_of event)) y))
   no_memory m event x y why st named is same fault next =
       let k = index_of_number (replica_of event) in
@@ -134,10 +167,14 @@ module _ {A : Type 0} (f : A → ReplicaView) (xs : List A) (messages : List (Li
 
   -- The node gives this reply to the call, and nothing but its pool is changed; the buffers are
   -- unchanged.
-  pub asked : (m : ModelState) (event : Event) (call : Call) (reply : Reply) (answer : Answer) (x y : A)
-      → StandsFor (world xs) m → IsNamed (view_shape (world xs)) event → x ≡ get_or xs (index_of_number (replica_of event)) x
-      → (f y).buffers ≡ (f x).buffers → IsAlone (f x).node (f y).node → Step (f x).node call reply (f y).node
-      → ((new : ModelState) → IsNamed (shape m) event → NodeReplies m (replica_of event) call reply new → Next m event answer new)
+  pub asked : (m : ModelState) (event : Event) (call : Call) (reply : Reply) (answer : Answer)
+      (x y : A)
+      → StandsFor (world xs) m → IsNamed (view_shape (world xs)) event
+      → x ≡ get_or xs (index_of_number (replica_of event)) x
+      → (f y).buffers ≡ (f x).buffers → IsAlone (f x).node (f y).node
+      → Step (f x).node call reply (f y).node
+      → ((new : ModelState) → IsNamed (shape m) event
+      → NodeReplies m (replica_of event) call reply new → Next m event answer new)
       → Stepped m event answer (world (set xs (index_of_number (replica_of event)) y))
   asked m event call reply answer x y st named is same alone step next =
       let i = replica_of event in
@@ -154,18 +191,25 @@ module _ {A : Type 0} (f : A → ReplicaView) (xs : List A) (messages : List (Li
       (λ there. next (set_replica m (index_of_number i) r) there
       (n.pool, subst (λ v. Step v call reply (record (node_of m i) { pool = n.pool })) was (subst (Step (f x).node call reply) now step), refl))
 
-  asked_if : (m : ModelState) (event : Event) (call : Option Call) (reply : Option Reply) (answer : Answer) (x y : A)
-      → StandsFor (world xs) m → IsNamed (view_shape (world xs)) event → x ≡ get_or xs (index_of_number (replica_of event)) x
-      → (f y).buffers ≡ (f x).buffers → IsAlone (f x).node (f y).node → SomeReply (f x).node call reply (f y).node
-      → ((new : ModelState) → IsNamed (shape m) event → SomeNodeReplies m (replica_of event) call reply new → Next m event answer new)
+  asked_if : (m : ModelState) (event : Event) (call : Option Call) (reply : Option Reply)
+      (answer : Answer) (x y : A)
+      → StandsFor (world xs) m → IsNamed (view_shape (world xs)) event
+      → x ≡ get_or xs (index_of_number (replica_of event)) x
+      → (f y).buffers ≡ (f x).buffers → IsAlone (f x).node (f y).node
+      → SomeReply (f x).node call reply (f y).node
+      → ((new : ModelState) → IsNamed (shape m) event
+      → SomeNodeReplies m (replica_of event) call reply new → Next m event answer new)
       → Stepped m event answer (world (set xs (index_of_number (replica_of event)) y))
   asked_if m event (Some call) (Some reply) answer x y st named is same alone step next = asked m event call reply answer x y st named is same alone step next
   asked_if m event call reply answer x y st named is same alone step next = absurd step
 
   -- The node of the replica that the event names replies to the call that the event makes of it.
-  pub asks : (m : ModelState) (event : Event) (i : ℕ) (answer : Answer) (x y : A) → i ≡ replica_of event
-      → StandsFor (world xs) m → IsNamed (view_shape (world xs)) event → x ≡ get_or xs (index_of_number i) x
-      → (f y).buffers ≡ (f x).buffers → SomeReply (f x).node (call_of event) (reply_of answer) (f y).node
+  pub asks : (m : ModelState) (event : Event) (i : ℕ) (answer : Answer) (x y : A)
+      → i ≡ replica_of event
+      → StandsFor (world xs) m → IsNamed (view_shape (world xs)) event
+      → x ≡ get_or xs (index_of_number i) x
+      → (f y).buffers ≡ (f x).buffers
+      → SomeReply (f x).node (call_of event) (reply_of answer) (f y).node
       → Stepped m event answer (world (set xs (index_of_number i) y))
   asks m event i answer x y number st named is same step =
       subst (λ j. x ≡ get_or xs (index_of_number j) x → Stepped m event answer (world (set xs (index_of_number j) y))) (sym number)

@@ -6,7 +6,8 @@ use Rattle.std.specs.List.{All}
 use Rattle.warm_replica.proofs.post.OutboxesPost.post.Goals as goal
 
 -- where no outbox has the number, none is its first
-none_first : {A : Type 0} (number : A → ℕ) (to : ℕ) (xs : List A) (at : ℕ) → position (λ x. number x == to) xs ≡ Some at → All (λ x. number x ≢ to) xs → ⊥
+none_first : {A : Type 0} (number : A → ℕ) (to : ℕ) (xs : List A) (at : ℕ)
+    → position (λ x. number x == to) xs ≡ Some at → All (λ x. number x ≢ to) xs → ⊥
 none_first number to [] at first none = grind (arith, common_steps, first)
 none_first number to (x ∷ xs) at first none =
     let p = position-Some (λ y. number y == to) (x ∷ xs) at x first in

@@ -11,7 +11,8 @@ use Rattle.warm_world.proofs.Replicas.{buffer_at, flushed_is_empty, gave_back, p
 use Rattle.warm_world.proofs.replica.Replica.refer.Goals as goal
 
 -- the reference that is touched
-touched_is : (id id' : ℕ) (page : PageId) (time : ℕ) (made : Reference) → id ≡ id' → made ≡ stamped id' page time → stamped id page time ≡ made
+touched_is : (id id' : ℕ) (page : PageId) (time : ℕ) (made : Reference) → id ≡ id'
+    → made ≡ stamped id' page time → stamped id page time ≡ made
 touched_is id id' page time made same is = ap (λ n. stamped n page time) same ∙ sym is
 
 pub returns-in_default-clause-ok : goal.returns-in_default-clause-ok
