@@ -53,7 +53,8 @@ module _ {K : Type 0} (cmp : K → K → Ordering) (order : IsStrictOrder cmp) w
       (λ more. let no : true ≡ false = sym (ap is_gt more) ∙ xy in absurd (cc))
 
   -- where x comes before a lower bound y of z, it comes before z
-  before_bound : (x y z : Option K) (rest : Ordering) → is_gt (over y z) ≡ false → ordering_then (over x y) rest ≡ Less → ordering_then (over x z) rest ≡ Less
+  before_bound : (x y z : Option K) (rest : Ordering) → is_gt (over y z) ≡ false
+      → ordering_then (over x y) rest ≡ Less → ordering_then (over x z) rest ≡ Less
   before_bound x y z rest bound first = by_cases (over y z) _
       (λ less. by_cases (over x y) _
       (λ xy. ap (λ o. ordering_then o rest) (total.trans x y z xy less))
@@ -63,7 +64,9 @@ module _ {K : Type 0} (cmp : K → K → Ordering) (order : IsStrictOrder cmp) w
       (λ more. let no : true ≡ false = sym (ap is_gt more) ∙ bound in absurd (cc))
 
   -- the least slot of the contest, where its current key does not come after its key there
-  pub least_some : (tree keys : List (Option K)) (at : ℕ) → IsBehind cmp tree keys → IsLeast cmp tree (Some at) → is_gt (over (key_at keys at) (key_at tree at)) ≡ false → IsLeast cmp keys (Some at)
+  pub least_some : (tree keys : List (Option K)) (at : ℕ) → IsBehind cmp tree keys
+      → IsLeast cmp tree (Some at) → is_gt (over (key_at keys at) (key_at tree at)) ≡ false
+      → IsLeast cmp keys (Some at)
   least_some tree keys at behind least low =
       let is : key_at tree at ≡ key_at keys at = neither (key_at tree at) (key_at keys at) (behind.below at) low in
       record {
@@ -73,11 +76,13 @@ module _ {K : Type 0} (cmp : K → K → Ordering) (order : IsStrictOrder cmp) w
             (before_bound (key_at tree at) (key_at tree t) (key_at keys t) (nat_cmp at t) (behind.below t) (least.first t (subst (λ n. t < n) (sym behind.count) lt) ne));
       }
 
-  pub least_none : (tree keys : List (Option K)) → IsBehind cmp tree keys → IsLeast cmp tree None → IsLeast cmp keys None
+  pub least_none : (tree keys : List (Option K)) → IsBehind cmp tree keys → IsLeast cmp tree None
+      → IsLeast cmp keys None
   least_none tree keys behind least t lt = none_below (key_at keys t) (subst (λ x. is_gt (over x (key_at keys t)) ≡ false) (least t (subst (λ n. t < n) (sym behind.count) lt)) (behind.below t))
 
   -- what was repaired is still behind
-  pub still_behind : (old keys tree : List (Option K)) → IsBehind cmp old keys → AreRepaired old keys tree → IsBehind cmp tree keys
+  pub still_behind : (old keys tree : List (Option K)) → IsBehind cmp old keys
+      → AreRepaired old keys tree → IsBehind cmp tree keys
   still_behind old keys tree behind repaired = record {
     count = repaired.count ∙ behind.count;
     below = λ t. elim (repaired.each t) [
@@ -91,7 +96,9 @@ pub none_repaired : {K : Type 0} (old keys : List (Option K)) → AreRepaired ol
 none_repaired old keys = record { count = refl; each = λ t. inl refl }
 
 -- one slot more is given its current key
-pub one_repaired : {K : Type 0} (old keys tree : List (Option K)) (at : ℕ) (key : Option K) → AreRepaired old keys tree → at < length tree → key ≡ key_at keys at → AreRepaired old keys (set tree at key)
+pub one_repaired : {K : Type 0} (old keys tree : List (Option K)) (at : ℕ) (key : Option K)
+    → AreRepaired old keys tree → at < length tree → key ≡ key_at keys at
+    → AreRepaired old keys (set tree at key)
 one_repaired old keys tree at key repaired lt is = record {
   count = length-set tree at key ∙ repaired.count;
   each = λ t. elim (cases_eq t at) [
@@ -104,7 +111,8 @@ one_repaired old keys tree at key repaired lt is = record {
 }
 
 -- all slots are given their current keys
-pub all_repaired : {K : Type 0} (old keys tree : List (Option K)) → length keys ≡ length old → tree ≡ keys → AreRepaired old keys tree
+pub all_repaired : {K : Type 0} (old keys tree : List (Option K)) → length keys ≡ length old
+    → tree ≡ keys → AreRepaired old keys tree
 all_repaired old keys tree count is = record { count = ap length is ∙ count; each = λ t. inr (ap (λ ks. key_at ks t) is) }
 
 -- the slots before this one have their current keys
@@ -112,7 +120,9 @@ pub record AreCurrentTo {K : Type 0} (keys tree : List (Option K)) (n : ℕ) : T
   pub count : length tree ≡ length keys
   pub first : (t : ℕ) → t < n → key_at tree t ≡ key_at keys t
 
-pub one_current : {K : Type 0} (keys tree : List (Option K)) (at : ℕ) (key : Option K) → AreCurrentTo keys tree at → at < length keys → key ≡ key_at keys at → AreCurrentTo keys (set tree at key) (at + 1)
+pub one_current : {K : Type 0} (keys tree : List (Option K)) (at : ℕ) (key : Option K)
+    → AreCurrentTo keys tree at → at < length keys → key ≡ key_at keys at
+    → AreCurrentTo keys (set tree at key) (at + 1)
 one_current keys tree at key so_far lt is = record {
   count = length-set tree at key ∙ so_far.count;
   first = λ t below. elim (cases_eq t at) [
@@ -121,5 +131,6 @@ one_current keys tree at key so_far lt is = record {
   ];
 }
 
-pub all_current : {K : Type 0} (keys tree : List (Option K)) (n : ℕ) → AreCurrentTo keys tree n → n ≡ length keys → tree ≡ keys
+pub all_current : {K : Type 0} (keys tree : List (Option K)) (n : ℕ) → AreCurrentTo keys tree n
+    → n ≡ length keys → tree ≡ keys
 all_current keys tree n so_far end = ext_get_or None tree keys so_far.count (λ t lt. so_far.first t (omega (arith, lt, end, so_far.count)))

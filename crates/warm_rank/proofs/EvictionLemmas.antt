@@ -38,7 +38,8 @@ eviction_is_order S =
 
 -- ---- lists that agree on each page rank pages alike
 
-evicted_alike : (S T : ReferenceSet) → ((p : PageId) → hist S p ≡ hist T p) → (p q : PageId) → eviction_cmp S p q ≡ eviction_cmp T p q
+evicted_alike : (S T : ReferenceSet) → ((p : PageId) → hist S p ≡ hist T p) → (p q : PageId)
+    → eviction_cmp S p q ≡ eviction_cmp T p q
 evicted_alike S T alike p q =
     sym (keys_order_pages S p q)
     ∙ ap (λ x. key_cmp (rank_key p x) (rank_key q (hist S q))) (alike p)

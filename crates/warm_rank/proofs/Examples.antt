@@ -42,7 +42,8 @@ scan_no_place : places_back (references scan) (page 5) ≡ None
 scan_no_place = refl
 
 -- a page with three references: the first of them doesn't matter
-three_times : places_back (seen 4 1 ∷ seen 4 2 ∷ seen 5 3 ∷ seen 4 4 ∷ seen 6 5 ∷ []) (page 4) ≡ Some 3
+three_times : places_back (seen 4 1 ∷ seen 4 2 ∷ seen 5 3 ∷ seen 4 4 ∷ seen 6 5 ∷ []) (page 4)
+    ≡ Some 3
 three_times = refl
 
 -- a reference that is given twice counts once
@@ -71,7 +72,8 @@ scan_victim : IsVictim scan (page 1 ∷ page 5 ∷ page 6 ∷ []) (Some (page 5)
 unfolding eviction_cmp
 scan_victim = ((1, omega arith, refl), before)
   where
-    before : (q : PageId) → Contains (page 1 ∷ page 5 ∷ page 6 ∷ []) q → q ≢ page 5 → IsBefore scan (page 5) q
+    before : (q : PageId) → Contains (page 1 ∷ page 5 ∷ page 6 ∷ []) q → q ≢ page 5
+        → IsBefore scan (page 5) q
     before q (zero, lt, is) differ = subst (IsBefore scan (page 5)) is refl
     before q (suc zero, lt, is) differ = absurd (differ (sym is))
     before q (suc (suc zero), lt, is) differ = subst (IsBefore scan (page 5)) is refl
@@ -97,7 +99,8 @@ apart_victim : IsVictim apart (page 1 ∷ page 2 ∷ []) (Some (page 1))
 unfolding eviction_cmp
 apart_victim = ((0, omega arith, refl), before)
   where
-    before : (q : PageId) → Contains (page 1 ∷ page 2 ∷ []) q → q ≢ page 1 → IsBefore apart (page 1) q
+    before : (q : PageId) → Contains (page 1 ∷ page 2 ∷ []) q → q ≢ page 1
+        → IsBefore apart (page 1) q
     before q (zero, lt, is) differ = absurd (differ (sym is))
     before q (suc zero, lt, is) differ = subst (IsBefore apart (page 1)) is refl
     before q (suc (suc k), lt, is) differ = absurd (omega arith)

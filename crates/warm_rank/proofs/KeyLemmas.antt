@@ -26,8 +26,11 @@ use Rattle.warm_rank.proofs.Counting.{IsStampOf, counts_rank, stamps_of}
 
 -- ---- keys and distances
 
-ranks : (S : ReferenceSet) (p q : PageId) (xs ys : List Stamp) → ((s : Stamp) → Has xs s → IsStampOf S s) → ((s : Stamp) → Has ys s → IsStampOf S s)
-    → key_cmp (rank_key p (first_two xs)) (rank_key q (first_two ys)) ≡ ordering_then (farther_cmp (distance_from S xs) (distance_from S ys)) (ordering_then (older_cmp (first xs) (first ys)) (page_cmp p q))
+ranks : (S : ReferenceSet) (p q : PageId) (xs ys : List Stamp)
+    → ((s : Stamp) → Has xs s → IsStampOf S s) → ((s : Stamp) → Has ys s → IsStampOf S s)
+    → key_cmp (rank_key p (first_two xs)) (rank_key q (first_two ys))
+    ≡ ordering_then (farther_cmp (distance_from S xs) (distance_from S ys))
+    (ordering_then (older_cmp (first xs) (first ys)) (page_cmp p q))
 ranks S p q [] [] of_x of_y = refl
 ranks S p q [] (b ∷ []) of_x of_y = refl
 ranks S p q [] (b ∷ b' ∷ ys) of_x of_y = refl
@@ -43,7 +46,8 @@ unfolding eviction_cmp
 keys_order_pages S p q = ranks S p q (stamps S p) (stamps S q) (stamps_of S p) (stamps_of S q)
 
 -- keys that were made from what is known of two pages
-pub known_keys_rank : (S : ReferenceSet) (p q : PageId) (x y : Option PageHist) → x ≡ hist S p → y ≡ hist S q → key_cmp (rank_key p x) (rank_key q y) ≡ eviction_cmp S p q
+pub known_keys_rank : (S : ReferenceSet) (p q : PageId) (x y : Option PageHist) → x ≡ hist S p
+    → y ≡ hist S q → key_cmp (rank_key p x) (rank_key q y) ≡ eviction_cmp S p q
 known_keys_rank S p q x y is_x is_y = ap (λ h. key_cmp (rank_key p h) (rank_key q y)) is_x ∙ ap (λ h. key_cmp (rank_key p (hist S p)) (rank_key q h)) is_y ∙ keys_order_pages S p q
 
 pub page_of-rank_key : (p : PageId) (x : Option PageHist) → ranked_page (rank_key p x) ≡ p

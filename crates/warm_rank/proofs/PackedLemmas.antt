@@ -13,7 +13,8 @@ use Rattle.warm_rank.specs.Keys.{key_cmp, ranked_page}
 use Rattle.warm_rank.specs.Packed.{packed_key, packed_page, packed_cmp}
 
 -- three orders, one after the other
-then_assoc : (a b c : Ordering) → ordering_then (ordering_then a b) c ≡ ordering_then a (ordering_then b c)
+then_assoc : (a b c : Ordering)
+    → ordering_then (ordering_then a b) c ≡ ordering_then a (ordering_then b c)
 then_assoc Less b c = refl
 then_assoc Equal b c = refl
 then_assoc Greater b c = refl

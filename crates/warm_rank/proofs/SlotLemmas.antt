@@ -21,18 +21,22 @@ use Rattle.warm_rank.proofs.EvictionLemmas.{eviction_order}
 abbrev key_over : ReferenceSet → PageId → RankKey
 key_over S p = rank_key p (hist S p)
 
-length-keys_over : (S : ReferenceSet) (slots : List (Option PageId)) → length (keys_over S slots) ≡ length slots
+length-keys_over : (S : ReferenceSet) (slots : List (Option PageId))
+    → length (keys_over S slots) ≡ length slots
 length-keys_over S [] = refl
 length-keys_over S (page ∷ slots) = ap suc (length-keys_over S slots)
 
 -- a slot has the key of its page
-key_at-keys_over : (S : ReferenceSet) (slots : List (Option PageId)) (slot : ℕ) → key_at (keys_over S slots) slot ≡ option_map (key_over S) (key_at slots slot)
+key_at-keys_over : (S : ReferenceSet) (slots : List (Option PageId)) (slot : ℕ)
+    → key_at (keys_over S slots) slot ≡ option_map (key_over S) (key_at slots slot)
 key_at-keys_over S [] slot = refl
 key_at-keys_over S (page ∷ slots) zero = refl
 key_at-keys_over S (page ∷ slots) (suc slot) = key_at-keys_over S slots slot
 
 -- where no slot has a key, none has a page
-none_in : (S : ReferenceSet) (slots : List (Option PageId)) → ((slot : ℕ) → slot < length slots → key_at (keys_over S slots) slot ≡ None) → pages_in slots ≡ []
+none_in : (S : ReferenceSet) (slots : List (Option PageId))
+    → ((slot : ℕ) → slot < length slots → key_at (keys_over S slots) slot ≡ None)
+    → pages_in slots ≡ []
 none_in S [] none = refl
 none_in S (None ∷ slots) none = none_in S slots (λ slot lt. none (suc slot) (omega arith))
 none_in S (Some p ∷ slots) none = let no : Some (key_over S p) ≡ None = none 0 (omega arith) in absurd (cc)
@@ -41,7 +45,8 @@ contains_later : {A : Type 0} (x y : A) (xs : List A) → Contains xs y → Cont
 contains_later x y xs (k, lt, is) = (suc k, omega arith, is)
 
 -- the page of a slot is one of the pages in the slots
-contains_page : (slots : List (Option PageId)) (slot : ℕ) (p : PageId) → slot < length slots → key_at slots slot ≡ Some p → Contains (pages_in slots) p
+contains_page : (slots : List (Option PageId)) (slot : ℕ) (p : PageId) → slot < length slots
+    → key_at slots slot ≡ Some p → Contains (pages_in slots) p
 contains_page [] slot p lt is = absurd (omega arith)
 contains_page (None ∷ slots) zero p lt is = absurd (cc)
 contains_page (None ∷ slots) (suc slot) p lt is = contains_page slots slot p (omega arith) is
@@ -52,17 +57,21 @@ contains_page (Some q ∷ slots) (suc slot) p lt is = contains_later q p (pages_
 abbrev pub HasSlot : List (Option PageId) → PageId → Type 0
 HasSlot slots p = (slot : ℕ) × (slot < length slots) × (key_at slots slot ≡ Some p)
 
-pub slot_later : (page : Option PageId) (slots : List (Option PageId)) (p : PageId) → HasSlot slots p → HasSlot (page ∷ slots) p
+pub slot_later : (page : Option PageId) (slots : List (Option PageId)) (p : PageId)
+    → HasSlot slots p → HasSlot (page ∷ slots) p
 slot_later page slots p (slot, lt, is) = (suc slot, omega arith, is)
 
-slot_of : (slots : List (Option PageId)) (p : PageId) → Contains (pages_in slots) p → HasSlot slots p
+slot_of : (slots : List (Option PageId)) (p : PageId) → Contains (pages_in slots) p
+    → HasSlot slots p
 slot_of [] p (k, lt, is) = absurd (omega arith)
 slot_of (None ∷ slots) p has = slot_later None slots p (slot_of slots p has)
 slot_of (Some q ∷ slots) p (zero, lt, is) = (0, omega arith, ap Some is)
 slot_of (Some q ∷ slots) p (suc k, lt, is) = slot_later (Some q) slots p (slot_of slots p (k, omega arith, is))
 
 -- the page p of the first slot is evicted before the page q of another
-before : (S : ReferenceSet) (slots : List (Option PageId)) (s t : ℕ) (p q : PageId) → key_at slots s ≡ Some p → key_at slots t ≡ Some q → q ≢ p → slot_cmp key_cmp (keys_over S slots) s t ≡ Less → IsBefore S p q
+before : (S : ReferenceSet) (slots : List (Option PageId)) (s t : ℕ) (p q : PageId)
+    → key_at slots s ≡ Some p → key_at slots t ≡ Some q → q ≢ p
+    → slot_cmp key_cmp (keys_over S slots) s t ≡ Less → IsBefore S p q
 before S slots s t p q is_p is_q differ less =
     let key_p : key_at (keys_over S slots) s ≡ Some (key_over S p) = key_at-keys_over S slots s ∙ ap (option_map (key_over S)) is_p in
     let key_q : key_at (keys_over S slots) t ≡ Some (key_over S q) = key_at-keys_over S slots t ∙ ap (option_map (key_over S)) is_q in
@@ -75,7 +84,9 @@ before S slots s t p q is_p is_q differ less =
     (λ tied. absurd (differ (sym ((eviction_order S).same p q tied))))
     (λ more. let no : Greater ≡ Less = sym (ap (λ o. ordering_then o (nat_cmp s t)) more) ∙ by_page in absurd (cc))
 
-victim_at : (S : ReferenceSet) (slots : List (Option PageId)) (s : ℕ) → ComesFirst key_cmp (keys_over S slots) (length (keys_over S slots)) s → (page : Option PageId) → key_at slots s ≡ page → IsVictim S (pages_in slots) page
+victim_at : (S : ReferenceSet) (slots : List (Option PageId)) (s : ℕ)
+    → ComesFirst key_cmp (keys_over S slots) (length (keys_over S slots)) s → (page : Option PageId)
+    → key_at slots s ≡ page → IsVictim S (pages_in slots) page
 victim_at S slots s comes None is = let no : false ≡ true = subst IsSome (key_at-keys_over S slots s ∙ ap (option_map (key_over S)) is) comes.is_set in absurd (cc)
 victim_at S slots s comes (Some p) is =
     let same_length = length-keys_over S slots in

@@ -5,7 +5,8 @@ use Rattle.std.proofs.Math.Path.{ap₂}
 use Rattle.warm_rank.specs.Slots.{key_at, key_while, keys_while}
 
 -- the keys once the first n slots were looked at
-abbrev pub keys_so_far : {T : Type 0} → {K : Type 0} → ℕ → List (Option T) → List (Option K) → List (Option K)
+abbrev pub keys_so_far : {T : Type 0} → {K : Type 0} → ℕ → List (Option T) → List (Option K)
+    → List (Option K)
 keys_so_far zero held keys = keys
 keys_so_far (suc n) (one ∷ held) (key ∷ keys) = key_while one key ∷ keys_so_far n held keys
 keys_so_far (suc n) held keys = keys
@@ -18,19 +19,24 @@ pub some_there : {T : Type 0} → (x : Option T) → is_some x ≡ true → x �
 some_there x is none = let no : true ≡ false = sym is ∙ ap is_some none in absurd (cc)
 
 module _ {T : Type 0} {K : Type 0} where
-  pub length-keys_while : (held : List (Option T)) (keys : List (Option K)) → length (keys_while held keys) ≡ length keys
+  pub length-keys_while : (held : List (Option T)) (keys : List (Option K))
+      → length (keys_while held keys) ≡ length keys
   length-keys_while [] keys = refl
   length-keys_while (one ∷ held) [] = refl
   length-keys_while (one ∷ held) (key ∷ keys) = ap suc (length-keys_while held keys)
 
   -- one slot more
-  pub one_cleared : (n : ℕ) (held : List (Option T)) (keys : List (Option K)) → length held ≡ length keys → n < length held → key_at held n ≡ None → set (keys_so_far n held keys) n None ≡ keys_so_far (suc n) held keys
+  pub one_cleared : (n : ℕ) (held : List (Option T)) (keys : List (Option K))
+      → length held ≡ length keys → n < length held → key_at held n ≡ None
+      → set (keys_so_far n held keys) n None ≡ keys_so_far (suc n) held keys
   one_cleared n [] keys same lt none = absurd (omega arith)
   one_cleared n (one ∷ held) [] same lt none = absurd (omega arith)
   one_cleared zero (one ∷ held) (key ∷ keys) same lt none = ap (λ x. key_while x key ∷ keys) (sym none)
   one_cleared (suc n) (one ∷ held) (key ∷ keys) same lt none = ap (λ rest. key_while one key ∷ rest) (one_cleared n held keys (omega arith) (omega arith) none)
 
-  pub one_kept : (n : ℕ) (held : List (Option T)) (keys : List (Option K)) → length held ≡ length keys → n < length held → key_at held n ≢ None → keys_so_far n held keys ≡ keys_so_far (suc n) held keys
+  pub one_kept : (n : ℕ) (held : List (Option T)) (keys : List (Option K))
+      → length held ≡ length keys → n < length held → key_at held n ≢ None
+      → keys_so_far n held keys ≡ keys_so_far (suc n) held keys
   one_kept n [] keys same lt some = absurd (omega arith)
   one_kept n (one ∷ held) [] same lt some = absurd (omega arith)
   one_kept zero (None ∷ held) (key ∷ keys) same lt some = absurd (some refl)
@@ -38,7 +44,8 @@ module _ {T : Type 0} {K : Type 0} where
   one_kept (suc n) (one ∷ held) (key ∷ keys) same lt some = ap (λ rest. key_while one key ∷ rest) (one_kept n held keys (omega arith) (omega arith) some)
 
   -- all of them
-  pub all_looked_at : (held : List (Option T)) (keys : List (Option K)) → length held ≡ length keys → keys_so_far (length held) held keys ≡ keys_while held keys
+  pub all_looked_at : (held : List (Option T)) (keys : List (Option K)) → length held ≡ length keys
+      → keys_so_far (length held) held keys ≡ keys_while held keys
   all_looked_at [] keys same = refl
   all_looked_at (one ∷ held) [] same = absurd (omega arith)
   all_looked_at (one ∷ held) (key ∷ keys) same = ap (λ rest. key_while one key ∷ rest) (all_looked_at held keys (omega arith))
@@ -48,7 +55,8 @@ module _ {T : Type 0} {K : Type 0} where
   none_while None = refl
   none_while (Some x) = refl
 
-  pub none_cleared : (held : List (Option T)) (keys : List (Option K)) → ((slot : ℕ) → slot < length keys → key_at keys slot ≡ None) → keys ≡ keys_while held keys
+  pub none_cleared : (held : List (Option T)) (keys : List (Option K))
+      → ((slot : ℕ) → slot < length keys → key_at keys slot ≡ None) → keys ≡ keys_while held keys
   none_cleared [] keys none = refl
   none_cleared (one ∷ held) [] none = refl
   none_cleared (one ∷ held) (key ∷ keys) none =

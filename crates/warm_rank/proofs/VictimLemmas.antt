@@ -27,7 +27,8 @@ never_greater Equal later less is = absurd (cc)
 never_greater Greater later less is = absurd (cc)
 
 -- a page that is evicted before another is not less far
-before_is_farther : (S : ReferenceSet) (p q : PageId) → IsBefore S p q → IsNotFarther (dist S q) (dist S p)
+before_is_farther : (S : ReferenceSet) (p q : PageId) → IsBefore S p q
+    → IsNotFarther (dist S q) (dist S p)
 unfolding eviction_cmp
 before_is_farther S p q before =
     not_farther (dist S p) (dist S q) (never_greater (farther_cmp (dist S p) (dist S q)) (ordering_then (older_cmp (latest S p) (latest S q)) (page_cmp p q)) before)

@@ -28,27 +28,40 @@ use Rattle.warm_rank.proofs.KeyLemmas.{keys_order_pages, page_of-rank_key}
 use Rattle.warm_rank.proofs.PackedLemmas.{packed_compares, packed_keeps_page, packed_order}
 use Rattle.warm_rank.proofs.SortLemmas.{ties, ties-here, ties-other, HasNoTies, IsAbove, distinct-descending, above_from_split}
 
-insert-map : {A B : Type 0} (f : A → B) (c : A → A → Ordering) (d : B → B → Ordering) → ((x y : A) → d (f x) (f y) ≡ c x y) → (x : A) (ys : List A) → insert_distinct d (f x) (map f ys) ≡ map f (insert_distinct c x ys)
+insert-map : {A B : Type 0} (f : A → B) (c : A → A → Ordering) (d : B → B → Ordering)
+    → ((x y : A) → d (f x) (f y) ≡ c x y) → (x : A) (ys : List A)
+    → insert_distinct d (f x) (map f ys) ≡ map f (insert_distinct c x ys)
 insert-map f c d agree x [] = refl
 insert-map f c d agree x (y ∷ ys) = by_cases (c x y) _
     (λ less. rw (agree x y, less) refl)
     (λ tied. rw (agree x y, tied) refl)
     (λ more. rw (agree x y, more) (ap (λ t. f y ∷ t) (insert-map f c d agree x ys)))
 
-distinct-map : {A B : Type 0} (f : A → B) (c : A → A → Ordering) (d : B → B → Ordering) → ((x y : A) → d (f x) (f y) ≡ c x y) → (xs : List A) → distinct d (map f xs) ≡ map f (distinct c xs)
+distinct-map : {A B : Type 0} (f : A → B) (c : A → A → Ordering) (d : B → B → Ordering)
+    → ((x y : A) → d (f x) (f y) ≡ c x y) → (xs : List A)
+    → distinct d (map f xs) ≡ map f (distinct c xs)
 distinct-map f c d agree [] = refl
 distinct-map f c d agree (x ∷ xs) = ap (insert_distinct d (f x)) (distinct-map f c d agree xs) ∙ insert-map f c d agree x (distinct c xs)
 
 -- the keys of a history's entries are those of its pages
-keys_of_entries : (f : PageId → Option PageHist) (ps : List PageId) → ((p : PageId) → Has ps p → is_some (f p) ≡ true) → map entry_key (filter_map (λ p. option_map (λ h. record { page = p; hist = h }) (f p)) ps) ≡ map (λ p. rank_key p (f p)) ps
+keys_of_entries : (f : PageId → Option PageHist) (ps : List PageId)
+    → ((p : PageId) → Has ps p → is_some (f p) ≡ true)
+    → map entry_key (filter_map (λ p. option_map (λ h. record { page = p; hist = h }) (f p)) ps)
+    ≡ map (λ p. rank_key p (f p)) ps
 keys_of_entries f [] some = refl
 keys_of_entries f (p ∷ ps) some = go (f p) (some p (inl refl)) (keys_of_entries f ps (λ q has. some q (inr has)))
   where
-    go : (x : Option PageHist) → is_some x ≡ true → map entry_key (filter_map (λ p. option_map (λ h. record { page = p; hist = h }) (f p)) ps) ≡ map (λ p. rank_key p (f p)) ps → map entry_key (cons_option (option_map (λ h. record { page = p; hist = h }) x) (filter_map (λ p. option_map (λ h. record { page = p; hist = h }) (f p)) ps)) ≡ rank_key p x ∷ map (λ p. rank_key p (f p)) ps
+    go : (x : Option PageHist) → is_some x ≡ true
+        → map entry_key (filter_map (λ p. option_map (λ h. record { page = p; hist = h }) (f p)) ps)
+        ≡ map (λ p. rank_key p (f p)) ps
+        → map entry_key (cons_option (option_map (λ h. record { page = p; hist = h }) x)
+        (filter_map (λ p. option_map (λ h. record { page = p; hist = h }) (f p)) ps))
+        ≡ rank_key p x ∷ map (λ p. rank_key p (f p)) ps
     go None is later = absurd (cc)
     go (Some h) is later = ap (λ t. rank_key p (Some h) ∷ t) later
 
-keys_of_pages : (S : ReferenceSet) → map entry_key (entries_of (history S)) ≡ map (λ p. rank_key p (hist S p)) (pages S)
+keys_of_pages : (S : ReferenceSet)
+    → map entry_key (entries_of (history S)) ≡ map (λ p. rank_key p (hist S p)) (pages S)
 unfolding history
 keys_of_pages S = keys_of_entries (hist S) (pages S) (λ p has. some_named S p (has_from_distinct page_cmp page_order (map (λ (r : Reference). r.page) (references S)) p has))
 
@@ -59,19 +72,23 @@ packed_of f p = packed_key (rank_key p (f p))
 packed_of_pages : (S : ReferenceSet) → packed_keys (history S) ≡ map (packed_of (hist S)) (pages S)
 packed_of_pages S = map_twice entry_key packed_key (entries_of (history S)) ∙ ap (map packed_key) (keys_of_pages S) ∙ sym (map_twice (λ p. rank_key p (hist S p)) packed_key (pages S))
   where
-    map_twice : {A B C : Type 0} (f : A → B) (g : B → C) (xs : List A) → map (λ x. g (f x)) xs ≡ map g (map f xs)
+    map_twice : {A B C : Type 0} (f : A → B) (g : B → C) (xs : List A)
+        → map (λ x. g (f x)) xs ≡ map g (map f xs)
     map_twice f g [] = refl
     map_twice f g (x ∷ xs) = ap (λ t. g (f x) ∷ t) (map_twice f g xs)
 
 page_of-packed : (f : PageId → Option PageHist) (p : PageId) → packed_page (packed_of f p) ≡ p
 page_of-packed f p = packed_keeps_page (rank_key p (f p)) ∙ page_of-rank_key p (f p)
 
-map_inverse : {A B : Type 0} (f : A → B) (g : B → A) → ((x : A) → g (f x) ≡ x) → (xs : List A) → map g (map f xs) ≡ xs
+map_inverse : {A B : Type 0} (f : A → B) (g : B → A) → ((x : A) → g (f x) ≡ x) → (xs : List A)
+    → map g (map f xs) ≡ xs
 map_inverse f g back [] = refl
 map_inverse f g back (x ∷ xs) = ap (λ y. y ∷ map g (map f xs)) (back x) ∙ ap (λ t. x ∷ t) (map_inverse f g back xs)
 
 -- the pages of the greatest keys are the warm-up list
-pub warm_from_keys : (S : ReferenceSet) (n : ℕ) → map packed_page (take n (distinct (flip_args packed_cmp) (packed_keys (history S)))) ≡ hottest_pages S n
+pub warm_from_keys : (S : ReferenceSet) (n : ℕ)
+    → map packed_page (take n (distinct (flip_args packed_cmp) (packed_keys (history S))))
+    ≡ hottest_pages S n
 warm_from_keys S n =
     let key = packed_of (hist S) in
     ap (λ ks. map packed_page (take n (distinct (flip_args packed_cmp) ks))) (packed_of_pages S)
@@ -81,7 +98,9 @@ warm_from_keys S n =
 
 -- ---- no two keys of a history's entries tie
 
-none_tied : (f : PageId → Option PageHist) (p : PageId) (ps : List PageId) → AllByRecursion (λ q. page_cmp p q ≡ Less) ps → ties packed_cmp (packed_of f p) (map (packed_of f) ps) ≡ 0
+none_tied : (f : PageId → Option PageHist) (p : PageId) (ps : List PageId)
+    → AllByRecursion (λ q. page_cmp p q ≡ Less) ps
+    → ties packed_cmp (packed_of f p) (map (packed_of f) ps) ≡ 0
 none_tied f p [] above = refl
 none_tied f p (q ∷ ps) above =
     let apart : is_eq (packed_cmp (packed_of f p) (packed_of f q)) ≡ false = by_cases (packed_cmp (packed_of f p) (packed_of f q)) _
@@ -94,7 +113,8 @@ none_tied f p (q ∷ ps) above =
     in
     ties-other packed_cmp packed_order (packed_of f p) (packed_of f q) (map (packed_of f) ps) apart ∙ none_tied f p ps above.1
 
-no_ties : (f : PageId → Option PageHist) (ps : List PageId) → IsAscending page_cmp ps → HasNoTies packed_cmp (map (packed_of f) ps)
+no_ties : (f : PageId → Option PageHist) (ps : List PageId) → IsAscending page_cmp ps
+    → HasNoTies packed_cmp (map (packed_of f) ps)
 no_ties f [] rising x = omega arith
 no_ties f (p ∷ ps) rising x =
     let key : PackedKey = packed_of f p in
@@ -125,20 +145,28 @@ all_of (x ∷ xs) zero short = absurd (omega arith)
 all_of (x ∷ xs) (suc n) short = ap (λ t. x ∷ t) (all_of xs n (omega arith))
 
 -- a part of a history's keys of which no item is below one of the rest
-warm_from_parts : (S : ReferenceSet) (n : ℕ) (rest top sorted : List PackedKey) → IsPermutation (packed_keys (history S)) (rest ++ top) → IsAbove packed_cmp rest top → IsPermutation top sorted → IsSorted packed_cmp sorted
-    → take n (reverse sorted ++ distinct (flip_args packed_cmp) rest) ≡ reverse sorted → map packed_page (reverse sorted) ≡ hottest_pages S n
+warm_from_parts : (S : ReferenceSet) (n : ℕ) (rest top sorted : List PackedKey)
+    → IsPermutation (packed_keys (history S)) (rest ++ top) → IsAbove packed_cmp rest top
+    → IsPermutation top sorted → IsSorted packed_cmp sorted
+    → take n (reverse sorted ++ distinct (flip_args packed_cmp) rest) ≡ reverse sorted
+    → map packed_page (reverse sorted) ≡ hottest_pages S n
 warm_from_parts S n rest top sorted parted above moved in_order first =
     ap (map packed_page) (sym first ∙ ap (take n) (sym (distinct-descending packed_cmp packed_order (packed_keys (history S)) rest top sorted (history_has_no_ties S) parted above moved in_order)))
     ∙ warm_from_keys S n
 
 -- the n greatest of a history's keys in any order
-pub warm_from_greatest : (S : ReferenceSet) (n : ℕ) (keys top sorted : List PackedKey) → IsPermutation (packed_keys (history S)) keys → AreGreatest packed_cmp keys n top → IsPermutation top sorted → IsSorted packed_cmp sorted → map packed_page (reverse sorted) ≡ hottest_pages S n
+pub warm_from_greatest : (S : ReferenceSet) (n : ℕ) (keys top sorted : List PackedKey)
+    → IsPermutation (packed_keys (history S)) keys → AreGreatest packed_cmp keys n top
+    → IsPermutation top sorted → IsSorted packed_cmp sorted
+    → map packed_page (reverse sorted) ≡ hottest_pages S n
 warm_from_greatest S n keys top sorted given great moved in_order =
     warm_from_parts S n (great.others ++ great.next ∷ []) top sorted (IsPermutation-trans (packed_keys (history S)) keys ((great.others ++ great.next ∷ []) ++ top) given (subst (IsPermutation keys) (sym (append_assoc great.others (great.next ∷ []) top)) great.parts)) (above_from_split packed_cmp packed_order great.others great.next top great.split) moved in_order
     (first_of (reverse sorted) _ n (length-reverse sorted ∙ length_permutation top sorted moved ∙ great.count))
 
 -- all of a history's keys in any order
-pub warm_from_all : (S : ReferenceSet) (n : ℕ) (keys sorted : List PackedKey) → IsPermutation (packed_keys (history S)) keys → length keys ≤ n → IsPermutation keys sorted → IsSorted packed_cmp sorted → map packed_page (reverse sorted) ≡ hottest_pages S n
+pub warm_from_all : (S : ReferenceSet) (n : ℕ) (keys sorted : List PackedKey)
+    → IsPermutation (packed_keys (history S)) keys → length keys ≤ n → IsPermutation keys sorted
+    → IsSorted packed_cmp sorted → map packed_page (reverse sorted) ≡ hottest_pages S n
 warm_from_all S n keys sorted given short moved in_order =
     warm_from_parts S n [] keys sorted given (λ r t none has. absurd none) moved in_order
     (all_of (reverse sorted) n (omega (arith, length-reverse sorted, length_permutation keys sorted moved)))

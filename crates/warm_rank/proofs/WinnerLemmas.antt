@@ -66,14 +66,16 @@ halved_le zero x = omega arith
 halved_le (suc k) x = let rest : halved k (x / 2) ≤ x / 2 = halved_le k (x / 2) in omega (arith, rest)
 
 -- two nodes of one path under one node are equal
-one_child : (x c d : ℕ) → 0 < c / 2 → c / 2 ≡ d / 2 → (k m : ℕ) → halved k x ≡ c → halved m x ≡ d → c ≡ d
+one_child : (x c d : ℕ) → 0 < c / 2 → c / 2 ≡ d / 2 → (k m : ℕ) → halved k x ≡ c → halved m x ≡ d
+    → c ≡ d
 one_child x c d some same zero zero is_c is_d = sym is_c ∙ is_d
 one_child x c d some same zero (suc m) is_c is_d = let le : halved m (x / 2) ≤ x / 2 = halved_le m (x / 2) in absurd (omega (arith, le, is_c, is_d, same, some))
 one_child x c d some same (suc k) zero is_c is_d = let le : halved k (x / 2) ≤ x / 2 = halved_le k (x / 2) in absurd (omega (arith, le, is_c, is_d, same, some))
 one_child x c d some same (suc k) (suc m) is_c is_d = one_child (x / 2) c d some same k m is_c is_d
 
 -- a node that changes keeps the leaves
-pub played_shape : (n : ℕ) (nodes : List ℕ) → HasLeaves n nodes → (p w : ℕ) → p < n → w < n → HasLeaves n (set nodes p w)
+pub played_shape : (n : ℕ) (nodes : List ℕ) → HasLeaves n nodes → (p w : ℕ) → p < n → w < n
+    → HasLeaves n (set nodes p w)
 played_shape n nodes shape p w lt below = record {
   some = shape.some;
   few = shape.few;
@@ -92,7 +94,8 @@ pub record HasLeavesBelow (n : ℕ) (nodes : List ℕ) (next : ℕ) : Type 0 whe
   pub leaves : (s : ℕ) → s < next → get_or nodes (n + s) 0 ≡ s
   pub in_range : (j : ℕ) → j < 2 * n → get_or nodes j 0 < n
 
-pub read_at : (nodes : List ℕ) (i x : ℕ) → x ≡ get_or nodes i x → i < length nodes → x ≡ get_or nodes i 0
+pub read_at : (nodes : List ℕ) (i x : ℕ) → x ≡ get_or nodes i x → i < length nodes
+    → x ≡ get_or nodes i 0
 read_at nodes i x is lt = is ∙ any_default nodes i x 0 lt
   where
     any_default : (xs : List ℕ) (i d e : ℕ) → i < length xs → get_or xs i d ≡ get_or xs i e
@@ -101,13 +104,15 @@ read_at nodes i x is lt = is ∙ any_default nodes i x 0 lt
     any_default (x ∷ xs) (suc i) d e lt = any_default xs i d e (omega arith)
 
 -- what is read at a node is a slot
-pub read_below : (n : ℕ) (nodes : List ℕ) → HasLeaves n nodes → (i x : ℕ) → i < 2 * n → x ≡ get_or nodes i x → x < n
+pub read_below : (n : ℕ) (nodes : List ℕ) → HasLeaves n nodes → (i x : ℕ) → i < 2 * n
+    → x ≡ get_or nodes i x → x < n
 read_below n nodes shape i x lt is = subst (λ t. t < n) (sym (read_at nodes i x is (omega (arith, shape.size, lt)))) (shape.in_range i lt)
 
 module _ {K : Type 0} (cmp : K → K → Ordering) where
   -- ---- two slots
 
-  winner_is : (keys : List (Option K)) (a b : ℕ) → (winner cmp keys a b ≡ a) ⊎ (winner cmp keys a b ≡ b)
+  winner_is : (keys : List (Option K)) (a b : ℕ)
+      → (winner cmp keys a b ≡ a) ⊎ (winner cmp keys a b ≡ b)
   winner_is keys a b = elim (is_gt (slot_cmp cmp keys a b)) as (λ t. (cond t b a ≡ a) ⊎ (cond t b a ≡ b)) [ true ↦ inr refl | false ↦ inl refl ]
 
   pub winner_below : (keys : List (Option K)) (a b n : ℕ) → a < n → b < n → winner cmp keys a b < n
@@ -116,7 +121,9 @@ module _ {K : Type 0} (cmp : K → K → Ordering) where
   -- ---- a changed key
 
   -- a node that holds a slot is its leaf, or stands above it
-  holds_slot : (keys : List (Option K)) (nodes : List ℕ) → IsTree cmp keys nodes → (slot fuel j : ℕ) → 2 * length keys ≤ j + fuel → 0 < j → j < 2 * length keys → get_or nodes j 0 ≡ slot → (j ≡ length keys + slot) ⊎ IsAbove (length keys + slot) j
+  holds_slot : (keys : List (Option K)) (nodes : List ℕ) → IsTree cmp keys nodes → (slot fuel j : ℕ)
+      → 2 * length keys ≤ j + fuel → 0 < j → j < 2 * length keys → get_or nodes j 0 ≡ slot
+      → (j ≡ length keys + slot) ⊎ IsAbove (length keys + slot) j
   holds_slot keys nodes tree slot zero j enough low high is = absurd (omega arith)
   holds_slot keys nodes tree slot (suc fuel) j enough low high is = elim (cases_lt j (length keys)) [
     | inl inner ↦
@@ -135,13 +142,16 @@ module _ {K : Type 0} (cmp : K → K → Ordering) where
         inl (sym back ∙ ap (λ t. length keys + t) same)
   ]
 
-  winner_apart : (keys : List (Option K)) (slot : ℕ) (key : Option K) (a b : ℕ) → a ≢ slot → b ≢ slot → winner cmp (set keys slot key) a b ≡ winner cmp keys a b
+  winner_apart : (keys : List (Option K)) (slot : ℕ) (key : Option K) (a b : ℕ) → a ≢ slot
+      → b ≢ slot → winner cmp (set keys slot key) a b ≡ winner cmp keys a b
   winner_apart keys slot key a b na nb =
       ap (λ x. cond (is_gt (ordering_then (set_first_cmp cmp x (key_at (set keys slot key) b)) (nat_cmp a b))) b a) (get_or-set_other keys slot a key None na)
       ∙ ap (λ y. cond (is_gt (ordering_then (set_first_cmp cmp (key_at keys a) y) (nat_cmp a b))) b a) (get_or-set_other keys slot b key None nb)
 
   -- leaves the matches played but those above its leaf
-  pub changed_key : (keys : List (Option K)) (nodes : List ℕ) → IsTree cmp keys nodes → (slot : ℕ) (key : Option K) → slot < length keys → IsPlayedBut cmp (set keys slot key) nodes (length keys + slot)
+  pub changed_key : (keys : List (Option K)) (nodes : List ℕ) → IsTree cmp keys nodes
+      → (slot : ℕ) (key : Option K) → slot < length keys
+      → IsPlayedBut cmp (set keys slot key) nodes (length keys + slot)
   changed_key keys nodes tree slot key lt j low high =
       let inner : j < length keys = subst (λ n. j < n) (length-set keys slot key) high in
       let enough_even : 2 * length keys ≤ 2 * j + 2 * length keys = omega arith in
@@ -156,28 +166,35 @@ module _ {K : Type 0} (cmp : K → K → Ordering) where
 
   -- ---- a match played
 
-  winner_same : (keys : List (Option K)) (a b x y : ℕ) → a ≡ x → b ≡ y → winner cmp keys a b ≡ winner cmp keys x y
+  winner_same : (keys : List (Option K)) (a b x y : ℕ) → a ≡ x → b ≡ y
+      → winner cmp keys a b ≡ winner cmp keys x y
   winner_same keys a b x y ax yb = ap (λ t. winner cmp keys t b) ax ∙ ap (λ t. winner cmp keys x t) yb
 
-  still_played : (keys : List (Option K)) (nodes : List ℕ) (p w j : ℕ) → j ≢ p → 2 * j ≢ p → 2 * j + 1 ≢ p → IsPlayed cmp keys nodes j → IsPlayed cmp keys (set nodes p w) j
+  still_played : (keys : List (Option K)) (nodes : List ℕ) (p w j : ℕ) → j ≢ p → 2 * j ≢ p
+      → 2 * j + 1 ≢ p → IsPlayed cmp keys nodes j → IsPlayed cmp keys (set nodes p w) j
   still_played keys nodes p w j nj na nb played =
       get_or-set_other nodes p j w 0 nj ∙ played ∙ winner_same keys _ _ _ _ (sym (get_or-set_other nodes p (2 * j) w 0 na)) (sym (get_or-set_other nodes p (2 * j + 1) w 0 nb))
 
   abbrev pub match_at : List (Option K) → List ℕ → ℕ → ℕ
   match_at keys nodes p = winner cmp keys (get_or nodes (2 * p) 0) (get_or nodes (2 * p + 1) 0)
 
-  now_played : (keys : List (Option K)) (nodes : List ℕ) (p : ℕ) → 0 < p → p < length nodes → IsPlayed cmp keys (set nodes p (match_at keys nodes p)) p
+  now_played : (keys : List (Option K)) (nodes : List ℕ) (p : ℕ) → 0 < p → p < length nodes
+      → IsPlayed cmp keys (set nodes p (match_at keys nodes p)) p
   now_played keys nodes p low lt =
       let na : 2 * p ≢ p = omega arith in
       let nb : 2 * p + 1 ≢ p = omega arith in
       let w : ℕ = match_at keys nodes p in
       get_or-set_same nodes p w 0 lt ∙ winner_same keys _ _ _ _ (sym (get_or-set_other nodes p (2 * p) w 0 na)) (sym (get_or-set_other nodes p (2 * p + 1) w 0 nb))
 
-  pub match_in_range : (keys : List (Option K)) (nodes : List ℕ) → HasLeaves (length keys) nodes → (p : ℕ) → p < length keys → match_at keys nodes p < length keys
+  pub match_in_range : (keys : List (Option K)) (nodes : List ℕ) → HasLeaves (length keys) nodes
+      → (p : ℕ) → p < length keys → match_at keys nodes p < length keys
   match_in_range keys nodes shape p lt = winner_below keys _ _ _ (shape.in_range (2 * p) (omega arith)) (shape.in_range (2 * p + 1) (omega arith))
 
   -- one match further up
-  pub play_step : (keys : List (Option K)) (nodes : List ℕ) (node : ℕ) → HasLeaves (length keys) nodes → 1 < node → node < 2 * length keys → IsPlayedBut cmp keys nodes node → IsPlayedBut cmp keys (set nodes (node / 2) (match_at keys nodes (node / 2))) (node / 2)
+  pub play_step : (keys : List (Option K)) (nodes : List ℕ) (node : ℕ)
+      → HasLeaves (length keys) nodes → 1 < node → node < 2 * length keys
+      → IsPlayedBut cmp keys nodes node
+      → IsPlayedBut cmp keys (set nodes (node / 2) (match_at keys nodes (node / 2))) (node / 2)
   play_step keys nodes node shape low high rest j jlow jhigh =
       let p : ℕ = node / 2 in
       let plow : 0 < p = omega arith in
@@ -197,7 +214,9 @@ module _ {K : Type 0} (cmp : K → K → Ordering) where
       ]
 
   -- none is left above the root
-  pub played_out : (keys : List (Option K)) (nodes : List ℕ) (node : ℕ) → HasLeaves (length keys) nodes → node ≤ 1 → IsPlayedBut cmp keys nodes node → IsTree cmp keys nodes
+  pub played_out : (keys : List (Option K)) (nodes : List ℕ) (node : ℕ)
+      → HasLeaves (length keys) nodes → node ≤ 1 → IsPlayedBut cmp keys nodes node
+      → IsTree cmp keys nodes
   played_out keys nodes node shape low rest = record {
     shape = shape;
     played = λ j jlow jhigh. elim (rest j jlow jhigh) [
@@ -211,9 +230,11 @@ module _ {K : Type 0} (cmp : K → K → Ordering) where
 
   -- ---- a match that stays
 
-  module _ (keys : List (Option K)) (nodes : List ℕ) (tree : IsTree cmp keys nodes) (slot : ℕ) (lt : slot < length keys) where
+  module _ (keys : List (Option K)) (nodes : List ℕ) (tree : IsTree cmp keys nodes) (slot : ℕ)
+      (lt : slot < length keys) where
     -- of the nodes under one node, that which holds the slot is on its path
-    path_holds : (p c : ℕ) → IsOnPath (length keys + slot) p → 0 < p / 2 → c / 2 ≡ p / 2 → c < 2 * length keys → get_or nodes c 0 ≡ slot → get_or nodes p 0 ≡ slot
+    path_holds : (p c : ℕ) → IsOnPath (length keys + slot) p → 0 < p / 2 → c / 2 ≡ p / 2
+        → c < 2 * length keys → get_or nodes c 0 ≡ slot → get_or nodes p 0 ≡ slot
     path_holds p c path some same high holds =
         let low : 0 < c = omega (arith, some, same) in
         let enough : 2 * length keys ≤ c + 2 * length keys = omega arith in
@@ -221,7 +242,8 @@ module _ {K : Type 0} (cmp : K → K → Ordering) where
         let some_c : 0 < c / 2 = omega (arith, some, same) in
         ap (λ t. get_or nodes t 0) (sym (one_child (length keys + slot) c p some_c same there.0 path.0 there.1 path.1)) ∙ holds
 
-    child_holds : (p : ℕ) → IsOnPath (length keys + slot) p → 0 < p / 2 → get_or nodes (p / 2) 0 ≡ slot → get_or nodes p 0 ≡ slot
+    child_holds : (p : ℕ) → IsOnPath (length keys + slot) p → 0 < p / 2
+        → get_or nodes (p / 2) 0 ≡ slot → get_or nodes p 0 ≡ slot
     child_holds p path some holds =
         let le : halved path.0 (length keys + slot) ≤ length keys + slot = halved_le path.0 (length keys + slot) in
         let inner : p / 2 < length keys = omega (arith, le, path.1, lt) in
@@ -232,7 +254,8 @@ module _ {K : Type 0} (cmp : K → K → Ordering) where
         ]
 
     -- what is under a node above p, and holds the slot, is p or above it; then p holds the slot too
-    holds_below : (k p j c : ℕ) → IsOnPath (length keys + slot) p → halved k (p / 2) ≡ j → 0 < j → c / 2 ≡ j → c < 2 * length keys → get_or nodes c 0 ≡ slot → get_or nodes p 0 ≡ slot
+    holds_below : (k p j c : ℕ) → IsOnPath (length keys + slot) p → halved k (p / 2) ≡ j → 0 < j
+        → c / 2 ≡ j → c < 2 * length keys → get_or nodes c 0 ≡ slot → get_or nodes p 0 ≡ slot
     holds_below zero p j c path is some half high holds = path_holds p c path (omega (arith, is, some)) (half ∙ sym is) high holds
     holds_below (suc k) p j c path is some half high holds =
         let le : halved k (p / 2 / 2) ≤ p / 2 / 2 = halved_le k (p / 2 / 2) in
@@ -241,7 +264,10 @@ module _ {K : Type 0} (cmp : K → K → Ordering) where
 
     -- where the match at p has the winner that it had, which is not the slot, all above it stay
     -- played
-    pub stays_played : (key : Option K) (new : List ℕ) (p : ℕ) → IsOnPath (length keys + slot) p → get_or nodes p 0 ≢ slot → ((j : ℕ) → j < 2 * p → get_or new j 0 ≡ get_or nodes j 0) → HasLeaves (length (set keys slot key)) new → IsPlayedBut cmp (set keys slot key) new p → IsTree cmp (set keys slot key) new
+    pub stays_played : (key : Option K) (new : List ℕ) (p : ℕ) → IsOnPath (length keys + slot) p
+        → get_or nodes p 0 ≢ slot → ((j : ℕ) → j < 2 * p → get_or new j 0 ≡ get_or nodes j 0)
+        → HasLeaves (length (set keys slot key)) new → IsPlayedBut cmp (set keys slot key) new p
+        → IsTree cmp (set keys slot key) new
     stays_played key new p path other same shape rest = record {
       shape = shape;
       played = λ j low high. elim (rest j low high) [
@@ -262,7 +288,12 @@ module _ {K : Type 0} (cmp : K → K → Ordering) where
   -- ---- the matches above a changed key
 
   -- where they begin
-  pub changed_leaf : (keys : List (Option K)) (nodes : List ℕ) (slot : ℕ) → HasChanged cmp keys nodes slot → slot < length keys → record { shape : HasLeaves (length keys) nodes; rest : IsPlayedBut cmp keys nodes (length keys + slot) }
+  pub changed_leaf : (keys : List (Option K)) (nodes : List ℕ) (slot : ℕ)
+      → HasChanged cmp keys nodes slot → slot < length keys
+      → record {
+        shape : HasLeaves (length keys) nodes;
+        rest : IsPlayedBut cmp keys nodes (length keys + slot);
+      }
   changed_leaf keys nodes slot changed lt =
       let old : List (Option K) = changed.0 in
       let key : Option K = changed.1 in
@@ -275,7 +306,13 @@ module _ {K : Type 0} (cmp : K → K → Ordering) where
       }
 
   -- where they end early
-  pub settled : (keys : List (Option K)) (first nodes : List ℕ) (slot node before w : ℕ) → HasChanged cmp keys first slot → slot < length keys → HasLeaves (length keys) nodes → IsPlayedBut cmp keys nodes node → IsOnPath (length keys + slot) node → ((j : ℕ) → j < node → get_or nodes j 0 ≡ get_or first j 0) → 1 < node → node < 2 * length keys → before ≡ get_or nodes (node / 2) before → w ≡ match_at keys nodes (node / 2) → (w ≡ before) × (before ≢ slot) → IsTree cmp keys (set nodes (node / 2) w)
+  pub settled : (keys : List (Option K)) (first nodes : List ℕ) (slot node before w : ℕ)
+      → HasChanged cmp keys first slot → slot < length keys → HasLeaves (length keys) nodes
+      → IsPlayedBut cmp keys nodes node → IsOnPath (length keys + slot) node
+      → ((j : ℕ) → j < node → get_or nodes j 0 ≡ get_or first j 0) → 1 < node
+      → node < 2 * length keys → before ≡ get_or nodes (node / 2) before
+      → w ≡ match_at keys nodes (node / 2) → (w ≡ before) × (before ≢ slot)
+      → IsTree cmp keys (set nodes (node / 2) w)
   settled keys first nodes slot node before w changed lt shape rest path same low high is_before is_match stays =
       let p : ℕ = node / 2 in
       let inner : p < length keys = omega (arith, high) in
@@ -303,14 +340,18 @@ module _ {K : Type 0} (cmp : K → K → Ordering) where
   abbrev pub ArePlayedFrom : List (Option K) → List ℕ → ℕ → Type 0
   ArePlayedFrom keys nodes n = (j : ℕ) → n ≤ j → j < length keys → IsPlayed cmp keys nodes j
 
-  pub play_next : (keys : List (Option K)) (nodes : List ℕ) (p : ℕ) → HasLeaves (length keys) nodes → 0 < p → p < length keys → ArePlayedFrom keys nodes (p + 1) → ArePlayedFrom keys (set nodes p (match_at keys nodes p)) p
+  pub play_next : (keys : List (Option K)) (nodes : List ℕ) (p : ℕ) → HasLeaves (length keys) nodes
+      → 0 < p → p < length keys → ArePlayedFrom keys nodes (p + 1)
+      → ArePlayedFrom keys (set nodes p (match_at keys nodes p)) p
   play_next keys nodes p shape low high rest j jlow jhigh = elim (cases_eq j p) [
     | inl e ↦ let lt : p < length nodes = omega (arith, shape.size) in subst (λ t. IsPlayed cmp keys (set nodes p (match_at keys nodes p)) t) (sym e) (now_played keys nodes p low lt)
     | inr ne ↦ still_played keys nodes p (match_at keys nodes p) j ne (omega arith) (omega arith) (rest j (omega arith) jhigh)
   ]
 
   -- what was read and played is the match
-  pub match_read : (keys : List (Option K)) (nodes : List ℕ) (p a b w : ℕ) → HasLeaves (length keys) nodes → p < length keys → a ≡ get_or nodes (2 * p) a → b ≡ get_or nodes (2 * p + 1) b → w ≡ winner cmp keys a b → w ≡ match_at keys nodes p
+  pub match_read : (keys : List (Option K)) (nodes : List ℕ) (p a b w : ℕ)
+      → HasLeaves (length keys) nodes → p < length keys → a ≡ get_or nodes (2 * p) a
+      → b ≡ get_or nodes (2 * p + 1) b → w ≡ winner cmp keys a b → w ≡ match_at keys nodes p
   match_read keys nodes p a b w shape lt is_a is_b is =
       let in_a : 2 * p < length nodes = omega (arith, shape.size) in
       let in_b : 2 * p + 1 < length nodes = omega (arith, shape.size) in
@@ -331,7 +372,8 @@ module _ {K : Type 0} (cmp : K → K → Ordering) (total : IsTotalOrder cmp) wh
   abbrev pub IsNotAfter : List (Option K) → ℕ → ℕ → Type 0
   IsNotAfter keys a b = is_gt (slot_cmp cmp keys a b) ≡ false
 
-  not_after_trans : (keys : List (Option K)) (a b c : ℕ) → IsNotAfter keys a b → IsNotAfter keys b c → IsNotAfter keys a c
+  not_after_trans : (keys : List (Option K)) (a b c : ℕ) → IsNotAfter keys a b → IsNotAfter keys b c
+      → IsNotAfter keys a c
   not_after_trans keys a b c ab bc = by_cases (slot_cmp cmp keys a b) _
       (λ less. by_cases (slot_cmp cmp keys b c) _
       (λ less'. ap is_gt ((slot_total keys).trans a b c less less'))
@@ -354,7 +396,9 @@ module _ {K : Type 0} (cmp : K → K → Ordering) (total : IsTotalOrder cmp) wh
 
   -- ---- the root comes first
 
-  root_first : (keys : List (Option K)) (nodes : List ℕ) → IsTree cmp keys nodes → (fuel j : ℕ) → j ≤ fuel → 0 < j → j < 2 * length keys → IsNotAfter keys (get_or nodes 1 0) (get_or nodes j 0)
+  root_first : (keys : List (Option K)) (nodes : List ℕ) → IsTree cmp keys nodes → (fuel j : ℕ)
+      → j ≤ fuel → 0 < j → j < 2 * length keys
+      → IsNotAfter keys (get_or nodes 1 0) (get_or nodes j 0)
   root_first keys nodes tree zero j le some below = absurd (omega arith)
   root_first keys nodes tree (suc fuel) j le some below = elim (cases_eq 1 j) [
     | inl e ↦ subst (λ t. IsNotAfter keys (get_or nodes 1 0) (get_or nodes t 0)) e (ap is_gt (tied_itself (slot_total keys) (get_or nodes 1 0)))
@@ -375,18 +419,21 @@ module _ {K : Type 0} (cmp : K → K → Ordering) (total : IsTotalOrder cmp) wh
         not_after_trans keys _ (get_or nodes p 0) _ up (subst (λ w. IsNotAfter keys w (get_or nodes j 0)) (sym is) here)
   ]
 
-  root_slot : (keys : List (Option K)) (nodes : List ℕ) → IsTree cmp keys nodes → (t : ℕ) → t < length keys → IsNotAfter keys (get_or nodes 1 0) t
+  root_slot : (keys : List (Option K)) (nodes : List ℕ) → IsTree cmp keys nodes → (t : ℕ)
+      → t < length keys → IsNotAfter keys (get_or nodes 1 0) t
   root_slot keys nodes tree t lt =
       let some : 0 < length keys = tree.shape.some in
       let low : 0 < length keys + t = omega arith in
       let high : length keys + t < 2 * length keys = omega arith in
       subst (IsNotAfter keys (get_or nodes 1 0)) (tree.shape.leaves t lt) (root_first keys nodes tree (length keys + t) (length keys + t) (omega arith) low high)
 
-  pub root_in_range : (keys : List (Option K)) (nodes : List ℕ) → IsTree cmp keys nodes → get_or nodes 1 0 < length keys
+  pub root_in_range : (keys : List (Option K)) (nodes : List ℕ) → IsTree cmp keys nodes
+      → get_or nodes 1 0 < length keys
   root_in_range keys nodes tree = let some : 0 < length keys = tree.shape.some in tree.shape.in_range 1 (omega arith)
 
   -- the order where the first slot has no key
-  none_after : (keys : List (Option K)) (a t : ℕ) → key_at keys a ≡ None → IsNotAfter keys a t → key_at keys t ≡ None
+  none_after : (keys : List (Option K)) (a t : ℕ) → key_at keys a ≡ None → IsNotAfter keys a t
+      → key_at keys t ≡ None
   none_after keys a t none first = cases (key_at keys t) refl
     where
       cases : (k : Option K) → key_at keys t ≡ k → key_at keys t ≡ None
@@ -396,16 +443,19 @@ module _ {K : Type 0} (cmp : K → K → Ordering) (total : IsTotalOrder cmp) wh
           let no : true ≡ false = sym (ap is_gt more) ∙ first in
           absurd (cc)
 
-  pub least_none : (keys : List (Option K)) (nodes : List ℕ) → IsTree cmp keys nodes → key_at keys (get_or nodes 1 0) ≡ None → IsLeast cmp keys None
+  pub least_none : (keys : List (Option K)) (nodes : List ℕ) → IsTree cmp keys nodes
+      → key_at keys (get_or nodes 1 0) ≡ None → IsLeast cmp keys None
   least_none keys nodes tree none t lt = none_after keys (get_or nodes 1 0) t none (root_slot keys nodes tree t lt)
 
-  first_less : (keys : List (Option K)) (a t : ℕ) → t ≢ a → IsNotAfter keys a t → slot_cmp cmp keys a t ≡ Less
+  first_less : (keys : List (Option K)) (a t : ℕ) → t ≢ a → IsNotAfter keys a t
+      → slot_cmp cmp keys a t ≡ Less
   first_less keys a t ne first = by_cases (slot_cmp cmp keys a t) _
       (λ less. less)
       (λ tied. absurd (ne (sym (slot_same keys a t tied))))
       (λ more. let no : true ≡ false = sym (ap is_gt more) ∙ first in absurd (cc))
 
-  pub least_some : (keys : List (Option K)) (nodes : List ℕ) → IsTree cmp keys nodes → IsSome (key_at keys (get_or nodes 1 0)) → IsLeast cmp keys (Some (get_or nodes 1 0))
+  pub least_some : (keys : List (Option K)) (nodes : List ℕ) → IsTree cmp keys nodes
+      → IsSome (key_at keys (get_or nodes 1 0)) → IsLeast cmp keys (Some (get_or nodes 1 0))
   least_some keys nodes tree set_there = record {
     in_range = root_in_range keys nodes tree;
     is_set = set_there;
@@ -413,11 +463,20 @@ module _ {K : Type 0} (cmp : K → K → Ordering) (total : IsTotalOrder cmp) wh
   }
 
   -- the root, as it is read
-  pub root_read : (keys : List (Option K)) (nodes : List ℕ) → IsTree cmp keys nodes → (root : ℕ) → root ≡ get_or nodes 1 root → root ≡ get_or nodes 1 0
+  pub root_read : (keys : List (Option K)) (nodes : List ℕ) → IsTree cmp keys nodes → (root : ℕ)
+      → root ≡ get_or nodes 1 root → root ≡ get_or nodes 1 0
   root_read keys nodes tree root is = let some : 0 < length keys = tree.shape.some in let lt : 1 < length nodes = omega (arith, tree.shape.size) in read_at nodes 1 root is lt
 
   -- the least slot, from the root and its key as they are read
-  pub least_read : (keys : List (Option K)) (nodes : List ℕ) → IsTree cmp keys nodes → (root : ℕ) → root ≡ get_or nodes 1 root → record { within : root < length keys; none : is_some (key_at keys root) ≡ false → IsLeast cmp keys None; some : is_some (key_at keys root) ≡ true → IsLeast cmp keys (Some root) }
+  pub least_read : (keys : List (Option K)) (nodes : List ℕ) → IsTree cmp keys nodes → (root : ℕ)
+      → root ≡ get_or nodes 1 root
+      → record {
+        within : root < length keys;
+        none : is_some (key_at keys root) ≡ false
+            → IsLeast cmp keys None;
+        some : is_some (key_at keys root) ≡ true
+            → IsLeast cmp keys (Some root);
+      }
   least_read keys nodes tree root is =
       let root_is : root ≡ get_or nodes 1 0 = root_read keys nodes tree root is in
       record {
