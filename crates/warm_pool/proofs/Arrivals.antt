@@ -22,7 +22,8 @@ use Rattle.warm_pool.proofs.Loads.{Failed, on_ok, PutsPage, put_pool, put_keeps}
 use Rattle.warm_pool.proofs.WriteBacks.{cleans_view}
 
 -- page p, which is in no frame, was read into bytes, to come into frame i
-pub record Fetched (s : PoolState) (ds : List DeviceState) (i : ℕ) (p : PageId) (bytes : List ℕ) (result : Result (Unit {0}) DeviceFault) : Type 0 where
+pub record Fetched (s : PoolState) (ds : List DeviceState) (i : ℕ) (p : PageId) (bytes : List ℕ)
+    (result : Result (Unit {0}) DeviceFault) : Type 0 where
   pub pool : IsPool s
   pub there : i < length s.frames
   pub size : length bytes ≡ s.page_size
@@ -32,8 +33,11 @@ pub record Fetched (s : PoolState) (ds : List DeviceState) (i : ℕ) (p : PageId
   pub call : PageRead s.devices ds p.dev p.no bytes result
 
 -- the same, of a pool that is seen as v
-pub fetched_in : {s v : PoolState} {ds : List DeviceState} {p : PageId} {bytes : List ℕ} {result : Result (Unit {0}) DeviceFault} (i : ℕ) → s ≡ v → IsPool s
-    → i < length v.frames → length bytes ≡ s.spare → p.dev < length v.devices → p.no < (nth_device v.devices p.dev).pages → IsNowhere v.frames p → PageRead s.devices ds p.dev p.no bytes result → Fetched s ds i p bytes result
+pub fetched_in : {s v : PoolState} {ds : List DeviceState} {p : PageId} {bytes : List ℕ}
+    {result : Result (Unit {0}) DeviceFault} (i : ℕ) → s ≡ v → IsPool s
+    → i < length v.frames → length bytes ≡ s.spare → p.dev < length v.devices
+    → p.no < (nth_device v.devices p.dev).pages → IsNowhere v.frames p
+    → PageRead s.devices ds p.dev p.no bytes result → Fetched s ds i p bytes result
 fetched_in {p = p} i seen w there len device number nowhere call = record {
   pool = w;
   there = subst (λ x. i < length x.frames) (sym seen) there;
@@ -45,14 +49,16 @@ fetched_in {p = p} i seen w there len device number nowhere call = record {
 }
 
 -- the buffers change places
-pub spare_keeps : (s : PoolState) (n : ℕ) → n ≡ s.page_size → IsPool s → IsPool (record s { spare = n })
+pub spare_keeps : (s : PoolState) (n : ℕ) → n ≡ s.page_size → IsPool s
+    → IsPool (record s { spare = n })
 spare_keeps s n e w = subst (λ m. IsPool (record s { spare = m })) (w.spare_size ∙ sym e) w
 
 -- the frame after the page was loaded into it
 abbrev pub arrival : List FrameState → ℕ → PageId → RankKey → ℕ → List ℕ → FrameState
 arrival frames i p key fixes bytes = record { page = Some p; key = Some key; generation = (nth_frame frames i).generation + 1; fixes = fixes; dirty = false; bytes = bytes }
 
-module _ {s : PoolState} {ds : List DeviceState} {i : ℕ} {p : PageId} {bytes : List ℕ} {result : Result (Unit {0}) DeviceFault} (h : Fetched s ds i p bytes result) where
+module _ {s : PoolState} {ds : List DeviceState} {i : ℕ} {p : PageId} {bytes : List ℕ}
+    {result : Result (Unit {0}) DeviceFault} (h : Fetched s ds i p bytes result) where
   kept : KeptDevices s.frames s.devices ds
   kept = read_keeps s.frames s.devices ds p.dev p.no bytes result h.device h.call
 
@@ -73,7 +79,8 @@ module _ {s : PoolState} {ds : List DeviceState} {i : ℕ} {p : PageId} {bytes :
     fetched_view = same_view s ds p.dev h.call.after h.call.becomes kept (subst (λ r. CountsFault Read r (nth_device s.devices p.dev) h.call.after) ok h.call.call.faults)
 
     -- the page that was to leave was not written
-    pub leave_failed : {n : ℕ} (t : PoolState) → CleanFails (record s { spare = n; devices = ds }) i t → CleanFails s i t
+    pub leave_failed : {n : ℕ} (t : PoolState)
+        → CleanFails (record s { spare = n; devices = ds }) i t → CleanFails s i t
     leave_failed t c = record {
       page = c.page;
       holds = c.holds;
@@ -84,7 +91,8 @@ module _ {s : PoolState} {ds : List DeviceState} {i : ℕ} {p : PageId} {bytes :
       fails = subst (λ v. FailsAt v c.page.dev (view_of t)) fetched_view c.fails;
     }
 
-    module _ {n m : ℕ} {es : List DeviceState} (fs : FramesState) (w : IsPool (pool_from fs m es)) (c : Cleans (record s { spare = n; devices = ds }) i (pool_from fs m es)) where
+    module _ {n m : ℕ} {es : List DeviceState} (fs : FramesState) (w : IsPool (pool_from fs m es))
+        (c : Cleans (record s { spare = n; devices = ds }) i (pool_from fs m es)) where
       old_view : view_of (pool_from fs m es) ≡ view_of s
       old_view = cleans_view (record s { spare = n; devices = ds }) (pool_from fs m es) i c ∙ fetched_view
 
@@ -94,7 +102,8 @@ module _ {s : PoolState} {ds : List DeviceState} {i : ℕ} {p : PageId} {bytes :
       pub still_there : i < length fs.frames
       still_there = subst (λ k. i < k) (sym (ap length c.frames ∙ length-set s.frames i (cleaned (nth_frame s.frames i)))) h.there
 
-      pub still_below : (k : ℕ) → (nth_frame s.frames i).generation < k → (nth_frame fs.frames i).generation < k
+      pub still_below : (k : ℕ) → (nth_frame s.frames i).generation < k
+          → (nth_frame fs.frames i).generation < k
       still_below k lt = subst (λ g. g < k) (sym (ap (λ f. f.generation) nth_old)) lt
 
       pub still_size : length (nth_frame fs.frames i).bytes ≡ fs.page_size
@@ -104,7 +113,8 @@ module _ {s : PoolState} {ds : List DeviceState} {i : ℕ} {p : PageId} {bytes :
       still_nowhere = subst (λ l. IsNowhere l p) (sym c.frames)
           (at_set (fresh_frame []) (λ _ f. f.page ≢ Some p) s.frames i (cleaned (nth_frame s.frames i)) h.there (h.nowhere i) (λ j ne. h.nowhere j))
 
-      from_device : IsTrue (nth_device es p.dev).honest → bytes ≡ page_at (nth_device es p.dev).contents p.no
+      from_device : IsTrue (nth_device es p.dev).honest
+          → bytes ≡ page_at (nth_device es p.dev).contents p.no
       from_device o =
           let mid : IsTrue (nth_device ds p.dev).honest = subst IsTrue (c.devices.shape p.dev).honest o in
           let first : IsTrue (nth_device s.devices p.dev).honest = subst IsTrue (kept.shape p.dev).honest mid in
@@ -130,7 +140,10 @@ module _ {s : PoolState} {ds : List DeviceState} {i : ℕ} {p : PageId} {bytes :
           nowhere = still_nowhere;
         }
 
-        module _ (gs : FramesState) (k : ℕ) (is : gs ≡ record fs { frames = set fs.frames i (arrival fs.frames i p key fixes b) }) where
+        module _ (gs : FramesState) (k : ℕ)
+            (is : gs ≡ record fs {
+              frames = set fs.frames i (arrival fs.frames i p key fixes b);
+            }) where
           pub arrived_pool : k ≡ fs.page_size → IsPool (pool_from gs k es)
           arrived_pool e = subst (λ x. IsPool (pool_from x k es)) (sym is)
               (spare_keeps (pool_from (record fs { frames = set fs.frames i (arrival fs.frames i p key fixes b) }) m es) k e (put_pool (pool_from fs m es) i (arrival fs.frames i p key fixes b) p w puts))

@@ -36,7 +36,8 @@ pub record IsElsewhere (frames : List FrameState) (p : PageId) : Type 0 where
   pub nowhere : IsNowhere frames p
   pub bytes : (others : List ℕ) → bytes_in frames p others ≡ others
 
-first_frame : (f : FrameState) (fs : List FrameState) (p : PageId) → is_page p f.page ≡ true → IsHeld (f ∷ fs) p
+first_frame : (f : FrameState) (fs : List FrameState) (p : PageId) → is_page p f.page ≡ true
+    → IsHeld (f ∷ fs) p
 first_frame f fs p e = record {
   frame = 0;
   there = omega arith;
@@ -44,7 +45,8 @@ first_frame f fs p e = record {
   bytes = λ others. ap (λ t. cond t f.bytes (bytes_in fs p others)) e;
 }
 
-later_frame : (f : FrameState) (fs : List FrameState) (p : PageId) → is_page p f.page ≡ false → IsHeld fs p → IsHeld (f ∷ fs) p
+later_frame : (f : FrameState) (fs : List FrameState) (p : PageId) → is_page p f.page ≡ false
+    → IsHeld fs p → IsHeld (f ∷ fs) p
 later_frame f fs p e h =
     let low : h.frame < length fs = h.there in
     record {
@@ -54,7 +56,8 @@ later_frame f fs p e h =
       bytes = λ others. ap (λ t. cond t f.bytes (bytes_in fs p others)) e ∙ h.bytes others;
     }
 
-no_frame : (f : FrameState) (fs : List FrameState) (p : PageId) → is_page p f.page ≡ false → IsElsewhere fs p → IsElsewhere (f ∷ fs) p
+no_frame : (f : FrameState) (fs : List FrameState) (p : PageId) → is_page p f.page ≡ false
+    → IsElsewhere fs p → IsElsewhere (f ∷ fs) p
 no_frame f fs p e h = record {
   nowhere = away;
   bytes = λ others. ap (λ t. cond t f.bytes (bytes_in fs p others)) e ∙ h.bytes others;
@@ -74,13 +77,15 @@ where_is (f ∷ fs) p = elim (cases_Bool (is_page p f.page)) [
   ]
 ]
 
-pub bytes_nowhere : (frames : List FrameState) (p : PageId) (others : List ℕ) → IsNowhere frames p → bytes_in frames p others ≡ others
+pub bytes_nowhere : (frames : List FrameState) (p : PageId) (others : List ℕ) → IsNowhere frames p
+    → bytes_in frames p others ≡ others
 bytes_nowhere frames p others away = elim (where_is frames p) [
   | inl h ↦ absurd (away h.frame h.holds)
   | inr h ↦ h.bytes others
 ]
 
-pub bytes_held : (s : PoolState) (i : ℕ) (p : PageId) (others : List ℕ) → IsPool s → (nth_frame s.frames i).page ≡ Some p
+pub bytes_held : (s : PoolState) (i : ℕ) (p : PageId) (others : List ℕ) → IsPool s
+    → (nth_frame s.frames i).page ≡ Some p
     → bytes_in s.frames p others ≡ (nth_frame s.frames i).bytes
 bytes_held s i p others w e = elim (where_is s.frames p) [
   | inl h ↦ h.bytes others ∙ ap (λ n. (nth_frame s.frames n).bytes) (w.once h.frame i p h.holds e)
@@ -88,7 +93,8 @@ bytes_held s i p others w e = elim (where_is s.frames p) [
 ]
 
 -- what the page would be elsewhere counts only where it is in no frame
-pub bytes_alike : (frames : List FrameState) (p : PageId) (a b : List ℕ) → (IsNowhere frames p → a ≡ b) → bytes_in frames p a ≡ bytes_in frames p b
+pub bytes_alike : (frames : List FrameState) (p : PageId) (a b : List ℕ)
+    → (IsNowhere frames p → a ≡ b) → bytes_in frames p a ≡ bytes_in frames p b
 bytes_alike frames p a b same = elim (where_is frames p) [
   | inl h ↦ h.bytes a ∙ sym (h.bytes b)
   | inr h ↦ h.bytes a ∙ same h.nowhere ∙ sym (h.bytes b)
@@ -96,7 +102,8 @@ bytes_alike frames p a b same = elim (where_is frames p) [
 
 -- a frame that changed, but neither its page nor its bytes
 pub bytes_kept : (frames : List FrameState) (p : PageId) (others : List ℕ) (i : ℕ) (g : FrameState)
-    → g.page ≡ (nth_frame frames i).page → g.bytes ≡ (nth_frame frames i).bytes → bytes_in (set frames i g) p others ≡ bytes_in frames p others
+    → g.page ≡ (nth_frame frames i).page → g.bytes ≡ (nth_frame frames i).bytes
+    → bytes_in (set frames i g) p others ≡ bytes_in frames p others
 bytes_kept [] p others i g a b = refl
 bytes_kept (f ∷ fs) p others zero g a b =
     ap (λ o. cond (is_page p o) g.bytes (bytes_in fs p others)) a ∙ ap (λ t. cond (is_page p f.page) t (bytes_in fs p others)) b
@@ -105,30 +112,35 @@ bytes_kept (f ∷ fs) p others (suc i) g a b = ap (λ t. cond (is_page p f.page)
 -- the table of contents, where each page has the bytes that it had
 pub contents_same : (frames gs : List FrameState) (ds es : List DeviceState) → length es ≡ length ds
     → ((k : ℕ) → (nth_device es k).pages ≡ (nth_device ds k).pages)
-    → ((p : PageId) → bytes_of gs es p ≡ bytes_of frames ds p) → contents_of gs es ≡ contents_of frames ds
+    → ((p : PageId) → bytes_of gs es p ≡ bytes_of frames ds p)
+    → contents_of gs es ≡ contents_of frames ds
 contents_same frames gs ds es count pages same =
     ap₂ (λ (row : ℕ → List (List ℕ)) (n : ℕ). map row (range_with_len 0 n))
     (fun_ext (λ k. ap₂ (λ (page : ℕ → List ℕ) (n : ℕ). map page (range_with_len 0 n)) (fun_ext (λ n. same (record { dev = k; no = n }))) (pages k)))
     count
 
 -- what a view says of a frame, of a device and of a page
-pub frame_seen : (s : PoolState) (i : ℕ) → frame_at (view_of s) i ≡ frame_view (nth_frame s.frames i)
+pub frame_seen : (s : PoolState) (i : ℕ)
+    → frame_at (view_of s) i ≡ frame_view (nth_frame s.frames i)
 frame_seen s i = mapped frame_view s.frames i _
 
-pub device_seen : (s : PoolState) (k : ℕ) → device_at (view_of s) k ≡ device_view (nth_device s.devices k)
+pub device_seen : (s : PoolState) (k : ℕ)
+    → device_at (view_of s) k ≡ device_view (nth_device s.devices k)
 device_seen s k = mapped device_view s.devices k _
 
 abbrev pub row : List FrameState → List DeviceState → ℕ → List (List ℕ)
 row frames devices k = map (λ n. bytes_of frames devices (record { dev = k; no = n })) (range_with_len 0 (nth_device devices k).pages)
 
-pub contents_seen : (s : PoolState) (p : PageId) → p.dev < length s.devices → p.no < (nth_device s.devices p.dev).pages
+pub contents_seen : (s : PoolState) (p : PageId) → p.dev < length s.devices
+    → p.no < (nth_device s.devices p.dev).pages
     → contents_at (view_of s) p ≡ bytes_of s.frames s.devices p
 contents_seen s p d n =
     ap (λ r. get_or r p.no []) (get_or-map-range_with_len (row s.frames s.devices) 0 (length s.devices) p.dev p.dev [] d (omega arith))
     ∙ get_or-map-range_with_len (λ m. bytes_of s.frames s.devices (record { dev = p.dev; no = m })) 0 (nth_device s.devices p.dev).pages p.no p.no [] n (omega arith)
 
 -- a page that no device has has no bytes
-pub contents_beyond : (s : PoolState) (p : PageId) → (nth_device s.devices p.dev).pages ≤ p.no → contents_at (view_of s) p ≡ []
+pub contents_beyond : (s : PoolState) (p : PageId) → (nth_device s.devices p.dev).pages ≤ p.no
+    → contents_at (view_of s) p ≡ []
 contents_beyond s p n = elim (cases_lt p.dev (length s.devices)) [
   | inl d ↦
       ap (λ r. get_or r p.no []) (get_or-map-range_with_len (row s.frames s.devices) 0 (length s.devices) p.dev p.dev [] d (omega arith))

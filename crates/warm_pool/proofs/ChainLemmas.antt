@@ -5,14 +5,17 @@ use Rattle.std.proofs.lemmas.Bool.{cases_eq, cases_lt}
 use Rattle.warm_pool.specs.Chains.{IsFirstFrom, AreChains, IsOf, after, link_after}
 
 -- the first frame from a place on is none after a frame of the chain
-pub not_after : (frames : List ℕ) (b from at y : ℕ) → IsFirstFrom frames b from at → from ≤ y → get_or frames y 0 ≡ b → at ≤ y
+pub not_after : (frames : List ℕ) (b from at y : ℕ) → IsFirstFrom frames b from at → from ≤ y
+    → get_or frames y 0 ≡ b → at ≤ y
 not_after frames b from at y first low is = elim (cases_lt y at) [
   | inl under ↦ absurd (first.apart y low under is)
   | inr out ↦ out
 ]
 
 -- the link after a frame leads to the first frame after it
-pub link_first : (frames heads next : List ℕ) (b : ℕ) (last : Option ℕ) → AreChains frames heads next → b < length heads → IsOf frames b last → IsFirstFrom frames b (after last) (link_after heads next b last)
+pub link_first : (frames heads next : List ℕ) (b : ℕ) (last : Option ℕ)
+    → AreChains frames heads next → b < length heads → IsOf frames b last
+    → IsFirstFrom frames b (after last) (link_after heads next b last)
 link_first frames heads next b None chains lt of = chains.heads_are b lt
 link_first frames heads next b (Some x) chains lt of =
     let in_heads : get_or frames x 0 < length heads = subst (λ n. n < length heads) (sym of.1) lt in
@@ -29,7 +32,8 @@ module _ (frames : List ℕ) (f v : ℕ) where
   same_count = length-set frames f v
 
   -- a change below the place, or after the first frame, doesn't touch it
-  pub outside : (b from at : ℕ) → (f < from) ⊎ (at < f) → IsFirstFrom frames b from at → IsFirstFrom changed b from at
+  pub outside : (b from at : ℕ) → (f < from) ⊎ (at < f) → IsFirstFrom frames b from at
+      → IsFirstFrom changed b from at
   outside b from at out first =
       let low : from ≤ at = first.low in
       let apart : (y : ℕ) → from ≤ y → y ≤ at → y ≢ f = λ y ge le. elim out [ inl under ↦ omega arith | inr over ↦ omega arith ] in
@@ -41,7 +45,8 @@ module _ (frames : List ℕ) (f v : ℕ) where
       }
 
   -- nor does a change of a frame that is of the chain neither before nor after
-  pub of_others : (b from at : ℕ) → f < length frames → get_or frames f 0 ≢ b → v ≢ b → IsFirstFrom frames b from at → IsFirstFrom changed b from at
+  pub of_others : (b from at : ℕ) → f < length frames → get_or frames f 0 ≢ b → v ≢ b
+      → IsFirstFrom frames b from at → IsFirstFrom changed b from at
   of_others b from at lt was is first = record {
     low = first.low;
     high = subst (λ n. at ≤ n) (sym same_count) first.high;
@@ -56,7 +61,9 @@ module _ (frames : List ℕ) (f v : ℕ) where
   }
 
   -- after a frame has left the chain, the next one follows the frames before it
-  pub passed_over : (b from to : ℕ) → f < length frames → v ≢ b → from ≤ f → ((y : ℕ) → from ≤ y → y < f → get_or frames y 0 ≢ b) → IsFirstFrom frames b (suc f) to → IsFirstFrom changed b from to
+  pub passed_over : (b from to : ℕ) → f < length frames → v ≢ b → from ≤ f
+      → ((y : ℕ) → from ≤ y → y < f → get_or frames y 0 ≢ b) → IsFirstFrom frames b (suc f) to
+      → IsFirstFrom changed b from to
   passed_over b from to lt is low between first =
       let later : suc f ≤ to = first.low in
       record {
@@ -73,7 +80,8 @@ module _ (frames : List ℕ) (f v : ℕ) where
       }
 
   -- a frame that is linked into the chain is the first after the frames before it
-  pub comes_first : (b from : ℕ) → f < length frames → v ≡ b → from ≤ f → ((y : ℕ) → from ≤ y → y < f → get_or frames y 0 ≢ b) → IsFirstFrom changed b from f
+  pub comes_first : (b from : ℕ) → f < length frames → v ≡ b → from ≤ f
+      → ((y : ℕ) → from ≤ y → y < f → get_or frames y 0 ≢ b) → IsFirstFrom changed b from f
   comes_first b from lt is low between = record {
     low = low;
     high = subst (λ n. f ≤ n) (sym same_count) (omega arith);
@@ -82,7 +90,9 @@ module _ (frames : List ℕ) (f v : ℕ) where
   }
 
   -- and what followed those follows it
-  pub comes_before : (b from to : ℕ) → get_or frames f 0 ≢ b → f < length frames → ((y : ℕ) → from ≤ y → y < f → get_or frames y 0 ≢ b) → from ≤ f → IsFirstFrom frames b from to → IsFirstFrom changed b (suc f) to
+  pub comes_before : (b from to : ℕ) → get_or frames f 0 ≢ b → f < length frames
+      → ((y : ℕ) → from ≤ y → y < f → get_or frames y 0 ≢ b) → from ≤ f
+      → IsFirstFrom frames b from to → IsFirstFrom changed b (suc f) to
   comes_before b from to was lt between low first =
       let after_f : f ≤ to = elim (cases_lt to f) [
         | inl under ↦ absurd (between to first.low under (first.there (omega arith)))

@@ -9,38 +9,49 @@ use Rattle.warm_pool.specs.WritingBack.{KeptDevices, CleanFails, WritesBack, Sto
 use Rattle.warm_pool.specs.declared.selection.Devices.{Devices}
 
 -- one frame more
-pub clean_more : (which : Devices) (n : ℕ) (frames : List FrameState) → n < length frames → set (cleaned_selected which n frames) n (clean_if which (nth_frame (cleaned_selected which n frames) n)) ≡ cleaned_selected which (suc n) frames
+pub clean_more : (which : Devices) (n : ℕ) (frames : List FrameState) → n < length frames
+    → set (cleaned_selected which n frames) n
+    (clean_if which (nth_frame (cleaned_selected which n frames) n))
+    ≡ cleaned_selected which (suc n) frames
 clean_more which n [] lt = absurd (omega arith)
 clean_more which zero (f ∷ frames) lt = refl
 clean_more which (suc n) (f ∷ frames) lt = ap (λ rest. clean_if which f ∷ rest) (clean_more which n frames (omega arith))
 
 -- what holds of the old frame, and of the clean one, holds of a frame that may have been cleaned
-pub clean_each : (P : FrameState → Type 0) (which : Devices) (n : ℕ) (frames : List FrameState) (i : ℕ) → P (nth_frame frames i) → P (cleaned (nth_frame frames i)) → P (nth_frame (cleaned_selected which n frames) i)
+pub clean_each : (P : FrameState → Type 0) (which : Devices) (n : ℕ) (frames : List FrameState)
+    (i : ℕ) → P (nth_frame frames i) → P (cleaned (nth_frame frames i))
+    → P (nth_frame (cleaned_selected which n frames) i)
 clean_each P which zero frames i was is = was
 clean_each P which (suc n) [] i was is = was
 clean_each P which (suc n) (f ∷ frames) zero was is = elim (selects which f.page) as (λ t. P (cond t (cleaned f) f)) [ true ↦ is | false ↦ was ]
 clean_each P which (suc n) (f ∷ frames) (suc i) was is = clean_each P which n frames i was is
 
 -- it has the page that it had
-pub nth_page : (which : Devices) (n : ℕ) (frames : List FrameState) (i : ℕ) → (nth_frame (cleaned_selected which n frames) i).page ≡ (nth_frame frames i).page
+pub nth_page : (which : Devices) (n : ℕ) (frames : List FrameState) (i : ℕ)
+    → (nth_frame (cleaned_selected which n frames) i).page ≡ (nth_frame frames i).page
 nth_page which n frames i = clean_each (λ f. f.page ≡ (nth_frame frames i).page) which n frames i refl refl
 
 -- those not yet reached are unchanged
-pub nth_rest : (which : Devices) (n : ℕ) (frames : List FrameState) (i : ℕ) → n ≤ i → nth_frame (cleaned_selected which n frames) i ≡ nth_frame frames i
+pub nth_rest : (which : Devices) (n : ℕ) (frames : List FrameState) (i : ℕ) → n ≤ i
+    → nth_frame (cleaned_selected which n frames) i ≡ nth_frame frames i
 nth_rest which zero frames i le = refl
 nth_rest which (suc n) [] i le = refl
 nth_rest which (suc n) (f ∷ frames) zero le = absurd (omega arith)
 nth_rest which (suc n) (f ∷ frames) (suc i) le = nth_rest which n frames i (omega arith)
 
 -- a frame that is not selected is unchanged
-pub nth_other : (which : Devices) (n : ℕ) (frames : List FrameState) (i : ℕ) → selects which (nth_frame frames i).page ≡ false → nth_frame (cleaned_selected which n frames) i ≡ nth_frame frames i
+pub nth_other : (which : Devices) (n : ℕ) (frames : List FrameState) (i : ℕ)
+    → selects which (nth_frame frames i).page ≡ false
+    → nth_frame (cleaned_selected which n frames) i ≡ nth_frame frames i
 nth_other which zero frames i not = refl
 nth_other which (suc n) [] i not = refl
 nth_other which (suc n) (f ∷ frames) zero not = ap (λ (t : Bool). cond t (cleaned f) f) not
 nth_other which (suc n) (f ∷ frames) (suc i) not = nth_other which n frames i not
 
 -- two steps, the second over frames with the same pages, that are clean where they were
-pub kept_both : (frames later : List FrameState) (a b c : List DeviceState) → ((i : ℕ) → (nth_frame later i).page ≡ (nth_frame frames i).page) → ((i : ℕ) → (nth_frame frames i).dirty ≡ false → (nth_frame later i).dirty ≡ false)
+pub kept_both : (frames later : List FrameState) (a b c : List DeviceState)
+    → ((i : ℕ) → (nth_frame later i).page ≡ (nth_frame frames i).page)
+    → ((i : ℕ) → (nth_frame frames i).dirty ≡ false → (nth_frame later i).dirty ≡ false)
     → KeptDevices frames a b → KeptDevices later b c → KeptDevices frames a c
 kept_both frames later a b c pages clean ab bc = record {
   count = bc.count ∙ ab.count;
@@ -49,7 +60,10 @@ kept_both frames later a b c pages clean ab bc = record {
   clean = λ i p holds is. bc.clean i p (pages i ∙ holds) (clean i is) ∙ ab.clean i p holds is;
 }
 
-pub down_more : (which : Devices) (n : ℕ) (s t u : PoolState) → n < length s.frames → WritesBack (cleaned_selected which n s.frames) s t → WritesBack (set t.frames n (clean_if which (nth_frame t.frames n))) t u → WritesBack (cleaned_selected which (n + 1) s.frames) s u
+pub down_more : (which : Devices) (n : ℕ) (s t u : PoolState) → n < length s.frames
+    → WritesBack (cleaned_selected which n s.frames) s t
+    → WritesBack (set t.frames n (clean_if which (nth_frame t.frames n))) t u
+    → WritesBack (cleaned_selected which (n + 1) s.frames) s u
 down_more which n s t u lt first next = let one : suc n ≡ n + 1 = omega arith in record {
   becomes = next.becomes ∙ ap (λ frames. set frames n (clean_if which (nth_frame frames n))) first.becomes ∙ clean_more which n s.frames lt ∙ ap (λ m. cleaned_selected which m s.frames) one;
   devices = kept_both s.frames t.frames s.devices t.devices u.devices
@@ -61,7 +75,9 @@ down_more which n s t u lt first next = let one : suc n ≡ n + 1 = omega arith 
 }
 
 -- a selected frame whose page was not written
-pub one_stops : (which : Devices) (n : ℕ) (s t u : PoolState) → n < length s.frames → WritesBack (cleaned_selected which n s.frames) s t → view_of t ≡ view_of s → IsTrue (selects which (nth_frame t.frames n).page) → CleanFails t n u → StopsAt which s u
+pub one_stops : (which : Devices) (n : ℕ) (s t u : PoolState) → n < length s.frames
+    → WritesBack (cleaned_selected which n s.frames) s t → view_of t ≡ view_of s
+    → IsTrue (selects which (nth_frame t.frames n).page) → CleanFails t n u → StopsAt which s u
 one_stops which n s t u lt down same selected fails =
     let here : nth_frame t.frames n ≡ nth_frame s.frames n = ap (λ frames. nth_frame frames n) down.becomes ∙ nth_rest which n s.frames n (omega arith) in
     record {

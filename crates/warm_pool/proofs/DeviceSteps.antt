@@ -21,21 +21,26 @@ use Rattle.warm_pool.proofs.Bytes.{same_page, device_seen}
 use Rattle.warm_pool.proofs.Keeps.{view_of_kept}
 
 -- the device that a read of the list gave
-pub device_is : {B : Type 0} (shown : B → DeviceState) (bs : List B) (k : ℕ) (b : B) → k < length bs → b ≡ get_or bs k b
+pub device_is : {B : Type 0} (shown : B → DeviceState) (bs : List B) (k : ℕ) (b : B) → k < length bs
+    → b ≡ get_or bs k b
     → shown b ≡ nth_device (map shown bs) k
 device_is shown bs k b h e =
     get_or_read (map shown bs) k (shown b) (subst (λ n. k < n) (sym (length-map bs shown)) h) (ap shown e ∙ sym (mapped shown bs k b)) no_device
 
 -- a slice of a whole `Vec` that was borrowed, when the borrow ends
-pub lent_whole : {A : Type 0} (n : ℕ) (new old : List A) → n ≡ length old → length new ≡ length old → take n (new ++ drop (length new) old) ≡ new
+pub lent_whole : {A : Type 0} (n : ℕ) (new old : List A) → n ≡ length old → length new ≡ length old
+    → take n (new ++ drop (length new) old) ≡ new
 lent_whole n new old e h = grind (arith, common_steps)
 
-pub lent_bytes : {T E : Type 0} (P : Type 0) (result : Result T E) (n : ℕ) (new old there : List ℕ) → n ≡ length old → length new ≡ length old
-    → OnOk result (P → new ≡ there) → OnOk result (P → take n (new ++ drop (length new) old) ≡ there)
+pub lent_bytes : {T E : Type 0} (P : Type 0) (result : Result T E) (n : ℕ) (new old there : List ℕ)
+    → n ≡ length old → length new ≡ length old
+    → OnOk result (P → new ≡ there)
+    → OnOk result (P → take n (new ++ drop (length new) old) ≡ there)
 lent_bytes {T} {E} P result n new old there e h k = subst (λ l. OnOk result (P → l ≡ there)) (sym (lent_whole n new old e h)) k
 
 -- one device of a list changed to another of its shape
-pub shapes_set : (old new : List DeviceState) (k : ℕ) (e : DeviceState) → k < length old → new ≡ set old k e → SameShape (nth_device old k) e
+pub shapes_set : (old new : List DeviceState) (k : ℕ) (e : DeviceState) → k < length old
+    → new ≡ set old k e → SameShape (nth_device old k) e
     → (j : ℕ) → SameShape (nth_device old j) (nth_device new j)
 shapes_set old new k e h is shape j =
     subst (λ ds. SameShape (nth_device old j) (nth_device ds j)) (sym is)
@@ -45,14 +50,18 @@ shapes_set old new k e h is shape j =
 abbrev pub known_bytes : DeviceState → ℕ → List ℕ
 known_bytes d n = cond d.honest (page_at d.contents n) []
 
-pub stored_set : (old new : List DeviceState) (k : ℕ) (e : DeviceState) → k < length old → new ≡ set old k e → SameShape (nth_device old k) e
-    → (p : PageId) → (p.dev ≡ k → page_at e.contents p.no ≡ page_at (nth_device old k).contents p.no) → stored new p ≡ stored old p
+pub stored_set : (old new : List DeviceState) (k : ℕ) (e : DeviceState) → k < length old
+    → new ≡ set old k e → SameShape (nth_device old k) e
+    → (p : PageId) → (p.dev ≡ k
+    → page_at e.contents p.no ≡ page_at (nth_device old k).contents p.no)
+    → stored new p ≡ stored old p
 stored_set old new k e h is shape p same =
     subst (λ ds. stored ds p ≡ stored old p) (sym is)
     (at_set no_device (λ j d. p.dev ≡ j → known_bytes d p.no ≡ known_bytes (nth_device old j) p.no) old k e h
     (λ here. ap₂ (λ (t : Bool) (bytes : List ℕ). cond t bytes []) shape.honest (same here)) (λ j ne _. refl) p.dev refl)
 
-pub read_keeps : (frames : List FrameState) (old new : List DeviceState) (k n : ℕ) (bytes : List ℕ) (result : Result (Unit {0}) DeviceFault)
+pub read_keeps : (frames : List FrameState) (old new : List DeviceState) (k n : ℕ) (bytes : List ℕ)
+    (result : Result (Unit {0}) DeviceFault)
     → k < length old → PageRead old new k n bytes result → KeptDevices frames old new
 read_keeps frames old new k n bytes result h r =
     let all : (p : PageId) → stored new p ≡ stored old p = λ p. stored_set old new k r.after h r.becomes r.call.shape p (λ _. ap (λ c. page_at c p.no) r.call.contents) in
@@ -64,7 +73,8 @@ read_keeps frames old new k n bytes result h r =
     }
 
 -- a written page is that of one frame, which is dirty
-pub write_keeps : (s : PoolState) (new : List DeviceState) (i : ℕ) (q : PageId) (bytes : List ℕ) (result : Result (Unit {0}) DeviceFault)
+pub write_keeps : (s : PoolState) (new : List DeviceState) (i : ℕ) (q : PageId) (bytes : List ℕ)
+    (result : Result (Unit {0}) DeviceFault)
     → IsPool s → (nth_frame s.frames i).page ≡ Some q → (nth_frame s.frames i).dirty ≡ true
     → PageWrite s.devices new q.dev q.no bytes result → KeptDevices s.frames s.devices new
 write_keeps s new i q bytes result w holds dirty r =
@@ -83,22 +93,27 @@ write_keeps s new i q bytes result w holds dirty r =
     }
 
 -- the counts of failures after a call of one device
-pub failures_kept : (old new : List DeviceState) (k : ℕ) (e : DeviceState) → new ≡ set old k e → e.failures ≡ (nth_device old k).failures
+pub failures_kept : (old new : List DeviceState) (k : ℕ) (e : DeviceState) → new ≡ set old k e
+    → e.failures ≡ (nth_device old k).failures
     → map (λ d. d.failures) new ≡ map (λ d. d.failures) old
 failures_kept old new k e is same =
     ap (map (λ (d : DeviceState). d.failures)) is ∙ map-set (λ (d : DeviceState). d.failures) old k e
     ∙ ap (set (map (λ (d : DeviceState). d.failures) old) k) (same ∙ sym (mapped (λ (d : DeviceState). d.failures) old k no_device))
     ∙ set-get_or (map (λ (d : DeviceState). d.failures) old) k 0
 
-pub failures_grown : (old new : List DeviceState) (k : ℕ) (e : DeviceState) → new ≡ set old k e → e.failures ≡ one_more (nth_device old k).failures
-    → map (λ d. d.failures) new ≡ set (map (λ d. d.failures) old) k (one_more (get_or (map (λ d. d.failures) old) k 0))
+pub failures_grown : (old new : List DeviceState) (k : ℕ) (e : DeviceState) → new ≡ set old k e
+    → e.failures ≡ one_more (nth_device old k).failures
+    → map (λ d. d.failures) new
+    ≡ set (map (λ d. d.failures) old) k (one_more (get_or (map (λ d. d.failures) old) k 0))
 failures_grown old new k e is more =
     ap (map (λ (d : DeviceState). d.failures)) is ∙ map-set (λ (d : DeviceState). d.failures) old k e
     ∙ ap (set (map (λ (d : DeviceState). d.failures) old) k) (more ∙ ap one_more (sym (mapped (λ (d : DeviceState). d.failures) old k no_device)))
 
 -- what a caller sees where the call failed
-pub fails_at : (s : PoolState) (new : List DeviceState) (k : ℕ) (e : DeviceState) → k < length s.devices → new ≡ set s.devices k e
-    → KeptDevices s.frames s.devices new → (nth_device s.devices k).unfailing ≡ false → e.failures ≡ one_more (nth_device s.devices k).failures
+pub fails_at : (s : PoolState) (new : List DeviceState) (k : ℕ) (e : DeviceState)
+    → k < length s.devices → new ≡ set s.devices k e
+    → KeptDevices s.frames s.devices new → (nth_device s.devices k).unfailing ≡ false
+    → e.failures ≡ one_more (nth_device s.devices k).failures
     → FailsAt (view_of s) k (view_of (record s { devices = new }))
 fails_at s new k e h is kept may more = record {
   there = subst (λ n. k < n) (sym (length-map s.devices device_view)) h;
@@ -108,14 +123,17 @@ fails_at s new k e h is kept may more = record {
 }
 
 -- what a caller sees where the call didn't fail
-pub same_view : (s : PoolState) (new : List DeviceState) (k : ℕ) (e : DeviceState) → new ≡ set s.devices k e
-    → KeptDevices s.frames s.devices new → e.failures ≡ (nth_device s.devices k).failures → view_of (record s { devices = new }) ≡ view_of s
+pub same_view : (s : PoolState) (new : List DeviceState) (k : ℕ) (e : DeviceState)
+    → new ≡ set s.devices k e
+    → KeptDevices s.frames s.devices new → e.failures ≡ (nth_device s.devices k).failures
+    → view_of (record s { devices = new }) ≡ view_of s
 same_view s new k e is kept same =
     view_of_kept s new kept
     ∙ ap (λ (failures : List ℕ). let v : PoolView = record (view_of s) { failures = failures } in v) (failures_kept s.devices new k e is same)
 
 -- a device of which a page was read is unchanged, except for its failures
-read_after : {old new : List DeviceState} {k n : ℕ} {bytes : List ℕ} {result : Result (Unit {0}) DeviceFault} (r : PageRead old new k n bytes result) (failures : ℕ)
+read_after : {old new : List DeviceState} {k n : ℕ} {bytes : List ℕ}
+    {result : Result (Unit {0}) DeviceFault} (r : PageRead old new k n bytes result) (failures : ℕ)
     → r.after.failures ≡ failures → r.after ≡ record (nth_device old k) { failures = failures }
 read_after r failures is i = record {
   pages = r.call.shape.pages i;
@@ -127,31 +145,39 @@ read_after r failures is i = record {
   unfailing = r.call.shape.unfailing i;
 }
 
-pub read_same : (old new : List DeviceState) (k n : ℕ) (bytes : List ℕ) (result : Result (Unit {0}) DeviceFault)
+pub read_same : (old new : List DeviceState) (k n : ℕ) (bytes : List ℕ)
+    (result : Result (Unit {0}) DeviceFault)
     → PageRead old new k n bytes result → result ≡ Ok tt → new ≡ old
 read_same old new k n bytes result r ok =
     let failures : r.after.failures ≡ (nth_device old k).failures = subst (λ x. CountsFault Read x (nth_device old k) r.after) ok r.call.faults in
     r.becomes ∙ ap (set old k) (read_after r (nth_device old k).failures failures) ∙ set-get_or old k no_device
 
 -- where it was not read, a failure is counted
-pub read_counted : (old new : List DeviceState) (k n : ℕ) (bytes : List ℕ) (result : Result (Unit {0}) DeviceFault) (fault : DeviceFault)
+pub read_counted : (old new : List DeviceState) (k n : ℕ) (bytes : List ℕ)
+    (result : Result (Unit {0}) DeviceFault) (fault : DeviceFault)
     → PageRead old new k n bytes result → result ≡ Err fault → new ≡ failed_at k old
 read_counted old new k n bytes result fault r failed =
     let counts = subst (λ x. CountsFault Read x (nth_device old k) r.after) failed r.call.faults in
     r.becomes ∙ ap (set old k) (read_after r (one_more (nth_device old k).failures) counts.1)
 
 -- what a call of one device says, of that device in the list
-pub page_read : (old new : List DeviceState) (k n : ℕ) (d after : DeviceState) (bytes : List ℕ) (result : Result (Unit {0}) DeviceFault)
-    → d ≡ nth_device old k → new ≡ set old k after → ReadsPage d after n bytes result → PageRead old new k n bytes result
+pub page_read : (old new : List DeviceState) (k n : ℕ) (d after : DeviceState) (bytes : List ℕ)
+    (result : Result (Unit {0}) DeviceFault)
+    → d ≡ nth_device old k → new ≡ set old k after → ReadsPage d after n bytes result
+    → PageRead old new k n bytes result
 page_read old new k n d after bytes result e is given = record { after = after; becomes = is; call = subst (λ x. ReadsPage x after n bytes result) e given }
 
-pub page_written : (old new : List DeviceState) (k n : ℕ) (d after : DeviceState) (bytes : List ℕ) (result : Result (Unit {0}) DeviceFault)
-    → d ≡ nth_device old k → new ≡ set old k after → WritesPage d after n bytes result → PageWrite old new k n bytes result
+pub page_written : (old new : List DeviceState) (k n : ℕ) (d after : DeviceState) (bytes : List ℕ)
+    (result : Result (Unit {0}) DeviceFault)
+    → d ≡ nth_device old k → new ≡ set old k after → WritesPage d after n bytes result
+    → PageWrite old new k n bytes result
 page_written old new k n d after bytes result e is given = record { after = after; becomes = is; call = subst (λ x. WritesPage x after n bytes result) e given }
 
 -- all devices up to one more have this size
-pub sized_more : {B : Type 0} (shown : B → DeviceState) (size : ℕ) (bs : List B) (i : ℕ) (b : B) → b ≡ get_or bs i b → i < length bs → (shown b).page_size ≡ size
-    → ((k : ℕ) → k < i → (nth_device (map shown bs) k).page_size ≡ size) → (k : ℕ) → k < i + 1 → (nth_device (map shown bs) k).page_size ≡ size
+pub sized_more : {B : Type 0} (shown : B → DeviceState) (size : ℕ) (bs : List B) (i : ℕ) (b : B)
+    → b ≡ get_or bs i b → i < length bs → (shown b).page_size ≡ size
+    → ((k : ℕ) → k < i → (nth_device (map shown bs) k).page_size ≡ size) → (k : ℕ) → k < i + 1
+    → (nth_device (map shown bs) k).page_size ≡ size
 sized_more shown size bs i b e h s all k lt = elim (cases_eq k i) [
   | inl same ↦ ap (λ n. (nth_device (map shown bs) n).page_size) same ∙ ap (λ d. d.page_size) (sym (device_is shown bs i b h e)) ∙ s
   | inr ne ↦ all k (omega arith)

@@ -24,17 +24,20 @@ use Rattle.warm_pool.specs.declared.selection.Devices.TheVariants.{All, One}
 
 -- Fixes
 
-pub unfixed_to : (which : Devices) (n : ℕ) (old new : List FrameState) → new ≡ cleaned_selected which n old → AreUnfixed which old → AreUnfixed which new
+pub unfixed_to : (which : Devices) (n : ℕ) (old new : List FrameState)
+    → new ≡ cleaned_selected which n old → AreUnfixed which old → AreUnfixed which new
 unfixed_to which n old new becomes unfixed i selected =
     let page : (nth_frame new i).page ≡ (nth_frame old i).page = ap (λ frames. (nth_frame frames i).page) becomes ∙ nth_page which n old i in
     ap (λ frames. (nth_frame frames i).fixes) becomes ∙ clean_each (λ f. f.fixes ≡ (nth_frame old i).fixes) which n old i refl refl ∙ unfixed i (subst (λ held. IsTrue (selects which held)) page selected)
 
-pub unfixed_frames : (frames : List FrameState) → AreUnfixed All frames → (i : ℕ) → (get_or (map frame_view frames) i (frame_view (fresh_frame []))).fixes ≡ 0
+pub unfixed_frames : (frames : List FrameState) → AreUnfixed All frames → (i : ℕ)
+    → (get_or (map frame_view frames) i (frame_view (fresh_frame []))).fixes ≡ 0
 unfixed_frames frames unfixed i = ap (λ f. f.fixes) (mapped frame_view frames i (fresh_frame [])) ∙ unfixed i refl
 
 -- One frame whose page may have left
 
-pub vacate_held : (which : Devices) (f : FrameState) (p : PageId) → (vacate_if which f).page ≡ Some p → vacate_if which f ≡ f
+pub vacate_held : (which : Devices) (f : FrameState) (p : PageId)
+    → (vacate_if which f).page ≡ Some p → vacate_if which f ≡ f
 vacate_held which f p = elim (selects which f.page) as (λ t. (cond t (vacated f) f).page ≡ Some p → cond t (vacated f) f ≡ f) [
   | true ↦ λ is. let no : None ≡ Some p = is in absurd (cc)
   | false ↦ λ is. refl
@@ -46,7 +49,8 @@ vacate_size which f = elim (selects which f.page) as (λ t. (cond t (vacated f) 
 abbrev IsBare : FrameState → Type 0
 IsBare f = (f.key ≡ None) × (f.fixes ≡ 0) × (f.dirty ≡ false)
 
-vacate_bare : (which : Devices) (f : FrameState) → (IsTrue (selects which f.page) → f.fixes ≡ 0) → (f.page ≡ None → IsBare f) → (vacate_if which f).page ≡ None → IsBare (vacate_if which f)
+vacate_bare : (which : Devices) (f : FrameState) → (IsTrue (selects which f.page) → f.fixes ≡ 0)
+    → (f.page ≡ None → IsBare f) → (vacate_if which f).page ≡ None → IsBare (vacate_if which f)
 vacate_bare which f = elim (selects which f.page) as (λ t. (IsTrue t → f.fixes ≡ 0) → (f.page ≡ None → IsBare f) → (cond t (vacated f) f).page ≡ None → IsBare (cond t (vacated f) f)) [
   | true ↦ λ unfixed bare is. (refl, unfixed refl, refl)
   | false ↦ λ unfixed bare is. bare is
@@ -55,25 +59,32 @@ vacate_bare which f = elim (selects which f.page) as (λ t. (IsTrue t → f.fixe
 abbrev IsRanked : HistoryView → FrameState → Type 0
 IsRanked h f = f.key ≡ option_map (λ p. rank_key p (hist (references_of h) p)) f.page
 
-vacate_ranked : (which : Devices) (f : FrameState) (h : HistoryView) → IsRanked h f → IsRanked h (vacate_if which f)
+vacate_ranked : (which : Devices) (f : FrameState) (h : HistoryView) → IsRanked h f
+    → IsRanked h (vacate_if which f)
 vacate_ranked which f h is = elim (selects which f.page) as (λ t. IsRanked h (cond t (vacated f) f)) [ true ↦ refl | false ↦ is ]
 
 vacate_fresh : (which : Devices) → vacate_if which (fresh_frame []) ≡ fresh_frame []
 vacate_fresh All = refl
 vacate_fresh (One dev) = refl
 
-pub nth_vacated : (which : Devices) (frames : List FrameState) (i : ℕ) → nth_frame (vacated_selected which frames) i ≡ vacate_if which (nth_frame frames i)
+pub nth_vacated : (which : Devices) (frames : List FrameState) (i : ℕ)
+    → nth_frame (vacated_selected which frames) i ≡ vacate_if which (nth_frame frames i)
 nth_vacated which frames i = ap (get_or (vacated_selected which frames) i) (sym (vacate_fresh which)) ∙ mapped (vacate_if which) frames i (fresh_frame [])
 
 -- All of them
 
-pub still_there : (which : Devices) (frames : List FrameState) (i : ℕ) (p : PageId) → (nth_frame (vacated_selected which frames) i).page ≡ Some p → nth_frame (vacated_selected which frames) i ≡ nth_frame frames i
+pub still_there : (which : Devices) (frames : List FrameState) (i : ℕ) (p : PageId)
+    → (nth_frame (vacated_selected which frames) i).page ≡ Some p
+    → nth_frame (vacated_selected which frames) i ≡ nth_frame frames i
 still_there which frames i p is = nth_vacated which frames i ∙ vacate_held which (nth_frame frames i) p (sym (ap (λ f. f.page) (nth_vacated which frames i)) ∙ is)
 
-pub was_there : (which : Devices) (frames : List FrameState) (i : ℕ) (p : PageId) → (nth_frame (vacated_selected which frames) i).page ≡ Some p → (nth_frame frames i).page ≡ Some p
+pub was_there : (which : Devices) (frames : List FrameState) (i : ℕ) (p : PageId)
+    → (nth_frame (vacated_selected which frames) i).page ≡ Some p
+    → (nth_frame frames i).page ≡ Some p
 was_there which frames i p is = sym (ap (λ f. f.page) (still_there which frames i p is)) ∙ is
 
-pub vacated_pool : (which : Devices) (s : PoolState) → AreUnfixed which s.frames → IsPool s → IsPool (record s { frames = vacated_selected which s.frames })
+pub vacated_pool : (which : Devices) (s : PoolState) → AreUnfixed which s.frames → IsPool s
+    → IsPool (record s { frames = vacated_selected which s.frames })
 vacated_pool which s unfixed w =
     let count = length-map s.frames (vacate_if which) in
     record {
@@ -95,10 +106,14 @@ vacated_pool which s unfixed w =
           (vacate_bare which (nth_frame s.frames i) (unfixed i) (w.bare i) (sym (ap (λ f. f.page) (nth_vacated which s.frames i)) ∙ is));
     }
 
-pub vacated_ranked : (which : Devices) (frames : List FrameState) (h : HistoryView) → ((i : ℕ) → IsRanked h (nth_frame frames i)) → (i : ℕ) → IsRanked h (nth_frame (vacated_selected which frames) i)
+pub vacated_ranked : (which : Devices) (frames : List FrameState) (h : HistoryView)
+    → ((i : ℕ) → IsRanked h (nth_frame frames i)) → (i : ℕ)
+    → IsRanked h (nth_frame (vacated_selected which frames) i)
 vacated_ranked which frames h ranked i = subst (λ f. IsRanked h f) (sym (nth_vacated which frames i)) (vacate_ranked which (nth_frame frames i) h (ranked i))
 
-pub empty_ranked : (old new : FramesState) (h : HistoryView) → new ≡ record old { frames = vacated_selected All old.frames } → (i : ℕ) → IsRanked h (nth_frame new.frames i)
+pub empty_ranked : (old new : FramesState) (h : HistoryView)
+    → new ≡ record old { frames = vacated_selected All old.frames } → (i : ℕ)
+    → IsRanked h (nth_frame new.frames i)
 empty_ranked old new h is i = subst (λ (f : FramesState). IsRanked h (nth_frame f.frames i)) (sym is) (subst (λ f. IsRanked h f) (sym (nth_vacated All old.frames i)) refl)
 
 -- An emptied pool, as a caller sees it
@@ -106,22 +121,26 @@ empty_ranked old new h is i = subst (λ (f : FramesState). IsRanked h (nth_frame
 empty_away : (frames : List FrameState) (p : PageId) → IsNowhere (vacated_selected All frames) p
 empty_away frames p i is = let no : None ≡ Some p = sym (ap (λ f. f.page) (nth_vacated All frames i)) ∙ is in absurd (cc)
 
-seen_empty : (frames : List FrameState) → map frame_view (vacated_selected All frames) ≡ map emptied (map frame_view frames)
+seen_empty : (frames : List FrameState)
+    → map frame_view (vacated_selected All frames) ≡ map emptied (map frame_view frames)
 seen_empty [] = refl
 seen_empty (f ∷ frames) = ap (λ rest. emptied (frame_view f) ∷ rest) (seen_empty frames)
 
-module _ (t : PoolState) (w : IsPool t) (clean : (i : ℕ) → (nth_frame t.frames i).dirty ≡ false) where
+module _ (t : PoolState) (w : IsPool t)
+    (clean : (i : ℕ) → (nth_frame t.frames i).dirty ≡ false) where
   abbrev u : PoolState
   u = record t { frames = vacated_selected All t.frames }
 
   -- what an honest device has of a page is what the pool has
-  on_device : (p : PageId) → IsTrue (nth_device t.devices p.dev).honest → bytes_of t.frames t.devices p ≡ stored t.devices p
+  on_device : (p : PageId) → IsTrue (nth_device t.devices p.dev).honest
+      → bytes_of t.frames t.devices p ≡ stored t.devices p
   on_device p honest = elim (where_is t.frames p) [
     | inl h ↦ h.bytes (stored t.devices p) ∙ w.clean h.frame p h.holds (clean h.frame) honest ∙ sym (stored_honest t.devices p honest)
     | inr h ↦ h.bytes (stored t.devices p)
   ]
 
-  honest_kept : (p : PageId) → HasPage (view_of t) p → IsTrue (device_at (view_of t) p.dev).honest → contents_at (view_of u) p ≡ contents_at (view_of t) p
+  honest_kept : (p : PageId) → HasPage (view_of t) p → IsTrue (device_at (view_of t) p.dev).honest
+      → contents_at (view_of u) p ≡ contents_at (view_of t) p
   honest_kept p has honest =
       let device : p.dev < length t.devices = subst (λ n. p.dev < n) (length-map t.devices _) has.device in
       let number : p.no < (nth_device t.devices p.dev).pages = subst (λ d. p.no < d.pages) (device_seen t p.dev) has.number in
@@ -136,21 +155,31 @@ module _ (t : PoolState) (w : IsPool t) (clean : (i : ℕ) → (nth_frame t.fram
     sized = λ p is. absurd (empty_away t.frames p is.frame (sym (ap (λ f. f.page) (frame_seen u is.frame)) ∙ is.holds));
   }
 
-  pub empty_view : (s : PoolState) → view_of t ≡ view_of s → AreUnfixed All s.frames → Emptied (view_of s) (view_of u)
+  pub empty_view : (s : PoolState) → view_of t ≡ view_of s → AreUnfixed All s.frames
+      → Emptied (view_of s) (view_of u)
   empty_view s same unfixed = record {
     unfixed = unfixed_frames s.frames unfixed;
     becomes = (λ i. record (view_of t) { frames = seen_empty t.frames i; contents = (view_of u).contents }) ∙ ap (λ (v : PoolView). let x : PoolView = record v { frames = map emptied v.frames; contents = (view_of u).contents } in x) same;
     contents = subst (λ v. KeepsContents v (view_of u)) same empty_keeps;
   }
 
-pub empty_settled : (t : PoolState) → IsSettled t → IsSettled (record t { frames = vacated_selected All t.frames })
+pub empty_settled : (t : PoolState) → IsSettled t
+    → IsSettled (record t { frames = vacated_selected All t.frames })
 empty_settled t settled = record { clean = λ i. ap (λ f. f.dirty) (nth_vacated All t.frames i); flushed = settled.flushed }
 
 -- the same, where the frames are said by an equation
-pub becomes_empty : (P : PoolState → Type 0) (which : Devices) (old new : FramesState) (spare : ℕ) (devices : List DeviceState) → new ≡ record old { frames = vacated_selected which old.frames } → P (record (pool_from old spare devices) { frames = vacated_selected which old.frames }) → P (pool_from new spare devices)
+pub becomes_empty : (P : PoolState → Type 0) (which : Devices) (old new : FramesState) (spare : ℕ)
+    (devices : List DeviceState) → new ≡ record old { frames = vacated_selected which old.frames }
+    → P (record (pool_from old spare devices) { frames = vacated_selected which old.frames })
+    → P (pool_from new spare devices)
 becomes_empty P which old new spare devices is holds = subst (λ frames. P (pool_from frames spare devices)) (sym is) holds
 
-pub emptied_pool : (s : PoolState) (old new : FramesState) (spare : ℕ) (devices : List DeviceState) → WritesBack (cleaned_selected All (length s.frames) s.frames) s (pool_from old spare devices) → IsSettled (pool_from old spare devices) → AreUnfixed All s.frames → IsPool (pool_from old spare devices) → new ≡ record old { frames = vacated_selected All old.frames } → Emptied (view_of s) (view_of (pool_from new spare devices))
+pub emptied_pool : (s : PoolState) (old new : FramesState) (spare : ℕ) (devices : List DeviceState)
+    → WritesBack (cleaned_selected All (length s.frames) s.frames) s (pool_from old spare devices)
+    → IsSettled (pool_from old spare devices) → AreUnfixed All s.frames
+    → IsPool (pool_from old spare devices)
+    → new ≡ record old { frames = vacated_selected All old.frames }
+    → Emptied (view_of s) (view_of (pool_from new spare devices))
 emptied_pool s old new spare devices down settled unfixed pool is =
     let t : PoolState = pool_from old spare devices in
     becomes_empty (λ u. Emptied (view_of s) (view_of u)) All old new spare devices is

@@ -72,7 +72,8 @@ one_byte = refl
 fixed_stays : unfixed_pages (seen true) ≡ page 2 ∷ []
 fixed_stays = refl
 
-unpinned_may_leave : unfixed_pages (unpinned (seen true) (record { index = 0; generation = 1 })) ≡ page 1 ∷ page 2 ∷ []
+unpinned_may_leave : unfixed_pages (unpinned (seen true) (record { index = 0; generation = 1 }))
+    ≡ page 1 ∷ page 2 ∷ []
 unpinned_may_leave = refl
 
 -- a frame keeps its generation when its page leaves
@@ -80,27 +81,35 @@ generation_stays : (emptied (frame_at (seen true) 1)).generation ≡ 1
 generation_stays = refl
 
 -- where the second of two writes fails, the first frame is clean and the second is not
-first_is_clean : cleaned_to 1 (history_of_entries 1 0 [] ∷ history_of_entries 2 0 [] ∷ []) ≡ (let f : FrameState = record (history_of_entries 1 0 []) { dirty = false } in f) ∷ history_of_entries 2 0 [] ∷ []
+first_is_clean : cleaned_to 1 (history_of_entries 1 0 [] ∷ history_of_entries 2 0 [] ∷ [])
+    ≡ (let f : FrameState = record (history_of_entries 1 0 []) { dirty = false } in f)
+    ∷ history_of_entries 2 0 [] ∷ []
 first_is_clean = refl
 
 -- ---- the frame into which a page is loaded
 
 -- into the first frame without a page, also where another page could leave
-first_free_place : IsFrameToLoad (alone []) (view_of (two_frames true (history_of_entries 1 0 []) (fresh_frame []))) (Some 1)
+first_free_place : IsFrameToLoad (alone [])
+    (view_of (two_frames true (history_of_entries 1 0 []) (fresh_frame []))) (Some 1)
 first_free_place = inl (record { there = omega arith; free = refl; least = first_is_held })
   where
-    first_is_held : (j : ℕ) → j < 1 → (frame_at (view_of (two_frames true (history_of_entries 1 0 []) (fresh_frame []))) j).page ≢ None
+    first_is_held : (j : ℕ) → j < 1
+        → (frame_at (view_of (two_frames true (history_of_entries 1 0 []) (fresh_frame []))) j).page
+        ≢ None
     first_is_held zero lt is = let no : Some (page 1) ≡ None = is in absurd (cc)
     first_is_held (suc j) lt is = absurd (omega arith)
 
 -- both frames have a page
-both_held : (honest : Bool) (m n : ℕ) (a b : List ℕ) → HasNoFreeFrame (view_of (two_frames honest (history_of_entries 1 m a) (history_of_entries 2 n b)))
+both_held : (honest : Bool) (m n : ℕ) (a b : List ℕ)
+    → HasNoFreeFrame (view_of
+    (two_frames honest (history_of_entries 1 m a) (history_of_entries 2 n b)))
 both_held honest m n a b zero lt is = let no : Some (page 1) ≡ None = is in absurd (cc)
 both_held honest m n a b (suc zero) lt is = let no : Some (page 2) ≡ None = is in absurd (cc)
 both_held honest m n a b (suc (suc i)) lt is = absurd (omega arith)
 
 -- nowhere where both pages are pinned
-no_place : IsFrameToLoad (alone []) (view_of (two_frames true (history_of_entries 1 1 []) (history_of_entries 2 3 []))) None
+no_place : IsFrameToLoad (alone [])
+    (view_of (two_frames true (history_of_entries 1 1 []) (history_of_entries 2 3 []))) None
 no_place = (both_held true 1 3 [] [], refl)
 
 -- else into the frame of the victim, here the only unpinned page
@@ -114,6 +123,7 @@ victims_place = inr (record {
   victim = ((0, omega arith, refl), others);
 })
   where
-    others : (q : PageId) → Contains (page 2 ∷ []) q → q ≢ page 2 → IsBefore (references_of (alone [])) (page 2) q
+    others : (q : PageId) → Contains (page 2 ∷ []) q → q ≢ page 2
+        → IsBefore (references_of (alone [])) (page 2) q
     others q (zero, lt, is) differ = absurd (differ (sym is))
     others q (suc k, lt, is) differ = absurd (omega arith)

@@ -12,7 +12,8 @@ use Rattle.warm_pool.specs.Flushes.{IsFlushed, FlushFails, DeviceFlush, FlushedT
 pub same_shape : (d : DeviceState) → SameShape d d
 same_shape d = record { pages = refl; page_size = refl; honest = refl; unfailing = refl }
 
-module _ (n : ℕ) (old mid new : List DeviceState) (after : DeviceState) (to : FlushedTo n old mid) (lt : n < length old) (becomes : new ≡ set mid n after) where
+module _ (n : ℕ) (old mid new : List DeviceState) (after : DeviceState) (to : FlushedTo n old mid)
+    (lt : n < length old) (becomes : new ≡ set mid n after) where
   here : nth_device new n ≡ after
   here = ap (λ ds. nth_device ds n) becomes ∙ get_or-set_same mid n after no_device (subst (λ m. n < m) (sym to.count) lt)
 
@@ -51,11 +52,13 @@ module _ (n : ℕ) (old mid new : List DeviceState) (after : DeviceState) (to : 
   }
 
 -- the device that was read from a list
-pub nth_read : {A : Type 0} (f : A → DeviceState) (xs : List A) (i : ℕ) (x : A) → i < length xs → x ≡ get_or xs i x → nth_device (map f xs) i ≡ f x
+pub nth_read : {A : Type 0} (f : A → DeviceState) (xs : List A) (i : ℕ) (x : A) → i < length xs
+    → x ≡ get_or xs i x → nth_device (map f xs) i ≡ f x
 nth_read f xs i x lt is = get_or-map f xs i x no_device lt ∙ ap f (sym is)
 
 -- a flushed device needs no flush
-pub needs_none : {A : Type 0} (f : A → DeviceState) (xs : List A) (i : ℕ) (x : A) → i < length xs → x ≡ get_or xs i x → (f x).waiting ≡ false → DeviceFlush (map f xs) (map f xs) i (Ok tt)
+pub needs_none : {A : Type 0} (f : A → DeviceState) (xs : List A) (i : ℕ) (x : A) → i < length xs
+    → x ≡ get_or xs i x → (f x).waiting ≡ false → DeviceFlush (map f xs) (map f xs) i (Ok tt)
 needs_none f xs i x lt is quiet =
     let nth : nth_device (map f xs) i ≡ f x = nth_read f xs i x lt is in
     record {
@@ -66,17 +69,22 @@ needs_none f xs i x lt is quiet =
     }
 
 -- a device that answered an error isn't unfailing
-pub may_fail : (unfailing : Bool) (fault : DeviceFault) (result : Result (Unit {0}) DeviceFault) → result ≡ Err fault → (IsTrue unfailing → IsOk result) → unfailing ≡ false
+pub may_fail : (unfailing : Bool) (fault : DeviceFault) (result : Result (Unit {0}) DeviceFault)
+    → result ≡ Err fault → (IsTrue unfailing → IsOk result) → unfailing ≡ false
 may_fail false fault result e ok = refl
 may_fail true fault result e ok = absurd (never fault (subst IsOk e (ok refl)))
   where
-    never : (fault : DeviceFault) → IsOk (let r : Result (Unit {0}) DeviceFault = Err fault in r) → ⊥
+    never : (fault : DeviceFault) → IsOk (let r : Result (Unit {0}) DeviceFault = Err fault in r)
+        → ⊥
     never fault h = absurd (cc)
 
 -- what the flush of a device does to the list
-pub flushes : {A : Type 0} (f : A → DeviceState) (xs : List A) (i : ℕ) (x y z : A) (result : Result (Unit {0}) DeviceFault) → i < length xs → x ≡ get_or xs i x → y ≡ get_or xs i y
-    → (f x).waiting ≡ true → SameShape (f y) (f z) → CountsFault Flush result (f y) (f z) → (IsTrue (f y).unfailing → IsOk result)
-    → OnOk result ((f z).waiting ≡ false) → OnErr result ((f z).waiting ≡ (f y).waiting) → (f z).contents ≡ (f y).contents → DeviceFlush (map f xs) (map f (set xs i z)) i result
+pub flushes : {A : Type 0} (f : A → DeviceState) (xs : List A) (i : ℕ) (x y z : A)
+    (result : Result (Unit {0}) DeviceFault) → i < length xs → x ≡ get_or xs i x → y ≡ get_or xs i y
+    → (f x).waiting ≡ true → SameShape (f y) (f z) → CountsFault Flush result (f y) (f z)
+    → (IsTrue (f y).unfailing → IsOk result)
+    → OnOk result ((f z).waiting ≡ false) → OnErr result ((f z).waiting ≡ (f y).waiting)
+    → (f z).contents ≡ (f y).contents → DeviceFlush (map f xs) (map f (set xs i z)) i result
 flushes f xs i x y z (Ok done) lt is_x is_y waits shape counts never flushed kept contents =
     let nth : nth_device (map f xs) i ≡ f y = nth_read f xs i y lt is_y in
     record {
@@ -96,19 +104,23 @@ flushes f xs i x y z (Err fault) lt is_x is_y waits shape counts never flushed k
     }
 
 -- the last of flushed devices, and those before it
-last_of : {A : Type 0} (f : A → DeviceState) (front : List A) (x : A) → NoneWaits (map f (front ++ x ∷ [])) → (f x).waiting ≡ false
+last_of : {A : Type 0} (f : A → DeviceState) (front : List A) (x : A)
+    → NoneWaits (map f (front ++ x ∷ [])) → (f x).waiting ≡ false
 last_of f [] x none = none 0
 last_of f (y ∷ front) x none = last_of f front x (λ k. none (suc k))
 
-front_of : {A : Type 0} (f : A → DeviceState) (front : List A) (x : A) → NoneWaits (map f (front ++ x ∷ [])) → NoneWaits (map f front)
+front_of : {A : Type 0} (f : A → DeviceState) (front : List A) (x : A)
+    → NoneWaits (map f (front ++ x ∷ [])) → NoneWaits (map f front)
 front_of f [] x none k = refl
 front_of f (y ∷ front) x none zero = none 0
 front_of f (y ∷ front) x none (suc k) = front_of f front x (λ j. none (suc j)) k
 
-pub none_last : {A : Type 0} (f : A → DeviceState) (xs front : List A) (x : A) → xs ≡ front ++ x ∷ [] → NoneWaits (map f xs) → (f x).waiting ≡ false
+pub none_last : {A : Type 0} (f : A → DeviceState) (xs front : List A) (x : A)
+    → xs ≡ front ++ x ∷ [] → NoneWaits (map f xs) → (f x).waiting ≡ false
 none_last f xs front x is none = last_of f front x (subst (λ ys. NoneWaits (map f ys)) is none)
 
-pub none_front : {A : Type 0} (f : A → DeviceState) (xs front : List A) (x : A) → xs ≡ front ++ x ∷ [] → NoneWaits (map f xs) → NoneWaits (map f front)
+pub none_front : {A : Type 0} (f : A → DeviceState) (xs front : List A) (x : A)
+    → xs ≡ front ++ x ∷ [] → NoneWaits (map f xs) → NoneWaits (map f front)
 none_front f xs front x is none = front_of f front x (subst (λ ys. NoneWaits (map f ys)) is none)
 
 pub on_err : {T E : Type 0} (result : Result T E) (P : Type 0) → P → OnErr result P
@@ -116,19 +128,23 @@ on_err (Ok x) P is = tt
 on_err (Err e) P is = is
 
 -- an error that is passed on
-pub handed_on : {T E : Type 0} (r : Result T E) (e : E) (P : E → Type 0) → IsErrAnd r (λ y. y ≡ e) → P e → IfErr r P
+pub handed_on : {T E : Type 0} (r : Result T E) (e : E) (P : E → Type 0) → IsErrAnd r (λ y. y ≡ e)
+    → P e → IfErr r P
 handed_on (Ok x) e P is p = tt
 handed_on (Err y) e P is p = subst P (sym is) p
 
 -- what follows from the clause of an outcome
-pub if_ok : {T E : Type 0} (P Q : T → Type 0) (r : Result T E) → IfOk r P → ((x : T) → P x → Q x) → IfOk r Q
+pub if_ok : {T E : Type 0} (P Q : T → Type 0) (r : Result T E) → IfOk r P → ((x : T) → P x → Q x)
+    → IfOk r Q
 if_ok P Q (Ok x) is follows = follows x is
 if_ok P Q (Err e) is follows = tt
 
-pub if_both : {T E : Type 0} (P Q R : T → Type 0) (r : Result T E) → IfOk r P → IfOk r Q → ((x : T) → P x → Q x → R x) → IfOk r R
+pub if_both : {T E : Type 0} (P Q R : T → Type 0) (r : Result T E) → IfOk r P → IfOk r Q
+    → ((x : T) → P x → Q x → R x) → IfOk r R
 if_both P Q R (Ok x) p q follows = follows x p q
 if_both P Q R (Err e) p q follows = tt
 
-pub if_err : {T E : Type 0} (P Q : E → Type 0) (r : Result T E) → IfErr r P → ((e : E) → P e → Q e) → IfErr r Q
+pub if_err : {T E : Type 0} (P Q : E → Type 0) (r : Result T E) → IfErr r P → ((e : E) → P e → Q e)
+    → IfErr r Q
 if_err P Q (Ok x) is follows = tt
 if_err P Q (Err e) is follows = follows e is

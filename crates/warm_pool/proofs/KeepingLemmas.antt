@@ -24,7 +24,9 @@ pub more_bytes : (s t u : PoolState) → KeepsBytes s t → KeepsBytes t u → K
 more_bytes s t u a b = record { devices = b.devices ∙ a.devices; bytes = λ i. b.bytes i ∙ a.bytes i; dirty = λ i. b.dirty i ∙ a.dirty i }
 
 -- a resident page was given a slot
-pub stays_in_frame : (s t : PoolState) (i : ℕ) (p : PageId) (slot : Slot) → (nth_frame s.frames i).page ≡ Some p → KeepsOthers slot.index s t → KeepsBytes s t → TakesFrame s p slot t
+pub stays_in_frame : (s t : PoolState) (i : ℕ) (p : PageId) (slot : Slot)
+    → (nth_frame s.frames i).page ≡ Some p → KeepsOthers slot.index s t → KeepsBytes s t
+    → TakesFrame s p slot t
 stays_in_frame s t i p slot holds others kept = record {
   others = others;
   resident = λ _. kept;
@@ -34,7 +36,8 @@ stays_in_frame s t i p slot holds others kept = record {
 }
 
 -- a page was loaded into a frame
-pub loaded_takes : (s t : PoolState) (i : ℕ) (p : PageId) (key : RankKey) (n : ℕ) → LoadsInto s i p key n t → i < length s.frames → IsNowhere s.frames p
+pub loaded_takes : (s t : PoolState) (i : ℕ) (p : PageId) (key : RankKey) (n : ℕ)
+    → LoadsInto s i p key n t → i < length s.frames → IsNowhere s.frames p
     → (slot : Slot) → slot.index ≡ i → TakesFrame s p slot t
 loaded_takes s t i p key n l there away slot at =
     let came : FrameState = record { page = Some p; key = Some key; generation = (nth_frame s.frames i).generation + 1; fixes = n; dirty = false; bytes = l.bytes } in record {
@@ -46,16 +49,20 @@ loaded_takes s t i p key n l there away slot at =
     }
 
 -- a refusal of a page that no device has, and one for its pin count, leave the devices unchanged
-pub unknown_leaves : (h : HistoryView) (s : PoolState) (p : PageId) → (HasPage (view_of s) p → ⊥) → (why : PoolFault) → LoadRefused h (view_of s) p why (view_of s) → LeavesDevices h s p why s
+pub unknown_leaves : (h : HistoryView) (s : PoolState) (p : PageId) → (HasPage (view_of s) p → ⊥)
+    → (why : PoolFault) → LoadRefused h (view_of s) p why (view_of s) → LeavesDevices h s p why s
 unknown_leaves h s p hasnt ReadFault refused = absurd (hasnt refused.0)
 unknown_leaves h s p hasnt WriteBack refused = absurd (hasnt refused.0)
 unknown_leaves h s p hasnt why refused = refl
 
-pub full_leaves : (h : HistoryView) (s t : PoolState) (i : ℕ) (p : PageId) (r : Result Placed PoolFault) → IfErr r (λ why. FixRefused s i why t) → IfErr r (λ why. LeavesDevices h s p why t)
+pub full_leaves : (h : HistoryView) (s t : PoolState) (i : ℕ) (p : PageId)
+    (r : Result Placed PoolFault) → IfErr r (λ why. FixRefused s i why t)
+    → IfErr r (λ why. LeavesDevices h s p why t)
 full_leaves h s t i p r x = if_err _ _ r x (λ why full. subst (λ y. LeavesDevices h s p y t) (sym full.0) (ap (λ u. u.devices) full.2))
 
 -- what a failed read, or a failed write of the page that would leave, leaves of the devices
-pub failed_leaves : (h : HistoryView) (s t : PoolState) (i : ℕ) (p : PageId) → IsFrameToLoad h (view_of s) (Some i)
+pub failed_leaves : (h : HistoryView) (s t : PoolState) (i : ℕ) (p : PageId)
+    → IsFrameToLoad h (view_of s) (Some i)
     → (why : PoolFault) → LoadFails s i p why t → LeavesDevices h s p why t
 failed_leaves h s t i p place ReadFault l = l.devices
 failed_leaves h s t i p place WriteBack l =

@@ -25,7 +25,8 @@ exceeds key other = is_gt (set_first_cmp key_cmp key other)
 -- One frame
 
 -- a key that is at most the page's rank, whether the page is pinned or not
-pub lags_low : (key : Option RankKey) (f : FrameState) → exceeds key f.key ≡ false → LagsBehind key f
+pub lags_low : (key : Option RankKey) (f : FrameState) → exceeds key f.key ≡ false
+    → LagsBehind key f
 lags_low key f low = record {
   competes = elim (f.fixes == 0) as (λ t. exceeds key (cond t f.key None) ≡ false) [ true ↦ low | false ↦ none_last key_cmp key_order key ];
   ranked = inr low;
@@ -39,21 +40,24 @@ lags_exact f = record {
 }
 
 -- the pins and the rank stay
-pub lags_kept : (key : Option RankKey) (f g : FrameState) → LagsBehind key f → g.fixes ≡ f.fixes → g.key ≡ f.key → LagsBehind key g
+pub lags_kept : (key : Option RankKey) (f g : FrameState) → LagsBehind key f → g.fixes ≡ f.fixes
+    → g.key ≡ f.key → LagsBehind key g
 lags_kept key f g lags fixes rank = record {
   competes = subst (λ k. exceeds key k ≡ false) (sym (ap (λ n. key_unless_fixed n g.key) fixes ∙ ap (key_unless_fixed f.fixes) rank)) lags.competes;
   ranked = subst (λ k. (key ≡ None) ⊎ (exceeds key k ≡ false)) (sym rank) lags.ranked;
 }
 
 -- the page is pinned, and its rank stays
-pub lags_fixed : (key : Option RankKey) (f g : FrameState) → LagsBehind key f → 0 < g.fixes → g.key ≡ f.key → LagsBehind key g
+pub lags_fixed : (key : Option RankKey) (f g : FrameState) → LagsBehind key f → 0 < g.fixes
+    → g.key ≡ f.key → LagsBehind key g
 lags_fixed key f g lags some rank = record {
   competes = subst (λ k. exceeds key k ≡ false) (sym (ap (λ t. cond t g.key None) (ne_eqb g.fixes 0 (λ e. absurd (omega arith))))) (none_last key_cmp key_order key);
   ranked = subst (λ k. (key ≡ None) ⊎ (exceeds key k ≡ false)) (sym rank) lags.ranked;
 }
 
 -- the rank stays, and the slot has a key, which is at most that rank
-pub lags_set : (key : Option RankKey) (f g : FrameState) → LagsBehind key f → is_some key ≡ true → g.key ≡ f.key → LagsBehind key g
+pub lags_set : (key : Option RankKey) (f g : FrameState) → LagsBehind key f → is_some key ≡ true
+    → g.key ≡ f.key → LagsBehind key g
 lags_set key f g lags some rank = lags_low key g (subst (λ k. exceeds key k ≡ false) (sym rank) (elim lags.ranked [
   | inl none ↦ let no : false ≡ true = sym (ap is_some none) ∙ some in absurd (cc)
   | inr low ↦ low
@@ -68,16 +72,19 @@ lags_empty status body = record {
 
 -- The contest was told of one frame: the other slots keep their keys, and what it has of this one
 -- does not come after what the frame is now.
-pub record IsTold (contest : List (Option RankKey)) (i : ℕ) (f : FrameState) (told : List (Option RankKey)) : Type 0 where
+pub record IsTold (contest : List (Option RankKey)) (i : ℕ) (f : FrameState)
+    (told : List (Option RankKey)) : Type 0 where
   pub count : length told ≡ length contest
   pub others : (j : ℕ) → j ≢ i → key_at told j ≡ key_at contest j
   pub here : LagsBehind (key_at told i) f
 
-pub untold : (contest : List (Option RankKey)) (i : ℕ) (f : FrameState) → LagsBehind (key_at contest i) f → IsTold contest i f contest
+pub untold : (contest : List (Option RankKey)) (i : ℕ) (f : FrameState)
+    → LagsBehind (key_at contest i) f → IsTold contest i f contest
 untold contest i f lags = record { count = refl; others = λ j ne. refl; here = lags }
 
 -- it was given the page's rank
-pub told : (contest : List (Option RankKey)) (i : ℕ) (f : FrameState) (key : Option RankKey) → i < length contest → f.key ≡ key → IsTold contest i f (set contest i key)
+pub told : (contest : List (Option RankKey)) (i : ℕ) (f : FrameState) (key : Option RankKey)
+    → i < length contest → f.key ≡ key → IsTold contest i f (set contest i key)
 told contest i f key there is = record {
   count = length-set contest i key;
   others = λ j ne. get_or-set_other contest i j key None ne;
@@ -86,25 +93,31 @@ told contest i f key there is = record {
 }
 
 -- or only where that is less than what it had
-pub told_lower : (contest : List (Option RankKey)) (i : ℕ) (f : FrameState) (key : Option RankKey) → i < length contest → f.key ≡ key → IsTold contest i f (lowered key_cmp contest i key)
+pub told_lower : (contest : List (Option RankKey)) (i : ℕ) (f : FrameState) (key : Option RankKey)
+    → i < length contest → f.key ≡ key → IsTold contest i f (lowered key_cmp contest i key)
 told_lower contest i f key there is = by_cases (exceeds (key_at contest i) key) refl
   where
-    by_cases : (t : Bool) → exceeds (key_at contest i) key ≡ t → IsTold contest i f (cond t (set contest i key) contest)
+    by_cases : (t : Bool) → exceeds (key_at contest i) key ≡ t
+        → IsTold contest i f (cond t (set contest i key) contest)
     by_cases true e = told contest i f key there is
     by_cases false e = untold contest i f (lags_low (key_at contest i) f (subst (λ k. exceeds (key_at contest i) k ≡ false) (sym is) e))
 
 -- All frames
 
-pub fresh_lag : (n : ℕ) (bytes : List ℕ) (i : ℕ) → LagsBehind (key_at (replicate n None) i) (nth_frame (replicate n (fresh_frame bytes)) i)
+pub fresh_lag : (n : ℕ) (bytes : List ℕ) (i : ℕ)
+    → LagsBehind (key_at (replicate n None) i) (nth_frame (replicate n (fresh_frame bytes)) i)
 fresh_lag zero bytes i = record { competes = refl; ranked = inl refl }
 fresh_lag (suc n) bytes zero = record { competes = refl; ranked = inl refl }
 fresh_lag (suc n) bytes (suc i) = fresh_lag n bytes i
 
-one_left : (page : Option PageId) (status : Status) (body : FrameBody) (key : Option RankKey) → LagsBehind key (frame_of page status body) → LagsBehind (key_while page key) (frame_of page status body)
+one_left : (page : Option PageId) (status : Status) (body : FrameBody) (key : Option RankKey)
+    → LagsBehind key (frame_of page status body)
+    → LagsBehind (key_while page key) (frame_of page status body)
 one_left None status body key lags = lags_empty status body
 one_left (Some page) status body key lags = lags
 
-one_cleared : (which : Devices) (page : Option PageId) (status : Status) (body : FrameBody) (key : Option RankKey) → LagsBehind key (frame_of page status body)
+one_cleared : (which : Devices) (page : Option PageId) (status : Status) (body : FrameBody)
+    (key : Option RankKey) → LagsBehind key (frame_of page status body)
     → LagsBehind (key_while (clear_if which page) key) (frame_of (clear_if which page) status body)
 one_cleared which page status body key lags = elim (selects which page) as (λ t. let left : Option PageId = cond t None page in LagsBehind (key_while left key) (frame_of left status body)) [
   | true ↦ lags_empty status body
@@ -112,9 +125,12 @@ one_cleared which page status body key lags = elim (selects which page) as (λ t
 ]
 
 -- the pages of selected frames left, and their slots were cleared
-pub all_cleared : (which : Devices) (ps : List (Option PageId)) (ss : List Status) (bs : List FrameBody) (contest : List (Option RankKey)) → length ss ≡ length ps → length bs ≡ length ps → length contest ≡ length ps
+pub all_cleared : (which : Devices) (ps : List (Option PageId)) (ss : List Status)
+    (bs : List FrameBody) (contest : List (Option RankKey)) → length ss ≡ length ps
+    → length bs ≡ length ps → length contest ≡ length ps
     → ((i : ℕ) → LagsBehind (key_at contest i) (nth_frame (frames_of ps ss bs) i))
-    → (i : ℕ) → LagsBehind (key_at (keys_while (map (clear_if which) ps) contest) i) (nth_frame (frames_of (map (clear_if which) ps) ss bs) i)
+    → (i : ℕ) → LagsBehind (key_at (keys_while (map (clear_if which) ps) contest) i)
+    (nth_frame (frames_of (map (clear_if which) ps) ss bs) i)
 all_cleared which [] ss bs [] h k n each i = each i
 all_cleared which [] ss bs (key ∷ keys) h k n each i = absurd (omega arith)
 all_cleared which (p ∷ ps) [] bs contest h k n each i = absurd (omega arith)
@@ -124,7 +140,9 @@ all_cleared which (p ∷ ps) (s ∷ ss) (b ∷ bs) (key ∷ keys) h k n each zer
 all_cleared which (p ∷ ps) (s ∷ ss) (b ∷ bs) (key ∷ keys) h k n each (suc i) = all_cleared which ps ss bs keys (omega arith) (omega arith) (omega arith) (λ j. each (suc j)) i
 
 -- the contest is behind the keys with which the pages compete
-pub all_behind : (frames : List FrameState) (contest : List (Option RankKey)) → length contest ≡ length frames → ((i : ℕ) → LagsBehind (key_at contest i) (nth_frame frames i))
+pub all_behind : (frames : List FrameState) (contest : List (Option RankKey))
+    → length contest ≡ length frames
+    → ((i : ℕ) → LagsBehind (key_at contest i) (nth_frame frames i))
     → IsBehind key_cmp contest (map eviction_key frames)
 all_behind frames contest count each = record {
   count = count ∙ sym (length-map frames eviction_key);
@@ -132,7 +150,9 @@ all_behind frames contest count each = record {
 }
 
 -- and still is, once some slots were repaired
-pub all_repaired : (frames : List FrameState) (contest repaired : List (Option RankKey)) → AreRepaired contest (map eviction_key frames) repaired → ((i : ℕ) → LagsBehind (key_at contest i) (nth_frame frames i))
+pub all_repaired : (frames : List FrameState) (contest repaired : List (Option RankKey))
+    → AreRepaired contest (map eviction_key frames) repaired
+    → ((i : ℕ) → LagsBehind (key_at contest i) (nth_frame frames i))
     → (i : ℕ) → LagsBehind (key_at repaired i) (nth_frame frames i)
 all_repaired frames contest repaired are each i = elim (are.each i) [
   | inl kept ↦ subst (λ k. LagsBehind k (nth_frame frames i)) (sym kept) (each i)

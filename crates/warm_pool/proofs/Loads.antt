@@ -31,7 +31,8 @@ err_if (Ok x) h = absurd (cc)
 err_if (Err e) h = record { fault = e; is = refl }
 
 -- no device has bytes of a page of its that is in no frame, unless it is honest
-pub contents_absent : (s : PoolState) (q : PageId) → (nth_device s.devices q.dev).honest ≡ false → IsNowhere s.frames q → contents_at (view_of s) q ≡ []
+pub contents_absent : (s : PoolState) (q : PageId) → (nth_device s.devices q.dev).honest ≡ false
+    → IsNowhere s.frames q → contents_at (view_of s) q ≡ []
 contents_absent s q lies away = elim (cases_lt q.no (nth_device s.devices q.dev).pages) [
   | inl lt ↦ contents_seen s q (device_there s.devices q.dev q.no lt) lt ∙ bytes_nowhere s.frames q (stored s.devices q) away
       ∙ ap (λ t. cond t (page_at (nth_device s.devices q.dev).contents q.no) []) lies
@@ -42,7 +43,8 @@ pub on_err : {P : Type 0} (r : Result (Unit {0}) DeviceFault) → Failed r → O
 on_err {P} r f h = subst (λ q. OnErr q P) f.is h
 
 -- a resident page has the size of a page
-pub held_size : (s : PoolState) → IsPool s → (q : PageId) → IsResident (view_of s) q → length (contents_at (view_of s) q) ≡ s.page_size
+pub held_size : (s : PoolState) → IsPool s → (q : PageId) → IsResident (view_of s) q
+    → length (contents_at (view_of s) q) ≡ s.page_size
 held_size s w q is =
     let holds : (nth_frame s.frames is.frame).page ≡ Some q = sym (ap (λ f. f.page) (frame_seen s is.frame)) ∙ is.holds in
     let there : is.frame < length s.frames = subst (λ n. is.frame < n) (length-map s.frames frame_view) is.there in
@@ -57,7 +59,8 @@ pub record PutsPage (s : PoolState) (i : ℕ) (g : FrameState) (p : PageId) : Ty
   pub was_clean : (nth_frame s.frames i).dirty ≡ false
   pub nowhere : IsNowhere s.frames p
 
-module _ (s : PoolState) (i : ℕ) (g : FrameState) (p : PageId) (w : IsPool s) (h : PutsPage s i g p) where
+module _ (s : PoolState) (i : ℕ) (g : FrameState) (p : PageId) (w : IsPool s)
+    (h : PutsPage s i g p) where
   there_g : nth_frame (set s.frames i g) i ≡ g
   there_g = get_or-set_same s.frames i g (fresh_frame []) h.fits.there
 
@@ -67,10 +70,12 @@ module _ (s : PoolState) (i : ℕ) (g : FrameState) (p : PageId) (w : IsPool s) 
   pub put_pool : IsPool (record s { frames = set s.frames i g })
   put_pool = set_keeps_pool s i g h.fits w
 
-  put_here : (q : PageId) → q ≡ p → IsTrue (nth_device s.devices q.dev).honest → g.bytes ≡ stored s.devices q
+  put_here : (q : PageId) → q ≡ p → IsTrue (nth_device s.devices q.dev).honest
+      → g.bytes ≡ stored s.devices q
   put_here q e o = h.fits.clean q (h.page ∙ ap Some (sym e)) h.clean o ∙ sym (stored_honest s.devices q o)
 
-  put_bytes : (q : PageId) → IsTrue (nth_device s.devices q.dev).honest → bytes_of (set s.frames i g) s.devices q ≡ bytes_of s.frames s.devices q
+  put_bytes : (q : PageId) → IsTrue (nth_device s.devices q.dev).honest
+      → bytes_of (set s.frames i g) s.devices q ≡ bytes_of s.frames s.devices q
   put_bytes q o = elim (where_is (set s.frames i g) q) [
     | inl new ↦ elim (cases_eq new.frame i) [
       | inl same ↦
@@ -93,7 +98,8 @@ module _ (s : PoolState) (i : ℕ) (g : FrameState) (p : PageId) (w : IsPool s) 
     ]
   ]
 
-  put_resident : (q : PageId) (j k : ℕ) → (nth_frame s.frames j).page ≡ Some q → (nth_frame (set s.frames i g) k).page ≡ Some q
+  put_resident : (q : PageId) (j k : ℕ) → (nth_frame s.frames j).page ≡ Some q
+      → (nth_frame (set s.frames i g) k).page ≡ Some q
       → bytes_of (set s.frames i g) s.devices q ≡ bytes_of s.frames s.devices q
   put_resident q j k before after = elim (cases_eq k i) [
     | inl same ↦

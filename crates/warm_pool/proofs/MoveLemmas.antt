@@ -5,33 +5,40 @@ use Rattle.std.proofs.lemmas.Bool.{cases_eq, cases_lt}
 use Rattle.warm_pool.specs.Chains.{IsFirstFrom, AreChains, IsPredecessor, after, link_after, heads_with_link, next_with_link, chains_without}
 use Rattle.warm_pool.proofs.ChainLemmas.{not_after, link_first, outside, of_others, passed_over, comes_first, comes_before, other_than, same_count}
 
-pub length-heads_with_link : (heads : List ℕ) (b : ℕ) (last : Option ℕ) (to : ℕ) → length (heads_with_link heads b last to) ≡ length heads
+pub length-heads_with_link : (heads : List ℕ) (b : ℕ) (last : Option ℕ) (to : ℕ)
+    → length (heads_with_link heads b last to) ≡ length heads
 length-heads_with_link heads b None to = length-set heads b to
 length-heads_with_link heads b (Some x) to = refl
 
-pub length-next_with_link : (next : List ℕ) (last : Option ℕ) (to : ℕ) → length (next_with_link next last to) ≡ length next
+pub length-next_with_link : (next : List ℕ) (last : Option ℕ) (to : ℕ)
+    → length (next_with_link next last to) ≡ length next
 length-next_with_link next None to = refl
 length-next_with_link next (Some x) to = length-set next x to
 
-other_head : (heads : List ℕ) (b c : ℕ) (last : Option ℕ) (to : ℕ) → c ≢ b → get_or (heads_with_link heads b last to) c 0 ≡ get_or heads c 0
+other_head : (heads : List ℕ) (b c : ℕ) (last : Option ℕ) (to : ℕ) → c ≢ b
+    → get_or (heads_with_link heads b last to) c 0 ≡ get_or heads c 0
 other_head heads b c None to ne = get_or-set_other heads b c to 0 ne
 other_head heads b c (Some x) to ne = refl
 
-other_next : (next : List ℕ) (y : ℕ) (last : Option ℕ) (to : ℕ) → (last ≡ Some y → ⊥) → get_or (next_with_link next last to) y 0 ≡ get_or next y 0
+other_next : (next : List ℕ) (y : ℕ) (last : Option ℕ) (to : ℕ) → (last ≡ Some y → ⊥)
+    → get_or (next_with_link next last to) y 0 ≡ get_or next y 0
 other_next next y None to ne = refl
 other_next next y (Some x) to ne = get_or-set_other next x y to 0 (λ e. ne (ap Some (sym e)))
 
 -- Frame f changes from one chain into another, and the link to it in chain b now leads on to `to`.
 -- Where `to` is the first frame of b after each frame from which f was the next, all links of the
 -- frames but f's are right again.
-module _ (frames heads next : List ℕ) (b f v to : ℕ) (last : Option ℕ) (lt : f < length frames) (in_heads : b < length heads) (chains : AreChains frames heads next) (is_last : IsPredecessor frames b f last) where
+module _ (frames heads next : List ℕ) (b f v to : ℕ) (last : Option ℕ) (lt : f < length frames)
+    (in_heads : b < length heads) (chains : AreChains frames heads next)
+    (is_last : IsPredecessor frames b f last) where
   abbrev now : List ℕ
   now = set frames f v
 
   abbrev Leads : Type 0
   Leads = (from : ℕ) → from ≤ f → ((y : ℕ) → from ≤ y → y < f → get_or frames y 0 ≢ b) → IsFirstFrom now b from to
 
-  head_of : (last : Option ℕ) → IsPredecessor frames b f last → Leads → IsFirstFrom now b 0 (get_or (heads_with_link heads b last to) b 0)
+  head_of : (last : Option ℕ) → IsPredecessor frames b f last → Leads
+      → IsFirstFrom now b 0 (get_or (heads_with_link heads b last to) b 0)
   head_of None before leads = subst (λ n. IsFirstFrom now b 0 n) (sym (get_or-set_same heads b to 0 in_heads)) (leads 0 (omega arith) before.between)
   head_of (Some x) before leads =
       let first = chains.heads_are b in_heads in
@@ -39,7 +46,9 @@ module _ (frames heads next : List ℕ) (b f v to : ℕ) (last : Option ℕ) (lt
       let less : suc x ≤ f = before.below in
       outside frames f v b 0 (get_or heads b 0) (inr (omega arith)) first
 
-  pub heads_after : Leads → ((c : ℕ) → c < length heads → c ≢ b → (get_or frames f 0 ≢ c) × (v ≢ c)) → (c : ℕ) → c < length heads → IsFirstFrom now c 0 (get_or (heads_with_link heads b last to) c 0)
+  pub heads_after : Leads → ((c : ℕ) → c < length heads → c ≢ b → (get_or frames f 0 ≢ c) × (v ≢ c))
+      → (c : ℕ) → c < length heads
+      → IsFirstFrom now c 0 (get_or (heads_with_link heads b last to) c 0)
   heads_after leads others c low = elim (cases_eq c b) [
     | inl e ↦ subst (λ n. IsFirstFrom now n 0 (get_or (heads_with_link heads b last to) n 0)) (sym e) (head_of last is_last leads)
     | inr ne ↦
@@ -47,7 +56,8 @@ module _ (frames heads next : List ℕ) (b f v to : ℕ) (last : Option ℕ) (lt
         subst (λ n. IsFirstFrom now c 0 n) (sym (other_head heads b c last to ne)) (of_others frames f v c 0 (get_or heads c 0) lt apart.0 apart.1 (chains.heads_are c low))
   ]
 
-  next_before : (last : Option ℕ) → IsPredecessor frames b f last → Leads → (y : ℕ) → y < f → get_or frames y 0 ≡ b → IsFirstFrom now b (suc y) (get_or (next_with_link next last to) y 0)
+  next_before : (last : Option ℕ) → IsPredecessor frames b f last → Leads → (y : ℕ) → y < f
+      → get_or frames y 0 ≡ b → IsFirstFrom now b (suc y) (get_or (next_with_link next last to) y 0)
   next_before None before leads y less is = absurd (before.between y (omega arith) less is)
   next_before (Some x) before leads y less is = elim (cases_eq y x) [
     | inl e ↦
@@ -65,14 +75,17 @@ module _ (frames heads next : List ℕ) (b f v to : ℕ) (last : Option ℕ) (lt
   ]
 
   -- the last frame below f is neither above it nor of another chain
-  not_last : (last : Option ℕ) → IsPredecessor frames b f last → (y : ℕ) → (f ≤ y) ⊎ (get_or frames y 0 ≢ b) → last ≡ Some y → ⊥
+  not_last : (last : Option ℕ) → IsPredecessor frames b f last → (y : ℕ)
+      → (f ≤ y) ⊎ (get_or frames y 0 ≢ b) → last ≡ Some y → ⊥
   not_last None before y out e = absurd (cc)
   not_last (Some x) before y out e =
       let same : x ≡ y = cc in
       let low : suc x ≤ f = before.below in
       elim out [ inl above ↦ omega arith | inr other ↦ other (ap (λ n. get_or frames n 0) (sym same) ∙ before.is_of.1) ]
 
-  pub next_after : Leads → ((c : ℕ) → c < length heads → c ≢ b → (get_or frames f 0 ≢ c) × (v ≢ c)) → (y : ℕ) → y ≢ f → y < length frames → get_or frames y 0 < length heads → IsFirstFrom now (get_or frames y 0) (suc y) (get_or (next_with_link next last to) y 0)
+  pub next_after : Leads → ((c : ℕ) → c < length heads → c ≢ b → (get_or frames f 0 ≢ c) × (v ≢ c))
+      → (y : ℕ) → y ≢ f → y < length frames → get_or frames y 0 < length heads
+      → IsFirstFrom now (get_or frames y 0) (suc y) (get_or (next_with_link next last to) y 0)
   next_after leads others y ne low in_chain =
       let first = chains.next_are y low in_chain in
       elim (cases_eq (get_or frames y 0) b) [
@@ -87,7 +100,11 @@ module _ (frames heads next : List ℕ) (b f v to : ℕ) (last : Option ℕ) (lt
       ]
 
 -- a frame that left its chain is in none
-pub unlinked : (frames heads next : List ℕ) (b f : ℕ) (last : Option ℕ) → f < length frames → b < length heads → get_or frames f 0 ≡ b → AreChains frames heads next → IsPredecessor frames b f last → AreChains (chains_without frames f heads) (heads_with_link heads b last (get_or next f 0)) (next_with_link next last (get_or next f 0))
+pub unlinked : (frames heads next : List ℕ) (b f : ℕ) (last : Option ℕ) → f < length frames
+    → b < length heads → get_or frames f 0 ≡ b → AreChains frames heads next
+    → IsPredecessor frames b f last
+    → AreChains (chains_without frames f heads) (heads_with_link heads b last (get_or next f 0))
+    (next_with_link next last (get_or next f 0))
 unlinked frames heads next b f last lt in_heads is chains is_last =
     let n : ℕ = length heads in
     let to : ℕ = get_or next f 0 in
@@ -112,7 +129,9 @@ unlinked frames heads next b f last lt in_heads is chains is_last =
     }
 
 -- a frame's own link, set before the last frame leads to it, changes no other link
-linked_elsewhere : (next : List ℕ) (f link : ℕ) (last : Option ℕ) (y : ℕ) → after last ≤ length next → y ≢ f → get_or (next_with_link (set next f link) last f) y 0 ≡ get_or (next_with_link next last f) y 0
+linked_elsewhere : (next : List ℕ) (f link : ℕ) (last : Option ℕ) (y : ℕ) → after last ≤ length next
+    → y ≢ f → get_or (next_with_link (set next f link) last f) y 0
+    ≡ get_or (next_with_link next last f) y 0
 linked_elsewhere next f link None y room ne = get_or-set_other next f y link 0 ne
 linked_elsewhere next f link (Some x) y room ne = elim (cases_eq y x) [
   | inl e ↦
@@ -122,12 +141,17 @@ linked_elsewhere next f link (Some x) y room ne = elim (cases_eq y x) [
   | inr other ↦ get_or-set_other (set next f link) x y f 0 other ∙ get_or-set_other next f y link 0 ne ∙ sym (get_or-set_other next x y f 0 other)
 ]
 
-linked_here : (next : List ℕ) (f link : ℕ) (last : Option ℕ) → f < length next → after last ≤ f → get_or (next_with_link (set next f link) last f) f 0 ≡ link
+linked_here : (next : List ℕ) (f link : ℕ) (last : Option ℕ) → f < length next → after last ≤ f
+    → get_or (next_with_link (set next f link) last f) f 0 ≡ link
 linked_here next f link None lt low = get_or-set_same next f link 0 lt
 linked_here next f link (Some x) lt low = let ne : f ≢ x = omega arith in get_or-set_other (set next f link) x f f 0 ne ∙ get_or-set_same next f link 0 lt
 
 -- a frame that was in no chain is now in its own
-pub linked : (frames heads next : List ℕ) (b f : ℕ) (last : Option ℕ) → f < length frames → b < length heads → get_or frames f 0 ≡ length heads → AreChains frames heads next → IsPredecessor frames b f last → AreChains (set frames f b) (heads_with_link heads b last f) (next_with_link (set next f (link_after heads next b last)) last f)
+pub linked : (frames heads next : List ℕ) (b f : ℕ) (last : Option ℕ) → f < length frames
+    → b < length heads → get_or frames f 0 ≡ length heads → AreChains frames heads next
+    → IsPredecessor frames b f last
+    → AreChains (set frames f b) (heads_with_link heads b last f)
+    (next_with_link (set next f (link_after heads next b last)) last f)
 linked frames heads next b f last lt in_heads is chains is_last =
     let now : List ℕ = set frames f b in
     let link : ℕ = link_after heads next b last in
@@ -160,16 +184,22 @@ linked frames heads next b f last lt in_heads is chains is_last =
     }
 
 -- the same, of links that are given by an equation
-pub unlinked_to : (frames heads next heads' next' : List ℕ) (b f to : ℕ) (last : Option ℕ) → f < length frames → b < length heads → get_or frames f 0 ≡ b → AreChains frames heads next → IsPredecessor frames b f last
-    → to ≡ get_or next f to → heads' ≡ heads_with_link heads b last to → next' ≡ next_with_link next last to → AreChains (chains_without frames f heads) heads' next'
+pub unlinked_to : (frames heads next heads' next' : List ℕ) (b f to : ℕ) (last : Option ℕ)
+    → f < length frames → b < length heads → get_or frames f 0 ≡ b → AreChains frames heads next
+    → IsPredecessor frames b f last
+    → to ≡ get_or next f to → heads' ≡ heads_with_link heads b last to
+    → next' ≡ next_with_link next last to → AreChains (chains_without frames f heads) heads' next'
 unlinked_to frames heads next heads' next' b f to last lt in_heads is chains is_last read heads_are next_are =
     let there : to ≡ get_or next f 0 = get_or_read next f to (subst (λ n. f < n) (sym chains.next_size) lt) read 0 in
     subst (λ hs. AreChains (chains_without frames f heads) hs next') (sym (heads_are ∙ ap (heads_with_link heads b last) there))
     (subst (λ ns. AreChains (chains_without frames f heads) (heads_with_link heads b last (get_or next f 0)) ns) (sym (next_are ∙ ap (next_with_link next last) there))
     (unlinked frames heads next b f last lt in_heads is chains is_last))
 
-pub linked_to : (frames heads next heads' next' : List ℕ) (b f link : ℕ) (last : Option ℕ) → f < length frames → b < length heads → get_or frames f 0 ≡ length heads → AreChains frames heads next → IsPredecessor frames b f last
-    → link ≡ link_after heads next b last → heads' ≡ heads_with_link heads b last f → next' ≡ next_with_link (set next f link) last f → AreChains (set frames f b) heads' next'
+pub linked_to : (frames heads next heads' next' : List ℕ) (b f link : ℕ) (last : Option ℕ)
+    → f < length frames → b < length heads → get_or frames f 0 ≡ length heads
+    → AreChains frames heads next → IsPredecessor frames b f last
+    → link ≡ link_after heads next b last → heads' ≡ heads_with_link heads b last f
+    → next' ≡ next_with_link (set next f link) last f → AreChains (set frames f b) heads' next'
 linked_to frames heads next heads' next' b f link last lt in_heads is chains is_last follows heads_are next_are =
     subst (λ hs. AreChains (set frames f b) hs next') (sym heads_are)
     (subst (λ ns. AreChains (set frames f b) (heads_with_link heads b last f) ns) (sym (next_are ∙ ap (λ (to : ℕ). next_with_link (set next f to) last f) follows))

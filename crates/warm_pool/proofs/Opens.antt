@@ -22,15 +22,18 @@ record IsUnused (f : FrameState) : Type 0 where
 fresh_unused : (bytes : List ℕ) → IsUnused (fresh_frame bytes)
 fresh_unused bytes = record { page = refl; key = refl; fixes = refl; dirty = refl }
 
-nth_unused : (n : ℕ) (bytes : List ℕ) (i : ℕ) → IsUnused (nth_frame (replicate n (fresh_frame bytes)) i)
+nth_unused : (n : ℕ) (bytes : List ℕ) (i : ℕ)
+    → IsUnused (nth_frame (replicate n (fresh_frame bytes)) i)
 nth_unused zero bytes i = fresh_unused _
 nth_unused (suc n) bytes zero = fresh_unused bytes
 nth_unused (suc n) bytes (suc i) = nth_unused n bytes i
 
-no_page : (n : ℕ) (bytes : List ℕ) (i : ℕ) (p : PageId) → (nth_frame (replicate n (fresh_frame bytes)) i).page ≡ Some p → ⊥
+no_page : (n : ℕ) (bytes : List ℕ) (i : ℕ) (p : PageId)
+    → (nth_frame (replicate n (fresh_frame bytes)) i).page ≡ Some p → ⊥
 no_page n bytes i p e = let none : None ≡ Some p = sym (nth_unused n bytes i).page ∙ e in absurd (cc)
 
-opened_is_pool : (n size : ℕ) (ds : List DeviceState) → IsUpTo MAX_FRAMES n → IsSize size ds → length ds ≤ 65536 → IsPool (fresh_pool n size ds)
+opened_is_pool : (n size : ℕ) (ds : List DeviceState) → IsUpTo MAX_FRAMES n → IsSize size ds
+    → length ds ≤ 65536 → IsPool (fresh_pool n size ds)
 opened_is_pool n size ds up sized few = record {
   some_frames = subst (λ k. 0 < k) (sym (length-replicate n (fresh_frame (replicate size 0)))) up.0;
   few_frames = subst (λ k. k ≤ MAX_FRAMES) (sym (length-replicate n (fresh_frame (replicate size 0)))) up.1;
@@ -50,11 +53,15 @@ opened_is_pool n size ds up sized few = record {
 
 -- the parts of a new pool
 module _ (frames : FramesState) (spare n size : ℕ) (ds : List DeviceState)
-    (is : frames ≡ record { page_size = size; frames = replicate n (fresh_frame (replicate size 0)) }) (room : spare ≡ size) where
+    (is : frames ≡ record {
+      page_size = size;
+      frames = replicate n (fresh_frame (replicate size 0));
+    }) (room : spare ≡ size) where
   pub opened_state : pool_from frames spare ds ≡ fresh_pool n size ds
   opened_state = ap₂ (λ (f : FramesState) (k : ℕ). pool_from f k ds) is room
 
-  pub opened_pool : IsUpTo MAX_FRAMES n → IsSize size ds → length ds ≤ 65536 → IsPool (pool_from frames spare ds)
+  pub opened_pool : IsUpTo MAX_FRAMES n → IsSize size ds → length ds ≤ 65536
+      → IsPool (pool_from frames spare ds)
   opened_pool up sized few = subst IsPool (sym opened_state) (opened_is_pool n size ds up sized few)
 
   pub opened_ranked : (h : HistoryView) → RankedBy (pool_from frames spare ds) h

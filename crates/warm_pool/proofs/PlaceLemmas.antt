@@ -10,11 +10,13 @@ use Rattle.warm_pool.specs.PageTable.{IsFirstFree}
 pub count_chains : (pages : List (Option PageId)) → length (chains_of pages) ≡ length pages
 count_chains pages = length-map pages (chain_of (length pages))
 
-pub chain_at : (pages : List (Option PageId)) (frame : ℕ) → frame < length pages → get_or (chains_of pages) frame 0 ≡ chain_of (length pages) (page_in pages frame)
+pub chain_at : (pages : List (Option PageId)) (frame : ℕ) → frame < length pages
+    → get_or (chains_of pages) frame 0 ≡ chain_of (length pages) (page_in pages frame)
 chain_at pages frame lt = get_or-map (chain_of (length pages)) pages frame None 0 lt
 
 -- no frame past the last holds a page
-pub in_range : (pages : List (Option PageId)) (frame : ℕ) (page : PageId) → page_in pages frame ≡ Some page → frame < length pages
+pub in_range : (pages : List (Option PageId)) (frame : ℕ) (page : PageId)
+    → page_in pages frame ≡ Some page → frame < length pages
 in_range [] frame page is = let no : None ≡ Some page = is in absurd (cc)
 in_range (held ∷ pages) zero page is = omega arith
 in_range (held ∷ pages) (suc frame) page is = let lt = in_range pages frame page is in omega arith
@@ -38,17 +40,24 @@ free_of_chain n None some is = refl
 free_of_chain n (Some page) some is = let less = chain_of_page n page some in absurd (omega arith)
 
 -- a frame holds the page only in the page's chain
-pub held_in_chain : (pages : List (Option PageId)) (page : PageId) (frame : ℕ) → page_in pages frame ≡ Some page → get_or (chains_of pages) frame 0 ≡ chain_of (length pages) (Some page)
+pub held_in_chain : (pages : List (Option PageId)) (page : PageId) (frame : ℕ)
+    → page_in pages frame ≡ Some page
+    → get_or (chains_of pages) frame 0 ≡ chain_of (length pages) (Some page)
 held_in_chain pages page frame is = chain_at pages frame (in_range pages frame page is) ∙ ap (chain_of (length pages)) is
 
 -- the frames that a chain has passed don't hold the page
 abbrev pub ArePassed : List (Option PageId) → PageId → ℕ → Type 0
 ArePassed pages page at = (frame : ℕ) → frame < at → page_in pages frame ≡ Some page → ⊥
 
-pub passed_first : (pages : List (Option PageId)) (page : PageId) (at : ℕ) → IsFirstFrom (chains_of pages) (chain_of (length pages) (Some page)) 0 at → ArePassed pages page at
+pub passed_first : (pages : List (Option PageId)) (page : PageId) (at : ℕ)
+    → IsFirstFrom (chains_of pages) (chain_of (length pages) (Some page)) 0 at
+    → ArePassed pages page at
 passed_first pages page at first frame less is = first.apart frame (omega arith) less (held_in_chain pages page frame is)
 
-pub passed_more : (pages : List (Option PageId)) (page : PageId) (at to : ℕ) → ArePassed pages page at → (page_in pages at ≡ Some page → ⊥) → IsFirstFrom (chains_of pages) (chain_of (length pages) (Some page)) (suc at) to → ArePassed pages page to
+pub passed_more : (pages : List (Option PageId)) (page : PageId) (at to : ℕ)
+    → ArePassed pages page at → (page_in pages at ≡ Some page → ⊥)
+    → IsFirstFrom (chains_of pages) (chain_of (length pages) (Some page)) (suc at) to
+    → ArePassed pages page to
 passed_more pages page at to passed other first frame less is = elim (cases_lt frame at) [
   | inl under ↦ passed frame under is
   | inr over ↦ elim (cases_eq frame at) [
@@ -58,7 +67,11 @@ passed_more pages page at to passed other first frame less is = elim (cases_lt f
 ]
 
 -- the link of a frame in the page's chain
-pub next_in_chain : (pages : List (Option PageId)) (heads next : List ℕ) (page : PageId) (from at : ℕ) → AreLinked pages heads next → at < length pages → IsFirstFrom (chains_of pages) (chain_of (length pages) (Some page)) from at → IsFirstFrom (chains_of pages) (chain_of (length pages) (Some page)) (suc at) (get_or next at 0)
+pub next_in_chain : (pages : List (Option PageId)) (heads next : List ℕ) (page : PageId)
+    (from at : ℕ) → AreLinked pages heads next → at < length pages
+    → IsFirstFrom (chains_of pages) (chain_of (length pages) (Some page)) from at
+    → IsFirstFrom (chains_of pages) (chain_of (length pages) (Some page)) (suc at)
+    (get_or next at 0)
 next_in_chain pages heads next page from at linked lt first =
     let room : length heads ≡ length pages + 1 = linked.size in
     let b : ℕ = chain_of (length pages) (Some page) in
@@ -67,36 +80,50 @@ next_in_chain pages heads next page from at linked lt first =
     link_first (chains_of pages) heads next b (Some at) linked.chains (omega arith) (lt_chains, first.there lt_chains)
 
 -- before the first frame of their chain no frame is without a page
-pub none_below : (pages : List (Option PageId)) (at : ℕ) → IsFirstFrom (chains_of pages) (length pages) 0 at → (frame : ℕ) → frame < at → frame < length pages → page_in pages frame ≡ None → ⊥
+pub none_below : (pages : List (Option PageId)) (at : ℕ)
+    → IsFirstFrom (chains_of pages) (length pages) 0 at → (frame : ℕ) → frame < at
+    → frame < length pages → page_in pages frame ≡ None → ⊥
 none_below pages at first frame less lt free = first.apart frame (omega arith) less (chain_at pages frame lt ∙ ap (chain_of (length pages)) free ∙ chain_of_none (length pages))
 
 -- the chain of the frames without a page begins at the least of them
-pub first_is_free : (pages : List (Option PageId)) (at : ℕ) → IsFirstFrom (chains_of pages) (length pages) 0 at → at < length pages → IsFirstFree pages (Some at)
+pub first_is_free : (pages : List (Option PageId)) (at : ℕ)
+    → IsFirstFrom (chains_of pages) (length pages) 0 at → at < length pages
+    → IsFirstFree pages (Some at)
 first_is_free pages at first lt =
     let lt_chains : at < length (chains_of pages) = subst (λ n. at < n) (sym (count_chains pages)) lt in
     (lt, free_of_chain (length pages) (page_in pages at) (omega arith) (sym (chain_at pages at lt) ∙ first.there lt_chains), λ lesser less. none_below pages at first lesser less (omega arith))
 
 -- the head of that chain, and as the code reads it
-first_free : (pages : List (Option PageId)) (heads next : List ℕ) → AreLinked pages heads next → IsFirstFrom (chains_of pages) (length pages) 0 (get_or heads (length pages) 0)
+first_free : (pages : List (Option PageId)) (heads next : List ℕ) → AreLinked pages heads next
+    → IsFirstFrom (chains_of pages) (length pages) 0 (get_or heads (length pages) 0)
 first_free pages heads next linked = linked.chains.heads_are (length pages) (let room : length heads ≡ length pages + 1 = linked.size in omega arith)
 
-head_read : (pages : List (Option PageId)) (heads next : List ℕ) (frames at : ℕ) → AreLinked pages heads next → frames ≡ length pages → at ≡ get_or heads frames at → IsFirstFrom (chains_of pages) (length pages) 0 at
+head_read : (pages : List (Option PageId)) (heads next : List ℕ) (frames at : ℕ)
+    → AreLinked pages heads next → frames ≡ length pages → at ≡ get_or heads frames at
+    → IsFirstFrom (chains_of pages) (length pages) 0 at
 head_read pages heads next frames at linked count is =
     let room : length heads ≡ length pages + 1 = linked.size in
     let read : at ≡ get_or heads (length pages) 0 = get_or_read heads frames at (omega arith) is 0 ∙ ap (λ m. get_or heads m 0) count in
     subst (λ m. IsFirstFrom (chains_of pages) (length pages) 0 m) (sym read) (first_free pages heads next linked)
 
 -- the first free frame, found there or nowhere
-pub free_found : (pages : List (Option PageId)) (heads next : List ℕ) (frames at : ℕ) → AreLinked pages heads next → frames ≡ length pages → at ≡ get_or heads frames at → at < frames → IsFirstFree pages (Some at)
+pub free_found : (pages : List (Option PageId)) (heads next : List ℕ) (frames at : ℕ)
+    → AreLinked pages heads next → frames ≡ length pages → at ≡ get_or heads frames at → at < frames
+    → IsFirstFree pages (Some at)
 free_found pages heads next frames at linked count is lt = first_is_free pages at (head_read pages heads next frames at linked count is) (subst (λ m. at < m) count lt)
 
-pub free_full : (pages : List (Option PageId)) (heads next : List ℕ) (frames at : ℕ) → AreLinked pages heads next → frames ≡ length pages → at ≡ get_or heads frames at → frames ≤ at → IsFirstFree pages None
+pub free_full : (pages : List (Option PageId)) (heads next : List ℕ) (frames at : ℕ)
+    → AreLinked pages heads next → frames ≡ length pages → at ≡ get_or heads frames at → frames ≤ at
+    → IsFirstFree pages None
 free_full pages heads next frames at linked count is le frame lt = none_below pages at (head_read pages heads next frames at linked count is) frame (omega arith) lt
 
 -- a frame left its chain and was linked into that of its new content
-pub moved_linked : (frames : List ℕ) (pages : List (Option PageId)) (heads next new_heads new_next : List ℕ) (frame out to : ℕ) (held : Option PageId)
-    → frames ≡ chains_of pages → AreLinked pages heads next → frame < length pages → length new_heads ≡ length heads → to ≡ chain_of (length pages) held
-    → AreChains (set (set frames frame out) frame to) new_heads new_next → AreLinked (set pages frame held) new_heads new_next
+pub moved_linked : (frames : List ℕ) (pages : List (Option PageId))
+    (heads next new_heads new_next : List ℕ) (frame out to : ℕ) (held : Option PageId)
+    → frames ≡ chains_of pages → AreLinked pages heads next → frame < length pages
+    → length new_heads ≡ length heads → to ≡ chain_of (length pages) held
+    → AreChains (set (set frames frame out) frame to) new_heads new_next
+    → AreLinked (set pages frame held) new_heads new_next
 moved_linked frames pages heads next new_heads new_next frame out to held are linked lt same is chains =
     let now = ap (λ frames. set (set frames frame out) frame to) are ∙ set-set (chains_of pages) frame out to ∙ ap (set (chains_of pages) frame) is in
     let count : length (set pages frame held) ≡ length pages = length-set pages frame held in
@@ -109,7 +136,9 @@ moved_linked frames pages heads next new_heads new_next frame out to held are li
     }
 
 -- frames without a page: each is followed by the next
-module _ (n : ℕ) (pages : List (Option PageId)) (heads next : List ℕ) (no_pages : pages ≡ replicate n None) (no_heads : heads ≡ set (replicate (n + 1) n) n 0) (turn : AreInTurn n next) where
+module _ (n : ℕ) (pages : List (Option PageId)) (heads next : List ℕ)
+    (no_pages : pages ≡ replicate n None) (no_heads : heads ≡ set (replicate (n + 1) n) n 0)
+    (turn : AreInTurn n next) where
   count : length pages ≡ n
   count = ap length no_pages ∙ length-replicate n None
 
@@ -155,7 +184,9 @@ module _ (n : ℕ) (pages : List (Option PageId)) (heads next : List ℕ) (no_pa
     | inr ne ↦ let less : b < n = omega (arith, low, ne, heads_count) in subst (λ m. IsFirstFrom (chains_of pages) b 0 m) (sym (other_heads b less)) (no_others b ne)
   ]
 
-  next_of_none : (frame : ℕ) → frame < length (chains_of pages) → IsFirstFrom (chains_of pages) (get_or (chains_of pages) frame 0) (suc frame) (get_or next frame 0)
+  next_of_none : (frame : ℕ) → frame < length (chains_of pages)
+      → IsFirstFrom (chains_of pages) (get_or (chains_of pages) frame 0) (suc frame)
+      (get_or next frame 0)
   next_of_none frame low =
       let lt : frame < n = subst (λ m. frame < m) count_all low in
       let here : get_or next frame 0 ≡ suc frame = turn.links frame lt ∙ add-one frame in

@@ -15,7 +15,8 @@ use Rattle.warm_pool.proofs.Bytes.{frame_seen}
 use Rattle.warm_pool.proofs.Pins.{placed_there}
 
 -- no page is evicted for a resident one
-pub placed_resident : (v w : PoolView) (p : PageId) (placed : Placed) → placed.evicted ≡ None → IsResident v p
+pub placed_resident : (v w : PoolView) (p : PageId) (placed : Placed) → placed.evicted ≡ None
+    → IsResident v p
     → ((q : PageId) → IsResident v q → IsAbsent w q → ⊥) → IsPlaced v p placed w
 placed_resident v w p placed none is stays = record {
   left = λ q. (
@@ -27,7 +28,8 @@ placed_resident v w p placed none is stays = record {
 }
 
 -- a pin of a resident page leaves all pages in their frames
-pub fix_keeps : (v w : PoolView) (p : PageId) (slot : Slot) → AddsFix v p slot w → (q : PageId) → IsResident v q → IsAbsent w q → ⊥
+pub fix_keeps : (v w : PoolView) (p : PageId) (slot : Slot) → AddsFix v p slot w → (q : PageId)
+    → IsResident v q → IsAbsent w q → ⊥
 fix_keeps v w p slot adds q is away =
     let f : FrameView = record (frame_at v slot.index) { fixes = (frame_at v slot.index).fixes + 1 } in
     elim (cases_eq is.frame slot.index) [
@@ -38,7 +40,8 @@ fix_keeps v w p slot adds q is away =
           away is.frame (ap (λ x. (frame_at x is.frame).page) adds.becomes ∙ ap (λ x. x.page) (get_or-set_other v.frames slot.index is.frame f _ ne) ∙ is.holds)
     ]
 
-pub placed_fixed : (v w : PoolView) (p : PageId) (placed : Placed) → AddsFix v p placed.slot w → placed.evicted ≡ None → IsPlaced v p placed w
+pub placed_fixed : (v w : PoolView) (p : PageId) (placed : Placed) → AddsFix v p placed.slot w
+    → placed.evicted ≡ None → IsPlaced v p placed w
 placed_fixed v w p placed adds none =
     placed_resident v w p placed none (record { frame = placed.slot.index; there = adds.there; holds = adds.resident })
     (fix_keeps v w p placed.slot adds)
@@ -51,7 +54,8 @@ once_seen : {s : PoolState} → IsPool s → IsOnce (view_of s)
 once_seen {s} w i j q e f = w.once i j q (sym (ap (λ x. x.page) (frame_seen s i)) ∙ e) (sym (ap (λ x. x.page) (frame_seen s j)) ∙ f)
 
 -- the page in the frame is evicted for one that is in none
-module _ (h : HistoryView) (v w : PoolView) (p : PageId) (n : ℕ) (placed : Placed) (puts : PutsIn h v p n placed.slot w) where
+module _ (h : HistoryView) (v w : PoolView) (p : PageId) (n : ℕ) (placed : Placed)
+    (puts : PutsIn h v p n placed.slot w) where
   abbrev came : FrameView
   came = record { page = Some p; generation = placed.slot.generation; fixes = n }
 
@@ -69,13 +73,15 @@ module _ (h : HistoryView) (v w : PoolView) (p : PageId) (n : ℕ) (placed : Pla
     | inr ne ↦ ne (once i placed.slot.index q (sym (ap (λ x. x.page) (other i ne)) ∙ held) was)
   ]
 
-  was_here : (q : PageId) → IsResident v q → IsAbsent w q → (frame_at v placed.slot.index).page ≡ Some q
+  was_here : (q : PageId) → IsResident v q → IsAbsent w q
+      → (frame_at v placed.slot.index).page ≡ Some q
   was_here q is away = elim (cases_eq is.frame placed.slot.index) [
     | inl at ↦ subst (λ k. (frame_at v k).page ≡ Some q) at is.holds
     | inr ne ↦ absurd (away is.frame (ap (λ x. x.page) (other is.frame ne) ∙ is.holds))
   ]
 
-  placed_absent : IsOnce v → placed.evicted ≡ (frame_at v placed.slot.index).page → IsPlaced v p placed w
+  placed_absent : IsOnce v → placed.evicted ≡ (frame_at v placed.slot.index).page
+      → IsPlaced v p placed w
   placed_absent once is = record {
     left = λ q. (
       λ e. let was : (frame_at v placed.slot.index).page ≡ Some q = sym is ∙ e in
@@ -86,7 +92,9 @@ module _ (h : HistoryView) (v w : PoolView) (p : PageId) (n : ℕ) (placed : Pla
     absent = λ _. is;
   }
 
-pub placed_loaded : {s : PoolState} → IsPool s → (h : HistoryView) (w : PoolView) (p : PageId) (n : ℕ) (placed : Placed) → PutsIn h (view_of s) p n placed.slot w
+pub placed_loaded : {s : PoolState} → IsPool s
+    → (h : HistoryView) (w : PoolView) (p : PageId) (n : ℕ) (placed : Placed)
+    → PutsIn h (view_of s) p n placed.slot w
     → placed.evicted ≡ (nth_frame s.frames placed.slot.index).page → IsPlaced (view_of s) p placed w
 placed_loaded {s} pool h w p n placed puts is =
     placed_absent h (view_of s) w p n placed puts (once_seen pool) (is ∙ sym (ap (λ x. x.page) (frame_seen s placed.slot.index)))

@@ -21,8 +21,13 @@ use Rattle.warm_pool.proofs.KeepingLemmas.{same_bytes, more_bytes}
 use Rattle.warm_pool.proofs.Keeps.{IsAlike, pool_from, step_pool, step_view}
 
 -- one page is renewed
-module _ (old new : FramesState) {spare : ℕ} {devices : List DeviceState} (w : IsPool (pool_from old spare devices)) (i : ℕ) (p : PageId) (k key : RankKey) (k_is : k ≡ key)
-    (is : new ≡ record old { frames = set old.frames i (record (nth_frame old.frames i) { key = Some k }) })
+module _ (old new : FramesState) {spare : ℕ} {devices : List DeviceState}
+    (w : IsPool (pool_from old spare devices)) (i : ℕ) (p : PageId) (k key : RankKey)
+    (k_is : k ≡ key)
+    (is : new ≡ record old {
+      frames = set old.frames i
+          (record (nth_frame old.frames i) { key = Some k });
+    })
     (there : i < length old.frames) (holds : (nth_frame old.frames i).page ≡ Some p) where
   alike : IsAlike (nth_frame old.frames i) (record (nth_frame old.frames i) { key = Some k })
   alike = record { page = refl; bytes = refl; dirty = refl; bare = λ e. let never : Some p ≡ None = sym holds ∙ e in absurd (cc) }
@@ -45,7 +50,8 @@ module _ (old new : FramesState) {spare : ℕ} {devices : List DeviceState} (w :
         (λ n. absurd (n holds)) (λ j ne n. refl);
   })
 
-pub renews_none : {s : PoolState} → IsPool s → (p : PageId) (key : RankKey) → IsNowhere s.frames p → UpdatesRank s p key s
+pub renews_none : {s : PoolState} → IsPool s → (p : PageId) (key : RankKey) → IsNowhere s.frames p
+    → UpdatesRank s p key s
 renews_none {s} w p key away = record { pages = λ i. refl; here = λ i e. absurd (away i e); others = λ i n. refl }
 
 -- the first k of the pages were renewed
@@ -53,10 +59,12 @@ pub record Renewed (s t : PoolState) (h : HistoryView) (pages : List PageId) (k 
   pub same : view_of t ≡ view_of s
   pub kept : KeepsBytes s t
   pub held : (i : ℕ) → (nth_frame t.frames i).page ≡ (nth_frame s.frames i).page
-  pub others : (i : ℕ) → ((p : PageId) → (nth_frame s.frames i).page ≡ Some p → Contains pages p → ⊥) → (nth_frame t.frames i).key ≡ (nth_frame s.frames i).key
+  pub others : (i : ℕ) → ((p : PageId) → (nth_frame s.frames i).page ≡ Some p → Contains pages p
+      → ⊥) → (nth_frame t.frames i).key ≡ (nth_frame s.frames i).key
   pub keys : (i : ℕ) (p : PageId) → (nth_frame s.frames i).page ≡ Some p
       → ((nth_frame t.frames i).key ≡ Some (rank_key p (hist (references_of h) p)))
-      ⊎ (((nth_frame t.frames i).key ≡ (nth_frame s.frames i).key) × ((j : ℕ) → j < k → get_or pages j p ≢ p))
+      ⊎ (((nth_frame t.frames i).key ≡ (nth_frame s.frames i).key)
+      × ((j : ℕ) → j < k → get_or pages j p ≢ p))
 
 pub none_renewed : (s : PoolState) (h : HistoryView) (pages : List PageId) → Renewed s s h pages 0
 none_renewed s h pages = record { same = refl; kept = same_bytes s; held = λ i. refl; others = λ i e. refl; keys = λ i p e. inr (refl, λ j lt. absurd (omega arith)) }
@@ -67,8 +75,10 @@ page_cases p q = elim (cases_Bool (is_page q (Some p))) [
   | inr e ↦ inr (λ is. let no : true ≡ false = sym (found_page q (Some p) (ap Some is)) ∙ e in absurd (cc))
 ]
 
-pub one_renewed : {s t u : PoolState} (h : HistoryView) (pages : List PageId) (k : ℕ) (q : PageId) → Renewed s t h pages k → k < length pages → ((d : PageId) → get_or pages k d ≡ q)
-    → view_of u ≡ view_of t → KeepsBytes t u → UpdatesRank t q (rank_key q (hist (references_of h) q)) u → Renewed s u h pages (k + 1)
+pub one_renewed : {s t u : PoolState} (h : HistoryView) (pages : List PageId) (k : ℕ) (q : PageId)
+    → Renewed s t h pages k → k < length pages → ((d : PageId) → get_or pages k d ≡ q)
+    → view_of u ≡ view_of t → KeepsBytes t u
+    → UpdatesRank t q (rank_key q (hist (references_of h) q)) u → Renewed s u h pages (k + 1)
 one_renewed {s} {t} {u} h pages k q r low at same kept n = record {
   same = same ∙ r.same;
   kept = more_bytes s t u r.kept kept;
@@ -92,11 +102,14 @@ one_renewed {s} {t} {u} h pages k q r low at same kept n = record {
 }
 
 -- after all of them the history ranks the pool
-pub all_renewed : {s t : PoolState} (h : HistoryView) (pages : List PageId) (k : ℕ) → Renewed s t h pages k → length pages ≤ k
+pub all_renewed : {s t : PoolState} (h : HistoryView) (pages : List PageId) (k : ℕ)
+    → Renewed s t h pages k → length pages ≤ k
     → (g : HistoryView) → RankedBy s g → AgreeOutside pages g h → RankedBy t h
 all_renewed {s} {t} h pages k r all g ranked agree i = of_page (nth_frame s.frames i).page refl
   where
-    of_page : (o : Option PageId) → (nth_frame s.frames i).page ≡ o → (nth_frame t.frames i).key ≡ option_map (λ p. rank_key p (hist (references_of h) p)) (nth_frame t.frames i).page
+    of_page : (o : Option PageId) → (nth_frame s.frames i).page ≡ o
+        → (nth_frame t.frames i).key
+        ≡ option_map (λ p. rank_key p (hist (references_of h) p)) (nth_frame t.frames i).page
     of_page None e =
         r.others i (λ p is _. let never : None ≡ Some p = sym e ∙ is in absurd (cc)) ∙ ranked i ∙ ap (option_map (λ p. rank_key p (hist (references_of g) p))) e ∙ ap (option_map (λ p. rank_key p (hist (references_of h) p))) (sym (r.held i ∙ e))
     of_page (Some p) e =
@@ -113,7 +126,8 @@ all_renewed {s} {t} h pages k r all g ranked agree i = of_page (nth_frame s.fram
         below j lt = omega arith
 
 -- after all of them each of them that is resident has its rank
-pub each_renewed : {s t : PoolState} (h : HistoryView) (pages : List PageId) (k : ℕ) → Renewed s t h pages k → length pages ≤ k → UpdatesNamedRanks pages h t
+pub each_renewed : {s t : PoolState} (h : HistoryView) (pages : List PageId) (k : ℕ)
+    → Renewed s t h pages k → length pages ≤ k → UpdatesNamedRanks pages h t
 each_renewed {s} {t} h pages k r all i p holds named = elim (r.keys i p (sym (r.held i) ∙ holds)) [
   | inl new ↦ new
   | inr old ↦ absurd (old.1 named.0 (below named.0 named.1) named.2)
@@ -123,16 +137,23 @@ each_renewed {s} {t} h pages k r all i p holds named = elim (r.keys i p (sym (r.
     below j lt = omega arith
 
 -- the same where items name the pages
-pub named_renewed : {A : Type 0} {s t u : PoolState} (h : HistoryView) (named : A → PageId) (items : List A) (k : ℕ) (item : A) {q : PageId} → Renewed s t h (map named items) k → k < length items
-    → item ≡ get_or items k item → q ≡ named item → view_of u ≡ view_of t → KeepsBytes t u → UpdatesRank t q (rank_key q (hist (references_of h) q)) u → Renewed s u h (map named items) (k + 1)
+pub named_renewed : {A : Type 0} {s t u : PoolState} (h : HistoryView) (named : A → PageId)
+    (items : List A) (k : ℕ) (item : A) {q : PageId} → Renewed s t h (map named items) k
+    → k < length items
+    → item ≡ get_or items k item → q ≡ named item → view_of u ≡ view_of t → KeepsBytes t u
+    → UpdatesRank t q (rank_key q (hist (references_of h) q)) u
+    → Renewed s u h (map named items) (k + 1)
 named_renewed h named items k item {q} r low is names =
     one_renewed h (map named items) k q r (omega (arith, low, length-map items named)) (λ d. get_or-map named items k item d low ∙ ap named (sym is) ∙ sym names)
 
-pub all_named : {A : Type 0} {s t : PoolState} (h : HistoryView) (named : A → PageId) (items : List A) (k : ℕ) → Renewed s t h (map named items) k → length items ≤ k
+pub all_named : {A : Type 0} {s t : PoolState} (h : HistoryView) (named : A → PageId)
+    (items : List A) (k : ℕ) → Renewed s t h (map named items) k → length items ≤ k
     → (g : HistoryView) → RankedBy s g → AgreeOutside (map named items) g h → RankedBy t h
 all_named h named items k r all = all_renewed h (map named items) k r (omega (arith, all, length-map items named))
 
-pub each_named : {A : Type 0} {s t : PoolState} (h : HistoryView) (named : A → PageId) (items : List A) (k : ℕ) → Renewed s t h (map named items) k → length items ≤ k → UpdatesNamedRanks (map named items) h t
+pub each_named : {A : Type 0} {s t : PoolState} (h : HistoryView) (named : A → PageId)
+    (items : List A) (k : ℕ) → Renewed s t h (map named items) k → length items ≤ k
+    → UpdatesNamedRanks (map named items) h t
 each_named h named items k r all = each_renewed h (map named items) k r (omega (arith, all, length-map items named))
 
 -- the pages of the first k frames were renewed
@@ -140,20 +161,25 @@ pub record RenewedFirst (s t : PoolState) (h : HistoryView) (k : ℕ) : Type 0 w
   pub same : view_of t ≡ view_of s
   pub kept : KeepsBytes s t
   pub count : length t.frames ≡ length s.frames
-  pub keys : (i : ℕ) → i < k → (nth_frame t.frames i).key ≡ option_map (λ p. rank_key p (hist (references_of h) p)) (nth_frame t.frames i).page
+  pub keys : (i : ℕ) → i < k
+      → (nth_frame t.frames i).key
+      ≡ option_map (λ p. rank_key p (hist (references_of h) p)) (nth_frame t.frames i).page
 
 pub none_first : (s : PoolState) (h : HistoryView) → RenewedFirst s s h 0
 none_first s h = record { same = refl; kept = same_bytes s; count = refl; keys = λ i lt. absurd (omega (arith, lt)) }
 
 -- the page in a frame is renewed, or there is none
-pub frame_renewed : {s u : PoolState} (at : ℕ) (h : HistoryView) (q : PageId) → IsPool s → (nth_frame s.frames at).page ≡ Some q → UpdatesRank s q (rank_key q (hist (references_of h) q)) u → UpdatesRankIn s at h u
+pub frame_renewed : {s u : PoolState} (at : ℕ) (h : HistoryView) (q : PageId) → IsPool s
+    → (nth_frame s.frames at).page ≡ Some q
+    → UpdatesRank s q (rank_key q (hist (references_of h) q)) u → UpdatesRankIn s at h u
 frame_renewed {s} {u} at h q w there n = record {
   pages = n.pages;
   here = n.here at there ∙ sym (ap (option_map (λ p. rank_key p (hist (references_of h) p))) (n.pages at ∙ there));
   others = λ i apart. n.others i (λ o. apart (w.once i at q o there));
 }
 
-pub frame_bare : {s : PoolState} (at : ℕ) (h : HistoryView) → IsPool s → (nth_frame s.frames at).page ≡ None → UpdatesRankIn s at h s
+pub frame_bare : {s : PoolState} (at : ℕ) (h : HistoryView) → IsPool s
+    → (nth_frame s.frames at).page ≡ None → UpdatesRankIn s at h s
 frame_bare {s} at h w none = record {
   pages = λ i. refl;
   here = (w.bare at none).0 ∙ sym (ap (option_map (λ p. rank_key p (hist (references_of h) p))) none);
@@ -161,7 +187,8 @@ frame_bare {s} at h w none = record {
 }
 
 -- one frame more
-pub next_first : {s t u : PoolState} (h : HistoryView) (k : ℕ) → RenewedFirst s t h k → view_of u ≡ view_of t → KeepsBytes t u → UpdatesRankIn t k h u → RenewedFirst s u h (k + 1)
+pub next_first : {s t u : PoolState} (h : HistoryView) (k : ℕ) → RenewedFirst s t h k
+    → view_of u ≡ view_of t → KeepsBytes t u → UpdatesRankIn t k h u → RenewedFirst s u h (k + 1)
 next_first {s} {t} {u} h k r same kept n = record {
   same = same ∙ r.same;
   kept = more_bytes s t u r.kept kept;
@@ -173,7 +200,8 @@ next_first {s} {t} {u} h k r same kept n = record {
 }
 
 -- after all of them the history ranks the pool
-pub all_first : {s t : PoolState} (h : HistoryView) (k : ℕ) → RenewedFirst s t h k → length t.frames ≤ k → RankedBy t h
+pub all_first : {s t : PoolState} (h : HistoryView) (k : ℕ) → RenewedFirst s t h k
+    → length t.frames ≤ k → RankedBy t h
 all_first {s} {t} h k r all i = elim (cases_lt i (length t.frames)) [
   | inl lt ↦ r.keys i (omega (arith, lt, all))
   | inr le ↦ subst (λ (f : FrameState). f.key ≡ option_map (λ p. rank_key p (hist (references_of h) p)) f.page) (sym (get_or_past t.frames i (fresh_frame []) le)) refl

@@ -27,30 +27,44 @@ use Rattle.warm_pool.specs.declared.selection.Devices.TheVariants.{One}
 
 -- One device replaced or flushed
 
-pub exchanged : {A : Type 0} (f : A → DeviceState) (xs : List A) (at : ℕ) (x y : A) → y ≡ x → map f (set xs at y) ≡ set (map f xs) at (f x)
+pub exchanged : {A : Type 0} (f : A → DeviceState) (xs : List A) (at : ℕ) (x y : A) → y ≡ x
+    → map f (set xs at y) ≡ set (map f xs) at (f x)
 exchanged f xs at x y same = map-set f xs at y ∙ ap (λ z. set (map f xs) at (f z)) same
 
-pub one_alike : (devices : List DeviceState) (k : ℕ) (after : DeviceState) → k < length devices → SameShape (nth_device devices k) after → after.contents ≡ (nth_device devices k).contents → AreAlike devices (set devices k after)
+pub one_alike : (devices : List DeviceState) (k : ℕ) (after : DeviceState) → k < length devices
+    → SameShape (nth_device devices k) after → after.contents ≡ (nth_device devices k).contents
+    → AreAlike devices (set devices k after)
 one_alike devices k after lt shape contents = record {
   count = length-set devices k after;
   each = at_set no_device (λ j d. SameShape (nth_device devices j) d × (d.contents ≡ (nth_device devices j).contents)) devices k after lt (shape, contents) (λ j ne. (same_shape (nth_device devices j), refl));
 }
 
-pub one_kept : (frames : List FrameState) (old new : List DeviceState) (k : ℕ) (after : DeviceState) → k < length old → new ≡ set old k after → SameShape (nth_device old k) after → after.contents ≡ (nth_device old k).contents → KeptDevices frames old new
+pub one_kept : (frames : List FrameState) (old new : List DeviceState) (k : ℕ) (after : DeviceState)
+    → k < length old → new ≡ set old k after → SameShape (nth_device old k) after
+    → after.contents ≡ (nth_device old k).contents → KeptDevices frames old new
 one_kept frames old new k after lt is shape contents = alike_kept frames old new (subst (λ ds. AreAlike old ds) (sym is) (one_alike old k after lt shape contents))
 
-pub down_there : {frames : List FrameState} {s t : PoolState} {k : ℕ} → WritesBack frames s t → k < length s.devices → k < length t.devices
+pub down_there : {frames : List FrameState} {s t : PoolState} {k : ℕ} → WritesBack frames s t
+    → k < length s.devices → k < length t.devices
 down_there {k = k} down there = subst (λ n. k < n) (sym down.devices.count) there
 
 -- the flush of the device after its pages were written back
-pub flush_one_down : (which : Devices) (n : ℕ) (s t u : PoolState) (k : ℕ) (after : DeviceState) → WritesBack (cleaned_selected which n s.frames) s t → k < length s.devices → u.frames ≡ t.frames → (u.page_size ≡ t.page_size) × (u.spare ≡ t.spare) → u.devices ≡ set t.devices k after → IsFlushed (nth_device t.devices k) after → WritesBack (cleaned_selected which n s.frames) s u
+pub flush_one_down : (which : Devices) (n : ℕ) (s t u : PoolState) (k : ℕ) (after : DeviceState)
+    → WritesBack (cleaned_selected which n s.frames) s t → k < length s.devices
+    → u.frames ≡ t.frames → (u.page_size ≡ t.page_size) × (u.spare ≡ t.spare)
+    → u.devices ≡ set t.devices k after → IsFlushed (nth_device t.devices k) after
+    → WritesBack (cleaned_selected which n s.frames) s u
 flush_one_down which n s t u k after down there frames same is flushed =
     let lt = down_there down there in
     flush_down which n s t u down frames same
     (subst (λ ds. AreAlike t.devices ds) (sym is) (one_alike t.devices k after lt flushed.shape flushed.contents))
     (failures_kept t.devices u.devices k after is flushed.failures)
 
-pub flush_one_fails : (which : Devices) (n : ℕ) (s t u : PoolState) (k : ℕ) (after : DeviceState) → WritesBack (cleaned_selected which n s.frames) s t → k < length s.devices → u.frames ≡ t.frames → (u.page_size ≡ t.page_size) × (u.spare ≡ t.spare) → u.devices ≡ set t.devices k after → FlushFails (nth_device t.devices k) after → FailsAt (view_of s) k (view_of u)
+pub flush_one_fails : (which : Devices) (n : ℕ) (s t u : PoolState) (k : ℕ) (after : DeviceState)
+    → WritesBack (cleaned_selected which n s.frames) s t → k < length s.devices
+    → u.frames ≡ t.frames → (u.page_size ≡ t.page_size) × (u.spare ≡ t.spare)
+    → u.devices ≡ set t.devices k after → FlushFails (nth_device t.devices k) after
+    → FailsAt (view_of s) k (view_of u)
 flush_one_fails which n s t u k after down there frames same is fails =
     let lt = down_there down there in
     let alike : AreAlike t.devices u.devices = subst (λ ds. AreAlike t.devices ds) (sym is) (one_alike t.devices k after lt fails.shape fails.contents) in
@@ -60,7 +74,8 @@ flush_one_fails which n s t u k after down there frames same is fails =
 
 -- Frames of which those of one device were emptied
 
-off_device : (dev : ℕ) (f : FrameState) (p : PageId) → (vacate_if (One dev) f).page ≡ Some p → p.dev ≢ dev
+off_device : (dev : ℕ) (f : FrameState) (p : PageId) → (vacate_if (One dev) f).page ≡ Some p
+    → p.dev ≢ dev
 off_device dev f p is same = elim (cases_Bool (is_on dev f.page)) [
   | inl on ↦ let no : None ≡ Some p = sym (ap (λ b. (cond b (vacated f) f).page) on) ∙ is in absurd (cc)
   | inr isnt ↦
@@ -68,10 +83,13 @@ off_device dev f p is same = elim (cases_Bool (is_on dev f.page)) [
       absurd (false≢true (sym isnt ∙ ap (is_on dev) held ∙ eq-eqb p.dev dev same))
 ]
 
-away_from : (dev : ℕ) (frames : List FrameState) (i : ℕ) (p : PageId) → (nth_frame (vacated_selected (One dev) frames) i).page ≡ Some p → p.dev ≢ dev
+away_from : (dev : ℕ) (frames : List FrameState) (i : ℕ) (p : PageId)
+    → (nth_frame (vacated_selected (One dev) frames) i).page ≡ Some p → p.dev ≢ dev
 away_from dev frames i p is = off_device dev (nth_frame frames i) p (sym (ap (λ f. f.page) (nth_vacated (One dev) frames i)) ∙ is)
 
-held_vacated : (dev : ℕ) (f : FrameState) (p : PageId) (others : List ℕ) → p.dev ≢ dev → cond (is_page p (vacate_if (One dev) f).page) (vacate_if (One dev) f).bytes others ≡ cond (is_page p f.page) f.bytes others
+held_vacated : (dev : ℕ) (f : FrameState) (p : PageId) (others : List ℕ) → p.dev ≢ dev
+    → cond (is_page p (vacate_if (One dev) f).page) (vacate_if (One dev) f).bytes others
+    ≡ cond (is_page p f.page) f.bytes others
 held_vacated dev f p others ne = elim (cases_Bool (is_on dev f.page)) [
   | inl on ↦
       ap (λ b. cond (is_page p (cond b (vacated f) f).page) (cond b (vacated f) f).bytes others) on
@@ -85,30 +103,37 @@ held_vacated dev f p others ne = elim (cases_Bool (is_on dev f.page)) [
       | inr isnt ↦ isnt
     ]
 
-bytes_vacated : (dev : ℕ) (frames : List FrameState) (p : PageId) (others : List ℕ) → p.dev ≢ dev → bytes_in (vacated_selected (One dev) frames) p others ≡ bytes_in frames p others
+bytes_vacated : (dev : ℕ) (frames : List FrameState) (p : PageId) (others : List ℕ) → p.dev ≢ dev
+    → bytes_in (vacated_selected (One dev) frames) p others ≡ bytes_in frames p others
 bytes_vacated dev [] p others ne = refl
 bytes_vacated dev (f ∷ frames) p others ne = held_vacated dev f p (bytes_in (vacated_selected (One dev) frames) p others) ne ∙ ap (λ rest. cond (is_page p f.page) f.bytes rest) (bytes_vacated dev frames p others ne)
 
 abbrev emptied_on : ℕ → FrameView → FrameView
 emptied_on dev f = cond (is_on dev f.page) (emptied f) f
 
-one_seen : (dev : ℕ) (f : FrameState) → frame_view (vacate_if (One dev) f) ≡ emptied_on dev (frame_view f)
+one_seen : (dev : ℕ) (f : FrameState)
+    → frame_view (vacate_if (One dev) f) ≡ emptied_on dev (frame_view f)
 one_seen dev f = elim (is_on dev f.page) as (λ b. frame_view (cond b (vacated f) f) ≡ cond b (emptied (frame_view f)) (frame_view f)) [ true ↦ refl | false ↦ refl ]
 
-seen_vacated : (dev : ℕ) (frames : List FrameState) → map frame_view (vacated_selected (One dev) frames) ≡ map (emptied_on dev) (map frame_view frames)
+seen_vacated : (dev : ℕ) (frames : List FrameState)
+    → map frame_view (vacated_selected (One dev) frames)
+    ≡ map (emptied_on dev) (map frame_view frames)
 seen_vacated dev [] = refl
 seen_vacated dev (f ∷ frames) = ap₂ (λ (x : FrameView) (rest : List FrameView). x ∷ rest) (one_seen dev f) (seen_vacated dev frames)
 
 -- The pool with the other device
 
-pub may_retire : (s : PoolState) (dev : ℕ) (device : DeviceState) → dev < length s.devices → device.page_size ≡ s.page_size → AreUnfixed (One dev) s.frames → MayRetire (view_of s) dev device
+pub may_retire : (s : PoolState) (dev : ℕ) (device : DeviceState) → dev < length s.devices
+    → device.page_size ≡ s.page_size → AreUnfixed (One dev) s.frames
+    → MayRetire (view_of s) dev device
 may_retire s dev device there size unfixed = record {
   there = subst (λ n. dev < n) (sym (length-map s.devices _)) there;
   size = size;
   unfixed = λ i on. ap (λ f. f.fixes) (frame_seen s i) ∙ unfixed i (subst (λ f. IsTrue (is_on dev f.page)) (frame_seen s i) on);
 }
 
-module _ (dev : ℕ) (t : PoolState) (device : DeviceState) (there : dev < length t.devices) (size : device.page_size ≡ t.page_size) (unfixed : AreUnfixed (One dev) t.frames) where
+module _ (dev : ℕ) (t : PoolState) (device : DeviceState) (there : dev < length t.devices)
+    (size : device.page_size ≡ t.page_size) (unfixed : AreUnfixed (One dev) t.frames) where
   abbrev u : PoolState
   u = retired t dev device
 
@@ -145,14 +170,17 @@ module _ (dev : ℕ) (t : PoolState) (device : DeviceState) (there : dev < lengt
         bare = v.bare;
       }
 
-  new_contents : (n : ℕ) → n < device.pages → contents_at (view_of u) (record { dev = dev; no = n }) ≡ cond device.honest (page_at device.contents n) []
+  new_contents : (n : ℕ) → n < device.pages
+      → contents_at (view_of u) (record { dev = dev; no = n })
+      ≡ cond device.honest (page_at device.contents n) []
   new_contents n low =
       let p : PageId = record { dev = dev; no = n } in
       contents_seen u p (subst (λ m. dev < m) (sym same_count) there) (subst (λ d. n < d.pages) (sym new_here) low)
       ∙ bytes_nowhere u.frames p (stored u.devices p) (λ i is. away_from dev t.frames i p is refl)
       ∙ ap (λ d. cond d.honest (page_at d.contents n) []) new_here
 
-  other_contents : (p : PageId) → HasPage (view_of t) p → p.dev ≢ dev → contents_at (view_of u) p ≡ contents_at (view_of t) p
+  other_contents : (p : PageId) → HasPage (view_of t) p → p.dev ≢ dev
+      → contents_at (view_of u) p ≡ contents_at (view_of t) p
   other_contents p has ne =
       let same = new_other p.dev ne in
       let low : p.dev < length t.devices = subst (λ n. p.dev < n) (length-map t.devices _) has.device in
@@ -176,19 +204,25 @@ module _ (dev : ℕ) (t : PoolState) (device : DeviceState) (there : dev < lengt
     others = other_contents;
   }
 
-  pub retired_view : (s : PoolState) → view_of t ≡ view_of s → Retired (view_of s) dev device (view_of u)
+  pub retired_view : (s : PoolState) → view_of t ≡ view_of s
+      → Retired (view_of s) dev device (view_of u)
   retired_view s same = subst (λ v. Retired v dev device (view_of u)) same retired_seen
 
 -- the same, where frames and devices are said by equations
-pub took_in : (old new : FramesState) (spare : ℕ) (devices later : List DeviceState) (dev : ℕ) (device : DeviceState) → IsPool (pool_from old spare devices) → dev < length devices → device.page_size ≡ old.page_size
-    → AreUnfixed (One dev) old.frames → new ≡ record old { frames = vacated_selected (One dev) old.frames } → later ≡ set devices dev device → IsPool (pool_from new spare later)
+pub took_in : (old new : FramesState) (spare : ℕ) (devices later : List DeviceState) (dev : ℕ)
+    (device : DeviceState) → IsPool (pool_from old spare devices) → dev < length devices
+    → device.page_size ≡ old.page_size
+    → AreUnfixed (One dev) old.frames
+    → new ≡ record old { frames = vacated_selected (One dev) old.frames }
+    → later ≡ set devices dev device → IsPool (pool_from new spare later)
 took_in old new spare devices later dev device w there size unfixed is becomes =
     subst (λ (f : FramesState). IsPool (pool_from f spare later)) (sym is)
     (subst (λ ds. IsPool (pool_from (record old { frames = vacated_selected (One dev) old.frames }) spare ds)) (sym becomes)
     (retired_pool dev (pool_from old spare devices) device there size unfixed w))
 
 -- why a device isn't retired
-pub fixed_on : (s : PoolState) (dev : ℕ) → IsPool s → IsFixedIn (One dev) s.frames → IsFixedOn (view_of s) dev
+pub fixed_on : (s : PoolState) (dev : ℕ) → IsPool s → IsFixedIn (One dev) s.frames
+    → IsFixedOn (view_of s) dev
 fixed_on s dev w fixed = record {
   frame = fixed.frame;
   there = subst (λ n. fixed.frame < n) (sym (length-map s.frames _)) fixed.there;
@@ -198,26 +232,33 @@ fixed_on s dev w fixed = record {
 
 -- What is known once way was made
 
-pub way_unfixed : (s t : PoolState) (dev size : ℕ) → PreparesRetire s dev size t → AreUnfixed (One dev) t.frames
+pub way_unfixed : (s t : PoolState) (dev size : ℕ) → PreparesRetire s dev size t
+    → AreUnfixed (One dev) t.frames
 way_unfixed s t dev size way = unfixed_to (One dev) (length s.frames) s.frames t.frames way.down.becomes way.unfixed
 
-pub way_clean : (s t : PoolState) (dev size : ℕ) → PreparesRetire s dev size t → AreClean (One dev) t.frames
+pub way_clean : (s t : PoolState) (dev size : ℕ) → PreparesRetire s dev size t
+    → AreClean (One dev) t.frames
 way_clean s t dev size way = clean_to (One dev) s.frames t.frames way.down.becomes
 
-pub retire_view : (s t u : PoolState) (dev size : ℕ) (device : DeviceState) → PreparesRetire s dev size t → size ≡ device.page_size → u ≡ retired t dev device → Retired (view_of s) dev device (view_of u)
+pub retire_view : (s t u : PoolState) (dev size : ℕ) (device : DeviceState)
+    → PreparesRetire s dev size t → size ≡ device.page_size → u ≡ retired t dev device
+    → Retired (view_of s) dev device (view_of u)
 retire_view s t u dev size device way same is =
     subst (λ x. Retired (view_of s) dev device (view_of x)) (sym is)
     (retired_view dev t device (down_there way.down way.there) (sym same ∙ way.size ∙ sym way.down.same.0) (way_unfixed s t dev size way) s (down_view (One dev) (length s.frames) s t way.down))
 
-pub retire_ranked : (t u : PoolState) (dev : ℕ) (device : DeviceState) (h : HistoryView) → u ≡ retired t dev device → RankedBy t h → RankedBy u h
+pub retire_ranked : (t u : PoolState) (dev : ℕ) (device : DeviceState) (h : HistoryView)
+    → u ≡ retired t dev device → RankedBy t h → RankedBy u h
 retire_ranked t u dev device h is ranked = subst (λ x. RankedBy x h) (sym is) (vacated_ranked (One dev) t.frames h ranked)
 
 -- frames of other devices, after the pages of one were written back, and after these were evicted
-pub elsewhere_cleaned : (dev n : ℕ) (old new : List FrameState) → new ≡ cleaned_selected (One dev) n old
+pub elsewhere_cleaned : (dev n : ℕ) (old new : List FrameState)
+    → new ≡ cleaned_selected (One dev) n old
     → (i : ℕ) → is_on dev (nth_frame old i).page ≡ false → nth_frame new i ≡ nth_frame old i
 elsewhere_cleaned dev n old new is i not = ap (λ frames. nth_frame frames i) is ∙ nth_other (One dev) n old i not
 
-pub elsewhere_retired : (s t u : PoolState) (dev : ℕ) (device : DeviceState) → KeepsElsewhere dev s t → u ≡ retired t dev device → KeepsElsewhere dev s u
+pub elsewhere_retired : (s t u : PoolState) (dev : ℕ) (device : DeviceState)
+    → KeepsElsewhere dev s t → u ≡ retired t dev device → KeepsElsewhere dev s u
 elsewhere_retired s t u dev device kept is i not =
     let stays : is_on dev (nth_frame t.frames i).page ≡ false = ap (λ f. is_on dev f.page) (kept i not) ∙ not in
     ap (λ x. nth_frame x.frames i) is ∙ nth_vacated (One dev) t.frames i

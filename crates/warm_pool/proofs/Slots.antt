@@ -6,7 +6,8 @@ use Rattle.std.proofs.Math.ListN.{get_or-map as mapped}
 use Rattle.warm_rank.specs.declared.RankKey.{RankKey}
 
 -- what holds of the item that changed, and of the others, holds of each
-pub at_set : {A : Type 0} (d : A) (P : ℕ → A → Type 0) (xs : List A) (i : ℕ) (y : A) → i < length xs → P i y
+pub at_set : {A : Type 0} (d : A) (P : ℕ → A → Type 0) (xs : List A) (i : ℕ) (y : A) → i < length xs
+    → P i y
     → ((j : ℕ) → j ≢ i → P j (get_or xs j d)) → (j : ℕ) → P j (get_or (set xs i y) j d)
 at_set d P xs i y h here others j = elim (cases_eq j i) [
   | inl e ↦ subst (λ n. P n (get_or (set xs i y) n d)) (sym e) (subst (P i) (sym (get_or-set_same xs i y d h)) here)

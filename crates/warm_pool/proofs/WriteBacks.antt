@@ -18,7 +18,8 @@ use Rattle.warm_pool.proofs.DeviceSteps.{write_keeps, failures_kept, fails_at}
 use Rattle.warm_pool.proofs.Loads.{Failed, on_ok}
 
 -- a page q in frame i that was written to was written to its device
-pub record WroteBack (s : PoolState) (new : List DeviceState) (i : ℕ) (q : PageId) (bytes : List ℕ) (result : Result (Unit {0}) DeviceFault) : Type 0 where
+pub record WroteBack (s : PoolState) (new : List DeviceState) (i : ℕ) (q : PageId) (bytes : List ℕ)
+    (result : Result (Unit {0}) DeviceFault) : Type 0 where
   pub pool : IsPool s
   pub there : i < length s.frames
   pub holds : (nth_frame s.frames i).page ≡ Some q
@@ -26,12 +27,15 @@ pub record WroteBack (s : PoolState) (new : List DeviceState) (i : ℕ) (q : Pag
   pub bytes_are : bytes ≡ (nth_frame s.frames i).bytes
   pub call : PageWrite s.devices new q.dev q.no bytes result
 
-pub wrote_back : {s : PoolState} {new : List DeviceState} {i : ℕ} {q : PageId} {bytes : List ℕ} {result : Result (Unit {0}) DeviceFault}
-    → IsPool s → i < length s.frames → (nth_frame s.frames i).page ≡ Some q → (nth_frame s.frames i).dirty ≡ true → bytes ≡ (nth_frame s.frames i).bytes
+pub wrote_back : {s : PoolState} {new : List DeviceState} {i : ℕ} {q : PageId} {bytes : List ℕ}
+    {result : Result (Unit {0}) DeviceFault}
+    → IsPool s → i < length s.frames → (nth_frame s.frames i).page ≡ Some q
+    → (nth_frame s.frames i).dirty ≡ true → bytes ≡ (nth_frame s.frames i).bytes
     → PageWrite s.devices new q.dev q.no bytes result → WroteBack s new i q bytes result
 wrote_back pool there page dirty bytes call = record { pool = pool; there = there; holds = page; dirty = dirty; bytes_are = bytes; call = call }
 
-module _ (s : PoolState) (new : List DeviceState) (i : ℕ) (q : PageId) (bytes : List ℕ) (result : Result (Unit {0}) DeviceFault)
+module _ (s : PoolState) (new : List DeviceState) (i : ℕ) (q : PageId) (bytes : List ℕ)
+    (result : Result (Unit {0}) DeviceFault)
     (h : WroteBack s new i q bytes result) where
   kept : KeptDevices s.frames s.devices new
   kept = write_keeps s new i q bytes result h.pool h.holds h.dirty h.call
@@ -63,11 +67,13 @@ module _ (s : PoolState) (new : List DeviceState) (i : ℕ) (q : PageId) (bytes 
       grown = (subst (λ r. CountsFault Write r (nth_device s.devices q.dev) h.call.after) f.is h.call.call.faults).1
 
   module _ (ok : result ≡ Ok tt) where
-    on_device : IsTrue (nth_device new q.dev).honest → (nth_frame s.frames i).bytes ≡ page_at (nth_device new q.dev).contents q.no
+    on_device : IsTrue (nth_device new q.dev).honest
+        → (nth_frame s.frames i).bytes ≡ page_at (nth_device new q.dev).contents q.no
     on_device o =
         sym h.bytes_are ∙ sym (on_ok result ok h.call.call.written (subst IsTrue (kept.shape q.dev).honest o)) ∙ ap (λ d. page_at d.contents q.no) (sym after_is)
 
-    pub cleaned_pool : IsPool (record s { frames = set s.frames i (cleaned (nth_frame s.frames i)); devices = new })
+    pub cleaned_pool : IsPool
+        (record s { frames = set s.frames i (cleaned (nth_frame s.frames i)); devices = new })
     cleaned_pool = set_keeps_pool (record s { devices = new }) i (cleaned (nth_frame s.frames i)) (record {
       there = h.there;
       size = h.pool.frame_size i h.there;
@@ -79,7 +85,8 @@ module _ (s : PoolState) (new : List DeviceState) (i : ℕ) (q : PageId) (bytes 
       bare = λ e. let no : None ≡ Some q = sym e ∙ h.holds in absurd (cc);
     }) failed_pool
 
-    pub write_cleans : Cleans s i (record s { frames = set s.frames i (cleaned (nth_frame s.frames i)); devices = new })
+    pub write_cleans : Cleans s i
+        (record s { frames = set s.frames i (cleaned (nth_frame s.frames i)); devices = new })
     write_cleans = record {
       frames = refl;
       devices = kept;
@@ -115,13 +122,17 @@ cleans_view s t i c =
     ∙ view_of_kept s t.devices c.devices
     ∙ ap (λ (failures : List ℕ). let v : PoolView = record (view_of s) { failures = failures } in v) c.failures
   where
-    unseen : set (map frame_view s.frames) i (frame_view (nth_frame s.frames i)) ≡ map frame_view s.frames
+    unseen : set (map frame_view s.frames) i (frame_view (nth_frame s.frames i))
+        ≡ map frame_view s.frames
     unseen = ap (set (map frame_view s.frames) i) (sym (mapped frame_view s.frames i (fresh_frame []))) ∙ set-get_or (map frame_view s.frames) i (frame_view (fresh_frame []))
 
 -- the same, of a pool whose frames are given by an equation
-pub cleaned_to : (old new : FramesState) {spare : ℕ} {devices ds : List DeviceState} {i : ℕ} {q : PageId} {bytes : List ℕ} {result : Result (Unit {0}) DeviceFault}
-    → WroteBack (pool_from old spare devices) ds i q bytes result → result ≡ Ok tt → new ≡ record old { frames = set old.frames i (cleaned (nth_frame old.frames i)) }
-    → IsPool (pool_from new spare ds) × Cleans (pool_from old spare devices) i (pool_from new spare ds)
+pub cleaned_to : (old new : FramesState) {spare : ℕ} {devices ds : List DeviceState} {i : ℕ}
+    {q : PageId} {bytes : List ℕ} {result : Result (Unit {0}) DeviceFault}
+    → WroteBack (pool_from old spare devices) ds i q bytes result → result ≡ Ok tt
+    → new ≡ record old { frames = set old.frames i (cleaned (nth_frame old.frames i)) }
+    → IsPool (pool_from new spare ds)
+    × Cleans (pool_from old spare devices) i (pool_from new spare ds)
 cleaned_to old new {spare} {devices} {ds} {i} {q} {bytes} {result} h ok e =
     subst (λ x. IsPool (pool_from x spare ds) × Cleans (pool_from old spare devices) i (pool_from x spare ds)) (sym e)
     (cleaned_pool (pool_from old spare devices) ds i q bytes result h ok, write_cleans (pool_from old spare devices) ds i q bytes result h ok)
