@@ -29,11 +29,11 @@ use Rattle.warm_history.proofs.EntryLemmas.{takes_in}
 use Rattle.warm_history.proofs.MapKeyOrder.{nat_order, same_key, rising_pages}
 use Rattle.warm_history.proofs.OrderLemmas.{both_same, either_first, get-in_order, in_order_rises, IsHistory-in_order, PagesDiffer, permuted_in_order, get-filter}
 use Rattle.warm_stamps.specs.declared.Reference.{Reference}
-use Rattle.warm_history.specs.MapKeys.{page_of_key, IsMapKey}
+use Rattle.warm_history.specs.MapKeys.{key_of_page, page_of_key, IsMapKey}
 use Rattle.warm_history.specs.MapPairs.{MapPairs, as_entries, kept, AreKept}
 use Rattle.warm_history.specs.BucketMaps.{KeysAscend, found}
 use Rattle.warm_history.specs.Undo.{put_back, undone, notes_of}
-use Rattle.warm_history.specs.declared.bucket_maps.UndoNote.{UndoNote}
+use Rattle.warm_history.specs.declared.bucket_map.UndoNote.{UndoNote}
 
 abbrev pub AreKeys : MapPairs → Type 0
 AreKeys pairs = AllByRecursion (λ e. IsMapKey e.0) pairs
@@ -233,9 +233,9 @@ exact_pair old new p more h known is are is_known latest is_new =
 
 -- ---- a list of changes undone
 
-pub undone_last : (ks : List UndoNote) (k : UndoNote) (pairs : MapPairs) → undone (ks ++ k ∷ []) pairs ≡ undone ks (put_back k.key k.hist pairs)
+pub undone_last : (ks : List UndoNote) (k : UndoNote) (pairs : MapPairs) → undone (ks ++ k ∷ []) pairs ≡ undone ks (put_back (key_of_page k.page) k.hist pairs)
 undone_last [] k pairs = refl
-undone_last (x ∷ ks) k pairs = ap (put_back x.key x.hist) (undone_last ks k pairs)
+undone_last (x ∷ ks) k pairs = ap (put_back (key_of_page x.page) x.hist) (undone_last ks k pairs)
 
 -- a change is undone before those that were notes_of earlier
 pub undone_more : (ks : List UndoNote) (change : Option UndoNote) (k : UndoNote) (old new : MapPairs) → change ≡ Some k → undone (notes_of change) new ≡ old → undone (ks ++ k ∷ []) new ≡ undone ks old

@@ -10,6 +10,7 @@
 //! repeated or reordered on the way: see [`laws`].
 #![tactic(auto)]
 
+mod bucket_map;
 mod bucket_maps;
 mod cut;
 mod hist;

@@ -6,7 +6,7 @@ use Rattle.std.proofs.lemmas.Map.Steps.{set_value_same}
 use Rattle.warm_history.specs.Histories.{hist_stamps, known_stamps, latest_of}
 use Rattle.warm_history.specs.MapPairs.{MapPairs}
 use Rattle.warm_history.proofs.MapPairLemmas.{set-insert}
-use Rattle.warm_history.proofs.bucket_maps.record_likely_known.Goals as goal
+use Rattle.warm_history.proofs.bucket_map.record_likely_known.Goals as goal
 
 -- the page is there, and its value is unchanged
 pub returns-in_default-merge_into-clause-ok : goal.returns-in_default-merge_into-clause-ok
