@@ -27,8 +27,8 @@ use warm_stamps::{Bucket, BucketSet, PageId, Reference};
 /// The entries of a bucket lie together, so an operation on a bucket costs only that bucket's size.
 ///
 /// Calls that add are all or nothing: where an allocation fails, the history is unchanged.
-/// `AllocError` also refuses the page by which a bucket would have 2^57 pages of devices below 64, or
-/// as many of others: more than fit into any memory.
+/// `AllocError` also refuses the page by which a bucket would have 2^57 pages of devices below 64,
+/// or as many of others: more than fit into any memory.
 #[derive(Debug)]
 pub struct History {
     alloc: Global,
@@ -238,11 +238,11 @@ impl History {
     /// buckets whose entries changed, as [`History::absorb`] does: buckets that lost a stamp to the
     /// horizon are included.
     ///
-    /// The entries are scanned once, and each page is looked up in this history. Four or more entries
-    /// of one bucket, with rising pages of devices below 64, are not looked up: they and the bucket's
-    /// entries are read in one walk. `AllocError` occurs where the allocation of the undo list (the old values of these
-    /// pages), of a list of entries that are new or change, or of a new page fails, and changes
-    /// nothing.
+    /// The entries are scanned once, and each page is looked up in this history. Four or more
+    /// entries of one bucket, with rising pages of devices below 64, are not looked up: they and
+    /// the bucket's entries are read in one walk. `AllocError` occurs where the allocation of the
+    /// undo list (the old values of these pages), of a list of entries that are new or change, or
+    /// of a new page fails, and changes nothing.
     pub fn join_entries(&mut self, horizon: u64, more: &[Entry]) -> Result<BucketSet, AllocError>
         ensures ok { OnOk result
             (TakesIn self.old (references_of (history_of_entries_at horizon more.now)) self.new) }
