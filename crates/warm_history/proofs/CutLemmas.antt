@@ -31,12 +31,12 @@ use Rattle.std.proofs.lemmas.List.Edits.{map_over_more}
 
 -- ---- what `retain` leaves
 
-module _ {F : Type 0} (T : F → ℕ → PageHist → Bool → PageHist → F → Type 0) (m : ℕ) (f : F) (says : (k : ℕ) (v : PageHist) (b : Bool) (w : PageHist) (g : F) → T f k v b w g → (cond b (Some w) None ≡ kept_hist m v) × (g ≡ f)) where
-  one : (b : Bool) (k : ℕ) (w : PageHist) (rest : MapPairs) → cond b ((k, w) ∷ rest) rest ≡ cons_option (option_map (λ h. (k, h)) (cond b (Some w) None)) rest
+module _ {K F : Type 0} (T : F → K → PageHist → Bool → PageHist → F → Type 0) (m : ℕ) (f : F) (says : (k : K) (v : PageHist) (b : Bool) (w : PageHist) (g : F) → T f k v b w g → (cond b (Some w) None ≡ kept_hist m v) × (g ≡ f)) where
+  one : (b : Bool) (k : K) (w : PageHist) (rest : List (K × PageHist)) → cond b ((k, w) ∷ rest) rest ≡ cons_option (option_map (λ h. (k, h)) (cond b (Some w) None)) rest
   one true k w rest = refl
   one false k w rest = refl
 
-  pub cut_from_retain : (es left : MapPairs) → RetainsPairs T f es left → left ≡ cut_at m es
+  pub cut_from_retain : (es left : List (K × PageHist)) → RetainsPairs T f es left → left ≡ cut_at m es
   cut_from_retain [] left is = is
   cut_from_retain (e ∷ es) left is =
       let call = says e.0 e.1 is.0 is.1 is.2 is.4 in

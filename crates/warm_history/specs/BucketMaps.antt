@@ -3,6 +3,7 @@ use Rattle.std.specs.Prelude.{◌≡◌, ◌≢◌, ℕ, Bool, true, List, [], �
 use Rattle.std.specs.List.{AllByRecursion}
 use Rattle.std.specs.Map.{lookup}
 use Rattle.std.specs.BTreeMap.{is_at, insert_entry}
+use Rattle.std.specs.declared.cmp.Ordering.{Ordering}
 use Rattle.std.specs.Ordering.{nat_cmp, on}
 use Rattle.warm_stamps.specs.Distinct.{IsAscending}
 use Rattle.warm_stamps.specs.declared.PageId.{PageId}
@@ -64,14 +65,21 @@ found key pairs = lookup (is_at (nat_cmp key)) pairs
 
 -- the note is of the page and gives the pairs' old value at the key, where h is the new one and
 -- differs; without a note the pairs are unchanged
-abbrev pub IsUndoNote : Option UndoNote → PageId → ℕ → PageHist → MapPairs → MapPairs → Type 0
-IsUndoNote None page key h old new = new ≡ old
-IsUndoNote (Some k) page key h old new = (k.page ≡ page) × (k.hist ≡ found key old) × (k.hist ≢ Some h)
+abbrev pub IsNoteAt : {K : Type 0} → (K → K → Ordering) → Option UndoNote → PageId → K → PageHist → List (K × PageHist) → List (K × PageHist) → Type 0
+IsNoteAt cmp None page key h old new = new ≡ old
+IsNoteAt cmp (Some k) page key h old new = (k.page ≡ page) × (k.hist ≡ lookup (is_at (cmp key)) old) × (k.hist ≢ Some h)
 
 -- new are the pairs old, with the two latest of the stamps there and those of `more` at the key of
--- the page
+-- the page; keys of any type, in the order that cmp gives
+abbrev pub RecordsAt : {K : Type 0} → (K → K → Ordering) → List (K × PageHist) → PageId → K → PageHist → Option UndoNote → List (K × PageHist) → Type 0
+RecordsAt cmp old page key more note new = (h : PageHist) × (Some h ≡ latest_of (hist_stamps more ++ known_stamps (lookup (is_at (cmp key)) old))) × (new ≡ insert_entry cmp old key h) × IsNoteAt cmp note page key h old new
+
+-- the same for keys that are numbers
+abbrev pub IsUndoNote : Option UndoNote → PageId → ℕ → PageHist → MapPairs → MapPairs → Type 0
+IsUndoNote note page key h old new = IsNoteAt nat_cmp note page key h old new
+
 abbrev pub RecordsStamps : MapPairs → PageId → ℕ → PageHist → Option UndoNote → MapPairs → Type 0
-RecordsStamps old page key more note new = (h : PageHist) × (Some h ≡ latest_of (hist_stamps more ++ known_stamps (found key old))) × (new ≡ insert_entry nat_cmp old key h) × IsUndoNote note page key h old new
+RecordsStamps old page key more note new = RecordsAt nat_cmp old page key more note new
 
 -- the value at the key has changed, if there is a note; without a note the pairs are unchanged
 abbrev pub SaysNote : Option UndoNote → ℕ → MapPairs → MapPairs → Type 0

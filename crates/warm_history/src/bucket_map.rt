@@ -18,7 +18,8 @@ ghost use Rattle.warm_history.specs.Walks.{AreTwoLatest, TellsChange, merged};
 
 use crate::hist::Entry;
 use crate::map_key::{NEAR_DEVICES, key_in, key_of_page, near_key, near_page, page_of_key};
-use crate::packed::{Packed, keep_cut, merge_into, prove_two_latest};
+use crate::packed::Packed;
+use crate::page_map::{forget_in, put_back_in, record_in};
 use crate::walk::merge_run;
 use std::alloc::{AllocError, Global};
 use std::collections::BTreeMap;
@@ -77,17 +78,13 @@ impl BucketMap {
 
     // Takes in the given stamps of a page of this bucket, and returns what was known of it where
     // that changes.
-    //
-    // Where the page is likely new it inserts first, and otherwise it looks the page up first: each
-    // is the faster way for its case.
     pub(crate) fn record(
         &mut self,
         page: PageId,
         more: Packed,
         likely_new: bool,
     ) -> Result<Option<UndoNote>, AllocError>
-        requires map { IsMapOf (page_bucket page) self.old }
-        requires rise { KeysAscend (full (page_bucket page) self.old) }
+        requires { IsMapOf (page_bucket page) self.old }
         ensures ok { IfOk result (λ note. RecordsStamps (full (page_bucket page) self.old)
             page (key_of_page page) more note (full (page_bucket page) self.new)) }
         ensures err { OnErr result
@@ -95,9 +92,9 @@ impl BucketMap {
         ensures map { IsMapOf (page_bucket page) self.new }
     {
         if page.dev < NEAR_DEVICES {
-            return record_near(&mut self.near, near_key(page), page, more, likely_new);
+            return record_in(&mut self.near, near_key(page), page, more, likely_new);
         }
-        record_far(&mut self.far, key_of_page(page), page, more)
+        record_in(&mut self.far, key_of_page(page), page, more, likely_new)
     }
 
     // Takes in a run of near pairs of this bucket, whose number this is, and returns whether that
@@ -131,9 +128,9 @@ impl BucketMap {
         ensures map { IsMapOf (page_bucket note.page) self.new }
     {
         if note.page.dev < NEAR_DEVICES {
-            put_back_near(&mut self.near, near_key(note.page), note.hist);
+            put_back_in(&mut self.near, near_key(note.page), note.hist);
         } else {
-            put_back_far(&mut self.far, key_of_page(note.page), note.hist);
+            put_back_in(&mut self.far, key_of_page(note.page), note.hist);
         }
     }
 
@@ -142,8 +139,8 @@ impl BucketMap {
         ensures near { self.new.near.entries ≡ cut_at horizon self.old.near.entries }
         ensures far { self.new.far.entries ≡ cut_at horizon self.old.far.entries }
     {
-        forget_near(&mut self.near, horizon);
-        forget_far(&mut self.far, horizon);
+        forget_in(&mut self.near, horizon);
+        forget_in(&mut self.far, horizon);
     }
 
     // All pairs of this bucket, whose number this is.
@@ -239,153 +236,4 @@ fn near_after(map: &BTreeMap<u64, Packed>, number: u8, last: PageId) -> Range<'_
         return map.range((Bound::Excluded(key), Bound::Unbounded));
     }
     map.range((Bound::Included(key), Bound::Unbounded))
-}
-
-// Takes in the given stamps of a page with this near key.
-fn record_near(
-    map: &mut BTreeMap<u64, Packed>,
-    key: u64,
-    page: PageId,
-    more: Packed,
-    likely_new: bool,
-) -> Result<Option<UndoNote>, AllocError>
-    requires { KeysAscend map.old.entries }
-    ensures ok { IfOk result
-        (λ note. RecordsStamps map.old.entries page key more note map.new.entries) }
-    ensures err { OnErr result (map.new.entries ≡ map.old.entries) }
-    ensures small { length map.old.entries < MAX_PAIRS → length map.new.entries < MAX_PAIRS }
-{
-    if likely_new && map.len() < MAX_PAIRS - 1 {
-        return record_likely_new(map, key, page, more);
-    }
-    record_likely_known(map, key, page, more)
-}
-
-// The same for a page that is likely new: it is inserted at once, which costs one descent of the
-// map where it is new and two where it is known.
-fn record_likely_new(
-    map: &mut BTreeMap<u64, Packed>,
-    key: u64,
-    page: PageId,
-    more: Packed,
-) -> Result<Option<UndoNote>, AllocError>
-    requires rise { KeysAscend map.old.entries }
-    requires few { length map.old.entries + 1 < MAX_PAIRS }
-    ensures ok { IfOk result
-        (λ note. RecordsStamps map.old.entries page key more note map.new.entries) }
-    ensures err { OnErr result (map.new.entries ≡ map.old.entries) }
-    ensures small { length map.new.entries < MAX_PAIRS }
-{
-    prove_two_latest(&more);
-    let Some(before) = map.insert(key, more)? else {
-        return Ok(Some(UndoNote { page, hist: None }));
-    };
-    let Some(known) = map.get_mut(&key) else {
-        unreachable!()
-    };
-    *known = before;
-    let Some(before) = merge_into(known, more) else {
-        return Ok(None);
-    };
-    let hist = Some(before);
-    Ok(Some(UndoNote { page, hist }))
-}
-
-// The same for a page that is likely known: it is looked up first, which costs one descent of the
-// map where it is known and two where it is new.
-fn record_likely_known(
-    map: &mut BTreeMap<u64, Packed>,
-    key: u64,
-    page: PageId,
-    more: Packed,
-) -> Result<Option<UndoNote>, AllocError>
-    requires { KeysAscend map.old.entries }
-    ensures ok { IfOk result
-        (λ note. RecordsStamps map.old.entries page key more note map.new.entries) }
-    ensures err { OnErr result (map.new.entries ≡ map.old.entries) }
-    ensures small { length map.old.entries < MAX_PAIRS → length map.new.entries < MAX_PAIRS }
-{
-    if let Some(known) = map.get_mut(&key) {
-        let Some(before) = merge_into(known, more) else {
-            return Ok(None);
-        };
-        let hist = Some(before);
-        return Ok(Some(UndoNote { page, hist }));
-    }
-    if map.len() >= MAX_PAIRS - 1 {
-        return Err(AllocError);
-    }
-    prove_two_latest(&more);
-    map.insert(key, more)?;
-    Ok(Some(UndoNote { page, hist: None }))
-}
-
-// Takes in the given stamps of a page of another device, which has this key.
-fn record_far(
-    map: &mut BTreeMap<u128, Packed>,
-    key: u128,
-    page: PageId,
-    more: Packed,
-) -> Result<Option<UndoNote>, AllocError>
-    requires { KeysAscend map.old.entries }
-    ensures ok { IfOk result
-        (λ note. RecordsStamps map.old.entries page key more note map.new.entries) }
-    ensures err { OnErr result (map.new.entries ≡ map.old.entries) }
-    ensures small { length map.old.entries < MAX_PAIRS → length map.new.entries < MAX_PAIRS }
-{
-    if let Some(known) = map.get_mut(&key) {
-        let Some(before) = merge_into(known, more) else {
-            return Ok(None);
-        };
-        let hist = Some(before);
-        return Ok(Some(UndoNote { page, hist }));
-    }
-    if map.len() >= MAX_PAIRS - 1 {
-        return Err(AllocError);
-    }
-    prove_two_latest(&more);
-    map.insert(key, more)?;
-    Ok(Some(UndoNote { page, hist: None }))
-}
-
-fn put_back_near(map: &mut BTreeMap<u64, Packed>, key: u64, known: Option<Packed>)
-    ensures { map.new.entries ≡ put_back key known map.old.entries }
-{
-    match known {
-        None => {
-            let _ = map.remove(&key);
-        }
-        Some(hist) => {
-            if let Some(now) = map.get_mut(&key) {
-                *now = hist;
-            }
-        }
-    }
-}
-
-fn put_back_far(map: &mut BTreeMap<u128, Packed>, key: u128, known: Option<Packed>)
-    ensures { map.new.entries ≡ put_back key known map.old.entries }
-{
-    match known {
-        None => {
-            let _ = map.remove(&key);
-        }
-        Some(hist) => {
-            if let Some(now) = map.get_mut(&key) {
-                *now = hist;
-            }
-        }
-    }
-}
-
-fn forget_near(map: &mut BTreeMap<u64, Packed>, horizon: u64)
-    ensures { map.new.entries ≡ cut_at horizon map.old.entries }
-{
-    map.retain(|_, hist| keep_cut(hist, horizon));
-}
-
-fn forget_far(map: &mut BTreeMap<u128, Packed>, horizon: u64)
-    ensures { map.new.entries ≡ cut_at horizon map.old.entries }
-{
-    map.retain(|_, hist| keep_cut(hist, horizon));
 }

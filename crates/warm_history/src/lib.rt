@@ -19,6 +19,7 @@ pub mod laws;
 mod map_key;
 mod merge_iter;
 mod packed;
+mod page_map;
 mod runs;
 mod take_in;
 mod walk;

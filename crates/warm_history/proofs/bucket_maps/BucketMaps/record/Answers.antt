@@ -1,17 +1,17 @@
 use Rattle.std.proofs.Common.{◌≡◌, ◌<◌, sym, subst, ◌∙◌, arith, length, get_or, IfOk, OnErr}
 use Rattle.std.proofs.lemmas.Result.{IfOk-weaker}
 use Rattle.warm_stamps.specs.Buckets.{page_bucket}
-use Rattle.warm_history.specs.BucketMaps.{all_pairs, KeysAscend, LiesIn, RecordsStamps}
+use Rattle.warm_history.specs.BucketMaps.{LiesIn, RecordsStamps}
 use Rattle.warm_history.specs.MapKeys.{key_of_page}
 use Rattle.warm_history.specs.MapPairs.{AreKept}
-use Rattle.warm_history.specs.NearPairs.{full, fulls, IsMapOf}
-use Rattle.warm_history.proofs.BucketSteps.{map_rises, ok_then, either_way, records_exact, records_whole, records_undo, records_tell}
-use Rattle.warm_history.proofs.FullMaps.{all_with, length_set, map_at_fulls, map_of, maps_with, recorded, unchanged}
+use Rattle.warm_history.specs.NearPairs.{full, IsMapOf}
+use Rattle.warm_history.proofs.BucketSteps.{ok_then, either_way, records_exact, records_whole, records_undo, records_tell}
+use Rattle.warm_history.proofs.FullMaps.{all_with, length_set, map_of, maps_with, recorded, unchanged}
 use Rattle.warm_history.proofs.NearKeys.{own_bucket_of, page_key}
 use Rattle.warm_history.proofs.bucket_maps.BucketMaps.record.Goals as goal
 
-pub record-requires-clause-map : goal.record-requires-clause-map
-record-requires-clause-map c =
+pub record-requires : goal.record-requires
+record-requires c =
     let maps = c.self.inside.maps in
     let i = c.get.result in
     let d = c.index-self-get.result in
@@ -19,17 +19,6 @@ record-requires-clause-map c =
     let long : length maps ≡ 64 = c.self.invariant.0 in
     let there : i < length maps = omega (arith, long, c.get.ensures.below) in
     subst (λ b. IsMapOf b (get_or maps i d)) own (map_of i d maps c.self.invariant.1 there)
-
-pub record-requires-clause-rise : goal.record-requires-clause-rise
-record-requires-clause-rise c =
-    let maps = c.self.inside.maps in
-    let i = c.get.result in
-    let d = c.index-self-get.result in
-    let own : i ≡ page_bucket c.args.page = c.get.ensures.value ∙ c.bucket_of.ensures in
-    let long : length maps ≡ 64 = c.self.invariant.0 in
-    let there : i < length maps = omega (arith, long, c.get.ensures.below) in
-    let rise : KeysAscend (all_pairs (fulls 0 maps)) = subst KeysAscend (sym c.self.view_is) c.requires.keys_ascend in
-    subst (λ b. KeysAscend (full b (get_or maps i d))) own (subst KeysAscend (map_at_fulls i d maps there) (map_rises i (fulls 0 maps) rise))
 
 pub invariant_of-self : goal.invariant_of-self
 invariant_of-self c =
