@@ -1,21 +1,21 @@
 -- What is done to the map of a bucket is done to all maps together.
-use Rattle.std.proofs.Common.{◌≡◌, ℕ, Bool, true, false, cond, List, [], ◌∷◌, ◌++◌, sym, ap, refl, ◌∙◌, arith, Some, None, length, zero, suc, filter, get_or, ◌/◌, ◌+◌, ◌<◌, ◌≤◌}
+use Rattle.std.proofs.Common.{◌≡◌, ℕ, Bool, true, false, cond, List, [], ◌∷◌, ◌++◌, sym, ap, refl, ◌∙◌, arith, Some, None, length, zero, suc, filter, ◌/◌, ◌+◌, ◌<◌, ◌≤◌}
 use Rattle.std.specs.List.{AllByRecursion}
 use Rattle.std.specs.Map.{remove_entry, set_value}
-use Rattle.std.specs.BTreeMap.{BTreeMap, is_at, insert_entry}
+use Rattle.std.specs.BTreeMap.{is_at, insert_entry}
 use Rattle.std.specs.Ordering.{is_eq, nat_cmp}
 use Rattle.std.specs.Cmp.{nat_cmp_is}
 use Rattle.std.specs.declared.cmp.Ordering.TheVariants.{Less, Greater}
 use Rattle.warm_history.specs.declared.hist.PageHist.{PageHist}
 use Rattle.warm_history.specs.MapKeys.{first_key}
 use Rattle.warm_history.specs.MapPairs.{MapPairs}
-use Rattle.warm_history.specs.BucketMaps.{pairs_of_maps, all_pairs, LiesIn, AreBuckets, map_at, with_map, found}
+use Rattle.warm_history.specs.BucketMaps.{all_pairs, LiesIn, AreBuckets, map_at, with_map, found}
 use Rattle.warm_stamps.proofs.DistinctLemmas.{by_cases}
 
-abbrev AreBelow : ℕ → MapPairs → Type 0
+abbrev pub AreBelow : ℕ → MapPairs → Type 0
 AreBelow p pairs = AllByRecursion (λ e. e.0 < p) pairs
 
-abbrev AreAbove : ℕ → MapPairs → Type 0
+abbrev pub AreAbove : ℕ → MapPairs → Type 0
 AreAbove p pairs = AllByRecursion (λ e. p < e.0) pairs
 
 above : (p k : ℕ) → k < p → nat_cmp p k ≡ Greater
@@ -26,7 +26,7 @@ below p k less = sym (nat_cmp_is p k Less less)
 
 -- ---- pairs before and after the requested ones
 
-find_after_lower : (p : ℕ) (low rest : MapPairs) → AreBelow p low → found p (low ++ rest) ≡ found p rest
+pub find_after_lower : (p : ℕ) (low rest : MapPairs) → AreBelow p low → found p (low ++ rest) ≡ found p rest
 find_after_lower p [] rest all = refl
 find_after_lower p (e ∷ low) rest all = let more : nat_cmp p e.0 ≡ Greater = above p e.0 all.0 in rw more (find_after_lower p low rest all.1)
 
@@ -34,11 +34,11 @@ find_none_above : (p : ℕ) (high : MapPairs) → AreAbove p high → found p hi
 find_none_above p [] all = refl
 find_none_above p (e ∷ high) all = let less : nat_cmp p e.0 ≡ Less = below p e.0 all.0 in rw less (find_none_above p high all.1)
 
-find_before_higher : (p : ℕ) (pairs high : MapPairs) → AreAbove p high → found p (pairs ++ high) ≡ found p pairs
+pub find_before_higher : (p : ℕ) (pairs high : MapPairs) → AreAbove p high → found p (pairs ++ high) ≡ found p pairs
 find_before_higher p [] high all = find_none_above p high all
 find_before_higher p (e ∷ pairs) high all = ap (cond (is_eq (nat_cmp p e.0)) (Some e.1)) (find_before_higher p pairs high all)
 
-insert_after_lower : (p : ℕ) (h : PageHist) (low rest : MapPairs) → AreBelow p low → insert_entry nat_cmp (low ++ rest) p h ≡ low ++ insert_entry nat_cmp rest p h
+pub insert_after_lower : (p : ℕ) (h : PageHist) (low rest : MapPairs) → AreBelow p low → insert_entry nat_cmp (low ++ rest) p h ≡ low ++ insert_entry nat_cmp rest p h
 insert_after_lower p h [] rest all = refl
 insert_after_lower p h (e ∷ low) rest all = let more : nat_cmp p e.0 ≡ Greater = above p e.0 all.0 in rw more (ap (λ t. e ∷ t) (insert_after_lower p h low rest all.1))
 
@@ -46,14 +46,14 @@ insert_first : (p : ℕ) (h : PageHist) (high : MapPairs) → AreAbove p high �
 insert_first p h [] all = refl
 insert_first p h (e ∷ high) all = let less : nat_cmp p e.0 ≡ Less = below p e.0 all.0 in rw less refl
 
-insert_before_higher : (p : ℕ) (h : PageHist) (pairs high : MapPairs) → AreAbove p high → insert_entry nat_cmp (pairs ++ high) p h ≡ insert_entry nat_cmp pairs p h ++ high
+pub insert_before_higher : (p : ℕ) (h : PageHist) (pairs high : MapPairs) → AreAbove p high → insert_entry nat_cmp (pairs ++ high) p h ≡ insert_entry nat_cmp pairs p h ++ high
 insert_before_higher p h [] high all = insert_first p h high all
 insert_before_higher p h (e ∷ pairs) high all = by_cases (nat_cmp p e.0) _
     (λ is. rw is refl)
     (λ is. rw is refl)
     (λ is. rw is (ap (λ t. e ∷ t) (insert_before_higher p h pairs high all)))
 
-set_after_lower : (p : ℕ) (g : PageHist) (low rest : MapPairs) → AreBelow p low → set_value (is_at (nat_cmp p)) (low ++ rest) g ≡ low ++ set_value (is_at (nat_cmp p)) rest g
+pub set_after_lower : (p : ℕ) (g : PageHist) (low rest : MapPairs) → AreBelow p low → set_value (is_at (nat_cmp p)) (low ++ rest) g ≡ low ++ set_value (is_at (nat_cmp p)) rest g
 set_after_lower p g [] rest all = refl
 set_after_lower p g (e ∷ low) rest all = let more : nat_cmp p e.0 ≡ Greater = above p e.0 all.0 in rw more (ap (λ t. e ∷ t) (set_after_lower p g low rest all.1))
 
@@ -61,14 +61,14 @@ set_none_above : (p : ℕ) (g : PageHist) (high : MapPairs) → AreAbove p high 
 set_none_above p g [] all = refl
 set_none_above p g (e ∷ high) all = let less : nat_cmp p e.0 ≡ Less = below p e.0 all.0 in rw less (ap (λ t. e ∷ t) (set_none_above p g high all.1))
 
-set_before_higher : (p : ℕ) (g : PageHist) (pairs high : MapPairs) → AreAbove p high → set_value (is_at (nat_cmp p)) (pairs ++ high) g ≡ set_value (is_at (nat_cmp p)) pairs g ++ high
+pub set_before_higher : (p : ℕ) (g : PageHist) (pairs high : MapPairs) → AreAbove p high → set_value (is_at (nat_cmp p)) (pairs ++ high) g ≡ set_value (is_at (nat_cmp p)) pairs g ++ high
 set_before_higher p g [] high all = set_none_above p g high all
 set_before_higher p g (e ∷ pairs) high all = by_cases (nat_cmp p e.0) _
     (λ is. rw is (ap (λ t. e ∷ t) (set_before_higher p g pairs high all)))
     (λ is. rw is refl)
     (λ is. rw is (ap (λ t. e ∷ t) (set_before_higher p g pairs high all)))
 
-remove_after_lower : (p : ℕ) (low rest : MapPairs) → AreBelow p low → remove_entry (is_at (nat_cmp p)) (low ++ rest) ≡ low ++ remove_entry (is_at (nat_cmp p)) rest
+pub remove_after_lower : (p : ℕ) (low rest : MapPairs) → AreBelow p low → remove_entry (is_at (nat_cmp p)) (low ++ rest) ≡ low ++ remove_entry (is_at (nat_cmp p)) rest
 remove_after_lower p [] rest all = refl
 remove_after_lower p (e ∷ low) rest all = let more : nat_cmp p e.0 ≡ Greater = above p e.0 all.0 in rw more (ap (λ t. e ∷ t) (remove_after_lower p low rest all.1))
 
@@ -76,7 +76,7 @@ remove_none_above : (p : ℕ) (high : MapPairs) → AreAbove p high → remove_e
 remove_none_above p [] all = refl
 remove_none_above p (e ∷ high) all = let less : nat_cmp p e.0 ≡ Less = below p e.0 all.0 in rw less (ap (λ t. e ∷ t) (remove_none_above p high all.1))
 
-remove_before_higher : (p : ℕ) (pairs high : MapPairs) → AreAbove p high → remove_entry (is_at (nat_cmp p)) (pairs ++ high) ≡ remove_entry (is_at (nat_cmp p)) pairs ++ high
+pub remove_before_higher : (p : ℕ) (pairs high : MapPairs) → AreAbove p high → remove_entry (is_at (nat_cmp p)) (pairs ++ high) ≡ remove_entry (is_at (nat_cmp p)) pairs ++ high
 remove_before_higher p [] high all = remove_none_above p high all
 remove_before_higher p (e ∷ pairs) high all = by_cases (nat_cmp p e.0) _
     (λ is. rw is (ap (λ t. e ∷ t) (remove_before_higher p pairs high all)))
@@ -164,13 +164,6 @@ filter-append test (e ∷ m) n = cases (test e.0) (filter-append test m n)
     cases : (b : Bool) → filter (λ e. test e.0) (m ++ n) ≡ filter (λ e. test e.0) m ++ filter (λ e. test e.0) n → cond b (e ∷ filter (λ e. test e.0) (m ++ n)) (filter (λ e. test e.0) (m ++ n)) ≡ cond b (e ∷ filter (λ e. test e.0) m) (filter (λ e. test e.0) m) ++ filter (λ e. test e.0) n
     cases true later = ap (λ t. e ∷ t) later
     cases false later = later
-
--- ---- maps, and what they hold
-
-pub map_at-of : (ms : List (BTreeMap ℕ PageHist)) (i : ℕ) (m : BTreeMap ℕ PageHist) → i < length ms → map_at (pairs_of_maps ms) i ≡ (get_or ms i m).entries
-map_at-of [] i m there = absurd (omega arith)
-map_at-of (x ∷ ms) zero m there = refl
-map_at-of (x ∷ ms) (suc i) m there = let left : i < length ms = omega arith in map_at-of ms i m left
 
 -- a key lies in the bucket that it names
 pub lies_in_own : (i p : ℕ) → i ≡ p / 1208925819614629174706176 → LiesIn (0 + i) p

@@ -4,7 +4,6 @@ use Rattle.std.specs.List.{AllByRecursion, cons_option}
 use Rattle.std.specs.Option.{option_map, option_and_then}
 use Rattle.std.specs.Ordering.{is_eq, nat_cmp}
 use Rattle.std.specs.Map.Calls.{RetainsPairs}
-use Rattle.std.specs.BTreeMap.{BTreeMap}
 use Rattle.std.specs.declared.cmp.Ordering.TheVariants.{Less}
 use Rattle.std.proofs.lemmas.List.Elements.{filter_map-append}
 use Rattle.warm_stamps.specs.declared.PageId.{PageId}
@@ -19,23 +18,25 @@ use Rattle.warm_history.specs.ListHistories.{list_history, list_references_of, I
 use Rattle.warm_history.specs.MapKeys.{page_of_key, IsMapKey}
 use Rattle.warm_history.specs.MapPairs.{MapPairs, as_entries, kept, AreKept}
 use Rattle.warm_history.specs.Cuts.{cut_pair, cut_at}
-use Rattle.warm_history.specs.BucketMaps.{all_pairs, pairs_of_maps, LiesIn, AreBuckets, AreSmall, KeysAscend, with_map}
+use Rattle.warm_history.specs.BucketMaps.{all_pairs, KeysAscend}
+use Rattle.warm_history.specs.NearPairs.{far_pairs, fulls, near_pairs, AreMapsOf, IsFar, IsMapOf}
+use Rattle.warm_history.specs.declared.bucket_map.BucketMap.{BucketMap}
+use Rattle.warm_history.proofs.NearParts.{cut_full}
 use Rattle.warm_history.proofs.ListHistoryLemmas.{get, get-history, hist-refs, same_gets, IsHistory-history}
 use Rattle.warm_history.proofs.ListJoinLemmas.{history_of_own_references}
 use Rattle.warm_history.proofs.KeptLemmas.{hist-kept, history-kept}
 use Rattle.warm_history.proofs.OrderLemmas.{PagesDiffer, in_order_rises}
 use Rattle.warm_history.proofs.MapPairLemmas.{IsHistory-kept, get-kept, differing}
-use Rattle.warm_history.proofs.BucketSteps.{pairs_of-set, length-pairs_of}
 use Rattle.std.proofs.lemmas.List.Edits.{map_over_more}
 
 -- ---- what `retain` leaves
 
-module _ {F : Type 0} (T : F → ℕ → PageHist → Bool → PageHist → F → Type 0) (m : ℕ) (f : F) (says : (k : ℕ) (v : PageHist) (b : Bool) (w : PageHist) (g : F) → T f k v b w g → (cond b (Some w) None ≡ kept_hist m v) × (g ≡ f)) where
-  one : (b : Bool) (k : ℕ) (w : PageHist) (rest : MapPairs) → cond b ((k, w) ∷ rest) rest ≡ cons_option (option_map (λ h. (k, h)) (cond b (Some w) None)) rest
+module _ {K F : Type 0} (T : F → K → PageHist → Bool → PageHist → F → Type 0) (m : ℕ) (f : F) (says : (k : K) (v : PageHist) (b : Bool) (w : PageHist) (g : F) → T f k v b w g → (cond b (Some w) None ≡ kept_hist m v) × (g ≡ f)) where
+  one : (b : Bool) (k : K) (w : PageHist) (rest : List (K × PageHist)) → cond b ((k, w) ∷ rest) rest ≡ cons_option (option_map (λ h. (k, h)) (cond b (Some w) None)) rest
   one true k w rest = refl
   one false k w rest = refl
 
-  pub cut_from_retain : (es left : MapPairs) → RetainsPairs T f es left → left ≡ cut_at m es
+  pub cut_from_retain : (es left : List (K × PageHist)) → RetainsPairs T f es left → left ≡ cut_at m es
   cut_from_retain [] left is = is
   cut_from_retain (e ∷ es) left is =
       let call = says e.0 e.1 is.0 is.1 is.2 is.4 in
@@ -46,7 +47,7 @@ module _ {F : Type 0} (T : F → ℕ → PageHist → Bool → PageHist → F �
 
 -- ---- what is true of the pairs that are left
 
-all_left : (P : ℕ → Type 0) (m : ℕ) (pairs : MapPairs) → AllByRecursion (λ e. P e.0) pairs → AllByRecursion (λ (e : ℕ × PageHist). P e.0) (cut_at m pairs)
+pub all_left : (P : ℕ → Type 0) (m : ℕ) (pairs : MapPairs) → AllByRecursion (λ e. P e.0) pairs → AllByRecursion (λ (e : ℕ × PageHist). P e.0) (cut_at m pairs)
 all_left P m [] all = tt
 all_left P m (e ∷ pairs) all = elim (kept_hist m e.1) as (λ x. AllByRecursion (λ (e : ℕ × PageHist). P e.0) (cons_option (option_map (λ h. (e.0, h)) x) (cut_at m pairs))) [
   | None ↦ all_left P m pairs all.1
@@ -78,7 +79,7 @@ kept_left m pairs are = record {
   stamps_descend = fall_left m pairs are.stamps_descend;
 }
 
-few_left : (m : ℕ) (pairs : MapPairs) → length (cut_at m pairs) ≤ length pairs
+pub few_left : (m : ℕ) (pairs : MapPairs) → length (cut_at m pairs) ≤ length pairs
 few_left m [] = omega arith
 few_left m (e ∷ pairs) = cases (kept_hist m e.1) (few_left m pairs)
   where
@@ -88,42 +89,54 @@ few_left m (e ∷ pairs) = cases (kept_hist m e.1) (few_left m pairs)
 
 -- ---- the maps
 
-pub as_many : (m : ℕ) (ms : List MapPairs) → length (map (cut_at m) ms) ≡ length ms
-as_many m [] = refl
-as_many m (x ∷ ms) = ap suc (as_many m ms)
+-- one bucket more is cut; a part is one of the two maps
+module _ (part : BucketMap → MapPairs) where
+  parts_set : (ms : List BucketMap) (i : ℕ) (n : BucketMap) → map part (slice_set ms i n) ≡ slice_set (map part ms) i (part n)
+  parts_set [] i n = refl
+  parts_set (x ∷ ms) zero n = refl
+  parts_set (x ∷ ms) (suc i) n = ap (λ t. part x ∷ t) (parts_set ms i n)
 
-set_map : (ms : List MapPairs) (i : ℕ) (n : MapPairs) → with_map ms i n ≡ slice_set ms i n
-set_map [] i n = refl
-set_map (x ∷ ms) zero n = refl
-set_map (x ∷ ms) (suc i) n = ap (λ t. x ∷ t) (set_map ms i n)
+  part_there : (ms : List BucketMap) (i : ℕ) (m : BucketMap) → part (get_or ms i m) ≡ get_or (map part ms) i (part m)
+  part_there [] i m = refl
+  part_there (x ∷ ms) zero m = refl
+  part_there (x ∷ ms) (suc i) m = part_there ms i m
 
-map_there : (ms : List (BTreeMap ℕ PageHist)) (i : ℕ) (m : BTreeMap ℕ PageHist) → (get_or ms i m).entries ≡ get_or (pairs_of_maps ms) i m.entries
-map_there [] i m = refl
-map_there (x ∷ ms) zero m = refl
-map_there (x ∷ ms) (suc i) m = map_there ms i m
+  length_parts : (ms : List BucketMap) → length (map part ms) ≡ length ms
+  length_parts [] = refl
+  length_parts (x ∷ ms) = ap suc (length_parts ms)
 
--- one map more is cut
-pub cut_more : (m : ℕ) (all ms : List (BTreeMap ℕ PageHist)) (i : ℕ) (x n : BTreeMap ℕ PageHist) → i < length all → pairs_of_maps ms ≡ map (cut_at m) (take i (pairs_of_maps all)) ++ drop i (pairs_of_maps all) → x ≡ get_or ms i x → n.entries ≡ cut_at m x.entries → pairs_of_maps (slice_set ms i n) ≡ map (cut_at m) (take (i + 1) (pairs_of_maps all)) ++ drop (i + 1) (pairs_of_maps all)
-cut_more m all ms i x n lt so_far is cut =
-    pairs_of-set ms i n
-    ∙ set_map (pairs_of_maps ms) i n.entries
-    ∙ ap (slice_set (pairs_of_maps ms) i) cut
-    ∙ map_over_more (cut_at m) (pairs_of_maps all) (pairs_of_maps ms) i x.entries (omega (arith, length-pairs_of all)) so_far (ap (λ (y : BTreeMap ℕ PageHist). y.entries) is ∙ map_there ms i x)
+  pub cut_more : (m : ℕ) (all ms : List BucketMap) (i : ℕ) (x n : BucketMap) → i < length all → map part ms ≡ map (cut_at m) (take i (map part all)) ++ drop i (map part all) → x ≡ get_or ms i x → part n ≡ cut_at m (part x) → map part (slice_set ms i n) ≡ map (cut_at m) (take (i + 1) (map part all)) ++ drop (i + 1) (map part all)
+  cut_more m all ms i x n lt so_far is cut =
+      parts_set ms i n
+      ∙ ap (slice_set (map part ms) i) cut
+      ∙ map_over_more (cut_at m) (map part all) (map part ms) i (part x) (omega (arith, length_parts all)) so_far (ap part is ∙ part_there ms i x)
 
 pub joined_left : (m : ℕ) (ms : List MapPairs) → all_pairs (map (cut_at m) ms) ≡ cut_at m (all_pairs ms)
 joined_left m [] = refl
 joined_left m (x ∷ ms) = ap (λ t. cut_at m x ++ t) (joined_left m ms) ∙ sym (filter_map-append (cut_pair m) x (all_pairs ms))
 
-pub buckets_left : (m b : ℕ) (ms : List MapPairs) → AreBuckets b ms → AreBuckets b (map (cut_at m) ms)
-buckets_left m b [] are = tt
-buckets_left m b (x ∷ ms) are = (all_left (LiesIn b) m x are.0, buckets_left m (b + 1) ms are.1)
-
-pub small_left : (m : ℕ) (ms : List MapPairs) → AreSmall ms → AreSmall (map (cut_at m) ms)
-small_left m [] all = tt
-small_left m (x ∷ ms) all =
-    let few : length x < 288230376151711744 = all.0 in
-    let left : length (cut_at m x) < 288230376151711744 = omega (arith, few_left m x) in
-    (left, small_left m ms all.1)
+-- all buckets are cut where each of their two maps is
+module _ (h : ℕ) where
+  pub cut_maps : (b : ℕ) (ms ns : List BucketMap) → near_pairs ns ≡ map (cut_at h) (near_pairs ms) → far_pairs ns ≡ map (cut_at h) (far_pairs ms) → AreMapsOf b ms → (fulls b ns ≡ map (cut_at h) (fulls b ms)) × AreMapsOf b ns × (length ns ≡ length ms)
+  cut_maps b [] [] near far are = (refl, tt, refl)
+  cut_maps b [] (n ∷ ns) near far are = absurd (cc)
+  cut_maps b (m ∷ ms) [] near far are = absurd (cc)
+  cut_maps b (m ∷ ms) (n ∷ ns) near far are =
+      let first_near : n.near.entries ≡ cut_at h m.near.entries = cc in
+      let first_far : n.far.entries ≡ cut_at h m.far.entries = cc in
+      let later_near : near_pairs ns ≡ map (cut_at h) (near_pairs ms) = cc in
+      let later_far : far_pairs ns ≡ map (cut_at h) (far_pairs ms) = cc in
+      let rest = cut_maps (b + 1) ms ns later_near later_far are.1 in
+      let few_near : length n.near.entries ≤ length m.near.entries = subst (λ (t : MapPairs). length t ≤ length m.near.entries) (sym first_near) (few_left h m.near.entries) in
+      let few_far : length n.far.entries ≤ length m.far.entries = subst (λ (t : MapPairs). length t ≤ length m.far.entries) (sym first_far) (few_left h m.far.entries) in
+      let is : IsMapOf b n = record {
+        near = subst (AllByRecursion (λ (e : ℕ × PageHist). e.0 < 18446744073709551616)) (sym first_near) (all_left (λ k. k < 18446744073709551616) h m.near.entries are.0.near);
+        far = subst (AllByRecursion (λ (e : ℕ × PageHist). IsFar b e.0)) (sym first_far) (all_left (IsFar b) h m.far.entries are.0.far);
+        near_few = omega (arith, few_near, are.0.near_few);
+        far_few = omega (arith, few_far, are.0.far_few);
+      } in
+      let whole = cut_full b h m n first_near first_far in
+      ((λ i. whole i ∷ rest.0 i), (is, rest.1), ap suc rest.2)
 
 -- ---- the history that they keep
 

@@ -32,3 +32,10 @@ pub mod BucketParts
 pub mod MergeIterLemmas
 pub mod SetLemmas
 pub mod PackedLemmas
+pub mod NearKeys
+pub mod WithKeys
+pub mod NearParts
+pub mod FullMaps
+pub mod EntriesOfBucket
+pub mod NearRuns
+pub mod NearMerges

@@ -90,13 +90,13 @@ rising_pages j k is_j is_k same less =
 
 -- ---- the keys of a bucket
 
-at_most : (x y : ℕ) → x ≤ y → is_le (nat_cmp x y) ≡ true
+pub at_most : (x y : ℕ) → x ≤ y → is_le (nat_cmp x y) ≡ true
 at_most x y le = by_cases (nat_cmp x y) _
     (λ less. rw less refl)
     (λ tied. rw tied refl)
     (λ more. let lt : y < x = ranked x y Greater (sym more) in let no : ⊥ = omega arith in absurd no)
 
-above : (x y : ℕ) → y < x → nat_cmp x y ≡ Greater
+pub above : (x y : ℕ) → y < x → nat_cmp x y ≡ Greater
 above x y lt = sym (nat_cmp_is x y Greater lt)
 
 never : (b : Bool) → (b && false) ≡ false

@@ -29,11 +29,11 @@ use Rattle.warm_history.proofs.EntryLemmas.{takes_in}
 use Rattle.warm_history.proofs.MapKeyOrder.{nat_order, same_key, rising_pages}
 use Rattle.warm_history.proofs.OrderLemmas.{both_same, either_first, get-in_order, in_order_rises, IsHistory-in_order, PagesDiffer, permuted_in_order, get-filter}
 use Rattle.warm_stamps.specs.declared.Reference.{Reference}
-use Rattle.warm_history.specs.MapKeys.{page_of_key, IsMapKey}
+use Rattle.warm_history.specs.MapKeys.{key_of_page, page_of_key, IsMapKey}
 use Rattle.warm_history.specs.MapPairs.{MapPairs, as_entries, kept, AreKept}
 use Rattle.warm_history.specs.BucketMaps.{KeysAscend, found}
 use Rattle.warm_history.specs.Undo.{put_back, undone, notes_of}
-use Rattle.warm_history.specs.declared.bucket_maps.UndoNote.{UndoNote}
+use Rattle.warm_history.specs.declared.bucket_map.UndoNote.{UndoNote}
 
 abbrev pub AreKeys : MapPairs → Type 0
 AreKeys pairs = AllByRecursion (λ e. IsMapKey e.0) pairs
@@ -233,26 +233,13 @@ exact_pair old new p more h known is are is_known latest is_new =
 
 -- ---- a list of changes undone
 
-pub undone_last : (ks : List UndoNote) (k : UndoNote) (pairs : MapPairs) → undone (ks ++ k ∷ []) pairs ≡ undone ks (put_back k.key k.hist pairs)
+pub undone_last : (ks : List UndoNote) (k : UndoNote) (pairs : MapPairs) → undone (ks ++ k ∷ []) pairs ≡ undone ks (put_back (key_of_page k.page) k.hist pairs)
 undone_last [] k pairs = refl
-undone_last (x ∷ ks) k pairs = ap (put_back x.key x.hist) (undone_last ks k pairs)
+undone_last (x ∷ ks) k pairs = ap (put_back (key_of_page x.page) x.hist) (undone_last ks k pairs)
 
 -- a change is undone before those that were notes_of earlier
 pub undone_more : (ks : List UndoNote) (change : Option UndoNote) (k : UndoNote) (old new : MapPairs) → change ≡ Some k → undone (notes_of change) new ≡ old → undone (ks ++ k ∷ []) new ≡ undone ks old
 undone_more ks change k old new is back = undone_last ks k new ∙ ap (undone ks) (ap (λ x. undone (notes_of x) new) (sym is) ∙ back)
-
-pub absent_value : (p : ℕ) (g : PageHist) (pairs : MapPairs) → found p pairs ≡ None → set_value (is_at (nat_cmp p)) pairs g ≡ pairs
-absent_value p g [] none = refl
-absent_value p g (e ∷ pairs) none = cases (absent_value p g pairs) (is_eq (nat_cmp p e.0)) refl
-  where
-    cases : (found p pairs ≡ None → set_value (is_at (nat_cmp p)) pairs g ≡ pairs) → (b : Bool) → is_eq (nat_cmp p e.0) ≡ b → set_value (is_at (nat_cmp p)) (e ∷ pairs) g ≡ e ∷ pairs
-    cases later true is = let no : Some e.1 ≡ None = sym (ap (λ b. cond b (Some e.1) (found p pairs)) is) ∙ none in absurd (cc)
-    cases later false is =
-        let rest : found p pairs ≡ None = sym (ap (λ b. cond b (Some e.1) (found p pairs)) is) ∙ none in
-        rw is (ap (λ t. e ∷ t) (later rest))
-
-pub put_back_absent : (p : ℕ) (known : Option PageHist) (g : PageHist) (pairs : MapPairs) → known ≡ Some g → found p pairs ≡ None → pairs ≡ put_back p known pairs
-put_back_absent p known g pairs is none = sym (absent_value p g pairs none) ∙ ap (λ k. put_back p k pairs) (sym is)
 
 -- ---- going on
 
@@ -274,22 +261,6 @@ all_taken new all left whole none so =
     ∙ ap (λ t. list_history (list_references_of new ++ t)) (sym none)
     ∙ so
 
--- ---- a value written at a page that is there
-
-pub set-insert : (p : ℕ) (h g : PageHist) (pairs : MapPairs) → KeysAscend pairs → found p pairs ≡ Some g → set_value (is_at (nat_cmp p)) pairs h ≡ insert_entry nat_cmp pairs p h
-set-insert p h g [] rising is = let no : None ≡ Some g = is in absurd (cc)
-set-insert p h g (e ∷ pairs) rising is = cases (set-insert p h g pairs rising.1) (nat_cmp p e.0) refl
-  where
-    cases : (found p pairs ≡ Some g → set_value (is_at (nat_cmp p)) pairs h ≡ insert_entry nat_cmp pairs p h) → (o : Ordering) → nat_cmp p e.0 ≡ o → set_value (is_at (nat_cmp p)) (e ∷ pairs) h ≡ insert_entry nat_cmp (e ∷ pairs) p h
-    cases later Less pe =
-        let rest : found p pairs ≡ Some g = sym (ap (λ o. cond (is_eq o) (Some e.1) (found p pairs)) pe) ∙ is in
-        let no : None ≡ Some g = sym (no_later p pairs (below_all p e.0 pairs pe rising.0)) ∙ rest in
-        absurd (cc)
-    cases later Equal pe = rw pe refl
-    cases later Greater pe =
-        let rest : found p pairs ≡ Some g = sym (ap (λ o. cond (is_eq o) (Some e.1) (found p pairs)) pe) ∙ is in
-        rw pe (ap (λ t. e ∷ t) (later rest))
-
 -- what was put in at a key is found there
 pub found_inserted : (p : ℕ) (h : PageHist) (pairs : MapPairs) → found p (insert_entry nat_cmp pairs p h) ≡ Some h
 found_inserted p h [] = let own : nat_cmp p p ≡ Equal = tied_itself nat_order.total p in rw own refl
@@ -297,14 +268,6 @@ found_inserted p h (e ∷ pairs) = by_cases (nat_cmp p e.0) _
     (λ pe. let own : nat_cmp p p ≡ Equal = tied_itself nat_order.total p in rw pe (rw own refl))
     (λ pe. rw pe (rw pe refl))
     (λ pe. rw pe (rw pe (found_inserted p h pairs)))
-
--- and is written over there
-pub set_inserted : (p : ℕ) (g h : PageHist) (pairs : MapPairs) → set_value (is_at (nat_cmp p)) (insert_entry nat_cmp pairs p g) h ≡ insert_entry nat_cmp pairs p h
-set_inserted p g h [] = let own : nat_cmp p p ≡ Equal = tied_itself nat_order.total p in rw own refl
-set_inserted p g h (e ∷ pairs) = by_cases (nat_cmp p e.0) _
-    (λ pe. let own : nat_cmp p p ≡ Equal = tied_itself nat_order.total p in rw pe (rw own refl))
-    (λ pe. rw pe (rw pe refl))
-    (λ pe. rw pe (rw pe (ap (λ t. e ∷ t) (set_inserted p g h pairs))))
 
 -- ---- steps of a loop
 

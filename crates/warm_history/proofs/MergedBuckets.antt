@@ -1,20 +1,23 @@
 -- A run merged with the map of its bucket is merged with all pairs.
-use Rattle.std.proofs.Common.{◌≡◌, ℕ, ◌+◌, ◌<◌, Bool, true, false, List, [], ◌∷◌, ◌++◌, sym, ap, refl, ◌∙◌, subst, length, Option, Some, None, IsSome, get_or, IfOk, OnOk, OnErr}
+use Rattle.std.proofs.Common.{◌≡◌, ℕ, ◌+◌, ◌<◌, Bool, true, false, List, [], ◌∷◌, ◌++◌, sym, ap, refl, ◌∙◌, subst, arith, length, Option, Some, None, IsSome, get_or, IfOk, OnOk}
 use Rattle.std.specs.List.{AllByRecursion}
-use Rattle.std.specs.BTreeMap.{BTreeMap}
 use Rattle.std.specs.Ordering.{is_eq, nat_cmp}
 use Rattle.std.specs.declared.result.Result.{Result}
 use Rattle.std.specs.declared.result.Result.TheVariants.{Ok, Err}
 use Rattle.warm_stamps.proofs.DistinctLemmas.{is_equal}
 use Rattle.warm_history.specs.declared.hist.PageHist.{PageHist}
 use Rattle.warm_history.specs.MapPairs.{MapPairs}
-use Rattle.warm_history.specs.BucketMaps.{pairs_of_maps, all_pairs, LiesIn, AreBuckets, map_at, with_map, found}
+use Rattle.warm_history.specs.declared.bucket_map.BucketMap.{BucketMap}
+use Rattle.warm_history.specs.NearPairs.{full, fulls, AreMapsOf, IsMapOf}
+use Rattle.warm_history.specs.BucketMaps.{all_pairs, LiesIn, AreBuckets, map_at, with_map, found}
 use Rattle.warm_history.specs.Runs.{at_key, with_pairs}
 use Rattle.warm_history.specs.Walks.{joined_with, joined_pairs, merged, DiffersAt, TellsChange}
 use Rattle.warm_history.proofs.MapKeyOrder.{nat_order}
-use Rattle.warm_history.proofs.BucketLemmas.{find_joined, map_at-of}
-use Rattle.warm_history.proofs.BucketSteps.{AllIn, all_with, buckets_with, with_same, pairs_of-set, length-pairs_of}
-use Rattle.warm_history.proofs.RunPairs.{filled_joined, in_filled, map_at-with}
+use Rattle.warm_history.proofs.BucketLemmas.{find_joined}
+use Rattle.warm_history.proofs.BucketSteps.{AllIn, bucket_in, buckets_with, with_same}
+use Rattle.warm_history.proofs.FullMaps.{all_with, buckets_of, fulls_set, length_fulls, map_at_fulls}
+use Rattle.warm_history.proofs.NearParts.{full_inside}
+use Rattle.warm_history.proofs.RunPairs.{filled_joined, map_at-with}
 
 -- what holds of the keys of a run
 pub all_at : (P : ℕ → Type 0) (run : MapPairs) (key : ℕ) → AllByRecursion (λ (e : ℕ × PageHist). P e.0) run → IsSome (found key run) → P key
@@ -47,8 +50,9 @@ merged_joined i ms run are there inside own =
     sym (ap (with_pairs (all_pairs ms)) (joined_own 0 i ms run are inside)
     ∙ filled_joined 0 i ms (joined_pairs (map_at ms i) run) are there (joined_all (LiesIn (0 + i)) (map_at ms i) run inside) own)
 
-pub in_merged : (b : ℕ) (m run : MapPairs) → AllIn b m → AllIn b run → AllIn b (merged m run)
-in_merged b m run own inside = in_filled b m (joined_pairs m run) own (joined_all (LiesIn b) m run inside)
+-- a bucket's number is counted from 0
+in_own : (i : ℕ) (pairs : MapPairs) → AllIn i pairs → AllIn (0 + i) pairs
+in_own i pairs inside = let same : i ≡ 0 + i = omega arith in subst (λ k. AllIn k pairs) same inside
 
 differs_joined : (i : ℕ) (ms : List MapPairs) (run n : MapPairs) → AreBuckets 0 ms → i < length ms → AllIn (0 + i) run → AllIn (0 + i) n → DiffersAt run (map_at ms i) n → DiffersAt run (all_pairs ms) (all_pairs (with_map ms i n))
 differs_joined i ms run n are there inside new differs =
@@ -60,33 +64,29 @@ differs_joined i ms run n are there inside new differs =
 
 -- ---- the maps, with one in its place that a run was merged with
 
--- the map stays with its bucket, whether an allocation fails or not
-pub merged_stays : {A E : Type 0} (r : Result A E) (b : ℕ) (run m n : MapPairs) → AllIn b m → AllIn b run → OnOk r (n ≡ merged m run) → OnErr r (n ≡ m) → AllIn b n
-merged_stays (Ok a) b run m n own inside ok err = subst (AllIn b) (sym ok) (in_merged b m run own inside)
-merged_stays (Err e) b run m n own inside ok err = subst (AllIn b) (sym err) own
-
-pub merged_in_own : {A E : Type 0} (r : Result A E) (maps : List (BTreeMap ℕ PageHist)) (i : ℕ) (run : MapPairs) (m n : BTreeMap ℕ PageHist) (old : MapPairs) → AreBuckets 0 (pairs_of_maps maps) → i < length maps → AllIn (0 + i) run → AllIn (0 + i) (get_or maps i m).entries → all_pairs (pairs_of_maps maps) ≡ old
-    → OnOk r (n.entries ≡ merged (get_or maps i m).entries run) → OnOk r (all_with maps i n ≡ merged old run)
-merged_in_own (Err e) maps i run m n old are there inside own view ok = tt
-merged_in_own (Ok a) maps i run m n old are there inside own view ok =
-    let ms : List MapPairs = pairs_of_maps maps in
-    let at : map_at ms i ≡ (get_or maps i m).entries = map_at-of maps i m there in
-    let few : i < length ms = subst (λ k. i < k) (sym (length-pairs_of maps)) there in
-    ap all_pairs (pairs_of-set maps i n)
-    ∙ ap (λ t. all_pairs (with_map ms i t)) (ok ∙ ap (λ t. merged t run) (sym at))
-    ∙ merged_joined i ms run are few inside (subst (AllIn (0 + i)) (sym at) own)
+pub merged_in_own : {A E : Type 0} (r : Result A E) (i : ℕ) (d n : BucketMap) (ms : List BucketMap) (run old : MapPairs) → AreMapsOf 0 ms → i < length ms → AllIn i run → all_pairs (fulls 0 ms) ≡ old → OnOk r (full i n ≡ merged (full i (get_or ms i d)) run) → OnOk r (all_with ms i n ≡ merged old run)
+merged_in_own (Err e) i d n ms run old are there inside view ok = tt
+merged_in_own (Ok a) i d n ms run old are there inside view ok =
+    let fs : List MapPairs = fulls 0 ms in
+    let at : map_at fs i ≡ full i (get_or ms i d) = map_at_fulls i d ms there in
+    let few : i < length fs = subst (λ k. i < k) (sym (length_fulls 0 ms)) there in
+    let buckets = buckets_of 0 ms are in
+    ap all_pairs (fulls_set i n ms)
+    ∙ ap (λ t. all_pairs (with_map fs i t)) (ok ∙ ap (λ t. merged t run) (sym at))
+    ∙ merged_joined i fs run buckets few (in_own i run inside) (bucket_in 0 i fs buckets)
     ∙ ap (λ t. merged t run) view
 
-pub tells_in_own : {E : Type 0} (r : Result Bool E) (maps : List (BTreeMap ℕ PageHist)) (i : ℕ) (run : MapPairs) (m n : BTreeMap ℕ PageHist) (old : MapPairs) → AreBuckets 0 (pairs_of_maps maps) → i < length maps → AllIn (0 + i) run → AllIn (0 + i) n.entries → all_pairs (pairs_of_maps maps) ≡ old
-    → IfOk r (λ changed. TellsChange changed run (get_or maps i m).entries n.entries) → IfOk r (λ changed. TellsChange changed run old (all_with maps i n))
-tells_in_own (Err e) maps i run m n old are there inside new view tells = tt
-tells_in_own (Ok b) maps i run m n old are there inside new view tells =
-    let ms : List MapPairs = pairs_of_maps maps in
-    let at : map_at ms i ≡ (get_or maps i m).entries = map_at-of maps i m there in
-    let few : i < length ms = subst (λ k. i < k) (sym (length-pairs_of maps)) there in
-    let set : all_with maps i n ≡ all_pairs (with_map ms i n.entries) = ap all_pairs (pairs_of-set maps i n) in (
+pub tells_in_own : {E : Type 0} (r : Result Bool E) (i : ℕ) (d n : BucketMap) (ms : List BucketMap) (run old : MapPairs) → AreMapsOf 0 ms → i < length ms → AllIn i run → IsMapOf i n → all_pairs (fulls 0 ms) ≡ old
+    → IfOk r (λ changed. TellsChange changed run (full i (get_or ms i d)) (full i n)) → IfOk r (λ changed. TellsChange changed run old (all_with ms i n))
+tells_in_own (Err e) i d n ms run old are there inside is view tells = tt
+tells_in_own (Ok b) i d n ms run old are there inside is view tells =
+    let fs : List MapPairs = fulls 0 ms in
+    let at : map_at fs i ≡ full i (get_or ms i d) = map_at_fulls i d ms there in
+    let few : i < length fs = subst (λ k. i < k) (sym (length_fulls 0 ms)) there in
+    let set : all_with ms i n ≡ all_pairs (with_map fs i (full i n)) = ap all_pairs (fulls_set i n ms) in (
       (λ yes.
-          let differs : DiffersAt run (map_at ms i) n.entries = subst (λ t. DiffersAt run t n.entries) (sym at) (tells.0 yes) in
-          subst (DiffersAt run old) (sym set) (subst (λ t. DiffersAt run t (all_pairs (with_map ms i n.entries))) view (differs_joined i ms run n.entries are few inside new differs))),
-      λ no. set ∙ ap (λ t. all_pairs (with_map ms i t)) (tells.1 no ∙ sym at) ∙ ap all_pairs (with_same ms i) ∙ view,
+          let differs : DiffersAt run (map_at fs i) (full i n) = subst (λ t. DiffersAt run t (full i n)) (sym at) (tells.0 yes) in
+          subst (DiffersAt run old) (sym set) (subst (λ t. DiffersAt run t (all_pairs (with_map fs i (full i n)))) view
+          (differs_joined i fs run (full i n) (buckets_of 0 ms are) few (in_own i run inside) (in_own i (full i n) (full_inside i n is)) differs))),
+      λ no. set ∙ ap (λ t. all_pairs (with_map fs i t)) (tells.1 no ∙ sym at) ∙ ap all_pairs (with_same fs i) ∙ view,
     )

@@ -19,17 +19,17 @@ use Rattle.warm_history.specs.Carried.{bucket_entries}
 use Rattle.warm_history.specs.Changes.{SameInBucket, MarksChanged}
 use Rattle.warm_history.specs.ListHistories.{first_two, latest_of, hist_stamps, known_stamps, references_of_entry, list_references_of, list_history}
 use Rattle.warm_history.specs.ReferenceSets.{is_kept, references_from}
-use Rattle.warm_history.specs.MapKeys.{first_key, key_of_page, page_of_key, IsMapKey}
+use Rattle.warm_history.specs.MapKeys.{first_key, first_far_key, key_of_page, near_key, page_of_key, IsMapKey}
 use Rattle.warm_history.specs.MapPairs.{MapPairs, kept, AreKept, references_at, TakesEntries, TakesRecent, TakesStamps}
 use Rattle.warm_history.specs.BucketMaps.{LiesIn, found}
-use Rattle.warm_history.specs.Runs.{RiseWithin, at_key, run_pairs, with_pairs}
+use Rattle.warm_history.specs.Runs.{RiseWithin, at_key, run_pairs, near_run, with_pairs}
 use Rattle.warm_history.specs.Walks.{joined_with, joined_pairs, merged, AreTwoLatest, DiffersAt}
 use Rattle.warm_history.proofs.ListHistoryLemmas.{hist_swap}
 use Rattle.warm_history.proofs.ListJoinLemmas.{history_alike, history_first, history_of_own_references}
 use Rattle.warm_history.proofs.MapPairLemmas.{AreKeys, IsHistory-kept, exact_pair, kept_more, no_later}
 use Rattle.warm_history.proofs.RecentLemmas.{takes_none, takes_some, recent_more}
 use Rattle.warm_history.proofs.ChangeLemmas.{others_stay, lies_in, own_bucket, changes_at, in_it, not_in_it}
-use Rattle.warm_history.proofs.RunPairs.{AreAbove, run_above}
+use Rattle.warm_history.proofs.RunPairs.{AreAbove, near_first, run_above}
 use Rattle.warm_history.proofs.MergedLemmas.{found_with}
 use Rattle.warm_history.proofs.MergedBuckets.{all_at, joined_all}
 use Rattle.warm_history.proofs.EntryLemmas.{latest_of_first}
@@ -135,7 +135,7 @@ passes m number old mid e es back none run = record {
   others = run.others;
 }
 
-pub takes_run : (m number from : ℕ) (old : MapPairs) (es : List Entry) → AreKept old → first_key number ≤ from → RiseWithin from (first_key (number + 1)) es → TakesRun m number old es (merged old (run_pairs m es))
+pub takes_run : (m number from : ℕ) (old : MapPairs) (es : List Entry) → AreKept old → first_key number ≤ from → RiseWithin from (first_far_key number) es → TakesRun m number old es (merged old (run_pairs m es))
 takes_run m number from old [] are begins rise = record {
   whole = are;
   exact = sym (history_of_own_references (kept old) (IsHistory-kept old are)) ∙ ap list_history (sym (append-nil (list_references_of (kept old))));
@@ -146,16 +146,17 @@ takes_run m number from old (e ∷ es) are begins rise =
     let starts : from ≤ key_of_page e.page = rise.0 in
     let later : first_key number ≤ key_of_page e.page + 1 = omega arith in
     let low : first_key number ≤ key_of_page e.page = omega arith in
+    let lies = near_first number (key_of_page e.page) (low, rise.1) in
     let run = takes_run m number (p + 1) old es are later rise.3 in
-    cases (first_two (filter (is_kept m) (hist_stamps e.hist))) (held_left m e.hist) low (found_under p old (run_pairs m es) (run_above m p (first_key (number + 1)) es rise.3)) run
+    cases (first_two (filter (is_kept m) (hist_stamps e.hist))) (held_left m e.hist) lies (found_under p old (run_pairs m es) (run_above m p (first_far_key number) es rise.3)) run
   where
     mid : MapPairs
     mid = merged old (run_pairs m es)
 
-    cases : (r : Option PageHist) → known_stamps r ≡ filter (is_kept m) (hist_stamps e.hist) → first_key number ≤ key_of_page e.page → found (key_of_page e.page) mid ≡ found (key_of_page e.page) old → TakesRun m number old es mid
+    cases : (r : Option PageHist) → known_stamps r ≡ filter (is_kept m) (hist_stamps e.hist) → LiesIn number (key_of_page e.page) → found (key_of_page e.page) mid ≡ found (key_of_page e.page) old → TakesRun m number old es mid
         → TakesRun m number old (e ∷ es) (merged old (at_key (key_of_page e.page) (latest_of (filter (is_kept m) (hist_stamps e.hist))) ++ run_pairs m es))
-    cases None stamps low same run = subst (λ ss. TakesRun m number old (e ∷ es) (merged old (at_key (key_of_page e.page) (latest_of ss) ++ run_pairs m es))) stamps (passes m number old mid e es rise.2 stamps run)
-    cases (Some more) stamps low same run =
+    cases None stamps lies same run = subst (λ ss. TakesRun m number old (e ∷ es) (merged old (at_key (key_of_page e.page) (latest_of ss) ++ run_pairs m es))) stamps (passes m number old mid e es rise.2 stamps run)
+    cases (Some more) stamps lies same run =
         let p = key_of_page e.page in
         let latest = some_latest more in
         let h : PageHist = latest.0 in
@@ -163,7 +164,7 @@ takes_run m number from old (e ∷ es) are begins rise =
         let joins : Some value.0 ≡ joined_with h (found p mid) = value.1 ∙ ap (joined_with h) (sym same) in
         subst (λ o. TakesRun m number old (e ∷ es) (merged old (at_key p o ++ run_pairs m es))) (latest.1 ∙ ap latest_of stamps)
         (subst (λ o. TakesRun m number old (e ∷ es) (with_pairs old (at_key p o ++ joined_pairs old (run_pairs m es)))) value.1
-        (adds m number old mid e es more h value.0 rise.2 (low, rise.1) stamps latest.1 joins run))
+        (adds m number old mid e es more h value.0 rise.2 lies stamps latest.1 joins run))
 
 -- ---- the values of a run
 
@@ -174,11 +175,11 @@ latest_again ss h is =
     ∙ ap latest_of (append-nil ss)
     ∙ is
 
-pub run_latest : (m : ℕ) (es : List Entry) → AreTwoLatest (run_pairs m es)
+pub run_latest : (m : ℕ) (es : List Entry) → AreTwoLatest (near_run m es)
 run_latest m [] = tt
 run_latest m (e ∷ es) = cases (latest_of (filter (is_kept m) (hist_stamps e.hist))) refl (run_latest m es)
   where
-    cases : (o : Option PageHist) → latest_of (filter (is_kept m) (hist_stamps e.hist)) ≡ o → AreTwoLatest (run_pairs m es) → AreTwoLatest (at_key (key_of_page e.page) o ++ run_pairs m es)
+    cases : (o : Option PageHist) → latest_of (filter (is_kept m) (hist_stamps e.hist)) ≡ o → AreTwoLatest (near_run m es) → AreTwoLatest (at_key (near_key e.page) o ++ near_run m es)
     cases None is rest = rest
     cases (Some h) is rest = (latest_again (filter (is_kept m) (hist_stamps e.hist)) h is, rest)
 

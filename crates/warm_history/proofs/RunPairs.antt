@@ -14,9 +14,9 @@ use Rattle.warm_history.specs.declared.hist.PageHist.{PageHist}
 use Rattle.warm_history.specs.declared.hist.Entry.{Entry}
 use Rattle.warm_history.specs.ListHistories.{latest_of, hist_stamps}
 use Rattle.warm_history.specs.ReferenceSets.{is_kept}
-use Rattle.warm_history.specs.MapKeys.{first_key, key_of_page}
+use Rattle.warm_history.specs.MapKeys.{first_key, first_far_key, key_of_page}
 use Rattle.warm_history.specs.MapPairs.{MapPairs}
-use Rattle.warm_history.specs.BucketMaps.{all_pairs, AreBuckets, map_at, with_map, KeysAscend, found}
+use Rattle.warm_history.specs.BucketMaps.{all_pairs, AreBuckets, LiesIn, map_at, with_map, KeysAscend, found}
 use Rattle.warm_history.specs.Runs.{RiseWithin, IsRun, at_key, run_pairs, with_pairs}
 use Rattle.warm_history.proofs.MapKeyOrder.{nat_order}
 use Rattle.warm_history.proofs.MapPairLemmas.{below_all, no_later}
@@ -63,8 +63,18 @@ pairs_rise m from to (e ∷ es) rise = cases (latest_of (filter (is_kept m) (his
     cases None above later = later
     cases (Some h) above later = (above, later)
 
+-- the near devices are those of the first keys of a bucket
+pub near_first : (number key : ℕ) → (first_key number ≤ key) × (key < first_far_key number) → LiesIn number key
+near_first number key is =
+    let below : key < first_far_key number = is.1 in
+    (is.0, omega arith)
+
+all_first : (number : ℕ) (pairs : MapPairs) → AllByRecursion (λ (e : ℕ × PageHist). (first_key number ≤ e.0) × (e.0 < first_far_key number)) pairs → AllIn number pairs
+all_first number [] all = tt
+all_first number (e ∷ pairs) all = (near_first number e.0 all.0, all_first number pairs all.1)
+
 pub pairs_inside : (m number : ℕ) (es : List Entry) → IsRun number es → AllIn number (run_pairs m es)
-pairs_inside m number es run = within m (first_key number) (first_key number) (first_key (number + 1)) es (omega arith) run
+pairs_inside m number es run = all_first number (run_pairs m es) (within m (first_key number) (first_key number) (first_far_key number) es (omega arith) run)
 
 -- ---- pairs that are put into a map
 

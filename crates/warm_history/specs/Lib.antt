@@ -17,3 +17,4 @@ pub mod Merges
 pub mod Cuts
 pub mod Undo
 pub mod PackedHists
+pub mod NearPairs

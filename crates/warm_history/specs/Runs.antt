@@ -1,11 +1,13 @@
 -- Runs: entries of one bucket at rising keys.
 use Rattle.std.specs.Prelude.{◌≡◌, ℕ, List, [], ◌∷◌, ◌++◌, ◌+◌, ◌≤◌, ◌<◌, ⊤, filter, Option, Some, None}
+use Rattle.std.specs.List.{AllByRecursion}
 use Rattle.std.specs.BTreeMap.{insert_entry}
 use Rattle.std.specs.Ordering.{nat_cmp}
+use Rattle.warm_history.specs.declared.map_key.TheConstants.{NEAR_DEVICES}
 use Rattle.warm_history.specs.declared.hist.PageHist.{PageHist}
 use Rattle.warm_history.specs.declared.hist.Entry.{Entry}
 use Rattle.warm_history.specs.ListHistories.{latest_of, hist_stamps}
-use Rattle.warm_history.specs.MapKeys.{first_key, key_of_page, page_of_key}
+use Rattle.warm_history.specs.MapKeys.{first_key, first_far_key, key_of_page, near_key, page_of_key}
 use Rattle.warm_history.specs.ReferenceSets.{is_kept}
 use Rattle.warm_history.specs.MapPairs.{MapPairs}
 
@@ -14,9 +16,9 @@ abbrev pub RiseWithin : ℕ → ℕ → List Entry → Type 0
 RiseWithin from to [] = ⊤
 RiseWithin from to (e ∷ es) = (from ≤ key_of_page e.page) × (key_of_page e.page < to) × (page_of_key (key_of_page e.page) ≡ e.page) × RiseWithin (key_of_page e.page + 1) to es
 
--- the entries are a run of the bucket of this number
+-- the entries are a run of the bucket of this number, all of near devices
 abbrev pub IsRun : ℕ → List Entry → Type 0
-IsRun number es = RiseWithin (first_key number) (first_key (number + 1)) es
+IsRun number es = RiseWithin (first_key number) (first_far_key number) es
 
 -- the pair of a key, if there is a value
 abbrev pub at_key : ℕ → Option PageHist → MapPairs
@@ -31,6 +33,18 @@ pair_of_entry horizon e = at_key (key_of_page e.page) (latest_of (filter (is_kep
 abbrev pub run_pairs : ℕ → List Entry → MapPairs
 run_pairs horizon [] = []
 run_pairs horizon (e ∷ es) = pair_of_entry horizon e ++ run_pairs horizon es
+
+-- the entries are of near devices
+abbrev pub AreNear : List Entry → Type 0
+AreNear es = AllByRecursion (λ e. e.page.dev < NEAR_DEVICES) es
+
+-- the same pairs at near keys
+abbrev pub near_pair : ℕ → Entry → MapPairs
+near_pair horizon e = at_key (near_key e.page) (latest_of (filter (is_kept horizon) (hist_stamps e.hist)))
+
+abbrev pub near_run : ℕ → List Entry → MapPairs
+near_run horizon [] = []
+near_run horizon (e ∷ es) = near_pair horizon e ++ near_run horizon es
 
 -- pairs with others put in
 abbrev pub with_pairs : MapPairs → MapPairs → MapPairs

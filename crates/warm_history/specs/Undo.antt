@@ -2,20 +2,26 @@
 use Rattle.std.specs.Prelude.{◌≡◌, ℕ, List, [], ◌∷◌, Option, Some, None}
 use Rattle.std.specs.Map.{remove_entry, set_value}
 use Rattle.std.specs.BTreeMap.{is_at}
+use Rattle.std.specs.declared.cmp.Ordering.{Ordering}
 use Rattle.std.specs.Ordering.{nat_cmp}
 use Rattle.warm_history.specs.declared.hist.PageHist.{PageHist}
-use Rattle.warm_history.specs.declared.bucket_maps.UndoNote.{UndoNote}
+use Rattle.warm_history.specs.declared.bucket_map.UndoNote.{UndoNote}
+use Rattle.warm_history.specs.MapKeys.{key_of_page}
 use Rattle.warm_history.specs.MapPairs.{MapPairs}
 
--- the pairs with the old value at the key restored
+-- the pairs with the old value at the key restored; keys of any type, in the order that cmp gives
+abbrev pub put_back_at : {K : Type 0} → (K → K → Ordering) → K → Option PageHist → List (K × PageHist) → List (K × PageHist)
+put_back_at cmp key None pairs = remove_entry (is_at (cmp key)) pairs
+put_back_at cmp key (Some h) pairs = set_value (is_at (cmp key)) pairs h
+
+-- the same for keys that are numbers
 abbrev pub put_back : ℕ → Option PageHist → MapPairs → MapPairs
-put_back key None pairs = remove_entry (is_at (nat_cmp key)) pairs
-put_back key (Some h) pairs = set_value (is_at (nat_cmp key)) pairs h
+put_back key known pairs = put_back_at nat_cmp key known pairs
 
 -- the pairs with the old values of a list of notes restored, the last note first
 abbrev pub undone : List UndoNote → MapPairs → MapPairs
 undone [] pairs = pairs
-undone (k ∷ ks) pairs = put_back k.key k.hist (undone ks pairs)
+undone (k ∷ ks) pairs = put_back (key_of_page k.page) k.hist (undone ks pairs)
 
 -- the notes of a change, if there was one
 abbrev pub notes_of : Option UndoNote → List UndoNote

@@ -7,15 +7,13 @@ ghost use Rattle.warm_history.specs.Losses.{KeepsIn, LosesIn, MarksLosing, bucke
 ghost use Rattle.warm_history.specs.Changes.{MarksChanged};
 ghost use Rattle.warm_history.specs.Merges.{later_of_bucket};
 
-use crate::bucket_maps::{BucketMaps, EachPair};
+use crate::bucket_map::BucketPairs;
+use crate::bucket_maps::{BucketMaps, EachEntry};
 use crate::cut::{CutEntries, losing, none_older};
 use crate::hist::{Entry, PageHist};
-use crate::map_key::page_of_key;
-use crate::merge_iter::{MergedEntries, Source, later_pairs, merged_entries, next_entry};
-use crate::packed::Packed;
+use crate::merge_iter::{MergedEntries, Source, later_pairs, merged_entries};
 use crate::take_in::{lookup, raise, take_entries, take_pairs, take_references};
 use std::alloc::{AllocError, Global};
-use std::collections::btree_map::Range;
 use std::fmt;
 use std::marker::Model;
 use warm_stamps::{Bucket, BucketSet, PageId, Reference};
@@ -29,8 +27,8 @@ use warm_stamps::{Bucket, BucketSet, PageId, Reference};
 /// The entries of a bucket lie together, so an operation on a bucket costs only that bucket's size.
 ///
 /// Calls that add are all or nothing: where an allocation fails, the history is unchanged.
-/// `AllocError` also refuses the page by which a bucket would have 2^58 pages, more than fit into
-/// any memory.
+/// `AllocError` also refuses the page by which a bucket would have 2^57 pages of devices below 64,
+/// or as many of others: more than fit into any memory.
 #[derive(Debug)]
 pub struct History {
     alloc: Global,
@@ -186,7 +184,7 @@ impl History {
         ensures { IsPermutation (entries_of self.now) result }
     {
         Unordered {
-            left: self.maps.each_pair(),
+            left: self.maps.each_entry(),
         }
     }
 
@@ -240,11 +238,11 @@ impl History {
     /// buckets whose entries changed, as [`History::absorb`] does: buckets that lost a stamp to the
     /// horizon are included.
     ///
-    /// The entries are scanned once, and each page is looked up in this history. Entries of one
-    /// bucket, with rising pages, are not looked up: they and the bucket's entries are read in one
-    /// walk. `AllocError` occurs where the allocation of the undo list (the old values of these
-    /// pages), of a list of entries that are new or change, or of a new page fails, and changes
-    /// nothing.
+    /// The entries are scanned once, and each page is looked up in this history. Four or more
+    /// entries of one bucket, with rising pages of devices below 64, are not looked up: they and
+    /// the bucket's entries are read in one walk. `AllocError` occurs where the allocation of the
+    /// undo list (the old values of these pages), of a list of entries that are new or change, or
+    /// of a new page fails, and changes nothing.
     pub fn join_entries(&mut self, horizon: u64, more: &[Entry]) -> Result<BucketSet, AllocError>
         ensures ok { OnOk result
             (TakesIn self.old (references_of (history_of_entries_at horizon more.now)) self.new) }
@@ -361,7 +359,7 @@ impl<'a> Iterator for Entries<'a> {
 /// Contracts see it as the list of the entries that are left.
 #[derive(Debug, Drop)]
 pub struct BucketEntries<'a> {
-    left: Range<'a, u128, Packed>,
+    left: BucketPairs<'a>,
 }
 
 impl<'a> Model for BucketEntries<'a> {
@@ -384,7 +382,7 @@ impl<'a> Iterator for BucketEntries<'a> {
     ghost remaining = { item_count (λ entries. entries) };
 
     fn next(&mut self) -> Option<Entry> {
-        next_entry(&mut self.left)
+        self.left.next_entry()
     }
 }
 
@@ -393,17 +391,16 @@ impl<'a> Iterator for BucketEntries<'a> {
 /// Contracts see it as the list of the entries that are left.
 #[derive(Debug, Drop)]
 pub struct Unordered<'a> {
-    left: EachPair<'a>,
+    left: EachEntry<'a>,
 }
 
 impl<'a> Model for Unordered<'a> {
     ghost use Rattle.std.specs.Prelude.{List};
     ghost use Rattle.warm_history.specs.declared.hist.Entry.{Entry};
-    ghost use Rattle.warm_history.specs.MapPairs.{as_entries};
 
     ghost Value = { List Entry };
 
-    ghost view = { λ entries. as_entries entries.left };
+    ghost view = { λ entries. entries.left };
 }
 
 impl<'a> Iterator for Unordered<'a> {
@@ -416,11 +413,7 @@ impl<'a> Iterator for Unordered<'a> {
     ghost remaining = { item_count (λ entries. entries) };
 
     fn next(&mut self) -> Option<Entry> {
-        let (key, hist) = self.left.next()?;
-        Some(Entry {
-            page: page_of_key(key),
-            hist: hist.get(),
-        })
+        self.left.next()
     }
 }
 

@@ -10,6 +10,7 @@
 //! repeated or reordered on the way: see [`laws`].
 #![tactic(auto)]
 
+mod bucket_map;
 mod bucket_maps;
 mod cut;
 mod hist;
@@ -18,6 +19,7 @@ pub mod laws;
 mod map_key;
 mod merge_iter;
 mod packed;
+mod page_map;
 mod runs;
 mod take_in;
 mod walk;

@@ -1,8 +1,9 @@
 //! The keys of the maps: by them the entries of a bucket lie together, in page order.
-ghost use Rattle.std.specs.Prelude.{◌≡◌};
-ghost use Rattle.warm_history.specs.MapKeys.{first_key, bucket_of_key, key_in, key_of_page, page_of_key, IsMapKey};
+ghost use Rattle.std.specs.Prelude.{◌≡◌, ◌<◌, ◌^◌};
+ghost use Rattle.warm_stamps.specs.declared.TheConstants.{BUCKETS};
+ghost use Rattle.warm_history.specs.MapKeys.{first_key, first_far_key, key_in, key_of_page, near_key, near_page, page_of_key, IsMapKey};
 
-use warm_stamps::{PageId, bucket_of};
+use warm_stamps::{BUCKETS, PageId, bucket_of};
 
 // The number of keys of each bucket: 2^80, one for each page.
 pub(crate) const KEYS_PER_BUCKET: u128 = 1 << 80;
@@ -10,18 +11,20 @@ pub(crate) const KEYS_PER_BUCKET: u128 = 1 << 80;
 // The number of keys from a device to the next: 2^64, one for each page number.
 const KEYS_PER_DEVICE: u128 = 1 << 64;
 
+// The number of near devices. A page of one of them also has a key of 64 bits, its near key.
+pub(crate) const NEAR_DEVICES: u16 = 64;
+
+// The number of near keys from a device to the next: 2^58.
+const NEAR_KEYS_PER_DEVICE: u64 = 1 << 58;
+
+// The pages of a device that have one near key, each in another bucket.
+const PAGES_PER_NEAR_KEY: u64 = BUCKETS as u64;
+
 // The first key of a bucket; for number 64, the end of the last bucket.
 pub(crate) fn first_key(number: u8) -> u128
     ensures { result ≡ first_key number }
 {
     u128::from(number) * KEYS_PER_BUCKET
-}
-
-// The number of the bucket that the key is in.
-pub(crate) fn bucket_of_key(key: u128) -> usize
-    ensures { result ≡ bucket_of_key key }
-{
-    (key / KEYS_PER_BUCKET) as usize
 }
 
 // The key of a page, were it in the bucket of this number.
@@ -47,5 +50,34 @@ pub(crate) fn page_of_key(key: u128) -> PageId
     PageId {
         dev: (key / KEYS_PER_DEVICE % (1 << 16)) as u16,
         no: (key % KEYS_PER_DEVICE) as u64,
+    }
+}
+
+// The first key of a bucket that is of no near device.
+pub(crate) fn first_far_key(number: u8) -> u128
+    ensures { result ≡ first_far_key number }
+{
+    first_key(number) + u128::from(NEAR_DEVICES) * KEYS_PER_DEVICE
+}
+
+// The near key of a page.
+pub(crate) fn near_key(page: PageId) -> u64
+    requires { page.dev < NEAR_DEVICES }
+    ensures value { result ≡ near_key page }
+    ensures below { result < 2 ^ 64 }
+{
+    u64::from(page.dev) * NEAR_KEYS_PER_DEVICE + page.no / PAGES_PER_NEAR_KEY
+}
+
+// The page of a near key in the bucket of this number.
+pub(crate) fn near_page(number: u8, key: u64) -> PageId
+    requires { number < BUCKETS }
+    ensures { result ≡ near_page number key }
+{
+    let dev = key / NEAR_KEYS_PER_DEVICE;
+    let low = (u64::from(number) + PAGES_PER_NEAR_KEY - dev) % PAGES_PER_NEAR_KEY;
+    PageId {
+        dev: dev as u16,
+        no: key % NEAR_KEYS_PER_DEVICE * PAGES_PER_NEAR_KEY + low,
     }
 }

@@ -5,48 +5,28 @@
 //! lesser first entry of two below it, so that an entry costs six page compares. Each level is a
 //! type of its own, and so its contract speaks of the two below alone.
 ghost use Rattle.std.specs.Prelude.{◌≡◌, ◌+◌, ◌≤◌, ◌<◌};
-ghost use Rattle.std.specs.Iterator.{YieldsFirst};
 ghost use Rattle.warm_stamps.specs.declared.TheConstants.{BUCKETS};
 ghost use Rattle.warm_history.specs.MapPairs.{as_entries, kept, AreKept};
 ghost use Rattle.warm_history.specs.Histories.{entries_of};
 ghost use Rattle.warm_history.specs.Merges.{bucket_iter_left, two_left, four_left, eight_left, sixteen_left, thirty_two_left, all_left};
 ghost use Rattle.warm_history.specs.Merges.{first_of, rest_of, merge, both_left, merge_iter_left, of_buckets, is_later, later_of_bucket};
 
+use crate::bucket_map::BucketPairs;
 use crate::bucket_maps::BucketMaps;
 use crate::hist::Entry;
-use crate::map_key::{first_key, key_in, page_of_key};
-use crate::packed::Packed;
-use std::collections::btree_map::Range;
-use std::ops::Bound;
 use warm_stamps::PageId;
 
-// The pairs of the bucket of this number whose page is greater than the given one, if one is given.
-pub(crate) fn later_pairs(
-    maps: &BucketMaps,
-    number: u8,
-    after: Option<PageId>,
-) -> Range<'_, u128, Packed>
+// The pages of the bucket of this number that are greater than the given one, if one is given.
+pub(crate) fn later_pairs(maps: &BucketMaps, number: u8, after: Option<PageId>) -> BucketPairs<'_>
     requires bucket { number < BUCKETS }
     requires kept { AreKept maps.now }
     ensures { as_entries result ≡ later_of_bucket number after (kept maps.now) }
 {
-    let pairs = maps.map_of(number);
-    let end = first_key(number + 1);
+    let map = maps.map_of(number);
     match after {
-        None => pairs.range((Bound::Included(first_key(number)), Bound::Excluded(end))),
-        Some(last) => pairs.range((Bound::Excluded(key_in(number, last)), Bound::Excluded(end))),
+        None => map.pairs(number),
+        Some(last) => map.pairs_after(number, last),
     }
-}
-
-// The first of the entries that are left.
-pub(crate) fn next_entry(left: &mut Range<'_, u128, Packed>) -> Option<Entry>
-    ensures { YieldsFirst (λ (left : _). as_entries left) left.old result left.new }
-{
-    let (key, hist) = left.next()?;
-    Some(Entry {
-        page: page_of_key(*key),
-        hist: hist.get(),
-    })
 }
 
 // A source of entries that are taken one by one, and whose first can be looked at.
@@ -70,7 +50,7 @@ pub(crate) trait Source: Drop {
 #[derive(Drop)]
 pub(crate) struct BucketIter<'a> {
     first: Option<Entry>,
-    later: Range<'a, u128, Packed>,
+    later: BucketPairs<'a>,
 }
 
 impl<'a> Source for BucketIter<'a> {
@@ -84,7 +64,7 @@ impl<'a> Source for BucketIter<'a> {
 
     fn take_first(&mut self) -> Option<Entry> {
         let first = self.first?;
-        self.first = next_entry(&mut self.later);
+        self.first = self.later.next_entry();
         Some(first)
     }
 }
@@ -166,7 +146,7 @@ fn bucket_iter(maps: &BucketMaps, number: u8) -> BucketIter<'_>
     ensures { bucket_iter_left result ≡ of_buckets number (number + 1) (kept maps.now) }
 {
     let mut later = later_pairs(maps, number, None);
-    let first = next_entry(&mut later);
+    let first = later.next_entry();
     BucketIter { first, later }
 }
 

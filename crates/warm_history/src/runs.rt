@@ -4,23 +4,26 @@
 //! for each page.
 ghost use Rattle.std.specs.Prelude.{◌≡◌, ◌++◌, ◌<◌, IfOk, IfSome, IsTrue, OnErr, OnOk};
 ghost use Rattle.warm_history.specs.Changes.{MarksChanged};
-ghost use Rattle.warm_history.specs.Runs.{IsRun, pair_of_entry, run_pairs};
+ghost use Rattle.warm_history.specs.Runs.{AreNear, IsRun, near_pair, near_run};
 ghost use Rattle.warm_history.specs.MapPairs.{AreKept, kept, TakesEntries};
 ghost use Rattle.warm_stamps.specs.declared.TheConstants.{BUCKETS};
 
 use crate::bucket_maps::BucketMaps;
 use crate::hist::Entry;
-use crate::map_key::{first_key, key_of_page};
+use crate::map_key::{NEAR_DEVICES, first_far_key, first_key, key_of_page, near_key};
 use crate::packed::{Packed, prove_two_latest};
 use std::alloc::{AllocError, Global};
 use warm_stamps::{Bucket, BucketSet, bucket_of};
 
-// Whether the entries are a run of the bucket of this number.
+// Fewer entries than this are looked up: to begin a walk costs about two look-ups, and lists.
+const SHORTEST: usize = 4;
+
+// Whether the entries are a run of the bucket of this number, all of near devices.
 fn is_run(number: u8, entries: &[Entry]) -> bool
     requires { number < BUCKETS }
     ensures { IsTrue result → IsRun number entries.now }
 {
-    let end = first_key(number + 1);
+    let end = first_far_key(number);
     let mut from = first_key(number);
     for entry in entries {
         let key = key_of_page(entry.page);
@@ -35,10 +38,13 @@ fn is_run(number: u8, entries: &[Entry]) -> bool
     true
 }
 
-// The bucket of which these entries are a run, where they are one.
+// The bucket of which these entries are a run, where they are one that is worth a walk.
 pub(crate) fn bucket_of_run(more: &[Entry]) -> Option<Bucket>
     ensures { IfSome result (λ bucket. IsRun bucket more.now) }
 {
+    if more.len() < SHORTEST {
+        return None;
+    }
     let first = more.first()?;
     let bucket = bucket_of(first.page);
     if !is_run(bucket.get(), more) {
@@ -71,13 +77,14 @@ pub(crate) fn take_run(
     Ok(BucketSet::new().with(bucket))
 }
 
-// The pairs of entries, without the stamps older than the horizon.
+// The near pairs of entries, without the stamps older than the horizon.
 fn recent_pairs(
     alloc: Global,
     horizon: u64,
     run: &[Entry],
-) -> Result<Vec<(u128, Packed)>, AllocError>
-    ensures { IfOk result (λ pairs. pairs.items ≡ run_pairs horizon run.now) }
+) -> Result<Vec<(u64, Packed)>, AllocError>
+    requires { AreNear run.now }
+    ensures { IfOk result (λ pairs. pairs.items ≡ near_run horizon run.now) }
 {
     let mut pairs = Vec::with_capacity(alloc, run.len())?;
     for entry in run {
@@ -86,18 +93,19 @@ fn recent_pairs(
     Ok(pairs)
 }
 
-// Adds the pair of an entry, if any of its stamps is left.
+// Adds the near pair of an entry, if any of its stamps is left.
 fn push_recent(
-    pairs: &mut Vec<(u128, Packed)>,
+    pairs: &mut Vec<(u64, Packed)>,
     horizon: u64,
     entry: &Entry,
 ) -> Result<(), AllocError>
-    ensures { OnOk result (pairs.new.items ≡ pairs.old.items ++ pair_of_entry horizon entry.now) }
+    requires { entry.now.page.dev < NEAR_DEVICES }
+    ensures { OnOk result (pairs.new.items ≡ pairs.old.items ++ near_pair horizon entry.now) }
 {
     let Some(recent) = Packed::new(entry.hist).cut_before(horizon) else {
         return Ok(());
     };
     prove_two_latest(&recent);
-    pairs.push((key_of_page(entry.page), recent))?;
+    pairs.push((near_key(entry.page), recent))?;
     Ok(())
 }

@@ -5,7 +5,7 @@
 //! restored, the last one first, which is allocation-free.
 ghost use Rattle.std.specs.Prelude.{◌≡◌, IfOk, OnOk, OnErr, max};
 ghost use Rattle.warm_history.specs.Changes.{MarksChanged};
-ghost use Rattle.warm_history.specs.MapKeys.{key_of_page, page_of_key, IsMapKey};
+ghost use Rattle.warm_history.specs.MapKeys.{key_of_page, page_of_key};
 ghost use Rattle.warm_history.specs.MapPairs.{
   AreKept,
   kept,
@@ -20,9 +20,9 @@ ghost use Rattle.warm_history.specs.Histories.{NoneOlder};
 ghost use Rattle.warm_history.specs.KeptEntries.{kept_entries};
 ghost use Rattle.warm_history.specs.Undo.{undone, LeadsBack};
 
-use crate::bucket_maps::{BucketMaps, UndoNote};
+use crate::bucket_map::UndoNote;
+use crate::bucket_maps::BucketMaps;
 use crate::hist::{Entry, PageHist};
-use crate::map_key::{key_of_page, page_of_key};
 use crate::packed::Packed;
 use crate::runs::{bucket_of_run, take_run};
 use std::alloc::{AllocError, Global};
@@ -40,10 +40,9 @@ struct Outcome {
 
 // The value of a page, if it has one.
 pub(crate) fn lookup(maps: &BucketMaps, page: PageId) -> Option<PageHist>
-    ensures known { result ≡ found (key_of_page page) maps.now }
-    ensures back { page_of_key (key_of_page page) ≡ page }
+    ensures { result ≡ found (key_of_page page) maps.now }
 {
-    let packed = maps.get(key_of_page(page))?;
+    let packed = maps.get(page)?;
     Some(packed.get())
 }
 
@@ -122,24 +121,23 @@ pub(crate) fn take_pairs(
     }
 }
 
-// Takes in the given stamps of the page at a key, and notes its old value.
+// Takes in the given stamps of a page, and notes what was known of it.
 fn take(
     maps: &mut BucketMaps,
     undo: &mut Vec<UndoNote>,
-    key: u128,
+    page: PageId,
     more: Packed,
     likely_new: bool,
 ) -> Result<Outcome, AllocError>
-    requires key { IsMapKey key }
-    requires kept { AreKept maps.old }
-    ensures exact { OnOk result (TakesStamps maps.old key more maps.new) }
+    requires { AreKept maps.old }
+    ensures exact { OnOk result (TakesStamps maps.old (key_of_page page) more maps.new) }
     ensures changed { IfOk result
         (λ taken. MarksChanged (kept maps.old) (kept maps.new) taken.changed) }
     ensures undo { LeadsBack undo.new.items maps.new undo.old.items maps.old }
     ensures whole { AreKept maps.new }
 {
     undo.reserve(1)?;
-    let Some(note) = maps.record(key, more, likely_new)? else {
+    let Some(note) = maps.record(page, more, likely_new)? else {
         return Ok(Outcome {
             changed: BucketSet::new(),
             is_new: false,
@@ -148,23 +146,23 @@ fn take(
     let is_new = note.hist.is_none();
     undo.push_reserved(note);
     Ok(Outcome {
-        changed: BucketSet::new().with(bucket_of(page_of_key(key))),
+        changed: BucketSet::new().with(bucket_of(page)),
         is_new,
     })
 }
 
-// Takes in those of the given stamps of the page at a key that are not older than the horizon.
+// Takes in those of the given stamps of a page that are not older than the horizon.
 fn take_recent(
     maps: &mut BucketMaps,
     undo: &mut Vec<UndoNote>,
     horizon: u64,
-    key: u128,
+    page: PageId,
     more: Packed,
     likely_new: bool,
 ) -> Result<Outcome, AllocError>
-    requires key { IsMapKey key }
-    requires kept { AreKept maps.old }
-    ensures exact { OnOk result (TakesRecent horizon maps.old key more maps.new) }
+    requires { AreKept maps.old }
+    ensures exact { OnOk result (TakesRecent horizon maps.old (key_of_page page) more maps.new) }
+    ensures back { page_of_key (key_of_page page) ≡ page }
     ensures changed { IfOk result
         (λ taken. MarksChanged (kept maps.old) (kept maps.new) taken.changed) }
     ensures undo { LeadsBack undo.new.items maps.new undo.old.items maps.old }
@@ -177,7 +175,7 @@ fn take_recent(
         });
     };
     // Not returned as it comes: the proof takes success and failure apart here.
-    let taken = take(maps, undo, key, recent, likely_new)?;
+    let taken = take(maps, undo, page, recent, likely_new)?;
     Ok(taken)
 }
 
@@ -196,9 +194,8 @@ fn take_each_reference(
     let mut changed = BucketSet::new();
     let mut is_new = false;
     for reference in batch {
-        let key = key_of_page(reference.page);
         let more = Packed::once(reference.stamp);
-        let taken = take_recent(maps, undo, horizon, key, more, is_new)?;
+        let taken = take_recent(maps, undo, horizon, reference.page, more, is_new)?;
         changed = changed.union(taken.changed);
         is_new = taken.is_new;
     }
@@ -220,9 +217,8 @@ fn take_each_entry(
     let mut changed = BucketSet::new();
     let mut is_new = false;
     for entry in more {
-        let key = key_of_page(entry.page);
         let more = Packed::new(entry.hist);
-        let taken = take_recent(maps, undo, horizon, key, more, is_new)?;
+        let taken = take_recent(maps, undo, horizon, entry.page, more, is_new)?;
         changed = changed.union(taken.changed);
         is_new = taken.is_new;
     }
@@ -244,8 +240,9 @@ fn take_each_pair(
 {
     let mut changed = BucketSet::new();
     let mut is_new = false;
-    for (key, hist) in more.each_pair() {
-        let taken = take_recent(maps, undo, horizon, key, hist, is_new)?;
+    for entry in more.each_entry() {
+        let stamps = Packed::new(entry.hist);
+        let taken = take_recent(maps, undo, horizon, entry.page, stamps, is_new)?;
         changed = changed.union(taken.changed);
         is_new = taken.is_new;
     }

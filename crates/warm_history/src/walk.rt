@@ -26,7 +26,7 @@ ghost use Rattle.warm_history.specs.Walks.{
   pairs_ahead,
 };
 
-use crate::bucket_maps::MAX_PAIRS;
+use crate::bucket_map::MAX_PAIRS;
 use crate::packed::{Packed, merge_into, prove_two_latest};
 use std::alloc::{AllocError, Global};
 use std::collections::BTreeMap;
@@ -39,25 +39,25 @@ const STEPS: usize = 16;
 // The pairs of a map that a walk has ahead: the first, and those after it.
 #[derive(Drop)]
 pub(crate) struct Ahead<'a> {
-    first: Option<(&'a u128, &'a Packed)>,
-    later: Range<'a, u128, Packed>,
+    first: Option<(&'a u64, &'a Packed)>,
+    later: Range<'a, u64, Packed>,
 }
 
 // What a run changes in a map.
 #[derive(Drop)]
 struct Parts {
     // The values that change.
-    changed: Vec<(u128, Packed)>,
+    changed: Vec<(u64, Packed)>,
     // The pairs whose keys are new.
-    fresh: Vec<(u128, Packed)>,
+    fresh: Vec<(u64, Packed)>,
 }
 
 // Takes in a run of the map's bucket, and returns whether that changes the map. Where an allocation
 // fails, it changes nothing.
 pub(crate) fn merge_run(
     alloc: Global,
-    map: &mut BTreeMap<u128, Packed>,
-    run: &[(u128, Packed)],
+    map: &mut BTreeMap<u64, Packed>,
+    run: &[(u64, Packed)],
 ) -> Result<bool, AllocError>
     requires rise { KeysAscend map.old.entries }
     requires run { KeysAscend run.now }
@@ -87,8 +87,8 @@ pub(crate) fn merge_run(
 // last ones.
 fn fill(
     alloc: Global,
-    map: &mut BTreeMap<u128, Packed>,
-    run: &[(u128, Packed)],
+    map: &mut BTreeMap<u64, Packed>,
+    run: &[(u64, Packed)],
 ) -> Result<bool, AllocError>
     requires free { map.old.entries ≡ [] }
     requires run { KeysAscend run.now }
@@ -108,7 +108,7 @@ fn fill(
 }
 
 // The map of pairs at rising keys.
-fn map_of(alloc: Global, pairs: &[(u128, Packed)]) -> Result<BTreeMap<u128, Packed>, AllocError>
+fn map_of(alloc: Global, pairs: &[(u64, Packed)]) -> Result<BTreeMap<u64, Packed>, AllocError>
     requires { KeysAscend pairs.now }
     ensures same { IfOk result (λ map. map.entries ≡ pairs.now) }
     ensures small { IfOk result (λ map. length map.entries < MAX_PAIRS) }
@@ -120,14 +120,14 @@ fn map_of(alloc: Global, pairs: &[(u128, Packed)]) -> Result<BTreeMap<u128, Pack
     Ok(map)
 }
 
-fn collected(alloc: Global, pairs: &[(u128, Packed)]) -> Result<BTreeMap<u128, Packed>, AllocError>
+fn collected(alloc: Global, pairs: &[(u64, Packed)]) -> Result<BTreeMap<u64, Packed>, AllocError>
     ensures { IfOk result (IsFromIterResult nat_cmp pairs.now) }
 {
     pairs.iter().copied().collect(alloc)
 }
 
 // The pairs of a map from a key on.
-fn ahead_from(map: &BTreeMap<u128, Packed>, key: u128) -> Ahead<'_>
+fn ahead_from(map: &BTreeMap<u64, Packed>, key: u64) -> Ahead<'_>
     requires { KeysAscend map.now.entries }
     ensures holds { HoldsFrom key (pairs_ahead result) map.now.entries }
     ensures on { AllByRecursion (λ e. key ≤ e.0) (pairs_ahead result) }
@@ -139,7 +139,7 @@ fn ahead_from(map: &BTreeMap<u128, Packed>, key: u128) -> Ahead<'_>
 
 // The value at a key, where the map has one. The walk goes on from the key: keys are asked for in
 // rising order.
-fn find<'a>(map: &'a BTreeMap<u128, Packed>, ahead: &mut Ahead<'a>, key: u128) -> Option<Packed>
+fn find<'a>(map: &'a BTreeMap<u64, Packed>, ahead: &mut Ahead<'a>, key: u64) -> Option<Packed>
     requires rise { KeysAscend map.now.entries }
     requires from { HoldsFrom key (pairs_ahead ahead.old) map.now.entries }
     ensures value { result ≡ found key map.now.entries }
@@ -170,9 +170,9 @@ fn find<'a>(map: &'a BTreeMap<u128, Packed>, ahead: &mut Ahead<'a>, key: u128) -
 // Adds a pair of a run to the values that change, where it changes the one known at its key, or to
 // the pairs that are new.
 fn add_part(
-    changed: &mut Vec<(u128, Packed)>,
-    fresh: &mut Vec<(u128, Packed)>,
-    key: u128,
+    changed: &mut Vec<(u64, Packed)>,
+    fresh: &mut Vec<(u64, Packed)>,
+    key: u64,
     more: Packed,
     known: Option<Packed>,
 ) -> Result<(), AllocError>
@@ -204,8 +204,8 @@ fn changed_by(more: Packed, before: Packed) -> Option<Packed>
 // What a run changes in a map. It only reads.
 fn compare(
     alloc: Global,
-    map: &BTreeMap<u128, Packed>,
-    run: &[(u128, Packed)],
+    map: &BTreeMap<u64, Packed>,
+    run: &[(u64, Packed)],
 ) -> Result<Parts, AllocError>
     requires rise { KeysAscend map.now.entries }
     requires run { KeysAscend run.now }
@@ -227,7 +227,7 @@ fn compare(
 }
 
 // Puts in pairs whose keys are new or, where an allocation fails, none.
-fn put_all_in(map: &mut BTreeMap<u128, Packed>, fresh: &[(u128, Packed)]) -> Result<(), AllocError>
+fn put_all_in(map: &mut BTreeMap<u64, Packed>, fresh: &[(u64, Packed)]) -> Result<(), AllocError>
     requires rise { KeysAscend map.old.entries }
     requires run { KeysAscend fresh.now }
     requires absent { AreAbsent fresh.now map.old.entries }
@@ -248,7 +248,7 @@ fn put_all_in(map: &mut BTreeMap<u128, Packed>, fresh: &[(u128, Packed)]) -> Res
 }
 
 // Inserts pairs one by one. Where an allocation fails, some may be in.
-fn insert_each(map: &mut BTreeMap<u128, Packed>, pairs: &[(u128, Packed)]) -> Result<(), AllocError>
+fn insert_each(map: &mut BTreeMap<u64, Packed>, pairs: &[(u64, Packed)]) -> Result<(), AllocError>
     requires rise { KeysAscend map.old.entries }
     requires run { KeysAscend pairs.now }
     ensures ok { OnOk result (map.new.entries ≡ with_pairs map.old.entries pairs.now) }
@@ -263,7 +263,7 @@ fn insert_each(map: &mut BTreeMap<u128, Packed>, pairs: &[(u128, Packed)]) -> Re
 }
 
 // Takes out the values at the keys of these pairs, as far as they are in. Allocation-free.
-fn take_out(map: &mut BTreeMap<u128, Packed>, pairs: &[(u128, Packed)])
+fn take_out(map: &mut BTreeMap<u64, Packed>, pairs: &[(u64, Packed)])
     requires { KeysAscend map.old.entries }
     ensures { (old : MapPairs) → KeysAscend old → AreAbsent pairs.now old
         → SameElsewhere pairs.now old map.old.entries → map.new.entries ≡ old }
@@ -274,7 +274,7 @@ fn take_out(map: &mut BTreeMap<u128, Packed>, pairs: &[(u128, Packed)])
 }
 
 // Writes values at keys that are there, in the way that is faster. Allocation-free.
-fn write_all(map: &mut BTreeMap<u128, Packed>, pairs: &[(u128, Packed)])
+fn write_all(map: &mut BTreeMap<u64, Packed>, pairs: &[(u64, Packed)])
     requires rise { KeysAscend map.old.entries }
     requires run { KeysAscend pairs.now }
     requires there { AreThere pairs.now map.old.entries }
@@ -289,7 +289,7 @@ fn write_all(map: &mut BTreeMap<u128, Packed>, pairs: &[(u128, Packed)])
 }
 
 // Writes them in one walk over the map.
-fn write_along(map: &mut BTreeMap<u128, Packed>, pairs: &[(u128, Packed)])
+fn write_along(map: &mut BTreeMap<u64, Packed>, pairs: &[(u64, Packed)])
     requires rise { KeysAscend map.old.entries }
     requires run { KeysAscend pairs.now }
     requires there { AreThere pairs.now map.old.entries }
@@ -301,7 +301,7 @@ fn write_along(map: &mut BTreeMap<u128, Packed>, pairs: &[(u128, Packed)])
 }
 
 // Writes the first value that is left, where the walk is at its key. The pair of the map stays.
-fn write_next(left: &mut &[(u128, Packed)], key: u128, hist: &mut Packed) -> bool
+fn write_next(left: &mut &[(u64, Packed)], key: u64, hist: &mut Packed) -> bool
     ensures stays { IsTrue result }
     ensures hist { hist.new ≡ next_value left.old.now key hist.old }
     ensures left { left.new.now ≡ next_left left.old.now key }
@@ -317,7 +317,7 @@ fn write_next(left: &mut &[(u128, Packed)], key: u128, hist: &mut Packed) -> boo
 }
 
 // Looks each of them up.
-fn write_each(map: &mut BTreeMap<u128, Packed>, pairs: &[(u128, Packed)])
+fn write_each(map: &mut BTreeMap<u64, Packed>, pairs: &[(u64, Packed)])
     requires rise { KeysAscend map.old.entries }
     requires run { KeysAscend pairs.now }
     requires there { AreThere pairs.now map.old.entries }
@@ -330,7 +330,7 @@ fn write_each(map: &mut BTreeMap<u128, Packed>, pairs: &[(u128, Packed)])
     }
 }
 
-fn write(map: &mut BTreeMap<u128, Packed>, key: u128, hist: Packed)
+fn write(map: &mut BTreeMap<u64, Packed>, key: u64, hist: Packed)
     requires rise { KeysAscend map.old.entries }
     requires there { IsSome (found key map.old.entries) }
     ensures entries { map.new.entries ≡ insert_entry nat_cmp map.old.entries key hist }

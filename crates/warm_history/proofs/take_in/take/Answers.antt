@@ -1,13 +1,14 @@
-use Rattle.std.proofs.Common.{ℕ, ◌^◌, ap, subst, sym, ◌∙◌}
+use Rattle.std.proofs.Common.{ℕ, ◌^◌, ◌<◌, arith, ap, subst, sym, ◌∙◌}
 use Rattle.std.specs.Prelude.{bit_or}
 use Rattle.warm_stamps.specs.Buckets.{page_bucket}
-use Rattle.warm_history.specs.MapKeys.{page_of_key}
+use Rattle.warm_history.specs.MapKeys.{key_of_page, page_of_key}
 use Rattle.warm_history.specs.BucketMaps.{SaysNote}
 use Rattle.warm_history.specs.Changes.{MarksChanged}
 use Rattle.warm_history.specs.MapPairs.{kept}
 use Rattle.warm_history.specs.Undo.{undone}
 use Rattle.warm_history.proofs.ChangeLemmas.{marks_at}
 use Rattle.warm_history.proofs.MapPairLemmas.{undone_more}
+use Rattle.warm_history.proofs.NearKeys.{page_back, page_key}
 use Rattle.warm_history.proofs.take_in.take.Goals as goal
 
 pub returns-clause-undo : goal.returns-clause-undo
@@ -23,8 +24,11 @@ pub returns-clause-changed : goal.returns-clause-changed
 returns-clause-changed c =
     let old = c.args.maps.now in
     let new = c.record.new.self in
-    let p = c.args.key in
+    let page = c.args.page in
+    let p = key_of_page page in
+    let dev : page.dev < 65536 = omega arith in
+    let fits : page.no < 18446744073709551616 = omega arith in
     let differs = subst (λ note. SaysNote note p old new) c.in-Some.is c.in_ok-note.ensures.tells in
-    let set = c.with.ensures ∙ ap (λ (b : ℕ). bit_or c.new-2.result (2 ^ b)) (c.bucket_of.ensures ∙ ap page_bucket c.page_of_key.ensures) ∙ ap (λ (s : ℕ). bit_or s (2 ^ page_bucket (page_of_key p))) c.new-2.ensures in
+    let set = c.with.ensures ∙ ap (λ (b : ℕ). bit_or c.new-2.result (2 ^ b)) (c.bucket_of.ensures ∙ ap page_bucket (sym (page_back page dev fits))) ∙ ap (λ (s : ℕ). bit_or s (2 ^ page_bucket (page_of_key p))) c.new-2.ensures in
     subst (MarksChanged (kept old) (kept new)) (sym set)
-    (marks_at old new p c.args.more c.requires.key c.requires.kept c.record.ensures.whole c.in_ok-note.ensures.exact differs)
+    (marks_at old new p c.args.more (page_key page dev fits) c.requires c.record.ensures.whole c.in_ok-note.ensures.exact differs)

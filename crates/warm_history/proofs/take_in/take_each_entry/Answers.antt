@@ -3,6 +3,7 @@ use Rattle.warm_history.specs.declared.hist.Entry.{Entry}
 use Rattle.warm_history.specs.ReferenceSets.{references_from}
 use Rattle.warm_history.specs.Changes.{MarksChanged}
 use Rattle.warm_history.specs.ListHistories.{list_references_of, list_history, references_of_entry}
+use Rattle.warm_history.specs.MapKeys.{key_of_page}
 use Rattle.warm_history.specs.MapPairs.{kept, TakesRecent}
 use Rattle.warm_history.proofs.MapPairLemmas.{IsHistory-kept, goes_on, all_taken, left_more, none_left}
 use Rattle.warm_history.proofs.ChangeLemmas.{grows_same, marks_empty, takes_more}
@@ -27,11 +28,12 @@ loop-entry-preserved c =
     let more : List Entry = c.args.more.now in
     let e : Entry = c.entry-item.result in
     let m : _ = c.args.horizon in
-    let exact = subst (λ h. TakesRecent m c.loop-entry.maps c.key_of_page-key.result h c.take_recent.new.maps) c.new-more.ensures c.in_ok-taken.ensures.exact in
-    let taken = takes_more m c.key_of_page-key.result (e.hist) c.args.maps.now c.loop-entry.maps c.take_recent.new.maps c.loop-entry.changed c.in_ok-taken.taken.changed c.requires inv.whole exact inv.grows inv.changed c.in_ok-taken.ensures.changed in
+    let p = key_of_page e.page in
+    let exact = subst (λ h. TakesRecent m c.loop-entry.maps p h c.take_recent.new.maps) c.new-more.ensures c.in_ok-taken.ensures.exact in
+    let taken = takes_more m p (e.hist) c.args.maps.now c.loop-entry.maps c.take_recent.new.maps c.loop-entry.changed c.in_ok-taken.taken.changed c.requires inv.whole exact inv.grows inv.changed c.in_ok-taken.ensures.changed in
     record {
       whole = c.take_recent.ensures.whole;
-      goes_on = goes_on _ (kept c.take_recent.new.maps) (references_from m (references_of_entry e)) (references_from m (list_references_of (drop (i + 1) more))) (references_from m (list_references_of (drop i more))) _ (exact ∙ ap (λ p. list_history (list_references_of (kept c.loop-entry.maps) ++ references_from m (references_of_entry (record { page = p; hist = e.hist })))) c.key_of_page-key.ensures.back) (recent_more m (references_of_entry e) (list_references_of (drop (i + 1) more)) (list_references_of (drop i more)) (ap list_references_of (left_more more i e c.loop-entry-test.true c.entry-item.is))) inv.goes_on;
+      goes_on = goes_on _ (kept c.take_recent.new.maps) (references_from m (references_of_entry e)) (references_from m (list_references_of (drop (i + 1) more))) (references_from m (list_references_of (drop i more))) _ (exact ∙ ap (λ q. list_history (list_references_of (kept c.loop-entry.maps) ++ references_from m (references_of_entry (record { page = q; hist = e.hist })))) c.take_recent.ensures.back) (recent_more m (references_of_entry e) (list_references_of (drop (i + 1) more)) (list_references_of (drop i more)) (ap list_references_of (left_more more i e c.loop-entry-test.true c.entry-item.is))) inv.goes_on;
       undo = c.take_recent.ensures.undo ∙ inv.undo;
       grows = taken.0;
       changed = subst (MarksChanged (kept c.args.maps.now) (kept c.take_recent.new.maps)) (sym c.union-changed.ensures) taken.1;

@@ -4,6 +4,7 @@ use Rattle.warm_history.specs.declared.hist.PageHist.TheVariants.{Once}
 use Rattle.warm_history.specs.ReferenceSets.{references_from}
 use Rattle.warm_history.specs.Changes.{MarksChanged}
 use Rattle.warm_history.specs.ListHistories.{list_references_of, list_history}
+use Rattle.warm_history.specs.MapKeys.{key_of_page}
 use Rattle.warm_history.specs.MapPairs.{kept, TakesRecent}
 use Rattle.warm_history.proofs.MapPairLemmas.{IsHistory-kept, goes_on, all_taken, left_more, none_left}
 use Rattle.warm_history.proofs.ChangeLemmas.{grows_same, marks_empty, takes_more}
@@ -28,11 +29,12 @@ loop-reference-preserved c =
     let batch : List Reference = c.args.batch.now in
     let r : Reference = c.reference-item.result in
     let m : _ = c.args.horizon in
-    let exact = subst (λ h. TakesRecent m c.loop-reference.maps c.key_of_page-key.result h c.take_recent.new.maps) c.once-more.ensures c.in_ok-taken.ensures.exact in
-    let taken = takes_more m c.key_of_page-key.result (Once r.stamp) c.args.maps.now c.loop-reference.maps c.take_recent.new.maps c.loop-reference.changed c.in_ok-taken.taken.changed c.requires inv.whole exact inv.grows inv.changed c.in_ok-taken.ensures.changed in
+    let p = key_of_page r.page in
+    let exact = subst (λ h. TakesRecent m c.loop-reference.maps p h c.take_recent.new.maps) c.once-more.ensures c.in_ok-taken.ensures.exact in
+    let taken = takes_more m p (Once r.stamp) c.args.maps.now c.loop-reference.maps c.take_recent.new.maps c.loop-reference.changed c.in_ok-taken.taken.changed c.requires inv.whole exact inv.grows inv.changed c.in_ok-taken.ensures.changed in
     record {
       whole = c.take_recent.ensures.whole;
-      goes_on = goes_on _ (kept c.take_recent.new.maps) (references_from m (r ∷ [])) (references_from m (drop (i + 1) batch)) (references_from m (drop i batch)) _ (exact ∙ ap (λ p. list_history (list_references_of (kept c.loop-reference.maps) ++ references_from m (record { page = p; stamp = r.stamp } ∷ []))) c.key_of_page-key.ensures.back) (recent_more m (r ∷ []) (drop (i + 1) batch) (drop i batch) (left_more batch i r c.loop-reference-test.true c.reference-item.is)) inv.goes_on;
+      goes_on = goes_on _ (kept c.take_recent.new.maps) (references_from m (r ∷ [])) (references_from m (drop (i + 1) batch)) (references_from m (drop i batch)) _ (exact ∙ ap (λ q. list_history (list_references_of (kept c.loop-reference.maps) ++ references_from m (record { page = q; stamp = r.stamp } ∷ []))) c.take_recent.ensures.back) (recent_more m (r ∷ []) (drop (i + 1) batch) (drop i batch) (left_more batch i r c.loop-reference-test.true c.reference-item.is)) inv.goes_on;
       undo = c.take_recent.ensures.undo ∙ inv.undo;
       grows = taken.0;
       changed = subst (MarksChanged (kept c.args.maps.now) (kept c.take_recent.new.maps)) (sym c.union-changed.ensures) taken.1;

@@ -9,4 +9,4 @@ returns-in-Ok-clause-small c = λ small.
     let old : MapPairs = c.args.map.now.entries in
     let fresh : MapPairs = c.args.fresh.now in
     let few : length (with_pairs old fresh) ≤ length old + length fresh = few_with old fresh in
-    subst (λ (t : MapPairs). length t < 288230376151711744) (sym c.in-Ok.ensures.ok) (omega (arith, few, c.if-len-fresh-ge-MAX_PAIRS.false, c.len.ensures.len))
+    subst (λ (t : MapPairs). length t < 144115188075855872) (sym c.in-Ok.ensures.ok) (omega (arith, few, c.if-len-fresh-ge-MAX_PAIRS.false, c.len.ensures.len))

@@ -1,11 +1,11 @@
 use Rattle.std.proofs.Common.{rules}
-use Rattle.warm_history.proofs.BucketCounts.{each_made, empty_joined, empty_buckets, empty_small}
+use Rattle.warm_history.proofs.BucketCounts.{each_made, empty_joined, empty_maps}
 use Rattle.warm_history.proofs.bucket_maps.BucketMaps.new.Goals as goal
 
 pub invariant_of-result : goal.invariant_of-result
 invariant_of-result c =
     let none = each_made _ _ _ _ (λ p i m q called. search rules) c.from_fn.ensures.items in
-    (c.from_fn.ensures.items.long, empty_buckets 0 c.from_fn.result none, empty_small c.from_fn.result none)
+    (c.from_fn.ensures.items.long, empty_maps 0 c.from_fn.result none)
 
 pub returns : goal.returns
-returns c = empty_joined c.from_fn.result (each_made _ _ _ _ (λ p i m q called. search rules) c.from_fn.ensures.items)
+returns c = empty_joined 0 c.from_fn.result (each_made _ _ _ _ (λ p i m q called. search rules) c.from_fn.ensures.items)

@@ -1,68 +1,111 @@
-use Rattle.std.proofs.Common.{◌<◌, ◌+◌, sym, subst, ◌∙◌, length, get_or}
+use Rattle.std.proofs.Common.{◌≡◌, ◌<◌, sym, subst, ◌∙◌, arith, length, get_or, IfOk, OnErr}
 use Rattle.std.proofs.lemmas.Result.{IfOk-weaker}
-use Rattle.warm_history.specs.MapPairs.{AreKept, MapPairs}
-use Rattle.warm_history.proofs.BucketCounts.{small_at, small_with}
-use Rattle.warm_history.specs.BucketMaps.{pairs_of_maps, all_pairs, AreBuckets, AreSmall, KeysAscend}
-use Rattle.warm_history.proofs.BucketLemmas.{map_at-of, lies_in_own}
-use Rattle.warm_history.proofs.BucketSteps.{AllIn, pairs_of-set, length-set, bucket_in, buckets_with, map_rises, stays_in, own_map, recorded_in_own, unchanged, ok_then, either_way, records_exact, records_whole, records_undo, records_tell}
+use Rattle.warm_stamps.specs.Buckets.{page_bucket}
+use Rattle.warm_history.specs.BucketMaps.{LiesIn, RecordsStamps}
+use Rattle.warm_history.specs.MapKeys.{key_of_page}
+use Rattle.warm_history.specs.MapPairs.{AreKept}
+use Rattle.warm_history.specs.NearPairs.{full, IsMapOf}
+use Rattle.warm_history.proofs.BucketSteps.{ok_then, either_way, records_exact, records_whole, records_undo, records_tell}
+use Rattle.warm_history.proofs.FullMaps.{all_with, length_set, map_of, maps_with, recorded, unchanged}
+use Rattle.warm_history.proofs.NearKeys.{own_bucket_of, page_key}
 use Rattle.warm_history.proofs.bucket_maps.BucketMaps.record.Goals as goal
 
-pub record_in-requires : goal.record_in-requires
-record_in-requires c =
+pub record-requires : goal.record-requires
+record-requires c =
     let maps = c.self.inside.maps in
-    let i = c.bucket_of_key.result in
-    let there : i < length maps = own_map maps i c.args.key c.self.invariant.0 c.bucket_of_key.ensures c.requires.key in
-    let rise : KeysAscend (all_pairs (pairs_of_maps maps)) = subst KeysAscend (sym c.self.view_is) c.requires.kept.keys_ascend in
-    subst KeysAscend (map_at-of maps i c.index-self-bucket_of_key.result there) (map_rises i (pairs_of_maps maps) rise)
+    let i = c.get.result in
+    let d = c.index-self-get.result in
+    let own : i ≡ page_bucket c.args.page = c.get.ensures.value ∙ c.bucket_of.ensures in
+    let long : length maps ≡ 64 = c.self.invariant.0 in
+    let there : i < length maps = omega (arith, long, c.get.ensures.below) in
+    subst (λ b. IsMapOf b (get_or maps i d)) own (map_of i d maps c.self.invariant.1 there)
 
 pub invariant_of-self : goal.invariant_of-self
 invariant_of-self c =
     let maps = c.self.inside.maps in
-    let i = c.bucket_of_key.result in
-    let p = c.args.key in
-    let ms = pairs_of_maps maps in
-    let there : i < length maps = own_map maps i p c.self.invariant.0 c.bucket_of_key.ensures c.requires.key in
-    let old : AllIn (0 + i) _ = subst (AllIn (0 + i)) (map_at-of maps i c.index-self-bucket_of_key.result there) (bucket_in 0 i ms c.self.invariant.1) in
-    let new : AllIn (0 + i) (c.record_in.new.map).entries = stays_in c.record_in.result (λ note. note) (0 + i) p c.args.more _ _ old (lies_in_own i p c.bucket_of_key.ensures) c.record_in.ensures.ok c.record_in.ensures.err in
-    let old_small : length (get_or maps i c.index-self-bucket_of_key.result).entries < 288230376151711744 = subst (λ (m : MapPairs). length m < 288230376151711744) (map_at-of maps i c.index-self-bucket_of_key.result there) (small_at i ms c.self.invariant.2) in (
-      length-set maps i _ ∙ c.self.invariant.0,
-      subst (AreBuckets 0) (sym (pairs_of-set maps i _)) (buckets_with 0 i _ ms c.self.invariant.1 new),
-      subst AreSmall (sym (pairs_of-set maps i _)) (small_with i _ ms c.self.invariant.2 (c.record_in.ensures.small old_small)),
+    let i = c.get.result in
+    let new = c.record.new.self in
+    let own : i ≡ page_bucket c.args.page = c.get.ensures.value ∙ c.bucket_of.ensures in (
+      length_set maps i new ∙ c.self.invariant.0,
+      maps_with i new maps c.self.invariant.1 (subst (λ b. IsMapOf b new) (sym own) c.record.ensures.map),
     )
 
 pub returns-clause-exact : goal.returns-clause-exact
 returns-clause-exact c =
-    let p = c.args.key in
-    let ok = recorded_in_own c.record_in.result c.self.inside.maps c.bucket_of_key.result p c.args.more c.index-self-bucket_of_key.result c.record_in.new.map c.args.self.now (c.self.invariant.0, c.self.invariant.1) c.bucket_of_key.ensures c.requires.key c.self.view_is c.record_in.ensures.ok in
-    ok_then c.record_in.result _ _ (λ note records. records_exact c.args.self.now _ p c.args.more note c.requires.key c.requires.kept records) ok
+    let page = c.args.page in
+    let p = key_of_page page in
+    let maps = c.self.inside.maps in
+    let i = c.get.result in
+    let d = c.index-self-get.result in
+    let new = c.record.new.self in
+    let own : i ≡ page_bucket page = c.get.ensures.value ∙ c.bucket_of.ensures in
+    let long : length maps ≡ 64 = c.self.invariant.0 in
+    let there : i < length maps = omega (arith, long, c.get.ensures.below) in
+    let lies : LiesIn i p = subst (λ b. LiesIn b p) (sym own) (own_bucket_of page (omega arith) (omega arith)) in
+    let here = subst (λ b. IfOk c.record.result (λ note. RecordsStamps (full b (get_or maps i d)) page p c.args.more note (full b new))) (sym own) c.record.ensures.ok in
+    let ok = recorded c.record.result i p page c.args.more d new maps c.args.self.now c.self.invariant.1 there lies c.self.view_is here in
+    ok_then c.record.result _ _ (λ note records. records_exact c.args.self.now (all_with maps i new) page p c.args.more note (page_key page (omega arith) (omega arith)) c.requires records) ok
 
 pub returns-clause-whole : goal.returns-clause-whole
 returns-clause-whole c =
+    let page = c.args.page in
+    let p = key_of_page page in
     let maps = c.self.inside.maps in
-    let i = c.bucket_of_key.result in
-    let p = c.args.key in
-    let there : i < length maps = own_map maps i p c.self.invariant.0 c.bucket_of_key.ensures c.requires.key in
-    let ok = recorded_in_own c.record_in.result maps i p c.args.more c.index-self-bucket_of_key.result c.record_in.new.map c.args.self.now (c.self.invariant.0, c.self.invariant.1) c.bucket_of_key.ensures c.requires.key c.self.view_is c.record_in.ensures.ok in
-    let err = unchanged c.record_in.result maps i c.index-self-bucket_of_key.result c.record_in.new.map c.args.self.now there c.self.view_is c.record_in.ensures.err in
-    either_way c.record_in.result _ _ _
-    (λ note records. records_whole c.args.self.now _ p c.args.more note c.requires.key c.requires.kept records)
-    (λ same. subst AreKept (sym same) c.requires.kept) ok err
+    let i = c.get.result in
+    let d = c.index-self-get.result in
+    let new = c.record.new.self in
+    let own : i ≡ page_bucket page = c.get.ensures.value ∙ c.bucket_of.ensures in
+    let long : length maps ≡ 64 = c.self.invariant.0 in
+    let there : i < length maps = omega (arith, long, c.get.ensures.below) in
+    let lies : LiesIn i p = subst (λ b. LiesIn b p) (sym own) (own_bucket_of page (omega arith) (omega arith)) in
+    let here = subst (λ b. IfOk c.record.result (λ note. RecordsStamps (full b (get_or maps i d)) page p c.args.more note (full b new))) (sym own) c.record.ensures.ok in
+    let same = subst (λ b. OnErr c.record.result (full b new ≡ full b (get_or maps i d))) (sym own) c.record.ensures.err in
+    let ok = recorded c.record.result i p page c.args.more d new maps c.args.self.now c.self.invariant.1 there lies c.self.view_is here in
+    let err = unchanged c.record.result i d new maps c.args.self.now there c.self.view_is same in
+    either_way c.record.result _ _ _
+    (λ note records. records_whole c.args.self.now (all_with maps i new) page p c.args.more note (page_key page (omega arith) (omega arith)) c.requires records)
+    (λ is. subst AreKept (sym is) c.requires) ok err
 
 pub returns-clause-undo : goal.returns-clause-undo
 returns-clause-undo c =
-    let p = c.args.key in
-    let ok = recorded_in_own c.record_in.result c.self.inside.maps c.bucket_of_key.result p c.args.more c.index-self-bucket_of_key.result c.record_in.new.map c.args.self.now (c.self.invariant.0, c.self.invariant.1) c.bucket_of_key.ensures c.requires.key c.self.view_is c.record_in.ensures.ok in
-    IfOk-weaker c.record_in.result _ _ (λ note records. records_undo c.args.self.now _ p c.args.more note c.requires.kept records) ok
+    let page = c.args.page in
+    let p = key_of_page page in
+    let maps = c.self.inside.maps in
+    let i = c.get.result in
+    let d = c.index-self-get.result in
+    let new = c.record.new.self in
+    let own : i ≡ page_bucket page = c.get.ensures.value ∙ c.bucket_of.ensures in
+    let long : length maps ≡ 64 = c.self.invariant.0 in
+    let there : i < length maps = omega (arith, long, c.get.ensures.below) in
+    let lies : LiesIn i p = subst (λ b. LiesIn b p) (sym own) (own_bucket_of page (omega arith) (omega arith)) in
+    let here = subst (λ b. IfOk c.record.result (λ note. RecordsStamps (full b (get_or maps i d)) page p c.args.more note (full b new))) (sym own) c.record.ensures.ok in
+    let ok = recorded c.record.result i p page c.args.more d new maps c.args.self.now c.self.invariant.1 there lies c.self.view_is here in
+    IfOk-weaker c.record.result _ _ (λ note records. records_undo c.args.self.now (all_with maps i new) page c.args.more note c.requires records) ok
 
 pub returns-clause-tells : goal.returns-clause-tells
 returns-clause-tells c =
-    let p = c.args.key in
-    let ok = recorded_in_own c.record_in.result c.self.inside.maps c.bucket_of_key.result p c.args.more c.index-self-bucket_of_key.result c.record_in.new.map c.args.self.now (c.self.invariant.0, c.self.invariant.1) c.bucket_of_key.ensures c.requires.key c.self.view_is c.record_in.ensures.ok in
-    IfOk-weaker c.record_in.result _ _ (λ note records. records_tell c.args.self.now _ p c.args.more note records) ok
+    let page = c.args.page in
+    let p = key_of_page page in
+    let maps = c.self.inside.maps in
+    let i = c.get.result in
+    let d = c.index-self-get.result in
+    let new = c.record.new.self in
+    let own : i ≡ page_bucket page = c.get.ensures.value ∙ c.bucket_of.ensures in
+    let long : length maps ≡ 64 = c.self.invariant.0 in
+    let there : i < length maps = omega (arith, long, c.get.ensures.below) in
+    let lies : LiesIn i p = subst (λ b. LiesIn b p) (sym own) (own_bucket_of page (omega arith) (omega arith)) in
+    let here = subst (λ b. IfOk c.record.result (λ note. RecordsStamps (full b (get_or maps i d)) page p c.args.more note (full b new))) (sym own) c.record.ensures.ok in
+    let ok = recorded c.record.result i p page c.args.more d new maps c.args.self.now c.self.invariant.1 there lies c.self.view_is here in
+    IfOk-weaker c.record.result _ _ (λ note records. records_tell c.args.self.now (all_with maps i new) page p c.args.more note records) ok
 
 pub returns-clause-err : goal.returns-clause-err
 returns-clause-err c =
     let maps = c.self.inside.maps in
-    let i = c.bucket_of_key.result in
-    let there : i < length maps = own_map maps i c.args.key c.self.invariant.0 c.bucket_of_key.ensures c.requires.key in
-    unchanged c.record_in.result maps i c.index-self-bucket_of_key.result c.record_in.new.map c.args.self.now there c.self.view_is c.record_in.ensures.err
+    let i = c.get.result in
+    let d = c.index-self-get.result in
+    let new = c.record.new.self in
+    let own : i ≡ page_bucket c.args.page = c.get.ensures.value ∙ c.bucket_of.ensures in
+    let long : length maps ≡ 64 = c.self.invariant.0 in
+    let there : i < length maps = omega (arith, long, c.get.ensures.below) in
+    let same = subst (λ b. OnErr c.record.result (full b new ≡ full b (get_or maps i d))) (sym own) c.record.ensures.err in
+    unchanged c.record.result i d new maps c.args.self.now there c.self.view_is same

@@ -1,4 +1,4 @@
-use Rattle.std.proofs.Common.{ap, sym, subst}
+use Rattle.std.proofs.Common.{sym, subst}
 use Rattle.std.specs.List.Sorted.{IsPermutation}
 use Rattle.std.proofs.lemmas.List.Sorted.{IsPermutation-sym}
 use Rattle.warm_history.specs.MapPairs.{as_entries, kept}
@@ -9,6 +9,6 @@ use Rattle.warm_history.proofs.history.History.unordered.Goals as goal
 pub returns : goal.returns
 returns c =
     let pairs = c.self.inside.maps in
-    subst (λ h. IsPermutation (entries_of h) (as_entries c.each_pair.result)) c.self.view_is
-    (subst (IsPermutation (kept pairs)) (sym (ap as_entries c.each_pair.ensures))
+    subst (λ h. IsPermutation (entries_of h) c.each_entry.result) c.self.view_is
+    (subst (IsPermutation (kept pairs)) (sym c.each_entry.ensures)
     (IsPermutation-sym (as_entries pairs) (kept pairs) (permuted_kept pairs c.self.invariant.0)))

@@ -1,50 +1,50 @@
 use Rattle.std.proofs.Common.{ap, ◌∙◌, sym, refl, Some, ◌++◌}
 use Rattle.std.specs.Map.{set_value}
 use Rattle.std.specs.BTreeMap.{is_at, insert_entry}
-use Rattle.std.specs.Ordering.{nat_cmp}
 use Rattle.std.proofs.lemmas.Map.Steps.{set_value_same}
 use Rattle.warm_history.specs.Histories.{hist_stamps, known_stamps, latest_of}
-use Rattle.warm_history.specs.MapPairs.{MapPairs}
-use Rattle.warm_history.proofs.MapPairLemmas.{set-insert}
-use Rattle.warm_history.proofs.bucket_maps.record_likely_known.Goals as goal
+use Rattle.warm_history.proofs.RecordLemmas.{set_there}
+use Rattle.warm_history.proofs.page_map.record_likely_known.Goals as goal
 
 -- the page is there, and its value is unchanged
 pub returns-in_default-merge_into-clause-ok : goal.returns-in_default-merge_into-clause-ok
-returns-in_default-merge_into-clause-ok c =
+returns-in_default-merge_into-clause-ok g c =
+    let cmp = g.K.Ord.cmp in
     let through = c.get_mut.follows.holds c.merge_into.new.known in
-    let old : MapPairs = c.args.map.now.entries in
+    let old = c.args.map.now.entries in
     let key = c.args.key in
     let h = c.merge_into.new.known in
-    let g = c.in-Some.known.now in (
+    let was = c.in-Some.known.now in (
       h,
       c.merge_into.ensures.now ∙ ap (λ k. latest_of (hist_stamps c.args.more ++ known_stamps k)) c.in-Some.ensures.value,
-      through.0 ∙ set-insert key h g old c.requires (sym c.in-Some.ensures.value),
+      through.0 ∙ set_there cmp g.met.K.Ord.total key h was old c.get_mut.ensures.ordered (sym c.in-Some.ensures.value),
       through.0
-          ∙ ap (set_value (is_at (nat_cmp key)) old) c.in_default-merge_into.ensures.same
-          ∙ set_value_same (is_at (nat_cmp key)) old g (sym c.in-Some.ensures.value),
+          ∙ ap (set_value (is_at (cmp key)) old) c.in_default-merge_into.ensures.same
+          ∙ set_value_same (is_at (cmp key)) old was (sym c.in-Some.ensures.value),
     )
 
 -- it is there, and changes
 pub returns-in-Some-clause-ok : goal.returns-in-Some-clause-ok
-returns-in-Some-clause-ok c =
+returns-in-Some-clause-ok g c =
+    let cmp = g.K.Ord.cmp in
     let through = c.get_mut.follows.holds c.merge_into.new.known in
-    let old : MapPairs = c.args.map.now.entries in
+    let old = c.args.map.now.entries in
     let h = c.merge_into.new.known in
-    let g = c.in-Some.known.now in (
+    let was = c.in-Some.known.now in (
       h,
       c.merge_into.ensures.now ∙ ap (λ k. latest_of (hist_stamps c.args.more ++ known_stamps k)) c.in-Some.ensures.value,
-      through.0 ∙ set-insert c.args.key h g old c.requires (sym c.in-Some.ensures.value),
+      through.0 ∙ set_there cmp g.met.K.Ord.total c.args.key h was old c.get_mut.ensures.ordered (sym c.in-Some.ensures.value),
       (refl, ap (λ x. Some x) c.in-Some-merge_into.ensures.before ∙ c.in-Some.ensures.value, λ same. c.in-Some-merge_into.ensures.differs (cc)),
     )
 
 -- it is new
 pub returns-clause-ok : goal.returns-clause-ok
-returns-clause-ok c =
+returns-clause-ok g c =
     let h = c.args.more in
     let kept = ap (λ m. m.entries) c.get_mut.follows.holds-at-none in
     let key = c.args.key in (
       h,
       c.prove_two_latest.ensures ∙ ap (λ k. latest_of (hist_stamps c.args.more ++ known_stamps k)) c.in_default.ensures.value,
-      c.in_ok-insert.ensures.entries ∙ ap (λ (es : MapPairs). insert_entry nat_cmp es key h) kept,
+      c.in_ok-insert.ensures.entries ∙ ap (λ es. insert_entry g.K.Ord.cmp es key h) kept,
       (refl, c.in_default.ensures.value, λ same. absurd (cc)),
     )

@@ -1,0 +1,118 @@
+//! One of the two maps of a bucket: what is known of pages at keys of one type.
+ghost use Rattle.std.specs.Prelude.{◌≡◌, ◌+◌, ◌<◌, length, IfOk, OnErr};
+ghost use Rattle.warm_history.specs.BucketMaps.{RecordsAt};
+ghost use Rattle.warm_history.specs.Cuts.{cut_at};
+ghost use Rattle.warm_history.specs.Undo.{put_back_at};
+
+use crate::bucket_map::{MAX_PAIRS, UndoNote};
+use crate::packed::{Packed, keep_cut, merge_into, prove_two_latest};
+use std::alloc::AllocError;
+use std::collections::BTreeMap;
+use warm_stamps::PageId;
+
+// Takes in the given stamps of a page with this key, and returns what was known of it where that
+// changes.
+//
+// Where the page is likely new it inserts first, and otherwise it looks the page up first: each is
+// the faster way for its case.
+pub(crate) fn record_in<K: Ord + Copy>(
+    map: &mut BTreeMap<K, Packed>,
+    key: K,
+    page: PageId,
+    more: Packed,
+    likely_new: bool,
+) -> Result<Option<UndoNote>, AllocError>
+    ensures ok { IfOk result
+        (λ note. RecordsAt K.cmp map.old.entries page key more note map.new.entries) }
+    ensures err { OnErr result (map.new.entries ≡ map.old.entries) }
+    ensures small { length map.old.entries < MAX_PAIRS → length map.new.entries < MAX_PAIRS }
+{
+    if likely_new && map.len() < MAX_PAIRS - 1 {
+        return record_likely_new(map, key, page, more);
+    }
+    record_likely_known(map, key, page, more)
+}
+
+// The same for a page that is likely new: it is inserted at once, which costs one descent of the
+// map where it is new and two where it is known.
+fn record_likely_new<K: Ord + Copy>(
+    map: &mut BTreeMap<K, Packed>,
+    key: K,
+    page: PageId,
+    more: Packed,
+) -> Result<Option<UndoNote>, AllocError>
+    requires { length map.old.entries + 1 < MAX_PAIRS }
+    ensures ok { IfOk result
+        (λ note. RecordsAt K.cmp map.old.entries page key more note map.new.entries) }
+    ensures err { OnErr result (map.new.entries ≡ map.old.entries) }
+    ensures small { length map.new.entries < MAX_PAIRS }
+{
+    prove_two_latest(&more);
+    let Some(before) = map.insert(key, more)? else {
+        return Ok(Some(UndoNote { page, hist: None }));
+    };
+    let Some(known) = map.get_mut(&key) else {
+        unreachable!()
+    };
+    *known = before;
+    let Some(before) = merge_into(known, more) else {
+        return Ok(None);
+    };
+    let hist = Some(before);
+    Ok(Some(UndoNote { page, hist }))
+}
+
+// The same for a page that is likely known: it is looked up first, which costs one descent of the
+// map where it is known and two where it is new.
+fn record_likely_known<K: Ord + Copy>(
+    map: &mut BTreeMap<K, Packed>,
+    key: K,
+    page: PageId,
+    more: Packed,
+) -> Result<Option<UndoNote>, AllocError>
+    ensures ok { IfOk result
+        (λ note. RecordsAt K.cmp map.old.entries page key more note map.new.entries) }
+    ensures err { OnErr result (map.new.entries ≡ map.old.entries) }
+    ensures small { length map.old.entries < MAX_PAIRS → length map.new.entries < MAX_PAIRS }
+{
+    if let Some(known) = map.get_mut(&key) {
+        let Some(before) = merge_into(known, more) else {
+            return Ok(None);
+        };
+        let hist = Some(before);
+        return Ok(Some(UndoNote { page, hist }));
+    }
+    if map.len() >= MAX_PAIRS - 1 {
+        return Err(AllocError);
+    }
+    prove_two_latest(&more);
+    map.insert(key, more)?;
+    Ok(Some(UndoNote { page, hist: None }))
+}
+
+// Restores what was known of a page with this key. Allocation-free.
+pub(crate) fn put_back_in<K: Ord + Copy>(
+    map: &mut BTreeMap<K, Packed>,
+    key: K,
+    known: Option<Packed>,
+)
+    ensures { map.new.entries ≡ put_back_at K.cmp key known map.old.entries }
+{
+    match known {
+        None => {
+            let _ = map.remove(&key);
+        }
+        Some(hist) => {
+            if let Some(now) = map.get_mut(&key) {
+                *now = hist;
+            }
+        }
+    }
+}
+
+// Forgets the stamps older than the horizon. Allocation-free.
+pub(crate) fn forget_in<K: Ord + Copy>(map: &mut BTreeMap<K, Packed>, horizon: u64)
+    ensures { map.new.entries ≡ cut_at horizon map.old.entries }
+{
+    map.retain(|_, hist| keep_cut(hist, horizon));
+}
