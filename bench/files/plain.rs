@@ -62,9 +62,9 @@ fn read_dump(reader: impl Read) -> Option<History> {
         if frame[4] == 2 {
             break;
         }
-        let told = decode(&frame)?;
-        history.raise(told.horizon);
-        history.take_all(&told.entries, |_, _| ());
+        let message = decode(&frame)?;
+        history.raise(message.horizon);
+        history.take_all(&message.entries, |_, _| ());
     }
     let is_end = reader.read(&mut [0]).ok()? == 0;
     (is_end && digests(&history).as_flattened() == &frame[HEADER..]).then_some(history)

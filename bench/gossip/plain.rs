@@ -35,7 +35,7 @@ fn remember(node: &mut Node, pages: u64, from: u64) {
     }
 }
 
-fn told(id: u16, frames: usize, pages: u64) -> Node {
+fn knowing(id: u16, frames: usize, pages: u64) -> Node {
     let mut node = Node::new(id, Pool::new(frames, pages, PAGE_SIZE));
     remember(&mut node, pages, 0);
     node
@@ -60,8 +60,8 @@ fn round(first: &mut Node, second: &mut Node) -> u64 {
 }
 
 fn rounds(pages: u64, buckets: u64, rounds: u64) -> (u64, u128) {
-    let mut first = told(1, 1, pages);
-    let mut second = told(2, 1, pages);
+    let mut first = knowing(1, 1, pages);
+    let mut second = knowing(2, 1, pages);
     let start = Instant::now();
     let mut sent = 0u64;
     for i in 0..rounds {
@@ -77,7 +77,7 @@ fn rounds(pages: u64, buckets: u64, rounds: u64) -> (u64, u128) {
 }
 
 fn warmed(pages: u64, steps: u64) -> (u64, u128) {
-    let mut node = told(1, WARMED, pages);
+    let mut node = knowing(1, WARMED, pages);
     let start = Instant::now();
     let loaded = (0..steps).map_while(|_| node.warm_step().expect("no page is fixed"));
     let sum = loaded.fold(0u64, |sum, page| sum.wrapping_mul(31).wrapping_add(page.no));
@@ -87,7 +87,7 @@ fn warmed(pages: u64, steps: u64) -> (u64, u128) {
 
 // This many offers. Before each the node absorbs pages of this many buckets, which is not timed.
 fn offers(pages: u64, buckets: u64, offers: u64) -> (u64, u128) {
-    let mut node = told(1, 1, pages);
+    let mut node = knowing(1, 1, pages);
     node.offer();
     let (mut sum, mut nanos) = (0u64, 0);
     for i in 0..offers {

@@ -70,7 +70,7 @@ fn sum_of(history: &History) -> u64 {
     sum
 }
 
-fn told(what: &str, made: u64, spent: Duration) {
+fn print_timed(what: &str, made: u64, spent: Duration) {
     println!("{what}: {made}");
     println!("{what}: {} ns", spent.as_nanos());
 }
@@ -84,7 +84,7 @@ fn timed<T>(work: impl FnOnce() -> T) -> (T, Duration) {
 fn absorbed(what: &str, all: &[Reference]) -> History {
     let mut history = History::new();
     let ((), spent) = timed(|| all.chunks(BATCH).for_each(|batch| absorb(&mut history, batch)));
-    told(what, sum_of(&history), spent);
+    print_timed(what, sum_of(&history), spent);
     history
 }
 
@@ -92,7 +92,7 @@ fn absorbed(what: &str, all: &[Reference]) -> History {
 fn raised(what: &str, whole: &History, time: u64) {
     let mut history = whole.clone();
     let (_, spent) = timed(|| history.raise(time));
-    told(what, sum_of(&history), spent);
+    print_timed(what, sum_of(&history), spent);
 }
 
 fn raises(each: &[Reference], pages: u64) {
@@ -127,16 +127,16 @@ fn main() {
     drop(absorbed("absorb by Zipf's law", &zipf));
     let mut large = absorbed("absorb new pages", &each);
     let ((), spent) = timed(|| join(&mut large, more.iter().copied()));
-    told("join 1,000 entries", sum_of(&large), spent);
+    print_timed("join 1,000 entries", sum_of(&large), spent);
     let (copied, spent) = timed(|| large.clone());
-    told("copy", sum_of(&copied), spent);
+    print_timed("copy", sum_of(&copied), spent);
     let ((), spent) = timed(|| join(&mut large, copied.entries()));
-    told("join all, known", sum_of(&large), spent);
+    print_timed("join all, known", sum_of(&large), spent);
     let mut empty = History::new();
     let ((), spent) = timed(|| join(&mut empty, large.entries()));
-    told("join all, new", sum_of(&empty), spent);
+    print_timed("join all, new", sum_of(&empty), spent);
     let (sum, spent) = timed(|| sum_of(black_box(&large)));
-    told("go over all", sum, spent);
+    print_timed("go over all", sum, spent);
     let (found, spent) = timed(|| {
         let mut drawn = 11;
         (0..pages)
@@ -146,6 +146,6 @@ fn main() {
             })
             .count()
     });
-    told("look up", found as u64, spent);
+    print_timed("look up", found as u64, spent);
     raises(&each, pages);
 }

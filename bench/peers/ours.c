@@ -18,7 +18,7 @@ enum { BATCH = 1024 };
 
 struct pool {
     warm handle;
-    bool is_told; /* of each access */
+    bool refers_to_each; /* each access is handed in as a reference */
     bool is_of_misses;
     uint64_t time;
 };
@@ -62,7 +62,7 @@ void *open_pool(const struct load *load, uint64_t drawn) {
     struct pool *pool = calloc(1, sizeof *pool);
     if (pool == NULL) ok(WARM_MEMORY, "calloc");
     warm_device device = {.pages = load->file_pages, .fd = load->fd};
-    pool->is_told = strcmp(load->kind, kinds[1]) == 0;
+    pool->refers_to_each = strcmp(load->kind, kinds[1]) == 0;
     pool->is_of_misses = load->is_of_misses;
     ok(warm_open(&pool->handle, 1, load->pages, PAGE_SIZE, &device, 1), "warm_open");
     know_file(pool, load, drawn);
@@ -72,7 +72,7 @@ void *open_pool(const struct load *load, uint64_t drawn) {
 /* Without new references the page that comes in would be the next to leave, and all misses would be of one frame. */
 void before_slice(void *at, const uint32_t *pages, size_t count) {
     struct pool *pool = at;
-    if (pool->is_told || !pool->is_of_misses) return;
+    if (pool->refers_to_each || !pool->is_of_misses) return;
     refer(pool, pages, count);
 }
 
@@ -83,7 +83,7 @@ uint64_t play_slice(void *at, const uint32_t *pages, size_t count) {
         uint8_t bytes[8];
         uint64_t number;
         warm_slot slot;
-        if (pool->is_told) refer_once(pool, pages[i]);
+        if (pool->refers_to_each) refer_once(pool, pages[i]);
         ok(warm_pin(&pool->handle, (warm_page){.no = pages[i]}, &slot), "warm_pin");
         ok(warm_read(&pool->handle, slot, 0, bytes, sizeof bytes), "warm_read");
         ok(warm_unpin(&pool->handle, slot), "warm_unpin");

@@ -324,10 +324,10 @@ first_after i j request h g given h' whole received =
     let messages : List Message = requested_messages j g request in
     let last : Message = Want j g.horizon request in
     let A : ReferenceSet = all_refs (messages ++ last ∷ []) in
-    let told : A.given ≡ all_given messages = given-all (messages ++ last ∷ []) ∙ flat_map-append given_in messages (last ∷ []) ∙ append-nil (all_given messages) in
+    let given_is : A.given ≡ all_given messages = given-all (messages ++ last ∷ []) ∙ flat_map-append given_in messages (last ∷ []) ∙ append-nil (all_given messages) in
     let at : A.horizon ≡ g.horizon = at_last g.horizon messages last (wanted_at j request g) refl in
     receives_refs i S (messages ++ last ∷ []) given h' (subst (λ k. Receives i k (messages ++ last ∷ []) given h') (sym (history_of_own_references h whole)) received)
-    ∙ second_alike S A (in_buckets request (references_of g)) (ap (max h.horizon) at) (λ p. ap (λ (R : List Reference). list_hist R p) told ∙ hist-wanted j request g p)
+    ∙ second_alike S A (in_buckets request (references_of g)) (ap (max h.horizon) at) (λ p. ap (λ (R : List Reference). list_hist R p) given_is ∙ hist-wanted j request g p)
 
 -- and j receives what i then has of them, which for j is no more than what i had before
 second_after : (i j request : ℕ) (h g : HistoryView) (given last : List Message)
@@ -346,7 +346,7 @@ second_after i j request h g given last h' g' whole le is answered back =
     let horizon : h'.horizon ≡ X.horizon = ap (λ (k : HistoryView). k.horizon) is ∙ horizon-history X in
     let entries : entries_of h' ≡ list_history (references X) = ap entries_of is ∙ entries-history X in
     let low : G.horizon ≤ h'.horizon = at_most h'.horizon given (subst (AllByRecursion (IsAt h'.horizon)) (sym answered) (wanted_at i request h')) in
-    let told : (p : PageId) → list_hist G.given p ≡ list_hist B.given p = λ p.
+    let hists_alike : (p : PageId) → list_hist G.given p ≡ list_hist B.given p = λ p.
     ap (λ (R : List Reference). list_hist R p) (given-all given ∙ ap all_given answered)
     ∙ hist-wanted i request h' p
     ∙ hist-kept test (references_of_entries (entries_of h')) p
@@ -354,7 +354,7 @@ second_after i j request h g given last h' g' whole le is answered back =
     ∙ sym (hist-kept test (references X) p)
     ∙ ap (λ (R : List Reference). list_hist R p) (sym (references-those (λ r. test r.page) X)) in
     receives_refs j T given last g' (subst (λ k. Receives j k given last g') (sym (history_of_own_references g whole)) back)
-    ∙ second_alike T G B (omega (arith, le, low, horizon)) told
+    ∙ second_alike T G B (omega (arith, le, low, horizon)) hists_alike
     ∙ history_alike T T B Z refl refl (λ p. refl) (λ p. ap (λ (R : List Reference). list_hist R p) (kept-references Z))
     ∙ given_alike T Z (in_buckets request S) (omega (arith, le)) (λ p. hist_back request S.given T.given p)
 

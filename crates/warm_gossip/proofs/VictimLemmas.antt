@@ -162,7 +162,7 @@ step_leads S call reply old new is step = absurd step
 -- the frame into which a page was loaded is one of the frames
 pub frame_is_there : {h : HistoryView} {v w : PoolView} {p : PageId} {fixes : ℕ} {slot : Slot}
     → PutsIn h v p fixes slot w → slot.index < length v.frames
-frame_is_there puts = elim puts.place [ inl free ↦ free.there | inr victim ↦ victim.there ]
+frame_is_there puts = elim puts.to_load [ inl free ↦ free.there | inr victim ↦ victim.there ]
 
 -- what holds of the frame into which a page was put, and of the others, holds of each
 pub frames_after : {h : HistoryView} {v w : PoolView} {p : PageId} {fixes : ℕ} {slot : Slot}
@@ -177,7 +177,7 @@ frames_after {h} {v} {w} {p} {fixes} {slot} puts P here others i =
 pub victim_left : {h : HistoryView} {v w : PoolView} {p : PageId} {fixes : ℕ} {slot : Slot}
     → PutsIn h v p fixes slot w → (q : PageId) → (frame_at v slot.index).page ≡ Some q
     → HasNoFreeFrame v × IsVictim (references_of h) (unfixed_pages v) (Some q)
-victim_left {h} {v} puts q held = elim puts.place [
+victim_left {h} {v} puts q held = elim puts.to_load [
   | inl free ↦ let no : None ≡ Some q = sym free.free ∙ held in absurd (cc)
   | inr victim ↦ (victim.full, subst (λ o. IsVictim (references_of h) (unfixed_pages v) o) (sym victim.holds ∙ held) victim.victim)
 ]

@@ -110,7 +110,7 @@ puts_2 : PutsIn (history heated) (pool (held 0 1) free) (page 2) 0
     (record { index = 1; generation = 1 }) (pool (held 0 1) (held 2 1))
 puts_2 = record {
   absent = next_is_2.3.1;
-  place = inl (record { there = omega arith; free = refl; least = taken });
+  to_load = inl (record { there = omega arith; free = refl; least = taken });
   below = omega arith;
   current = refl;
   becomes = refl;
@@ -149,7 +149,7 @@ puts_1 : PutsIn (history heated) (pool (held 0 1) (held 2 1)) (page 1) 0
     (record { index = 0; generation = 2 }) (pool (held 1 2) (held 2 1))
 puts_1 = record {
   absent = next_is_1.3.1;
-  place = inr (record { there = omega arith; full = full; page = page 0; holds = refl; unfixed = refl; victim = victim_is_0 });
+  to_load = inr (record { there = omega arith; full = full; page = page 0; holds = refl; unfixed = refl; victim = victim_is_0 });
   below = omega arith;
   current = refl;
   becomes = refl;

@@ -11,7 +11,7 @@ use Rattle.warm_pool.specs.declared.frame.Status.{Status}
 use Rattle.warm_pool.specs.Frames.{FrameState, FrameBody, FramesState, AreTied, LagsBehind, nth_frame, fresh_frame, fresh_body, unused_status, rank_in, frame_of, frames_of, eviction_key}
 use Rattle.warm_pool.specs.FrameSteps.{changed_at, pages_held}
 use Rattle.warm_pool.proofs.Slots.{at_set}
-use Rattle.warm_pool.proofs.Lagging.{IsTold, fresh_lag, all_behind, all_repaired}
+use Rattle.warm_pool.proofs.Lagging.{IsUpdated, fresh_lag, all_behind, all_repaired}
 
 -- the frames of a pool whose pages have this size
 abbrev pub kept : ℕ → List (Option PageId) → List Status → List FrameBody → FramesState
@@ -158,22 +158,22 @@ becomes {ps} {ps'} {ss} {ss'} {bs} {bs'} {size = size} t e i h c change is =
     ap (λ fs. record { page_size = size; frames = fs }) (become c ∙ ap (set (frames_of ps ss bs) i) (is ∙ ap change (sym here)))
     ∙ ap (λ w. changed_at w i change) e
 
--- they stay tied, where the contest was told of the changed frame
+-- they stay tied, where the contest was updated for the changed frame
 pub stay_tied : {ps ps' : List (Option PageId)} {ss ss' : List Status} {bs bs' : List FrameBody}
     {contest contest' : _} {i : ℕ} {p : Option PageId} {s : Status} {b : FrameBody}
     → AreTied ps ss bs contest → Changes ps ss bs i p s b ps' ss' bs' → i < length ps
-    → IsTold contest i (frame_of p s b) contest' → AreTied ps' ss' bs' contest'
-stay_tied {ps} {ps'} {ss} {ss'} {bs} {bs'} {contest} {contest'} {i} {p} {s} {b} t c there told =
+    → IsUpdated contest i (frame_of p s b) contest' → AreTied ps' ss' bs' contest'
+stay_tied {ps} {ps'} {ss} {ss'} {bs} {bs'} {contest} {contest'} {i} {p} {s} {b} t c there update =
     let room = ap length c.pages ∙ length-set ps i p in
     let frames = frames_of ps ss bs in
     record {
       status_each = ap length c.statuses ∙ length-set ss i s ∙ t.status_each ∙ sym room;
       body_each = ap length c.bodies ∙ length-set bs i b ∙ t.body_each ∙ sym room;
-      contest_each = told.count ∙ t.contest_each ∙ sym room;
+      contest_each = update.count ∙ t.contest_each ∙ sym room;
       lags = subst (λ fs. (j : ℕ) → LagsBehind (key_at contest' j) (nth_frame fs j)) (sym (become c))
           (at_set (fresh_frame []) (λ j f. LagsBehind (key_at contest' j) f) frames i (frame_of p s b)
-          (subst (λ n. i < n) (sym (count ps ss bs t.status_each t.body_each)) there) told.here
-          (λ j ne. subst (λ k. LagsBehind k (nth_frame frames j)) (sym (told.others j ne)) (t.lags j)));
+          (subst (λ n. i < n) (sym (count ps ss bs t.status_each t.body_each)) there) update.here
+          (λ j ne. subst (λ k. LagsBehind k (nth_frame frames j)) (sym (update.others j ne)) (t.lags j)));
     }
 
 -- each has its slot

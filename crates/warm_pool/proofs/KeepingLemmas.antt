@@ -64,7 +64,7 @@ full_leaves h s t i p r x = if_err _ _ r x (λ why full. subst (λ y. LeavesDevi
 pub failed_leaves : (h : HistoryView) (s t : PoolState) (i : ℕ) (p : PageId)
     → IsFrameToLoad h (view_of s) (Some i)
     → (why : PoolFault) → LoadFails s i p why t → LeavesDevices h s p why t
-failed_leaves h s t i p place ReadFault l = l.devices
-failed_leaves h s t i p place WriteBack l =
-    record { frame = i; page = l.page; place = place; holds = l.holds; dirty = l.dirty; waits = l.waits; others = l.others }
-failed_leaves h s t i p place why l = absurd l
+failed_leaves h s t i p to_load ReadFault l = l.devices
+failed_leaves h s t i p to_load WriteBack l =
+    record { frame = i; page = l.page; to_load = to_load; holds = l.holds; dirty = l.dirty; waits = l.waits; others = l.others }
+failed_leaves h s t i p to_load why l = absurd l

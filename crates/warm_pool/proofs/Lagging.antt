@@ -70,22 +70,22 @@ lags_empty status body = record {
   ranked = inl refl;
 }
 
--- The contest was told of one frame: the other slots keep their keys, and what it has of this one
--- does not come after what the frame is now.
-pub record IsTold (contest : List (Option RankKey)) (i : ℕ) (f : FrameState)
-    (told : List (Option RankKey)) : Type 0 where
-  pub count : length told ≡ length contest
-  pub others : (j : ℕ) → j ≢ i → key_at told j ≡ key_at contest j
-  pub here : LagsBehind (key_at told i) f
+-- The contest was updated for one frame: the other slots keep their keys, and the key of this one
+-- does not come after the one with which the frame competes now.
+pub record IsUpdated (contest : List (Option RankKey)) (i : ℕ) (f : FrameState)
+    (keys : List (Option RankKey)) : Type 0 where
+  pub count : length keys ≡ length contest
+  pub others : (j : ℕ) → j ≢ i → key_at keys j ≡ key_at contest j
+  pub here : LagsBehind (key_at keys i) f
 
-pub untold : (contest : List (Option RankKey)) (i : ℕ) (f : FrameState)
-    → LagsBehind (key_at contest i) f → IsTold contest i f contest
-untold contest i f lags = record { count = refl; others = λ j ne. refl; here = lags }
+pub not_updated : (contest : List (Option RankKey)) (i : ℕ) (f : FrameState)
+    → LagsBehind (key_at contest i) f → IsUpdated contest i f contest
+not_updated contest i f lags = record { count = refl; others = λ j ne. refl; here = lags }
 
 -- it was given the page's rank
-pub told : (contest : List (Option RankKey)) (i : ℕ) (f : FrameState) (key : Option RankKey)
-    → i < length contest → f.key ≡ key → IsTold contest i f (set contest i key)
-told contest i f key there is = record {
+pub updated : (contest : List (Option RankKey)) (i : ℕ) (f : FrameState) (key : Option RankKey)
+    → i < length contest → f.key ≡ key → IsUpdated contest i f (set contest i key)
+updated contest i f key there is = record {
   count = length-set contest i key;
   others = λ j ne. get_or-set_other contest i j key None ne;
   here = subst (λ k. LagsBehind k f) (sym (get_or-set_same contest i key None there))
@@ -93,14 +93,15 @@ told contest i f key there is = record {
 }
 
 -- or only where that is less than what it had
-pub told_lower : (contest : List (Option RankKey)) (i : ℕ) (f : FrameState) (key : Option RankKey)
-    → i < length contest → f.key ≡ key → IsTold contest i f (lowered key_cmp contest i key)
-told_lower contest i f key there is = by_cases (exceeds (key_at contest i) key) refl
+pub updated_lower : (contest : List (Option RankKey)) (i : ℕ) (f : FrameState)
+    (key : Option RankKey)
+    → i < length contest → f.key ≡ key → IsUpdated contest i f (lowered key_cmp contest i key)
+updated_lower contest i f key there is = by_cases (exceeds (key_at contest i) key) refl
   where
     by_cases : (t : Bool) → exceeds (key_at contest i) key ≡ t
-        → IsTold contest i f (cond t (set contest i key) contest)
-    by_cases true e = told contest i f key there is
-    by_cases false e = untold contest i f (lags_low (key_at contest i) f (subst (λ k. exceeds (key_at contest i) k ≡ false) (sym is) e))
+        → IsUpdated contest i f (cond t (set contest i key) contest)
+    by_cases true e = updated contest i f key there is
+    by_cases false e = not_updated contest i f (lags_low (key_at contest i) f (subst (λ k. exceeds (key_at contest i) k ≡ false) (sym is) e))
 
 -- All frames
 

@@ -29,11 +29,11 @@ stays_by old new failures e = e ∙ ap (λ (f : List ℕ). let v : PoolView = re
 pub put_refused : (s t : PoolState) (h : HistoryView) (i : ℕ) (p : PageId)
     → IsFrameToLoad h (view_of s) (Some i) → (nth_frame s.frames i).generation < 2 ^ 64 - 1
     → (why : PoolFault) → LoadFails s i p why t → PutRefused h (view_of s) p why (view_of t)
-put_refused s t h i p place room ReadFault l =
-    ((i, record { place = place; below = subst (λ f. f.generation < 2 ^ 64 - 1) (sym (frame_seen s i)) room }), l.fails)
-put_refused s t h i p place room WriteBack l =
-    (i, l.page, record { place = place; below = subst (λ f. f.generation < 2 ^ 64 - 1) (sym (frame_seen s i)) room }, ap (λ f. f.page) (frame_seen s i) ∙ l.holds, l.fails)
-put_refused s t h i p place room why l = absurd l
+put_refused s t h i p to_load room ReadFault l =
+    ((i, record { to_load = to_load; below = subst (λ f. f.generation < 2 ^ 64 - 1) (sym (frame_seen s i)) room }), l.fails)
+put_refused s t h i p to_load room WriteBack l =
+    (i, l.page, record { to_load = to_load; below = subst (λ f. f.generation < 2 ^ 64 - 1) (sym (frame_seen s i)) room }, ap (λ f. f.page) (frame_seen s i) ∙ l.holds, l.fails)
+put_refused s t h i p to_load room why l = absurd l
 
 pub same_frames : (s t : PoolState) (i : ℕ) (p : PageId) (why : PoolFault) → LoadFails s i p why t
     → t.frames ≡ s.frames
@@ -59,9 +59,9 @@ pub loaded_puts : (s t : PoolState) (i : ℕ) (p : PageId) (key : RankKey) (n : 
     → IsNowhere s.frames p → IsFrameToLoad h (view_of s) (Some i) → (gen : ℕ)
     → gen ≡ (nth_frame s.frames i).generation → gen < 2 ^ 64 - 1
     → PutsIn h (view_of s) p n (record { index = i; generation = gen + 1 }) (view_of t)
-loaded_puts s t i p key n l h away place gen is room = record {
+loaded_puts s t i p key n l h away to_load gen is room = record {
   absent = absent_seen s p away;
-  place = place;
+  to_load = to_load;
   below = subst (λ f. f.generation < 2 ^ 64 - 1) (sym (frame_seen s i)) (subst (λ g. g < 2 ^ 64 - 1) is room);
   current = ap (λ g. g + 1) (is ∙ sym (ap (λ f. f.generation) (frame_seen s i)));
   becomes = l.rest ∙ ap (λ (fs : List FrameView). let x : PoolView = record (view_of s) { frames = fs; contents = (view_of t).contents } in x)
@@ -97,7 +97,7 @@ placed_there h v i (inr left) = left.there
 pub puts_holds : (h : HistoryView) (old : PoolView) (p : PageId) (slot : Slot) (new : PoolView)
     → PutsIn h old p 1 slot new → Holds new slot
 puts_holds h old p slot new x =
-    let there : slot.index < length old.frames = placed_there h old slot.index x.place in
+    let there : slot.index < length old.frames = placed_there h old slot.index x.to_load in
     let seen : frame_at new slot.index ≡ record { page = Some p; generation = slot.generation; fixes = 1 } =
     ap (λ v. frame_at v slot.index) x.becomes ∙ get_or-set_same old.frames slot.index (record { page = Some p; generation = slot.generation; fixes = 1 }) _ there in
     record {

@@ -60,7 +60,7 @@ module _ (h : HistoryView) (v w : PoolView) (p : PageId) (n : ℕ) (placed : Pla
   came = record { page = Some p; generation = placed.slot.generation; fixes = n }
 
   here : frame_at w placed.slot.index ≡ came
-  here = ap (λ x. frame_at x placed.slot.index) puts.becomes ∙ get_or-set_same v.frames placed.slot.index came _ (placed_there h v placed.slot.index puts.place)
+  here = ap (λ x. frame_at x placed.slot.index) puts.becomes ∙ get_or-set_same v.frames placed.slot.index came _ (placed_there h v placed.slot.index puts.to_load)
 
   other : (i : ℕ) → i ≢ placed.slot.index → frame_at w i ≡ frame_at v i
   other i ne = ap (λ x. frame_at x i) puts.becomes ∙ get_or-set_other v.frames placed.slot.index i came _ ne
@@ -85,7 +85,7 @@ module _ (h : HistoryView) (v w : PoolView) (p : PageId) (n : ℕ) (placed : Pla
   placed_absent once is = record {
     left = λ q. (
       λ e. let was : (frame_at v placed.slot.index).page ≡ Some q = sym is ∙ e in
-          (record { frame = placed.slot.index; there = placed_there h v placed.slot.index puts.place; holds = was }, gone once q was),
+          (record { frame = placed.slot.index; there = placed_there h v placed.slot.index puts.to_load; holds = was }, gone once q was),
       λ left. is ∙ was_here q left.0 left.1,
     );
     resident = λ r. absurd (puts.absent r.frame r.holds);

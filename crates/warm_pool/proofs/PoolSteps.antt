@@ -95,6 +95,16 @@ pub ok_iff : {T E : Type 0} (r : Result T E) (P : Type 0) → OnOk r P → OnErr
 ok_iff (Ok x) P holds fails t is = (λ _. holds, λ _. is)
 ok_iff (Err e) P holds fails t is = (λ yes. absurd (cc), λ p. absurd (fails p))
 
+-- what holds where a call succeeds
+pub of_ok : {T E P : Type 0} (r : Result T E) → true ≡ is_ok r → OnOk r P → P
+of_ok (Ok v) is holds = holds
+of_ok (Err e) is holds = absurd cc
+
+-- what holds where a call fails
+pub of_err : {T E P : Type 0} (r : Result T E) → false ≡ is_ok r → OnErr r P → P
+of_err (Ok v) is holds = absurd cc
+of_err (Err e) is holds = holds
+
 -- the pages that compete, and their ranks
 abbrev pub competing : List FrameState → List (Option PageId)
 competing frames = map unfixed_page (map frame_view frames)

@@ -75,14 +75,14 @@ module _ {ps ps' : List (Option PageId)} {ss : List Status} {bs : List FrameBody
 
   pub vacated_tied : {contest' : List (Option RankKey)} → contest' ≡ keys_while ps' contest
       → AreTied ps' ss bs contest'
-  vacated_tied {contest'} told =
+  vacated_tied {contest'} now_is =
       let count = ap length clear ∙ length-map ps (clear_if which) in
       record {
         status_each = tied.status_each ∙ sym count;
         body_each = tied.body_each ∙ sym count;
-        contest_each = ap length told ∙ length-keys_while ps' contest ∙ tied.contest_each ∙ sym count;
+        contest_each = ap length now_is ∙ length-keys_while ps' contest ∙ tied.contest_each ∙ sym count;
         lags = subst (λ pages. (i : ℕ) → LagsBehind (key_at contest' i) (nth_frame (frames_of pages ss bs) i)) (sym clear)
-            (subst (λ keys. (i : ℕ) → LagsBehind (key_at keys i) (nth_frame (frames_of (map (clear_if which) ps) ss bs) i)) (sym (told ∙ ap (λ pages. keys_while pages contest) clear))
+            (subst (λ keys. (i : ℕ) → LagsBehind (key_at keys i) (nth_frame (frames_of (map (clear_if which) ps) ss bs) i)) (sym (now_is ∙ ap (λ pages. keys_while pages contest) clear))
             (all_lag which ps ss bs contest tied.status_each tied.body_each tied.contest_each tied.lags));
       }
 

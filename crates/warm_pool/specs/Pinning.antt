@@ -79,7 +79,7 @@ pub record StaysIn (old : PoolView) (p : PageId) (slot : Slot) (new : PoolView) 
 pub record PutsIn (h : HistoryView) (old : PoolView) (p : PageId) (fixes : ℕ) (slot : Slot)
     (new : PoolView) : Type 0 where
   pub absent : IsAbsent old p
-  pub place : IsFrameToLoad h old (Some slot.index)
+  pub to_load : IsFrameToLoad h old (Some slot.index)
   pub below : (frame_at old slot.index).generation < 2 ^ 64 - 1
   pub current : slot.generation ≡ (frame_at old slot.index).generation + 1
   pub becomes : new ≡ record old {
@@ -125,7 +125,7 @@ pub record TakesFrame (old : PoolState) (p : PageId) (slot : Slot) (new : PoolSt
 
 -- there is a frame into which a page can be loaded, whose generation can increase by one
 pub record CanComeIn (h : HistoryView) (old : PoolView) (i : ℕ) : Type 0 where
-  pub place : IsFrameToLoad h old (Some i)
+  pub to_load : IsFrameToLoad h old (Some i)
   pub below : (frame_at old i).generation < 2 ^ 64 - 1
 
 -- a page that is in no frame isn't loaded: all pages are pinned, the frame's generation is the
@@ -163,7 +163,7 @@ PinRefused h old p why new = LoadRefused h old p why new
 pub record IsUnwritten (h : HistoryView) (old new : PoolState) : Type 0 where
   pub frame : ℕ
   pub page : PageId
-  pub place : IsFrameToLoad h (view_of old) (Some frame)
+  pub to_load : IsFrameToLoad h (view_of old) (Some frame)
   pub holds : (nth_frame old.frames frame).page ≡ Some page
   pub dirty : (nth_frame old.frames frame).dirty ≡ true
   pub waits : (nth_device new.devices page.dev).waiting ≡ true
@@ -190,7 +190,7 @@ FixRefused old i fault new = (fault ≡ FixesFull) × ((nth_frame old.frames i).
 
 -- the frame into which a page is loaded, according to every history that ranks the pool
 abbrev pub IsNextFrameToLoad : PoolState → Option ℕ → Type 0
-IsNextFrameToLoad s place = (h : HistoryView) → RankedBy s h → IsFrameToLoad h (view_of s) place
+IsNextFrameToLoad s frame = (h : HistoryView) → RankedBy s h → IsFrameToLoad h (view_of s) frame
 
 -- the page is in the frame, with its device's bytes, this rank and this pin count
 pub record LoadsInto (old : PoolState) (i : ℕ) (p : PageId) (key : RankKey) (n : ℕ)

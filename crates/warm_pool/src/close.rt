@@ -54,10 +54,8 @@ impl<D: PageDevice> Pool<D> {
         ensures refused { IfErr result (λ fault. (fault ≡ Fault) × WriteBackFails
             self.old self.new) }
     {
-        match self.settle() {
-            Ok(()) => Ok(()),
-            Err(_) => Err(PoolFault::Fault),
-        }
+        self.settle().map_err(|_| PoolFault::Fault)?;
+        Ok(())
     }
 
     /// Writes back all pages as [`Pool::write_back_all`] does, and then evicts every page.
@@ -151,10 +149,8 @@ impl<D: PageDevice> Pool<D> {
         if is_fixed(&self.frames, Devices::One(dev)) {
             return Err(PoolFault::Fixed);
         }
-        match self.settle_device(dev) {
-            Ok(()) => Ok(()),
-            Err(_) => Err(PoolFault::Fault),
-        }
+        self.settle_device(dev).map_err(|_| PoolFault::Fault)?;
+        Ok(())
     }
 
     // Writes back the pages of one device and flushes it.
@@ -200,10 +196,8 @@ impl<D: PageDevice> Pool<D> {
         if is_fixed(&self.frames, Devices::All) {
             return Err(PoolFault::Fixed);
         }
-        match self.settle() {
-            Ok(()) => Ok(()),
-            Err(_) => Err(PoolFault::Fault),
-        }
+        self.settle().map_err(|_| PoolFault::Fault)?;
+        Ok(())
     }
 
     // Writes back all pages and flushes all devices.

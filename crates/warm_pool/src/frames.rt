@@ -137,8 +137,8 @@ impl Frames {
         self.page_table.first_free()
     }
 
-    /// The frame of the least rank among those of unpinned pages. The contest is told here what it
-    /// doesn't know yet: it knows of no pin, and of no rank that has risen.
+    /// The frame of the least rank among those of unpinned pages. The contest catches up here: pins
+    /// and ranks that have risen are not passed on to it as they come.
     pub(crate) fn least(&mut self) -> Option<usize>
         ensures same { self.new ≡ self.old }
         ensures least { IsLeast key_cmp (map eviction_key self.old.frames) result }

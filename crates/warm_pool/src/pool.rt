@@ -500,7 +500,7 @@ impl<D: PageDevice> Pool<D> {
     // The frame into which a page is loaded.
     fn frame_to_load(&mut self) -> Option<usize>
         ensures same { self.new ≡ self.old }
-        ensures place { IsNextFrameToLoad self.old result }
+        ensures to_load { IsNextFrameToLoad self.old result }
         ensures there { IfSome result (λ at. at < length self.old.frames) }
         ensures unfixed { IfSome result (λ at. (nth_frame
             self.old.frames at).fixes ≡ 0) }
@@ -553,7 +553,7 @@ impl<D: PageDevice> Pool<D> {
         requires ranked { RankedBy self.old history.now }
         requires known { HasPage (view_of self.old) page }
         requires absent { IsNowhere self.old.frames page }
-        requires place { IsNextFrameToLoad self.old (Some at) }
+        requires to_load { IsNextFrameToLoad self.old (Some at) }
         requires there { at < length self.old.frames }
         ensures ranked { RankedBy self.new history.now }
         ensures put { IfOk result (λ placed. PutsIn history.now

@@ -15,9 +15,9 @@ loop-frame-preserved c =
     let lt : at < length old = omega arith in
     let count : length c.loop-frame.pages.items ≡ length old = ap length so_far ∙ length-cleared_to which at old in
     let read : c.index.result.now ≡ page_in (cleared_to which at old) at = get_or_read c.loop-frame.pages.items at _ (omega arith) c.index.ensures None ∙ ap (λ pages. page_in pages at) so_far in
-    let told : c.selects.result ≡ selects which (page_in (cleared_to which at old) at) = c.selects.ensures ∙ ap (selects which) read in
+    let selected : c.selects.result ≡ selects which (page_in (cleared_to which at old) at) = c.selects.ensures ∙ ap (selects which) read in
     let next = ap (λ n. cleared_to which n old) (sym (add-one at)) in
     elim c.if-selects.branch [
-      | then-selects w ↦ ap (λ v. v.items) w.pages-is ∙ ap (λ pages. set pages at None) so_far ∙ one_gone which at old lt (sym told ∙ w.if-selects.true) ∙ next
-      | else-selects w ↦ ap (λ v. v.items) w.pages-is ∙ so_far ∙ one_stays which at old lt (sym told ∙ w.if-selects.false) ∙ next
+      | then-selects w ↦ ap (λ v. v.items) w.pages-is ∙ ap (λ pages. set pages at None) so_far ∙ one_gone which at old lt (sym selected ∙ w.if-selects.true) ∙ next
+      | else-selects w ↦ ap (λ v. v.items) w.pages-is ∙ so_far ∙ one_stays which at old lt (sym selected ∙ w.if-selects.false) ∙ next
     ]

@@ -1,7 +1,7 @@
 use Rattle.std.proofs.Common.{None, ◌+◌, [], ap, refl, ◌∙◌, get_or, arith}
 use Rattle.warm_pool.specs.Frames.{frame_of, fresh_body}
 use Rattle.warm_pool.specs.FrameSteps.{fixed}
-use Rattle.warm_pool.proofs.Lagging.{untold, lags_fixed}
+use Rattle.warm_pool.proofs.Lagging.{not_updated, lags_fixed}
 use Rattle.warm_pool.proofs.FrameParts.{has_page, has_status, lags_at, status_is, seen, page_stays, body_stays, stay_tied, becomes}
 use Rattle.warm_pool.proofs.frames.Frames.fix.Goals as goal
 
@@ -18,7 +18,7 @@ pub invariant_of-self : goal.invariant_of-self
 invariant_of-self c =
     let there = has_page c.self.invariant c.self.view_is c.args.at c.requires.there in
     stay_tied c.self.invariant (record { pages = page_stays _ c.args.at; statuses = refl; bodies = body_stays _ c.args.at }) there
-    (untold _ c.args.at _ (lags_fixed _ _ _ (lags_at c.self.invariant c.args.at there) (omega arith) refl))
+    (not_updated _ c.args.at _ (lags_fixed _ _ _ (lags_at c.self.invariant c.args.at there) (omega arith) refl))
 
 pub returns : goal.returns
 returns c =

@@ -2,7 +2,7 @@ use Rattle.std.proofs.Common.{◌+◌, ◌≤◌, length, None, true, ap, sym, s
 use Rattle.warm_pool.specs.Frames.{frame_of, rank_in, unused_status}
 use Rattle.warm_pool.specs.FrameSteps.{written}
 use Rattle.warm_pool.specs.PageBytes.{patched}
-use Rattle.warm_pool.proofs.Lagging.{untold, lags_kept}
+use Rattle.warm_pool.proofs.Lagging.{not_updated, lags_kept}
 use Rattle.warm_pool.proofs.FrameParts.{has_page, has_status, has_body, status_is, body_is, seen, page_stays, lags_at, stay_tied, becomes}
 use Rattle.warm_pool.proofs.frames.Frames.patch.Goals as goal
 
@@ -26,7 +26,7 @@ invariant_of-self c =
     let body_now = body_is c.self.invariant c.self.view_is c.args.at c.requires.there _ c.index_mut.result.now refl c.index_mut.ensures.value in
     let there = has_page c.self.invariant c.self.view_is c.args.at c.requires.there in
     stay_tied c.self.invariant (record { pages = page_stays _ c.args.at; statuses = refl; bodies = refl }) there
-    (untold _ c.args.at _ (lags_kept _ _ _ (lags_at c.self.invariant c.args.at there) (ap (λ s. s.fixes) status_now)
+    (not_updated _ c.args.at _ (lags_kept _ _ _ (lags_at c.self.invariant c.args.at there) (ap (λ s. s.fixes) status_now)
     (ap (λ b. rank_in page b.key) c.overwrite.ensures ∙ ap (λ b. rank_in page b.key) body_now)))
 
 pub returns : goal.returns

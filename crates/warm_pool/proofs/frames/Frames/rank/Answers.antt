@@ -1,7 +1,7 @@
 use Rattle.std.proofs.Common.{◌≢◌, None, Some, [], ap, sym, subst, refl, ◌∙◌, get_or}
 use Rattle.warm_pool.specs.Frames.{frame_of, fresh_body, unused_status}
 use Rattle.warm_pool.specs.FrameSteps.{ranked}
-use Rattle.warm_pool.proofs.Lagging.{IsTold, told_lower}
+use Rattle.warm_pool.proofs.Lagging.{IsUpdated, updated_lower}
 use Rattle.warm_pool.proofs.FrameParts.{has_page, has_slot, has_body, body_is, rank_of_page, seen, page_stays, status_stays, stay_tied, becomes}
 use Rattle.warm_pool.proofs.frames.Frames.rank.Goals as goal
 
@@ -17,8 +17,8 @@ invariant_of-self c =
     let page = get_or c.self.inside.page_table c.args.at None in
     let some : page ≢ None = λ none. c.requires.held (ap (λ f. f.page) (sym (seen c.self.invariant c.self.view_is c.args.at c.requires.there)) ∙ none) in
     stay_tied c.self.invariant (record { pages = page_stays _ c.args.at; statuses = status_stays _ c.args.at; bodies = refl }) there
-    (subst (IsTold c.self.inside.contest c.args.at _) (sym c.lower.ensures)
-    (told_lower c.self.inside.contest c.args.at _ (Some c.args.key) (has_slot c.self.invariant c.args.at there) (rank_of_page page (Some c.args.key) some)))
+    (subst (IsUpdated c.self.inside.contest c.args.at _) (sym c.lower.ensures)
+    (updated_lower c.self.inside.contest c.args.at _ (Some c.args.key) (has_slot c.self.invariant c.args.at there) (rank_of_page page (Some c.args.key) some)))
 
 pub returns : goal.returns
 returns c =

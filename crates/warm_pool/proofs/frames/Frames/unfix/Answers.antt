@@ -1,7 +1,7 @@
 use Rattle.std.proofs.Common.{◌≢◌, ◌-◌, None, [], ap, sym, subst, refl, ◌∙◌, get_or, arith}
 use Rattle.warm_pool.specs.Frames.{frame_of, fresh_body}
 use Rattle.warm_pool.specs.FrameSteps.{unfixed}
-use Rattle.warm_pool.proofs.Lagging.{IsTold, untold, told, lags_fixed, lags_set}
+use Rattle.warm_pool.proofs.Lagging.{IsUpdated, not_updated, updated, lags_fixed, lags_set}
 use Rattle.warm_pool.proofs.FrameParts.{has_page, has_slot, has_status, has_body, status_is, body_is, rank_of_page, seen, page_stays, body_stays, lags_at, stay_tied, becomes}
 use Rattle.warm_pool.proofs.frames.Frames.unfix.Goals as goal
 
@@ -28,7 +28,7 @@ pub invariant_of-self : goal.invariant_of-self
 invariant_of-self c =
     let there = has_page c.self.invariant c.self.view_is c.args.at c.requires.there in
     stay_tied c.self.invariant (record { pages = page_stays _ c.args.at; statuses = refl; bodies = body_stays _ c.args.at }) there
-    (untold _ c.args.at _ (lags_fixed _ _ _ (lags_at c.self.invariant c.args.at there) c.if-status-gt0.true refl))
+    (not_updated _ c.args.at _ (lags_fixed _ _ _ (lags_at c.self.invariant c.args.at there) c.if-status-gt0.true refl))
 
 pub returns-then-status-gt0 : goal.returns-then-status-gt0
 returns-then-status-gt0 c =
@@ -43,7 +43,7 @@ pub invariant_of-self-then-is_set : goal.invariant_of-self-then-is_set
 invariant_of-self-then-is_set c =
     let there = has_page c.self.invariant c.self.view_is c.args.at c.requires.there in
     stay_tied c.self.invariant (record { pages = page_stays _ c.args.at; statuses = refl; bodies = body_stays _ c.args.at }) there
-    (untold _ c.args.at _ (lags_set _ _ _ (lags_at c.self.invariant c.args.at there) (sym c.is_set.ensures ∙ c.if-is_set.true) refl))
+    (not_updated _ c.args.at _ (lags_set _ _ _ (lags_at c.self.invariant c.args.at there) (sym c.is_set.ensures ∙ c.if-is_set.true) refl))
 
 pub returns-then-is_set : goal.returns-then-is_set
 returns-then-is_set c =
@@ -53,7 +53,7 @@ returns-then-is_set c =
     becomes c.self.invariant c.self.view_is c.args.at c.requires.there (record { pages = page_stays _ c.args.at; statuses = refl; bodies = body_stays _ c.args.at })
     unfixed (ap (λ s. frame_of page (record s { fixes = s.fixes - 1 }) body) is)
 
--- the contest is told of the rank
+-- the contest is given the rank
 pub invariant_of-self-2 : goal.invariant_of-self-2
 invariant_of-self-2 c =
     let there = has_page c.self.invariant c.self.view_is c.args.at c.requires.there in
@@ -62,8 +62,8 @@ invariant_of-self-2 c =
     let is = body_is c.self.invariant c.self.view_is c.args.at c.requires.there _ c.index.result.now refl c.index.ensures in
     let some : page ≢ None = λ none. c.requires.held (ap (λ f. f.page) (sym (seen c.self.invariant c.self.view_is c.args.at c.requires.there)) ∙ none) in
     stay_tied c.self.invariant (record { pages = page_stays _ c.args.at; statuses = refl; bodies = body_stays _ c.args.at }) there
-    (subst (IsTold c.self.inside.contest c.args.at _) (sym c.set.ensures)
-    (told c.self.inside.contest c.args.at _ _ (has_slot c.self.invariant c.args.at there) (rank_of_page page body.key some ∙ sym (ap (λ b. b.key) is) ∙ sym (ap (λ b. b.key) c.behind-self.view_is))))
+    (subst (IsUpdated c.self.inside.contest c.args.at _) (sym c.set.ensures)
+    (updated c.self.inside.contest c.args.at _ _ (has_slot c.self.invariant c.args.at there) (rank_of_page page body.key some ∙ sym (ap (λ b. b.key) is) ∙ sym (ap (λ b. b.key) c.behind-self.view_is))))
 
 pub returns : goal.returns
 returns c =

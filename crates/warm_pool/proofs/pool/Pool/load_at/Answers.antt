@@ -24,7 +24,7 @@ returns-in_err-load_into-clause-ranked g c = failed_ranked c.args.self.now c.loa
 
 pub returns-in_err-load_into-clause-refused : goal.returns-in_err-load_into-clause-refused
 returns-in_err-load_into-clause-refused g c =
-    handed_on c.from_residual.result c.in_err-load_into.field-0.0 _ c.from_residual.ensures.1 (put_refused c.args.self.now c.load_into.new.self c.args.history.now c.args.at c.args.page (c.requires.place _ c.requires.ranked)
+    handed_on c.from_residual.result c.in_err-load_into.field-0.0 _ c.from_residual.ensures.1 (put_refused c.args.self.now c.load_into.new.self c.args.history.now c.args.at c.args.page (c.requires.to_load _ c.requires.ranked)
     (subst (λ n. n < 18446744073709551615) (c.generation.ensures ∙ ap (λ s. (nth_frame s.frames c.args.at).generation) c.self.view_is) c.if-generation-lt18446744073709551615.true)
     _ c.in_err-load_into.ensures.refused)
 
@@ -41,14 +41,14 @@ returns-then-generation-lt18446744073709551615-clause-put g c =
     (sym (loaded_slot c.args.self.now c.load_into.new.self c.args.at c.args.page c.rank_of-key.result c.args.fixes c.in_ok-load_into.ensures.put
     c.requires.there _ c.slot_at-slot.ensures c.generation.result was))
     (loaded_puts c.args.self.now c.load_into.new.self c.args.at c.args.page c.rank_of-key.result c.args.fixes c.in_ok-load_into.ensures.put
-    c.args.history.now c.requires.absent (c.requires.place _ c.requires.ranked) c.generation.result was c.if-generation-lt18446744073709551615.true)
+    c.args.history.now c.requires.absent (c.requires.to_load _ c.requires.ranked) c.generation.result was c.if-generation-lt18446744073709551615.true)
 
 pub returns-clause-refused : goal.returns-clause-refused
 returns-clause-refused g c =
     let full : c.generation.result ≡ 18446744073709551615 = omega arith in (
       (
         c.args.at,
-        c.requires.place _ c.requires.ranked,
+        c.requires.to_load _ c.requires.ranked,
         sym (seen_generation (pool_seen c.self.view_is c.self.invariant) c.args.at (c.generation.ensures ∙ ap (λ s. (nth_frame s.frames c.args.at).generation) c.self.view_is)) ∙ full,
       ),
       refl,
@@ -59,7 +59,7 @@ returns-then-generation-lt18446744073709551615-clause-frame g c =
     loaded_takes _ _ c.args.at c.args.page c.rank_of-key.result c.args.fixes c.in_ok-load_into.ensures.put c.requires.there c.requires.absent _ (ap (λ x. x.index) c.slot_at-slot.ensures)
 
 pub returns-in_err-load_into-clause-devices : goal.returns-in_err-load_into-clause-devices
-returns-in_err-load_into-clause-devices g c = handed_on c.from_residual.result c.in_err-load_into.field-0.0 _ c.from_residual.ensures.1 (failed_leaves c.args.history.now c.args.self.now _ c.args.at c.args.page (c.requires.place _ c.requires.ranked) _ c.in_err-load_into.ensures.refused)
+returns-in_err-load_into-clause-devices g c = handed_on c.from_residual.result c.in_err-load_into.field-0.0 _ c.from_residual.ensures.1 (failed_leaves c.args.history.now c.args.self.now _ c.args.at c.args.page (c.requires.to_load _ c.requires.ranked) _ c.in_err-load_into.ensures.refused)
 
 pub slot_at-slot-requires : goal.slot_at-slot-requires
 slot_at-slot-requires g c =
