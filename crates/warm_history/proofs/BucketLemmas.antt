@@ -1,5 +1,5 @@
 -- What is done to the map of a bucket is done to all maps together.
-use Rattle.std.proofs.Common.{◌≡◌, ℕ, Bool, true, false, cond, List, [], ◌∷◌, ◌++◌, sym, ap, refl, ◌∙◌, arith, Some, None, length, zero, suc, filter, ◌/◌, ◌+◌, ◌<◌, ◌≤◌}
+use Rattle.std.proofs.Common.{◌≡◌, ℕ, Bool, true, false, cond, List, [], ◌∷◌, ◌++◌, sym, ap, refl, ◌∙◌, arith, Some, None, length, zero, suc, filter, ◌+◌, ◌<◌, ◌≤◌}
 use Rattle.std.specs.List.{AllByRecursion}
 use Rattle.std.specs.Map.{remove_entry, set_value}
 use Rattle.std.specs.BTreeMap.{is_at, insert_entry}
@@ -164,7 +164,3 @@ filter-append test (e ∷ m) n = cases (test e.0) (filter-append test m n)
     cases : (b : Bool) → filter (λ e. test e.0) (m ++ n) ≡ filter (λ e. test e.0) m ++ filter (λ e. test e.0) n → cond b (e ∷ filter (λ e. test e.0) (m ++ n)) (filter (λ e. test e.0) (m ++ n)) ≡ cond b (e ∷ filter (λ e. test e.0) m) (filter (λ e. test e.0) m) ++ filter (λ e. test e.0) n
     cases true later = ap (λ t. e ∷ t) later
     cases false later = later
-
--- a key lies in the bucket that it names
-pub lies_in_own : (i p : ℕ) → i ≡ p / 1208925819614629174706176 → LiesIn (0 + i) p
-lies_in_own i p is = (omega arith, omega arith)

@@ -2,15 +2,14 @@
 -- bucket's map.
 use Rattle.std.proofs.Common.{◌≡◌, ℕ, Bool, true, false, not, List, [], ◌∷◌, ◌++◌, ◌&&◌, sym, ap, refl, ◌∙◌, arith, zero, suc, filter, ◌+◌, ◌<◌, ◌≤◌}
 use Rattle.std.specs.List.{AllByRecursion}
-use Rattle.std.specs.Ordering.{nat_cmp, is_le, is_lt}
+use Rattle.std.specs.Ordering.{nat_cmp, is_le}
 use Rattle.std.specs.BTreeMap.Range.{entries_between, range_contains}
 use Rattle.std.specs.declared.ops.Bound.TheVariants.{Included, Excluded, Unbounded}
 use Rattle.std.proofs.lemmas.Cmp.{ranked}
 use Rattle.std.proofs.lemmas.List.{append-nil}
 use Rattle.std.specs.declared.cmp.Ordering.TheVariants.{Less, Equal, Greater}
-use Rattle.warm_stamps.specs.declared.PageId.{PageId}
 use Rattle.warm_stamps.proofs.DistinctLemmas.{by_cases}
-use Rattle.warm_history.specs.MapKeys.{first_key, key_in}
+use Rattle.warm_history.specs.MapKeys.{first_key}
 use Rattle.warm_history.specs.MapPairs.{MapPairs}
 use Rattle.warm_history.specs.BucketMaps.{all_pairs, LiesIn, AreBuckets, PassesIn, map_at}
 use Rattle.warm_history.proofs.BucketLemmas.{filter-append}
@@ -64,12 +63,6 @@ from_start x y is = by_cases (nat_cmp x y) _
     (λ tied. let same : x ≡ y = ranked x y Equal (sym tied) in omega arith)
     (λ more. let no : false ≡ true = sym (ap is_le more) ∙ is in absurd (cc))
 
-after_start : (x y : ℕ) → is_lt (nat_cmp x y) ≡ true → x < y
-after_start x y is = by_cases (nat_cmp x y) _
-    (λ less. ranked x y Less (sym less))
-    (λ tied. let no : false ≡ true = sym (ap is_lt tied) ∙ is in absurd (cc))
-    (λ more. let no : false ≡ true = sym (ap is_lt more) ∙ is in absurd (cc))
-
 before_end : (x y : ℕ) → not (is_le (nat_cmp x y)) ≡ true → y < x
 before_end x y is = by_cases (nat_cmp x y) _
     (λ less. let no : false ≡ true = sym (ap (λ o. not (is_le o)) less) ∙ is in absurd (cc))
@@ -84,12 +77,6 @@ pub from_first_on : (bucket : ℕ) → PassesIn bucket (range_contains nat_cmp (
 from_first_on bucket k is =
     let parts = both (is_le (nat_cmp (first_key bucket) k)) _ is in
     (from_start (first_key bucket) k parts.0, before_end (first_key (bucket + 1)) k parts.1)
-
-pub from_page_on : (bucket : ℕ) (last : PageId) → PassesIn bucket (range_contains nat_cmp (Excluded (key_in bucket last)) (Excluded (first_key (bucket + 1))))
-from_page_on bucket last k is =
-    let parts = both (is_lt (nat_cmp (key_in bucket last) k)) _ is in
-    let past : key_in bucket last < k = after_start (key_in bucket last) k parts.0 in
-    (omega arith, before_end (first_key (bucket + 1)) k parts.1)
 
 -- ---- all of a map
 

@@ -1,5 +1,5 @@
 -- MapKeys are pages, in the order of buckets first.
-use Rattle.std.proofs.Common.{◌≡◌, ℕ, ◌+◌, ◌/◌, ◌<◌, ◌≤◌, ◌==◌, ◌&&◌, Bool, true, false, not, sym, ap, refl, ◌∙◌, arith, Option, Some, None}
+use Rattle.std.proofs.Common.{◌≡◌, ℕ, ◌+◌, ◌<◌, ◌≤◌, ◌==◌, ◌&&◌, Bool, true, false, not, sym, ap, refl, ◌∙◌, arith, Option, Some, None}
 use Rattle.std.specs.Ordering.{is_eq, is_lt, is_le, nat_cmp}
 use Rattle.std.specs.BTreeMap.Range.{range_contains}
 use Rattle.std.specs.declared.ops.Bound.TheVariants.{Included, Excluded}
@@ -149,10 +149,3 @@ of_bucket bucket after p is = by_cases (nat_cmp (page_bucket p) bucket) _
     (λ less. let other : (page_bucket p == bucket) ≡ false = sym (unsigned_tied (page_bucket p) bucket) ∙ ap is_eq less in absurd (let no : false ≡ true = rw other at is in cc))
     (λ tied. ranked (page_bucket p) bucket Equal (sym tied))
     (λ more. let other : (page_bucket p == bucket) ≡ false = sym (unsigned_tied (page_bucket p) bucket) ∙ ap is_eq more in absurd (let no : false ≡ true = rw other at is in cc))
-
--- a key is one of the 64 buckets
-pub below_all_keys : (k : ℕ) → IsMapKey k → k / 1208925819614629174706176 < 64
-below_all_keys k is =
-    let below : k < first_key (page_bucket (page_of_key k) + 1) = below_next k is in
-    let few : page_bucket (page_of_key k) < 64 = omega arith in
-    omega arith

@@ -70,9 +70,6 @@ far_inside b k far =
     let from : first_far_key b ≤ k = far.0 in
     (omega arith, far.1)
 
-pub key_near : (p : PageId) → p.dev < 64 → p.no < 18446744073709551616 → key_of_page p < first_far_key (page_bucket p)
-key_near p low fits = omega arith
-
 pub key_far : (p : PageId) → 64 ≤ p.dev → p.dev < 65536 → p.no < 18446744073709551616 → IsFar (page_bucket p) (key_of_page p)
 key_far p high dev fits = (omega arith, omega arith)
 

@@ -8,10 +8,6 @@ use Rattle.warm_history.specs.declared.map_key.TheConstants.{KEYS_PER_BUCKET, KE
 abbrev pub first_key : ℕ → ℕ
 first_key bucket = bucket * KEYS_PER_BUCKET
 
--- the number of the bucket that contains the key
-abbrev pub bucket_of_key : ℕ → ℕ
-bucket_of_key key = key / KEYS_PER_BUCKET
-
 -- the key of a page, were it in the bucket: 2^64 keys lie between a device and the next
 abbrev pub key_in : ℕ → PageId → ℕ
 key_in bucket p = first_key bucket + (p.dev * KEYS_PER_DEVICE + p.no)

@@ -20,7 +20,7 @@ const NEAR_KEYS_PER_DEVICE: u64 = 1 << 58;
 // The pages of a device that have one near key, each in another bucket.
 const PAGES_PER_NEAR_KEY: u64 = BUCKETS as u64;
 
-// The first key of a bucket; for number 64, the end of the last bucket.
+// The first key of a bucket.
 pub(crate) fn first_key(number: u8) -> u128
     ensures { result ≡ first_key number }
 {
