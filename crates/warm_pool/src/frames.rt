@@ -211,7 +211,9 @@ impl Frames {
             dirty: false,
         };
         self.page_table.set(at, Some(page));
-        self.contest.lower(at, rank);
+        // The slot has the victim's key, which is the least: told now, the next victim is found at
+        // once.
+        self.contest.set(at, rank);
     }
 
     /// Marks the page of a frame as clean.
