@@ -215,7 +215,9 @@ impl Frames {
             dirty: false,
         };
         self.page_table.set(at, Some(page));
-        self.contest.lower(at, rank);
+        // The slot has the victim's key, which is the least: with the new key at once, the next
+        // victim is at the root.
+        self.contest.set(at, rank);
     }
 
     /// Marks the page of a frame as clean.

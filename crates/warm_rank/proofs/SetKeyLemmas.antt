@@ -1,6 +1,8 @@
 -- The keys of slots, read and written apart from whether they are set.
-use Rattle.std.proofs.Common.{◌≡◌, ℕ, zero, suc, ◌<◌, Bool, true, false, cond, List, [], ◌∷◌, length, get_or, set, replicate, is_some, sym, ap, refl, ◌∙◌, Some, None, arith}
-use Rattle.warm_rank.specs.Slots.{key_at, keys_set}
+use Rattle.std.proofs.Common.{◌≡◌, ℕ, zero, suc, ◌<◌, Bool, true, false, cond, List, [], ◌∷◌, length, get_or, set, replicate, is_some, sym, ap, refl, ◌∙◌, Option, Some, None, arith}
+use Rattle.std.specs.Ordering.{is_gt}
+use Rattle.std.specs.declared.cmp.Ordering.{Ordering}
+use Rattle.warm_rank.specs.Slots.{key_at, keys_set, set_first_cmp}
 
 some_if : {K : Type 0} → (one : Bool) (key : K) → one ≡ is_some (cond one (Some key) None)
 some_if true key = refl
@@ -66,3 +68,8 @@ module _ {K : Type 0} where
   none_set zero keys same = refl
   none_set (suc n) [] same = absurd (omega arith)
   none_set (suc n) (key ∷ keys) same = ap (λ rest. None ∷ rest) (none_set n keys (omega arith))
+
+-- no key comes before none
+pub none_after : {K : Type 0} → (cmp : K → K → Ordering) (key : Option K) → false ≡ is_gt (set_first_cmp cmp key None)
+none_after cmp None = refl
+none_after cmp (Some key) = refl

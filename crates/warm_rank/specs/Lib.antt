@@ -1,5 +1,6 @@
 pub mod Backward
 pub mod Behind
+pub mod FlatKeys
 pub mod Greatest
 pub mod Keys
 pub mod Laws

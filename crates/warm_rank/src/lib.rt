@@ -18,6 +18,7 @@ ghost use Rattle.warm_rank.specs.Keys.{rank_key, ranked_page};
 ghost use Rattle.warm_rank.specs.Ranking.{eviction_cmp};
 
 mod current;
+mod flat_key;
 pub mod laws;
 mod packed;
 mod slot_keys;

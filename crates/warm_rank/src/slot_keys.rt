@@ -1,44 +1,50 @@
-//! The keys of slots, of any type.
+//! The keys of slots.
 ghost use Rattle.std.specs.Prelude.{◌≡◌, List, ◌<◌, ◌≤◌, length, replicate, set, false, true};
 ghost use Rattle.std.specs.Prelude.{is_some, IfOk, None};
+ghost use Rattle.std.specs.Ordering.{is_gt};
+ghost use Rattle.warm_rank.specs.declared.RankKey.{RankKey};
+ghost use Rattle.warm_rank.specs.Keys.{key_cmp};
 ghost use Rattle.warm_rank.specs.Slots.{key_at, keys_set, keys_while, set_first_cmp};
 
+use crate::RankKey;
+use crate::flat_key::FlatKey;
 use std::alloc::{AllocError, Global};
 use std::cmp::Ordering;
 use std::marker::Model;
 
-/// Slots that each may have a key, of any type. Contracts see the list of the keys.
+/// Slots that each may have a key. Contracts see the list of the keys.
 ///
 /// Whether a slot has a key is stored apart from the key: clearing slots, and matches of slots
 /// without a key, touch little memory. So each slot stores some key, which means nothing in a slot
 /// that is not set.
 #[derive(Debug, Drop)]
-pub(crate) struct SlotKeys<K> {
+pub(crate) struct SlotKeys {
     is_set: Vec<bool>,
-    keys: Vec<K>,
+    keys: Vec<FlatKey>,
 }
 
-impl<K> Model for SlotKeys<K> {
+impl Model for SlotKeys {
     ghost use Rattle.std.specs.Prelude.{◌≡◌, List, Option, length};
+    ghost use Rattle.warm_rank.specs.declared.RankKey.{RankKey};
     ghost use Rattle.warm_rank.specs.Slots.{keys_set};
 
-    ghost Value = { List (Option K) };
+    ghost Value = { List (Option RankKey) };
 
     ghost view = { λ slots. keys_set slots.is_set.items slots.keys.items };
 
     ghost invariant = { λ slots. length slots.keys.items ≡ length slots.is_set.items };
 }
 
-impl<K: Ord + Copy> SlotKeys<K> {
+impl SlotKeys {
     /// Slots without a key; each stores `unused`, which may be any key.
     ///
     /// # Errors
     /// `AllocError` where their allocation fails.
-    pub(crate) fn new(alloc: Global, slots: usize, unused: K) -> Result<SlotKeys<K>, AllocError>
+    pub(crate) fn new(alloc: Global, slots: usize, unused: RankKey) -> Result<SlotKeys, AllocError>
         ensures { IfOk result (λ keys. keys ≡ replicate slots None) }
     {
         let is_set = none_set(alloc, slots)?;
-        let keys = no_keys(alloc, slots, unused)?;
+        let keys = no_keys(alloc, slots, FlatKey::of(unused))?;
         Ok(SlotKeys { is_set, keys })
     }
 
@@ -58,18 +64,46 @@ impl<K: Ord + Copy> SlotKeys<K> {
     }
 
     /// The key of a slot.
-    pub(crate) fn key(&self, slot: usize) -> Option<K>
+    pub(crate) fn key(&self, slot: usize) -> Option<RankKey>
         requires { slot < length self.now }
         ensures { result ≡ key_at self.now slot }
     {
         if self.is_set[slot] {
-            return Some(self.keys[slot]);
+            return Some(self.keys[slot].get());
         }
         None
     }
 
+    /// Whether the key of a slot comes before this one; none comes last.
+    pub(crate) fn comes_before(&self, slot: usize, key: &Option<RankKey>) -> bool
+        requires { slot < length self.now }
+        ensures { result ≡ is_gt (set_first_cmp key_cmp key.now (key_at self.now slot)) }
+    {
+        if !self.is_set[slot] {
+            return false;
+        }
+        match key {
+            None => true,
+            Some(key) => FlatKey::of(*key).compare(&self.keys[slot]).is_gt(),
+        }
+    }
+
+    /// Whether the key of a slot comes after this one; none comes last.
+    pub(crate) fn comes_after(&self, slot: usize, key: &Option<RankKey>) -> bool
+        requires { slot < length self.now }
+        ensures { result ≡ is_gt (set_first_cmp key_cmp (key_at self.now slot) key.now) }
+    {
+        let Some(key) = key else {
+            return false;
+        };
+        if !self.is_set[slot] {
+            return true;
+        }
+        self.keys[slot].compare(&FlatKey::of(*key)).is_gt()
+    }
+
     /// Sets or clears the key of a slot.
-    pub(crate) fn set(&mut self, slot: usize, key: Option<K>)
+    pub(crate) fn set(&mut self, slot: usize, key: Option<RankKey>)
         requires { slot < length self.old }
         ensures { self.new ≡ set self.old slot key }
     {
@@ -77,7 +111,7 @@ impl<K: Ord + Copy> SlotKeys<K> {
             None => self.is_set[slot] = false,
             Some(key) => {
                 self.is_set[slot] = true;
-                self.keys[slot] = key;
+                self.keys[slot] = FlatKey::of(key);
             }
         }
     }
@@ -87,14 +121,14 @@ impl<K: Ord + Copy> SlotKeys<K> {
         requires { length held.now ≡ length self.old }
         ensures { self.new ≡ keys_while held.now self.old }
     {
-        unset_vacant::<K, T>(&mut self.is_set, held);
+        unset_vacant(&mut self.is_set, held);
     }
 
     /// The order of the keys of two slots: the lesser key first; a set key comes before none.
     pub(crate) fn compare(&self, a: usize, b: usize) -> Ordering
         requires first { a < length self.now }
         requires second { b < length self.now }
-        ensures { result ≡ set_first_cmp K.cmp (key_at self.now a) (key_at self.now b) }
+        ensures { result ≡ set_first_cmp key_cmp (key_at self.now a) (key_at self.now b) }
     {
         compare_set(&self.is_set, &self.keys, a, b)
     }
@@ -110,7 +144,7 @@ fn none_set(alloc: Global, slots: usize) -> Result<Vec<bool>, AllocError>
 }
 
 // Storage for keys. A key there means nothing until it is set.
-fn no_keys<K: Copy>(alloc: Global, slots: usize, unused: K) -> Result<Vec<K>, AllocError>
+fn no_keys(alloc: Global, slots: usize, unused: FlatKey) -> Result<Vec<FlatKey>, AllocError>
     ensures { IfOk result (λ keys. length keys.items ≡ slots) }
 {
     let mut keys = Vec::new(alloc);
@@ -119,10 +153,10 @@ fn no_keys<K: Copy>(alloc: Global, slots: usize, unused: K) -> Result<Vec<K>, Al
 }
 
 // Marks the vacant slots as without a key, for any keys of type K that go with the marks.
-fn unset_vacant<K, T>(is_set: &mut Vec<bool>, held: &[Option<T>])
+fn unset_vacant<T>(is_set: &mut Vec<bool>, held: &[Option<T>])
     requires { length held.now ≡ length is_set.old.items }
     ensures count { length is_set.new.items ≡ length is_set.old.items }
-    ensures keys { (keys : List K) → length keys ≡ length is_set.old.items
+    ensures keys { (keys : List RankKey) → length keys ≡ length is_set.old.items
         → keys_set is_set.new.items keys ≡ keys_while held.now (keys_set is_set.old.items keys) }
 {
     for (slot, held) in held.iter().enumerate() {
@@ -133,11 +167,11 @@ fn unset_vacant<K, T>(is_set: &mut Vec<bool>, held: &[Option<T>])
 }
 
 // The order of the keys of two slots.
-fn compare_set<K: Ord>(is_set: &[bool], keys: &[K], a: usize, b: usize) -> Ordering
+fn compare_set(is_set: &[bool], keys: &[FlatKey], a: usize, b: usize) -> Ordering
     requires same { length keys.now ≡ length is_set.now }
     requires first { a < length is_set.now }
     requires second { b < length is_set.now }
-    ensures { result ≡ set_first_cmp K.cmp
+    ensures { result ≡ set_first_cmp key_cmp
         (key_at (keys_set is_set.now keys.now) a) (key_at (keys_set is_set.now keys.now) b) }
 {
     if !is_set[a] {
@@ -150,5 +184,5 @@ fn compare_set<K: Ord>(is_set: &[bool], keys: &[K], a: usize, b: usize) -> Order
     if !is_set[b] {
         return Ordering::Less;
     }
-    keys[a].cmp(&keys[b])
+    keys[a].compare(&keys[b])
 }

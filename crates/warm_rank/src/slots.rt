@@ -22,7 +22,7 @@ use warm_stamps::PageId;
 /// level, and the least is read at the root.
 #[derive(Debug, Drop)]
 pub struct Contest {
-    keys: SlotKeys<RankKey>,
+    keys: SlotKeys,
     nodes: Vec<u32>,
 }
 
@@ -72,8 +72,7 @@ impl Contest {
         requires { slot < length self.old }
         ensures { self.new ≡ lowered key_cmp self.old slot key }
     {
-        let known = self.keys.key(slot);
-        if is_after(&known, &key) {
+        if self.keys.comes_after(slot, &key) {
             self.set(slot, key);
         }
     }
@@ -123,8 +122,7 @@ impl Contest {
                 return None;
             };
             let key = current.key(at);
-            let known = self.key(at);
-            if !is_after(&key, &known) {
+            if !self.keys.comes_before(at, &key) {
                 return Some(at);
             }
             self.set(at, key);
@@ -156,21 +154,8 @@ impl Contest {
     }
 }
 
-// Whether a key comes after another; none comes last.
-fn is_after(key: &Option<RankKey>, other: &Option<RankKey>) -> bool
-    ensures { result ≡ is_gt (set_first_cmp key_cmp key.now other.now) }
-{
-    let Some(other) = other else {
-        return false;
-    };
-    match key {
-        None => true,
-        Some(key) => key.cmp(other).is_gt(),
-    }
-}
-
 // Gives each slot its current key.
-fn set_each<C: CurrentKeys>(keys: &mut SlotKeys<RankKey>, current: &C)
+fn set_each<C: CurrentKeys>(keys: &mut SlotKeys, current: &C)
     requires { length keys.old ≡ length (C.keys current.now) }
     ensures { keys.new ≡ C.keys current.now }
 {

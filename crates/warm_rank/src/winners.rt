@@ -1,8 +1,9 @@
-//! The matches of a winner tree, over any order of keys.
+//! The matches of a winner tree.
 //!
 //! Node 1 is the root, node j is the parent of nodes 2j and 2j + 1, and the last nodes are the
 //! slots in order. A node holds the slot that comes first of those below it.
 ghost use Rattle.std.specs.Prelude.{◌≡◌, ◌≢◌, ◌*◌, ◌<◌, ◌≤◌, length, replicate, IsTrue};
+ghost use Rattle.warm_rank.specs.Keys.{key_cmp};
 ghost use Rattle.warm_rank.specs.WinnerTree.{winner, HasLeaves, IsTree, HasChanged};
 
 use crate::MAX_FRAMES;
@@ -22,9 +23,9 @@ pub(crate) fn number_leaves(slots: usize, nodes: &mut Vec<u32>)
 }
 
 // Plays all matches, from the last node to the first.
-pub(crate) fn play_all<K: Ord + Copy>(keys: &SlotKeys<K>, nodes: &mut Vec<u32>)
+pub(crate) fn play_all(keys: &SlotKeys, nodes: &mut Vec<u32>)
     requires { HasLeaves (length keys.now) nodes.old.items }
-    ensures { IsTree K.cmp keys.now nodes.new.items }
+    ensures { IsTree key_cmp keys.now nodes.new.items }
 {
     let mut node = keys.len();
     while node > 1 {
@@ -37,10 +38,10 @@ pub(crate) fn play_all<K: Ord + Copy>(keys: &SlotKeys<K>, nodes: &mut Vec<u32>)
 
 // Plays the matches above a slot whose key changed. It stops at a match whose winner stays the same
 // and is not the slot: nothing above it changes.
-pub(crate) fn play_above<K: Ord + Copy>(keys: &SlotKeys<K>, nodes: &mut Vec<u32>, slot: usize)
+pub(crate) fn play_above(keys: &SlotKeys, nodes: &mut Vec<u32>, slot: usize)
     requires range { slot < length keys.now }
-    requires changed { HasChanged K.cmp keys.now nodes.old.items slot }
-    ensures { IsTree K.cmp keys.now nodes.new.items }
+    requires changed { HasChanged key_cmp keys.now nodes.old.items slot }
+    ensures { IsTree key_cmp keys.now nodes.new.items }
 {
     let mut node = keys.len() + slot;
     while node > 1 {
@@ -64,10 +65,10 @@ fn is_settled(before: u32, now: u32, slot: usize) -> bool
 }
 
 // The slot that comes first of two.
-fn winner_of<K: Ord + Copy>(keys: &SlotKeys<K>, a: u32, b: u32) -> u32
+fn winner_of(keys: &SlotKeys, a: u32, b: u32) -> u32
     requires first { a < length keys.now }
     requires second { b < length keys.now }
-    ensures { result ≡ winner K.cmp keys.now a b }
+    ensures { result ≡ winner key_cmp keys.now a b }
 {
     match keys.compare(a as usize, b as usize) {
         Ordering::Less => a,

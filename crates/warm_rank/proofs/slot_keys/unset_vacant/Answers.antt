@@ -1,5 +1,6 @@
 use Rattle.std.proofs.Common.{not, ◌≡◌, ◌<◌, ◌+◌, suc, ℕ, List, length, sym, ap, ◌∙◌, false, None, arith, add-one, set}
 use Rattle.std.proofs.lemmas.List.{get_or_read, length-set}
+use Rattle.warm_rank.specs.declared.RankKey.{RankKey}
 use Rattle.warm_rank.specs.Slots.{key_at, keys_set}
 use Rattle.warm_rank.proofs.SetKeyLemmas.{length-keys_set, unset_there}
 use Rattle.warm_rank.proofs.VacantLemmas.{keys_so_far, one_cleared, one_kept, all_looked_at, none_there, some_there}
@@ -13,7 +14,7 @@ loop-slot-preserved g c =
     let slot : ℕ = c.loop-slot.slot in
     let lt : slot < length held = c.loop-slot-test.true in
     let read : c.index-held-slot.result ≡ key_at held slot = get_or_read held slot _ lt c.index-held-slot.is None in
-    let same : (keys : List g.row.K.Denot) → length keys ≡ length all → length held ≡ length (keys_set all keys) = λ keys each. c.requires ∙ sym (length-keys_set all keys each) in
+    let same : (keys : List RankKey) → length keys ≡ length all → length held ≡ length (keys_set all keys) = λ keys each. c.requires ∙ sym (length-keys_set all keys each) in
     let next : slot + 1 ≡ suc slot = add-one slot in
     elim c.if-is_none.branch [
       | then-is_none w ↦ record {

@@ -1,7 +1,7 @@
 use Rattle.std.proofs.Common.{Some, false, ap, sym, subst, refl, ◌∙◌, arith}
 use Rattle.warm_pool.specs.Frames.{frame_of}
 use Rattle.warm_pool.specs.FrameSteps.{loaded_frame, filled_body}
-use Rattle.warm_pool.proofs.Lagging.{IsUpdated, updated_lower}
+use Rattle.warm_pool.proofs.Lagging.{IsUpdated, updated}
 use Rattle.warm_pool.proofs.FrameParts.{has_page, has_slot, has_status, has_body, body_is, seen, stay_tied, becomes}
 use Rattle.warm_pool.proofs.frames.Frames.install.Goals as goal
 
@@ -20,15 +20,15 @@ index_mut-requires c = has_status c.self.invariant c.self.view_is c.args.at c.re
 pub set-requires : goal.set-requires
 set-requires c = has_page c.self.invariant c.self.view_is c.args.at c.requires.there
 
-pub lower-requires : goal.lower-requires
-lower-requires c = has_slot c.self.invariant c.args.at (has_page c.self.invariant c.self.view_is c.args.at c.requires.there)
+pub set-requires-2 : goal.set-requires-2
+set-requires-2 c = has_slot c.self.invariant c.args.at (has_page c.self.invariant c.self.view_is c.args.at c.requires.there)
 
 pub invariant_of-self : goal.invariant_of-self
 invariant_of-self c =
     let there = has_page c.self.invariant c.self.view_is c.args.at c.requires.there in
     stay_tied c.self.invariant (record { pages = c.set.ensures; statuses = refl; bodies = refl }) there
-    (subst (IsUpdated c.self.inside.contest c.args.at _) (sym c.lower.ensures)
-    (updated_lower c.self.inside.contest c.args.at _ _ (has_slot c.self.invariant c.args.at there) (sym (ap (λ b. b.key) c.frame.view_is))))
+    (subst (IsUpdated c.self.inside.contest c.args.at _) (sym c.set-2.ensures)
+    (updated c.self.inside.contest c.args.at _ _ (has_slot c.self.invariant c.args.at there) (sym (ap (λ b. b.key) c.frame.view_is))))
 
 pub returns-clause-frames : goal.returns-clause-frames
 returns-clause-frames c =

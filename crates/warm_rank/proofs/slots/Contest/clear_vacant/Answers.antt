@@ -1,8 +1,7 @@
 use Rattle.std.proofs.Common.{length, sym, ap, subst, ◌∙◌}
 use Rattle.warm_rank.specs.Slots.{IsLeast}
 use Rattle.warm_rank.specs.Keys.{key_cmp}
-use Rattle.warm_rank.specs.WinnerTree.{HasLeaves, IsTree}
-use Rattle.warm_rank.proofs.KeyLemmas.{derived_order}
+use Rattle.warm_rank.specs.WinnerTree.{HasLeaves}
 use Rattle.warm_rank.proofs.VacantLemmas.{length-keys_while, none_cleared}
 use Rattle.warm_rank.proofs.slots.Contest.clear_vacant.Goals as goal
 
@@ -13,6 +12,3 @@ pub play_all-requires : goal.play_all-requires
 play_all-requires g c =
     let count : _ = ap length c.clear_vacant.ensures ∙ length-keys_while c.args.held.now c.self.inside.keys in
     subst (λ n. HasLeaves n c.self.inside.nodes.items) (sym count) c.self.invariant.shape
-
-pub invariant_of-self : goal.invariant_of-self
-invariant_of-self g c = subst (λ cmp. IsTree cmp c.clear_vacant.new.self c.play_all.new.nodes.items) derived_order c.play_all.ensures

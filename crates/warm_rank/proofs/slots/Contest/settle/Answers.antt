@@ -7,14 +7,15 @@ use Rattle.warm_rank.proofs.KeyLemmas.{key_order}
 use Rattle.warm_rank.proofs.BehindLemmas.{one_repaired, still_behind, least_some}
 use Rattle.warm_rank.proofs.slots.Contest.settle.Goals as goal
 
-pub returns-then-not-is_after-clause-least : goal.returns-then-not-is_after-clause-least
-returns-then-not-is_after-clause-least g c =
+pub returns-then-not-comes_before-clause-least : goal.returns-then-not-comes_before-clause-least
+returns-then-not-comes_before-clause-least g c =
     let keys : _ = g.C.CurrentKeys.keys c.args.current.now in
     let tree : _ = c.loop-repair.self in
-    let low : is_gt (set_first_cmp key_cmp c.key-key.result c.key-known.result) ≡ false = sym c.is_after.ensures ∙ c.if-not-is_after.true in
+    let low : is_gt (set_first_cmp key_cmp c.key-key.result (key_at tree c.in-Some.at)) ≡ false =
+    subst (λ keys. is_gt (set_first_cmp key_cmp c.key-key.result (key_at keys c.in-Some.at)) ≡ false) c.self-in-loop-repair.view_is (sym c.comes_before.ensures ∙ c.if-not-comes_before.true)
+    in
     least_some key_cmp key_order tree keys c.in-Some.at (still_behind key_cmp key_order c.args.self.now keys tree c.requires c.loop-repair.invariant) c.in-Some.ensures
-    (subst (λ y. is_gt (set_first_cmp key_cmp (key_at keys c.in-Some.at) y) ≡ false) c.key-known.ensures
-    (subst (λ x. is_gt (set_first_cmp key_cmp x c.key-known.result) ≡ false) c.key-key.ensures low))
+    (subst (λ x. is_gt (set_first_cmp key_cmp x (key_at tree c.in-Some.at)) ≡ false) c.key-key.ensures low)
 
 pub loop-repair-preserved : goal.loop-repair-preserved
 loop-repair-preserved g c =

@@ -1,0 +1,153 @@
+//! Ranks in half the room, for the slots of a contest.
+//!
+//! A [`RankKey`] has 56 bytes: each replica number has 64 bits, and so has the number that says how
+//! many stamps are known. A match reads two keys, and mostly the first 16 bytes of each.
+ghost use Rattle.std.specs.Prelude.{◌≡◌};
+ghost use Rattle.std.specs.Ordering.{nat_cmp};
+ghost use Rattle.warm_stamps.specs.Replicas.{IsReplica};
+ghost use Rattle.warm_rank.specs.FlatKeys.{fields_cmp, stamp_at};
+ghost use Rattle.warm_rank.specs.Keys.{key_cmp};
+
+use crate::RankKey;
+use std::cmp::Ordering;
+use std::marker::Model;
+use warm_stamps::{PageId, ReplicaId, Stamp};
+
+// The fields of a rank, in 32 bytes without padding: a move would copy a padded value in pieces.
+// The older stamp is the only one where the page has one. A stamp that isn't known is 0.
+#[derive(Debug, Clone, Copy)]
+struct Fields {
+    older_time: u64,
+    stamps: u16,
+    older_replica: u16,
+    later_replica: u16,
+    dev: u16,
+    later_time: u64,
+    no: u64,
+}
+
+/// The rank of a page. Contracts see it as the [`RankKey`].
+#[derive(Debug, Clone, Copy)]
+pub(crate) struct FlatKey {
+    fields: Fields,
+}
+
+impl Model for FlatKey {
+    ghost use Rattle.warm_rank.specs.declared.RankKey.{RankKey};
+    ghost use Rattle.warm_rank.specs.FlatKeys.{AreFields, fields_of, key_in};
+
+    ghost Value = { RankKey };
+
+    ghost view = { λ k. key_in k.fields };
+
+    ghost invariant = { λ k. AreFields k.fields };
+
+    ghost inverse = { λ key. record { fields = fields_of key } };
+
+    ghost inverse_ok = { λ k are i. record { fields = are.again i } };
+}
+
+impl FlatKey {
+    /// The same rank.
+    pub(crate) fn of(key: RankKey) -> FlatKey
+        ensures { result ≡ key }
+    {
+        let fields = match key {
+            RankKey::Never { page } => Fields {
+                older_time: 0,
+                stamps: 0,
+                older_replica: 0,
+                later_replica: 0,
+                dev: page.dev,
+                later_time: 0,
+                no: page.no,
+            },
+            RankKey::Once { last, page } => Fields {
+                older_time: last.time,
+                stamps: 1,
+                older_replica: last.replica.get(),
+                later_replica: 0,
+                dev: page.dev,
+                later_time: 0,
+                no: page.no,
+            },
+            RankKey::Twice { prev, last, page } => Fields {
+                older_time: prev.time,
+                stamps: 2,
+                older_replica: prev.replica.get(),
+                later_replica: last.replica.get(),
+                dev: page.dev,
+                later_time: last.time,
+                no: page.no,
+            },
+        };
+        FlatKey { fields }
+    }
+
+    /// The rank that is lent out.
+    pub(crate) fn get(self) -> RankKey
+        ensures { result ≡ self }
+    {
+        let fields = self.fields;
+        let page = PageId {
+            dev: fields.dev,
+            no: fields.no,
+        };
+        if fields.stamps == 0 {
+            return RankKey::Never { page };
+        }
+        let older = stamp_at(fields.older_time, fields.older_replica);
+        if fields.stamps == 1 {
+            return RankKey::Once { last: older, page };
+        }
+        let last = stamp_at(fields.later_time, fields.later_replica);
+        RankKey::Twice {
+            prev: older,
+            last,
+            page,
+        }
+    }
+
+    /// The order of two ranks.
+    pub(crate) fn compare(&self, other: &FlatKey) -> Ordering
+        ensures { result ≡ key_cmp self.now other.now }
+    {
+        compare_fields(&self.fields, &other.fields)
+    }
+}
+
+// The stamp of a time and the number of a replica.
+fn stamp_at(time: u64, replica: u16) -> Stamp
+    requires { IsReplica replica }
+    ensures { result ≡ stamp_at time replica }
+{
+    let Ok(replica) = ReplicaId::new(replica) else {
+        unreachable!()
+    };
+    Stamp { time, replica }
+}
+
+// The order of the fields of two ranks. Mostly the older times decide.
+fn compare_fields(a: &Fields, b: &Fields) -> Ordering
+    ensures { result ≡ fields_cmp a.now b.now }
+{
+    if a.stamps != b.stamps {
+        return a.stamps.cmp(&b.stamps);
+    }
+    if a.older_time != b.older_time {
+        return a.older_time.cmp(&b.older_time);
+    }
+    if a.older_replica != b.older_replica {
+        return a.older_replica.cmp(&b.older_replica);
+    }
+    if a.later_time != b.later_time {
+        return a.later_time.cmp(&b.later_time);
+    }
+    if a.later_replica != b.later_replica {
+        return a.later_replica.cmp(&b.later_replica);
+    }
+    if a.dev != b.dev {
+        return a.dev.cmp(&b.dev);
+    }
+    a.no.cmp(&b.no)
+}
