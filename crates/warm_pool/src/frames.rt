@@ -215,8 +215,8 @@ impl Frames {
             dirty: false,
         };
         self.page_table.set(at, Some(page));
-        // The slot has the victim's key, which is the least: with the new key at once, the next
-        // victim is at the root.
+        // The slot still has its last page's key, mostly the least. It gets the new one at once, so
+        // that the next victim is at the root.
         self.contest.set(at, rank);
     }
 
