@@ -1,5 +1,5 @@
 -- What loading does of a page that a device has and no frame.
-use Rattle.std.proofs.Common.{◌≡◌, ℕ, List, Option, Some, length, ap, inl, inr, subst, sym, arith}
+use Rattle.std.proofs.Common.{◌≡◌, ◌<◌, ℕ, List, Option, Some, length, ap, inl, inr, subst, sym, arith}
 use Rattle.warm_stamps.specs.declared.PageId.{PageId}
 use Rattle.warm_history.specs.Histories.{HistoryView, IsHistory, references_of}
 use Rattle.warm_history.proofs.JoinLemmas.{history_of_own_references}
@@ -11,7 +11,9 @@ use Rattle.warm_pool.specs.declared.fault.PoolFault.TheVariants.{NoDevice, NoPag
 use Rattle.warm_pool.specs.View.{PoolView}
 use Rattle.warm_pool.specs.Pinning.{Loaded, LoadRefused, PutsIn, PutRefused}
 use Rattle.warm_gossip.specs.State.{NodeView}
-use Rattle.warm_gossip.specs.Step.{IsFirstLoadable, IsLoadable}
+use Rattle.warm_gossip.specs.Step.{IsFirstLoadable, IsLoadable, nth_page}
+use Rattle.warm_gossip.specs.WarmingUp.{IsPast, IsUnderWay}
+use Rattle.warm_gossip.proofs.Passed.{first_there}
 
 -- it is put into a frame
 pub loaded_in : {h : HistoryView} {v w : PoolView} {p : PageId} {slot : Slot} → IsLoadable v p
@@ -45,3 +47,16 @@ pub next_is : (v : PoolView) (h : HistoryView) (ps : List PageId) (p q : PageId)
     → IsFirstLoadable v ps (Some p) → p ≡ q
     → IsFirstLoadable v (hottest_pages (references_of h) (length v.frames)) (Some q)
 next_is v h ps p q whole hottest first is = next_warm v h ps (Some q) whole hottest (subst (λ x. IsFirstLoadable v ps (Some x)) is first)
+
+-- The page that a step loads is the next to load, and can be loaded. `ps` are the pages of the
+-- warm-up, which the search for that page read as `xs`.
+pub page_to_load : (v : PoolView) (h k : HistoryView) (ps xs : List PageId) (at n : ℕ) (p : PageId)
+    → IsHistory h → k ≡ h → IsUnderWay k v ps n → xs ≡ ps → IsPast xs at v
+    → (at < length xs → IsLoadable v (nth_page xs at)) → at < length ps → nth_page ps at ≡ p
+    → IsFirstLoadable v (hottest_pages (references_of h) (length v.frames)) (Some p)
+    × IsLoadable v p
+page_to_load v h k ps xs at n p whole same under read past loads there is =
+    let hottest = subst (λ x. IsWarmUp x (length v.frames) ps) same under.hottest in
+    let first = subst (λ ys. IsPast ys at v) read past in
+    let loadable = subst (λ ys. IsLoadable v (nth_page ys at)) read (loads (subst (λ ys. at < length ys) (sym read) there)) in
+    (next_is v h ps _ p whole hottest (first_there v ps at first there loadable) is, subst (IsLoadable v) is loadable)
