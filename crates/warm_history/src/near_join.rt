@@ -106,7 +106,7 @@ fn compare_map(
         parts.changed.items parts.fresh.items) }
 {
     let mut changed = Vec::new(alloc);
-    let mut fresh = Vec::new(alloc);
+    let mut fresh = Vec::with_capacity(alloc, room_for(map, more))?;
     let Some((first, _)) = more.first_key_value() else {
         return Ok(Parts { changed, fresh });
     };
@@ -116,6 +116,16 @@ fn compare_map(
         add_left(map, &mut ahead, &mut changed, &mut fresh, *key, left)?;
     }
     Ok(Parts { changed, fresh })
+}
+
+// The room that is taken at once for new pairs: where the map has none, all of the other are new.
+fn room_for(map: &BTreeMap<u64, Packed>, more: &BTreeMap<u64, Packed>) -> usize
+    ensures { result ≤ length more.now.entries }
+{
+    if map.is_empty() {
+        return more.len();
+    }
+    0
 }
 
 // Adds what the horizon left of a pair of the other map, if anything.

@@ -24,7 +24,7 @@ loop-key-init c =
       rise = subst KeysAscend (sym all) c.requires.more;
       holds = subst (AllByRecursion (λ (x : ℕ × PageHist). HoldsFrom x.0 (pairs_ahead c.ahead_from-ahead.result) c.args.map.now.entries)) (sym all)
           (holds_all _ c.args.map.now.entries (c.in-Some.first.now, c.in-Some.field-0-1.now) more (sym c.in-Some.ensures.first) c.ahead_from-ahead.ensures.holds c.requires.more);
-      goes_on = parts_begin c.args.map.now.entries (cut_at c.args.horizon more) _ c.new-changed.result.items c.new-fresh.result.items c.new-changed.ensures.items c.new-fresh.ensures.items (ap (cut_at c.args.horizon) all);
+      goes_on = parts_begin c.args.map.now.entries (cut_at c.args.horizon more) _ c.new-changed.result.items c.in_ok-fresh.fresh.items c.new-changed.ensures.items c.in_ok-fresh.ensures.items (ap (cut_at c.args.horizon) all);
     }
 
 pub loop-key-preserved : goal.loop-key-preserved
