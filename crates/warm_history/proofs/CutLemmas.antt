@@ -54,7 +54,7 @@ all_left P m (e ∷ pairs) all = elim (kept_hist m e.1) as (λ x. AllByRecursion
   | Some h ↦ (all.0, all_left P m pairs all.1)
 ]
 
-rise_left : (m : ℕ) (pairs : MapPairs) → KeysAscend pairs → KeysAscend (cut_at m pairs)
+pub rise_left : (m : ℕ) (pairs : MapPairs) → KeysAscend pairs → KeysAscend (cut_at m pairs)
 rise_left m [] rise = tt
 rise_left m (e ∷ pairs) rise = elim (kept_hist m e.1) as (λ x. KeysAscend (cons_option (option_map (λ h. (e.0, h)) x) (cut_at m pairs))) [
   | None ↦ rise_left m pairs rise.1

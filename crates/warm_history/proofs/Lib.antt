@@ -23,9 +23,13 @@ pub mod RecordLemmas
 pub mod BucketSteps
 pub mod BucketCounts
 pub mod RunLemmas
+pub mod JoinTakes
 pub mod RunPairs
 pub mod WalkLemmas
 pub mod MergedLemmas
+pub mod NearJoinLemmas
+pub mod JoinedBuckets
+pub mod JoinedMaps
 pub mod AlongLemmas
 pub mod MergedBuckets
 pub mod BucketParts

@@ -301,7 +301,7 @@ joined_none : (run : MapPairs) → AreTwoLatest run → joined_pairs [] run ≡ 
 joined_none [] latest = refl
 joined_none (e ∷ run) latest = ap (λ o. at_key e.0 o ++ joined_pairs [] run) latest.0 ∙ ap (λ t. e ∷ t) (joined_none run latest.1)
 
-into_none : (run : MapPairs) → KeysAscend run → with_pairs [] run ≡ run
+pub into_none : (run : MapPairs) → KeysAscend run → with_pairs [] run ≡ run
 into_none run rise = same_found (with_pairs [] run) run (rise_with [] run tt) rise (λ q. found_with q [] run ∙ or_none (found q run))
   where
     or_none : (x : Option PageHist) → option_or x None ≡ x

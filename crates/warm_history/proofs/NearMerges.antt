@@ -20,7 +20,7 @@ use Rattle.warm_history.proofs.WithKeys.{found_with}
 abbrev pub AreSmall : MapPairs → Type 0
 AreSmall run = AllKeys (λ k. k < 18446744073709551616) run
 
-all_put : (P : ℕ → Type 0) (m run : MapPairs) → AllKeys P m → AllKeys P run → AllKeys P (with_pairs m run)
+pub all_put : (P : ℕ → Type 0) (m run : MapPairs) → AllKeys P m → AllKeys P run → AllKeys P (with_pairs m run)
 all_put P m [] own all = own
 all_put P m (e ∷ run) own all = all_insert P e.0 e.1 (with_pairs m run) all.0 (all_put P m run own all.1)
 
@@ -45,12 +45,12 @@ module _ (b : ℕ) (far : MapPairs) (is : AllKeys (IsFar b) far) where
       ∙ ap (λ t. t ++ widened b (joined_pairs near run)) (sym (with_at (full_key b) e.0 h))
       ∙ sym (with_append (full_key b) (at_key e.0 h) (joined_pairs near run))
 
-  merged_near : (near run : MapPairs) → AreSmall run → merged (widened b near ++ far) (widened b run) ≡ widened b (merged near run) ++ far
+  pub merged_near : (near run : MapPairs) → AreSmall run → merged (widened b near ++ far) (widened b run) ≡ widened b (merged near run) ++ far
   merged_near near run small =
       ap (with_pairs (widened b near ++ far)) (joined_near near run small)
       ∙ with_near near (joined_pairs near run) (joined_all (λ k. k < 18446744073709551616) near run small)
 
-  differs_near : (near run n : MapPairs) → AreSmall run → DiffersAt run near n → DiffersAt (widened b run) (widened b near ++ far) (widened b n ++ far)
+  pub differs_near : (near run n : MapPairs) → AreSmall run → DiffersAt run near n → DiffersAt (widened b run) (widened b near ++ far) (widened b n ++ far)
   differs_near near run n small differs =
       let key : ℕ = differs.0 in
       let fits : key < 18446744073709551616 = all_at (λ k. k < 18446744073709551616) run key small differs.1 in

@@ -72,14 +72,14 @@ put_some s (t ∷ ss) = by_cases (stamp_cmp t s) _
     (λ tied. let some = first_some t ss in rw tied some)
     (λ more. let some = first_some t (insert_distinct (flip_args stamp_cmp) s ss) in rw more some)
 
-some_joined : (h : PageHist) (ss : List Stamp) → (k : PageHist) × (Some k ≡ latest_of (hist_stamps h ++ ss))
+pub some_joined : (h : PageHist) (ss : List Stamp) → (k : PageHist) × (Some k ≡ latest_of (hist_stamps h ++ ss))
 some_joined (Once last) ss = put_some last (distinct (flip_args stamp_cmp) ss)
 some_joined (Twice two) ss = put_some two.last (distinct (flip_args stamp_cmp) (two.prev ∷ ss))
 
 -- ---- one entry more
 
 -- what is found at a key below those of a run is found still
-found_under : (p : ℕ) (old run : MapPairs) → AreAbove p run → found p (merged old run) ≡ found p old
+pub found_under : (p : ℕ) (old run : MapPairs) → AreAbove p run → found p (merged old run) ≡ found p old
 found_under p old run above =
     found_with p old (joined_pairs old run)
     ∙ ap (λ x. option_or x (found p old)) (no_later p (joined_pairs old run) (joined_all (λ k. nat_cmp p k ≡ Less) old run above))
@@ -106,7 +106,7 @@ pub record TakesRun (m number : ℕ) (old : MapPairs) (es : List Entry) (new : M
   pub exact : TakesEntries m old es new
   pub others : (bucket : ℕ) → bucket ≢ number → SameInBucket bucket (kept old) (kept new)
 
-bucket_is : (number p : ℕ) → IsMapKey p → LiesIn number p → page_bucket (page_of_key p) ≡ number
+pub bucket_is : (number p : ℕ) → IsMapKey p → LiesIn number p → page_bucket (page_of_key p) ≡ number
 bucket_is number p is lies = own_bucket p is ∙ sym (lies_in number p lies.0 lies.1)
 
 adds : (m number : ℕ) (old mid : MapPairs) (e : Entry) (es : List Entry) (more h k : PageHist) → page_of_key (key_of_page e.page) ≡ e.page → LiesIn number (key_of_page e.page) → hist_stamps more ≡ filter (is_kept m) (hist_stamps e.hist) → Some h ≡ latest_of (hist_stamps more)

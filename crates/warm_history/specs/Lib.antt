@@ -13,6 +13,7 @@ pub mod MapPairs
 pub mod BucketMaps
 pub mod Runs
 pub mod Walks
+pub mod NearJoins
 pub mod Merges
 pub mod Cuts
 pub mod Undo

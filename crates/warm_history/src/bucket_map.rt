@@ -3,7 +3,7 @@
 //!
 //! A search compares a near key in half the time of a full one, and a near pair has 32 bytes.
 ghost use Rattle.std.specs.Iterator.{YieldsFirst};
-ghost use Rattle.std.specs.Prelude.{◌≡◌, ◌+◌, ◌<◌, ◌^◌, ◌++◌, length, IfOk, OnErr, OnOk};
+ghost use Rattle.std.specs.Prelude.{◌≡◌, ◌+◌, ◌<◌, ◌^◌, [], ◌++◌, length, IfOk, IsTrue, OnErr, OnOk};
 ghost use Rattle.std.specs.List.{AllByRecursion};
 ghost use Rattle.warm_stamps.specs.Buckets.{page_bucket};
 ghost use Rattle.warm_stamps.specs.declared.TheConstants.{BUCKETS};
@@ -42,7 +42,7 @@ pub(crate) struct UndoNote {
 // The pages of a bucket.
 #[derive(Debug, Clone, Drop)]
 pub(crate) struct BucketMap {
-    near: BTreeMap<u64, Packed>,
+    pub(crate) near: BTreeMap<u64, Packed>,
     far: BTreeMap<u128, Packed>,
 }
 
@@ -63,6 +63,13 @@ impl BucketMap {
         ensures { result ≡ length self.now.near.entries + length self.now.far.entries }
     {
         self.near.len() + self.far.len()
+    }
+
+    // Whether all pages are of near devices.
+    pub(crate) fn is_near(&self) -> bool
+        ensures { IsTrue result → self.now.far.entries ≡ [] }
+    {
+        self.far.is_empty()
     }
 
     // What is known of a page of this bucket.

@@ -1,23 +1,25 @@
 //! What is known of each page, stored bucket by bucket, so that each look-up searches a small map.
 ghost use Rattle.std.specs.Iterator.{YieldsFirst};
 ghost use Rattle.std.specs.List.{AllByRecursion};
-ghost use Rattle.std.specs.Prelude.{◌≡◌, ◌+◌, ◌<◌, ◌≤◌, ◌^◌, [], ◌++◌, length, map, OnOk, OnErr, IfOk};
+ghost use Rattle.std.specs.Prelude.{◌≡◌, ◌+◌, ◌<◌, ◌≤◌, ◌^◌, [], ◌++◌, length, map, OnOk, OnErr, IfOk, IsTrue};
 ghost use Rattle.warm_stamps.specs.declared.TheConstants.{BUCKETS};
 ghost use Rattle.warm_history.specs.MapKeys.{key_of_page};
 ghost use Rattle.warm_history.specs.Cuts.{cut_at};
 ghost use Rattle.warm_history.specs.MapPairs.{as_entries, AreKept, TakesStamps};
 ghost use Rattle.warm_history.specs.BucketMaps.{pairs_left, HoldsBucket, KeysAscend, SaysNote, found};
+ghost use Rattle.warm_history.specs.NearJoins.{IsNear, NoFar, TellsBuckets};
 ghost use Rattle.warm_history.specs.NearPairs.{count_of, far_pairs, full, near_pairs, widened, IsMapOf};
 ghost use Rattle.warm_history.specs.Undo.{put_back, notes_of, Undoes};
 ghost use Rattle.warm_history.specs.Walks.{AreTwoLatest, TellsChange, merged};
 
 use crate::bucket_map::{BucketMap, BucketPairs, UndoNote};
 use crate::hist::Entry;
+use crate::near_join::join_maps;
 use crate::packed::Packed;
 use std::alloc::{AllocError, Global};
 use std::array;
 use std::marker::Model;
-use warm_stamps::{BUCKETS, PageId, bucket_of};
+use warm_stamps::{BUCKETS, BucketSet, PageId, bucket_of};
 
 // The number of buckets, as the length of an array.
 const MAPS: usize = BUCKETS as usize;
@@ -135,6 +137,31 @@ impl BucketMaps {
         self.maps[number as usize].merge(alloc, number, run)
     }
 
+    // Whether all pages are of near devices. Allocation-free.
+    pub(crate) fn is_near(&self) -> bool
+        ensures { IsTrue result → AllByRecursion (λ e. IsNear e.0) self.now }
+    {
+        are_near(&self.maps)
+    }
+
+    // Takes in all stamps of pages of near devices that are not older than the horizon, bucket by
+    // bucket, or none where an allocation fails. Returns which buckets that changes.
+    pub(crate) fn join(
+        &mut self,
+        alloc: Global,
+        horizon: u64,
+        more: &BucketMaps,
+    ) -> Result<BucketSet, AllocError>
+        requires here { AreKept self.old }
+        requires there { AreKept more.now }
+        requires near { AllByRecursion (λ e. IsNear e.0) more.now }
+        ensures ok { OnOk result (self.new ≡ merged self.old (cut_at horizon more.now)) }
+        ensures changed { IfOk result (λ changed. TellsBuckets changed self.old self.new) }
+        ensures err { OnErr result (self.new ≡ self.old) }
+    {
+        join_maps(alloc, &mut self.maps, horizon, &more.maps, 0)
+    }
+
     // Restores what was known of a page. Allocation-free.
     pub(crate) fn put_back(&mut self, note: UndoNote)
         ensures { self.new ≡ put_back (key_of_page note.page) note.hist self.old }
@@ -222,6 +249,17 @@ fn count_all(maps: &[BucketMap]) -> usize
         count += map.len();
     }
     count
+}
+
+fn are_near(maps: &[BucketMap]) -> bool
+    ensures { IsTrue result → NoFar maps.now }
+{
+    for map in maps {
+        if !map.is_near() {
+            return false;
+        }
+    }
+    true
 }
 
 fn forget_all(maps: &mut [BucketMap], horizon: u64)

@@ -18,6 +18,7 @@ mod history;
 pub mod laws;
 mod map_key;
 mod merge_iter;
+mod near_join;
 mod packed;
 mod page_map;
 mod runs;

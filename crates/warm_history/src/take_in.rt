@@ -111,6 +111,11 @@ pub(crate) fn take_pairs(
     ensures whole { AreKept maps.new }
     ensures err { OnErr result (maps.new ≡ maps.old) }
 {
+    if more.is_near() {
+        // Not returned as it comes: the proof takes success and failure apart here.
+        let changed = maps.join(alloc, horizon, more)?;
+        return Ok(changed);
+    }
     let mut undo = Vec::new(alloc);
     match take_each_pair(maps, &mut undo, horizon, more) {
         Ok(changed) => Ok(changed),

@@ -45,11 +45,11 @@ pub(crate) struct Ahead<'a> {
 
 // What a run changes in a map.
 #[derive(Drop)]
-struct Parts {
+pub(crate) struct Parts {
     // The values that change.
-    changed: Vec<(u64, Packed)>,
+    pub(crate) changed: Vec<(u64, Packed)>,
     // The pairs whose keys are new.
-    fresh: Vec<(u64, Packed)>,
+    pub(crate) fresh: Vec<(u64, Packed)>,
 }
 
 // Takes in a run of the map's bucket, and returns whether that changes the map. Where an allocation
@@ -108,7 +108,10 @@ fn fill(
 }
 
 // The map of pairs at rising keys.
-fn map_of(alloc: Global, pairs: &[(u64, Packed)]) -> Result<BTreeMap<u64, Packed>, AllocError>
+pub(crate) fn map_of(
+    alloc: Global,
+    pairs: &[(u64, Packed)],
+) -> Result<BTreeMap<u64, Packed>, AllocError>
     requires { KeysAscend pairs.now }
     ensures same { IfOk result (λ map. map.entries ≡ pairs.now) }
     ensures small { IfOk result (λ map. length map.entries < MAX_PAIRS) }
@@ -127,7 +130,7 @@ fn collected(alloc: Global, pairs: &[(u64, Packed)]) -> Result<BTreeMap<u64, Pac
 }
 
 // The pairs of a map from a key on.
-fn ahead_from(map: &BTreeMap<u64, Packed>, key: u64) -> Ahead<'_>
+pub(crate) fn ahead_from(map: &BTreeMap<u64, Packed>, key: u64) -> Ahead<'_>
     requires { KeysAscend map.now.entries }
     ensures holds { HoldsFrom key (pairs_ahead result) map.now.entries }
     ensures on { AllByRecursion (λ e. key ≤ e.0) (pairs_ahead result) }
@@ -139,7 +142,11 @@ fn ahead_from(map: &BTreeMap<u64, Packed>, key: u64) -> Ahead<'_>
 
 // The value at a key, where the map has one. The walk goes on from the key: keys are asked for in
 // rising order.
-fn find<'a>(map: &'a BTreeMap<u64, Packed>, ahead: &mut Ahead<'a>, key: u64) -> Option<Packed>
+pub(crate) fn find<'a>(
+    map: &'a BTreeMap<u64, Packed>,
+    ahead: &mut Ahead<'a>,
+    key: u64,
+) -> Option<Packed>
     requires rise { KeysAscend map.now.entries }
     requires from { HoldsFrom key (pairs_ahead ahead.old) map.now.entries }
     ensures value { result ≡ found key map.now.entries }
@@ -169,7 +176,7 @@ fn find<'a>(map: &'a BTreeMap<u64, Packed>, ahead: &mut Ahead<'a>, key: u64) -> 
 
 // Adds a pair of a run to the values that change, where it changes the one known at its key, or to
 // the pairs that are new.
-fn add_part(
+pub(crate) fn add_part(
     changed: &mut Vec<(u64, Packed)>,
     fresh: &mut Vec<(u64, Packed)>,
     key: u64,
@@ -227,7 +234,10 @@ fn compare(
 }
 
 // Puts in pairs whose keys are new or, where an allocation fails, none.
-fn put_all_in(map: &mut BTreeMap<u64, Packed>, fresh: &[(u64, Packed)]) -> Result<(), AllocError>
+pub(crate) fn put_all_in(
+    map: &mut BTreeMap<u64, Packed>,
+    fresh: &[(u64, Packed)],
+) -> Result<(), AllocError>
     requires rise { KeysAscend map.old.entries }
     requires run { KeysAscend fresh.now }
     requires absent { AreAbsent fresh.now map.old.entries }
@@ -263,7 +273,7 @@ fn insert_each(map: &mut BTreeMap<u64, Packed>, pairs: &[(u64, Packed)]) -> Resu
 }
 
 // Takes out the values at the keys of these pairs, as far as they are in. Allocation-free.
-fn take_out(map: &mut BTreeMap<u64, Packed>, pairs: &[(u64, Packed)])
+pub(crate) fn take_out(map: &mut BTreeMap<u64, Packed>, pairs: &[(u64, Packed)])
     requires { KeysAscend map.old.entries }
     ensures { (old : MapPairs) → KeysAscend old → AreAbsent pairs.now old
         → SameElsewhere pairs.now old map.old.entries → map.new.entries ≡ old }
@@ -274,7 +284,7 @@ fn take_out(map: &mut BTreeMap<u64, Packed>, pairs: &[(u64, Packed)])
 }
 
 // Writes values at keys that are there, in the way that is faster. Allocation-free.
-fn write_all(map: &mut BTreeMap<u64, Packed>, pairs: &[(u64, Packed)])
+pub(crate) fn write_all(map: &mut BTreeMap<u64, Packed>, pairs: &[(u64, Packed)])
     requires rise { KeysAscend map.old.entries }
     requires run { KeysAscend pairs.now }
     requires there { AreThere pairs.now map.old.entries }

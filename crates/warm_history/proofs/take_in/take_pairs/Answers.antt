@@ -1,0 +1,11 @@
+use Rattle.warm_history.proofs.JoinTakes.{marks_all, takes_all}
+use Rattle.warm_history.proofs.take_in.take_pairs.Goals as goal
+
+pub returns-then-is_near-clause-exact : goal.returns-then-is_near-clause-exact
+returns-then-is_near-clause-exact c = (takes_all c.args.horizon c.args.maps.now c.args.more.now c.join.new.self c.requires.here c.requires.there c.in_ok-changed.ensures.ok).1
+
+pub returns-then-is_near-clause-changed : goal.returns-then-is_near-clause-changed
+returns-then-is_near-clause-changed c = marks_all c.args.maps.now c.join.new.self c.in_ok-changed.changed c.requires.here (takes_all c.args.horizon c.args.maps.now c.args.more.now c.join.new.self c.requires.here c.requires.there c.in_ok-changed.ensures.ok).0 c.in_ok-changed.ensures.changed
+
+pub returns-then-is_near-clause-whole : goal.returns-then-is_near-clause-whole
+returns-then-is_near-clause-whole c = (takes_all c.args.horizon c.args.maps.now c.args.more.now c.join.new.self c.requires.here c.requires.there c.in_ok-changed.ensures.ok).0
