@@ -1,5 +1,5 @@
 -- Undoing a change gives the old pairs.
-use Rattle.std.proofs.Common.{◌≡◌, ℕ, Bool, true, false, cond, List, [], ◌∷◌, ◌++◌, sym, ap, refl, ◌∙◌, subst, Option, Some, None, append_assoc, add-one, drop-cons, drop, length, get_or, suc, filter, ◌+◌, ◌<◌, ◌≤◌}
+use Rattle.std.proofs.Common.{◌≡◌, ℕ, Bool, true, false, cond, List, [], ◌∷◌, ◌++◌, sym, ap, refl, ◌∙◌, subst, Option, Some, None, add-one, drop-cons, drop, length, get_or, suc, filter, ◌+◌, ◌<◌, ◌≤◌}
 use Rattle.std.specs.List.{AllByRecursion}
 use Rattle.std.specs.List.Sorted.{IsPermutation}
 use Rattle.std.specs.Option.{option_map}
@@ -24,7 +24,7 @@ use Rattle.warm_history.specs.declared.hist.PageHist.{PageHist}
 use Rattle.warm_history.specs.declared.hist.Entry.{Entry}
 use Rattle.warm_history.specs.ListHistories.{first_two, list_hist, latest_of, hist_stamps, known_stamps, references_of_entry, list_references_of, list_history, IsListHistory, IsDescending, PagesAscend}
 use Rattle.warm_history.proofs.ListHistoryLemmas.{get, told, told-append, told_entry, told_refs, same_gets, falling_first_two, IsFallingIfAny}
-use Rattle.warm_history.proofs.ListJoinLemmas.{history_of_own_references, history_first, history_alike}
+use Rattle.warm_history.proofs.ListJoinLemmas.{history_of_own_references, history_alike}
 use Rattle.warm_history.proofs.EntryLemmas.{takes_in}
 use Rattle.warm_history.proofs.MapKeyOrder.{nat_order, same_key, rising_pages}
 use Rattle.warm_history.proofs.OrderLemmas.{both_same, either_first, get-in_order, in_order_rises, IsHistory-in_order, PagesDiffer, permuted_in_order, get-filter}
@@ -240,26 +240,6 @@ undone_last (x ∷ ks) k pairs = ap (put_back (key_of_page x.page) x.hist) (undo
 -- a change is undone before those that were notes_of earlier
 pub undone_more : (ks : List UndoNote) (change : Option UndoNote) (k : UndoNote) (old new : MapPairs) → change ≡ Some k → undone (notes_of change) new ≡ old → undone (ks ++ k ∷ []) new ≡ undone ks old
 undone_more ks change k old new is back = undone_last ks k new ∙ ap (undone ks) (ap (λ x. undone (notes_of x) new) (sym is) ∙ back)
-
--- ---- going on
-
--- what is left to take in says beside the new history what it said with the first of it beside the
--- old one
-pub goes_on : (old new : List Entry) (first rest left : List Reference) (all : List Entry) → new ≡ list_history (list_references_of old ++ first) → left ≡ first ++ rest → list_history (list_references_of old ++ left) ≡ all → list_history (list_references_of new ++ rest) ≡ all
-goes_on old new first rest left all is_new is_left so =
-    ap (λ h. list_history (list_references_of h ++ rest)) is_new
-    ∙ history_first (list_references_of old ++ first) rest
-    ∙ ap list_history (append_assoc (list_references_of old) first rest)
-    ∙ ap (λ t. list_history (list_references_of old ++ t)) (sym is_left)
-    ∙ so
-
--- where nothing is left
-pub all_taken : (new all : List Entry) (left : List Reference) → IsListHistory new → left ≡ [] → list_history (list_references_of new ++ left) ≡ all → new ≡ all
-all_taken new all left whole none so =
-    sym (history_of_own_references new whole)
-    ∙ ap list_history (sym (append-nil (list_references_of new)))
-    ∙ ap (λ t. list_history (list_references_of new ++ t)) (sym none)
-    ∙ so
 
 -- what was put in at a key is found there
 pub found_inserted : (p : ℕ) (h : PageHist) (pairs : MapPairs) → found p (insert_entry nat_cmp pairs p h) ≡ Some h

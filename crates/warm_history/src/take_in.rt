@@ -3,7 +3,8 @@
 //!
 //! Each change notes the old value in an undo list. Where an allocation fails the notes are
 //! restored, the last one first, which is allocation-free.
-ghost use Rattle.std.specs.Prelude.{◌≡◌, IfOk, OnOk, OnErr, max};
+ghost use Rattle.std.specs.Prelude.{◌≡◌, List, IfOk, OnOk, OnErr, max};
+ghost use Rattle.std.specs.Iterator.{IsFinite, Drains};
 ghost use Rattle.warm_history.specs.Changes.{MarksChanged};
 ghost use Rattle.warm_history.specs.MapKeys.{key_of_page, page_of_key};
 ghost use Rattle.warm_history.specs.MapPairs.{
@@ -60,7 +61,11 @@ pub(crate) fn take_references(
     ensures err { OnErr result (maps.new ≡ maps.old) }
 {
     let mut undo = Vec::with_capacity(alloc, batch.len())?;
-    match take_each_reference(maps, &mut undo, horizon, batch) {
+    let entries = batch.iter().map(|reference| Entry {
+        page: reference.page,
+        hist: PageHist::Once(reference.stamp),
+    });
+    match take_each(maps, &mut undo, horizon, entries) {
         Ok(changed) => Ok(changed),
         Err(fault) => {
             put_all_back(maps, &mut undo);
@@ -87,7 +92,7 @@ pub(crate) fn take_entries(
         return take_run(alloc, maps, horizon, bucket, more);
     }
     let mut undo = Vec::new(alloc);
-    match take_each_entry(maps, &mut undo, horizon, more) {
+    match take_each(maps, &mut undo, horizon, more.iter().copied()) {
         Ok(changed) => Ok(changed),
         Err(fault) => {
             put_all_back(maps, &mut undo);
@@ -117,7 +122,7 @@ pub(crate) fn take_pairs(
         return Ok(changed);
     }
     let mut undo = Vec::new(alloc);
-    match take_each_pair(maps, &mut undo, horizon, more) {
+    match take_each(maps, &mut undo, horizon, more.each_entry()) {
         Ok(changed) => Ok(changed),
         Err(fault) => {
             put_all_back(maps, &mut undo);
@@ -184,37 +189,19 @@ fn take_recent(
     Ok(taken)
 }
 
-fn take_each_reference(
+// Takes in the stamps of all entries that an iterator yields. The entries may be in any order.
+fn take_each<I: Iterator<Item = Entry> + Drop>(
     maps: &mut BucketMaps,
     undo: &mut Vec<UndoNote>,
     horizon: u64,
-    batch: &[Reference],
+    more: I,
 ) -> Result<BucketSet, AllocError>
-    requires { AreKept maps.old }
-    ensures exact { OnOk result (TakesReferences horizon maps.old batch.now maps.new) }
-    ensures changed { IfOk result (MarksChanged (kept maps.old) (kept maps.new)) }
-    ensures undo { LeadsBack undo.new.items maps.new undo.old.items maps.old }
-    ensures whole { AreKept maps.new }
-{
-    let mut changed = BucketSet::new();
-    let mut is_new = false;
-    for reference in batch {
-        let more = Packed::once(reference.stamp);
-        let taken = take_recent(maps, undo, horizon, reference.page, more, is_new)?;
-        changed = changed.union(taken.changed);
-        is_new = taken.is_new;
-    }
-    Ok(changed)
-}
-
-fn take_each_entry(
-    maps: &mut BucketMaps,
-    undo: &mut Vec<UndoNote>,
-    horizon: u64,
-    more: &[Entry],
-) -> Result<BucketSet, AllocError>
-    requires { AreKept maps.old }
-    ensures exact { OnOk result (TakesEntries horizon maps.old more.now maps.new) }
+    requires kept { AreKept maps.old }
+    requires can { I.can_next more }
+    requires ends { IsFinite (I.remaining more) }
+    ensures exact { OnOk result ((es : List Entry)
+        × Drains I.next_gives more es
+        × TakesEntries horizon maps.old es maps.new) }
     ensures changed { IfOk result (MarksChanged (kept maps.old) (kept maps.new)) }
     ensures undo { LeadsBack undo.new.items maps.new undo.old.items maps.old }
     ensures whole { AreKept maps.new }
@@ -222,30 +209,6 @@ fn take_each_entry(
     let mut changed = BucketSet::new();
     let mut is_new = false;
     for entry in more {
-        let more = Packed::new(entry.hist);
-        let taken = take_recent(maps, undo, horizon, entry.page, more, is_new)?;
-        changed = changed.union(taken.changed);
-        is_new = taken.is_new;
-    }
-    Ok(changed)
-}
-
-fn take_each_pair(
-    maps: &mut BucketMaps,
-    undo: &mut Vec<UndoNote>,
-    horizon: u64,
-    more: &BucketMaps,
-) -> Result<BucketSet, AllocError>
-    requires here { AreKept maps.old }
-    requires there { AreKept more.now }
-    ensures exact { OnOk result (TakesPairs horizon maps.old more.now maps.new) }
-    ensures changed { IfOk result (MarksChanged (kept maps.old) (kept maps.new)) }
-    ensures undo { LeadsBack undo.new.items maps.new undo.old.items maps.old }
-    ensures whole { AreKept maps.new }
-{
-    let mut changed = BucketSet::new();
-    let mut is_new = false;
-    for entry in more.each_entry() {
         let stamps = Packed::new(entry.hist);
         let taken = take_recent(maps, undo, horizon, entry.page, stamps, is_new)?;
         changed = changed.union(taken.changed);
