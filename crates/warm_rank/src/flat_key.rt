@@ -2,8 +2,8 @@
 //!
 //! A [`RankKey`] has 56 bytes: each replica number has 64 bits, and so has the number that says how
 //! many stamps are known. A match reads two keys, and mostly the first 16 bytes of each.
-ghost use Rattle.std.specs.Prelude.{◌≡◌};
-ghost use Rattle.std.specs.Ordering.{nat_cmp};
+ghost use Rattle.std.specs.Prelude.{◌≡◌, IfSome, cond};
+ghost use Rattle.std.specs.declared.cmp.Ordering.TheVariants.{Greater, Less};
 ghost use Rattle.warm_stamps.specs.Replicas.{IsReplica};
 ghost use Rattle.warm_rank.specs.FlatKeys.{fields_cmp, stamp_at};
 ghost use Rattle.warm_rank.specs.Keys.{key_cmp};
@@ -106,6 +106,19 @@ impl FlatKey {
             last,
             page,
         }
+    }
+
+    /// Whether this rank comes after another, where the older times alone decide. Their order can't
+    /// be foreseen, and this answer is computed without a jump.
+    pub(crate) fn is_after_by_time(&self, other: &FlatKey) -> Option<bool>
+        ensures { IfSome result (λ is_after.
+            key_cmp self.now other.now ≡ cond is_after Greater Less) }
+    {
+        let (a, b) = (&self.fields, &other.fields);
+        if a.stamps != b.stamps || a.older_time == b.older_time {
+            return None;
+        }
+        Some(a.older_time > b.older_time)
     }
 
     /// The order of two ranks.

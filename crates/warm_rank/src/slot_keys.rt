@@ -1,10 +1,11 @@
 //! The keys of slots.
 ghost use Rattle.std.specs.Prelude.{◌≡◌, List, ◌<◌, ◌≤◌, length, replicate, set, false, true};
-ghost use Rattle.std.specs.Prelude.{is_some, IfOk, None};
+ghost use Rattle.std.specs.Prelude.{is_some, cond, IfOk, IfSome, None};
 ghost use Rattle.std.specs.Ordering.{is_gt};
+ghost use Rattle.std.specs.declared.cmp.Ordering.TheVariants.{Greater, Less};
 ghost use Rattle.warm_rank.specs.declared.RankKey.{RankKey};
 ghost use Rattle.warm_rank.specs.Keys.{key_cmp};
-ghost use Rattle.warm_rank.specs.Slots.{key_at, keys_set, keys_while, set_first_cmp};
+ghost use Rattle.warm_rank.specs.Slots.{key_at, keys_set, keys_while, set_first_cmp, slot_cmp};
 
 use crate::RankKey;
 use crate::flat_key::FlatKey;
@@ -124,6 +125,22 @@ impl SlotKeys {
         unset_vacant(&mut self.is_set, held);
     }
 
+    /// Whether a slot comes after another: by their keys, of equal keys the greater slot.
+    pub(crate) fn is_after(&self, a: usize, b: usize) -> bool
+        requires first { a < length self.now }
+        requires second { b < length self.now }
+        ensures { result ≡ is_gt (slot_cmp key_cmp self.now a b) }
+    {
+        if let Some(is_after) = is_after_by_time(&self.is_set, &self.keys, a, b) {
+            return is_after;
+        }
+        match self.compare(a, b) {
+            Ordering::Less => false,
+            Ordering::Equal => b < a,
+            Ordering::Greater => true,
+        }
+    }
+
     /// The order of the keys of two slots: the lesser key first; a set key comes before none.
     pub(crate) fn compare(&self, a: usize, b: usize) -> Ordering
         requires first { a < length self.now }
@@ -132,6 +149,22 @@ impl SlotKeys {
     {
         compare_set(&self.is_set, &self.keys, a, b)
     }
+}
+
+// Whether the older times of two slots' keys decide, and then whether the first comes after the
+// second.
+fn is_after_by_time(is_set: &[bool], keys: &[FlatKey], a: usize, b: usize) -> Option<bool>
+    requires same { length keys.now ≡ length is_set.now }
+    requires first { a < length is_set.now }
+    requires second { b < length is_set.now }
+    ensures { IfSome result (λ is_after. set_first_cmp key_cmp
+        (key_at (keys_set is_set.now keys.now) a) (key_at (keys_set is_set.now keys.now) b)
+        ≡ cond is_after Greater Less) }
+{
+    if !is_set[a] || !is_set[b] {
+        return None;
+    }
+    keys[a].is_after_by_time(&keys[b])
 }
 
 // Marks of slots, none of which is set.

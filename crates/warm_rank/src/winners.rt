@@ -2,13 +2,12 @@
 //!
 //! Node 1 is the root, node j is the parent of nodes 2j and 2j + 1, and the last nodes are the
 //! slots in order. A node holds the slot that comes first of those below it.
-ghost use Rattle.std.specs.Prelude.{◌≡◌, ◌≢◌, ◌*◌, ◌<◌, ◌≤◌, length, replicate, IsTrue};
+ghost use Rattle.std.specs.Prelude.{◌≡◌, ◌≢◌, ◌*◌, ◌<◌, ◌≤◌, ◌+◌, length, replicate, slice_index, IsTrue};
 ghost use Rattle.warm_rank.specs.Keys.{key_cmp};
 ghost use Rattle.warm_rank.specs.WinnerTree.{winner, HasLeaves, IsTree, HasChanged};
 
 use crate::MAX_FRAMES;
 use crate::slot_keys::SlotKeys;
-use std::cmp::Ordering;
 
 // Stores the slots in the leaves.
 pub(crate) fn number_leaves(slots: usize, nodes: &mut Vec<u32>)
@@ -32,7 +31,7 @@ pub(crate) fn play_all(keys: &SlotKeys, nodes: &mut Vec<u32>)
         node -= 1;
         let first = nodes[2 * node];
         let second = nodes[2 * node + 1];
-        nodes[node] = winner_of(keys, first, second);
+        nodes[node] = winner_of(keys, nodes, 2 * node, first, second);
     }
 }
 
@@ -49,7 +48,7 @@ pub(crate) fn play_above(keys: &SlotKeys, nodes: &mut Vec<u32>, slot: usize)
         let before = nodes[node];
         let first = nodes[2 * node];
         let second = nodes[2 * node + 1];
-        let now = winner_of(keys, first, second);
+        let now = winner_of(keys, nodes, 2 * node, first, second);
         nodes[node] = now;
         if is_settled(before, now, slot) {
             return;
@@ -64,15 +63,16 @@ fn is_settled(before: u32, now: u32, slot: usize) -> bool
     now == before && before as usize != slot
 }
 
-// The slot that comes first of two.
-fn winner_of(keys: &SlotKeys, a: u32, b: u32) -> u32
+// The slot that comes first of two, which are in this node and the one behind it. It is read there:
+// which of two keys comes first can't be foreseen, and an index needs no jump.
+fn winner_of(keys: &SlotKeys, nodes: &[u32], node: usize, a: u32, b: u32) -> u32
     requires first { a < length keys.now }
     requires second { b < length keys.now }
+    requires both { node + 1 < length nodes.now }
+    requires is_first { slice_index nodes.now node ≡ a }
+    requires is_second { slice_index nodes.now (node + 1) ≡ b }
     ensures { result ≡ winner key_cmp keys.now a b }
 {
-    match keys.compare(a as usize, b as usize) {
-        Ordering::Less => a,
-        Ordering::Equal => { if b < a { b } else { a } }
-        Ordering::Greater => b,
-    }
+    let is_after = keys.is_after(a as usize, b as usize);
+    nodes[node + usize::from(is_after)]
 }
