@@ -35,7 +35,8 @@ along_long left [] = refl
 along_long left (e ∷ es) = ap suc (along_long (next_left left e.0) es)
 
 -- keys past the first pair are keys of the others
-there_past : (e : ℕ × PageHist) (es left : MapPairs) → AreAbove e.0 left → AreThere left (e ∷ es) → AreThere left es
+there_past : (e : ℕ × PageHist) (es left : MapPairs) → AreAbove e.0 left → AreThere left (e ∷ es)
+    → AreThere left es
 there_past e es [] above there = tt
 there_past e es (x ∷ left) above there =
     let more : nat_cmp x.0 e.0 ≡ Greater = flipped nat_cmp nat_order e.0 x.0 Less above.0 in
@@ -43,7 +44,8 @@ there_past e es (x ∷ left) above there =
     (subst IsSome same there.0, there_past e es left above.1 there.1)
 
 -- what is found after the walk: the values written, or else those before
-along_found : (left es : MapPairs) → KeysAscend left → KeysAscend es → AreThere left es → (q : ℕ) → found q (along left es) ≡ option_or (found q left) (found q es)
+along_found : (left es : MapPairs) → KeysAscend left → KeysAscend es → AreThere left es → (q : ℕ)
+    → found q (along left es) ≡ option_or (found q left) (found q es)
 along_found [] [] rise_left rise there q = refl
 along_found (x ∷ left) [] rise_left rise there q = let no : false ≡ true = there.0 in absurd (cc)
 along_found [] (e ∷ es) rise_left rise there q = ap (cond (is_eq (nat_cmp q e.0)) (Some e.1)) (along_found [] es tt rise.1 tt q)
@@ -68,7 +70,8 @@ along_found (x ∷ left) (e ∷ es) rise_left rise there q = by_cases (nat_cmp x
     let rest = along_found (x ∷ left) es rise_left rise.1 (there_past e es (x ∷ left) above there) q in
     rw away (ap (cond (is_eq (nat_cmp q e.0)) (Some e.1)) rest ∙ cases above (is_eq (nat_cmp q e.0)) refl))
   where
-    over : (b : Bool) → cond b (Some x.1) (option_or (found q left) (found q es)) ≡ option_or (cond b (Some x.1) (found q left)) (cond b (Some e.1) (found q es))
+    over : (b : Bool) → cond b (Some x.1) (option_or (found q left) (found q es))
+        ≡ option_or (cond b (Some x.1) (found q left)) (cond b (Some e.1) (found q es))
     over true = refl
     over false = refl
 
@@ -81,14 +84,17 @@ along_found (x ∷ left) (e ∷ es) rise_left rise there q = by_cases (nat_cmp x
         let no : Greater ≡ Equal = sym more ∙ tied in
         absurd (cc)
 
-    cases : AreAbove e.0 (x ∷ left) → (b : Bool) → is_eq (nat_cmp q e.0) ≡ b → cond (is_eq (nat_cmp q e.0)) (Some e.1) (option_or (found q (x ∷ left)) (found q es)) ≡ option_or (found q (x ∷ left)) (cond (is_eq (nat_cmp q e.0)) (Some e.1) (found q es))
+    cases : AreAbove e.0 (x ∷ left) → (b : Bool) → is_eq (nat_cmp q e.0) ≡ b
+        → cond (is_eq (nat_cmp q e.0)) (Some e.1) (option_or (found q (x ∷ left)) (found q es))
+        ≡ option_or (found q (x ∷ left)) (cond (is_eq (nat_cmp q e.0)) (Some e.1) (found q es))
     cases above true here =
         let one : q ≡ e.0 = nat_order.same q e.0 (is_equal (nat_cmp q e.0) here) in
         let none : found q (x ∷ left) ≡ None = subst (λ k. found k (x ∷ left) ≡ None) (sym one) (no_later e.0 (x ∷ left) above) in
         rw (here, none) refl
     cases above false there = rw there refl
 
-along_is : (left es : MapPairs) → KeysAscend left → KeysAscend es → AreThere left es → along left es ≡ with_pairs es left
+along_is : (left es : MapPairs) → KeysAscend left → KeysAscend es → AreThere left es
+    → along left es ≡ with_pairs es left
 along_is left es rise_left rise there =
     same_found (along left es) (with_pairs es left) (along_rise left es rise) (rise_with es left rise)
     (λ q. along_found left es rise_left rise there q ∙ sym (found_with q es left))
@@ -96,8 +102,11 @@ along_is left es rise_left rise there =
 -- ---- what `retain` leaves
 
 -- each call writes the value that is next
-module _ {F : Type 0} (T : F → ℕ → PageHist → Bool → PageHist → F → Type 0) (left_of : F → MapPairs) (says : (f : F) (k : ℕ) (v : PageHist) (b : Bool) (w : PageHist) (g : F) → T f k v b w g → (b ≡ true) × (w ≡ next_value (left_of f) k v) × (left_of g ≡ next_left (left_of f) k)) where
-  along_retain : (f : F) (left es kept : MapPairs) → left_of f ≡ left → RetainsPairs T f es kept → kept ≡ along left es
+module _ {F : Type 0} (T : F → ℕ → PageHist → Bool → PageHist → F → Type 0) (left_of : F → MapPairs)
+    (says : (f : F) (k : ℕ) (v : PageHist) (b : Bool) (w : PageHist) (g : F) → T f k v b w g
+    → (b ≡ true) × (w ≡ next_value (left_of f) k v) × (left_of g ≡ next_left (left_of f) k)) where
+  along_retain : (f : F) (left es kept : MapPairs) → left_of f ≡ left → RetainsPairs T f es kept
+      → kept ≡ along left es
   along_retain f left [] kept is ran = ran
   along_retain f left (e ∷ es) kept is ran =
       let call = says f e.0 e.1 ran.0 ran.1 ran.2 ran.4 in
@@ -107,7 +116,9 @@ module _ {F : Type 0} (T : F → ℕ → PageHist → Bool → PageHist → F �
       ∙ ap (λ h. (e.0, h) ∷ ran.3) (call.1 ∙ ap (λ t. next_value t e.0 e.1) is)
       ∙ ap (λ t. (e.0, next_value left e.0 e.1) ∷ t) rest
 
-  pub written_along : (f : F) (left es kept : MapPairs) → left_of f ≡ left → KeysAscend left → KeysAscend es → AreThere left es → RetainsPairs T f es kept → (kept ≡ with_pairs es left) × (length kept ≡ length es)
+  pub written_along : (f : F) (left es kept : MapPairs) → left_of f ≡ left → KeysAscend left
+      → KeysAscend es → AreThere left es → RetainsPairs T f es kept
+      → (kept ≡ with_pairs es left) × (length kept ≡ length es)
   written_along f left es kept is rise_left rise there ran =
       let walked = along_retain f left es kept is ran in
       (walked ∙ along_is left es rise_left rise there, ap length walked ∙ along_long left es)

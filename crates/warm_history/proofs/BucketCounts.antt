@@ -19,7 +19,8 @@ use Rattle.std.specs.Map.{remove_entry, set_value}
 
 -- ---- how many pairs there are
 
-pub few_counted : (b : ℕ) (ms : List BucketMap) → AreMapsOf b ms → count_of ms ≤ length ms * 288230376151711742
+pub few_counted : (b : ℕ) (ms : List BucketMap) → AreMapsOf b ms
+    → count_of ms ≤ length ms * 288230376151711742
 few_counted b [] all = omega arith
 few_counted b (m ∷ ms) all =
     let near : length m.near.entries < 144115188075855872 = all.0.near_few in
@@ -31,7 +32,8 @@ pub all_counted : (b : ℕ) (ms : List BucketMap) → length (all_pairs (fulls b
 all_counted b [] = refl
 all_counted b (m ∷ ms) = length-append (full b m) (all_pairs (fulls (b + 1) ms)) ∙ ap (λ (n : ℕ). n + length (all_pairs (fulls (b + 1) ms))) (length_full b m) ∙ ap (λ (n : ℕ). length m.near.entries + length m.far.entries + n) (all_counted (b + 1) ms)
 
-length-set_value : (p : ℕ) (h : PageHist) (m : MapPairs) → length (set_value (is_at (nat_cmp p)) m h) ≡ length m
+length-set_value : (p : ℕ) (h : PageHist) (m : MapPairs)
+    → length (set_value (is_at (nat_cmp p)) m h) ≡ length m
 length-set_value p h [] = refl
 length-set_value p h (e ∷ m) = by_cases (nat_cmp p e.0) _
     (λ pe. rw pe (ap suc (length-set_value p h m)))
@@ -47,11 +49,13 @@ length-remove p (e ∷ m) =
     (λ pe. rw pe (omega arith))
     (λ pe. rw pe (omega arith))
 
-pub few_put_back : (p : ℕ) (known : Option PageHist) (m : MapPairs) → length (put_back p known m) ≤ length m
+pub few_put_back : (p : ℕ) (known : Option PageHist) (m : MapPairs)
+    → length (put_back p known m) ≤ length m
 few_put_back p None m = length-remove p m
 few_put_back p (Some h) m = omega (arith, length-set_value p h m)
 
-pub few_inserted : (p : ℕ) (h : PageHist) (m : MapPairs) → length (insert_entry nat_cmp m p h) ≤ length m + 1
+pub few_inserted : (p : ℕ) (h : PageHist) (m : MapPairs)
+    → length (insert_entry nat_cmp m p h) ≤ length m + 1
 few_inserted p h [] = omega arith
 few_inserted p h (e ∷ m) =
     let rest : length (insert_entry nat_cmp m p h) ≤ length m + 1 = few_inserted p h m in
@@ -66,7 +70,9 @@ abbrev pub AreEmpty : List BucketMap → Type 0
 AreEmpty ms = (i : ℕ) (m : BucketMap) → i < length ms → IsBare (get_or ms i m)
 
 -- maps are empty that calls gave which give empty ones
-pub each_made : {F : Type 0} (g : Mut F (ℕ × Unit {0}) BucketMap) (f : F) (ms : List BucketMap) (n : ℕ) → ((p : F) (i : ℕ) (m : BucketMap) (q : F) → Called g p (i, tt) m q → IsBare m) → IsFromFnResult g f ms n → AreEmpty ms
+pub each_made : {F : Type 0} (g : Mut F (ℕ × Unit {0}) BucketMap) (f : F) (ms : List BucketMap)
+    (n : ℕ) → ((p : F) (i : ℕ) (m : BucketMap) (q : F) → Called g p (i, tt) m q → IsBare m)
+    → IsFromFnResult g f ms n → AreEmpty ms
 each_made g f ms n told made i m less =
     let long : length ms ≡ n = made.long in
     let call : _ = made.at i m (omega arith) in
@@ -115,7 +121,8 @@ same_fulls b (m ∷ ms) (n ∷ ns) all =
     let rest : fulls (b + 1) ns ≡ fulls (b + 1) ms = same_fulls (b + 1) ms ns all.1 in
     λ i. (widened b (near i) ++ far i) ∷ rest i
 
-pub same_maps : (b : ℕ) (ms ns : List BucketMap) → AllZip SameMaps ms ns → AreMapsOf b ms → AreMapsOf b ns
+pub same_maps : (b : ℕ) (ms ns : List BucketMap) → AllZip SameMaps ms ns → AreMapsOf b ms
+    → AreMapsOf b ns
 same_maps b [] [] all are = tt
 same_maps b [] (n ∷ ns) all are = absurd all
 same_maps b (m ∷ ms) [] all are = absurd all

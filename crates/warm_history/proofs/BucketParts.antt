@@ -26,7 +26,8 @@ apart b c p other in_one in_other =
     other (omega arith)
 
 -- of another bucket's map it chooses none
-none_of_map : (n c : ℕ) (test : ℕ → Bool) (m : MapPairs) → PassesIn n test → (n ≡ c → ⊥) → AllByRecursion (λ e. LiesIn c e.0) m → chosen test m ≡ []
+none_of_map : (n c : ℕ) (test : ℕ → Bool) (m : MapPairs) → PassesIn n test → (n ≡ c → ⊥)
+    → AllByRecursion (λ e. LiesIn c e.0) m → chosen test m ≡ []
 none_of_map n c test [] passes other all = refl
 none_of_map n c test (e ∷ m) passes other all = cases (test e.0) refl (none_of_map n c test m passes other all.1)
   where
@@ -34,7 +35,8 @@ none_of_map n c test (e ∷ m) passes other all = cases (test e.0) refl (none_of
     cases true is later = absurd (apart n c e.0 other (passes e.0 is) all.0)
     cases false is later = rw is later
 
-none_later : (n c : ℕ) (test : ℕ → Bool) (ms : List MapPairs) → PassesIn n test → n < c → AreBuckets c ms → chosen test (all_pairs ms) ≡ []
+none_later : (n c : ℕ) (test : ℕ → Bool) (ms : List MapPairs) → PassesIn n test → n < c
+    → AreBuckets c ms → chosen test (all_pairs ms) ≡ []
 none_later n c test [] passes less are = refl
 none_later n c test (m ∷ ms) passes less are =
     let later : n < c + 1 = omega arith in
@@ -42,7 +44,8 @@ none_later n c test (m ∷ ms) passes less are =
     ∙ ap (λ t. t ++ chosen test (all_pairs ms)) (none_of_map n c test m passes (λ same. omega arith) are.0)
     ∙ none_later n (c + 1) test ms passes later are.1
 
-pub chosen_joined : (n b i : ℕ) (test : ℕ → Bool) (ms : List MapPairs) → n ≡ b + i → PassesIn n test → AreBuckets b ms → chosen test (map_at ms i) ≡ chosen test (all_pairs ms)
+pub chosen_joined : (n b i : ℕ) (test : ℕ → Bool) (ms : List MapPairs) → n ≡ b + i → PassesIn n test
+    → AreBuckets b ms → chosen test (map_at ms i) ≡ chosen test (all_pairs ms)
 chosen_joined n b i test [] is passes are = refl
 chosen_joined n b zero test (m ∷ ms) is passes are =
     let less : n < b + 1 = omega arith in
@@ -73,7 +76,9 @@ both : (a b : Bool) → (a && b) ≡ true → (a ≡ true) × (b ≡ true)
 both true b is = (refl, is)
 both false b is = let no : false ≡ true = is in absurd (cc)
 
-pub from_first_on : (bucket : ℕ) → PassesIn bucket (range_contains nat_cmp (Included (first_key bucket)) (Excluded (first_key (bucket + 1))))
+pub from_first_on : (bucket : ℕ)
+    → PassesIn bucket (range_contains nat_cmp (Included (first_key bucket))
+    (Excluded (first_key (bucket + 1))))
 from_first_on bucket k is =
     let parts = both (is_le (nat_cmp (first_key bucket) k)) _ is in
     (from_start (first_key bucket) k parts.0, before_end (first_key (bucket + 1)) k parts.1)

@@ -37,13 +37,16 @@ use Rattle.warm_history.proofs.MapPairLemmas.{IsHistory-kept, find-kept}
 
 -- ---- a bucket says all of its pages
 
-pub get-bucket : (bucket : ℕ) (es : List Entry) (p : PageId) → page_bucket p ≡ bucket → get (bucket_entries bucket es) p ≡ get es p
+pub get-bucket : (bucket : ℕ) (es : List Entry) (p : PageId) → page_bucket p ≡ bucket
+    → get (bucket_entries bucket es) p ≡ get es p
 get-bucket bucket es p is =
     get-filter (λ q. page_bucket q == bucket) es p
     ∙ ap (λ b. cond b (get es p) None) (eq-eqb (page_bucket p) bucket is)
 
 -- lists that agree on each page of a bucket have the same entries in it
-pub same_bucket : (bucket : ℕ) (h g : List Entry) → PagesAscend h → PagesAscend g → ((p : PageId) → page_bucket p ≡ bucket → get h p ≡ get g p) → bucket_entries bucket h ≡ bucket_entries bucket g
+pub same_bucket : (bucket : ℕ) (h g : List Entry) → PagesAscend h → PagesAscend g
+    → ((p : PageId) → page_bucket p ≡ bucket → get h p ≡ get g p)
+    → bucket_entries bucket h ≡ bucket_entries bucket g
 same_bucket bucket h g rise_h rise_g alike =
     let by_page = on (λ (e : Entry). e.page) page_cmp in
     let is_in : Entry → Bool = λ e. page_bucket e.page == bucket in
@@ -52,7 +55,9 @@ same_bucket bucket h g rise_h rise_g alike =
     ∙ cases p (page_bucket p == bucket) refl
     ∙ sym (get-filter (λ q. page_bucket q == bucket) g p))
   where
-    cases : (p : PageId) (b : Bool) → (page_bucket p == bucket) ≡ b → cond (page_bucket p == bucket) (get h p) None ≡ cond (page_bucket p == bucket) (get g p) None
+    cases : (p : PageId) (b : Bool) → (page_bucket p == bucket) ≡ b
+        → cond (page_bucket p == bucket) (get h p) None
+        ≡ cond (page_bucket p == bucket) (get g p) None
     cases p true there = ap (λ x. cond (page_bucket p == bucket) x None) (alike p (eqb-true (page_bucket p) bucket there))
     cases p false away = rw away refl
 
@@ -72,7 +77,8 @@ grows_same h whole p =
     ∙ own
 
 -- a history that has grown grows on as references are taken in
-pub grows_more : (h mid new : List Entry) (S : List Reference) → IsListHistory h → IsListHistory mid → Grows h mid → new ≡ list_history (list_references_of mid ++ S) → Grows h new
+pub grows_more : (h mid new : List Entry) (S : List Reference) → IsListHistory h → IsListHistory mid
+    → Grows h mid → new ≡ list_history (list_references_of mid ++ S) → Grows h new
 grows_more h mid new S whole_h whole_mid grows is p =
     let said : get new p ≡ list_hist (list_references_of mid ++ S) p = ap (λ es. get es p) is ∙ get-history (list_references_of mid ++ S) p in
     let both : list_hist (list_references_of h ++ list_references_of mid) p ≡ list_hist (list_references_of mid) p =
@@ -95,7 +101,8 @@ between : (x y : Option PageHist) → joined x y ≡ y → joined y x ≡ x → 
 between x y up down = sym up ∙ latest_of_swap (known_stamps x) (known_stamps y) ∙ down
 
 -- where a bucket is unchanged in the end, it was unchanged at each step
-stays_between : (bucket : ℕ) (h mid new : List Entry) → PagesAscend h → PagesAscend mid → Grows h mid → Grows mid new → SameInBucket bucket h new → SameInBucket bucket h mid
+stays_between : (bucket : ℕ) (h mid new : List Entry) → PagesAscend h → PagesAscend mid
+    → Grows h mid → Grows mid new → SameInBucket bucket h new → SameInBucket bucket h mid
 stays_between bucket h mid new rise_h rise_mid up down same = same_bucket bucket mid h rise_mid rise_h (λ p there.
     let ends : get new p ≡ get h p = sym (get-bucket bucket new p there) ∙ ap (λ es. get es p) same ∙ get-bucket bucket h p there in
     between (get h p) (get mid p) (up p) (ap (joined (get mid p)) (sym ends) ∙ down p ∙ ends))
@@ -110,7 +117,9 @@ pub marks_empty : (es : List Entry) (buckets : ℕ) → buckets ≡ 0 → MarksC
 marks_empty es buckets none = subst (MarksChanged es es) (sym none) (marks_none es)
 
 -- those that change in a first step, and those that change in the next
-pub marks_more : (h mid new : List Entry) (first next : ℕ) → PagesAscend h → PagesAscend mid → Grows h mid → Grows mid new → MarksChanged h mid first → MarksChanged mid new next → MarksChanged h new (bit_or first next)
+pub marks_more : (h mid new : List Entry) (first next : ℕ) → PagesAscend h → PagesAscend mid
+    → Grows h mid → Grows mid new → MarksChanged h mid first → MarksChanged mid new next
+    → MarksChanged h new (bit_or first next)
 marks_more h mid new first next rise_h rise_mid up down marks_first marks_next bucket low =
     let is = bit_at_or first next bucket in
     let first_lt = bit_at-lt first bucket in
@@ -125,7 +134,8 @@ marks_more h mid new first next rise_h rise_mid up down marks_first marks_next b
     )
 
 -- a set that has no bucket is that of a history that says what it said
-pub nothing_changed : (h g : List Entry) (changed : ℕ) → PagesAscend h → PagesAscend g → MarksChanged h g changed → changed ≡ 0 → g ≡ h
+pub nothing_changed : (h g : List Entry) (changed : ℕ) → PagesAscend h → PagesAscend g
+    → MarksChanged h g changed → changed ≡ 0 → g ≡ h
 nothing_changed h g changed rise_h rise_g marks none = same_gets g h rise_g rise_h (λ p.
     let bucket = page_bucket p in
     let low : page_bucket p < 64 = omega arith in
@@ -143,7 +153,9 @@ apart q p buckets = cases (is_eq (page_cmp q p)) refl
     cases false other = refl
 
 -- an entry that is taken in changes no other bucket than that of its page
-pub others_stay : (old new : List Entry) (e : Entry) (bucket : ℕ) → IsListHistory old → PagesAscend new → new ≡ list_history (list_references_of old ++ references_of_entry e) → page_bucket e.page ≢ bucket → SameInBucket bucket old new
+pub others_stay : (old new : List Entry) (e : Entry) (bucket : ℕ) → IsListHistory old
+    → PagesAscend new → new ≡ list_history (list_references_of old ++ references_of_entry e)
+    → page_bucket e.page ≢ bucket → SameInBucket bucket old new
 others_stay old new e bucket whole rise is away = same_bucket bucket new old rise whole.pages_ascend (λ p there.
     ap (λ es. get es p) is
     ∙ get-history (list_references_of old ++ references_of_entry e) p
@@ -151,10 +163,12 @@ others_stay old new e bucket whole rise is away = same_bucket bucket new old ris
     ∙ rw (apart e.page p (λ same. away (same ∙ there))) (hist-refs old whole p))
 
 -- a key lies in the bucket of its page
-pub lies_in : (bucket key : ℕ) → first_key bucket ≤ key → key < first_key (bucket + 1) → bucket ≡ key / 1208925819614629174706176
+pub lies_in : (bucket key : ℕ) → first_key bucket ≤ key → key < first_key (bucket + 1)
+    → bucket ≡ key / 1208925819614629174706176
 lies_in bucket key from to = omega arith
 
-pub own_bucket : (key : ℕ) → IsMapKey key → page_bucket (page_of_key key) ≡ key / 1208925819614629174706176
+pub own_bucket : (key : ℕ) → IsMapKey key
+    → page_bucket (page_of_key key) ≡ key / 1208925819614629174706176
 own_bucket key is = lies_in (page_bucket (page_of_key key)) key (from_first key is) (below_next key is)
 
 -- a single bucket, as code makes its set
@@ -165,7 +179,10 @@ pub not_in_it : (i b : ℕ) → b ≢ i → bit_at (bit_or 0 (2 ^ i)) b ≡ 0
 not_in_it i b other = with_other 0 i b other ∙ bit_at-zero b
 
 -- where something else is found at a key, the bucket changes in which it lies
-pub changes_at : (old new : MapPairs) (key : ℕ) → IsMapKey key → AreKept old → AreKept new → found key new ≢ found key old → bucket_entries (page_bucket (page_of_key key)) (kept new) ≢ bucket_entries (page_bucket (page_of_key key)) (kept old)
+pub changes_at : (old new : MapPairs) (key : ℕ) → IsMapKey key → AreKept old → AreKept new
+    → found key new ≢ found key old
+    → bucket_entries (page_bucket (page_of_key key)) (kept new)
+    ≢ bucket_entries (page_bucket (page_of_key key)) (kept old)
 changes_at old new key is are_old are_new differs same =
     let p = page_of_key key in
     differs (
@@ -176,7 +193,8 @@ changes_at old new key is are_old are_new differs same =
     ∙ sym (find-kept key old is are_old))
 
 -- and no other does
-pub marks_at : (old new : MapPairs) (key : ℕ) (more : PageHist) → IsMapKey key → AreKept old → AreKept new → TakesStamps old key more new → found key new ≢ found key old
+pub marks_at : (old new : MapPairs) (key : ℕ) (more : PageHist) → IsMapKey key → AreKept old
+    → AreKept new → TakesStamps old key more new → found key new ≢ found key old
     → MarksChanged (kept old) (kept new) (bit_or 0 (2 ^ page_bucket (page_of_key key)))
 marks_at old new key more is are_old are_new takes differs bucket low =
     let i = page_bucket (page_of_key key) in
@@ -197,7 +215,9 @@ marks_at old new key more is are_old are_new takes differs bucket low =
     ]
 
 -- one page more of those that are taken in one after the other
-pub takes_more : (m p : ℕ) (more : PageHist) (first old new : MapPairs) (before next : ℕ) → AreKept first → AreKept old → TakesRecent m old p more new → Grows (kept first) (kept old) → MarksChanged (kept first) (kept old) before → MarksChanged (kept old) (kept new) next
+pub takes_more : (m p : ℕ) (more : PageHist) (first old new : MapPairs) (before next : ℕ)
+    → AreKept first → AreKept old → TakesRecent m old p more new → Grows (kept first) (kept old)
+    → MarksChanged (kept first) (kept old) before → MarksChanged (kept old) (kept new) next
     → Grows (kept first) (kept new) × MarksChanged (kept first) (kept new) (bit_or before next)
 takes_more m p more first old new before next are_first are_old takes grows marks_before marks_next =
     let S = references_from m (references_at p more) in
@@ -211,7 +231,9 @@ takes_more m p more first old new before next are_first are_old takes grows mark
 -- ---- what is taken in, and then cut
 
 -- where a cut leaves a bucket as it is, nothing in it says less of its pages
-hist_left : (m bucket : ℕ) (es : List Entry) (p : PageId) → IsListHistory es → page_bucket p ≡ bucket → kept_entries m (bucket_entries bucket es) ≡ bucket_entries bucket es → list_hist (references_from m (list_references_of es)) p ≡ list_hist (list_references_of es) p
+hist_left : (m bucket : ℕ) (es : List Entry) (p : PageId) → IsListHistory es
+    → page_bucket p ≡ bucket → kept_entries m (bucket_entries bucket es) ≡ bucket_entries bucket es
+    → list_hist (references_from m (list_references_of es)) p ≡ list_hist (list_references_of es) p
 hist_left m bucket es p whole there left =
     sym (get-history (references_from m (list_references_of es)) p)
     ∙ ap (λ t. get t p) (sym (history-kept m (list_references_of es)) ∙ ap (kept_entries m) (history_of_own_references es whole))
@@ -221,7 +243,9 @@ hist_left m bucket es p whole there left =
     ∙ sym (hist-refs es whole p)
 
 -- and it leaves it unchanged after more is taken in that isn't older
-left_with_more : (m bucket : ℕ) (es mid : List Entry) (rs : List Reference) → IsListHistory es → mid ≡ list_history (list_references_of es ++ references_from m rs) → kept_entries m (bucket_entries bucket es) ≡ bucket_entries bucket es
+left_with_more : (m bucket : ℕ) (es mid : List Entry) (rs : List Reference) → IsListHistory es
+    → mid ≡ list_history (list_references_of es ++ references_from m rs)
+    → kept_entries m (bucket_entries bucket es) ≡ bucket_entries bucket es
     → bucket_entries bucket (kept_entries m mid) ≡ bucket_entries bucket mid
 left_with_more m bucket es mid rs whole is left =
     let S = list_references_of es ++ references_from m rs in
@@ -238,8 +262,11 @@ left_with_more m bucket es mid rs whole is left =
 
 -- the buckets that change as what isn't older than a time is taken in, and those that lose
 -- something at it, change as both is done
-pub marks_cut : (a b m k : ℕ) (es mid new : List Entry) (rs : List Reference) (changed lost : ℕ) → view.IsHistory (history_of_entries_at a es) → m ≡ max a b → k ≡ max a m → mid ≡ list_history (list_references_of es ++ references_from m rs) → new ≡ kept_entries k mid
-    → MarksChanged es mid changed → MarksLosing b (history_of_entries_at a es) lost → MarksChanged es new (bit_or changed lost)
+pub marks_cut : (a b m k : ℕ) (es mid new : List Entry) (rs : List Reference) (changed lost : ℕ)
+    → view.IsHistory (history_of_entries_at a es) → m ≡ max a b → k ≡ max a m
+    → mid ≡ list_history (list_references_of es ++ references_from m rs) → new ≡ kept_entries k mid
+    → MarksChanged es mid changed → MarksLosing b (history_of_entries_at a es) lost
+    → MarksChanged es new (bit_or changed lost)
 marks_cut a b m k es mid new rs changed lost whole later latest is cut marks loses bucket low =
     let own = bucket_entries bucket es in
     let or_is = bit_at_or changed lost bucket in

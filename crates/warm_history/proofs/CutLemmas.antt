@@ -31,12 +31,17 @@ use Rattle.std.proofs.lemmas.List.Edits.{map_over_more}
 
 -- ---- what `retain` leaves
 
-module _ {K F : Type 0} (T : F → K → PageHist → Bool → PageHist → F → Type 0) (m : ℕ) (f : F) (says : (k : K) (v : PageHist) (b : Bool) (w : PageHist) (g : F) → T f k v b w g → (cond b (Some w) None ≡ kept_hist m v) × (g ≡ f)) where
-  one : (b : Bool) (k : K) (w : PageHist) (rest : List (K × PageHist)) → cond b ((k, w) ∷ rest) rest ≡ cons_option (option_map (λ h. (k, h)) (cond b (Some w) None)) rest
+module _ {K F : Type 0} (T : F → K → PageHist → Bool → PageHist → F → Type 0) (m : ℕ) (f : F)
+    (says : (k : K) (v : PageHist) (b : Bool) (w : PageHist) (g : F) → T f k v b w g
+    → (cond b (Some w) None ≡ kept_hist m v) × (g ≡ f)) where
+  one : (b : Bool) (k : K) (w : PageHist) (rest : List (K × PageHist))
+      → cond b ((k, w) ∷ rest) rest
+      ≡ cons_option (option_map (λ h. (k, h)) (cond b (Some w) None)) rest
   one true k w rest = refl
   one false k w rest = refl
 
-  pub cut_from_retain : (es left : List (K × PageHist)) → RetainsPairs T f es left → left ≡ cut_at m es
+  pub cut_from_retain : (es left : List (K × PageHist)) → RetainsPairs T f es left
+      → left ≡ cut_at m es
   cut_from_retain [] left is = is
   cut_from_retain (e ∷ es) left is =
       let call = says e.0 e.1 is.0 is.1 is.2 is.4 in
@@ -47,7 +52,8 @@ module _ {K F : Type 0} (T : F → K → PageHist → Bool → PageHist → F �
 
 -- ---- what is true of the pairs that are left
 
-pub all_left : (P : ℕ → Type 0) (m : ℕ) (pairs : MapPairs) → AllByRecursion (λ e. P e.0) pairs → AllByRecursion (λ (e : ℕ × PageHist). P e.0) (cut_at m pairs)
+pub all_left : (P : ℕ → Type 0) (m : ℕ) (pairs : MapPairs) → AllByRecursion (λ e. P e.0) pairs
+    → AllByRecursion (λ (e : ℕ × PageHist). P e.0) (cut_at m pairs)
 all_left P m [] all = tt
 all_left P m (e ∷ pairs) all = elim (kept_hist m e.1) as (λ x. AllByRecursion (λ (e : ℕ × PageHist). P e.0) (cons_option (option_map (λ h. (e.0, h)) x) (cut_at m pairs))) [
   | None ↦ all_left P m pairs all.1
@@ -65,7 +71,9 @@ falls_still : (m : ℕ) (h : PageHist) → IsDescending h → IsDescending (shor
 falls_still m (Once last) fall = tt
 falls_still m (Twice two) fall = elim (is_kept m two.prev) as (λ b. IsDescending (cond b (Twice two) (Once two.last))) [ true ↦ fall | false ↦ tt ]
 
-fall_left : (m : ℕ) (pairs : MapPairs) → AllByRecursion (λ (e : ℕ × PageHist). IsDescending e.1) pairs → AllByRecursion (λ (e : ℕ × PageHist). IsDescending e.1) (cut_at m pairs)
+fall_left : (m : ℕ) (pairs : MapPairs)
+    → AllByRecursion (λ (e : ℕ × PageHist). IsDescending e.1) pairs
+    → AllByRecursion (λ (e : ℕ × PageHist). IsDescending e.1) (cut_at m pairs)
 fall_left m [] all = tt
 fall_left m (e ∷ pairs) all = elim (is_recent m e.1) as (λ b. AllByRecursion (λ (e : ℕ × PageHist). IsDescending e.1) (cons_option (option_map (λ h. (e.0, h)) (cond b (Some (shortened m e.1)) None)) (cut_at m pairs))) [
   | true ↦ (falls_still m e.1 all.0, fall_left m pairs all.1)
@@ -83,7 +91,8 @@ pub few_left : (m : ℕ) (pairs : MapPairs) → length (cut_at m pairs) ≤ leng
 few_left m [] = omega arith
 few_left m (e ∷ pairs) = cases (kept_hist m e.1) (few_left m pairs)
   where
-    cases : (x : Option PageHist) → length (cut_at m pairs) ≤ length pairs → length (cons_option (option_map (λ h. (e.0, h)) x) (cut_at m pairs)) ≤ suc (length pairs)
+    cases : (x : Option PageHist) → length (cut_at m pairs) ≤ length pairs
+        → length (cons_option (option_map (λ h. (e.0, h)) x) (cut_at m pairs)) ≤ suc (length pairs)
     cases None few = omega arith
     cases (Some h) few = omega arith
 
@@ -91,12 +100,14 @@ few_left m (e ∷ pairs) = cases (kept_hist m e.1) (few_left m pairs)
 
 -- one bucket more is cut; a part is one of the two maps
 module _ (part : BucketMap → MapPairs) where
-  parts_set : (ms : List BucketMap) (i : ℕ) (n : BucketMap) → map part (slice_set ms i n) ≡ slice_set (map part ms) i (part n)
+  parts_set : (ms : List BucketMap) (i : ℕ) (n : BucketMap)
+      → map part (slice_set ms i n) ≡ slice_set (map part ms) i (part n)
   parts_set [] i n = refl
   parts_set (x ∷ ms) zero n = refl
   parts_set (x ∷ ms) (suc i) n = ap (λ t. part x ∷ t) (parts_set ms i n)
 
-  part_there : (ms : List BucketMap) (i : ℕ) (m : BucketMap) → part (get_or ms i m) ≡ get_or (map part ms) i (part m)
+  part_there : (ms : List BucketMap) (i : ℕ) (m : BucketMap)
+      → part (get_or ms i m) ≡ get_or (map part ms) i (part m)
   part_there [] i m = refl
   part_there (x ∷ ms) zero m = refl
   part_there (x ∷ ms) (suc i) m = part_there ms i m
@@ -105,19 +116,26 @@ module _ (part : BucketMap → MapPairs) where
   length_parts [] = refl
   length_parts (x ∷ ms) = ap suc (length_parts ms)
 
-  pub cut_more : (m : ℕ) (all ms : List BucketMap) (i : ℕ) (x n : BucketMap) → i < length all → map part ms ≡ map (cut_at m) (take i (map part all)) ++ drop i (map part all) → x ≡ get_or ms i x → part n ≡ cut_at m (part x) → map part (slice_set ms i n) ≡ map (cut_at m) (take (i + 1) (map part all)) ++ drop (i + 1) (map part all)
+  pub cut_more : (m : ℕ) (all ms : List BucketMap) (i : ℕ) (x n : BucketMap) → i < length all
+      → map part ms ≡ map (cut_at m) (take i (map part all)) ++ drop i (map part all)
+      → x ≡ get_or ms i x → part n ≡ cut_at m (part x)
+      → map part (slice_set ms i n)
+      ≡ map (cut_at m) (take (i + 1) (map part all)) ++ drop (i + 1) (map part all)
   cut_more m all ms i x n lt so_far is cut =
       parts_set ms i n
       ∙ ap (slice_set (map part ms) i) cut
       ∙ map_over_more (cut_at m) (map part all) (map part ms) i (part x) (omega (arith, length_parts all)) so_far (ap part is ∙ part_there ms i x)
 
-pub joined_left : (m : ℕ) (ms : List MapPairs) → all_pairs (map (cut_at m) ms) ≡ cut_at m (all_pairs ms)
+pub joined_left : (m : ℕ) (ms : List MapPairs)
+    → all_pairs (map (cut_at m) ms) ≡ cut_at m (all_pairs ms)
 joined_left m [] = refl
 joined_left m (x ∷ ms) = ap (λ t. cut_at m x ++ t) (joined_left m ms) ∙ sym (filter_map-append (cut_pair m) x (all_pairs ms))
 
 -- all buckets are cut where each of their two maps is
 module _ (h : ℕ) where
-  pub cut_maps : (b : ℕ) (ms ns : List BucketMap) → near_pairs ns ≡ map (cut_at h) (near_pairs ms) → far_pairs ns ≡ map (cut_at h) (far_pairs ms) → AreMapsOf b ms → (fulls b ns ≡ map (cut_at h) (fulls b ms)) × AreMapsOf b ns × (length ns ≡ length ms)
+  pub cut_maps : (b : ℕ) (ms ns : List BucketMap) → near_pairs ns ≡ map (cut_at h) (near_pairs ms)
+      → far_pairs ns ≡ map (cut_at h) (far_pairs ms) → AreMapsOf b ms
+      → (fulls b ns ≡ map (cut_at h) (fulls b ms)) × AreMapsOf b ns × (length ns ≡ length ms)
   cut_maps b [] [] near far are = (refl, tt, refl)
   cut_maps b [] (n ∷ ns) near far are = absurd (cc)
   cut_maps b (m ∷ ms) [] near far are = absurd (cc)
@@ -140,12 +158,18 @@ module _ (h : ℕ) where
 
 -- ---- the history that they keep
 
-get-cut : (m : ℕ) (pairs : MapPairs) → PagesDiffer (as_entries pairs) → (q : PageId) → get (as_entries (cut_at m pairs)) q ≡ option_and_then (kept_hist m) (get (as_entries pairs) q)
+get-cut : (m : ℕ) (pairs : MapPairs) → PagesDiffer (as_entries pairs) → (q : PageId)
+    → get (as_entries (cut_at m pairs)) q ≡ option_and_then (kept_hist m) (get (as_entries pairs) q)
 get-cut m [] differ q = refl
 get-cut m (e ∷ pairs) differ q = cases (kept_hist m e.1) refl (is_eq (page_cmp (page_of_key e.0) q)) refl (get-cut m pairs differ.1 q)
   where
-    cases : (x : Option PageHist) → kept_hist m e.1 ≡ x → (b : Bool) → is_eq (page_cmp (page_of_key e.0) q) ≡ b → get (as_entries (cut_at m pairs)) q ≡ option_and_then (kept_hist m) (get (as_entries pairs) q) →
-        get (as_entries (cons_option (option_map (λ h. (e.0, h)) (kept_hist m e.1)) (cut_at m pairs))) q ≡ option_and_then (kept_hist m) (cond (is_eq (page_cmp (page_of_key e.0) q)) (Some e.1) (get (as_entries pairs) q))
+    cases : (x : Option PageHist) → kept_hist m e.1 ≡ x → (b : Bool)
+        → is_eq (page_cmp (page_of_key e.0) q) ≡ b
+        → get (as_entries (cut_at m pairs)) q
+        ≡ option_and_then (kept_hist m) (get (as_entries pairs) q) →
+        get (as_entries (cons_option (option_map (λ h. (e.0, h)) (kept_hist m e.1))
+        (cut_at m pairs))) q ≡ option_and_then (kept_hist m)
+        (cond (is_eq (page_cmp (page_of_key e.0) q)) (Some e.1) (get (as_entries pairs) q))
     cases None is true here rest =
         let same : page_of_key e.0 ≡ q = page_order.same (page_of_key e.0) q (is_equal (page_cmp (page_of_key e.0) q) here) in
         let none : get (as_entries pairs) q ≡ None = ap (get (as_entries pairs)) (sym same) ∙ differ.0 in
@@ -169,7 +193,8 @@ get-cut m (e ∷ pairs) differ q = cases (kept_hist m e.1) refl (is_eq (page_cmp
         ∙ rest
         ∙ ap (λ b. option_and_then (kept_hist m) (cond b (Some e.1) (get (as_entries pairs) q))) (sym other)
 
-pub cut_kept : (m : ℕ) (pairs : MapPairs) → AreKept pairs → kept (cut_at m pairs) ≡ kept_entries m (kept pairs)
+pub cut_kept : (m : ℕ) (pairs : MapPairs) → AreKept pairs
+    → kept (cut_at m pairs) ≡ kept_entries m (kept pairs)
 cut_kept m pairs are =
     let S = list_references_of (kept pairs) in
     let whole = IsHistory-kept pairs are in

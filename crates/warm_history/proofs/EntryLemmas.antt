@@ -18,7 +18,9 @@ use Rattle.warm_history.proofs.ListJoinLemmas.{history_of_own_references}
 
 -- a stamp more changes the two latest of others as it would with these alone; the others are a
 -- stamp and the rest, as code that adds two has them
-pub latest_of_more : (last prev : Stamp) (ss : List Stamp) (r : PageHist) → Some r ≡ latest_of (prev ∷ ss) → latest_of (last ∷ hist_stamps r) ≡ latest_of (last ∷ prev ∷ ss)
+pub latest_of_more : (last prev : Stamp) (ss : List Stamp) (r : PageHist)
+    → Some r ≡ latest_of (prev ∷ ss)
+    → latest_of (last ∷ hist_stamps r) ≡ latest_of (last ∷ prev ∷ ss)
 latest_of_more last prev ss r is =
     let falls = flip_args stamp_cmp in
     let order = IsStrictOrder-flip stamp_cmp stamp_order in
@@ -31,7 +33,8 @@ latest_of_more last prev ss r is =
 -- ---- one reference more
 
 -- what a list of stamps says beside others, its two latest say
-pub latest_of_first : (xs ys : List Stamp) → latest_of (xs ++ ys) ≡ latest_of (known_stamps (latest_of xs) ++ ys)
+pub latest_of_first : (xs ys : List Stamp)
+    → latest_of (xs ++ ys) ≡ latest_of (known_stamps (latest_of xs) ++ ys)
 latest_of_first xs ys =
     let falls = flip_args stamp_cmp in
     let order = IsStrictOrder-flip stamp_cmp stamp_order in
@@ -44,10 +47,16 @@ pub latest_of_swap : (xs ys : List Stamp) → latest_of (xs ++ ys) ≡ latest_of
 latest_of_swap xs ys = ap first_two (distinct_swap (flip_args stamp_cmp) (IsStrictOrder-flip stamp_cmp stamp_order) xs ys)
 
 -- what is known of each page after an entry was added
-pub hist_entry : (S : List Reference) (e : Entry) (q : PageId) → list_hist (S ++ references_of_entry e) q ≡ cond (is_eq (page_cmp e.page q)) (latest_of (hist_stamps e.hist ++ known_stamps (list_hist S e.page))) (list_hist S q)
+pub hist_entry : (S : List Reference) (e : Entry) (q : PageId)
+    → list_hist (S ++ references_of_entry e) q
+    ≡ cond (is_eq (page_cmp e.page q))
+    (latest_of (hist_stamps e.hist ++ known_stamps (list_hist S e.page))) (list_hist S q)
 hist_entry S e q = ap latest_of (told-append S (references_of_entry e) q ∙ ap (λ t. told S q ++ t) (told_entry e.page e.hist q)) ∙ cases (is_eq (page_cmp e.page q)) refl
   where
-    cases : (b : Bool) → is_eq (page_cmp e.page q) ≡ b → latest_of (told S q ++ cond (is_eq (page_cmp e.page q)) (hist_stamps e.hist) []) ≡ cond (is_eq (page_cmp e.page q)) (latest_of (hist_stamps e.hist ++ known_stamps (list_hist S e.page))) (list_hist S q)
+    cases : (b : Bool) → is_eq (page_cmp e.page q) ≡ b
+        → latest_of (told S q ++ cond (is_eq (page_cmp e.page q)) (hist_stamps e.hist) [])
+        ≡ cond (is_eq (page_cmp e.page q))
+        (latest_of (hist_stamps e.hist ++ known_stamps (list_hist S e.page))) (list_hist S q)
     cases true here =
         let same : e.page ≡ q = page_order.same e.page q (is_equal (page_cmp e.page q) here) in
         rw here (
@@ -60,7 +69,9 @@ hist_entry S e q = ap latest_of (told-append S (references_of_entry e) q ∙ ap 
 abbrev pub HoldsMore : List Entry → List Entry → Entry → Type 0
 HoldsMore old new e = (q : PageId) → get new q ≡ cond (is_eq (page_cmp e.page q)) (latest_of (hist_stamps e.hist ++ known_stamps (get old e.page))) (get old q)
 
-stands_for_more : (old new : List Entry) (e : Entry) → IsAscending (on (λ e. e.page) page_cmp) new → HoldsMore old new e → (S : List Reference) → ListStandsFor old S → ListStandsFor new (S ++ references_of_entry e)
+stands_for_more : (old new : List Entry) (e : Entry) → IsAscending (on (λ e. e.page) page_cmp) new
+    → HoldsMore old new e → (S : List Reference) → ListStandsFor old S
+    → ListStandsFor new (S ++ references_of_entry e)
 stands_for_more old new e rising more S stands =
     let says : (q : PageId) → get old q ≡ list_hist S q = λ q. ap (λ h. get h q) stands ∙ get-history S q in
     let whole = IsHistory-history (S ++ references_of_entry e) in
@@ -73,10 +84,12 @@ stands_for_more old new e rising more S stands =
 
 -- new is the history that old is, with an entry more
 pub record TakesIn (old : List Entry) (e : Entry) (new : List Entry) : Type 0 where
-  pub given : (S : List Reference) → ListStandsFor old S → ListStandsFor new (S ++ references_of_entry e)
+  pub given : (S : List Reference) → ListStandsFor old S
+      → ListStandsFor new (S ++ references_of_entry e)
   pub whole : IsListHistory new
 
-pub takes_in : (old new : List Entry) (e : Entry) → IsListHistory old → IsAscending (on (λ e. e.page) page_cmp) new → HoldsMore old new e → TakesIn old e new
+pub takes_in : (old new : List Entry) (e : Entry) → IsListHistory old
+    → IsAscending (on (λ e. e.page) page_cmp) new → HoldsMore old new e → TakesIn old e new
 takes_in old new e whole rising more =
     let stands = stands_for_more old new e rising more in
     let is = stands (list_references_of old) (sym (history_of_own_references old whole)) in

@@ -20,7 +20,8 @@ pub length_fulls : (b : ℕ) (ms : List BucketMap) → length (fulls b ms) ≡ l
 length_fulls b [] = refl
 length_fulls b (m ∷ ms) = ap suc (length_fulls (b + 1) ms)
 
-pub length_set : (ms : List BucketMap) (i : ℕ) (m : BucketMap) → length (slice_set ms i m) ≡ length ms
+pub length_set : (ms : List BucketMap) (i : ℕ) (m : BucketMap)
+    → length (slice_set ms i m) ≡ length ms
 length_set [] i m = refl
 length_set (x ∷ ms) zero m = refl
 length_set (x ∷ ms) (suc i) m = ap suc (length_set ms i m)
@@ -31,26 +32,30 @@ first_number b = omega arith
 next_number : (b i : ℕ) → b + 1 + i ≡ b + suc i
 next_number b i = omega arith
 
-fulls_set_at : (b i : ℕ) (n : BucketMap) (ms : List BucketMap) → fulls b (slice_set ms i n) ≡ with_map (fulls b ms) i (full (b + i) n)
+fulls_set_at : (b i : ℕ) (n : BucketMap) (ms : List BucketMap)
+    → fulls b (slice_set ms i n) ≡ with_map (fulls b ms) i (full (b + i) n)
 fulls_set_at b i n [] = refl
 fulls_set_at b zero n (m ∷ ms) = ap (λ k. full k n ∷ fulls (b + 1) ms) (first_number b)
 fulls_set_at b (suc i) n (m ∷ ms) = ap (λ t. full b m ∷ t) (fulls_set_at (b + 1) i n ms ∙ ap (λ k. with_map (fulls (b + 1) ms) i (full k n)) (next_number b i))
 
-map_at_fulls_at : (b i : ℕ) (d : BucketMap) (ms : List BucketMap) → i < length ms → map_at (fulls b ms) i ≡ full (b + i) (get_or ms i d)
+map_at_fulls_at : (b i : ℕ) (d : BucketMap) (ms : List BucketMap) → i < length ms
+    → map_at (fulls b ms) i ≡ full (b + i) (get_or ms i d)
 map_at_fulls_at b i d [] there = absurd (omega arith)
 map_at_fulls_at b zero d (m ∷ ms) there = ap (λ k. full k m) (first_number b)
 map_at_fulls_at b (suc i) d (m ∷ ms) there =
     let left : i < length ms = omega arith in
     map_at_fulls_at (b + 1) i d ms left ∙ ap (λ k. full k (get_or ms i d)) (next_number b i)
 
-map_of_at : (b i : ℕ) (d : BucketMap) (ms : List BucketMap) → AreMapsOf b ms → i < length ms → IsMapOf (b + i) (get_or ms i d)
+map_of_at : (b i : ℕ) (d : BucketMap) (ms : List BucketMap) → AreMapsOf b ms → i < length ms
+    → IsMapOf (b + i) (get_or ms i d)
 map_of_at b i d [] are there = absurd (omega arith)
 map_of_at b zero d (m ∷ ms) are there = subst (λ k. IsMapOf k m) (first_number b) are.0
 map_of_at b (suc i) d (m ∷ ms) are there =
     let left : i < length ms = omega arith in
     subst (λ k. IsMapOf k (get_or ms i d)) (next_number b i) (map_of_at (b + 1) i d ms are.1 left)
 
-maps_with_at : (b i : ℕ) (n : BucketMap) (ms : List BucketMap) → AreMapsOf b ms → IsMapOf (b + i) n → AreMapsOf b (slice_set ms i n)
+maps_with_at : (b i : ℕ) (n : BucketMap) (ms : List BucketMap) → AreMapsOf b ms → IsMapOf (b + i) n
+    → AreMapsOf b (slice_set ms i n)
 maps_with_at b i n [] are is = tt
 maps_with_at b zero n (m ∷ ms) are is = (subst (λ k. IsMapOf k n) (sym (first_number b)) is, are.1)
 maps_with_at b (suc i) n (m ∷ ms) are is = (are.0, maps_with_at (b + 1) i n ms are.1 (subst (λ k. IsMapOf k n) (sym (next_number b i)) is))
@@ -64,29 +69,38 @@ buckets_of b (m ∷ ms) are = (full_inside b m are.0, buckets_of (b + 1) ms are.
 same_number : (i : ℕ) → 0 + i ≡ i
 same_number i = omega arith
 
-pub fulls_set : (i : ℕ) (n : BucketMap) (ms : List BucketMap) → fulls 0 (slice_set ms i n) ≡ with_map (fulls 0 ms) i (full i n)
+pub fulls_set : (i : ℕ) (n : BucketMap) (ms : List BucketMap)
+    → fulls 0 (slice_set ms i n) ≡ with_map (fulls 0 ms) i (full i n)
 fulls_set i n ms = fulls_set_at 0 i n ms ∙ ap (λ k. with_map (fulls 0 ms) i (full k n)) (same_number i)
 
-pub map_at_fulls : (i : ℕ) (d : BucketMap) (ms : List BucketMap) → i < length ms → map_at (fulls 0 ms) i ≡ full i (get_or ms i d)
+pub map_at_fulls : (i : ℕ) (d : BucketMap) (ms : List BucketMap) → i < length ms
+    → map_at (fulls 0 ms) i ≡ full i (get_or ms i d)
 map_at_fulls i d ms there = map_at_fulls_at 0 i d ms there ∙ ap (λ k. full k (get_or ms i d)) (same_number i)
 
-pub map_of : (i : ℕ) (d : BucketMap) (ms : List BucketMap) → AreMapsOf 0 ms → i < length ms → IsMapOf i (get_or ms i d)
+pub map_of : (i : ℕ) (d : BucketMap) (ms : List BucketMap) → AreMapsOf 0 ms → i < length ms
+    → IsMapOf i (get_or ms i d)
 map_of i d ms are there = subst (λ k. IsMapOf k (get_or ms i d)) (same_number i) (map_of_at 0 i d ms are there)
 
-pub maps_with : (i : ℕ) (n : BucketMap) (ms : List BucketMap) → AreMapsOf 0 ms → IsMapOf i n → AreMapsOf 0 (slice_set ms i n)
+pub maps_with : (i : ℕ) (n : BucketMap) (ms : List BucketMap) → AreMapsOf 0 ms → IsMapOf i n
+    → AreMapsOf 0 (slice_set ms i n)
 maps_with i n ms are is = maps_with_at 0 i n ms are (subst (λ k. IsMapOf k n) (sym (same_number i)) is)
 
 lies_at : (i p : ℕ) → LiesIn i p → LiesIn (0 + i) p
 lies_at i p lies = subst (λ k. LiesIn k p) (sym (same_number i)) lies
 
-pub found_full : (i p : ℕ) (d : BucketMap) (ms : List BucketMap) → AreMapsOf 0 ms → i < length ms → LiesIn i p → found p (full i (get_or ms i d)) ≡ found p (all_pairs (fulls 0 ms))
+pub found_full : (i p : ℕ) (d : BucketMap) (ms : List BucketMap) → AreMapsOf 0 ms → i < length ms
+    → LiesIn i p → found p (full i (get_or ms i d)) ≡ found p (all_pairs (fulls 0 ms))
 found_full i p d ms are there lies = ap (found p) (sym (map_at_fulls i d ms there)) ∙ sym (find_joined 0 i p (fulls 0 ms) (buckets_of 0 ms are) (lies_at i p lies))
 
 abbrev pub all_with : List BucketMap → ℕ → BucketMap → MapPairs
 all_with ms i n = all_pairs (fulls 0 (slice_set ms i n))
 
 -- what the map of the page's bucket records, all maps record
-pub recorded : {E : Type 0} (r : Result (Option UndoNote) E) (i p : ℕ) (page : PageId) (more : PageHist) (d n : BucketMap) (ms : List BucketMap) (old : MapPairs) → AreMapsOf 0 ms → i < length ms → LiesIn i p → all_pairs (fulls 0 ms) ≡ old → IfOk r (λ note. RecordsStamps (full i (get_or ms i d)) page p more note (full i n)) → IfOk r (λ note. RecordsStamps old page p more note (all_with ms i n))
+pub recorded : {E : Type 0} (r : Result (Option UndoNote) E) (i p : ℕ) (page : PageId)
+    (more : PageHist) (d n : BucketMap) (ms : List BucketMap) (old : MapPairs) → AreMapsOf 0 ms
+    → i < length ms → LiesIn i p → all_pairs (fulls 0 ms) ≡ old
+    → IfOk r (λ note. RecordsStamps (full i (get_or ms i d)) page p more note (full i n))
+    → IfOk r (λ note. RecordsStamps old page p more note (all_with ms i n))
 recorded (Ok change) i p page more d n ms old are there lies view records =
     let few : i < length (fulls 0 ms) = subst (λ k. i < k) (sym (length_fulls 0 ms)) there in
     let own : RecordsStamps (map_at (fulls 0 ms) i) page p more change (full i n) = subst (λ k. RecordsStamps k page p more change (full i n)) (sym (map_at_fulls i d ms there)) records in
@@ -95,7 +109,9 @@ recorded (Ok change) i p page more d n ms old are there lies view records =
     (records_joined 0 i page p more change (fulls 0 ms) (full i n) (buckets_of 0 ms are) (lies_at i p lies) few own))
 recorded (Err e) i p page more d n ms old are there lies view records = tt
 
-pub unchanged : {A E : Type 0} (r : Result A E) (i : ℕ) (d n : BucketMap) (ms : List BucketMap) (old : MapPairs) → i < length ms → all_pairs (fulls 0 ms) ≡ old → OnErr r (full i n ≡ full i (get_or ms i d)) → OnErr r (all_with ms i n ≡ old)
+pub unchanged : {A E : Type 0} (r : Result A E) (i : ℕ) (d n : BucketMap) (ms : List BucketMap)
+    (old : MapPairs) → i < length ms → all_pairs (fulls 0 ms) ≡ old
+    → OnErr r (full i n ≡ full i (get_or ms i d)) → OnErr r (all_with ms i n ≡ old)
 unchanged (Ok a) i d n ms old there view same = tt
 unchanged (Err e) i d n ms old there view same =
     ap all_pairs (fulls_set i n ms)
@@ -103,7 +119,9 @@ unchanged (Err e) i d n ms old there view same =
     ∙ ap all_pairs (with_same (fulls 0 ms) i)
     ∙ view
 
-pub put_back_with : (i p : ℕ) (known : Option PageHist) (d n : BucketMap) (ms : List BucketMap) (old : MapPairs) → AreMapsOf 0 ms → i < length ms → LiesIn i p → all_pairs (fulls 0 ms) ≡ old → full i n ≡ put_back p known (full i (get_or ms i d)) → all_with ms i n ≡ put_back p known old
+pub put_back_with : (i p : ℕ) (known : Option PageHist) (d n : BucketMap) (ms : List BucketMap)
+    (old : MapPairs) → AreMapsOf 0 ms → i < length ms → LiesIn i p → all_pairs (fulls 0 ms) ≡ old
+    → full i n ≡ put_back p known (full i (get_or ms i d)) → all_with ms i n ≡ put_back p known old
 put_back_with i p known d n ms old are there lies view back =
     ap all_pairs (fulls_set i n ms)
     ∙ ap (λ t. all_pairs (with_map (fulls 0 ms) i t)) (back ∙ ap (put_back p known) (sym (map_at_fulls i d ms there)))

@@ -35,11 +35,13 @@ pub kept-references : (S : ReferenceSet) → references_from S.horizon (referenc
 kept-references S = kept_within S.horizon S.horizon (le_refl S.horizon) S.given
 
 -- both lists may be cut first
-pub references-both : (S T : ReferenceSet) → references (S ∪ T) ≡ references_from (max S.horizon T.horizon) (references S ++ references T)
+pub references-both : (S T : ReferenceSet)
+    → references (S ∪ T) ≡ references_from (max S.horizon T.horizon) (references S ++ references T)
 references-both S T = sym (kept_both S.horizon T.horizon (max S.horizon T.horizon) (le-max_left S.horizon T.horizon) (le-max_right S.horizon T.horizon) S.given T.given)
 
 -- the references of a history say of each page what those say for which it stands
-pub hist_refs-history : (S : ReferenceSet) (p : PageId) → hist (references_of (history S)) p ≡ hist S p
+pub hist_refs-history : (S : ReferenceSet) (p : PageId)
+    → hist (references_of (history S)) p ≡ hist S p
 hist_refs-history S p =
     ap (λ h. hist (references_of h) p) (history-is S)
     ∙ kept_alike S.horizon (list_references_of (list_history (references S))) (references S) (of_list.hist_refs-history (references S)) p
@@ -58,7 +60,8 @@ IsHistory-history S =
     }
 
 -- the references that a history holds aren't cut
-pub references-refs : (h : HistoryView) → IsHistory h → references (references_of h) ≡ list_references_of (entries_of h)
+pub references-refs : (h : HistoryView) → IsHistory h
+    → references (references_of h) ≡ list_references_of (entries_of h)
 references-refs h whole = kept_refs h.horizon h.entries whole.none_older
 
 -- sets that agree on each page name the same pages
@@ -66,18 +69,22 @@ pub pages_alike : (S T : ReferenceSet) → ((p : PageId) → hist S p ≡ hist T
 pages_alike S T alike = of_list.pages_alike (references S) (references T) alike
 
 -- of a page that it names a set says something
-pub some_named : (S : ReferenceSet) (p : PageId) → Has (map (λ r. r.page) (references S)) p → is_some (hist S p) ≡ true
+pub some_named : (S : ReferenceSet) (p : PageId) → Has (map (λ r. r.page) (references S)) p
+    → is_some (hist S p) ≡ true
 some_named S p has = of_list.some_named (references S) p has
 
 -- sets of one horizon that agree on each page have one history
-pub same_hists : (S T : ReferenceSet) → S.horizon ≡ T.horizon → ((p : PageId) → hist S p ≡ hist T p) → history S ≡ history T
+pub same_hists : (S T : ReferenceSet) → S.horizon ≡ T.horizon → ((p : PageId) → hist S p ≡ hist T p)
+    → history S ≡ history T
 same_hists S T horizons alike =
     let entries : list_history (references S) ≡ list_history (references T) = of_list.same_hists (references S) (references T) alike in
     let same : view S.horizon (references S) ≡ view T.horizon (references T) = λ i. record { horizon = horizons i; entries = entries i } in
     history-is S ∙ same ∙ sym (history-is T)
 
 -- what two sets say of a page together follows from what each says, and their horizons
-pub both_alike : (S S' T T' : ReferenceSet) → S.horizon ≡ S'.horizon → T.horizon ≡ T'.horizon → ((p : PageId) → hist S p ≡ hist S' p) → ((p : PageId) → hist T p ≡ hist T' p) → (p : PageId) → hist (S ∪ T) p ≡ hist (S' ∪ T') p
+pub both_alike : (S S' T T' : ReferenceSet) → S.horizon ≡ S'.horizon → T.horizon ≡ T'.horizon
+    → ((p : PageId) → hist S p ≡ hist S' p) → ((p : PageId) → hist T p ≡ hist T' p) → (p : PageId)
+    → hist (S ∪ T) p ≡ hist (S' ∪ T') p
 both_alike S S' T T' horizon horizon' first second p =
     let m = max S.horizon T.horizon in
     let alike : (p : PageId) → list_hist (references S ++ references T) p ≡ list_hist (references S' ++ references T') p = λ p.

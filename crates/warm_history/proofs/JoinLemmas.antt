@@ -14,7 +14,9 @@ use Rattle.warm_history.proofs.ListJoinLemmas as join_list
 use Rattle.warm_history.proofs.HistoryLemmas.{view, history-is, horizon-history, references-refs, same_hists, both_alike, hist_refs-history}
 
 -- what a set says of each page, and its horizon, decide what it says beside another
-pub history_alike : (S S' T T' : ReferenceSet) → S.horizon ≡ S'.horizon → T.horizon ≡ T'.horizon → ((p : _) → hist S p ≡ hist S' p) → ((p : _) → hist T p ≡ hist T' p) → history (S ∪ T) ≡ history (S' ∪ T')
+pub history_alike : (S S' T T' : ReferenceSet) → S.horizon ≡ S'.horizon → T.horizon ≡ T'.horizon
+    → ((p : _) → hist S p ≡ hist S' p) → ((p : _) → hist T p ≡ hist T' p)
+    → history (S ∪ T) ≡ history (S' ∪ T')
 history_alike S S' T T' horizon horizon' first second =
     same_hists (S ∪ T) (S' ∪ T') (λ i. max (horizon i) (horizon' i)) (both_alike S S' T T' horizon horizon' first second)
 
@@ -25,7 +27,8 @@ history_of_union S T = history_alike (references_of (history S)) S (references_o
 pub history_first : (S T : ReferenceSet) → history (references_of (history S) ∪ T) ≡ history (S ∪ T)
 history_first S T = history_alike (references_of (history S)) S T T (horizon-history S) refl (hist_refs-history S) (λ p. refl)
 
-pub history_second : (S T : ReferenceSet) → history (S ∪ references_of (history T)) ≡ history (S ∪ T)
+pub history_second : (S T : ReferenceSet)
+    → history (S ∪ references_of (history T)) ≡ history (S ∪ T)
 history_second S T = history_alike S S (references_of (history T)) T refl (horizon-history T) (λ p. refl) (hist_refs-history T)
 
 pub history_of_own_references : HistoryOfOwnReferences
@@ -35,7 +38,8 @@ history_of_own_references h whole =
     history-is (references_of h) ∙ same
 
 -- a history raised to no later time is itself
-pub raised_to_no_later : (h : HistoryView) (time : ℕ) → IsHistory h → time ≤ h.horizon → history (with_horizon time (references_of h)) ≡ h
+pub raised_to_no_later : (h : HistoryView) (time : ℕ) → IsHistory h → time ≤ h.horizon
+    → history (with_horizon time (references_of h)) ≡ h
 raised_to_no_later h time whole le =
     let same : with_horizon time (references_of h) ≡ references_of h = λ i. record { horizon = max-eq_left le i; given = append-nil (list_references_of h.entries) i } in
     ap history same ∙ history_of_own_references h whole
@@ -99,7 +103,9 @@ join_is_least h g = record {
 }
 
 -- what is brought with its horizon, page history by page history, says what the references would
-pub history_received : (S T : ReferenceSet) (m : ℕ) (es : List Entry) → m ≡ T.horizon → es ≡ entries_of (history T) → history (S ∪ references_of (record { horizon = m; entries = es })) ≡ history (S ∪ T)
+pub history_received : (S T : ReferenceSet) (m : ℕ) (es : List Entry) → m ≡ T.horizon
+    → es ≡ entries_of (history T)
+    → history (S ∪ references_of (record { horizon = m; entries = es })) ≡ history (S ∪ T)
 history_received S T m es horizon entries =
     let horizons : m ≡ (history T).horizon = horizon ∙ sym (horizon-history T) in
     let same : history (S ∪ references_of (record { horizon = m; entries = es })) ≡ history (S ∪ references_of (history T)) = λ i. history (S ∪ references_of (record { horizon = horizons i; entries = entries i })) in

@@ -31,7 +31,10 @@ use Rattle.warm_history.proofs.MergeIterLemmas.{bucket_from_start}
 use Rattle.warm_history.proofs.RunLemmas.{bucket_is, found_under, some_joined}
 
 -- pairs with others merged hold what both say
-exact_merged : (old more : MapPairs) → AreKept old → AreKeys more → KeysAscend more → AreKept (merged old more) × (kept (merged old more) ≡ list_history (list_references_of (kept old) ++ list_references_of (as_entries more)))
+exact_merged : (old more : MapPairs) → AreKept old → AreKeys more → KeysAscend more
+    → AreKept (merged old more)
+    × (kept (merged old more)
+    ≡ list_history (list_references_of (kept old) ++ list_references_of (as_entries more)))
 exact_merged old [] are keys rise = (are, sym (history_of_own_references (kept old) (IsHistory-kept old are)) ∙ ap list_history (sym (append-nil (list_references_of (kept old)))))
 exact_merged old (e ∷ more) are keys rise =
     let mid : MapPairs = merged old more in
@@ -55,7 +58,8 @@ exact_merged old (e ∷ more) are keys rise =
     subst (λ o. AreKept (with_pairs old (at_key e.0 o ++ joined_pairs old more)) × (kept (with_pairs old (at_key e.0 o ++ joined_pairs old more)) ≡ list_history (S ++ (A ++ B)))) value.1 (whole, exact)
 
 -- with those that are not older than a horizon
-pub takes_all : (h : ℕ) (old more new : MapPairs) → AreKept old → AreKept more → new ≡ merged old (cut_at h more) → AreKept new × TakesPairs h old more new
+pub takes_all : (h : ℕ) (old more new : MapPairs) → AreKept old → AreKept more
+    → new ≡ merged old (cut_at h more) → AreKept new × TakesPairs h old more new
 takes_all h old more new are also is =
     let C : MapPairs = cut_at h more in
     let whole = kept_left h more also in
@@ -76,13 +80,16 @@ takes_all h old more new are also is =
 
 -- ---- which buckets change
 
-entries_in : (b : ℕ) (pairs : MapPairs) → AreKept pairs → as_entries (entries_between nat_cmp (Included (first_key b)) (Excluded (first_key (b + 1))) pairs) ≡ bucket_entries b (kept pairs)
+entries_in : (b : ℕ) (pairs : MapPairs) → AreKept pairs
+    → as_entries (entries_between nat_cmp (Included (first_key b)) (Excluded (first_key (b + 1)))
+    pairs) ≡ bucket_entries b (kept pairs)
 entries_in b pairs are =
     between (Included (first_key b)) (Excluded (first_key (b + 1))) (is_next_in_bucket b None) pairs (in_bucket b) are.are_keys
     ∙ chosen_kept b (is_next_in_bucket b None) (of_bucket b None) pairs are
     ∙ bucket_from_start b (kept pairs)
 
-pub marks_all : (old new : MapPairs) (set : ℕ) → AreKept old → AreKept new → TellsBuckets set old new → MarksChanged (kept old) (kept new) set
+pub marks_all : (old new : MapPairs) (set : ℕ) → AreKept old → AreKept new
+    → TellsBuckets set old new → MarksChanged (kept old) (kept new) set
 marks_all old new set are whole tells bucket low = (
   (λ one.
       let differs = (tells bucket low).0 one in

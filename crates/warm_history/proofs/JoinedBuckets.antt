@@ -21,7 +21,8 @@ use Rattle.warm_history.proofs.NearParts.{AllKeys, all_append, all_so}
 
 -- ---- pairs before a key, and pairs from it on
 
-joined_append : (old a b : MapPairs) → joined_pairs old (a ++ b) ≡ joined_pairs old a ++ joined_pairs old b
+joined_append : (old a b : MapPairs)
+    → joined_pairs old (a ++ b) ≡ joined_pairs old a ++ joined_pairs old b
 joined_append old [] b = refl
 joined_append old (e ∷ a) b =
     ap (λ t. at_key e.0 (joined_with e.1 (found e.0 old)) ++ t) (joined_append old a b)
@@ -32,37 +33,45 @@ with_append old [] b = refl
 with_append old (e ∷ a) b = ap (λ t. insert_entry nat_cmp t e.0 e.1) (with_append old a b)
 
 module _ (c : ℕ) where
-  below_of : (p : ℕ) → c ≤ p → (low : MapPairs) → AllKeys (λ k. k < c) low → AllKeys (λ k. k < p) low
+  below_of : (p : ℕ) → c ≤ p → (low : MapPairs) → AllKeys (λ k. k < c) low
+      → AllKeys (λ k. k < p) low
   below_of p le low all = all_so (λ k. k < c) (λ k. k < p) (λ k lt. omega arith) low all
 
-  above_of : (p : ℕ) → p < c → (high : MapPairs) → AllKeys (λ k. c ≤ k) high → AllKeys (λ k. p < k) high
+  above_of : (p : ℕ) → p < c → (high : MapPairs) → AllKeys (λ k. c ≤ k) high
+      → AllKeys (λ k. p < k) high
   above_of p lt high all = all_so (λ k. c ≤ k) (λ k. p < k) (λ k le. omega arith) high all
 
-  joined_low : (f F r : MapPairs) → AllKeys (λ k. k < c) r → AllKeys (λ k. c ≤ k) F → joined_pairs (f ++ F) r ≡ joined_pairs f r
+  joined_low : (f F r : MapPairs) → AllKeys (λ k. k < c) r → AllKeys (λ k. c ≤ k) F
+      → joined_pairs (f ++ F) r ≡ joined_pairs f r
   joined_low f F [] low high = refl
   joined_low f F (e ∷ r) low high =
       ap (λ x. at_key e.0 (joined_with e.1 x) ++ joined_pairs (f ++ F) r) (find_before_higher e.0 f F (above_of e.0 low.0 F high))
       ∙ ap (λ t. at_key e.0 (joined_with e.1 (found e.0 f)) ++ t) (joined_low f F r low.1 high)
 
-  joined_high : (f F r : MapPairs) → AllKeys (λ k. k < c) f → AllKeys (λ k. c ≤ k) r → joined_pairs (f ++ F) r ≡ joined_pairs F r
+  joined_high : (f F r : MapPairs) → AllKeys (λ k. k < c) f → AllKeys (λ k. c ≤ k) r
+      → joined_pairs (f ++ F) r ≡ joined_pairs F r
   joined_high f F [] low high = refl
   joined_high f F (e ∷ r) low high =
       ap (λ x. at_key e.0 (joined_with e.1 x) ++ joined_pairs (f ++ F) r) (find_after_lower e.0 f F (below_of e.0 high.0 f low))
       ∙ ap (λ t. at_key e.0 (joined_with e.1 (found e.0 F)) ++ t) (joined_high f F r low high.1)
 
-  with_low : (f F r : MapPairs) → AllKeys (λ k. k < c) r → AllKeys (λ k. c ≤ k) F → with_pairs (f ++ F) r ≡ with_pairs f r ++ F
+  with_low : (f F r : MapPairs) → AllKeys (λ k. k < c) r → AllKeys (λ k. c ≤ k) F
+      → with_pairs (f ++ F) r ≡ with_pairs f r ++ F
   with_low f F [] low high = refl
   with_low f F (e ∷ r) low high =
       ap (λ t. insert_entry nat_cmp t e.0 e.1) (with_low f F r low.1 high)
       ∙ insert_before_higher e.0 e.1 (with_pairs f r) F (above_of e.0 low.0 F high)
 
-  with_high : (f F r : MapPairs) → AllKeys (λ k. k < c) f → AllKeys (λ k. c ≤ k) r → with_pairs (f ++ F) r ≡ f ++ with_pairs F r
+  with_high : (f F r : MapPairs) → AllKeys (λ k. k < c) f → AllKeys (λ k. c ≤ k) r
+      → with_pairs (f ++ F) r ≡ f ++ with_pairs F r
   with_high f F [] low high = refl
   with_high f F (e ∷ r) low high =
       ap (λ t. insert_entry nat_cmp t e.0 e.1) (with_high f F r low high.1)
       ∙ insert_after_lower e.0 e.1 f (with_pairs F r) (below_of e.0 high.0 f low)
 
-  merged_append : (f F r R : MapPairs) → AllKeys (λ k. k < c) f → AllKeys (λ k. c ≤ k) F → AllKeys (λ k. k < c) r → AllKeys (λ k. c ≤ k) R → merged (f ++ F) (r ++ R) ≡ merged f r ++ merged F R
+  merged_append : (f F r R : MapPairs) → AllKeys (λ k. k < c) f → AllKeys (λ k. c ≤ k) F
+      → AllKeys (λ k. k < c) r → AllKeys (λ k. c ≤ k) R
+      → merged (f ++ F) (r ++ R) ≡ merged f r ++ merged F R
   merged_append f F r R low high low_run high_run =
       ap (with_pairs (f ++ F)) (joined_append (f ++ F) r R)
       ∙ with_append (f ++ F) (joined_pairs (f ++ F) r) (joined_pairs (f ++ F) R)
@@ -76,7 +85,8 @@ module _ (c : ℕ) where
 bucket_low : (b : ℕ) (m : MapPairs) → AllKeys (LiesIn b) m → AllKeys (λ k. k < first_key (b + 1)) m
 bucket_low b m all = all_so (LiesIn b) (λ k. k < first_key (b + 1)) (λ k lies. lies.1) m all
 
-buckets_high : (c b : ℕ) (ms : List MapPairs) → c ≤ first_key b → AreBuckets b ms → AllKeys (λ k. c ≤ k) (all_pairs ms)
+buckets_high : (c b : ℕ) (ms : List MapPairs) → c ≤ first_key b → AreBuckets b ms
+    → AllKeys (λ k. c ≤ k) (all_pairs ms)
 buckets_high c b [] le are = tt
 buckets_high c b (m ∷ ms) le are =
     let later : c ≤ first_key (b + 1) = omega arith in
@@ -85,7 +95,9 @@ buckets_high c b (m ∷ ms) le are =
 same_key : (c : ℕ) → c ≤ c
 same_key c = omega arith
 
-pub all_joined : (h b : ℕ) (fs gs : List MapPairs) → AreBuckets b fs → AreBuckets b gs → length gs ≡ length fs → all_pairs (joined_maps h fs gs) ≡ merged (all_pairs fs) (cut_at h (all_pairs gs))
+pub all_joined : (h b : ℕ) (fs gs : List MapPairs) → AreBuckets b fs → AreBuckets b gs
+    → length gs ≡ length fs
+    → all_pairs (joined_maps h fs gs) ≡ merged (all_pairs fs) (cut_at h (all_pairs gs))
 all_joined h b [] [] are also long = refl
 all_joined h b [] (g ∷ gs) are also long = absurd (omega (arith, long))
 all_joined h b (f ∷ fs) [] are also long = absurd (omega (arith, long))
@@ -100,7 +112,8 @@ all_joined h b (f ∷ fs) (g ∷ gs) are also long =
 
 -- ---- which of them change
 
-none_below : (h b : ℕ) (fs gs : List MapPairs) (set j : ℕ) → HasChanged h b fs gs set → j < b → bit_at set j ≡ 0
+none_below : (h b : ℕ) (fs gs : List MapPairs) (set j : ℕ) → HasChanged h b fs gs set → j < b
+    → bit_at set j ≡ 0
 none_below h b [] gs set j is lt = ap (λ (s : ℕ). bit_at s j) is ∙ bit_at-zero j
 none_below h b (f ∷ fs) [] set j is lt = ap (λ (s : ℕ). bit_at s j) is ∙ bit_at-zero j
 none_below h b (f ∷ fs) (g ∷ gs) set j (rest, later, how) lt =
@@ -114,7 +127,8 @@ none_below h b (f ∷ fs) (g ∷ gs) set j (rest, later, how) lt =
 abbrev pub TellsAt : ℕ → ℕ → List MapPairs → List MapPairs → ℕ → Type 0
 TellsAt h i fs gs bit = (bit ≡ 1 → DiffersAt (cut_at h (map_at gs i)) (map_at fs i) (map_at (joined_maps h fs gs) i)) × (bit ≡ 0 → map_at (joined_maps h fs gs) i ≡ map_at fs i)
 
-pub tells_at : (h b i : ℕ) (fs gs : List MapPairs) (set : ℕ) → HasChanged h b fs gs set → i < length fs → length gs ≡ length fs → TellsAt h i fs gs (bit_at set (b + i))
+pub tells_at : (h b i : ℕ) (fs gs : List MapPairs) (set : ℕ) → HasChanged h b fs gs set
+    → i < length fs → length gs ≡ length fs → TellsAt h i fs gs (bit_at set (b + i))
 tells_at h b i [] gs set is there long = absurd (omega arith)
 tells_at h b i (f ∷ fs) [] set is there long = absurd (omega (arith, long))
 tells_at h b zero (f ∷ fs) (g ∷ gs) set (rest, later, how) there long =

@@ -43,7 +43,8 @@ near_one b r is none = all_append IsNear (widened b r.near.entries) r.far.entrie
     (all_with (full_key b) (λ k. k < 18446744073709551616) IsNear (λ k fits. is_near b (full_key b k) (near_inside b k fits).0 (near_before_far b k fits)) r.near.entries is.near)
     (subst (AllKeys IsNear) (sym none) tt)
 
-pub near_all : (b : ℕ) (rs : List BucketMap) → AreMapsOf b rs → NoFar rs → AllKeys IsNear (all_pairs (fulls b rs))
+pub near_all : (b : ℕ) (rs : List BucketMap) → AreMapsOf b rs → NoFar rs
+    → AllKeys IsNear (all_pairs (fulls b rs))
 near_all b [] are none = tt
 near_all b (r ∷ rs) are none = all_append IsNear (full b r) (all_pairs (fulls (b + 1) rs)) (near_one b r are.0 none.0) (near_all (b + 1) rs are.1 none.1)
 
@@ -55,7 +56,8 @@ far_none b (e ∷ far) are near =
     let low : IsNear e.0 = near.0 in
     absurd (omega arith)
 
-pub no_far : (b : ℕ) (rs : List BucketMap) → AreMapsOf b rs → AllKeys IsNear (all_pairs (fulls b rs)) → NoFar rs
+pub no_far : (b : ℕ) (rs : List BucketMap) → AreMapsOf b rs
+    → AllKeys IsNear (all_pairs (fulls b rs)) → NoFar rs
 no_far b [] are near = tt
 no_far b (r ∷ rs) are near = (
   far_none b r.far.entries are.0.far (all_later IsNear (widened b r.near.entries) r.far.entries (all_first IsNear (full b r) (all_pairs (fulls (b + 1) rs)) near)),
@@ -64,7 +66,8 @@ no_far b (r ∷ rs) are near = (
 
 -- ---- the near maps rise, and are small
 
-pub near_rise : (b : ℕ) (ms : List BucketMap) → KeysAscend (all_pairs (fulls b ms)) → EachAscends (near_pairs ms)
+pub near_rise : (b : ℕ) (ms : List BucketMap) → KeysAscend (all_pairs (fulls b ms))
+    → EachAscends (near_pairs ms)
 near_rise b [] rise = tt
 near_rise b (m ∷ ms) rise = (
   rises_back (full_key b) (full_keeps b) m.near.entries (rise_first (widened b m.near.entries) m.far.entries (rise_first (full b m) (all_pairs (fulls (b + 1) ms)) rise)),
@@ -77,7 +80,8 @@ near_few b (m ∷ ms) are = (are.0.near_few, near_few (b + 1) ms are.1)
 
 -- ---- a bucket
 
-module _ (h b : ℕ) (m r : BucketMap) (is : IsMapOf b m) (also : IsMapOf b r) (none : r.far.entries ≡ []) where
+module _ (h b : ℕ) (m r : BucketMap) (is : IsMapOf b m) (also : IsMapOf b r)
+    (none : r.far.entries ≡ []) where
   cut_is : cut_at h (full b r) ≡ widened b (cut_at h r.near.entries)
   cut_is =
       ap (λ t. cut_at h (widened b r.near.entries ++ t)) none
@@ -87,16 +91,19 @@ module _ (h b : ℕ) (m r : BucketMap) (is : IsMapOf b m) (also : IsMapOf b r) (
   small : AllKeys (λ k. k < 18446744073709551616) (cut_at h r.near.entries)
   small = all_left (λ k. k < 18446744073709551616) h r.near.entries also.near
 
-  merged_is : merged (full b m) (cut_at h (full b r)) ≡ widened b (merged m.near.entries (cut_at h r.near.entries)) ++ m.far.entries
+  merged_is : merged (full b m) (cut_at h (full b r))
+      ≡ widened b (merged m.near.entries (cut_at h r.near.entries)) ++ m.far.entries
   merged_is = ap (merged (full b m)) cut_is ∙ merged_near b m.far.entries is.far m.near.entries (cut_at h r.near.entries) small
 
-  joined_full : (n : BucketMap) → n.near.entries ≡ merged m.near.entries (cut_at h r.near.entries) → n.far.entries ≡ m.far.entries → full b n ≡ merged (full b m) (cut_at h (full b r))
+  joined_full : (n : BucketMap) → n.near.entries ≡ merged m.near.entries (cut_at h r.near.entries)
+      → n.far.entries ≡ m.far.entries → full b n ≡ merged (full b m) (cut_at h (full b r))
   joined_full n near far =
       ap (λ t. widened b t ++ n.far.entries) near
       ∙ ap (λ t. widened b (merged m.near.entries (cut_at h r.near.entries)) ++ t) far
       ∙ sym merged_is
 
-  joined_map : (n : BucketMap) → n.near.entries ≡ merged m.near.entries (cut_at h r.near.entries) → n.far.entries ≡ m.far.entries → length n.near.entries < 144115188075855872 → IsMapOf b n
+  joined_map : (n : BucketMap) → n.near.entries ≡ merged m.near.entries (cut_at h r.near.entries)
+      → n.far.entries ≡ m.far.entries → length n.near.entries < 144115188075855872 → IsMapOf b n
   joined_map n near far few =
       let as_many : length n.far.entries ≡ length m.far.entries = ap length far in
       record {
@@ -107,10 +114,13 @@ module _ (h b : ℕ) (m r : BucketMap) (is : IsMapOf b m) (also : IsMapOf b r) (
         far_few = omega (arith, as_many, is.far_few);
       }
 
-  same_full : merged m.near.entries (cut_at h r.near.entries) ≡ m.near.entries → merged (full b m) (cut_at h (full b r)) ≡ full b m
+  same_full : merged m.near.entries (cut_at h r.near.entries) ≡ m.near.entries
+      → merged (full b m) (cut_at h (full b r)) ≡ full b m
   same_full same = merged_is ∙ ap (λ t. widened b t ++ m.far.entries) same
 
-  differs_full : DiffersAt (cut_at h r.near.entries) m.near.entries (merged m.near.entries (cut_at h r.near.entries)) → DiffersAt (cut_at h (full b r)) (full b m) (merged (full b m) (cut_at h (full b r)))
+  differs_full : DiffersAt (cut_at h r.near.entries) m.near.entries
+      (merged m.near.entries (cut_at h r.near.entries))
+      → DiffersAt (cut_at h (full b r)) (full b m) (merged (full b m) (cut_at h (full b r)))
   differs_full differs =
       subst (λ t. DiffersAt t (full b m) (merged (full b m) (cut_at h (full b r)))) (sym cut_is)
       (subst (DiffersAt (widened b (cut_at h r.near.entries)) (full b m)) (sym merged_is)
@@ -118,8 +128,11 @@ module _ (h b : ℕ) (m r : BucketMap) (is : IsMapOf b m) (also : IsMapOf b r) (
 
 -- ---- all buckets
 
-pub joined_fulls : (h b : ℕ) (ms ns rs : List BucketMap) → near_pairs ns ≡ joined_maps h (near_pairs ms) (near_pairs rs) → far_pairs ns ≡ far_pairs ms → AreMapsOf b ms → AreMapsOf b rs → NoFar rs → length rs ≡ length ms → EachFew (near_pairs ns)
-    → (fulls b ns ≡ joined_maps h (fulls b ms) (fulls b rs)) × AreMapsOf b ns × (length ns ≡ length ms)
+pub joined_fulls : (h b : ℕ) (ms ns rs : List BucketMap)
+    → near_pairs ns ≡ joined_maps h (near_pairs ms) (near_pairs rs) → far_pairs ns ≡ far_pairs ms
+    → AreMapsOf b ms → AreMapsOf b rs → NoFar rs → length rs ≡ length ms → EachFew (near_pairs ns)
+    → (fulls b ns ≡ joined_maps h (fulls b ms) (fulls b rs)) × AreMapsOf b ns
+    × (length ns ≡ length ms)
 joined_fulls h b [] [] rs near far are also none long few = (refl, tt, refl)
 joined_fulls h b [] (n ∷ ns) rs near far are also none long few = absurd (cc)
 joined_fulls h b (m ∷ ms) ns [] near far are also none long few = absurd (omega (arith, long))
@@ -137,7 +150,9 @@ joined_fulls h b (m ∷ ms) (n ∷ ns) (r ∷ rs) near far are also none long fe
     )
 
 -- where nothing was merged
-pub kept_fulls : (b : ℕ) (ms ns : List BucketMap) → near_pairs ns ≡ near_pairs ms → far_pairs ns ≡ far_pairs ms → AreMapsOf b ms → (fulls b ns ≡ fulls b ms) × AreMapsOf b ns × (length ns ≡ length ms)
+pub kept_fulls : (b : ℕ) (ms ns : List BucketMap) → near_pairs ns ≡ near_pairs ms
+    → far_pairs ns ≡ far_pairs ms → AreMapsOf b ms
+    → (fulls b ns ≡ fulls b ms) × AreMapsOf b ns × (length ns ≡ length ms)
 kept_fulls b [] [] near far are = (refl, tt, refl)
 kept_fulls b [] (n ∷ ns) near far are = absurd (cc)
 kept_fulls b (m ∷ ms) [] near far are = absurd (cc)
@@ -160,7 +175,9 @@ kept_fulls b (m ∷ ms) (n ∷ ns) near far are =
       ap suc rest.2,
     )
 
-changed_fulls : (h b : ℕ) (ms rs : List BucketMap) (set : ℕ) → AreMapsOf b ms → AreMapsOf b rs → NoFar rs → HasChanged h b (near_pairs ms) (near_pairs rs) set → HasChanged h b (fulls b ms) (fulls b rs) set
+changed_fulls : (h b : ℕ) (ms rs : List BucketMap) (set : ℕ) → AreMapsOf b ms → AreMapsOf b rs
+    → NoFar rs → HasChanged h b (near_pairs ms) (near_pairs rs) set
+    → HasChanged h b (fulls b ms) (fulls b rs) set
 changed_fulls h b [] rs set are also none is = is
 changed_fulls h b (m ∷ ms) [] set are also none is = is
 changed_fulls h b (m ∷ ms) (r ∷ rs) set are also none (rest, later, how) = (
@@ -174,12 +191,16 @@ changed_fulls h b (m ∷ ms) (r ∷ rs) set are also none (rest, later, how) = (
 
 -- ---- all pairs
 
-map_all : (P : ℕ → Type 0) (i : ℕ) (ms : List MapPairs) → AllKeys P (all_pairs ms) → AllKeys P (map_at ms i)
+map_all : (P : ℕ → Type 0) (i : ℕ) (ms : List MapPairs) → AllKeys P (all_pairs ms)
+    → AllKeys P (map_at ms i)
 map_all P i [] all = tt
 map_all P zero (m ∷ ms) all = all_first P m (all_pairs ms) all
 map_all P (suc i) (m ∷ ms) all = map_all P i ms (all_later P m (all_pairs ms) all)
 
-pub pairs_joined : (h : ℕ) (ms ns rs : List BucketMap) (old more : MapPairs) → fulls 0 ns ≡ joined_maps h (fulls 0 ms) (fulls 0 rs) → AreMapsOf 0 ms → AreMapsOf 0 rs → length rs ≡ length ms → all_pairs (fulls 0 ms) ≡ old → all_pairs (fulls 0 rs) ≡ more → all_pairs (fulls 0 ns) ≡ merged old (cut_at h more)
+pub pairs_joined : (h : ℕ) (ms ns rs : List BucketMap) (old more : MapPairs)
+    → fulls 0 ns ≡ joined_maps h (fulls 0 ms) (fulls 0 rs) → AreMapsOf 0 ms → AreMapsOf 0 rs
+    → length rs ≡ length ms → all_pairs (fulls 0 ms) ≡ old → all_pairs (fulls 0 rs) ≡ more
+    → all_pairs (fulls 0 ns) ≡ merged old (cut_at h more)
 pairs_joined h ms ns rs old more joined are also long view other =
     ap all_pairs joined
     ∙ all_joined h 0 (fulls 0 ms) (fulls 0 rs) (buckets_of 0 ms are) (buckets_of 0 rs also) (length_fulls 0 rs ∙ long ∙ sym (length_fulls 0 ms))
@@ -189,7 +210,10 @@ pairs_joined h ms ns rs old more joined are also long view other =
 same_number : (i : ℕ) → 0 + i ≡ i
 same_number i = omega arith
 
-tells_bucket : (h i bit : ℕ) (fs gs : List MapPairs) → AreBuckets 0 fs → AreBuckets 0 gs → AreBuckets 0 (joined_maps h fs gs) → AllKeys IsMapKey (all_pairs gs) → TellsAt h i fs gs bit → (bit ≡ 1 → DiffersIn i (all_pairs fs) (all_pairs (joined_maps h fs gs))) × (bit ≡ 0 → KeepsIn i (all_pairs fs) (all_pairs (joined_maps h fs gs)))
+tells_bucket : (h i bit : ℕ) (fs gs : List MapPairs) → AreBuckets 0 fs → AreBuckets 0 gs
+    → AreBuckets 0 (joined_maps h fs gs) → AllKeys IsMapKey (all_pairs gs) → TellsAt h i fs gs bit
+    → (bit ≡ 1 → DiffersIn i (all_pairs fs) (all_pairs (joined_maps h fs gs)))
+    × (bit ≡ 0 → KeepsIn i (all_pairs fs) (all_pairs (joined_maps h fs gs)))
 tells_bucket h i bit fs gs are also new keys tells = (
   (λ one.
       let differs = tells.0 one in
@@ -203,8 +227,12 @@ tells_bucket h i bit fs gs are also new keys tells = (
       ∙ chosen_joined i 0 i test fs (sym (same_number i)) passes are,
 )
 
-pub tells_all : (h : ℕ) (ms ns rs : List BucketMap) (old more : MapPairs) (set : ℕ) → fulls 0 ns ≡ joined_maps h (fulls 0 ms) (fulls 0 rs) → AreMapsOf 0 ms → AreMapsOf 0 ns → AreMapsOf 0 rs → NoFar rs → length rs ≡ length ms → length ms ≡ 64 → all_pairs (fulls 0 ms) ≡ old → all_pairs (fulls 0 rs) ≡ more → AllKeys IsMapKey more
-    → HasChanged h 0 (near_pairs ms) (near_pairs rs) set → TellsBuckets set old (all_pairs (fulls 0 ns))
+pub tells_all : (h : ℕ) (ms ns rs : List BucketMap) (old more : MapPairs) (set : ℕ)
+    → fulls 0 ns ≡ joined_maps h (fulls 0 ms) (fulls 0 rs) → AreMapsOf 0 ms → AreMapsOf 0 ns
+    → AreMapsOf 0 rs → NoFar rs → length rs ≡ length ms → length ms ≡ 64
+    → all_pairs (fulls 0 ms) ≡ old → all_pairs (fulls 0 rs) ≡ more → AllKeys IsMapKey more
+    → HasChanged h 0 (near_pairs ms) (near_pairs rs) set
+    → TellsBuckets set old (all_pairs (fulls 0 ns))
 tells_all h ms ns rs old more set joined are new also none long all view other keys changed bucket low =
     let fs = fulls 0 ms in
     let gs = fulls 0 rs in
@@ -225,12 +253,16 @@ pub on_err : {A E : Type 0} (r : Result A E) (P Q : Type 0) → (P → Q) → On
 on_err (Ok a) P Q so holds = tt
 on_err (Err e) P Q so holds = so holds
 
-pub if_ok : {A E : Type 0} (r : Result A E) (P : Type 0) (Q R : A → Type 0) → ((a : A) → P → Q a → R a) → OnOk r P → IfOk r Q → IfOk r R
+pub if_ok : {A E : Type 0} (r : Result A E) (P : Type 0) (Q R : A → Type 0)
+    → ((a : A) → P → Q a → R a) → OnOk r P → IfOk r Q → IfOk r R
 if_ok (Ok a) P Q R so holds is = so a holds is
 if_ok (Err e) P Q R so holds is = tt
 
 -- the maps are those of their buckets, whether they were merged or not
-pub maps_joined : {A E : Type 0} (r : Result A E) (h : ℕ) (ms ns rs : List BucketMap) → OnOk r (near_pairs ns ≡ joined_maps h (near_pairs ms) (near_pairs rs)) → OnErr r (near_pairs ns ≡ near_pairs ms) → far_pairs ns ≡ far_pairs ms → AreMapsOf 0 ms → AreMapsOf 0 rs → NoFar rs → length rs ≡ length ms → EachFew (near_pairs ns)
+pub maps_joined : {A E : Type 0} (r : Result A E) (h : ℕ) (ms ns rs : List BucketMap)
+    → OnOk r (near_pairs ns ≡ joined_maps h (near_pairs ms) (near_pairs rs))
+    → OnErr r (near_pairs ns ≡ near_pairs ms) → far_pairs ns ≡ far_pairs ms → AreMapsOf 0 ms
+    → AreMapsOf 0 rs → NoFar rs → length rs ≡ length ms → EachFew (near_pairs ns)
     → (length ns ≡ length ms) × AreMapsOf 0 ns
 maps_joined (Ok a) h ms ns rs ok err far are also none long few = let all = joined_fulls h 0 ms ns rs ok far are also none long few in (all.2, all.1)
 maps_joined (Err e) h ms ns rs ok err far are also none long few = let all = kept_fulls 0 ms ns err far are in (all.2, all.1)

@@ -42,7 +42,8 @@ entries f ps = filter_map (λ p. option_map (λ h. record { page = p; hist = h }
 
 -- ---- what a list of entries made page by page holds
 
-get_entries_other : (f : PageId → Option PageHist) (q : PageId) (qs : List PageId) (p : PageId) → is_eq (page_cmp q p) ≡ false → get (entries f (q ∷ qs)) p ≡ get (entries f qs) p
+get_entries_other : (f : PageId → Option PageHist) (q : PageId) (qs : List PageId) (p : PageId)
+    → is_eq (page_cmp q p) ≡ false → get (entries f (q ∷ qs)) p ≡ get (entries f qs) p
 get_entries_other f q qs p other = elim (f q) as (λ x. get (cons_option (option_map (λ h. record { page = q; hist = h }) x) (entries f qs)) p ≡ get (entries f qs) p) [
   | None ↦ refl
   | Some h ↦ rw other refl
@@ -52,13 +53,16 @@ pub either_way : {A : Type 0} (b : Bool) (x : A) → cond b x x ≡ x
 either_way true x = refl
 either_way false x = refl
 
-get_entries_here : (f : PageId → Option PageHist) (q : PageId) (qs : List PageId) (p : PageId) → is_eq (page_cmp q p) ≡ true → get (entries f qs) p ≡ cond (named qs p) (f q) None → get (entries f (q ∷ qs)) p ≡ f q
+get_entries_here : (f : PageId → Option PageHist) (q : PageId) (qs : List PageId) (p : PageId)
+    → is_eq (page_cmp q p) ≡ true → get (entries f qs) p ≡ cond (named qs p) (f q) None
+    → get (entries f (q ∷ qs)) p ≡ f q
 get_entries_here f q qs p here = elim (f q) as (λ x. get (entries f qs) p ≡ cond (named qs p) x None → get (cons_option (option_map (λ h. record { page = q; hist = h }) x) (entries f qs)) p ≡ x) [
   | None ↦ λ later. later ∙ either_way (named qs p) None
   | Some h ↦ λ later. rw here refl
 ]
 
-pub get_entries : (f : PageId → Option PageHist) (ps : List PageId) (p : PageId) → get (entries f ps) p ≡ cond (named ps p) (f p) None
+pub get_entries : (f : PageId → Option PageHist) (ps : List PageId) (p : PageId)
+    → get (entries f ps) p ≡ cond (named ps p) (f p) None
 get_entries f [] p = refl
 get_entries f (q ∷ qs) p = by_cases (page_cmp q p) _
     (λ less. let other : is_eq (page_cmp q p) ≡ false = ap is_eq less in get_entries_other f q qs p other ∙ rw other (get_entries f qs p))
@@ -68,7 +72,8 @@ get_entries f (q ∷ qs) p = by_cases (page_cmp q p) _
     get_entries_here f q qs p here (get_entries f qs p ∙ ap (λ x. cond (named qs p) (f x) None) (sym same)) ∙ rw here (ap f same))
     (λ more. let other : is_eq (page_cmp q p) ≡ false = ap is_eq more in get_entries_other f q qs p other ∙ rw other (get_entries f qs p))
 
-named-insert : (q : PageId) (qs : List PageId) (p : PageId) → named (insert_distinct page_cmp q qs) p ≡ named (q ∷ qs) p
+named-insert : (q : PageId) (qs : List PageId) (p : PageId)
+    → named (insert_distinct page_cmp q qs) p ≡ named (q ∷ qs) p
 named-insert q [] p = refl
 named-insert q (x ∷ qs) p = by_cases (page_cmp q x) _
     (λ qx. simp (qx))
@@ -85,11 +90,13 @@ pub named-distinct : (ps : List PageId) (p : PageId) → named (distinct page_cm
 named-distinct [] p = refl
 named-distinct (q ∷ qs) p = named-insert q (distinct page_cmp qs) p ∙ ap (cond (is_eq (page_cmp q p)) true) (named-distinct qs p)
 
-references_to-unnamed : (S : List Reference) (p : PageId) → named (map (λ r. r.page) S) p ≡ false → list_references_to S p ≡ []
+references_to-unnamed : (S : List Reference) (p : PageId) → named (map (λ r. r.page) S) p ≡ false
+    → list_references_to S p ≡ []
 references_to-unnamed [] p absent = refl
 references_to-unnamed (r ∷ S) p absent = cases (references_to-unnamed S p) (is_eq (page_cmp r.page p)) refl
   where
-    cases : (named (map (λ r. r.page) S) p ≡ false → list_references_to S p ≡ []) → (b : Bool) → is_eq (page_cmp r.page p) ≡ b → list_references_to (r ∷ S) p ≡ []
+    cases : (named (map (λ r. r.page) S) p ≡ false → list_references_to S p ≡ []) → (b : Bool)
+        → is_eq (page_cmp r.page p) ≡ b → list_references_to (r ∷ S) p ≡ []
     cases rest true here = let no : true ≡ false = rw here at absent in cc
     cases rest false other = rw other (rest (rw other at absent))
 
@@ -98,7 +105,8 @@ pub get-history : (S : List Reference) (p : PageId) → get (list_history S) p �
 unfolding list_history
 get-history S p = get_entries (list_hist S) (list_pages S) p ∙ cases (named (list_pages S) p) refl
   where
-    cases : (b : Bool) → named (list_pages S) p ≡ b → cond (named (list_pages S) p) (list_hist S p) None ≡ list_hist S p
+    cases : (b : Bool) → named (list_pages S) p ≡ b
+        → cond (named (list_pages S) p) (list_hist S p) None ≡ list_hist S p
     cases true present = rw present refl
     cases false absent =
         let none : list_references_to S p ≡ [] = references_to-unnamed S p (sym (named-distinct (map (λ r. r.page) S) p) ∙ absent) in
@@ -106,14 +114,17 @@ get-history S p = get_entries (list_hist S) (list_pages S) p ∙ cases (named (l
 
 -- ---- the order of a history
 
-pub below_entries : (f : PageId → Option PageHist) (b : PageId) (ps : List PageId) → AllByRecursion (λ p. page_cmp b p ≡ Less) ps → AllByRecursion (λ e. page_cmp b e.page ≡ Less) (entries f ps)
+pub below_entries : (f : PageId → Option PageHist) (b : PageId) (ps : List PageId)
+    → AllByRecursion (λ p. page_cmp b p ≡ Less) ps
+    → AllByRecursion (λ e. page_cmp b e.page ≡ Less) (entries f ps)
 below_entries f b [] all = tt
 below_entries f b (q ∷ qs) all = elim (f q) as (λ x. AllByRecursion (λ e. page_cmp b e.page ≡ Less) (cons_option (option_map (λ h. record { page = q; hist = h }) x) (entries f qs))) [
   | None ↦ below_entries f b qs all.1
   | Some h ↦ (all.0, below_entries f b qs all.1)
 ]
 
-pub rising_entries : (f : PageId → Option PageHist) (ps : List PageId) → IsAscending page_cmp ps → IsAscending (on (λ e. e.page) page_cmp) (entries f ps)
+pub rising_entries : (f : PageId → Option PageHist) (ps : List PageId) → IsAscending page_cmp ps
+    → IsAscending (on (λ e. e.page) page_cmp) (entries f ps)
 rising_entries f [] rising = tt
 rising_entries f (q ∷ qs) rising = elim (f q) as (λ x. IsAscending (on (λ e. e.page) page_cmp) (cons_option (option_map (λ h. record { page = q; hist = h }) x) (entries f qs))) [
   | None ↦ rising_entries f qs rising.1
@@ -125,12 +136,14 @@ abbrev pub IsFallingIfAny : Option PageHist → Type 0
 IsFallingIfAny None = Unit {0}
 IsFallingIfAny (Some h) = IsDescending h
 
-pub falling_first_two : (ss : List Stamp) → IsAscending (flip_args stamp_cmp) ss → IsFallingIfAny (first_two ss)
+pub falling_first_two : (ss : List Stamp) → IsAscending (flip_args stamp_cmp) ss
+    → IsFallingIfAny (first_two ss)
 falling_first_two [] rising = tt
 falling_first_two (a ∷ []) rising = tt
 falling_first_two (a ∷ b ∷ ss) rising = rising.0.0
 
-falling_entries : (f : PageId → Option PageHist) → ((p : PageId) → IsFallingIfAny (f p)) → (ps : List PageId) → AllByRecursion (λ e. IsDescending e.hist) (entries f ps)
+falling_entries : (f : PageId → Option PageHist) → ((p : PageId) → IsFallingIfAny (f p))
+    → (ps : List PageId) → AllByRecursion (λ e. IsDescending e.hist) (entries f ps)
 falling_entries f falls [] = tt
 falling_entries f falls (q ∷ qs) = elim (f q) as (λ x. IsFallingIfAny x → AllByRecursion (λ e. IsDescending e.hist) (cons_option (option_map (λ h. record { page = q; hist = h }) x) (entries f qs))) [
   | None ↦ λ _. falling_entries f falls qs
@@ -162,7 +175,9 @@ pub get_first : (e : Entry) (h : List Entry) (p : PageId) → e.page ≡ p → g
 get_first e h p here = let own : is_eq (page_cmp e.page p) ≡ true = ap (λ q. is_eq (page_cmp e.page q)) (sym here) ∙ ap is_eq (tied_itself page_order.total e.page) in rw own refl
 
 -- without the first entry, the later ones agree on each page
-get_later : (d e : Entry) (h g : List Entry) → d.page ≡ e.page → AllAbove d.page h → AllAbove e.page g → ((p : PageId) → get (d ∷ h) p ≡ get (e ∷ g) p) → (p : PageId) → get h p ≡ get g p
+get_later : (d e : Entry) (h g : List Entry) → d.page ≡ e.page → AllAbove d.page h
+    → AllAbove e.page g → ((p : PageId) → get (d ∷ h) p ≡ get (e ∷ g) p) → (p : PageId)
+    → get h p ≡ get g p
 get_later d e h g same above_d above_e alike p = cases (is_eq (page_cmp d.page p)) refl
   where
     cases : (b : Bool) → is_eq (page_cmp d.page p) ≡ b → get h p ≡ get g p
@@ -174,7 +189,8 @@ get_later d e h g same above_d above_e alike p = cases (is_eq (page_cmp d.page p
         let both = alike p in
         rw (other, other_e) at both
 
-pub same_gets : (h g : List Entry) → IsAscending (on (λ e. e.page) page_cmp) h → IsAscending (on (λ e. e.page) page_cmp) g → ((p : PageId) → get h p ≡ get g p) → h ≡ g
+pub same_gets : (h g : List Entry) → IsAscending (on (λ e. e.page) page_cmp) h
+    → IsAscending (on (λ e. e.page) page_cmp) g → ((p : PageId) → get h p ≡ get g p) → h ≡ g
 same_gets [] [] rise_h rise_g alike = refl
 same_gets [] (e ∷ g) rise_h rise_g alike = let no : None ≡ Some e.hist = alike e.page ∙ get_first e g e.page refl in absurd (cc)
 same_gets (d ∷ h) [] rise_h rise_g alike = let no : Some d.hist ≡ None = sym (get_first d h d.page refl) ∙ alike d.page in absurd (cc)
@@ -189,7 +205,8 @@ same_gets (d ∷ h) (e ∷ g) rise_h rise_g alike = by_cases (page_cmp d.page e.
     (λ more. let less : page_cmp e.page d.page ≡ Less = flipped page_cmp page_order d.page e.page Greater more in let no : None ≡ Some e.hist = sym (get_above e.page (d ∷ h) (less, above_less e.page d.page h less rise_h.0)) ∙ alike e.page ∙ get_first e g e.page refl in absurd (cc))
 
 -- lists that agree on each page have one history
-pub same_hists : (S T : List Reference) → ((p : PageId) → list_hist S p ≡ list_hist T p) → list_history S ≡ list_history T
+pub same_hists : (S T : List Reference) → ((p : PageId) → list_hist S p ≡ list_hist T p)
+    → list_history S ≡ list_history T
 same_hists S T alike =
     let whole_S = IsHistory-history S in
     let whole_T = IsHistory-history T in
@@ -200,7 +217,9 @@ same_hists S T alike =
 pub told-append : (S T : List Reference) (p : PageId) → told (S ++ T) p ≡ told S p ++ told T p
 told-append S T p = ap (map (λ r. r.stamp)) (filter-append (λ r. is_eq (page_cmp r.page p)) S T) ∙ map-append (λ r. r.stamp) (list_references_to S p) (list_references_to T p)
 
-pub told_entry : (page : PageId) (h : PageHist) (p : PageId) → told (references_of_entry (record { page = page; hist = h })) p ≡ cond (is_eq (page_cmp page p)) (hist_stamps h) []
+pub told_entry : (page : PageId) (h : PageHist) (p : PageId)
+    → told (references_of_entry (record { page = page; hist = h })) p
+    ≡ cond (is_eq (page_cmp page p)) (hist_stamps h) []
 told_entry page (Once s) p =
     let r : Reference = record { page = page; stamp = s } in
     elim (is_eq (page_cmp page p)) as (λ b. map (λ (r : Reference). r.stamp) (cond b (r ∷ []) []) ≡ cond b (s ∷ []) []) [ true ↦ refl | false ↦ refl ]
@@ -209,7 +228,8 @@ told_entry page (Twice t) p =
     let older : Reference = record { page = page; stamp = t.prev } in
     elim (is_eq (page_cmp page p)) as (λ b. map (λ (r : Reference). r.stamp) (cond b (r ∷ cond b (older ∷ []) []) (cond b (older ∷ []) [])) ≡ cond b (t.last ∷ t.prev ∷ []) []) [ true ↦ refl | false ↦ refl ]
 
-pub told_refs : (h : List Entry) → IsAscending (on (λ e. e.page) page_cmp) h → (p : PageId) → told (list_references_of h) p ≡ known_stamps (get h p)
+pub told_refs : (h : List Entry) → IsAscending (on (λ e. e.page) page_cmp) h → (p : PageId)
+    → told (list_references_of h) p ≡ known_stamps (get h p)
 told_refs [] rising p = refl
 told_refs (e ∷ h) rising p =
     told-append (references_of_entry e) (list_references_of h) p
@@ -217,23 +237,28 @@ told_refs (e ∷ h) rising p =
     ∙ ap (λ ss. cond (is_eq (page_cmp e.page p)) (hist_stamps e.hist) [] ++ ss) (told_refs h rising.1 p)
     ∙ cases (is_eq (page_cmp e.page p)) refl
   where
-    cases : (b : Bool) → is_eq (page_cmp e.page p) ≡ b → cond (is_eq (page_cmp e.page p)) (hist_stamps e.hist) [] ++ known_stamps (get h p) ≡ known_stamps (cond (is_eq (page_cmp e.page p)) (Some e.hist) (get h p))
+    cases : (b : Bool) → is_eq (page_cmp e.page p) ≡ b
+        → cond (is_eq (page_cmp e.page p)) (hist_stamps e.hist) [] ++ known_stamps (get h p)
+        ≡ known_stamps (cond (is_eq (page_cmp e.page p)) (Some e.hist) (get h p))
     cases true here =
         let tied : e.page ≡ p = page_order.same e.page p (is_equal (page_cmp e.page p) here) in
         rw here (ap (λ x. hist_stamps e.hist ++ known_stamps x) (ap (get h) (sym tied) ∙ get_above e.page h rising.0) ∙ append-nil (hist_stamps e.hist))
     cases false other = rw other refl
 
-pub first_two-held : (x : Option PageHist) → IsFallingIfAny x → first_two (distinct (flip_args stamp_cmp) (known_stamps x)) ≡ x
+pub first_two-held : (x : Option PageHist) → IsFallingIfAny x
+    → first_two (distinct (flip_args stamp_cmp) (known_stamps x)) ≡ x
 first_two-held None falls = refl
 first_two-held (Some (Once s)) falls = refl
 first_two-held (Some (Twice t)) falls = let older : stamp_cmp t.prev t.last ≡ Less = falls in rw older refl
 
-falling_get : (h : List Entry) → AllByRecursion (λ e. IsDescending e.hist) h → (p : PageId) → IsFallingIfAny (get h p)
+falling_get : (h : List Entry) → AllByRecursion (λ e. IsDescending e.hist) h → (p : PageId)
+    → IsFallingIfAny (get h p)
 falling_get [] falls p = tt
 falling_get (e ∷ h) falls p = elim (is_eq (page_cmp e.page p)) as (λ b. IsFallingIfAny (cond b (Some e.hist) (get h p))) [ true ↦ falls.0 | false ↦ falling_get h falls.1 p ]
 
 -- the references of a history say of each page what the history says
-pub hist-refs : (h : List Entry) → IsListHistory h → (p : PageId) → list_hist (list_references_of h) p ≡ get h p
+pub hist-refs : (h : List Entry) → IsListHistory h → (p : PageId)
+    → list_hist (list_references_of h) p ≡ get h p
 hist-refs h whole p =
     ap (λ ss. first_two (distinct (flip_args stamp_cmp) ss)) (told_refs h whole.pages_ascend p)
     ∙ first_two-held (get h p) (falling_get h whole.stamps_descend p)
@@ -252,7 +277,8 @@ first_two-front_two [] = refl
 first_two-front_two (a ∷ []) = refl
 first_two-front_two (a ∷ b ∷ ss) = refl
 
-pub hist-append : (S T : List Reference) (p : PageId) → list_hist (S ++ T) p ≡ joined (list_hist S p) (list_hist T p)
+pub hist-append : (S T : List Reference) (p : PageId)
+    → list_hist (S ++ T) p ≡ joined (list_hist S p) (list_hist T p)
 hist-append S T p =
     let falls = flip_args stamp_cmp in
     ap (λ ss. first_two (distinct falls ss)) (told-append S T p)
@@ -269,7 +295,8 @@ hist_swap S T p =
     ∙ ap first_two (distinct_swap falls (IsStrictOrder-flip stamp_cmp stamp_order) (told S p) (told T p))
     ∙ ap (λ ss. first_two (distinct falls ss)) (sym (told-append T S p))
 
-pub hist_refs-history : (S : List Reference) (p : PageId) → list_hist (list_references_of (list_history S)) p ≡ list_hist S p
+pub hist_refs-history : (S : List Reference) (p : PageId)
+    → list_hist (list_references_of (list_history S)) p ≡ list_hist S p
 hist_refs-history S p = hist-refs (list_history S) (IsHistory-history S) p ∙ get-history S p
 
 -- ---- the pages that a list names
@@ -294,7 +321,8 @@ some_first : (s : Stamp) (ss : List Stamp) → is_some (first_two (s ∷ ss)) �
 some_first s [] = refl
 some_first s (t ∷ ss) = refl
 
-some_inserted : (s : Stamp) (ss : List Stamp) → is_some (first_two (insert_distinct (flip_args stamp_cmp) s ss)) ≡ true
+some_inserted : (s : Stamp) (ss : List Stamp)
+    → is_some (first_two (insert_distinct (flip_args stamp_cmp) s ss)) ≡ true
 some_inserted s [] = refl
 some_inserted s (t ∷ ss) = by_cases (flip_args stamp_cmp s t) _
     (λ less. rw less refl)
@@ -302,7 +330,8 @@ some_inserted s (t ∷ ss) = by_cases (flip_args stamp_cmp s t) _
     (λ more. rw more (some_first t (insert_distinct (flip_args stamp_cmp) s ss)))
 
 -- a list names the pages of which it says something
-pub named-some : (S : List Reference) (p : PageId) → named (map (λ r. r.page) S) p ≡ is_some (list_hist S p)
+pub named-some : (S : List Reference) (p : PageId)
+    → named (map (λ r. r.page) S) p ≡ is_some (list_hist S p)
 named-some [] p = refl
 named-some (r ∷ S) p = elim (is_eq (page_cmp r.page p)) as (λ b. cond b true (named (map (λ (x : Reference). x.page) S) p) ≡ is_some (first_two (distinct (flip_args stamp_cmp) (map (λ (x : Reference). x.stamp) (cond b (r ∷ list_references_to S p) (list_references_to S p)))))) [
   | true ↦ sym (some_inserted r.stamp (list_stamps S p))
@@ -310,12 +339,15 @@ named-some (r ∷ S) p = elim (is_eq (page_cmp r.page p)) as (λ b. cond b true 
 ]
 
 -- lists that agree on each page name the same pages
-pub pages_alike : (S T : List Reference) → ((p : PageId) → list_hist S p ≡ list_hist T p) → list_pages S ≡ list_pages T
+pub pages_alike : (S T : List Reference) → ((p : PageId) → list_hist S p ≡ list_hist T p)
+    → list_pages S ≡ list_pages T
 pages_alike S T alike = distinct_same page_cmp page_order _ _ (within S T alike) (within T S (λ p. sym (alike p)))
   where
-    within : (S T : List Reference) → ((p : PageId) → list_hist S p ≡ list_hist T p) → (p : PageId) → Has (map (λ (r : Reference). r.page) S) p → Has (map (λ (r : Reference). r.page) T) p
+    within : (S T : List Reference) → ((p : PageId) → list_hist S p ≡ list_hist T p) → (p : PageId)
+        → Has (map (λ (r : Reference). r.page) S) p → Has (map (λ (r : Reference). r.page) T) p
     within S T alike p has = named_has (map (λ (r : Reference). r.page) T) p (named-some T p ∙ ap is_some (sym (alike p)) ∙ sym (named-some S p) ∙ has_named (map (λ (r : Reference). r.page) S) p has)
 
 -- of a page that it names a list says something
-pub some_named : (S : List Reference) (p : PageId) → Has (map (λ r. r.page) S) p → is_some (list_hist S p) ≡ true
+pub some_named : (S : List Reference) (p : PageId) → Has (map (λ r. r.page) S) p
+    → is_some (list_hist S p) ≡ true
 some_named S p has = sym (named-some S p) ∙ has_named (map (λ (r : Reference). r.page) S) p has

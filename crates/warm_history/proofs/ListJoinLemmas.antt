@@ -12,21 +12,27 @@ use Rattle.warm_history.specs.declared.hist.Entry.{Entry}
 use Rattle.warm_history.proofs.ListHistoryLemmas.{told, told-append, same_gets, same_hists, joined, hist-append, hist_swap, hist-refs, hist_refs-history, get-history, IsHistory-history}
 
 -- what a list says of each page decides what it says beside another list
-pub history_alike : (S S' T T' : List Reference) → ((p : _) → list_hist S p ≡ list_hist S' p) → ((p : _) → list_hist T p ≡ list_hist T' p) → list_history (S ++ T) ≡ list_history (S' ++ T')
+pub history_alike : (S S' T T' : List Reference) → ((p : _) → list_hist S p ≡ list_hist S' p)
+    → ((p : _) → list_hist T p ≡ list_hist T' p) → list_history (S ++ T) ≡ list_history (S' ++ T')
 history_alike S S' T T' first second = same_hists (S ++ T) (S' ++ T') (λ p.
     hist-append S T p ∙ ap (λ x. joined x (list_hist T p)) (first p) ∙ ap (joined (list_hist S' p)) (second p) ∙ sym (hist-append S' T' p))
 
-pub history_of_union : (S T : List Reference) → list_history (list_references_of (list_history S) ++ list_references_of (list_history T)) ≡ list_history (S ++ T)
+pub history_of_union : (S T : List Reference)
+    → list_history (list_references_of (list_history S) ++ list_references_of (list_history T))
+    ≡ list_history (S ++ T)
 history_of_union S T = history_alike (list_references_of (list_history S)) S (list_references_of (list_history T)) T (hist_refs-history S) (hist_refs-history T)
 
 -- a history in place of the first list, or of the second, says the same
-pub history_first : (S T : List Reference) → list_history (list_references_of (list_history S) ++ T) ≡ list_history (S ++ T)
+pub history_first : (S T : List Reference)
+    → list_history (list_references_of (list_history S) ++ T) ≡ list_history (S ++ T)
 history_first S T = history_alike (list_references_of (list_history S)) S T T (hist_refs-history S) (λ p. refl)
 
-pub history_second : (S T : List Reference) → list_history (S ++ list_references_of (list_history T)) ≡ list_history (S ++ T)
+pub history_second : (S T : List Reference)
+    → list_history (S ++ list_references_of (list_history T)) ≡ list_history (S ++ T)
 history_second S T = history_alike S S (list_references_of (list_history T)) T (λ p. refl) (hist_refs-history T)
 
-pub history_of_own_references : (h : List Entry) → IsListHistory h → list_history (list_references_of h) ≡ h
+pub history_of_own_references : (h : List Entry) → IsListHistory h
+    → list_history (list_references_of h) ≡ h
 history_of_own_references h whole =
     let own = IsHistory-history (list_references_of h) in
     same_gets (list_history (list_references_of h)) h own.pages_ascend whole.pages_ascend (λ p. get-history (list_references_of h) p ∙ hist-refs h whole p)

@@ -12,7 +12,8 @@ front_two (x ∷ y ∷ ys) = x ∷ y ∷ []
 
 module _ {A : Type 0} (cmp : A → A → Ordering) (order : IsStrictOrder cmp) where
   -- what is put into a list shows in its first two items as it would with these alone
-  front_two-insert : (x : A) (ys : List A) → front_two (insert_distinct cmp x ys) ≡ front_two (insert_distinct cmp x (front_two ys))
+  front_two-insert : (x : A) (ys : List A)
+      → front_two (insert_distinct cmp x ys) ≡ front_two (insert_distinct cmp x (front_two ys))
   front_two-insert x [] = refl
   front_two-insert x (a ∷ []) = refl
   front_two-insert x (a ∷ b ∷ ys) = by_cases (cmp x a) _
@@ -31,7 +32,9 @@ module _ {A : Type 0} (cmp : A → A → Ordering) (order : IsStrictOrder cmp) w
   front_rises (a ∷ b ∷ ys) rising = ((rising.0.0, tt), ((tt, tt)))
 
   -- the first two of the distinct items of two lists need the first two of the second alone
-  pub front_two-second : (xs ys : List A) → front_two (distinct cmp (xs ++ ys)) ≡ front_two (distinct cmp (xs ++ front_two (distinct cmp ys)))
+  pub front_two-second : (xs ys : List A)
+      → front_two (distinct cmp (xs ++ ys))
+      ≡ front_two (distinct cmp (xs ++ front_two (distinct cmp ys)))
   front_two-second [] ys =
       let rising = front_rises (distinct cmp ys) (distinct_rises cmp order ys) in
       sym (front_two_again (distinct cmp ys)) ∙ ap front_two (sym (distinct_rising cmp order _ rising))
@@ -40,12 +43,16 @@ module _ {A : Type 0} (cmp : A → A → Ordering) (order : IsStrictOrder cmp) w
       ∙ ap (λ t. front_two (insert_distinct cmp x t)) (front_two-second xs ys)
       ∙ sym (front_two-insert x (distinct cmp (xs ++ front_two (distinct cmp ys))))
 
-  pub front_two-first : (xs ys : List A) → front_two (distinct cmp (xs ++ ys)) ≡ front_two (distinct cmp (front_two (distinct cmp xs) ++ ys))
+  pub front_two-first : (xs ys : List A)
+      → front_two (distinct cmp (xs ++ ys))
+      ≡ front_two (distinct cmp (front_two (distinct cmp xs) ++ ys))
   front_two-first xs ys =
       ap front_two (distinct_swap cmp order xs ys)
       ∙ front_two-second ys xs
       ∙ ap front_two (distinct_swap cmp order ys (front_two (distinct cmp xs)))
 
   -- or the first two of each
-  pub front_two-both : (xs ys : List A) → front_two (distinct cmp (xs ++ ys)) ≡ front_two (distinct cmp (front_two (distinct cmp xs) ++ front_two (distinct cmp ys)))
+  pub front_two-both : (xs ys : List A)
+      → front_two (distinct cmp (xs ++ ys))
+      ≡ front_two (distinct cmp (front_two (distinct cmp xs) ++ front_two (distinct cmp ys)))
   front_two-both xs ys = front_two-first xs ys ∙ front_two-second (front_two (distinct cmp xs)) ys

@@ -18,7 +18,8 @@ pub nat_order : IsStrictOrder nat_cmp
 nat_order = record { total = nat_cmp_total; same = λ x y e. ranked x y Equal (sym e) }
 
 -- in one bucket keys rise as pages do
-pub same_order : (bucket : ℕ) (p q : PageId) → p.no < 18446744073709551616 → q.no < 18446744073709551616 → nat_cmp (key_in bucket p) (key_in bucket q) ≡ page_cmp p q
+pub same_order : (bucket : ℕ) (p q : PageId) → p.no < 18446744073709551616
+    → q.no < 18446744073709551616 → nat_cmp (key_in bucket p) (key_in bucket q) ≡ page_cmp p q
 same_order bucket p q p_no q_no =
     let at = key_in bucket p in
     let there = key_in bucket q in
@@ -62,17 +63,20 @@ pub below_next : (k : ℕ) → IsMapKey k → k < first_key (page_bucket (page_o
 below_next k is = omega (arith, no_below k, dev_below k)
 
 -- keys are the same where their pages are
-pub same_key : (j k : ℕ) → IsMapKey j → IsMapKey k → is_eq (nat_cmp j k) ≡ is_eq (page_cmp (page_of_key k) (page_of_key j))
+pub same_key : (j k : ℕ) → IsMapKey j → IsMapKey k
+    → is_eq (nat_cmp j k) ≡ is_eq (page_cmp (page_of_key k) (page_of_key j))
 same_key j k is_j is_k = cases (is_eq (page_cmp (page_of_key k) (page_of_key j))) refl
   where
-    different : (b : Bool) → is_eq (nat_cmp j k) ≡ b → is_eq (page_cmp (page_of_key k) (page_of_key j)) ≡ false → b ≡ false
+    different : (b : Bool) → is_eq (nat_cmp j k) ≡ b
+        → is_eq (page_cmp (page_of_key k) (page_of_key j)) ≡ false → b ≡ false
     different true here other =
         let same : j ≡ k = nat_order.same j k (is_equal (nat_cmp j k) here) in
         let tied : is_eq (page_cmp (page_of_key k) (page_of_key j)) ≡ true = ap (λ t. is_eq (page_cmp (page_of_key k) (page_of_key t))) same ∙ ap is_eq (tied_itself page_order.total (page_of_key k)) in
         sym tied ∙ other
     different false here other = refl
 
-    cases : (b : Bool) → is_eq (page_cmp (page_of_key k) (page_of_key j)) ≡ b → is_eq (nat_cmp j k) ≡ is_eq (page_cmp (page_of_key k) (page_of_key j))
+    cases : (b : Bool) → is_eq (page_cmp (page_of_key k) (page_of_key j)) ≡ b
+        → is_eq (nat_cmp j k) ≡ is_eq (page_cmp (page_of_key k) (page_of_key j))
     cases true tied =
         let same : page_of_key k ≡ page_of_key j = page_order.same (page_of_key k) (page_of_key j) (is_equal _ tied) in
         let one : k ≡ j = sym is_k ∙ ap key_of_page same ∙ is_j in
@@ -80,7 +84,9 @@ same_key j k is_j is_k = cases (is_eq (page_cmp (page_of_key k) (page_of_key j))
     cases false other = different (is_eq (nat_cmp j k)) refl other ∙ sym other
 
 -- in one bucket the page of a greater key is greater
-pub rising_pages : (j k : ℕ) → IsMapKey j → IsMapKey k → page_bucket (page_of_key j) ≡ page_bucket (page_of_key k) → nat_cmp j k ≡ Less → page_cmp (page_of_key j) (page_of_key k) ≡ Less
+pub rising_pages : (j k : ℕ) → IsMapKey j → IsMapKey k
+    → page_bucket (page_of_key j) ≡ page_bucket (page_of_key k) → nat_cmp j k ≡ Less
+    → page_cmp (page_of_key j) (page_of_key k) ≡ Less
 rising_pages j k is_j is_k same less =
     sym (same_order (page_bucket (page_of_key k)) (page_of_key j) (page_of_key k) (no_below j) (no_below k))
     ∙ ap (λ b. nat_cmp (key_in b (page_of_key j)) (key_in (page_bucket (page_of_key k)) (page_of_key k))) (sym same)
@@ -108,11 +114,16 @@ always true = refl
 always false = refl
 
 -- whether the page is of the bucket
-same_bucket : (bucket k : ℕ) → (page_bucket (page_of_key k) == bucket) ≡ is_eq (nat_cmp (page_bucket (page_of_key k)) bucket)
+same_bucket : (bucket k : ℕ)
+    → (page_bucket (page_of_key k) == bucket) ≡ is_eq (nat_cmp (page_bucket (page_of_key k)) bucket)
 same_bucket bucket k = sym (unsigned_tied (page_bucket (page_of_key k)) bucket)
 
 -- what is at a start that is in or before the bucket, and before its end, is of the bucket
-within : (bucket k : ℕ) (start : Bool) (inside : Bool) → IsMapKey k → (page_bucket (page_of_key k) ≡ bucket → start ≡ inside) → (k < first_key bucket → start ≡ false) → (start && not (is_le (nat_cmp (first_key (bucket + 1)) k))) ≡ ((page_bucket (page_of_key k) == bucket) && inside)
+within : (bucket k : ℕ) (start : Bool) (inside : Bool) → IsMapKey k
+    → (page_bucket (page_of_key k) ≡ bucket → start ≡ inside)
+    → (k < first_key bucket → start ≡ false)
+    → (start && not (is_le (nat_cmp (first_key (bucket + 1)) k)))
+    ≡ ((page_bucket (page_of_key k) == bucket) && inside)
 within bucket k start inside is here before =
     let own = page_bucket (page_of_key k) in
     by_cases (nat_cmp (page_bucket (page_of_key k)) bucket) _
@@ -132,19 +143,24 @@ within bucket k start inside is here before =
     let other : (page_bucket (page_of_key k) == bucket) ≡ false = same_bucket bucket k ∙ ap is_eq more in
     rw (other, at_most (first_key (bucket + 1)) k high) (never start))
 
-pub in_bucket : (bucket k : ℕ) → IsMapKey k → range_contains nat_cmp (Included (first_key bucket)) (Excluded (first_key (bucket + 1))) k ≡ is_next_in_bucket bucket None (page_of_key k)
+pub in_bucket : (bucket k : ℕ) → IsMapKey k
+    → range_contains nat_cmp (Included (first_key bucket)) (Excluded (first_key (bucket + 1))) k
+    ≡ is_next_in_bucket bucket None (page_of_key k)
 in_bucket bucket k is = within bucket k (is_le (nat_cmp (first_key bucket) k)) true is
     (λ one. let low : first_key bucket ≤ k = omega (arith, from_first k is) in at_most (first_key bucket) k low)
     (λ low. ap is_le (above (first_key bucket) k low))
 
-pub after_page : (bucket : ℕ) (last : PageId) (k : ℕ) → last.no < 18446744073709551616 → IsMapKey k → range_contains nat_cmp (Excluded (key_in bucket last)) (Excluded (first_key (bucket + 1))) k ≡ is_next_in_bucket bucket (Some last) (page_of_key k)
+pub after_page : (bucket : ℕ) (last : PageId) (k : ℕ) → last.no < 18446744073709551616 → IsMapKey k
+    → range_contains nat_cmp (Excluded (key_in bucket last)) (Excluded (first_key (bucket + 1))) k
+    ≡ is_next_in_bucket bucket (Some last) (page_of_key k)
 after_page bucket last k fits is = within bucket k (is_lt (nat_cmp (key_in bucket last) k)) (is_lt (page_cmp last (page_of_key k))) is
     (λ one.
     let own : k ≡ key_in bucket (page_of_key k) = sym is ∙ ap (λ b. key_in b (page_of_key k)) one in
     ap (λ x. is_lt (nat_cmp (key_in bucket last) x)) own ∙ ap is_lt (same_order bucket last (page_of_key k) fits (no_below k)))
     (λ low. let past : k < key_in bucket last = omega arith in ap is_lt (above (key_in bucket last) k past))
 
-pub of_bucket : (bucket : ℕ) (after : Option PageId) (p : PageId) → is_next_in_bucket bucket after p ≡ true → page_bucket p ≡ bucket
+pub of_bucket : (bucket : ℕ) (after : Option PageId) (p : PageId)
+    → is_next_in_bucket bucket after p ≡ true → page_bucket p ≡ bucket
 of_bucket bucket after p is = by_cases (nat_cmp (page_bucket p) bucket) _
     (λ less. let other : (page_bucket p == bucket) ≡ false = sym (unsigned_tied (page_bucket p) bucket) ∙ ap is_eq less in absurd (let no : false ≡ true = rw other at is in cc))
     (λ tied. ranked (page_bucket p) bucket Equal (sym tied))

@@ -42,7 +42,8 @@ abbrev AreAbove : ℕ → MapPairs → Type 0
 AreAbove p pairs = AllByRecursion (λ e. nat_cmp p e.0 ≡ Less) pairs
 
 -- what is found at a key is what the entries say of its page
-pub find-get : (key : ℕ) (pairs : MapPairs) → IsMapKey key → AreKeys pairs → found key pairs ≡ get (as_entries pairs) (page_of_key key)
+pub find-get : (key : ℕ) (pairs : MapPairs) → IsMapKey key → AreKeys pairs
+    → found key pairs ≡ get (as_entries pairs) (page_of_key key)
 find-get key [] is all = refl
 find-get key (e ∷ pairs) is all =
     ap (λ t. cond t (Some e.1) (found key pairs)) (same_key key e.0 is all.0)
@@ -50,14 +51,18 @@ find-get key (e ∷ pairs) is all =
 
 -- ---- one change undone
 
-removed : (p : ℕ) (h : PageHist) (pairs : MapPairs) → found p pairs ≡ None → remove_entry (is_at (nat_cmp p)) (insert_entry nat_cmp pairs p h) ≡ pairs
+removed : (p : ℕ) (h : PageHist) (pairs : MapPairs) → found p pairs ≡ None
+    → remove_entry (is_at (nat_cmp p)) (insert_entry nat_cmp pairs p h) ≡ pairs
 removed p h [] none = let own : nat_cmp p p ≡ Equal = tied_itself nat_order.total p in rw own refl
 removed p h (e ∷ pairs) none = cases (removed p h pairs) (nat_cmp p e.0) refl
   where
     own : nat_cmp p p ≡ Equal
     own = tied_itself nat_order.total p
 
-    cases : (found p pairs ≡ None → remove_entry (is_at (nat_cmp p)) (insert_entry nat_cmp pairs p h) ≡ pairs) → (o : Ordering) → nat_cmp p e.0 ≡ o → remove_entry (is_at (nat_cmp p)) (insert_entry nat_cmp (e ∷ pairs) p h) ≡ e ∷ pairs
+    cases : (found p pairs ≡ None
+        → remove_entry (is_at (nat_cmp p)) (insert_entry nat_cmp pairs p h) ≡ pairs)
+        → (o : Ordering) → nat_cmp p e.0 ≡ o
+        → remove_entry (is_at (nat_cmp p)) (insert_entry nat_cmp (e ∷ pairs) p h) ≡ e ∷ pairs
     cases later Less pe = rw pe (rw own refl)
     cases later Equal pe = let no : Some e.1 ≡ None = sym (ap (λ o. cond (is_eq o) (Some e.1) (found p pairs)) pe) ∙ none in absurd (cc)
     cases later Greater pe =
@@ -68,15 +73,20 @@ pub no_later : (p : ℕ) (pairs : MapPairs) → AreAbove p pairs → found p pai
 no_later p [] all = refl
 no_later p (e ∷ pairs) all = let less : nat_cmp p e.0 ≡ Less = all.0 in rw less (no_later p pairs all.1)
 
-pub below_all : (p q : ℕ) (pairs : MapPairs) → nat_cmp p q ≡ Less → AreAbove q pairs → AreAbove p pairs
+pub below_all : (p q : ℕ) (pairs : MapPairs) → nat_cmp p q ≡ Less → AreAbove q pairs
+    → AreAbove p pairs
 below_all p q [] less all = tt
 below_all p q (e ∷ pairs) less all = (nat_order.total.trans p q e.0 less all.0, below_all p q pairs less all.1)
 
-same_value : (p : ℕ) (h g : PageHist) (pairs : MapPairs) → KeysAscend pairs → found p pairs ≡ Some g → set_value (is_at (nat_cmp p)) (insert_entry nat_cmp pairs p h) g ≡ pairs
+same_value : (p : ℕ) (h g : PageHist) (pairs : MapPairs) → KeysAscend pairs → found p pairs ≡ Some g
+    → set_value (is_at (nat_cmp p)) (insert_entry nat_cmp pairs p h) g ≡ pairs
 same_value p h g [] rising is = let no : None ≡ Some g = is in absurd (cc)
 same_value p h g (e ∷ pairs) rising is = cases (same_value p h g pairs rising.1) (nat_cmp p e.0) refl
   where
-    cases : (found p pairs ≡ Some g → set_value (is_at (nat_cmp p)) (insert_entry nat_cmp pairs p h) g ≡ pairs) → (o : Ordering) → nat_cmp p e.0 ≡ o → set_value (is_at (nat_cmp p)) (insert_entry nat_cmp (e ∷ pairs) p h) g ≡ e ∷ pairs
+    cases : (found p pairs ≡ Some g
+        → set_value (is_at (nat_cmp p)) (insert_entry nat_cmp pairs p h) g ≡ pairs) → (o : Ordering)
+        → nat_cmp p e.0 ≡ o → set_value (is_at (nat_cmp p)) (insert_entry nat_cmp (e ∷ pairs) p h) g
+        ≡ e ∷ pairs
     cases later Less pe =
         let rest : found p pairs ≡ Some g = sym (ap (λ o. cond (is_eq o) (Some e.1) (found p pairs)) pe) ∙ is in
         let no : None ≡ Some g = sym (no_later p pairs (below_all p e.0 pairs pe rising.0)) ∙ rest in
@@ -89,34 +99,41 @@ same_value p h g (e ∷ pairs) rising is = cases (same_value p h g pairs rising.
         let rest : found p pairs ≡ Some g = sym (ap (λ o. cond (is_eq o) (Some e.1) (found p pairs)) pe) ∙ is in
         rw pe (rw pe (ap (λ t. e ∷ t) (later rest)))
 
-pub put_back-insert : (p : ℕ) (h : PageHist) (pairs : MapPairs) → KeysAscend pairs → (known : Option PageHist) → known ≡ found p pairs → put_back p known (insert_entry nat_cmp pairs p h) ≡ pairs
+pub put_back-insert : (p : ℕ) (h : PageHist) (pairs : MapPairs) → KeysAscend pairs
+    → (known : Option PageHist) → known ≡ found p pairs
+    → put_back p known (insert_entry nat_cmp pairs p h) ≡ pairs
 put_back-insert p h pairs rising None is = removed p h pairs (sym is)
 put_back-insert p h pairs rising (Some g) is = same_value p h g pairs rising (sym is)
 
 -- ---- an entry more
 
-above_insert : (q p : ℕ) (h : PageHist) (pairs : MapPairs) → nat_cmp q p ≡ Less → AreAbove q pairs → AreAbove q (insert_entry nat_cmp pairs p h)
+above_insert : (q p : ℕ) (h : PageHist) (pairs : MapPairs) → nat_cmp q p ≡ Less → AreAbove q pairs
+    → AreAbove q (insert_entry nat_cmp pairs p h)
 above_insert q p h [] less all = (less, tt)
 above_insert q p h (e ∷ pairs) less all = by_cases (nat_cmp p e.0) _
     (λ pe. rw pe (less, all))
     (λ pe. rw pe all)
     (λ pe. rw pe (all.0, above_insert q p h pairs less all.1))
 
-pub rising_insert : (p : ℕ) (h : PageHist) (pairs : MapPairs) → KeysAscend pairs → KeysAscend (insert_entry nat_cmp pairs p h)
+pub rising_insert : (p : ℕ) (h : PageHist) (pairs : MapPairs) → KeysAscend pairs
+    → KeysAscend (insert_entry nat_cmp pairs p h)
 rising_insert p h [] rising = (tt, tt)
 rising_insert p h (e ∷ pairs) rising = by_cases (nat_cmp p e.0) _
     (λ pe. rw pe ((pe, below_all p e.0 pairs pe rising.0), rising))
     (λ pe. rw pe rising)
     (λ pe. rw pe (above_insert e.0 p h pairs (flipped nat_cmp nat_order p e.0 Greater pe) rising.0, rising_insert p h pairs rising.1))
 
-keys_insert : (p : ℕ) (h : PageHist) (pairs : MapPairs) → IsMapKey p → AreKeys pairs → AreKeys (insert_entry nat_cmp pairs p h)
+keys_insert : (p : ℕ) (h : PageHist) (pairs : MapPairs) → IsMapKey p → AreKeys pairs
+    → AreKeys (insert_entry nat_cmp pairs p h)
 keys_insert p h [] is all = (is, tt)
 keys_insert p h (e ∷ pairs) is all = by_cases (nat_cmp p e.0) _
     (λ pe. rw pe (is, all))
     (λ pe. rw pe all)
     (λ pe. rw pe (all.0, keys_insert p h pairs is all.1))
 
-falling_insert : (p : ℕ) (h : PageHist) (pairs : MapPairs) → IsDescending h → AllByRecursion (λ (e : ℕ × PageHist). IsDescending e.1) pairs → AllByRecursion (λ (e : ℕ × PageHist). IsDescending e.1) (insert_entry nat_cmp pairs p h)
+falling_insert : (p : ℕ) (h : PageHist) (pairs : MapPairs) → IsDescending h
+    → AllByRecursion (λ (e : ℕ × PageHist). IsDescending e.1) pairs
+    → AllByRecursion (λ (e : ℕ × PageHist). IsDescending e.1) (insert_entry nat_cmp pairs p h)
 falling_insert p h [] fall all = (fall, tt)
 falling_insert p h (e ∷ pairs) fall all = by_cases (nat_cmp p e.0) _
     (λ pe. rw pe (fall, all))
@@ -134,7 +151,9 @@ again true x y z = refl
 again false x y z = refl
 
 -- what the entries say with one more among them
-get-insert : (p : ℕ) (h : PageHist) (pairs : MapPairs) → IsMapKey p → AreKeys pairs → (q : PageId) → get (as_entries (insert_entry nat_cmp pairs p h)) q ≡ cond (is_eq (page_cmp (page_of_key p) q)) (Some h) (get (as_entries pairs) q)
+get-insert : (p : ℕ) (h : PageHist) (pairs : MapPairs) → IsMapKey p → AreKeys pairs → (q : PageId)
+    → get (as_entries (insert_entry nat_cmp pairs p h)) q
+    ≡ cond (is_eq (page_cmp (page_of_key p) q)) (Some h) (get (as_entries pairs) q)
 get-insert p h [] is all q = refl
 get-insert p h (e ∷ pairs) is all q = by_cases (nat_cmp p e.0) _
     (λ pe. rw pe refl)
@@ -153,7 +172,8 @@ get-insert p h (e ∷ pairs) is all q = by_cases (nat_cmp p e.0) _
 
 -- ---- the history that pairs keep
 
-falling_entries : (pairs : MapPairs) → AllByRecursion (λ (e : ℕ × PageHist). IsDescending e.1) pairs → AllByRecursion (λ (x : Entry). IsDescending x.hist) (as_entries pairs)
+falling_entries : (pairs : MapPairs) → AllByRecursion (λ (e : ℕ × PageHist). IsDescending e.1) pairs
+    → AllByRecursion (λ (x : Entry). IsDescending x.hist) (as_entries pairs)
 falling_entries [] all = tt
 falling_entries (e ∷ pairs) all = (all.0, falling_entries pairs all.1)
 
@@ -164,14 +184,17 @@ pub get-kept : (pairs : MapPairs) (q : PageId) → get (kept pairs) q ≡ get (a
 get-kept pairs q = get-in_order (as_entries pairs) q
 
 -- what is found at a key is what the history says of its page
-pub find-kept : (key : ℕ) (pairs : MapPairs) → IsMapKey key → AreKept pairs → found key pairs ≡ get (kept pairs) (page_of_key key)
+pub find-kept : (key : ℕ) (pairs : MapPairs) → IsMapKey key → AreKept pairs
+    → found key pairs ≡ get (kept pairs) (page_of_key key)
 find-kept key pairs is are = find-get key pairs is are.are_keys ∙ sym (get-kept pairs (page_of_key key))
 
-pub differing : (pairs : MapPairs) → KeysAscend pairs → AreKeys pairs → PagesDiffer (as_entries pairs)
+pub differing : (pairs : MapPairs) → KeysAscend pairs → AreKeys pairs
+    → PagesDiffer (as_entries pairs)
 differing [] rising all = tt
 differing (e ∷ pairs) rising all = (sym (find-get e.0 pairs all.0 all.1) ∙ no_later e.0 pairs rising.0, differing pairs rising.1 all.1)
 
-pub permuted_kept : (pairs : MapPairs) → AreKept pairs → IsPermutation (as_entries pairs) (kept pairs)
+pub permuted_kept : (pairs : MapPairs) → AreKept pairs
+    → IsPermutation (as_entries pairs) (kept pairs)
 permuted_kept pairs are = permuted_in_order (as_entries pairs) (differing pairs are.keys_ascend are.are_keys)
 
 length_entries : (pairs : MapPairs) → length (as_entries pairs) ≡ length pairs
@@ -182,7 +205,8 @@ pub length_kept : (pairs : MapPairs) → AreKept pairs → length pairs ≡ leng
 length_kept pairs are = sym (length_permutation (as_entries pairs) (kept pairs) (permuted_kept pairs are) ∙ length_entries pairs)
 
 -- the pairs hold the references of their history
-told_differing : (es : List Entry) → PagesDiffer es → (p : PageId) → told (list_references_of es) p ≡ known_stamps (get es p)
+told_differing : (es : List Entry) → PagesDiffer es → (p : PageId)
+    → told (list_references_of es) p ≡ known_stamps (get es p)
 told_differing [] differ p = refl
 told_differing (e ∷ es) differ p =
     told-append (references_of_entry e) (list_references_of es) p
@@ -190,13 +214,17 @@ told_differing (e ∷ es) differ p =
     ∙ ap (λ ss. cond (is_eq (page_cmp e.page p)) (hist_stamps e.hist) [] ++ ss) (told_differing es differ.1 p)
     ∙ cases (is_eq (page_cmp e.page p)) refl
   where
-    cases : (b : Bool) → is_eq (page_cmp e.page p) ≡ b → cond (is_eq (page_cmp e.page p)) (hist_stamps e.hist) [] ++ known_stamps (get es p) ≡ known_stamps (cond (is_eq (page_cmp e.page p)) (Some e.hist) (get es p))
+    cases : (b : Bool) → is_eq (page_cmp e.page p) ≡ b
+        → cond (is_eq (page_cmp e.page p)) (hist_stamps e.hist) [] ++ known_stamps (get es p)
+        ≡ known_stamps (cond (is_eq (page_cmp e.page p)) (Some e.hist) (get es p))
     cases true here =
         let tied : e.page ≡ p = page_order.same e.page p (is_equal (page_cmp e.page p) here) in
         rw here (ap (λ x. hist_stamps e.hist ++ known_stamps x) (ap (get es) (sym tied) ∙ differ.0) ∙ append-nil (hist_stamps e.hist))
     cases false other = rw other refl
 
-pub hist-pairs : (pairs : MapPairs) → AreKept pairs → (p : PageId) → list_hist (list_references_of (as_entries pairs)) p ≡ list_hist (list_references_of (kept pairs)) p
+pub hist-pairs : (pairs : MapPairs) → AreKept pairs → (p : PageId)
+    → list_hist (list_references_of (as_entries pairs)) p
+    ≡ list_hist (list_references_of (kept pairs)) p
 hist-pairs pairs are p =
     ap (λ ss. first_two (distinct (flip_args stamp_cmp) ss)) (
     told_differing (as_entries pairs) (differing pairs are.keys_ascend are.are_keys) p
@@ -204,13 +232,16 @@ hist-pairs pairs are p =
     ∙ sym (told_refs (kept pairs) (in_order_rises (as_entries pairs)) p))
 
 -- so either may be taken in
-pub told_by_pairs : (S : List Reference) (pairs : MapPairs) → AreKept pairs → list_history (S ++ list_references_of (as_entries pairs)) ≡ list_history (S ++ list_references_of (kept pairs))
+pub told_by_pairs : (S : List Reference) (pairs : MapPairs) → AreKept pairs
+    → list_history (S ++ list_references_of (as_entries pairs))
+    ≡ list_history (S ++ list_references_of (kept pairs))
 told_by_pairs S pairs are = history_alike S S (list_references_of (as_entries pairs)) (list_references_of (kept pairs)) (λ p. refl) (hist-pairs pairs are)
 
 -- ---- an entry more is kept
 
 -- what is put at a key keeps the pairs as those of a history are
-pub kept_more : (old new : MapPairs) (p : ℕ) (h : PageHist) (ss : List Stamp) → IsMapKey p → AreKept old → Some h ≡ latest_of ss → new ≡ insert_entry nat_cmp old p h → AreKept new
+pub kept_more : (old new : MapPairs) (p : ℕ) (h : PageHist) (ss : List Stamp) → IsMapKey p
+    → AreKept old → Some h ≡ latest_of ss → new ≡ insert_entry nat_cmp old p h → AreKept new
 kept_more old new p h ss is are latest is_new = subst AreKept (sym is_new) (record {
   keys_ascend = rising_insert p h old are.keys_ascend;
   are_keys = keys_insert p h old is are.are_keys;
@@ -218,7 +249,13 @@ kept_more old new p h ss is are latest is_new = subst AreKept (sym is_new) (reco
 })
 
 -- new is the history of what old holds, with an entry more
-pub exact_pair : (old new : MapPairs) (p : ℕ) (more h : PageHist) (known : Option PageHist) → IsMapKey p → AreKept old → known ≡ found p old → Some h ≡ latest_of (hist_stamps more ++ known_stamps known) → new ≡ insert_entry nat_cmp old p h → kept new ≡ list_history (list_references_of (kept old) ++ references_of_entry (record { page = page_of_key p; hist = more }))
+pub exact_pair : (old new : MapPairs) (p : ℕ) (more h : PageHist) (known : Option PageHist)
+    → IsMapKey p → AreKept old → known ≡ found p old
+    → Some h ≡ latest_of (hist_stamps more ++ known_stamps known)
+    → new ≡ insert_entry nat_cmp old p h
+    → kept new ≡ list_history
+    (list_references_of (kept old)
+    ++ references_of_entry (record { page = page_of_key p; hist = more }))
 exact_pair old new p more h known is are is_known latest is_new =
     let e : Entry = record { page = page_of_key p; hist = more } in
     let whole = IsHistory-kept old are in
@@ -233,16 +270,20 @@ exact_pair old new p more h known is are is_known latest is_new =
 
 -- ---- a list of changes undone
 
-pub undone_last : (ks : List UndoNote) (k : UndoNote) (pairs : MapPairs) → undone (ks ++ k ∷ []) pairs ≡ undone ks (put_back (key_of_page k.page) k.hist pairs)
+pub undone_last : (ks : List UndoNote) (k : UndoNote) (pairs : MapPairs)
+    → undone (ks ++ k ∷ []) pairs ≡ undone ks (put_back (key_of_page k.page) k.hist pairs)
 undone_last [] k pairs = refl
 undone_last (x ∷ ks) k pairs = ap (put_back (key_of_page x.page) x.hist) (undone_last ks k pairs)
 
 -- a change is undone before those that were notes_of earlier
-pub undone_more : (ks : List UndoNote) (change : Option UndoNote) (k : UndoNote) (old new : MapPairs) → change ≡ Some k → undone (notes_of change) new ≡ old → undone (ks ++ k ∷ []) new ≡ undone ks old
+pub undone_more : (ks : List UndoNote) (change : Option UndoNote) (k : UndoNote)
+    (old new : MapPairs) → change ≡ Some k → undone (notes_of change) new ≡ old
+    → undone (ks ++ k ∷ []) new ≡ undone ks old
 undone_more ks change k old new is back = undone_last ks k new ∙ ap (undone ks) (ap (λ x. undone (notes_of x) new) (sym is) ∙ back)
 
 -- what was put in at a key is found there
-pub found_inserted : (p : ℕ) (h : PageHist) (pairs : MapPairs) → found p (insert_entry nat_cmp pairs p h) ≡ Some h
+pub found_inserted : (p : ℕ) (h : PageHist) (pairs : MapPairs)
+    → found p (insert_entry nat_cmp pairs p h) ≡ Some h
 found_inserted p h [] = let own : nat_cmp p p ≡ Equal = tied_itself nat_order.total p in rw own refl
 found_inserted p h (e ∷ pairs) = by_cases (nat_cmp p e.0) _
     (λ pe. let own : nat_cmp p p ≡ Equal = tied_itself nat_order.total p in rw pe (rw own refl))
@@ -251,7 +292,8 @@ found_inserted p h (e ∷ pairs) = by_cases (nat_cmp p e.0) _
 
 -- ---- steps of a loop
 
-pub left_more : {A : Type 0} (xs : List A) (i : ℕ) (x : A) → i < length xs → x ≡ get_or xs i x → drop i xs ≡ x ∷ drop (i + 1) xs
+pub left_more : {A : Type 0} (xs : List A) (i : ℕ) (x : A) → i < length xs → x ≡ get_or xs i x
+    → drop i xs ≡ x ∷ drop (i + 1) xs
 left_more xs i x lt is = rw add-one (drop-cons xs i x lt ∙ ap (λ t. t ∷ drop (suc i) xs) (sym is))
 
 pub none_left : {A : Type 0} (xs : List A) (i : ℕ) → length xs ≤ i → drop i xs ≡ []
@@ -264,11 +306,18 @@ as_it_is (Some x) = refl
 -- ---- the entries of a bucket
 
 -- pairs of which those between two keys are the ones of chosen pages
-pub between : (lo hi : Bound ℕ) (test : PageId → Bool) (pairs : MapPairs) → ((k : ℕ) → IsMapKey k → range_contains nat_cmp lo hi k ≡ test (page_of_key k)) → AreKeys pairs → as_entries (entries_between nat_cmp lo hi pairs) ≡ filter (λ x. test x.page) (as_entries pairs)
+pub between : (lo hi : Bound ℕ) (test : PageId → Bool) (pairs : MapPairs)
+    → ((k : ℕ) → IsMapKey k → range_contains nat_cmp lo hi k ≡ test (page_of_key k)) → AreKeys pairs
+    → as_entries (entries_between nat_cmp lo hi pairs)
+    ≡ filter (λ x. test x.page) (as_entries pairs)
 between lo hi test [] alike all = refl
 between lo hi test (e ∷ pairs) alike all = cases (test (page_of_key e.0)) refl (between lo hi test pairs alike all.1)
   where
-    cases : (b : Bool) → test (page_of_key e.0) ≡ b → as_entries (entries_between nat_cmp lo hi pairs) ≡ filter (λ x. test x.page) (as_entries pairs) → as_entries (entries_between nat_cmp lo hi (e ∷ pairs)) ≡ filter (λ x. test x.page) (as_entries (e ∷ pairs))
+    cases : (b : Bool) → test (page_of_key e.0) ≡ b
+        → as_entries (entries_between nat_cmp lo hi pairs)
+        ≡ filter (λ x. test x.page) (as_entries pairs)
+        → as_entries (entries_between nat_cmp lo hi (e ∷ pairs))
+        ≡ filter (λ x. test x.page) (as_entries (e ∷ pairs))
     cases true is later =
         let in_range : range_contains nat_cmp lo hi e.0 ≡ true = alike e.0 all.0 ∙ is in
         rw (in_range, is) (ap (λ t. record { page = page_of_key e.0; hist = e.1 } ∷ t) later)
@@ -277,25 +326,37 @@ between lo hi test (e ∷ pairs) alike all = cases (test (page_of_key e.0)) refl
         rw (out, is) later
 
 -- chosen pages of one bucket rise as their keys do
-module _ (bucket : ℕ) (test : PageId → Bool) (of_bucket : (p : PageId) → test p ≡ true → page_bucket p ≡ bucket) where
-  chosen_above : (k : ℕ) (pairs : MapPairs) → IsMapKey k → page_bucket (page_of_key k) ≡ bucket → AreAbove k pairs → AreKeys pairs → AllByRecursion (λ (x : Entry). page_cmp (page_of_key k) x.page ≡ Less) (filter (λ x. test x.page) (as_entries pairs))
+module _ (bucket : ℕ) (test : PageId → Bool)
+    (of_bucket : (p : PageId) → test p ≡ true → page_bucket p ≡ bucket) where
+  chosen_above : (k : ℕ) (pairs : MapPairs) → IsMapKey k → page_bucket (page_of_key k) ≡ bucket
+      → AreAbove k pairs → AreKeys pairs
+      → AllByRecursion (λ (x : Entry). page_cmp (page_of_key k) x.page ≡ Less)
+      (filter (λ x. test x.page) (as_entries pairs))
   chosen_above k [] is here above all = tt
   chosen_above k (e ∷ pairs) is here above all = cases (test (page_of_key e.0)) refl (chosen_above k pairs is here above.1 all.1)
     where
-      cases : (b : Bool) → test (page_of_key e.0) ≡ b → AllByRecursion (λ (x : Entry). page_cmp (page_of_key k) x.page ≡ Less) (filter (λ x. test x.page) (as_entries pairs)) → AllByRecursion (λ (x : Entry). page_cmp (page_of_key k) x.page ≡ Less) (filter (λ x. test x.page) (as_entries (e ∷ pairs)))
+      cases : (b : Bool) → test (page_of_key e.0) ≡ b
+          → AllByRecursion (λ (x : Entry). page_cmp (page_of_key k) x.page ≡ Less)
+          (filter (λ x. test x.page) (as_entries pairs))
+          → AllByRecursion (λ (x : Entry). page_cmp (page_of_key k) x.page ≡ Less)
+          (filter (λ x. test x.page) (as_entries (e ∷ pairs)))
       cases true passed later = rw passed (rising_pages k e.0 is all.0 (here ∙ sym (of_bucket (page_of_key e.0) passed)) above.0, later)
       cases false failed later = rw failed later
 
-  chosen_rise : (pairs : MapPairs) → KeysAscend pairs → AreKeys pairs → PagesAscend (filter (λ x. test x.page) (as_entries pairs))
+  chosen_rise : (pairs : MapPairs) → KeysAscend pairs → AreKeys pairs
+      → PagesAscend (filter (λ x. test x.page) (as_entries pairs))
   chosen_rise [] rising all = tt
   chosen_rise (e ∷ pairs) rising all = cases (test (page_of_key e.0)) refl (chosen_rise pairs rising.1 all.1)
     where
-      cases : (b : Bool) → test (page_of_key e.0) ≡ b → PagesAscend (filter (λ x. test x.page) (as_entries pairs)) → PagesAscend (filter (λ x. test x.page) (as_entries (e ∷ pairs)))
+      cases : (b : Bool) → test (page_of_key e.0) ≡ b
+          → PagesAscend (filter (λ x. test x.page) (as_entries pairs))
+          → PagesAscend (filter (λ x. test x.page) (as_entries (e ∷ pairs)))
       cases true passed later = rw passed (chosen_above e.0 pairs all.0 (of_bucket (page_of_key e.0) passed) rising.0 all.1, later)
       cases false failed later = rw failed later
 
   -- so the map has them as the history does
-  pub chosen_kept : (pairs : MapPairs) → AreKept pairs → filter (λ x. test x.page) (as_entries pairs) ≡ filter (λ x. test x.page) (kept pairs)
+  pub chosen_kept : (pairs : MapPairs) → AreKept pairs
+      → filter (λ x. test x.page) (as_entries pairs) ≡ filter (λ x. test x.page) (kept pairs)
   chosen_kept pairs are =
       same_gets (filter (λ (x : Entry). test x.page) (as_entries pairs)) (filter (λ (x : Entry). test x.page) (kept pairs))
       (chosen_rise pairs are.keys_ascend are.are_keys)

@@ -20,7 +20,8 @@ use Rattle.warm_history.proofs.NearParts.{full_inside}
 use Rattle.warm_history.proofs.RunPairs.{filled_joined, map_at-with}
 
 -- what holds of the keys of a run
-pub all_at : (P : ℕ → Type 0) (run : MapPairs) (key : ℕ) → AllByRecursion (λ (e : ℕ × PageHist). P e.0) run → IsSome (found key run) → P key
+pub all_at : (P : ℕ → Type 0) (run : MapPairs) (key : ℕ)
+    → AllByRecursion (λ (e : ℕ × PageHist). P e.0) run → IsSome (found key run) → P key
 all_at P [] key all some = let no : false ≡ true = some in absurd (cc)
 all_at P (e ∷ run) key all some = cases (is_eq (nat_cmp key e.0)) refl (all_at P run key all.1)
   where
@@ -30,22 +31,29 @@ all_at P (e ∷ run) key all some = cases (is_eq (nat_cmp key e.0)) refl (all_at
         subst P (sym same) all.0
     cases false away later = later (rw away at some)
 
-pub joined_all : (P : ℕ → Type 0) (old run : MapPairs) → AllByRecursion (λ (e : ℕ × PageHist). P e.0) run → AllByRecursion (λ (e : ℕ × PageHist). P e.0) (joined_pairs old run)
+pub joined_all : (P : ℕ → Type 0) (old run : MapPairs)
+    → AllByRecursion (λ (e : ℕ × PageHist). P e.0) run
+    → AllByRecursion (λ (e : ℕ × PageHist). P e.0) (joined_pairs old run)
 joined_all P old [] all = tt
 joined_all P old (e ∷ run) all = cases (joined_with e.1 (found e.0 old)) (joined_all P old run all.1)
   where
-    cases : (o : Option PageHist) → AllByRecursion (λ (x : ℕ × PageHist). P x.0) (joined_pairs old run) → AllByRecursion (λ (x : ℕ × PageHist). P x.0) (at_key e.0 o ++ joined_pairs old run)
+    cases : (o : Option PageHist)
+        → AllByRecursion (λ (x : ℕ × PageHist). P x.0) (joined_pairs old run)
+        → AllByRecursion (λ (x : ℕ × PageHist). P x.0) (at_key e.0 o ++ joined_pairs old run)
     cases None rest = rest
     cases (Some h) rest = (all.0, rest)
 
 -- what a run makes of the pairs of its bucket it makes of all pairs
-joined_own : (b i : ℕ) (ms : List MapPairs) (run : MapPairs) → AreBuckets b ms → AllIn (b + i) run → joined_pairs (all_pairs ms) run ≡ joined_pairs (map_at ms i) run
+joined_own : (b i : ℕ) (ms : List MapPairs) (run : MapPairs) → AreBuckets b ms → AllIn (b + i) run
+    → joined_pairs (all_pairs ms) run ≡ joined_pairs (map_at ms i) run
 joined_own b i ms [] are all = refl
 joined_own b i ms (e ∷ run) are all =
     ap (λ x. at_key e.0 (joined_with e.1 x) ++ joined_pairs (all_pairs ms) run) (find_joined b i e.0 ms are all.0)
     ∙ ap (λ t. at_key e.0 (joined_with e.1 (found e.0 (map_at ms i))) ++ t) (joined_own b i ms run are all.1)
 
-merged_joined : (i : ℕ) (ms : List MapPairs) (run : MapPairs) → AreBuckets 0 ms → i < length ms → AllIn (0 + i) run → AllIn (0 + i) (map_at ms i) → all_pairs (with_map ms i (merged (map_at ms i) run)) ≡ merged (all_pairs ms) run
+merged_joined : (i : ℕ) (ms : List MapPairs) (run : MapPairs) → AreBuckets 0 ms → i < length ms
+    → AllIn (0 + i) run → AllIn (0 + i) (map_at ms i)
+    → all_pairs (with_map ms i (merged (map_at ms i) run)) ≡ merged (all_pairs ms) run
 merged_joined i ms run are there inside own =
     sym (ap (with_pairs (all_pairs ms)) (joined_own 0 i ms run are inside)
     ∙ filled_joined 0 i ms (joined_pairs (map_at ms i) run) are there (joined_all (LiesIn (0 + i)) (map_at ms i) run inside) own)
@@ -54,7 +62,9 @@ merged_joined i ms run are there inside own =
 in_own : (i : ℕ) (pairs : MapPairs) → AllIn i pairs → AllIn (0 + i) pairs
 in_own i pairs inside = let same : i ≡ 0 + i = omega arith in subst (λ k. AllIn k pairs) same inside
 
-differs_joined : (i : ℕ) (ms : List MapPairs) (run n : MapPairs) → AreBuckets 0 ms → i < length ms → AllIn (0 + i) run → AllIn (0 + i) n → DiffersAt run (map_at ms i) n → DiffersAt run (all_pairs ms) (all_pairs (with_map ms i n))
+differs_joined : (i : ℕ) (ms : List MapPairs) (run n : MapPairs) → AreBuckets 0 ms → i < length ms
+    → AllIn (0 + i) run → AllIn (0 + i) n → DiffersAt run (map_at ms i) n
+    → DiffersAt run (all_pairs ms) (all_pairs (with_map ms i n))
 differs_joined i ms run n are there inside new differs =
     let key : ℕ = differs.0 in
     let lies : LiesIn (0 + i) key = all_at (LiesIn (0 + i)) run key inside differs.1 in
@@ -64,7 +74,10 @@ differs_joined i ms run n are there inside new differs =
 
 -- ---- the maps, with one in its place that a run was merged with
 
-pub merged_in_own : {A E : Type 0} (r : Result A E) (i : ℕ) (d n : BucketMap) (ms : List BucketMap) (run old : MapPairs) → AreMapsOf 0 ms → i < length ms → AllIn i run → all_pairs (fulls 0 ms) ≡ old → OnOk r (full i n ≡ merged (full i (get_or ms i d)) run) → OnOk r (all_with ms i n ≡ merged old run)
+pub merged_in_own : {A E : Type 0} (r : Result A E) (i : ℕ) (d n : BucketMap) (ms : List BucketMap)
+    (run old : MapPairs) → AreMapsOf 0 ms → i < length ms → AllIn i run
+    → all_pairs (fulls 0 ms) ≡ old → OnOk r (full i n ≡ merged (full i (get_or ms i d)) run)
+    → OnOk r (all_with ms i n ≡ merged old run)
 merged_in_own (Err e) i d n ms run old are there inside view ok = tt
 merged_in_own (Ok a) i d n ms run old are there inside view ok =
     let fs : List MapPairs = fulls 0 ms in
@@ -76,8 +89,11 @@ merged_in_own (Ok a) i d n ms run old are there inside view ok =
     ∙ merged_joined i fs run buckets few (in_own i run inside) (bucket_in 0 i fs buckets)
     ∙ ap (λ t. merged t run) view
 
-pub tells_in_own : {E : Type 0} (r : Result Bool E) (i : ℕ) (d n : BucketMap) (ms : List BucketMap) (run old : MapPairs) → AreMapsOf 0 ms → i < length ms → AllIn i run → IsMapOf i n → all_pairs (fulls 0 ms) ≡ old
-    → IfOk r (λ changed. TellsChange changed run (full i (get_or ms i d)) (full i n)) → IfOk r (λ changed. TellsChange changed run old (all_with ms i n))
+pub tells_in_own : {E : Type 0} (r : Result Bool E) (i : ℕ) (d n : BucketMap) (ms : List BucketMap)
+    (run old : MapPairs) → AreMapsOf 0 ms → i < length ms → AllIn i run → IsMapOf i n
+    → all_pairs (fulls 0 ms) ≡ old
+    → IfOk r (λ changed. TellsChange changed run (full i (get_or ms i d)) (full i n))
+    → IfOk r (λ changed. TellsChange changed run old (all_with ms i n))
 tells_in_own (Err e) i d n ms run old are there inside is view tells = tt
 tells_in_own (Ok b) i d n ms run old are there inside is view tells =
     let fs : List MapPairs = fulls 0 ms in

@@ -45,17 +45,20 @@ page_near b k fits =
     λ i. record { dev = dev i; no = no i }
 
 -- what the bucket and the near key determine is the page
-pub near_again : (p : PageId) → p.dev < 64 → p.no < 18446744073709551616 → near_page (page_bucket p) (near_key p) ≡ p
+pub near_again : (p : PageId) → p.dev < 64 → p.no < 18446744073709551616
+    → near_page (page_bucket p) (near_key p) ≡ p
 near_again p low fits =
     let q = near_page (page_bucket p) (near_key p) in
     let dev : q.dev ≡ p.dev = omega arith in
     let no : q.no ≡ p.no = omega arith in
     λ i. record { dev = dev i; no = no i }
 
-pub full_near : (p : PageId) → p.dev < 64 → p.no < 18446744073709551616 → full_key (page_bucket p) (near_key p) ≡ key_of_page p
+pub full_near : (p : PageId) → p.dev < 64 → p.no < 18446744073709551616
+    → full_key (page_bucket p) (near_key p) ≡ key_of_page p
 full_near p low fits = ap (key_in (page_bucket p)) (near_again p low fits)
 
-pub near_fits : (p : PageId) → p.dev < 64 → p.no < 18446744073709551616 → near_key p < 18446744073709551616
+pub near_fits : (p : PageId) → p.dev < 64 → p.no < 18446744073709551616
+    → near_key p < 18446744073709551616
 near_fits p low fits = omega arith
 
 -- where the keys of a bucket lie
@@ -70,11 +73,13 @@ far_inside b k far =
     let from : first_far_key b ≤ k = far.0 in
     (omega arith, far.1)
 
-pub key_far : (p : PageId) → 64 ≤ p.dev → p.dev < 65536 → p.no < 18446744073709551616 → IsFar (page_bucket p) (key_of_page p)
+pub key_far : (p : PageId) → 64 ≤ p.dev → p.dev < 65536 → p.no < 18446744073709551616
+    → IsFar (page_bucket p) (key_of_page p)
 key_far p high dev fits = (omega arith, omega arith)
 
 -- the page of a page's key
-pub page_back : (p : PageId) → p.dev < 65536 → p.no < 18446744073709551616 → page_of_key (key_of_page p) ≡ p
+pub page_back : (p : PageId) → p.dev < 65536 → p.no < 18446744073709551616
+    → page_of_key (key_of_page p) ≡ p
 page_back p low fits =
     let dev : key_of_page p / 18446744073709551616 % 65536 ≡ p.dev = omega arith in
     let no : key_of_page p % 18446744073709551616 ≡ p.no = omega arith in
@@ -83,13 +88,15 @@ page_back p low fits =
 pub page_key : (p : PageId) → p.dev < 65536 → p.no < 18446744073709551616 → IsMapKey (key_of_page p)
 page_key p low fits = ap key_of_page (page_back p low fits)
 
-pub own_bucket_of : (p : PageId) → p.dev < 65536 → p.no < 18446744073709551616 → LiesIn (page_bucket p) (key_of_page p)
+pub own_bucket_of : (p : PageId) → p.dev < 65536 → p.no < 18446744073709551616
+    → LiesIn (page_bucket p) (key_of_page p)
 own_bucket_of p low fits = (omega arith, omega arith)
 
 -- ---- which near keys come after a page
 
 -- the page of a greater near key, and of a lesser one
-module _ (b : ℕ) (last : PageId) (k : ℕ) (low : last.dev < 64) (fits : last.no < 18446744073709551616) where
+module _ (b : ℕ) (last : PageId) (k : ℕ) (low : last.dev < 64)
+    (fits : last.no < 18446744073709551616) where
   later_near : near_key last < k → page_cmp last (near_page b k) ≡ Less
   later_near less = by_cases (nat_cmp last.dev (near_page b k).dev) _
       (λ lower. rw lower refl)
@@ -113,7 +120,9 @@ module _ (b : ℕ) (last : PageId) (k : ℕ) (low : last.dev < 64) (fits : last.
       (λ more. rw more refl)
 
 -- that of the same near key
-own_before : (b : ℕ) (last : PageId) → last.dev < 64 → last.no < 18446744073709551616 → (near_page b (near_key last)).no ≤ last.no → is_lt (page_cmp last (near_page b (near_key last))) ≡ false
+own_before : (b : ℕ) (last : PageId) → last.dev < 64 → last.no < 18446744073709551616
+    → (near_page b (near_key last)).no ≤ last.no
+    → is_lt (page_cmp last (near_page b (near_key last))) ≡ false
 own_before b last low fits before =
     let q = near_page b (near_key last) in
     let dev : last.dev ≡ q.dev = omega arith in
@@ -123,7 +132,9 @@ own_before b last low fits before =
     (λ even. rw (tied, even) refl)
     (λ more. rw (tied, more) refl)
 
-own_after : (b : ℕ) (last : PageId) → last.dev < 64 → last.no < 18446744073709551616 → last.no < (near_page b (near_key last)).no → is_lt (page_cmp last (near_page b (near_key last))) ≡ true
+own_after : (b : ℕ) (last : PageId) → last.dev < 64 → last.no < 18446744073709551616
+    → last.no < (near_page b (near_key last)).no
+    → is_lt (page_cmp last (near_page b (near_key last))) ≡ true
 own_after b last low fits after =
     let q = near_page b (near_key last) in
     let dev : last.dev ≡ q.dev = omega arith in
@@ -131,7 +142,9 @@ own_after b last low fits after =
     let less : nat_cmp last.no q.no ≡ Less = sym (nat_cmp_is last.no q.no Less after) in
     rw (tied, less) refl
 
-pub past_near : (b : ℕ) (last : PageId) (k : ℕ) → last.dev < 64 → last.no < 18446744073709551616 → (near_page b (near_key last)).no ≤ last.no → is_lt (nat_cmp (near_key last) k) ≡ is_lt (page_cmp last (near_page b k))
+pub past_near : (b : ℕ) (last : PageId) (k : ℕ) → last.dev < 64 → last.no < 18446744073709551616
+    → (near_page b (near_key last)).no ≤ last.no
+    → is_lt (nat_cmp (near_key last) k) ≡ is_lt (page_cmp last (near_page b k))
 past_near b last k low fits before = by_cases (nat_cmp (near_key last) k) _
     (λ less. rw (less, later_near b last k low fits (ranked (near_key last) k Less (sym less))) refl)
     (λ tied.
@@ -139,7 +152,9 @@ past_near b last k low fits before = by_cases (nat_cmp (near_key last) k) _
     ap is_lt tied ∙ sym (own_before b last low fits before) ∙ ap (λ j. is_lt (page_cmp last (near_page b j))) same)
     (λ more. rw (more, earlier_near b last k low fits (ranked (near_key last) k Greater (sym more))) refl)
 
-pub from_near : (b : ℕ) (last : PageId) (k : ℕ) → last.dev < 64 → last.no < 18446744073709551616 → last.no < (near_page b (near_key last)).no → is_le (nat_cmp (near_key last) k) ≡ is_lt (page_cmp last (near_page b k))
+pub from_near : (b : ℕ) (last : PageId) (k : ℕ) → last.dev < 64 → last.no < 18446744073709551616
+    → last.no < (near_page b (near_key last)).no
+    → is_le (nat_cmp (near_key last) k) ≡ is_lt (page_cmp last (near_page b k))
 from_near b last k low fits after = by_cases (nat_cmp (near_key last) k) _
     (λ less. rw (less, later_near b last k low fits (ranked (near_key last) k Less (sym less))) refl)
     (λ tied.
@@ -148,7 +163,8 @@ from_near b last k low fits after = by_cases (nat_cmp (near_key last) k) _
     (λ more. rw (more, earlier_near b last k low fits (ranked (near_key last) k Greater (sym more))) refl)
 
 -- pages of other devices come after those of near ones
-pub far_after : (b : ℕ) (last : PageId) (k : ℕ) → last.dev < 64 → IsFar b k → is_lt (page_cmp last (page_of_key k)) ≡ true
+pub far_after : (b : ℕ) (last : PageId) (k : ℕ) → last.dev < 64 → IsFar b k
+    → is_lt (page_cmp last (page_of_key k)) ≡ true
 far_after b last k low far =
     let from : first_far_key b ≤ k = far.0 in
     let to : k < first_key (b + 1) = far.1 in
@@ -156,14 +172,16 @@ far_after b last k low far =
     let is : nat_cmp last.dev (page_of_key k).dev ≡ Less = sym (nat_cmp_is last.dev (page_of_key k).dev Less less) in
     rw is refl
 
-pub near_before : (b : ℕ) (last : PageId) (k : ℕ) → 64 ≤ last.dev → k < 18446744073709551616 → is_lt (page_cmp last (near_page b k)) ≡ false
+pub near_before : (b : ℕ) (last : PageId) (k : ℕ) → 64 ≤ last.dev → k < 18446744073709551616
+    → is_lt (page_cmp last (near_page b k)) ≡ false
 near_before b last k high fits =
     let more : (near_page b k).dev < last.dev = omega arith in
     let is : nat_cmp last.dev (near_page b k).dev ≡ Greater = sym (nat_cmp_is last.dev (near_page b k).dev Greater more) in
     rw is refl
 
 -- in page order among themselves
-pub past_far : (b : ℕ) (last : PageId) (k : ℕ) → last.no < 18446744073709551616 → IsFar b k → is_lt (nat_cmp (key_in b last) k) ≡ is_lt (page_cmp last (page_of_key k))
+pub past_far : (b : ℕ) (last : PageId) (k : ℕ) → last.no < 18446744073709551616 → IsFar b k
+    → is_lt (nat_cmp (key_in b last) k) ≡ is_lt (page_cmp last (page_of_key k))
 past_far b last k fits far =
     let from : first_far_key b ≤ k = far.0 in
     let to : k < first_key (b + 1) = far.1 in

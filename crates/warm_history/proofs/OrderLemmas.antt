@@ -16,14 +16,16 @@ use Rattle.warm_history.specs.MapPairs.{put_in, in_page_order}
 use Rattle.warm_history.proofs.ListHistoryLemmas.{get, either_way, AllAbove, above_less}
 
 -- two pages that both equal a third are equal
-pub both_same : (p q r : PageId) → is_eq (page_cmp p r) ≡ true → is_eq (page_cmp q r) ≡ true → page_cmp p q ≡ Equal
+pub both_same : (p q r : PageId) → is_eq (page_cmp p r) ≡ true → is_eq (page_cmp q r) ≡ true
+    → page_cmp p q ≡ Equal
 both_same p q r first second =
     let here : p ≡ r = page_order.same p r (is_equal (page_cmp p r) first) in
     let there : q ≡ r = page_order.same q r (is_equal (page_cmp q r) second) in
     ap (page_cmp p) (there ∙ sym here) ∙ tied_itself page_order.total p
 
 -- what two entries, in either order, hold of a page, where they aren't of one page
-pub either_first : {A : Type 0} (a b : Bool) (x y z : A) → (a ≡ true → b ≡ true → x ≡ y) → cond a x (cond b y z) ≡ cond b y (cond a x z)
+pub either_first : {A : Type 0} (a b : Bool) (x y z : A) → (a ≡ true → b ≡ true → x ≡ y)
+    → cond a x (cond b y z) ≡ cond b y (cond a x z)
 either_first true true x y z same = same refl refl
 either_first true false x y z same = refl
 either_first false true x y z same = refl
@@ -34,7 +36,8 @@ covered true b x y z same = refl
 covered false true x y z same = absurd (cc)
 covered false false x y z same = refl
 
-pub get-put_in : (e : Entry) (h : List Entry) (q : PageId) → get (put_in e h) q ≡ cond (is_eq (page_cmp e.page q)) (Some e.hist) (get h q)
+pub get-put_in : (e : Entry) (h : List Entry) (q : PageId)
+    → get (put_in e h) q ≡ cond (is_eq (page_cmp e.page q)) (Some e.hist) (get h q)
 get-put_in e [] q = refl
 get-put_in e (x ∷ h) q = by_cases (page_cmp e.page x.page) _
     (λ less. rw less refl)
@@ -52,7 +55,8 @@ get-in_order (e ∷ es) q = get-put_in e (in_page_order es) q ∙ ap (cond (is_e
 
 -- ---- the order
 
-above_put_in : (p : PageId) (e : Entry) (h : List Entry) → page_cmp p e.page ≡ Less → AllAbove p h → AllAbove p (put_in e h)
+above_put_in : (p : PageId) (e : Entry) (h : List Entry) → page_cmp p e.page ≡ Less → AllAbove p h
+    → AllAbove p (put_in e h)
 above_put_in p e [] less all = (less, tt)
 above_put_in p e (x ∷ h) less all = by_cases (page_cmp e.page x.page) _
     (λ ex. rw ex (less, all))
@@ -70,24 +74,29 @@ pub in_order_rises : (es : List Entry) → PagesAscend (in_page_order es)
 in_order_rises [] = tt
 in_order_rises (e ∷ es) = rising_put_in e (in_page_order es) (in_order_rises es)
 
-falling_put_in : (e : Entry) (h : List Entry) → IsDescending e.hist → AllByRecursion (λ (x : Entry). IsDescending x.hist) h → AllByRecursion (λ (x : Entry). IsDescending x.hist) (put_in e h)
+falling_put_in : (e : Entry) (h : List Entry) → IsDescending e.hist
+    → AllByRecursion (λ (x : Entry). IsDescending x.hist) h
+    → AllByRecursion (λ (x : Entry). IsDescending x.hist) (put_in e h)
 falling_put_in e [] fall all = (fall, tt)
 falling_put_in e (x ∷ h) fall all = by_cases (page_cmp e.page x.page) _
     (λ ex. rw ex (fall, all))
     (λ ex. rw ex (fall, all.1))
     (λ ex. rw ex (all.0, falling_put_in e h fall all.1))
 
-falling_in_order : (es : List Entry) → AllByRecursion (λ (x : Entry). IsDescending x.hist) es → AllByRecursion (λ (x : Entry). IsDescending x.hist) (in_page_order es)
+falling_in_order : (es : List Entry) → AllByRecursion (λ (x : Entry). IsDescending x.hist) es
+    → AllByRecursion (λ (x : Entry). IsDescending x.hist) (in_page_order es)
 falling_in_order [] all = tt
 falling_in_order (e ∷ es) all = falling_put_in e (in_page_order es) all.0 (falling_in_order es all.1)
 
 -- entries whose stamps fall are a history once they are in page order
-pub IsHistory-in_order : (es : List Entry) → AllByRecursion (λ (x : Entry). IsDescending x.hist) es → IsListHistory (in_page_order es)
+pub IsHistory-in_order : (es : List Entry) → AllByRecursion (λ (x : Entry). IsDescending x.hist) es
+    → IsListHistory (in_page_order es)
 IsHistory-in_order es all = record { pages_ascend = in_order_rises es; stamps_descend = falling_in_order es all }
 
 -- ---- the same entries
 
-permuted_put_in : (e : Entry) (h : List Entry) → get h e.page ≡ None → IsPermutation (e ∷ h) (put_in e h)
+permuted_put_in : (e : Entry) (h : List Entry) → get h e.page ≡ None
+    → IsPermutation (e ∷ h) (put_in e h)
 permuted_put_in e [] none = IsPermutation-refl (e ∷ [])
 permuted_put_in e (x ∷ h) none = by_cases (page_cmp e.page x.page) _
     (λ ex. rw ex (IsPermutation-refl (e ∷ x ∷ h)))
@@ -117,11 +126,16 @@ permuted_in_order (e ∷ es) differ = IsPermutation-trans (e ∷ es) (e ∷ in_p
 
 -- ---- entries of chosen pages
 
-pub get-filter : (test : PageId → Bool) (h : List Entry) (q : PageId) → get (filter (λ e. test e.page) h) q ≡ cond (test q) (get h q) None
+pub get-filter : (test : PageId → Bool) (h : List Entry) (q : PageId)
+    → get (filter (λ e. test e.page) h) q ≡ cond (test q) (get h q) None
 get-filter test [] q = sym (either_way (test q) None)
 get-filter test (e ∷ h) q = cases (test e.page) (is_eq (page_cmp e.page q)) refl refl (get-filter test h q)
   where
-    cases : (t b : Bool) → test e.page ≡ t → is_eq (page_cmp e.page q) ≡ b → get (filter (λ (x : Entry). test x.page) h) q ≡ cond (test q) (get h q) None → get (cond (test e.page) (e ∷ filter (λ (x : Entry). test x.page) h) (filter (λ (x : Entry). test x.page) h)) q ≡ cond (test q) (cond (is_eq (page_cmp e.page q)) (Some e.hist) (get h q)) None
+    cases : (t b : Bool) → test e.page ≡ t → is_eq (page_cmp e.page q) ≡ b
+        → get (filter (λ (x : Entry). test x.page) h) q ≡ cond (test q) (get h q) None
+        → get (cond (test e.page) (e ∷ filter (λ (x : Entry). test x.page) h)
+        (filter (λ (x : Entry). test x.page) h)) q
+        ≡ cond (test q) (cond (is_eq (page_cmp e.page q)) (Some e.hist) (get h q)) None
     cases true true is here rest =
         let same : e.page ≡ q = page_order.same e.page q (is_equal (page_cmp e.page q) here) in
         let passed : test q ≡ true = ap test (sym same) ∙ is in

@@ -6,9 +6,12 @@ use Rattle.warm_history.specs.declared.hist.PageHist.TheVariants.{Once, Twice}
 use Rattle.warm_history.specs.PackedHists.{unpacked}
 
 -- where the second stamp has a replica, both stamps are there
-pub two_unpacked : (last prev : Stamp) → prev.replica ≢ 0 → unpacked last prev ≡ Twice (record { last = last; prev = prev })
+pub two_unpacked : (last prev : Stamp) → prev.replica ≢ 0
+    → unpacked last prev ≡ Twice (record { last = last; prev = prev })
 two_unpacked last prev some = cases (prev.replica == 0) refl
   where
-    cases : (b : Bool) → (prev.replica == 0) ≡ b → cond b (Once last) (Twice (record { last = last; prev = prev })) ≡ Twice (record { last = last; prev = prev })
+    cases : (b : Bool) → (prev.replica == 0) ≡ b
+        → cond b (Once last) (Twice (record { last = last; prev = prev }))
+        ≡ Twice (record { last = last; prev = prev })
     cases true is = absurd (some (eqb-true prev.replica 0 is))
     cases false is = refl

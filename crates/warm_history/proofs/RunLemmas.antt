@@ -38,18 +38,23 @@ use Rattle.std.specs.Option.{option_or}
 
 -- ---- the stamps that a horizon leaves
 
-two_left : (a b : Bool) (x y : Stamp) → known_stamps (first_two (cond a (x ∷ cond b (y ∷ []) []) (cond b (y ∷ []) []))) ≡ cond a (x ∷ cond b (y ∷ []) []) (cond b (y ∷ []) [])
+two_left : (a b : Bool) (x y : Stamp)
+    → known_stamps (first_two (cond a (x ∷ cond b (y ∷ []) []) (cond b (y ∷ []) [])))
+    ≡ cond a (x ∷ cond b (y ∷ []) []) (cond b (y ∷ []) [])
 two_left true true x y = refl
 two_left true false x y = refl
 two_left false true x y = refl
 two_left false false x y = refl
 
-one_left : (a : Bool) (x : Stamp) → known_stamps (first_two (cond a (x ∷ []) [])) ≡ cond a (x ∷ []) []
+one_left : (a : Bool) (x : Stamp)
+    → known_stamps (first_two (cond a (x ∷ []) [])) ≡ cond a (x ∷ []) []
 one_left true x = refl
 one_left false x = refl
 
 -- they are those of a page's history, if any is left
-held_left : (m : ℕ) (h : PageHist) → known_stamps (first_two (filter (is_kept m) (hist_stamps h))) ≡ filter (is_kept m) (hist_stamps h)
+held_left : (m : ℕ) (h : PageHist)
+    → known_stamps (first_two (filter (is_kept m) (hist_stamps h)))
+    ≡ filter (is_kept m) (hist_stamps h)
 held_left m (Once last) = one_left (is_kept m last) last
 held_left m (Twice two) = two_left (is_kept m two.last) (is_kept m two.prev) two.last two.prev
 
@@ -65,26 +70,31 @@ first_some : (s : Stamp) (ss : List Stamp) → (k : PageHist) × (Some k ≡ fir
 first_some s [] = (Once s, refl)
 first_some s (t ∷ ss) = (Twice (record { last = s; prev = t }), refl)
 
-put_some : (s : Stamp) (ss : List Stamp) → (k : PageHist) × (Some k ≡ first_two (insert_distinct (flip_args stamp_cmp) s ss))
+put_some : (s : Stamp) (ss : List Stamp)
+    → (k : PageHist) × (Some k ≡ first_two (insert_distinct (flip_args stamp_cmp) s ss))
 put_some s [] = (Once s, refl)
 put_some s (t ∷ ss) = by_cases (stamp_cmp t s) _
     (λ less. let some = first_some s (t ∷ ss) in rw less some)
     (λ tied. let some = first_some t ss in rw tied some)
     (λ more. let some = first_some t (insert_distinct (flip_args stamp_cmp) s ss) in rw more some)
 
-pub some_joined : (h : PageHist) (ss : List Stamp) → (k : PageHist) × (Some k ≡ latest_of (hist_stamps h ++ ss))
+pub some_joined : (h : PageHist) (ss : List Stamp)
+    → (k : PageHist) × (Some k ≡ latest_of (hist_stamps h ++ ss))
 some_joined (Once last) ss = put_some last (distinct (flip_args stamp_cmp) ss)
 some_joined (Twice two) ss = put_some two.last (distinct (flip_args stamp_cmp) (two.prev ∷ ss))
 
 -- ---- one entry more
 
 -- what is found at a key below those of a run is found still
-pub found_under : (p : ℕ) (old run : MapPairs) → AreAbove p run → found p (merged old run) ≡ found p old
+pub found_under : (p : ℕ) (old run : MapPairs) → AreAbove p run
+    → found p (merged old run) ≡ found p old
 found_under p old run above =
     found_with p old (joined_pairs old run)
     ∙ ap (λ x. option_or x (found p old)) (no_later p (joined_pairs old run) (joined_all (λ k. nat_cmp p k ≡ Less) old run above))
 
-takes_first : (m : ℕ) (old mid new : MapPairs) (e : Entry) (es : List Entry) → page_of_key (key_of_page e.page) ≡ e.page → TakesEntries m old es mid → TakesRecent m mid (key_of_page e.page) e.hist new → TakesEntries m old (e ∷ es) new
+takes_first : (m : ℕ) (old mid new : MapPairs) (e : Entry) (es : List Entry)
+    → page_of_key (key_of_page e.page) ≡ e.page → TakesEntries m old es mid
+    → TakesRecent m mid (key_of_page e.page) e.hist new → TakesEntries m old (e ∷ es) new
 takes_first m old mid new e es back exact takes =
     let S = list_references_of (kept old) in
     let A = references_from m (references_of_entry e) in
@@ -101,7 +111,8 @@ takes_first m old mid new e es back exact takes =
 -- ---- a run
 
 -- what is taken in of entries of one bucket
-pub record TakesRun (m number : ℕ) (old : MapPairs) (es : List Entry) (new : MapPairs) : Type 0 where
+pub record TakesRun (m number : ℕ) (old : MapPairs) (es : List Entry)
+    (new : MapPairs) : Type 0 where
   pub whole : AreKept new
   pub exact : TakesEntries m old es new
   pub others : (bucket : ℕ) → bucket ≢ number → SameInBucket bucket (kept old) (kept new)
@@ -109,8 +120,12 @@ pub record TakesRun (m number : ℕ) (old : MapPairs) (es : List Entry) (new : M
 pub bucket_is : (number p : ℕ) → IsMapKey p → LiesIn number p → page_bucket (page_of_key p) ≡ number
 bucket_is number p is lies = own_bucket p is ∙ sym (lies_in number p lies.0 lies.1)
 
-adds : (m number : ℕ) (old mid : MapPairs) (e : Entry) (es : List Entry) (more h k : PageHist) → page_of_key (key_of_page e.page) ≡ e.page → LiesIn number (key_of_page e.page) → hist_stamps more ≡ filter (is_kept m) (hist_stamps e.hist) → Some h ≡ latest_of (hist_stamps more)
-    → Some k ≡ joined_with h (found (key_of_page e.page) mid) → TakesRun m number old es mid → TakesRun m number old (e ∷ es) (insert_entry nat_cmp mid (key_of_page e.page) k)
+adds : (m number : ℕ) (old mid : MapPairs) (e : Entry) (es : List Entry) (more h k : PageHist)
+    → page_of_key (key_of_page e.page) ≡ e.page → LiesIn number (key_of_page e.page)
+    → hist_stamps more ≡ filter (is_kept m) (hist_stamps e.hist)
+    → Some h ≡ latest_of (hist_stamps more)
+    → Some k ≡ joined_with h (found (key_of_page e.page) mid) → TakesRun m number old es mid
+    → TakesRun m number old (e ∷ es) (insert_entry nat_cmp mid (key_of_page e.page) k)
 adds m number old mid e es more h k back lies stamps latest joins run =
     let p = key_of_page e.page in
     let known = found p mid in
@@ -128,14 +143,18 @@ adds m number old mid e es more h k back lies stamps latest joins run =
       others = λ bucket other. others_stay (kept mid) (kept new) (record { page = page_of_key p; hist = more }) bucket (IsHistory-kept mid run.whole) (IsHistory-kept new whole).pages_ascend exact (λ same. other (sym same ∙ bucket_is number p is lies)) ∙ run.others bucket other;
     }
 
-passes : (m number : ℕ) (old mid : MapPairs) (e : Entry) (es : List Entry) → page_of_key (key_of_page e.page) ≡ e.page → [] ≡ filter (is_kept m) (hist_stamps e.hist) → TakesRun m number old es mid → TakesRun m number old (e ∷ es) mid
+passes : (m number : ℕ) (old mid : MapPairs) (e : Entry) (es : List Entry)
+    → page_of_key (key_of_page e.page) ≡ e.page → [] ≡ filter (is_kept m) (hist_stamps e.hist)
+    → TakesRun m number old es mid → TakesRun m number old (e ∷ es) mid
 passes m number old mid e es back none run = record {
   whole = run.whole;
   exact = takes_first m old mid mid e es back run.exact (takes_none m mid (key_of_page e.page) e.hist run.whole none);
   others = run.others;
 }
 
-pub takes_run : (m number from : ℕ) (old : MapPairs) (es : List Entry) → AreKept old → first_key number ≤ from → RiseWithin from (first_far_key number) es → TakesRun m number old es (merged old (run_pairs m es))
+pub takes_run : (m number from : ℕ) (old : MapPairs) (es : List Entry) → AreKept old
+    → first_key number ≤ from → RiseWithin from (first_far_key number) es
+    → TakesRun m number old es (merged old (run_pairs m es))
 takes_run m number from old [] are begins rise = record {
   whole = are;
   exact = sym (history_of_own_references (kept old) (IsHistory-kept old are)) ∙ ap list_history (sym (append-nil (list_references_of (kept old))));
@@ -153,8 +172,13 @@ takes_run m number from old (e ∷ es) are begins rise =
     mid : MapPairs
     mid = merged old (run_pairs m es)
 
-    cases : (r : Option PageHist) → known_stamps r ≡ filter (is_kept m) (hist_stamps e.hist) → LiesIn number (key_of_page e.page) → found (key_of_page e.page) mid ≡ found (key_of_page e.page) old → TakesRun m number old es mid
-        → TakesRun m number old (e ∷ es) (merged old (at_key (key_of_page e.page) (latest_of (filter (is_kept m) (hist_stamps e.hist))) ++ run_pairs m es))
+    cases : (r : Option PageHist) → known_stamps r ≡ filter (is_kept m) (hist_stamps e.hist)
+        → LiesIn number (key_of_page e.page)
+        → found (key_of_page e.page) mid ≡ found (key_of_page e.page) old
+        → TakesRun m number old es mid
+        → TakesRun m number old (e ∷ es)
+        (merged old (at_key (key_of_page e.page)
+        (latest_of (filter (is_kept m) (hist_stamps e.hist))) ++ run_pairs m es))
     cases None stamps lies same run = subst (λ ss. TakesRun m number old (e ∷ es) (merged old (at_key (key_of_page e.page) (latest_of ss) ++ run_pairs m es))) stamps (passes m number old mid e es rise.2 stamps run)
     cases (Some more) stamps lies same run =
         let p = key_of_page e.page in
@@ -168,7 +192,8 @@ takes_run m number from old (e ∷ es) are begins rise =
 
 -- ---- the values of a run
 
-latest_again : (ss : List Stamp) (h : PageHist) → latest_of ss ≡ Some h → joined_with h None ≡ Some h
+latest_again : (ss : List Stamp) (h : PageHist) → latest_of ss ≡ Some h
+    → joined_with h None ≡ Some h
 latest_again ss h is =
     ap (λ o. latest_of (known_stamps o ++ [])) (sym is)
     ∙ sym (latest_of_first ss [])
@@ -179,7 +204,8 @@ pub run_latest : (m : ℕ) (es : List Entry) → AreTwoLatest (near_run m es)
 run_latest m [] = tt
 run_latest m (e ∷ es) = cases (latest_of (filter (is_kept m) (hist_stamps e.hist))) refl (run_latest m es)
   where
-    cases : (o : Option PageHist) → latest_of (filter (is_kept m) (hist_stamps e.hist)) ≡ o → AreTwoLatest (near_run m es) → AreTwoLatest (at_key (near_key e.page) o ++ near_run m es)
+    cases : (o : Option PageHist) → latest_of (filter (is_kept m) (hist_stamps e.hist)) ≡ o
+        → AreTwoLatest (near_run m es) → AreTwoLatest (at_key (near_key e.page) o ++ near_run m es)
     cases None is rest = rest
     cases (Some h) is rest = (latest_again (filter (is_kept m) (hist_stamps e.hist)) h is, rest)
 
@@ -189,19 +215,25 @@ pub are_keys : (m from to : ℕ) (es : List Entry) → RiseWithin from to es →
 are_keys m from to [] rise = tt
 are_keys m from to (e ∷ es) rise = cases (latest_of (filter (is_kept m) (hist_stamps e.hist))) (are_keys m (key_of_page e.page + 1) to es rise.3)
   where
-    cases : (o : Option PageHist) → AreKeys (run_pairs m es) → AreKeys (at_key (key_of_page e.page) o ++ run_pairs m es)
+    cases : (o : Option PageHist) → AreKeys (run_pairs m es)
+        → AreKeys (at_key (key_of_page e.page) o ++ run_pairs m es)
     cases None all = all
     cases (Some h) all = (ap key_of_page rise.2, all)
 
 -- a bucket changes where something else is found at a key of the run
-changes_in : (number : ℕ) (old run new : MapPairs) → AreKept old → AreKept new → AllByRecursion (λ (e : ℕ × PageHist). LiesIn number e.0) run → AreKeys run → DiffersAt run old new → bucket_entries number (kept new) ≢ bucket_entries number (kept old)
+changes_in : (number : ℕ) (old run new : MapPairs) → AreKept old → AreKept new
+    → AllByRecursion (λ (e : ℕ × PageHist). LiesIn number e.0) run → AreKeys run
+    → DiffersAt run old new → bucket_entries number (kept new) ≢ bucket_entries number (kept old)
 changes_in number old run new are whole inside keys differs =
     let key : ℕ = differs.0 in
     let is : IsMapKey key = all_at IsMapKey run key keys differs.1 in
     let lies : LiesIn number key = all_at (LiesIn number) run key inside differs.1 in
     subst (λ b. bucket_entries b (kept new) ≢ bucket_entries b (kept old)) (bucket_is number key is lies) (changes_at old new key is are whole differs.2)
 
-pub marks_run : (number : ℕ) (old run new : MapPairs) → AreKept old → AreKept new → AllByRecursion (λ (e : ℕ × PageHist). LiesIn number e.0) run → AreKeys run → DiffersAt run old new → ((bucket : ℕ) → bucket ≢ number → SameInBucket bucket (kept old) (kept new))
+pub marks_run : (number : ℕ) (old run new : MapPairs) → AreKept old → AreKept new
+    → AllByRecursion (λ (e : ℕ × PageHist). LiesIn number e.0) run → AreKeys run
+    → DiffersAt run old new
+    → ((bucket : ℕ) → bucket ≢ number → SameInBucket bucket (kept old) (kept new))
     → MarksChanged (kept old) (kept new) (bit_or 0 (2 ^ number))
 marks_run number old run new are whole inside keys differs others bucket low =
     let set = bit_or 0 (2 ^ number) in

@@ -1,5 +1,6 @@
 -- A map from keys, stored as one map per bucket.
-use Rattle.std.specs.Prelude.{◌≡◌, ◌≢◌, ℕ, Bool, true, List, [], ◌∷◌, ◌++◌, ◌+◌, ◌≤◌, ◌<◌, ⊤, zero, suc, filter, Option, Some, None}
+use Rattle.std.specs.Prelude.{◌≡◌, ◌≢◌, ℕ, Bool, true, List, [], ◌∷◌, ◌++◌, ◌+◌, ◌≤◌, ◌<◌, ⊤, zero}
+use Rattle.std.specs.Prelude.{suc, filter, Option, Some, None}
 use Rattle.std.specs.List.{AllByRecursion}
 use Rattle.std.specs.Map.{lookup}
 use Rattle.std.specs.BTreeMap.{is_at, insert_entry}
@@ -48,7 +49,8 @@ PassesIn bucket test = (key : ℕ) → test key ≡ true → LiesIn bucket key
 -- the map has what the pairs have at keys of this bucket: a test that only such keys pass
 -- selects the same pairs of both
 abbrev pub HoldsBucket : ℕ → MapPairs → MapPairs → Type 0
-HoldsBucket bucket m pairs = (test : ℕ → Bool) → PassesIn bucket test → filter (λ e. test e.0) m ≡ filter (λ e. test e.0) pairs
+HoldsBucket bucket m pairs = (test : ℕ → Bool) → PassesIn bucket test
+    → filter (λ e. test e.0) m ≡ filter (λ e. test e.0) pairs
 
 -- the pairs left to visit: these of the current bucket, then those of the buckets from this number
 -- on
@@ -65,14 +67,19 @@ found key pairs = lookup (is_at (nat_cmp key)) pairs
 
 -- the note is of the page and gives the pairs' old value at the key, where h is the new one and
 -- differs; without a note the pairs are unchanged
-abbrev pub IsNoteAt : {K : Type 0} → (K → K → Ordering) → Option UndoNote → PageId → K → PageHist → List (K × PageHist) → List (K × PageHist) → Type 0
+abbrev pub IsNoteAt : {K : Type 0} → (K → K → Ordering) → Option UndoNote → PageId → K → PageHist
+    → List (K × PageHist) → List (K × PageHist) → Type 0
 IsNoteAt cmp None page key h old new = new ≡ old
-IsNoteAt cmp (Some k) page key h old new = (k.page ≡ page) × (k.hist ≡ lookup (is_at (cmp key)) old) × (k.hist ≢ Some h)
+IsNoteAt cmp (Some k) page key h old new = (k.page ≡ page) × (k.hist ≡ lookup (is_at (cmp key)) old)
+    × (k.hist ≢ Some h)
 
 -- new are the pairs old, with the two latest of the stamps there and those of `more` at the key of
 -- the page; keys of any type, in the order that cmp gives
-abbrev pub RecordsAt : {K : Type 0} → (K → K → Ordering) → List (K × PageHist) → PageId → K → PageHist → Option UndoNote → List (K × PageHist) → Type 0
-RecordsAt cmp old page key more note new = (h : PageHist) × (Some h ≡ latest_of (hist_stamps more ++ known_stamps (lookup (is_at (cmp key)) old))) × (new ≡ insert_entry cmp old key h) × IsNoteAt cmp note page key h old new
+abbrev pub RecordsAt : {K : Type 0} → (K → K → Ordering) → List (K × PageHist) → PageId → K
+    → PageHist → Option UndoNote → List (K × PageHist) → Type 0
+RecordsAt cmp old page key more note new = (h : PageHist)
+    × (Some h ≡ latest_of (hist_stamps more ++ known_stamps (lookup (is_at (cmp key)) old)))
+    × (new ≡ insert_entry cmp old key h) × IsNoteAt cmp note page key h old new
 
 -- the same for keys that are numbers
 abbrev pub IsUndoNote : Option UndoNote → PageId → ℕ → PageHist → MapPairs → MapPairs → Type 0

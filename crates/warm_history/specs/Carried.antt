@@ -1,5 +1,6 @@
 -- What a replica sends of a bucket in one frame.
-use Rattle.std.specs.Prelude.{◌≡◌, ℕ, ◌==◌, ◌&&◌, Bool, true, List, filter, take, Option, Some, None}
+use Rattle.std.specs.Prelude.{◌≡◌, ℕ, ◌==◌, ◌&&◌, Bool, true, List, filter, take, Option, Some}
+use Rattle.std.specs.Prelude.{None}
 use Rattle.std.specs.List.{list_any}
 use Rattle.std.specs.Ordering.{is_eq, is_lt}
 use Rattle.warm_stamps.specs.declared.PageId.{PageId}
@@ -24,11 +25,13 @@ pages_carried S bucket after limit = take limit (filter (is_next_in_bucket bucke
 
 -- the references of S to these pages
 abbrev pub carried : ReferenceSet → ℕ → Option PageId → ℕ → ReferenceSet
-carried S bucket after limit = filter_references (λ r. list_any (λ p. is_eq (page_cmp p r.page)) (pages_carried S bucket after limit)) S
+carried S bucket after limit = filter_references
+    (λ r. list_any (λ p. is_eq (page_cmp p r.page)) (pages_carried S bucket after limit)) S
 
 -- these are the entries of the carried references, whichever references the history stands for
 abbrev pub AreCarried : HistoryView → ℕ → Option PageId → ℕ → List Entry → Type 0
-AreCarried h bucket after limit es = (S : ReferenceSet) → StandsFor h S → es ≡ entries_of (history (carried S bucket after limit))
+AreCarried h bucket after limit es = (S : ReferenceSet) → StandsFor h S
+    → es ≡ entries_of (history (carried S bucket after limit))
 
 -- the entries of a bucket, in the order of the list
 abbrev pub bucket_entries : ℕ → List Entry → List Entry

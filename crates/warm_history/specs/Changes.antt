@@ -15,8 +15,10 @@ SameInBucket bucket old new = bucket_entries bucket new ≡ bucket_entries bucke
 
 -- the bit of a bucket says which of the two holds
 abbrev pub SaysChange : List Entry → List Entry → ℕ → ℕ → Type 0
-SaysChange old new bucket bit = (bit ≡ 1 → ChangesIn bucket old new) × (bit ≡ 0 → SameInBucket bucket old new)
+SaysChange old new bucket bit = (bit ≡ 1 → ChangesIn bucket old new)
+    × (bit ≡ 0 → SameInBucket bucket old new)
 
 -- a bucket is in the set exactly where its entries change
 abbrev pub MarksChanged : List Entry → List Entry → ℕ → Type 0
-MarksChanged old new buckets = (bucket : ℕ) → bucket < BUCKETS → SaysChange old new bucket (bit_at buckets bucket)
+MarksChanged old new buckets = (bucket : ℕ) → bucket < BUCKETS
+    → SaysChange old new bucket (bit_at buckets bucket)

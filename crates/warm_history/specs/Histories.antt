@@ -12,7 +12,8 @@ use Rattle.warm_history.specs.declared.hist.PageHist.{PageHist}
 use Rattle.warm_history.specs.declared.hist.Entry.{Entry}
 use Rattle.warm_history.specs.ReferenceSets.{ReferenceSet, is_kept, references, ◌∪◌}
 use Rattle.warm_history.specs.ListHistories.{list_references_of}
-pub use Rattle.warm_history.specs.ListHistories.{first_two, latest_of, hist_stamps, known_stamps, references_of_entry, IsDescending, PagesAscend}
+pub use Rattle.warm_history.specs.ListHistories.{first_two, latest_of, hist_stamps, known_stamps}
+pub use Rattle.warm_history.specs.ListHistories.{references_of_entry, IsDescending, PagesAscend}
 
 -- what contracts see of a history: its horizon and its entries
 pub record HistoryView : Type 0 where

@@ -2,7 +2,9 @@
 use Rattle.std.specs.Prelude.{◌≡◌, ℕ, ◌+◌, ◌-◌, ◌*◌, ◌/◌, ◌%◌, ◌^◌}
 use Rattle.warm_stamps.specs.declared.PageId.{PageId}
 use Rattle.warm_stamps.specs.Buckets.{page_bucket}
-use Rattle.warm_history.specs.declared.map_key.TheConstants.{KEYS_PER_BUCKET, KEYS_PER_DEVICE, NEAR_DEVICES, NEAR_KEYS_PER_DEVICE, PAGES_PER_NEAR_KEY}
+use Rattle.warm_history.specs.declared.map_key.TheConstants.{KEYS_PER_BUCKET, KEYS_PER_DEVICE}
+use Rattle.warm_history.specs.declared.map_key.TheConstants.{NEAR_DEVICES, NEAR_KEYS_PER_DEVICE}
+use Rattle.warm_history.specs.declared.map_key.TheConstants.{PAGES_PER_NEAR_KEY}
 
 -- the first key of a bucket
 abbrev pub first_key : ℕ → ℕ
@@ -31,7 +33,12 @@ near_key p = p.dev * NEAR_KEYS_PER_DEVICE + p.no / PAGES_PER_NEAR_KEY
 
 -- the page of such a key in the bucket
 abbrev pub near_page : ℕ → ℕ → PageId
-near_page bucket key = record { dev = key / NEAR_KEYS_PER_DEVICE; no = key % NEAR_KEYS_PER_DEVICE * PAGES_PER_NEAR_KEY + (bucket + PAGES_PER_NEAR_KEY - key / NEAR_KEYS_PER_DEVICE) % PAGES_PER_NEAR_KEY }
+near_page bucket key =
+    record {
+      dev = key / NEAR_KEYS_PER_DEVICE;
+      no = key % NEAR_KEYS_PER_DEVICE * PAGES_PER_NEAR_KEY
+          + (bucket + PAGES_PER_NEAR_KEY - key / NEAR_KEYS_PER_DEVICE) % PAGES_PER_NEAR_KEY;
+    }
 
 -- the full key of such a key in the bucket
 abbrev pub full_key : ℕ → ℕ → ℕ

@@ -8,7 +8,8 @@ use Rattle.warm_stamps.specs.Distinct.{IsAscending}
 use Rattle.warm_history.specs.declared.hist.PageHist.{PageHist}
 use Rattle.warm_history.specs.declared.hist.Entry.{Entry}
 use Rattle.warm_history.specs.ReferenceSets.{references_from}
-use Rattle.warm_history.specs.ListHistories.{references_of_entry, list_references_of, list_history, IsDescending}
+use Rattle.warm_history.specs.ListHistories.{references_of_entry, list_references_of, list_history}
+use Rattle.warm_history.specs.ListHistories.{IsDescending}
 use Rattle.warm_history.specs.MapKeys.{page_of_key, IsMapKey}
 
 -- the contents of such maps, by key
@@ -55,13 +56,16 @@ TakesStamps old key h new = PairsTakeIn old (references_at key h) new
 -- the same, for what isn't older than the horizon: of the stamps of the page at a key, of the
 -- references of a list, of the entries of a list, or of the entries of other pairs
 abbrev pub TakesRecent : ℕ → MapPairs → ℕ → PageHist → MapPairs → Type 0
-TakesRecent horizon old key h new = PairsTakeIn old (references_from horizon (references_at key h)) new
+TakesRecent horizon old key h new =
+    PairsTakeIn old (references_from horizon (references_at key h)) new
 
 abbrev pub TakesReferences : ℕ → MapPairs → List Reference → MapPairs → Type 0
 TakesReferences horizon old rs new = PairsTakeIn old (references_from horizon rs) new
 
 abbrev pub TakesEntries : ℕ → MapPairs → List Entry → MapPairs → Type 0
-TakesEntries horizon old es new = PairsTakeIn old (references_from horizon (list_references_of es)) new
+TakesEntries horizon old es new =
+    PairsTakeIn old (references_from horizon (list_references_of es)) new
 
 abbrev pub TakesPairs : ℕ → MapPairs → MapPairs → MapPairs → Type 0
-TakesPairs horizon old more new = PairsTakeIn old (references_from horizon (list_references_of (kept more))) new
+TakesPairs horizon old more new =
+    PairsTakeIn old (references_from horizon (list_references_of (kept more))) new

@@ -1,5 +1,6 @@
 -- The parts of a history, each the entries of some buckets, and how they merge in page order.
-use Rattle.std.specs.Prelude.{ℕ, ◌&&◌, nat_lt, nat_le, cond, Bool, true, false, List, [], ◌∷◌, filter, Option, Some, None}
+use Rattle.std.specs.Prelude.{ℕ, ◌&&◌, nat_lt, nat_le, cond, Bool, true, false, List, [], ◌∷◌}
+use Rattle.std.specs.Prelude.{filter, Option, Some, None}
 use Rattle.std.specs.Ordering.{is_gt, is_lt}
 use Rattle.warm_stamps.specs.declared.PageId.{PageId}
 use Rattle.warm_stamps.specs.Stamps.{page_cmp}
@@ -45,7 +46,8 @@ is_later (Some x) (Some y) = is_gt (page_cmp x.page y.page)
 -- `merge (x ∷ xs)`, where `after` is `merge xs`
 abbrev pub merge_at : Entry → List Entry → (List Entry → List Entry) → List Entry → List Entry
 merge_at x xs after [] = x ∷ xs
-merge_at x xs after (y ∷ ys) = cond (is_gt (page_cmp x.page y.page)) (y ∷ merge_at x xs after ys) (x ∷ after (y ∷ ys))
+merge_at x xs after (y ∷ ys) =
+    cond (is_gt (page_cmp x.page y.page)) (y ∷ merge_at x xs after ys) (x ∷ after (y ∷ ys))
 
 -- the entries of both lists, merged: the first entry of the second list is taken only where its
 -- page is smaller
@@ -84,8 +86,10 @@ eight_left = merge_iter_left four_left
 abbrev pub sixteen_left : MergeIter (MergeIter (MergeIter (MergeIter BucketIter))) → List Entry
 sixteen_left = merge_iter_left eight_left
 
-abbrev pub thirty_two_left : MergeIter (MergeIter (MergeIter (MergeIter (MergeIter BucketIter)))) → List Entry
+abbrev pub thirty_two_left : MergeIter (MergeIter (MergeIter (MergeIter (MergeIter BucketIter))))
+    → List Entry
 thirty_two_left = merge_iter_left sixteen_left
 
-abbrev pub all_left : MergeIter (MergeIter (MergeIter (MergeIter (MergeIter (MergeIter BucketIter))))) → List Entry
+abbrev pub all_left : MergeIter
+    (MergeIter (MergeIter (MergeIter (MergeIter (MergeIter BucketIter))))) → List Entry
 all_left = merge_iter_left thirty_two_left

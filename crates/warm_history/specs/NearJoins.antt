@@ -1,10 +1,12 @@
 -- The maps of two histories, merged bucket by bucket.
-use Rattle.std.specs.Prelude.{◌≡◌, ◌≢◌, ◌⊎◌, ℕ, ◌+◌, ◌*◌, ◌%◌, ◌<◌, ◌^◌, length, filter, Bool, true, false, List, [], ◌∷◌, ⊤, Option, Some, None, bit_or}
+use Rattle.std.specs.Prelude.{◌≡◌, ◌≢◌, ◌⊎◌, ℕ, ◌+◌, ◌*◌, ◌%◌, ◌<◌, ◌^◌, length, filter, Bool, true}
+use Rattle.std.specs.Prelude.{false, List, [], ◌∷◌, ⊤, Option, Some, None, bit_or}
 use Rattle.std.specs.Int.{bit_at}
 use Rattle.std.specs.List.{AllByRecursion}
 use Rattle.warm_stamps.specs.declared.TheConstants.{BUCKETS}
 use Rattle.warm_history.specs.declared.bucket_map.BucketMap.{BucketMap}
-use Rattle.warm_history.specs.declared.map_key.TheConstants.{KEYS_PER_BUCKET, KEYS_PER_DEVICE, NEAR_DEVICES}
+use Rattle.warm_history.specs.declared.map_key.TheConstants.{KEYS_PER_BUCKET, KEYS_PER_DEVICE}
+use Rattle.warm_history.specs.declared.map_key.TheConstants.{NEAR_DEVICES}
 use Rattle.warm_history.specs.MapKeys.{IsMapKey}
 use Rattle.warm_history.specs.declared.hist.PageHist.{PageHist}
 use Rattle.warm_history.specs.declared.bucket_map.TheConstants.{MAX_PAIRS}
@@ -15,9 +17,11 @@ use Rattle.warm_history.specs.Runs.{with_pairs}
 use Rattle.warm_history.specs.Walks.{AddsPart, AreAbsent, DiffersAt, merged}
 
 -- a pair is passed where the horizon leaves nothing of its value, and is added otherwise
-abbrev pub AddsLeft : Option PageHist → Option PageHist → ℕ → MapPairs → MapPairs → MapPairs → MapPairs → Type 0
+abbrev pub AddsLeft : Option PageHist → Option PageHist → ℕ → MapPairs → MapPairs → MapPairs
+    → MapPairs → Type 0
 AddsLeft None known key changed fresh changed' fresh' = (changed' ≡ changed) × (fresh' ≡ fresh)
-AddsLeft (Some more) known key changed fresh changed' fresh' = AddsPart known key more changed fresh changed' fresh'
+AddsLeft (Some more) known key changed fresh changed' fresh' =
+    AddsPart known key more changed fresh changed' fresh'
 
 -- the pairs now are those of old with new ones put in; where old has none, they need no list
 abbrev pub ArePutIn : Bool → MapPairs → MapPairs → MapPairs → Type 0
@@ -44,8 +48,11 @@ joined_maps horizon (m ∷ ms) (r ∷ more) = merged m (cut_at horizon r) ∷ jo
 abbrev pub HasChanged : ℕ → ℕ → List MapPairs → List MapPairs → ℕ → Type 0
 HasChanged horizon number [] more set = set ≡ 0
 HasChanged horizon number (m ∷ ms) [] set = set ≡ 0
-HasChanged horizon number (m ∷ ms) (r ∷ more) set = (rest : ℕ) × HasChanged horizon (number + 1) ms more rest
-    × (((merged m (cut_at horizon r) ≡ m) × (set ≡ rest)) ⊎ (DiffersAt (cut_at horizon r) m (merged m (cut_at horizon r)) × (set ≡ bit_or rest (2 ^ number))))
+HasChanged horizon number (m ∷ ms) (r ∷ more) set = (rest : ℕ)
+    × HasChanged horizon (number + 1) ms more rest
+    × (((merged m (cut_at horizon r) ≡ m) × (set ≡ rest))
+    ⊎ (DiffersAt (cut_at horizon r) m (merged m (cut_at horizon r))
+    × (set ≡ bit_or rest (2 ^ number))))
 
 -- no map has pages of other devices than near ones
 abbrev pub NoFar : List BucketMap → Type 0
@@ -57,12 +64,16 @@ IsNear key = key % KEYS_PER_BUCKET < NEAR_DEVICES * KEYS_PER_DEVICE
 
 -- at a key of the bucket the new pairs have another value
 abbrev pub DiffersIn : ℕ → MapPairs → MapPairs → Type 0
-DiffersIn bucket old new = (key : ℕ) × LiesIn bucket key × IsMapKey key × (found key new ≢ found key old)
+DiffersIn bucket old new = (key : ℕ) × LiesIn bucket key × IsMapKey key
+    × (found key new ≢ found key old)
 
 -- the new pairs are the same in the bucket: a test that only its keys pass selects the same of both
 abbrev pub KeepsIn : ℕ → MapPairs → MapPairs → Type 0
-KeepsIn bucket old new = (test : ℕ → Bool) → PassesIn bucket test → filter (λ e. test e.0) new ≡ filter (λ e. test e.0) old
+KeepsIn bucket old new = (test : ℕ → Bool) → PassesIn bucket test
+    → filter (λ e. test e.0) new ≡ filter (λ e. test e.0) old
 
 -- a bucket is in the set exactly where its pairs change
 abbrev pub TellsBuckets : ℕ → MapPairs → MapPairs → Type 0
-TellsBuckets set old new = (bucket : ℕ) → bucket < BUCKETS → (bit_at set bucket ≡ 1 → DiffersIn bucket old new) × (bit_at set bucket ≡ 0 → KeepsIn bucket old new)
+TellsBuckets set old new = (bucket : ℕ) → bucket < BUCKETS
+    → (bit_at set bucket ≡ 1 → DiffersIn bucket old new)
+    × (bit_at set bucket ≡ 0 → KeepsIn bucket old new)

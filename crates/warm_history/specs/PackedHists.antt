@@ -17,7 +17,8 @@ stamp_at time replica = record { time = time; replica = replica }
 
 -- the history of these two stamps, or of the first alone where the second has no replica
 abbrev pub unpacked : Stamp → Stamp → PageHist
-unpacked last prev = cond (prev.replica == 0) (Once last) (Twice (record { last = last; prev = prev }))
+unpacked last prev =
+    cond (prev.replica == 0) (Once last) (Twice (record { last = last; prev = prev }))
 
 -- the latest stamp
 abbrev pub last_of : PageHist → Stamp
@@ -42,18 +43,22 @@ pub record ArePacked (last prev : Stamp) : Type 0 where
 last_unpacked : (last prev : Stamp) → last_of (unpacked last prev) ≡ last
 last_unpacked last prev = cases (prev.replica == 0)
   where
-    cases : (b : Bool) → last_of (cond b (Once last) (Twice (record { last = last; prev = prev }))) ≡ last
+    cases : (b : Bool) → last_of (cond b (Once last) (Twice (record { last = last; prev = prev })))
+        ≡ last
     cases true = refl
     cases false = refl
 
 prev_unpacked : (last prev : Stamp) → ArePacked last prev → prev_of (unpacked last prev) ≡ prev
 prev_unpacked last prev are = cases (prev.replica == 0) refl
   where
-    cases : (b : Bool) → (prev.replica == 0) ≡ b → prev_of (cond b (Once last) (Twice (record { last = last; prev = prev }))) ≡ prev
+    cases : (b : Bool) → (prev.replica == 0) ≡ b
+        → prev_of (cond b (Once last) (Twice (record { last = last; prev = prev }))) ≡ prev
     cases true is =
         let none : prev.replica ≡ 0 = eqb-true prev.replica 0 is in
         λ i. record { time = sym (are.none none) i; replica = sym none i }
     cases false is = refl
 
-pub packed_again : {A : Type 0} (pack : Stamp → Stamp → A) (last prev : Stamp) → ArePacked last prev → pack (last_of (unpacked last prev)) (prev_of (unpacked last prev)) ≡ pack last prev
-packed_again pack last prev are = λ i. pack (last_unpacked last prev i) (prev_unpacked last prev are i)
+pub packed_again : {A : Type 0} (pack : Stamp → Stamp → A) (last prev : Stamp) → ArePacked last prev
+    → pack (last_of (unpacked last prev)) (prev_of (unpacked last prev)) ≡ pack last prev
+packed_again pack last prev are =
+    λ i. pack (last_unpacked last prev i) (prev_unpacked last prev are i)

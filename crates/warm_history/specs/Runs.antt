@@ -1,5 +1,6 @@
 -- Runs: entries of one bucket at rising keys.
-use Rattle.std.specs.Prelude.{◌≡◌, ℕ, List, [], ◌∷◌, ◌++◌, ◌+◌, ◌≤◌, ◌<◌, ⊤, filter, Option, Some, None}
+use Rattle.std.specs.Prelude.{◌≡◌, ℕ, List, [], ◌∷◌, ◌++◌, ◌+◌, ◌≤◌, ◌<◌, ⊤, filter, Option, Some}
+use Rattle.std.specs.Prelude.{None}
 use Rattle.std.specs.List.{AllByRecursion}
 use Rattle.std.specs.BTreeMap.{insert_entry}
 use Rattle.std.specs.Ordering.{nat_cmp}
@@ -14,7 +15,8 @@ use Rattle.warm_history.specs.MapPairs.{MapPairs}
 -- the entries are at rising keys, all from the first of these on and before the other
 abbrev pub RiseWithin : ℕ → ℕ → List Entry → Type 0
 RiseWithin from to [] = ⊤
-RiseWithin from to (e ∷ es) = (from ≤ key_of_page e.page) × (key_of_page e.page < to) × (page_of_key (key_of_page e.page) ≡ e.page) × RiseWithin (key_of_page e.page + 1) to es
+RiseWithin from to (e ∷ es) = (from ≤ key_of_page e.page) × (key_of_page e.page < to)
+    × (page_of_key (key_of_page e.page) ≡ e.page) × RiseWithin (key_of_page e.page + 1) to es
 
 -- the entries are a run of the bucket of this number, all of near devices
 abbrev pub IsRun : ℕ → List Entry → Type 0
@@ -27,7 +29,8 @@ at_key key (Some h) = (key, h) ∷ []
 
 -- the pair of an entry without the stamps older than the horizon, if any is left
 abbrev pub pair_of_entry : ℕ → Entry → MapPairs
-pair_of_entry horizon e = at_key (key_of_page e.page) (latest_of (filter (is_kept horizon) (hist_stamps e.hist)))
+pair_of_entry horizon e =
+    at_key (key_of_page e.page) (latest_of (filter (is_kept horizon) (hist_stamps e.hist)))
 
 -- the pairs of entries
 abbrev pub run_pairs : ℕ → List Entry → MapPairs
@@ -40,7 +43,8 @@ AreNear es = AllByRecursion (λ e. e.page.dev < NEAR_DEVICES) es
 
 -- the same pairs at near keys
 abbrev pub near_pair : ℕ → Entry → MapPairs
-near_pair horizon e = at_key (near_key e.page) (latest_of (filter (is_kept horizon) (hist_stamps e.hist)))
+near_pair horizon e =
+    at_key (near_key e.page) (latest_of (filter (is_kept horizon) (hist_stamps e.hist)))
 
 abbrev pub near_run : ℕ → List Entry → MapPairs
 near_run horizon [] = []

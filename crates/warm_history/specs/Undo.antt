@@ -10,7 +10,8 @@ use Rattle.warm_history.specs.MapKeys.{key_of_page}
 use Rattle.warm_history.specs.MapPairs.{MapPairs}
 
 -- the pairs with the old value at the key restored; keys of any type, in the order that cmp gives
-abbrev pub put_back_at : {K : Type 0} → (K → K → Ordering) → K → Option PageHist → List (K × PageHist) → List (K × PageHist)
+abbrev pub put_back_at : {K : Type 0} → (K → K → Ordering) → K → Option PageHist
+    → List (K × PageHist) → List (K × PageHist)
 put_back_at cmp key None pairs = remove_entry (is_at (cmp key)) pairs
 put_back_at cmp key (Some h) pairs = set_value (is_at (cmp key)) pairs h
 

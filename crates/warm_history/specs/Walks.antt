@@ -1,5 +1,6 @@
 -- A run merged with the pairs of its bucket.
-use Rattle.std.specs.Prelude.{◌≡◌, ◌≢◌, ◌⊎◌, ℕ, ◌≤◌, ◌==◌, Bool, cond, true, false, [], ◌∷◌, ◌++◌, Option, Some, None, IsSome}
+use Rattle.std.specs.Prelude.{◌≡◌, ◌≢◌, ◌⊎◌, ℕ, ◌≤◌, ◌==◌, Bool, cond, true, false, [], ◌∷◌, ◌++◌}
+use Rattle.std.specs.Prelude.{Option, Some, None, IsSome}
 use Rattle.std.specs.List.{AllByRecursion}
 use Rattle.std.specs.Option.{option_map}
 use Rattle.std.specs.Map.Iter.{deref_pair}
@@ -45,10 +46,12 @@ pub record HoldsFrom (key : ℕ) (ahead all : MapPairs) : Type 0 where
 -- that are new, in neither list, or among those that change
 abbrev pub IsPart : Option PageHist → ℕ → PageHist → MapPairs → MapPairs → Type 0
 IsPart None key h changed fresh = (changed ≡ []) × (fresh ≡ (key, h) ∷ [])
-IsPart (Some g) key h changed fresh = (fresh ≡ []) × (((g ≡ h) × (changed ≡ [])) ⊎ ((g ≢ h) × (changed ≡ (key, h) ∷ [])))
+IsPart (Some g) key h changed fresh = (fresh ≡ [])
+    × (((g ≡ h) × (changed ≡ [])) ⊎ ((g ≢ h) × (changed ≡ (key, h) ∷ [])))
 
 -- a pair of a run is added to those that change, to those that are new, or to neither
-pub record AddsPart (known : Option PageHist) (key : ℕ) (more : PageHist) (changed fresh changed' fresh' : MapPairs) : Type 0 where
+pub record AddsPart (known : Option PageHist) (key : ℕ) (more : PageHist)
+    (changed fresh changed' fresh' : MapPairs) : Type 0 where
   pub value : PageHist
   pub change : MapPairs
   pub new : MapPairs
@@ -57,11 +60,14 @@ pub record AddsPart (known : Option PageHist) (key : ℕ) (more : PageHist) (cha
   pub changed_is : changed' ≡ changed ++ change
   pub fresh_is : fresh' ≡ fresh ++ new
 
--- what a run changes in the pairs old: values at keys that are there, and pairs at keys that are new
+-- what a run changes in the pairs old: values at keys that are there, and pairs at keys that are
+-- new
 abbrev pub AreParts : MapPairs → MapPairs → MapPairs → MapPairs → Type 0
 AreParts old [] changed fresh = (changed ≡ []) × (fresh ≡ [])
-AreParts old (e ∷ run) changed fresh = (c : MapPairs) × (f : MapPairs) × AreParts old run c f × (h : PageHist) × (pc : MapPairs) × (pf : MapPairs)
-    × (joined_with e.1 (found e.0 old) ≡ Some h) × IsPart (found e.0 old) e.0 h pc pf × (changed ≡ pc ++ c) × (fresh ≡ pf ++ f)
+AreParts old (e ∷ run) changed fresh = (c : MapPairs) × (f : MapPairs) × AreParts old run c f
+    × (h : PageHist) × (pc : MapPairs) × (pf : MapPairs)
+    × (joined_with e.1 (found e.0 old) ≡ Some h) × IsPart (found e.0 old) e.0 h pc pf
+    × (changed ≡ pc ++ c) × (fresh ≡ pf ++ f)
 
 -- the pairs old have no value at the keys of these
 abbrev pub AreAbsent : MapPairs → MapPairs → Type 0
@@ -81,7 +87,8 @@ DiffersAt run old new = (key : ℕ) × IsSome (found key run) × (found key new 
 
 -- whether the run has changed the pairs
 abbrev pub TellsChange : Bool → MapPairs → MapPairs → MapPairs → Type 0
-TellsChange changed run old new = (changed ≡ true → DiffersAt run old new) × (changed ≡ false → new ≡ old)
+TellsChange changed run old new = (changed ≡ true → DiffersAt run old new)
+    × (changed ≡ false → new ≡ old)
 
 -- at this key, the value of the first pair that is left, if it is the pair of the key, or else h
 abbrev pub next_value : MapPairs → ℕ → PageHist → PageHist

@@ -1,14 +1,17 @@
 //! What is known of each page, stored bucket by bucket, so that each look-up searches a small map.
 ghost use Rattle.std.specs.Iterator.{YieldsFirst};
 ghost use Rattle.std.specs.List.{AllByRecursion};
-ghost use Rattle.std.specs.Prelude.{◌≡◌, ◌+◌, ◌<◌, ◌≤◌, ◌^◌, [], ◌++◌, length, map, OnOk, OnErr, IfOk, IsTrue};
+ghost use Rattle.std.specs.Prelude.{◌≡◌, ◌+◌, ◌<◌, ◌≤◌, ◌^◌, [], ◌++◌, length, map, OnOk, OnErr};
+ghost use Rattle.std.specs.Prelude.{IfOk, IsTrue};
 ghost use Rattle.warm_stamps.specs.declared.TheConstants.{BUCKETS};
 ghost use Rattle.warm_history.specs.MapKeys.{key_of_page};
 ghost use Rattle.warm_history.specs.Cuts.{cut_at};
 ghost use Rattle.warm_history.specs.MapPairs.{as_entries, AreKept, TakesStamps};
-ghost use Rattle.warm_history.specs.BucketMaps.{pairs_left, HoldsBucket, KeysAscend, SaysNote, found};
+ghost use Rattle.warm_history.specs.BucketMaps.{pairs_left, HoldsBucket, KeysAscend, SaysNote};
+ghost use Rattle.warm_history.specs.BucketMaps.{found};
 ghost use Rattle.warm_history.specs.NearJoins.{IsNear, NoFar, TellsBuckets};
-ghost use Rattle.warm_history.specs.NearPairs.{count_of, far_pairs, full, near_pairs, widened, IsMapOf};
+ghost use Rattle.warm_history.specs.NearPairs.{count_of, far_pairs, full, near_pairs, widened};
+ghost use Rattle.warm_history.specs.NearPairs.{IsMapOf};
 ghost use Rattle.warm_history.specs.Undo.{put_back, notes_of, Undoes};
 ghost use Rattle.warm_history.specs.Walks.{AreTwoLatest, TellsChange, merged};
 

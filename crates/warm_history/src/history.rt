@@ -1,9 +1,13 @@
 //! Histories, stored as maps from keys: the entries of a bucket lie together.
-ghost use Rattle.std.specs.Prelude.{◌≡◌, ◌↔◌, ◌≤◌, [], false, length, OnOk, OnErr, IfOk, IsPermutation, IsTrue, slice_get, take};
+ghost use Rattle.std.specs.Prelude.{◌≡◌, ◌↔◌, ◌≤◌, [], false, length, OnOk, OnErr, IfOk};
+ghost use Rattle.std.specs.Prelude.{IsPermutation, IsTrue, slice_get, take};
 ghost use Rattle.warm_history.specs.ReferenceSets.{ReferenceSet, set_of_list, with_horizon, ◌∪◌};
-ghost use Rattle.warm_history.specs.Histories.{entries_of, history_of_entries, history_of_entries_at, hist, references_of, history, join, StandsFor, TakesIn, IsHistory};
+ghost use Rattle.warm_history.specs.Histories.{entries_of, history_of_entries};
+ghost use Rattle.warm_history.specs.Histories.{history_of_entries_at, hist, references_of, history};
+ghost use Rattle.warm_history.specs.Histories.{join, StandsFor, TakesIn, IsHistory};
 ghost use Rattle.warm_history.specs.Carried.{AreCarried, bucket_entries};
-ghost use Rattle.warm_history.specs.Losses.{KeepsIn, LosesIn, MarksLosing, bucket_at_horizon, raised};
+ghost use Rattle.warm_history.specs.Losses.{KeepsIn, LosesIn, MarksLosing, bucket_at_horizon};
+ghost use Rattle.warm_history.specs.Losses.{raised};
 ghost use Rattle.warm_history.specs.Changes.{MarksChanged};
 ghost use Rattle.warm_history.specs.Merges.{later_of_bucket};
 
@@ -203,7 +207,8 @@ impl History {
     /// new page fails, and changes nothing.
     pub fn absorb(&mut self, batch: &[Reference]) -> Result<BucketSet, AllocError>
         ensures ok { OnOk result (TakesIn self.old (set_of_list batch.now) self.new) }
-        ensures exact { OnOk result (self.new ≡ history (references_of self.old ∪ set_of_list batch.now)) }
+        ensures exact { OnOk result
+            (self.new ≡ history (references_of self.old ∪ set_of_list batch.now)) }
         ensures changed { IfOk result (MarksChanged (entries_of self.old) (entries_of self.new)) }
         ensures none { IfOk result (λ changed. changed ≡ 0 → self.new ≡ self.old) }
         ensures err { OnErr result (self.new ≡ self.old) }
@@ -246,7 +251,8 @@ impl History {
     pub fn join_entries(&mut self, horizon: u64, more: &[Entry]) -> Result<BucketSet, AllocError>
         ensures ok { OnOk result
             (TakesIn self.old (references_of (history_of_entries_at horizon more.now)) self.new) }
-        ensures exact { OnOk result (self.new ≡ join self.old (history_of_entries_at horizon more.now)) }
+        ensures exact { OnOk result
+            (self.new ≡ join self.old (history_of_entries_at horizon more.now)) }
         ensures changed { IfOk result (MarksChanged (entries_of self.old) (entries_of self.new)) }
         ensures none { IfOk result
             (λ changed. changed ≡ 0 → entries_of self.new ≡ entries_of self.old) }

@@ -1,7 +1,8 @@
 //! The keys of the maps: by them the entries of a bucket lie together, in page order.
 ghost use Rattle.std.specs.Prelude.{◌≡◌, ◌<◌, ◌^◌};
 ghost use Rattle.warm_stamps.specs.declared.TheConstants.{BUCKETS};
-ghost use Rattle.warm_history.specs.MapKeys.{first_key, first_far_key, key_in, key_of_page, near_key, near_page, page_of_key, IsMapKey};
+ghost use Rattle.warm_history.specs.MapKeys.{first_key, first_far_key, key_in, key_of_page};
+ghost use Rattle.warm_history.specs.MapKeys.{near_key, near_page, page_of_key, IsMapKey};
 
 use warm_stamps::{BUCKETS, PageId, bucket_of};
 

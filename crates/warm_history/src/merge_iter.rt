@@ -8,8 +8,10 @@ ghost use Rattle.std.specs.Prelude.{◌≡◌, ◌+◌, ◌≤◌, ◌<◌};
 ghost use Rattle.warm_stamps.specs.declared.TheConstants.{BUCKETS};
 ghost use Rattle.warm_history.specs.MapPairs.{as_entries, kept, AreKept};
 ghost use Rattle.warm_history.specs.Histories.{entries_of};
-ghost use Rattle.warm_history.specs.Merges.{bucket_iter_left, two_left, four_left, eight_left, sixteen_left, thirty_two_left, all_left};
-ghost use Rattle.warm_history.specs.Merges.{first_of, rest_of, merge, both_left, merge_iter_left, of_buckets, is_later, later_of_bucket};
+ghost use Rattle.warm_history.specs.Merges.{bucket_iter_left, two_left, four_left, eight_left};
+ghost use Rattle.warm_history.specs.Merges.{sixteen_left, thirty_two_left, all_left};
+ghost use Rattle.warm_history.specs.Merges.{first_of, rest_of, merge, both_left, merge_iter_left};
+ghost use Rattle.warm_history.specs.Merges.{of_buckets, is_later, later_of_bucket};
 
 use crate::bucket_map::BucketPairs;
 use crate::bucket_maps::BucketMaps;

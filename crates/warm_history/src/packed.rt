@@ -2,7 +2,8 @@
 //!
 //! A `PageHist` has 40: its replica numbers have 64 bits each, and it says in a third number
 //! whether it has two stamps.
-ghost use Rattle.std.specs.Prelude.{◌≡◌, ◌↔◌, ◌≢◌, ◌++◌, ◌∷◌, filter, cond, IfSome, IfNone, IsTrue, None, Some};
+ghost use Rattle.std.specs.Prelude.{◌≡◌, ◌↔◌, ◌≢◌, ◌++◌, ◌∷◌, filter, cond, IfSome, IfNone, IsTrue};
+ghost use Rattle.std.specs.Prelude.{None, Some};
 ghost use Rattle.std.specs.Ordering.{is_lt};
 ghost use Rattle.warm_stamps.specs.Replicas.{IsReplica};
 ghost use Rattle.warm_stamps.specs.Stamps.{stamp_cmp};
@@ -27,7 +28,14 @@ pub(crate) struct Packed {
 
 impl Model for Packed {
     ghost use Rattle.warm_history.specs.declared.hist.PageHist.{PageHist};
-    ghost use Rattle.warm_history.specs.PackedHists.{stamp_at, unpacked, last_of, prev_of, ArePacked, packed_again};
+    ghost use Rattle.warm_history.specs.PackedHists.{
+      stamp_at,
+      unpacked,
+      last_of,
+      prev_of,
+      ArePacked,
+      packed_again,
+    };
 
     ghost Value = { PageHist };
 
@@ -35,9 +43,21 @@ impl Model for Packed {
 
     ghost invariant = { λ p. ArePacked (stamp_at p.last p.last_replica) (stamp_at p.prev p.prev_replica) };
 
-    ghost inverse = { λ h. record { last = (last_of h).time; prev = (prev_of h).time; last_replica = (last_of h).replica; prev_replica = (prev_of h).replica } };
+    ghost inverse = { λ h. record {
+      last = (last_of h).time;
+      prev = (prev_of h).time;
+      last_replica = (last_of h).replica;
+      prev_replica = (prev_of h).replica;
+    } };
 
-    ghost inverse_ok = { λ p are. packed_again (λ last prev. record { last = last.time; prev = prev.time; last_replica = last.replica; prev_replica = prev.replica }) (stamp_at p.last p.last_replica) (stamp_at p.prev p.prev_replica) are };
+    ghost inverse_ok = { λ p are. packed_again
+        (λ last prev. record {
+          last = last.time;
+          prev = prev.time;
+          last_replica = last.replica;
+          prev_replica = prev.replica;
+        }) (stamp_at p.last p.last_replica)
+        (stamp_at p.prev p.prev_replica) are };
 }
 
 impl Packed {

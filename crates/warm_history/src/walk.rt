@@ -3,7 +3,8 @@
 //!
 //! The walk only reads, and lists what changes. New pairs are put in next, and taken out again
 //! where an allocation fails; the values that change are written last, which cannot fail.
-ghost use Rattle.std.specs.Prelude.{◌≡◌, [], ◌≢◌, ◌<◌, ◌≤◌, ◌++◌, IfNone, IfOk, IfSome, IsSome, IsTrue, OnErr, OnOk, Some, length};
+ghost use Rattle.std.specs.Prelude.{◌≡◌, [], ◌≢◌, ◌<◌, ◌≤◌, ◌++◌, IfNone, IfOk, IfSome, IsSome};
+ghost use Rattle.std.specs.Prelude.{IsTrue, OnErr, OnOk, Some, length};
 ghost use Rattle.std.specs.List.{AllByRecursion};
 ghost use Rattle.std.specs.BTreeMap.{IsFromIterResult, insert_entry};
 ghost use Rattle.std.specs.Ordering.{nat_cmp};
@@ -201,7 +202,8 @@ pub(crate) fn add_part(
 fn changed_by(more: Packed, before: Packed) -> Option<Packed>
     ensures now { IfSome result (λ h. Some h ≡ latest_of (hist_stamps more ++ hist_stamps before)) }
     ensures differs { IfSome result (λ h. h ≢ before) }
-    ensures same { IfNone result (Some before ≡ latest_of (hist_stamps more ++ hist_stamps before)) }
+    ensures same { IfNone result
+        (Some before ≡ latest_of (hist_stamps more ++ hist_stamps before)) }
 {
     let mut now = before;
     let _before = merge_into(&mut now, more)?;

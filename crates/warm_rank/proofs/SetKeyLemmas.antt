@@ -70,6 +70,7 @@ module _ {K : Type 0} where
   none_set (suc n) (key ∷ keys) same = ap (λ rest. None ∷ rest) (none_set n keys (omega arith))
 
 -- no key comes before none
-pub none_after : {K : Type 0} → (cmp : K → K → Ordering) (key : Option K) → false ≡ is_gt (set_first_cmp cmp key None)
+pub none_after : {K : Type 0} → (cmp : K → K → Ordering) (key : Option K)
+    → false ≡ is_gt (set_first_cmp cmp key None)
 none_after cmp None = refl
 none_after cmp (Some key) = refl

@@ -18,14 +18,43 @@ abbrev pub key_in : Fields → RankKey
 key_in f =
     let page : PageId = record { dev = f.dev; no = f.no } in
     let older : Stamp = stamp_at f.older_time f.older_replica in
-    cond (f.stamps == 0) (Never page) (cond (f.stamps == 1) (Once older page) (Twice older (stamp_at f.later_time f.later_replica) page))
+    cond (f.stamps == 0) (Never page)
+    (cond (f.stamps == 1) (Once older page)
+    (Twice older (stamp_at f.later_time f.later_replica) page))
 
 -- the fields of a key: how many stamps are known, the older one, the later one, and the page; a
 -- stamp that isn't known is 0
 abbrev pub fields_of : RankKey → Fields
-fields_of (Never p) = record { older_time = 0; stamps = 0; older_replica = 0; later_replica = 0; dev = p.dev; later_time = 0; no = p.no }
-fields_of (Once a p) = record { older_time = a.time; stamps = 1; older_replica = a.replica; later_replica = 0; dev = p.dev; later_time = 0; no = p.no }
-fields_of (Twice a' a p) = record { older_time = a'.time; stamps = 2; older_replica = a'.replica; later_replica = a.replica; dev = p.dev; later_time = a.time; no = p.no }
+fields_of (Never p) =
+    record {
+      older_time = 0;
+      stamps = 0;
+      older_replica = 0;
+      later_replica = 0;
+      dev = p.dev;
+      later_time = 0;
+      no = p.no;
+    }
+fields_of (Once a p) =
+    record {
+      older_time = a.time;
+      stamps = 1;
+      older_replica = a.replica;
+      later_replica = 0;
+      dev = p.dev;
+      later_time = 0;
+      no = p.no;
+    }
+fields_of (Twice a' a p) =
+    record {
+      older_time = a'.time;
+      stamps = 2;
+      older_replica = a'.replica;
+      later_replica = a.replica;
+      dev = p.dev;
+      later_time = a.time;
+      no = p.no;
+    }
 
 -- these are the fields of a key whose replicas there may be
 pub record AreFields (f : Fields) : Type 0 where
