@@ -154,8 +154,3 @@ tells_at h b (suc i) (f ∷ fs) (g ∷ gs) set (rest, later, how) there long =
       | inr other ↦ ap (λ (s : ℕ). bit_at s (b + 1 + i)) other.1 ∙ with_other rest b (b + 1 + i) (λ at. absurd (omega (arith, at)))
     ] in
     subst (λ k. TellsAt h (suc i) (f ∷ fs) (g ∷ gs) (bit_at set k)) (sym next) (subst (TellsAt h i fs gs) (sym bit) told)
-
-pub length_joined : (h : ℕ) (fs gs : List MapPairs) → length (joined_maps h fs gs) ≡ length fs
-length_joined h [] gs = refl
-length_joined h (f ∷ fs) [] = refl
-length_joined h (f ∷ fs) (g ∷ gs) = ap suc (length_joined h fs gs)

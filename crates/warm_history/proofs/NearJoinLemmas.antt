@@ -24,6 +24,9 @@ same_with old fresh now is q none =
     ∙ found_with q old fresh
     ∙ ap (λ o. option_or o (found q old)) none
 
+pub kept_with : (old fresh : MapPairs) → length fresh ≡ 0 → old ≡ with_pairs old fresh
+kept_with old fresh none = sym (ap (with_pairs old) (none_of fresh none))
+
 pub filled_with : (old fresh given made : MapPairs) → length old ≡ 0 → KeysAscend fresh
     → given ≡ fresh → made ≡ given → made ≡ with_pairs old fresh
 filled_with old fresh given made free rise is same =

@@ -153,7 +153,7 @@ fn add_left<'a>(
 }
 
 // Puts in pairs whose keys are new or, where an allocation fails, none. A map without pairs is made
-// of them at once, and all its nodes are full but the last ones.
+// of them at once, and all its nodes are full but the last ones. To put in none allocates nothing.
 fn put_in(
     alloc: Global,
     map: &mut BTreeMap<u64, Packed>,
@@ -168,6 +168,12 @@ fn put_in(
     ensures err { OnErr result (map.new.entries ≡ map.old.entries) }
     ensures small { length map.old.entries < MAX_PAIRS → length map.new.entries < MAX_PAIRS }
 {
+    if fresh.is_empty() {
+        return Ok(PutIn {
+            was_free: false,
+            fresh,
+        });
+    }
     if map.is_empty() {
         let made = map_of(alloc, &fresh)?;
         *map = made;
