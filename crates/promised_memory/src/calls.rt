@@ -195,24 +195,31 @@ fn lower_of_two(contest: &mut Contest, slot: usize, key: Option<RankKey>)
     contest.lower(slot, key);
 }
 
+// The key of a page of device 0 that was never referenced.
+fn never_referenced(no: u64) -> RankKey {
+    key_of(PageId { dev: 0, no }, None)
+}
+
 // Keys of two slots are set, lowered and cleared.
 pub(crate) fn contested<P: Print>(rt: &P, met: &mut Met, mut contest: Contest) -> Result<(), Ended>
     requires { length contest ≡ 2 }
 {
-    let first = key_of(PageId { dev: 0, no: 1 }, None);
-    let second = key_of(PageId { dev: 0, no: 2 }, None);
     takes_none(rt, "set of a key")?;
-    set_of_two(&mut contest, 0, Some(second));
+    set_of_two(&mut contest, 0, Some(never_referenced(2)));
     takes_none(rt, "set of a lesser key")?;
-    set_of_two(&mut contest, 1, Some(first));
+    set_of_two(&mut contest, 1, Some(never_referenced(1)));
     takes_none(rt, "least")?;
     met.holds(contest.least() == Some(1), "another key is the least")?;
     takes_none(rt, "set of no key")?;
     set_of_two(&mut contest, 1, None);
     met.holds(contest.least() == Some(0), "a key is not cleared")?;
     takes_none(rt, "lower")?;
-    lower_of_two(&mut contest, 0, Some(first));
-    met.holds(contest.key(0) == Some(first), "a lesser key is not taken")?;
+    lower_of_two(&mut contest, 0, Some(never_referenced(1)));
+    let lowered = contest.key(0);
+    met.holds(
+        lowered == Some(never_referenced(1)),
+        "a lesser key is not taken",
+    )?;
     takes_none(rt, "clear_vacant")?;
     contest.clear_vacant(&[None, Some(0)]);
     met.holds(contest.least() == None, "a vacant slot has a key")
