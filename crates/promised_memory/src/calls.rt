@@ -199,8 +199,8 @@ fn lower_of_two(contest: &mut Contest, slot: usize, key: Option<RankKey>)
 pub(crate) fn contested<P: Print>(rt: &P, met: &mut Met, mut contest: Contest) -> Result<(), Ended>
     requires { length contest ≡ 2 }
 {
-    let first = key_of(PageId { dev: 0, no: 1 }, None);
-    let second = key_of(PageId { dev: 0, no: 2 }, None);
+    let first = key_of(PageId { dev: 0, no: 2 }, None);
+    let second = key_of(PageId { dev: 0, no: 1 }, None);
     takes_none(rt, "set of a key")?;
     set_of_two(&mut contest, 0, Some(second));
     takes_none(rt, "set of a lesser key")?;

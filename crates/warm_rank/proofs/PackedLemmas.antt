@@ -3,7 +3,7 @@ use Rattle.std.proofs.Common.{◌≡◌, sym, ap, refl, ◌∙◌}
 use Rattle.std.specs.Ordering.{nat_cmp, ordering_then}
 use Rattle.std.specs.declared.cmp.Ordering.{Ordering}
 use Rattle.std.specs.declared.cmp.Ordering.TheVariants.{Less, Equal, Greater}
-use Rattle.std.proofs.lemmas.Cmp.{nat_cmp_total, on_total, then_total, ranked}
+use Rattle.std.proofs.lemmas.Cmp.{nat_cmp_total, on_total, then_total, back_total, ranked}
 use Rattle.warm_stamps.proofs.DistinctLemmas.{IsStrictOrder}
 use Rattle.warm_stamps.proofs.StampLemmas.{both_tie}
 use Rattle.warm_rank.specs.declared.RankKey.{RankKey}
@@ -46,23 +46,25 @@ packed_order = record {
       (then_total (on_total (λ k. k.older_replica) nat_cmp_total)
       (then_total (on_total (λ k. k.later_time) nat_cmp_total)
       (then_total (on_total (λ k. k.later_replica) nat_cmp_total)
-      (then_total (on_total (λ k. k.dev) nat_cmp_total)
-      (on_total (λ k. k.no) nat_cmp_total))))));
+      (then_total (on_total (λ k. k.dev.0) (back_total nat_cmp_total))
+      (on_total (λ k. k.no.0) (back_total nat_cmp_total)))))));
   same = λ a b e.
       let s = both_tie (nat_cmp a.stamps b.stamps) _ e in
       let ot = both_tie (nat_cmp a.older_time b.older_time) _ s.1 in
       let or = both_tie (nat_cmp a.older_replica b.older_replica) _ ot.1 in
       let lt = both_tie (nat_cmp a.later_time b.later_time) _ or.1 in
       let lr = both_tie (nat_cmp a.later_replica b.later_replica) _ lt.1 in
-      let d = both_tie (nat_cmp a.dev b.dev) (nat_cmp a.no b.no) lr.1 in
+      let d = both_tie (nat_cmp b.dev.0 a.dev.0) (nat_cmp b.no.0 a.no.0) lr.1 in
+      let dev : a.dev.0 ≡ b.dev.0 = sym (ranked b.dev.0 a.dev.0 Equal (sym d.0)) in
+      let no : a.no.0 ≡ b.no.0 = sym (ranked b.no.0 a.no.0 Equal (sym d.1)) in
       λ i. record {
         stamps = ranked a.stamps b.stamps Equal (sym s.0) i;
         older_time = ranked a.older_time b.older_time Equal (sym ot.0) i;
         older_replica = ranked a.older_replica b.older_replica Equal (sym or.0) i;
         later_time = ranked a.later_time b.later_time Equal (sym lt.0) i;
         later_replica = ranked a.later_replica b.later_replica Equal (sym lr.0) i;
-        dev = ranked a.dev b.dev Equal (sym d.0) i;
-        no = ranked a.no b.no Equal (sym d.1) i;
+        dev = record { 0 = dev i };
+        no = record { 0 = no i };
       };
 }
 

@@ -1,6 +1,6 @@
 -- Keys with their fields side by side.
 use Rattle.std.specs.Prelude.{List, map}
-use Rattle.std.specs.Ordering.{nat_cmp, on, then_cmp}
+use Rattle.std.specs.Ordering.{flip_args, nat_cmp, on, then_cmp}
 use Rattle.std.specs.declared.cmp.Ordering.{Ordering}
 use Rattle.warm_stamps.specs.declared.PageId.{PageId}
 use Rattle.warm_history.specs.Histories.{HistoryView, entries_of}
@@ -19,8 +19,8 @@ packed_key (Never p) =
       older_replica = 0;
       later_time = 0;
       later_replica = 0;
-      dev = p.dev;
-      no = p.no;
+      dev = record { 0 = p.0.dev };
+      no = record { 0 = p.0.no };
     }
 packed_key (Once a p) =
     record {
@@ -29,8 +29,8 @@ packed_key (Once a p) =
       older_replica = a.replica;
       later_time = 0;
       later_replica = 0;
-      dev = p.dev;
-      no = p.no;
+      dev = record { 0 = p.0.dev };
+      no = record { 0 = p.0.no };
     }
 packed_key (Twice a' a p) =
     record {
@@ -39,8 +39,8 @@ packed_key (Twice a' a p) =
       older_replica = a'.replica;
       later_time = a.time;
       later_replica = a.replica;
-      dev = p.dev;
-      no = p.no;
+      dev = record { 0 = p.0.dev };
+      no = record { 0 = p.0.no };
     }
 
 -- the packed keys of a history's pages
@@ -49,9 +49,9 @@ packed_keys h = map (λ e. packed_key (entry_key e)) (entries_of h)
 
 -- the page of a packed key
 abbrev pub packed_page : PackedKey → PageId
-packed_page k = record { dev = k.dev; no = k.no }
+packed_page k = record { dev = k.dev.0; no = k.no.0 }
 
--- field by field
+-- field by field, those of the page turned
 abbrev pub packed_cmp : PackedKey → PackedKey → Ordering
 packed_cmp =
     then_cmp (on (λ k. k.stamps) nat_cmp)
@@ -59,5 +59,5 @@ packed_cmp =
     (then_cmp (on (λ k. k.older_replica) nat_cmp)
     (then_cmp (on (λ k. k.later_time) nat_cmp)
     (then_cmp (on (λ k. k.later_replica) nat_cmp)
-    (then_cmp (on (λ k. k.dev) nat_cmp)
-    (on (λ k. k.no) nat_cmp))))))
+    (then_cmp (on (λ k. k.dev.0) (flip_args nat_cmp))
+    (on (λ k. k.no.0) (flip_args nat_cmp)))))))

@@ -9,7 +9,7 @@ ghost use Rattle.warm_rank.specs.FlatKeys.{fields_cmp, stamp_at};
 ghost use Rattle.warm_rank.specs.Keys.{key_cmp};
 
 use crate::RankKey;
-use std::cmp::Ordering;
+use std::cmp::{Ordering, Reverse};
 use std::marker::Model;
 use warm_stamps::{PageId, ReplicaId, Stamp};
 
@@ -58,27 +58,27 @@ impl FlatKey {
                 stamps: 0,
                 older_replica: 0,
                 later_replica: 0,
-                dev: page.dev,
+                dev: page.0.dev,
                 later_time: 0,
-                no: page.no,
+                no: page.0.no,
             },
             RankKey::Once { last, page } => Fields {
                 older_time: last.time,
                 stamps: 1,
                 older_replica: last.replica.get(),
                 later_replica: 0,
-                dev: page.dev,
+                dev: page.0.dev,
                 later_time: 0,
-                no: page.no,
+                no: page.0.no,
             },
             RankKey::Twice { prev, last, page } => Fields {
                 older_time: prev.time,
                 stamps: 2,
                 older_replica: prev.replica.get(),
                 later_replica: last.replica.get(),
-                dev: page.dev,
+                dev: page.0.dev,
                 later_time: last.time,
-                no: page.no,
+                no: page.0.no,
             },
         };
         FlatKey { fields }
@@ -89,10 +89,10 @@ impl FlatKey {
         ensures { result ≡ self }
     {
         let fields = self.fields;
-        let page = PageId {
+        let page = Reverse(PageId {
             dev: fields.dev,
             no: fields.no,
-        };
+        });
         if fields.stamps == 0 {
             return RankKey::Never { page };
         }
@@ -140,7 +140,7 @@ fn stamp_at(time: u64, replica: u16) -> Stamp
     Stamp { time, replica }
 }
 
-// The order of the fields of two ranks. Mostly the older times decide.
+// The order of the fields of two ranks, those of the page turned. Mostly the older times decide.
 fn compare_fields(a: &Fields, b: &Fields) -> Ordering
     ensures { result ≡ fields_cmp a.now b.now }
 {
@@ -160,7 +160,7 @@ fn compare_fields(a: &Fields, b: &Fields) -> Ordering
         return a.later_replica.cmp(&b.later_replica);
     }
     if a.dev != b.dev {
-        return a.dev.cmp(&b.dev);
+        return b.dev.cmp(&a.dev);
     }
-    a.no.cmp(&b.no)
+    b.no.cmp(&a.no)
 }

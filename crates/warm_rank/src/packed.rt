@@ -6,6 +6,7 @@ ghost use Rattle.std.specs.Prelude.{◌≡◌};
 ghost use Rattle.warm_rank.specs.Packed.{packed_key, packed_page};
 
 use crate::RankKey;
+use std::cmp::Reverse;
 use warm_stamps::{PageId, Stamp};
 
 // The fields of a stamp that isn't known.
@@ -20,8 +21,8 @@ pub struct PackedKey {
     older_replica: u16,
     later_time: u64,
     later_replica: u16,
-    dev: u16,
-    no: u64,
+    dev: Reverse<u16>,
+    no: Reverse<u64>,
 }
 
 impl PackedKey {
@@ -43,8 +44,8 @@ impl PackedKey {
         ensures { result ≡ packed_page self }
     {
         PageId {
-            dev: self.dev,
-            no: self.no,
+            dev: self.dev.0,
+            no: self.no.0,
         }
     }
 }
@@ -57,15 +58,15 @@ fn fields_of(stamp: Stamp) -> (u64, u16)
 }
 
 // The key with this number of known stamps, the fields of both, and this page.
-fn packed(stamps: u8, older: (u64, u16), later: (u64, u16), page: PageId) -> PackedKey
+fn packed(stamps: u8, older: (u64, u16), later: (u64, u16), page: Reverse<PageId>) -> PackedKey
     ensures { result ≡ record {
       stamps = stamps;
       older_time = older.0;
       older_replica = older.1;
       later_time = later.0;
       later_replica = later.1;
-      dev = page.dev;
-      no = page.no;
+      dev = record { 0 = page.0.dev };
+      no = record { 0 = page.0.no };
     } }
 {
     PackedKey {
@@ -74,7 +75,7 @@ fn packed(stamps: u8, older: (u64, u16), later: (u64, u16), page: PageId) -> Pac
         older_replica: older.1,
         later_time: later.0,
         later_replica: later.1,
-        dev: page.dev,
-        no: page.no,
+        dev: Reverse(page.0.dev),
+        no: Reverse(page.0.no),
     }
 }
