@@ -3,15 +3,18 @@ use Rattle.std.proofs.Common.{◌≡◌, ℕ, List, [], ◌∷◌, sym, ap, subs
 use Rattle.std.specs.declared.result.Result.{Result}
 use Rattle.std.specs.declared.result.Result.TheVariants.{Ok, Err}
 use Rattle.warm_stamps.specs.declared.PageId.{PageId}
+use Rattle.warm_stamps.specs.Buckets.{page_bucket}
 use Rattle.warm_history.specs.declared.hist.PageHist.{PageHist}
 use Rattle.warm_history.specs.declared.bucket_map.BucketMap.{BucketMap}
 use Rattle.warm_history.specs.declared.bucket_map.UndoNote.{UndoNote}
+use Rattle.warm_history.specs.MapKeys.{key_of_page}
 use Rattle.warm_history.specs.MapPairs.{MapPairs}
 use Rattle.warm_history.specs.NearPairs.{full, fulls, IsMapOf, AreMapsOf}
 use Rattle.warm_history.specs.BucketMaps.{all_pairs, LiesIn, AreBuckets, map_at, with_map, found, RecordsStamps}
 use Rattle.warm_history.specs.Undo.{put_back}
 use Rattle.warm_history.proofs.BucketLemmas.{find_joined}
 use Rattle.warm_history.proofs.BucketSteps.{with_same, records_joined, put_back_joined}
+use Rattle.warm_history.proofs.NearKeys.{own_bucket_of}
 use Rattle.warm_history.proofs.NearParts.{full_inside}
 
 -- ---- one map of them
@@ -108,6 +111,18 @@ recorded (Ok change) i p page more d n ms old are there lies view records =
     (subst (λ fs. RecordsStamps (all_pairs (fulls 0 ms)) page p more change (all_pairs fs)) (sym (fulls_set i n ms))
     (records_joined 0 i page p more change (fulls 0 ms) (full i n) (buckets_of 0 ms are) (lies_at i p lies) few own))
 recorded (Err e) i p page more d n ms old are there lies view records = tt
+
+-- the same, of the bucket that the page is in
+pub recorded_in_bucket : {E : Type 0} (r : Result (Option UndoNote) E) (i : ℕ) (page : PageId)
+    (more : PageHist) (d n : BucketMap) (ms : List BucketMap) (old : MapPairs) → page.dev < 65536
+    → page.no < 18446744073709551616 → AreMapsOf 0 ms → length ms ≡ 64 → i < 64
+    → i ≡ page_bucket page → all_pairs (fulls 0 ms) ≡ old
+    → IfOk r (λ note. RecordsStamps (full (page_bucket page) (get_or ms i d)) page (key_of_page page) more note (full (page_bucket page) n))
+    → IfOk r (λ note. RecordsStamps old page (key_of_page page) more note (all_with ms i n))
+recorded_in_bucket r i page more d n ms old low fits are long below own view records =
+    recorded r i (key_of_page page) page more d n ms old are (subst (λ k. i < k) (sym long) below)
+    (subst (λ b. LiesIn b (key_of_page page)) (sym own) (own_bucket_of page low fits)) view
+    (subst (λ b. IfOk r (λ note. RecordsStamps (full b (get_or ms i d)) page (key_of_page page) more note (full b n))) (sym own) records)
 
 pub unchanged : {A E : Type 0} (r : Result A E) (i : ℕ) (d n : BucketMap) (ms : List BucketMap)
     (old : MapPairs) → i < length ms → all_pairs (fulls 0 ms) ≡ old

@@ -38,6 +38,16 @@ pub record ArePacked (last prev : Stamp) : Type 0 where
   pub none : prev.replica ≡ 0 → prev.time ≡ 0
   pub older : stamp_cmp prev last ≡ Less
 
+-- the history of these four numbers
+abbrev pub hist_of_numbers : ℕ → ℕ → ℕ → ℕ → PageHist
+hist_of_numbers last last_replica prev prev_replica =
+    unpacked (stamp_at last last_replica) (stamp_at prev prev_replica)
+
+-- what is true of the four numbers
+abbrev pub ArePackedNumbers : ℕ → ℕ → ℕ → ℕ → Type 0
+ArePackedNumbers last last_replica prev prev_replica =
+    ArePacked (stamp_at last last_replica) (stamp_at prev prev_replica)
+
 -- ---- what is packed of an unpacked history is what was packed
 
 last_unpacked : (last prev : Stamp) → last_of (unpacked last prev) ≡ last

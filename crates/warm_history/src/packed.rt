@@ -29,19 +29,19 @@ pub(crate) struct Packed {
 impl Model for Packed {
     ghost use Rattle.warm_history.specs.declared.hist.PageHist.{PageHist};
     ghost use Rattle.warm_history.specs.PackedHists.{
-      stamp_at,
-      unpacked,
+      ArePackedNumbers,
+      hist_of_numbers,
       last_of,
-      prev_of,
-      ArePacked,
       packed_again,
+      prev_of,
+      stamp_at,
     };
 
     ghost Value = { PageHist };
 
-    ghost view = { λ p. unpacked (stamp_at p.last p.last_replica) (stamp_at p.prev p.prev_replica) };
+    ghost view = { λ p. hist_of_numbers p.last p.last_replica p.prev p.prev_replica };
 
-    ghost invariant = { λ p. ArePacked (stamp_at p.last p.last_replica) (stamp_at p.prev p.prev_replica) };
+    ghost invariant = { λ p. ArePackedNumbers p.last p.last_replica p.prev p.prev_replica };
 
     ghost inverse = { λ h. record {
       last = (last_of h).time;
@@ -129,7 +129,7 @@ impl Packed {
     }
 
     // Whether the two have the same stamps.
-    fn is_same(self, other: Packed) -> bool
+    pub(crate) fn is_same(self, other: Packed) -> bool
         ensures { IsTrue result ↔ self ≡ other }
     {
         self.last == other.last

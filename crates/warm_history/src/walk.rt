@@ -3,7 +3,7 @@
 //!
 //! The walk only reads, and lists what changes. New pairs are put in next, and taken out again
 //! where an allocation fails; the values that change are written last, which cannot fail.
-ghost use Rattle.std.specs.Prelude.{◌≡◌, [], ◌≢◌, ◌<◌, ◌≤◌, ◌++◌, IfNone, IfOk, IfSome, IsSome};
+ghost use Rattle.std.specs.Prelude.{◌≡◌, [], ◌∷◌, ◌<◌, ◌≤◌, ◌++◌, IfOk, IsSome};
 ghost use Rattle.std.specs.Prelude.{IsTrue, OnErr, OnOk, Some, length};
 ghost use Rattle.std.specs.List.{AllByRecursion};
 ghost use Rattle.std.specs.BTreeMap.{IsFromIterResult, insert_entry};
@@ -33,8 +33,8 @@ use std::alloc::{AllocError, Global};
 use std::collections::BTreeMap;
 use std::collections::btree_map::Range;
 
-// A look-up takes about as long as so many steps of a walk. Past them the next key is looked up: so
-// a run that has few of the keys in its range costs these steps and a look-up for each of its own.
+// A look-up takes about as long as these steps of a walk. Past them the next key is looked up: so a
+// run that has few of the keys in its range costs these steps and a look-up for each of its own.
 const STEPS: usize = 16;
 
 // The pairs of a map that a walk has ahead: the first, and those after it.
@@ -165,6 +165,17 @@ pub(crate) fn find<'a>(
         }
         ahead.first = ahead.later.next();
     }
+    look_up(map, ahead, key)
+}
+
+// The same by a look-up from the map's root. As a part of the walk it would have the room of its
+// locals cleared at each step.
+#[inline(never)]
+fn look_up<'a>(map: &'a BTreeMap<u64, Packed>, ahead: &mut Ahead<'a>, key: u64) -> Option<Packed>
+    requires { KeysAscend map.now.entries }
+    ensures value { result ≡ found key map.now.entries }
+    ensures from { HoldsFrom key (pairs_ahead ahead.new) map.now.entries }
+{
     *ahead = ahead_from(map, key);
     let Some((at, hist)) = ahead.first else {
         return None;
@@ -176,7 +187,7 @@ pub(crate) fn find<'a>(
 }
 
 // Adds a pair of a run to the values that change, where it changes the one known at its key, or to
-// the pairs that are new.
+// the pairs that are new. What is known often comes again, so that is seen first.
 pub(crate) fn add_part(
     changed: &mut Vec<(u64, Packed)>,
     fresh: &mut Vec<(u64, Packed)>,
@@ -189,25 +200,50 @@ pub(crate) fn add_part(
 {
     let Some(before) = known else {
         prove_two_latest(&more);
-        fresh.push((key, more))?;
+        push_pair(fresh, key, more)?;
         return Ok(());
     };
-    if let Some(now) = changed_by(more, before) {
-        changed.push((key, now))?;
+    if is_known(more, before) {
+        return Ok(());
     }
+    add_change(changed, key, more, before)?;
     Ok(())
 }
 
-// The value with more stamps, where they change it.
-fn changed_by(more: Packed, before: Packed) -> Option<Packed>
-    ensures now { IfSome result (λ h. Some h ≡ latest_of (hist_stamps more ++ hist_stamps before)) }
-    ensures differs { IfSome result (λ h. h ≢ before) }
-    ensures same { IfNone result
-        (Some before ≡ latest_of (hist_stamps more ++ hist_stamps before)) }
+// Whether a page's stamps come again.
+fn is_known(more: Packed, before: Packed) -> bool
+    ensures { IsTrue result → Some before ≡ latest_of (hist_stamps more ++ hist_stamps before) }
+{
+    more.is_same(before)
+}
+
+// Adds the value with more stamps, where they change it. It is no part of the walk, as `look_up` is
+// none.
+#[inline(never)]
+fn add_change(
+    changed: &mut Vec<(u64, Packed)>,
+    key: u64,
+    more: Packed,
+    before: Packed,
+) -> Result<(), AllocError>
+    ensures { OnOk result ((fresh : MapPairs)
+        → AddsPart (Some before) key more changed.old.items fresh changed.new.items fresh) }
 {
     let mut now = before;
-    let _before = merge_into(&mut now, more)?;
-    Some(now)
+    let Some(_before) = merge_into(&mut now, more) else {
+        return Ok(());
+    };
+    changed.push((key, now))?;
+    Ok(())
+}
+
+// Adds a pair at the end. It is no part of the walk, as `look_up` is none.
+#[inline(never)]
+fn push_pair(pairs: &mut Vec<(u64, Packed)>, key: u64, hist: Packed) -> Result<(), AllocError>
+    ensures { OnOk result (pairs.new.items ≡ pairs.old.items ++ (key, hist) ∷ []) }
+{
+    pairs.push((key, hist))?;
+    Ok(())
 }
 
 // What a run changes in a map. It only reads.
@@ -343,8 +379,7 @@ fn write_each(map: &mut BTreeMap<u64, Packed>, pairs: &[(u64, Packed)])
 }
 
 fn write(map: &mut BTreeMap<u64, Packed>, key: u64, hist: Packed)
-    requires rise { KeysAscend map.old.entries }
-    requires there { IsSome (found key map.old.entries) }
+    requires { IsSome (found key map.old.entries) }
     ensures entries { map.new.entries ≡ insert_entry nat_cmp map.old.entries key hist }
     ensures len { length map.new.entries ≡ length map.old.entries }
 {

@@ -108,8 +108,8 @@ impl FlatKey {
         }
     }
 
-    /// Whether this rank comes after another, where the older times alone decide. Their order can't
-    /// be foreseen, and this answer is computed without a jump.
+    /// Whether this rank comes after another, where the older times alone decide. Their order
+    /// cannot be predicted, and this answer is computed without a branch.
     pub(crate) fn is_after_by_time(&self, other: &FlatKey) -> Option<bool>
         ensures { IfSome result (λ is_after.
             key_cmp self.now other.now ≡ cond is_after Greater Less) }

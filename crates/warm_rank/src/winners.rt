@@ -65,7 +65,7 @@ fn is_settled(before: u32, now: u32, slot: usize) -> bool
 }
 
 // The slot that comes first of two, which are in this node and the one behind it. It is read there:
-// which of two keys comes first can't be foreseen, and an index needs no jump.
+// which of two keys comes first cannot be predicted, and an index needs no branch.
 fn winner_of(keys: &SlotKeys, nodes: &[u32], node: usize, a: u32, b: u32) -> u32
     requires first { a < length keys.now }
     requires second { b < length keys.now }

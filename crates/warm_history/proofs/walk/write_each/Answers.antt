@@ -8,8 +8,8 @@ use Rattle.warm_history.proofs.MapPairLemmas.{left_more, none_left}
 use Rattle.warm_history.proofs.MergedLemmas.{goes_on_with, rise_more, there_inserted}
 use Rattle.warm_history.proofs.walk.write_each.Goals as goal
 
-pub write-requires-clause-there : goal.write-requires-clause-there
-write-requires-clause-there c =
+pub write-requires : goal.write-requires
+write-requires c =
     let pairs : MapPairs = c.args.pairs.now in
     let i = c.loop-pair.pair-index in
     let e : ℕ × PageHist = c.pair-item.result in

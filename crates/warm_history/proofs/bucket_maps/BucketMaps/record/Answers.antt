@@ -1,13 +1,12 @@
-use Rattle.std.proofs.Common.{◌≡◌, ◌<◌, sym, subst, ◌∙◌, arith, length, get_or, IfOk, OnErr}
+use Rattle.std.proofs.Common.{◌≡◌, ◌<◌, sym, subst, ◌∙◌, arith, length, get_or, OnErr}
 use Rattle.std.proofs.lemmas.Result.{IfOk-weaker}
 use Rattle.warm_stamps.specs.Buckets.{page_bucket}
-use Rattle.warm_history.specs.BucketMaps.{LiesIn, RecordsStamps}
 use Rattle.warm_history.specs.MapKeys.{key_of_page}
 use Rattle.warm_history.specs.MapPairs.{AreKept}
 use Rattle.warm_history.specs.NearPairs.{full, IsMapOf}
 use Rattle.warm_history.proofs.BucketSteps.{ok_then, either_way, records_exact, records_whole, records_undo, records_tell}
-use Rattle.warm_history.proofs.FullMaps.{all_with, length_set, map_of, maps_with, recorded, unchanged}
-use Rattle.warm_history.proofs.NearKeys.{own_bucket_of, page_key}
+use Rattle.warm_history.proofs.FullMaps.{all_with, length_set, map_of, maps_with, recorded_in_bucket, unchanged}
+use Rattle.warm_history.proofs.NearKeys.{page_key}
 use Rattle.warm_history.proofs.bucket_maps.BucketMaps.record.Goals as goal
 
 pub record-requires : goal.record-requires
@@ -33,70 +32,48 @@ invariant_of-self c =
 pub returns-clause-exact : goal.returns-clause-exact
 returns-clause-exact c =
     let page = c.args.page in
-    let p = key_of_page page in
     let maps = c.self.inside.maps in
     let i = c.get.result in
-    let d = c.index-self-get.result in
     let new = c.record.new.self in
     let own : i ≡ page_bucket page = c.get.ensures.value ∙ c.bucket_of.ensures in
-    let long : length maps ≡ 64 = c.self.invariant.0 in
-    let there : i < length maps = omega (arith, long, c.get.ensures.below) in
-    let lies : LiesIn i p = subst (λ b. LiesIn b p) (sym own) (own_bucket_of page (omega arith) (omega arith)) in
-    let here = subst (λ b. IfOk c.record.result (λ note. RecordsStamps (full b (get_or maps i d)) page p c.args.more note (full b new))) (sym own) c.record.ensures.ok in
-    let ok = recorded c.record.result i p page c.args.more d new maps c.args.self.now c.self.invariant.1 there lies c.self.view_is here in
-    ok_then c.record.result _ _ (λ note records. records_exact c.args.self.now (all_with maps i new) page p c.args.more note (page_key page (omega arith) (omega arith)) c.requires records) ok
+    let ok = recorded_in_bucket c.record.result c.get.result page c.args.more c.index-self-get.result new maps c.args.self.now (omega arith) (omega arith) c.self.invariant.1 c.self.invariant.0 c.get.ensures.below own c.self.view_is c.record.ensures.ok in
+    ok_then c.record.result _ _ (λ note records. records_exact c.args.self.now (all_with maps i new) page (key_of_page page) c.args.more note (page_key page (omega arith) (omega arith)) c.requires records) ok
 
 pub returns-clause-whole : goal.returns-clause-whole
 returns-clause-whole c =
     let page = c.args.page in
-    let p = key_of_page page in
     let maps = c.self.inside.maps in
     let i = c.get.result in
-    let d = c.index-self-get.result in
     let new = c.record.new.self in
     let own : i ≡ page_bucket page = c.get.ensures.value ∙ c.bucket_of.ensures in
-    let long : length maps ≡ 64 = c.self.invariant.0 in
-    let there : i < length maps = omega (arith, long, c.get.ensures.below) in
-    let lies : LiesIn i p = subst (λ b. LiesIn b p) (sym own) (own_bucket_of page (omega arith) (omega arith)) in
-    let here = subst (λ b. IfOk c.record.result (λ note. RecordsStamps (full b (get_or maps i d)) page p c.args.more note (full b new))) (sym own) c.record.ensures.ok in
+    let ok = recorded_in_bucket c.record.result c.get.result page c.args.more c.index-self-get.result new maps c.args.self.now (omega arith) (omega arith) c.self.invariant.1 c.self.invariant.0 c.get.ensures.below own c.self.view_is c.record.ensures.ok in
+    let d = c.index-self-get.result in
+    let there : i < length maps = subst (λ k. i < k) (sym c.self.invariant.0) c.get.ensures.below in
     let same = subst (λ b. OnErr c.record.result (full b new ≡ full b (get_or maps i d))) (sym own) c.record.ensures.err in
-    let ok = recorded c.record.result i p page c.args.more d new maps c.args.self.now c.self.invariant.1 there lies c.self.view_is here in
     let err = unchanged c.record.result i d new maps c.args.self.now there c.self.view_is same in
     either_way c.record.result _ _ _
-    (λ note records. records_whole c.args.self.now (all_with maps i new) page p c.args.more note (page_key page (omega arith) (omega arith)) c.requires records)
+    (λ note records. records_whole c.args.self.now (all_with maps i new) page (key_of_page page) c.args.more note (page_key page (omega arith) (omega arith)) c.requires records)
     (λ is. subst AreKept (sym is) c.requires) ok err
 
 pub returns-clause-undo : goal.returns-clause-undo
 returns-clause-undo c =
     let page = c.args.page in
-    let p = key_of_page page in
     let maps = c.self.inside.maps in
     let i = c.get.result in
-    let d = c.index-self-get.result in
     let new = c.record.new.self in
     let own : i ≡ page_bucket page = c.get.ensures.value ∙ c.bucket_of.ensures in
-    let long : length maps ≡ 64 = c.self.invariant.0 in
-    let there : i < length maps = omega (arith, long, c.get.ensures.below) in
-    let lies : LiesIn i p = subst (λ b. LiesIn b p) (sym own) (own_bucket_of page (omega arith) (omega arith)) in
-    let here = subst (λ b. IfOk c.record.result (λ note. RecordsStamps (full b (get_or maps i d)) page p c.args.more note (full b new))) (sym own) c.record.ensures.ok in
-    let ok = recorded c.record.result i p page c.args.more d new maps c.args.self.now c.self.invariant.1 there lies c.self.view_is here in
+    let ok = recorded_in_bucket c.record.result c.get.result page c.args.more c.index-self-get.result new maps c.args.self.now (omega arith) (omega arith) c.self.invariant.1 c.self.invariant.0 c.get.ensures.below own c.self.view_is c.record.ensures.ok in
     IfOk-weaker c.record.result _ _ (λ note records. records_undo c.args.self.now (all_with maps i new) page c.args.more note c.requires records) ok
 
 pub returns-clause-tells : goal.returns-clause-tells
 returns-clause-tells c =
     let page = c.args.page in
-    let p = key_of_page page in
     let maps = c.self.inside.maps in
     let i = c.get.result in
-    let d = c.index-self-get.result in
     let new = c.record.new.self in
     let own : i ≡ page_bucket page = c.get.ensures.value ∙ c.bucket_of.ensures in
-    let long : length maps ≡ 64 = c.self.invariant.0 in
-    let there : i < length maps = omega (arith, long, c.get.ensures.below) in
-    let lies : LiesIn i p = subst (λ b. LiesIn b p) (sym own) (own_bucket_of page (omega arith) (omega arith)) in
-    let here = subst (λ b. IfOk c.record.result (λ note. RecordsStamps (full b (get_or maps i d)) page p c.args.more note (full b new))) (sym own) c.record.ensures.ok in
-    let ok = recorded c.record.result i p page c.args.more d new maps c.args.self.now c.self.invariant.1 there lies c.self.view_is here in
-    IfOk-weaker c.record.result _ _ (λ note records. records_tell c.args.self.now (all_with maps i new) page p c.args.more note records) ok
+    let ok = recorded_in_bucket c.record.result c.get.result page c.args.more c.index-self-get.result new maps c.args.self.now (omega arith) (omega arith) c.self.invariant.1 c.self.invariant.0 c.get.ensures.below own c.self.view_is c.record.ensures.ok in
+    IfOk-weaker c.record.result _ _ (λ note records. records_tell c.args.self.now (all_with maps i new) page (key_of_page page) c.args.more note records) ok
 
 pub returns-clause-err : goal.returns-clause-err
 returns-clause-err c =
