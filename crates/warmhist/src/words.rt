@@ -205,7 +205,7 @@ fn make_command<'a>(alloc: Global) -> Result<Command<'a>, AllocError> {
         .arg(sender_argument(alloc))
 }
 
-fn whole_command<'a>(alloc: Global) -> Result<Command<'a>, AllocError> {
+fn root_command<'a>(alloc: Global) -> Result<Command<'a>, AllocError> {
     Command::new(alloc, "warmhist")
         .version(VERSION)
         .about("Inspect, compare, join and make dumps of LRU-2 histories")
@@ -225,7 +225,7 @@ pub fn matches_of<'a, S: AsStr>(
     alloc: Global,
     words: &'a [S],
 ) -> Result<ArgMatches<'a>, clap::Error> {
-    let command = whole_command(alloc)?;
+    let command = root_command(alloc)?;
     command.try_get_matches_from(words)
 }
 
