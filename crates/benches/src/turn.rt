@@ -80,82 +80,36 @@ fn add_ones<M: Machine<Call = Add, Reply = Added>, R: Wait + Clock>(
     (pass, longest)
 }
 
-// Two threads take this many turns each, and their passes are ended into this one.
-fn add_in_two<M: Machine<Call = Add, Reply = Added> + Send, R: Threads + Wait + Clock + Sync>(
+// This many threads take this many turns each, and their passes are ended into this one.
+#[cycle(add_in)]
+fn add_in<M: Machine<Call = Add, Reply = Added> + Send, R: Threads + Wait + Clock + Sync>(
     rt: &R,
     turn: &Turn<M>,
     mut pass: Pass<M>,
+    threads: u32,
     turns: u64,
     is_timed: bool,
 ) -> (Pass<M>, u64)
-    requires { pass.table ≡ turn.now.table }
+    requires send { IsSend M.row × IsSync R.row }
+    requires table { pass.table ≡ turn.now.table }
     ensures { result.0.table ≡ turn.now.table }
 {
-    let other = turn.pass(&mut pass);
-    let ((mut pass, first), (other, second)) = join(
-        rt,
-        move || -> (Pass<M>, u64)
-            requires { pass.table ≡ turn.now.table }
-            ensures { result.0.table ≡ turn.entry.now.table }
-        { add_ones(rt, turn, pass, turns, is_timed) },
-        move || -> (Pass<M>, u64)
-            requires { other.table ≡ turn.now.table }
-            ensures { result.0.table ≡ turn.entry.now.table }
-        { add_ones(rt, turn, other, turns, is_timed) },
-    );
-    turn.end(&mut pass, other);
-    (pass, first.max(second))
-}
-
-// The same with four threads.
-fn add_in_four<M: Machine<Call = Add, Reply = Added> + Send, R: Threads + Wait + Clock + Sync>(
-    rt: &R,
-    turn: &Turn<M>,
-    mut pass: Pass<M>,
-    turns: u64,
-    is_timed: bool,
-) -> (Pass<M>, u64)
-    requires { pass.table ≡ turn.now.table }
-    ensures { result.0.table ≡ turn.now.table }
-{
+    if threads <= 1 {
+        return add_ones(rt, turn, pass, turns, is_timed);
+    }
+    let half = threads / 2;
+    let rest = threads - half;
     let other = turn.pass(&mut pass);
     let ((mut pass, first), (other, second)) = join(
         rt,
         move || -> (Pass<M>, u64)
             requires { IsSend M.row × IsSync R.row × (pass.table ≡ turn.now.table) }
             ensures { result.0.table ≡ turn.entry.now.table }
-        { add_in_two(rt, turn, pass, turns, is_timed) },
+        { add_in(rt, turn, pass, half, turns, is_timed) },
         move || -> (Pass<M>, u64)
             requires { IsSend M.row × IsSync R.row × (other.table ≡ turn.now.table) }
             ensures { result.0.table ≡ turn.entry.now.table }
-        { add_in_two(rt, turn, other, turns, is_timed) },
-    );
-    turn.end(&mut pass, other);
-    (pass, first.max(second))
-}
-
-// The same with eight threads.
-fn add_in_eight<M: Machine<Call = Add, Reply = Added> + Send, R: Threads + Wait + Clock + Sync>(
-    rt: &R,
-    turn: &Turn<M>,
-    mut pass: Pass<M>,
-    turns: u64,
-    is_timed: bool,
-) -> (Pass<M>, u64)
-    requires { pass.table ≡ turn.now.table }
-    ensures { result.0.table ≡ turn.now.table }
-{
-    let other = turn.pass(&mut pass);
-    let ((mut pass, first), (other, second)) = join(
-        rt,
-        move || -> (Pass<M>, u64)
-            requires { IsSend M.row × IsSync R.row × (pass.table ≡ turn.now.table) }
-            ensures { result.0.table ≡ turn.entry.now.table }
-        { add_in_four(rt, turn, pass, turns, is_timed) },
-        move || -> (Pass<M>, u64)
-            requires { IsSend M.row × IsSync R.row × (other.table ≡ turn.now.table) }
-            ensures { result.0.table ≡ turn.entry.now.table }
-        { add_in_four(rt, turn, other, turns, is_timed) },
+        { add_in(rt, turn, other, rest, turns, is_timed) },
     );
     turn.end(&mut pass, other);
     (pass, first.max(second))
@@ -183,6 +137,15 @@ impl Crowd {
         }
     }
 
+    fn threads(self) -> u32 {
+        match self {
+            Crowd::One => 1,
+            Crowd::Two => 2,
+            Crowd::Four => 4,
+            Crowd::Eight => 8,
+        }
+    }
+
     fn name(self) -> &'static str {
         match self {
             Crowd::One => "1 thread",
@@ -202,26 +165,6 @@ enum Kind {
     Slow,
 }
 
-// The pass after the crowd's turns, and the time of the longest.
-fn counted<M: Machine<Call = Add, Reply = Added> + Send, R: Threads + Wait + Clock + Sync>(
-    rt: &R,
-    turn: &Turn<M>,
-    pass: Pass<M>,
-    crowd: Crowd,
-    turns: u64,
-    is_timed: bool,
-) -> (Pass<M>, u64)
-    requires { pass.table ≡ turn.now.table }
-    ensures { result.0.table ≡ turn.now.table }
-{
-    match crowd {
-        Crowd::One => add_ones(rt, turn, pass, turns, is_timed),
-        Crowd::Two => add_in_two(rt, turn, pass, turns, is_timed),
-        Crowd::Four => add_in_four(rt, turn, pass, turns, is_timed),
-        Crowd::Eight => add_in_eight(rt, turn, pass, turns, is_timed),
-    }
-}
-
 // The total that the crowd counts to from 0, and the nanoseconds of the longest call.
 fn count<R: Threads + Wait + Clock + Sync>(
     rt: &R,
@@ -233,7 +176,7 @@ fn count<R: Threads + Wait + Clock + Sync>(
     let Ok((turn, pass)) = Turn::new(alloc, Counter { total: 0 }) else {
         bail!("no memory")
     };
-    let (pass, longest) = counted(rt, &turn, pass, crowd, turns, is_timed);
+    let (pass, longest) = add_in(rt, &turn, pass, crowd.threads(), turns, is_timed);
     let Ok(counter) = turn.close(pass) else {
         bail!("a ticket was not passed on")
     };
@@ -252,7 +195,7 @@ fn count_slowly<R: Threads + Wait + Clock + Sync>(
     let Ok((turn, pass)) = Turn::new(alloc, SlowCounter { clock, counter }) else {
         bail!("no memory")
     };
-    let (pass, longest) = counted(rt, &turn, pass, crowd, turns, true);
+    let (pass, longest) = add_in(rt, &turn, pass, crowd.threads(), turns, true);
     let Ok(slow) = turn.close(pass) else {
         bail!("a ticket was not passed on")
     };

@@ -282,7 +282,15 @@ seen = record { page = page 0 1; stamp = stamp 10 1 }
 
 -- a replica of two workers, with what reached it and what waits for its first worker
 abbrev replica_with : List Reference → List Reference → ModelState
-replica_with reach waiting = record { capacity = 64; replicas = record { reach = set_of_list reach; pending = waiting ∷ [] ∷ []; pool = no_pool } ∷ []; records = [] }
+replica_with reach waiting = record {
+  capacity = 64;
+  replicas = record {
+    reach = set_of_list reach;
+    pending = waiting ∷ [] ∷ [];
+    pool = no_pool;
+  } ∷ [];
+  records = [];
+}
 
 -- one replica with two workers: refusals, a comment and a bad line
 refusals : Printed (replica_with [] []) (codes "ref 2 1 0:1 5\nflush 1 3\n# x\nbad\n")

@@ -11,7 +11,9 @@ use Rattle.warm_schedule.proofs.Words.{first_word, words_later, word_digits, wor
 
 -- what is made of two parts that spell numbers
 abbrev pub two_of : {A : Type 0} → ℕ → (ℕ → ℕ → Option A) → List (List ℕ) → Option A
-two_of limit make (first ∷ second ∷ []) = number_up_to limit first >>= λ d. number_up_to 18446744073709551615 second >>= λ n. make d n
+two_of limit make (first ∷ second ∷ []) =
+    number_up_to limit first >>= λ d.
+    number_up_to 18446744073709551615 second >>= λ n. make d n
 two_of limit make parts = None
 
 -- ---- the separator behind the digits of a word

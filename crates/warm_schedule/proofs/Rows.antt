@@ -39,7 +39,8 @@ answers (row ∷ rest) = row.1 ++ answers rest
 abbrev Rows : ModelState → ℕ → List (List ℕ × List ℕ) → ModelState → Type 0
 Rows state number [] last = last ≡ state
 Rows state number (row ∷ rest) last =
-    (next : ModelState) × LineAnswered state number (meaning row.0) row.1 next × Rows next (number + 1) rest last
+    (next : ModelState) × LineAnswered state number (meaning row.0) row.1 next
+    × Rows next (number + 1) rest last
 
 printed : (state last : ModelState) (number : ℕ) (table : List (List ℕ × List ℕ))
     → Rows state number table last → PrintedFrom state number (said table) (answers table) last
@@ -73,10 +74,18 @@ abbrev has : ℕ → List Reference → ReplicaState
 has horizon given = one no_pool (kept horizon given) []
 
 abbrev alone : ReferenceSet → List Reference → ModelState
-alone reach waiting = record { capacity = 64; replicas = one no_pool reach waiting ∷ []; records = [] }
+alone reach waiting = record {
+  capacity = 64;
+  replicas = one no_pool reach waiting ∷ [];
+  records = [];
+}
 
 abbrev both : ReplicaState → ReplicaState → List MessageRecord → ModelState
-both first second records = record { capacity = 64; replicas = first ∷ second ∷ []; records = records }
+both first second records = record {
+  capacity = 64;
+  replicas = first ∷ second ∷ [];
+  records = records;
+}
 
 number : (n count : ℕ) → 0 < n → n ≤ count → IsNumber n count
 number n count some low = record { from_one = omega (arith, some); in_range = omega (arith, low) }
@@ -107,7 +116,10 @@ forgotten_table =
     ∷ (codes "horizon 1 0", codes "horizon 0\n")
     ∷ []
 
-forgotten : Printed (alone (kept 0 []) []) (codes "ref 1 1 0:1 10\nref 1 1 0:1 20\nref 1 1 0:2 5\nflush 1 1\nhorizon 1 15\nshow 1\nref 1 1 0:1 12\nflush 1 1\nshow 1\nhorizon 1 3\nrestart 1\nhorizon 1 0") (codes "ok\nok\nok\nok\nhorizon 15\n0:1 last 20@1\nend 1\nok\nok\n0:1 last 20@1\nend 1\nhorizon 15\nok\nhorizon 0\n") (alone (kept 0 []) [])
+forgotten : Printed (alone (kept 0 []) [])
+    (codes "ref 1 1 0:1 10\nref 1 1 0:1 20\nref 1 1 0:2 5\nflush 1 1\nhorizon 1 15\nshow 1\nref 1 1 0:1 12\nflush 1 1\nshow 1\nhorizon 1 3\nrestart 1\nhorizon 1 0")
+    (codes "ok\nok\nok\nok\nhorizon 15\n0:1 last 20@1\nend 1\nok\nok\n0:1 last 20@1\nend 1\nhorizon 15\nok\nhorizon 0\n")
+    (alone (kept 0 []) [])
 unfolding meaning line_of commands words number_up_to page_of_word number_field page_field refer_of flush_of restart_of horizon_of show_of history digits
 forgotten = printed (alone (kept 0 []) []) (alone (kept 0 []) []) 1 forgotten_table (
   alone (kept 0 []) (at 1 10 1 ∷ []),
@@ -294,7 +306,13 @@ requested digests differ = printed (both (has 0 (at 1 10 1 ∷ [])) (has 50 (at 
 
 -- a pool without a frame over one device of 256 pages
 abbrev small : PoolView
-small = record { page_size = 16; devices = record { pages = 256; honest = true; unfailing = true } ∷ []; frames = []; contents = []; failures = 0 ∷ [] }
+small = record {
+  page_size = 16;
+  devices = record { pages = 256; honest = true; unfailing = true } ∷ [];
+  frames = [];
+  contents = [];
+  failures = 0 ∷ [];
+}
 
 abbrev knows : List Reference → ReplicaState
 knows given = one small (kept 0 given) []

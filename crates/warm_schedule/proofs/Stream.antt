@@ -222,8 +222,9 @@ said_so old number read said out new e answered = subst (λ (o : Option Line). L
 
 -- the line that has begun and ends with these bytes was answered by this
 abbrev pub AnswersBegun : SessionView → List ℕ → List ℕ → WorldView → Type 0
-AnswersBegun old piece out world = (state : ModelState) (begun : List ℕ) → SessionStands old state begun
-    → (next : ModelState) × StandsFor world next × LineAnswered state old.number (meaning (begun ++ piece)) out next
+AnswersBegun old piece out world = (state : ModelState) (begun : List ℕ)
+    → SessionStands old state begun → (next : ModelState) × StandsFor world next
+    × LineAnswered state old.number (meaning (begun ++ piece)) out next
 
 -- a line that stands whole in its last bytes
 pub answers_whole : (a : SessionView) (piece out : List ℕ) (w : WorldView) → length a.held ≡ 0

@@ -133,7 +133,9 @@ IsNamed name found = option_map (λ f. bytes_eq f.0 name) found ≡ Some true
 
 -- a command, or a subcommand that may lack a value
 abbrev pub IsAsked : Option (Text × List Row) → Type 0
-IsAsked found = (is_some (option_and_then command_by found) ≡ true) ⊎ (IsNamed (codes "random") found ⊎ IsNamed (codes "threads") found)
+IsAsked found =
+    (is_some (option_and_then command_by found) ≡ true)
+    ⊎ (IsNamed (codes "random") found ⊎ IsNamed (codes "threads") found)
 
 abbrev shape_at : ℕ → List Shape → Shape
 shape_at n [] = play.top
@@ -143,8 +145,10 @@ shape_at (suc n) (s ∷ rest) = shape_at n rest
 -- the first of the four subcommands whose name is that of the words
 abbrev entered_by : Bool → Bool → Bool → Bool → List Text → Option (Text × List Row)
 entered_by is_play is_random is_threads is_help rest = option_map (λ s. rows_at s rest)
-    (cond (is_play || false) (Some (shape_at 0 (built warmplay).subs)) (cond (is_random || false) (Some (shape_at 1 (built warmplay).subs))
-    (cond (is_threads || false) (Some (shape_at 2 (built warmplay).subs)) (cond (is_help || false) (Some (shape_at 3 (built warmplay).subs)) None))))
+    (cond (is_play || false) (Some (shape_at 0 (built warmplay).subs))
+    (cond (is_random || false) (Some (shape_at 1 (built warmplay).subs))
+    (cond (is_threads || false) (Some (shape_at 2 (built warmplay).subs))
+    (cond (is_help || false) (Some (shape_at 3 (built warmplay).subs)) None))))
 
 one_is_asked : (is_play is_random is_threads is_help : Bool) (rest : List Text) → is_help ≡ false
     → is_some (entered_by is_play is_random is_threads is_help rest) ≡ true

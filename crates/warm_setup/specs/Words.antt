@@ -57,16 +57,17 @@ threads = with_rule (with_rule (new_app (codes "threads")) (record file { requir
 abbrev pub wants_command : Shape → Shape
 wants_command top = record top { subcommand_required = true }
 
--- the program with the command that plays a schedule line by line
+-- the root command with `play` alone
 abbrev pub with_play : App
 with_play = with_subcommand (on_top wants_command (new_app (codes "warmplay"))) play.top
 
--- and with the command that writes a random schedule, which starts no thread either
-abbrev pub line_by_line : App
-line_by_line = with_subcommand with_play random.top
+-- and with `random`
+abbrev pub with_random : App
+with_random = with_subcommand with_play random.top
 
+-- and with `threads`: the root command of the program
 abbrev pub warmplay : App
-warmplay = with_subcommand line_by_line threads.top
+warmplay = with_subcommand with_random threads.top
 
 -- ---- the meaning of words
 

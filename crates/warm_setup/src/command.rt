@@ -9,7 +9,7 @@ ghost use Rattle.clap.specs.Words.{subcommand_rows_of, FailsBy};
 ghost use Rattle.clap.specs.Faults.{fault_of};
 ghost use Rattle.clap.specs.declared.builder.Command.TheViews.{out-Command};
 ghost use Rattle.warm_setup.specs.Endings.{command_fault_code, command_fault_name};
-ghost use Rattle.warm_setup.specs.Words.{with_play, line_by_line, setup, number, argument_number};
+ghost use Rattle.warm_setup.specs.Words.{with_play, with_random, setup, number, argument_number};
 ghost use Rattle.warm_setup.specs.Words.{play, random, random_by, threads, threads_by, warmplay};
 ghost use Rattle.warm_setup.specs.Words.{command_by, Answers, IsRefusal};
 ghost use Rattle.warm_setup.specs.WordsView.{command_for};
@@ -179,35 +179,35 @@ fn threads_command<'a>(alloc: Global) -> Result<Command<'a>, AllocError>
     threads.arg(file)?.arg(setup_argument(alloc))
 }
 
-// The program with its commands. Each of the next three functions adds one command: in a function
+// The program's root command. Each of the next three functions adds one subcommand: in a function
 // that holds several at once, all of them are dropped at each return, and its proof takes minutes.
-fn play_alone<'a>(alloc: Global) -> Result<Command<'a>, AllocError>
+fn root_with_play<'a>(alloc: Global) -> Result<Command<'a>, AllocError>
     ensures app { IfOk result (λ c. app_of c ≡ with_play) }
     ensures local { IfOk result (λ c. (out-Command c).has_globals ≡ false) }
 {
     let play = play_command(alloc)?;
-    let top = Command::new(alloc, "warmplay")
+    let root = Command::new(alloc, "warmplay")
         .about("Warm-standby buffer pools that merge LRU-2 histories")
         .subcommand_required(true);
-    top.subcommand(play)
+    root.subcommand(play)
 }
 
-fn line_by_line_commands<'a>(alloc: Global) -> Result<Command<'a>, AllocError>
-    ensures app { IfOk result (λ c. app_of c ≡ line_by_line) }
+fn root_with_random<'a>(alloc: Global) -> Result<Command<'a>, AllocError>
+    ensures app { IfOk result (λ c. app_of c ≡ with_random) }
     ensures local { IfOk result (λ c. (out-Command c).has_globals ≡ false) }
 {
-    let played = play_alone(alloc)?;
+    let root = root_with_play(alloc)?;
     let random = random_command(alloc)?;
-    played.subcommand(random)
+    root.subcommand(random)
 }
 
-fn whole_command<'a>(alloc: Global) -> Result<Command<'a>, AllocError>
+fn root_command<'a>(alloc: Global) -> Result<Command<'a>, AllocError>
     ensures app { IfOk result (λ c. app_of c ≡ warmplay) }
     ensures local { IfOk result (λ c. (out-Command c).has_globals ≡ false) }
 {
-    let both = line_by_line_commands(alloc)?;
+    let root = root_with_random(alloc)?;
     let threads = threads_command(alloc)?;
-    both.subcommand(threads)
+    root.subcommand(threads)
 }
 
 // The matches of the words, as clap defines them for these commands.
@@ -216,7 +216,7 @@ fn matches_of<'a, S: AsStr>(alloc: Global, words: &'a [S]) -> Result<ArgMatches<
         (λ m. subcommand_rows_of m ≡ subcommand_of warmplay (map S.text words.now)) }
     ensures kinds { FailsBy (fault_of warmplay (map S.text words.now)) result }
 {
-    let command = whole_command(alloc)?;
+    let command = root_command(alloc)?;
     command.try_get_matches_from(words)
 }
 
@@ -319,7 +319,7 @@ pub fn non_utf8_argument(alloc: Global) -> CmdFault
 fn refused(alloc: Global, kind: ErrorKind, why: &str) -> CmdFault
     ensures { IsRefusal kind result }
 {
-    let Ok(mut command) = whole_command(alloc) else {
+    let Ok(mut command) = root_command(alloc) else {
         return CmdFault::Memory;
     };
     match command.error(kind, why) {

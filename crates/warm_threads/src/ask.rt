@@ -1,7 +1,7 @@
 //! The requests of lines to workers.
 ghost use Rattle.std.specs.Prelude.{◌≡◌};
 ghost use Rattle.warm_world.specs.Sizes.{IsSetup};
-ghost use Rattle.warm_threads.specs.Asks.{ask_in, asked, has_worker, is_number};
+ghost use Rattle.warm_threads.specs.Asks.{ask_in, asked, has_worker};
 
 use warm_schedule::{WorkerRequest, parse_worker_line};
 use warm_stamps::{Reference, ReplicaId, Stamp};
@@ -29,16 +29,10 @@ pub(crate) struct Ask {
 #[derive(Clone, Copy)]
 pub(crate) struct NotPlayable;
 
-fn is_number(number: u16, count: u16) -> bool
-    ensures { result ≡ is_number number count }
-{
-    1 <= number && number <= count
-}
-
 fn has_worker(setup: Setup, replica: u16, worker: u16) -> bool
     ensures { result ≡ has_worker setup replica worker }
 {
-    is_number(replica, setup.replicas()) && is_number(worker, setup.workers())
+    (1..=setup.replicas()).contains(&replica) && (1..=setup.workers()).contains(&worker)
 }
 
 // The request of a line to a worker, which the setup has to have.

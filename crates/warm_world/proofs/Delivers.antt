@@ -33,7 +33,8 @@ unanswered id sender horizon h es message answers is answer = subst (λ m. IsAns
 
 -- the message is not of entries
 abbrev IsNoEntries : Message → Type 0
-IsNoEntries message = (sender horizon : ℕ) (es : List Entry) → message ≡ Entries sender horizon es → ⊥
+IsNoEntries message = (sender horizon : ℕ) (es : List Entry)
+    → message ≡ Entries sender horizon es → ⊥
 
 -- digests and a request bring their horizon alone
 pub horizon_alone : (h : HistoryView) (message : Message) → IsNoEntries message

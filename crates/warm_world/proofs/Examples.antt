@@ -23,11 +23,18 @@ at time replica = stamped replica (record { dev = 0; no = 1 }) time
 
 -- what is known of that page, its last stamp and the one before
 abbrev known : Reference → Reference → Entry
-known last prev = record { page = record { dev = 0; no = 1 }; hist = Twice (record { last = last.stamp; prev = prev.stamp }) }
+known last prev = record {
+  page = record { dev = 0; no = 1 };
+  hist = Twice (record { last = last.stamp; prev = prev.stamp });
+}
 
 -- a replica of one worker
 abbrev one_worker : List Reference → List Reference → ReplicaState
-one_worker reach waiting = record { reach = set_of_list reach; pending = waiting ∷ []; pool = no_pool }
+one_worker reach waiting = record {
+  reach = set_of_list reach;
+  pending = waiting ∷ [];
+  pool = no_pool;
+}
 
 -- a buffer of two takes the second reference, and is moved before it takes the third
 second_waits : referred 2 0 (at 20 1) (one_worker [] (at 10 1 ∷ []))

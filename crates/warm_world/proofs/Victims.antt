@@ -23,7 +23,10 @@ use Rattle.warm_world.proofs.Worlds.{replica_there}
 
 -- the node of the replica was asked this call and replied; or nothing has changed
 abbrev WasAsked : ModelState → ℕ → Call → ModelState → Type 0
-WasAsked old i asked new = (new ≡ old) ⊎ ((index_of_number i < length old.replicas) × ((given : Option Reply) × SomeNodeReplies old i (Some asked) given new))
+WasAsked old i asked new =
+    (new ≡ old)
+    ⊎ ((index_of_number i < length old.replicas)
+    × ((given : Option Reply) × SomeNodeReplies old i (Some asked) given new))
 
 pinned : (old : ModelState) (i : ℕ) (p : PageId) (answer : Answer) (new : ModelState)
     → Next old (Pin i p) answer new → WasAsked old i (call.Pin p) new

@@ -64,9 +64,10 @@ const EXAMPLES: &str = "Examples:
   ssh standby cat standby.dump | warmhist join - local.dump -o local.dump
   warmhist text standby.dump | grep -v '^3:' > without-device-3.txt
 
-FILE is a dump of a history; - is standard input. OUT is replaced whole or not at all; - is standard output.
-Exit status: 0 done, and no difference; 1 diff found a difference; 2 trouble: the command line is refused, \
-a file is no dump or cannot be read or written, or memory runs out.";
+FILE is a dump of a history; - is standard input. OUT is replaced whole or not at all; \
+- is standard output.
+Exit status: 0 done, and no difference; 1 diff found a difference; 2 trouble: the command line \
+is refused, a file is no dump or cannot be read or written, or memory runs out.";
 
 fn file_argument<'a>(alloc: Global, name: &'a str, help: &'a str) -> Arg<'a> {
     Arg::new(alloc, name)
@@ -122,7 +123,8 @@ fn check_command<'a>(alloc: Global) -> Result<Command<'a>, AllocError> {
     )?;
     command
         .after_help(
-            "Example: warmhist check --quiet standby.dump && warmhist join standby.dump -o kept.dump",
+            "Example: warmhist check --quiet standby.dump \
+             && warmhist join standby.dump -o kept.dump",
         )
         .arg(quiet_argument(alloc))
 }
@@ -205,7 +207,7 @@ fn make_command<'a>(alloc: Global) -> Result<Command<'a>, AllocError> {
         .arg(sender_argument(alloc))
 }
 
-fn whole_command<'a>(alloc: Global) -> Result<Command<'a>, AllocError> {
+fn root_command<'a>(alloc: Global) -> Result<Command<'a>, AllocError> {
     Command::new(alloc, "warmhist")
         .version(VERSION)
         .about("Inspect, compare, join and make dumps of LRU-2 histories")
@@ -225,7 +227,7 @@ pub fn matches_of<'a, S: AsStr>(
     alloc: Global,
     words: &'a [S],
 ) -> Result<ArgMatches<'a>, clap::Error> {
-    let command = whole_command(alloc)?;
+    let command = root_command(alloc)?;
     command.try_get_matches_from(words)
 }
 

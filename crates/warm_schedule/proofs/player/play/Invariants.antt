@@ -10,9 +10,11 @@ invariant-loop g l =
     let contents = g.W.Write.contents in
     let remaining = g.R.Read.remaining in
     record {
-      goes : (seen out : List ℕ) × Consumes (remaining l.fn.reader) (remaining l.reader) seen × Appends (contents l.fn.writer) (contents l.writer) out
+      goes : (seen out : List ℕ) × Consumes (remaining l.fn.reader) (remaining l.reader) seen
+          × Appends (contents l.fn.writer) (contents l.writer) out
           × ReadsOn (session l.initial.session) seen out (session l.session);
       number : l.session.number ≤ 1 + l.counter * 65536;
       size : vec_len l.buffer ≡ 65536;
-      fresh : IsFresh (session l.initial.session) (opening l.fn.setup (listed g.D.PageDevice.state l.fn.devices.items));
+      fresh : IsFresh (session l.initial.session)
+          (opening l.fn.setup (listed g.D.PageDevice.state l.fn.devices.items));
     }

@@ -15,5 +15,6 @@ invariant-loop-chunk g l =
       finite : (goal.iterator-loop-chunk g).is_finite l.chunk-iterator;
       size : chunks_size l.chunk-iterator ≡ AT_ONCE;
       written : (done : List ℕ) × (done ++ chunks_rest l.chunk-iterator ≡ l.bytes)
-          × Appends (contents l.fn.writer) (contents l.writer) (codes " " ++ flat_map byte_text done);
+          × Appends (contents l.fn.writer) (contents l.writer)
+          (codes " " ++ flat_map byte_text done);
     }

@@ -11,7 +11,8 @@ invariant-loop-line l = record {
   bad : bad_from l.setup 1 (lines l.text) ≡ bad_from l.setup l.number (lines l.rest);
   number : l.number + length l.rest ≤ 1 + length l.text;
   shape : IsShaped l.setup l.plans.items;
-  planned : (before : List Ask) × ArePlansOf l.setup before l.plans.items × (asks l.setup (lines l.text) ≡ before ++ asks l.setup (lines l.rest));
+  planned : (before : List Ask) × ArePlansOf l.setup before l.plans.items
+      × (asks l.setup (lines l.text) ≡ before ++ asks l.setup (lines l.rest));
 }
 
 abbrev pub decreases-loop-line : goal.decreases-loop-line

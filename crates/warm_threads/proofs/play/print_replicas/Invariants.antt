@@ -10,5 +10,6 @@ invariant-loop-node g l =
     let contents = g.W.Write.contents in
     record {
       number : l.number ≡ l.node-index + 1;
-      written : Appends (contents l.fn.writer) (contents l.writer) (replicas_text 1 (map node_view (take l.node-index l.nodes)));
+      written : Appends (contents l.fn.writer) (contents l.writer)
+          (replicas_text 1 (map node_view (take l.node-index l.nodes)));
     }

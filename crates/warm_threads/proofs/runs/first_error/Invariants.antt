@@ -4,4 +4,5 @@ use Rattle.warm_threads.proofs.runs.first_error.Given as goal
 
 -- no result so far has another fault than `Closed`
 abbrev pub invariant-loop-result : goal.invariant-loop-result
-invariant-loop-result g l = (k : ℕ) → (d : _) → k < l.result-index → IfErr (slice_index_or l.results k d) (λ why. why ≡ Closed)
+invariant-loop-result g l = (k : ℕ) → (d : _) → k < l.result-index
+    → IfErr (slice_index_or l.results k d) (λ why. why ≡ Closed)

@@ -5,4 +5,5 @@ use Rattle.warm_world.proofs.laws.prove_pools.Given as goal
 
 -- so are those so far
 abbrev pub invariant-loop-replica : goal.invariant-loop-replica
-invariant-loop-replica g l = (k : ℕ) (other : NodeState) → k < l.replica-index → IsPool (get_or (map (λ r. r.node) l.replicas) k other).pool
+invariant-loop-replica g l = (k : ℕ) (other : NodeState) → k < l.replica-index
+    → IsPool (get_or (map (λ r. r.node) l.replicas) k other).pool

@@ -4,4 +4,5 @@ use Rattle.warm_world.proofs.nodes.are_few.Given as goal
 
 -- the lists so far are short enough
 abbrev pub invariant-loop-list : goal.invariant-loop-list
-invariant-loop-list g l = (k : ℕ) → (d : _) → k < l.list-index → length (slice_index_or l.devices k d).items ≤ MAX_DEVICES
+invariant-loop-list g l = (k : ℕ) → (d : _) → k < l.list-index
+    → length (slice_index_or l.devices k d).items ≤ MAX_DEVICES

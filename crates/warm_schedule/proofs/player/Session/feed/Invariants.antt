@@ -7,7 +7,8 @@ abbrev pub invariant-loop-piece : goal.invariant-loop-piece
 invariant-loop-piece g l =
     let contents = g.W.Write.contents in
     record {
-      goes : (taken out : List ℕ) × (l.bytes ≡ taken ++ l.rest) × Appends (contents l.fn.writer) (contents l.writer) out
+      goes : (taken out : List ℕ) × (l.bytes ≡ taken ++ l.rest)
+          × Appends (contents l.fn.writer) (contents l.writer) out
           × ReadsOn (session l.fn.self) taken out (session l.self);
       number : l.self.number + length l.rest ≤ l.fn.self.number + length l.bytes;
     }
