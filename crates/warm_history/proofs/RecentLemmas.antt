@@ -11,8 +11,8 @@ use Rattle.warm_history.specs.declared.hist.PageHist.TheVariants.{Once}
 use Rattle.warm_history.specs.declared.hist.Entry.{Entry}
 use Rattle.warm_history.specs.ReferenceSets.{is_kept, references_from}
 use Rattle.warm_history.specs.ListHistories.{hist_stamps, references_of_entry, list_references_of, list_history}
-use Rattle.warm_history.specs.MapKeys.{page_of_key}
-use Rattle.warm_history.specs.MapPairs.{MapPairs, as_entries, kept, AreKept, references_at, PairsTakeIn, TakesStamps, TakesRecent, TakesEntries}
+use Rattle.warm_history.specs.MapKeys.{key_of_page, page_of_key}
+use Rattle.warm_history.specs.MapPairs.{MapPairs, as_entries, kept, AreKept, references_at, PairsTakeIn, TakesStamps, TakesRecent, TakesReferences, TakesEntries}
 use Rattle.warm_history.proofs.KeptLemmas.{recent_entry, kept-append, kept_alike}
 use Rattle.warm_history.proofs.ListJoinLemmas.{history_alike, history_first, history_of_own_references}
 use Rattle.warm_history.proofs.MapPairLemmas.{IsHistory-kept, hist-pairs}
@@ -37,6 +37,12 @@ pub takes_some : (m : ℕ) (old new : MapPairs) (p : ℕ) (more left : PageHist)
     → hist_stamps left ≡ filter (is_kept m) (hist_stamps more) → TakesStamps old p left new
     → TakesRecent m old p more new
 takes_some m old new p more left some takes = takes ∙ ap (λ rs. list_history (list_references_of (kept old) ++ rs)) (sym (told_recent m p more (hist_stamps left) some))
+
+-- the only stamp of a page is one reference
+pub takes_reference : (m : ℕ) (old new : MapPairs) (r : Reference)
+    → page_of_key (key_of_page r.page) ≡ r.page
+    → TakesRecent m old (key_of_page r.page) (Once r.stamp) new → TakesReferences m old (r ∷ []) new
+takes_reference m old new r back takes = subst (λ q. PairsTakeIn old (references_from m (record { page = q; stamp = r.stamp } ∷ [])) new) back takes
 
 -- the first of what is left to take in, and the rest
 pub recent_more : (m : ℕ) (first rest left : List Reference) → left ≡ first ++ rest

@@ -3,7 +3,7 @@
 //!
 //! Each change notes the old value in an undo list. Where an allocation fails the notes are
 //! restored, the last one first, which is allocation-free.
-ghost use Rattle.std.specs.Prelude.{◌≡◌, List, IfOk, OnOk, OnErr, max};
+ghost use Rattle.std.specs.Prelude.{◌≡◌, List, [], ◌∷◌, IfOk, OnOk, OnErr, max};
 ghost use Rattle.std.specs.Iterator.{IsFinite, Drains};
 ghost use Rattle.warm_history.specs.Changes.{MarksChanged};
 ghost use Rattle.warm_history.specs.MapKeys.{key_of_page, page_of_key};
@@ -60,6 +60,11 @@ pub(crate) fn take_references(
     ensures whole { AreKept maps.new }
     ensures err { OnErr result (maps.new ≡ maps.old) }
 {
+    if let [reference] = batch {
+        // Not returned as it comes: the proof takes success and failure apart here.
+        let changed = take_reference(maps, horizon, *reference)?;
+        return Ok(changed);
+    }
     let mut undo = Vec::with_capacity(alloc, batch.len())?;
     let entries = batch.iter().map(|reference| Entry {
         page: reference.page,
@@ -72,6 +77,27 @@ pub(crate) fn take_references(
             Err(fault)
         }
     }
+}
+
+// The same for one reference. Nothing is noted: there is nothing to undo where recording it fails.
+fn take_reference(
+    maps: &mut BucketMaps,
+    horizon: u64,
+    reference: Reference,
+) -> Result<BucketSet, AllocError>
+    requires { AreKept maps.old }
+    ensures exact { OnOk result (TakesReferences horizon maps.old (reference ∷ []) maps.new) }
+    ensures changed { IfOk result (MarksChanged (kept maps.old) (kept maps.new)) }
+    ensures whole { AreKept maps.new }
+    ensures err { OnErr result (maps.new ≡ maps.old) }
+{
+    let Some(recent) = Packed::once(reference.stamp).cut_before(horizon) else {
+        return Ok(BucketSet::new());
+    };
+    let Some(_note) = maps.record(reference.page, recent, false)? else {
+        return Ok(BucketSet::new());
+    };
+    Ok(BucketSet::new().with(bucket_of(reference.page)))
 }
 
 // Takes in all stamps of entries that are not older than the horizon or, where an allocation fails,
