@@ -17,13 +17,14 @@ use crate::hist::{PageHist, Two};
 use std::marker::Model;
 use warm_stamps::{ReplicaId, Stamp};
 
-// The history of a page. Contracts see it as the `PageHist`.
+// The history of a page. Contracts see it as the `PageHist`. It has no padding: a move would copy a
+// padded value in pieces.
 #[derive(Debug, Clone, Copy)]
 pub(crate) struct Packed {
     last: u64,
     prev: u64,
-    last_replica: u8,
-    prev_replica: u8,
+    last_replica: u32,
+    prev_replica: u32,
 }
 
 impl Model for Packed {
@@ -68,7 +69,7 @@ impl Packed {
         Packed {
             last: stamp.time,
             prev: 0,
-            last_replica: stamp.replica.get() as u8,
+            last_replica: stamp.replica.get() as u32,
             prev_replica: 0,
         }
     }
@@ -84,8 +85,8 @@ impl Packed {
                 Packed {
                     last: last.time,
                     prev: prev.time,
-                    last_replica: last.replica.get() as u8,
-                    prev_replica: prev.replica.get() as u8,
+                    last_replica: last.replica.get() as u32,
+                    prev_replica: prev.replica.get() as u32,
                 }
             }
         }
@@ -103,7 +104,7 @@ impl Packed {
     }
 
     // The two latest of these stamps and one more, given as its time and its replica's number.
-    fn with(self, time: u64, replica: u8) -> Packed
+    fn with(self, time: u64, replica: u32) -> Packed
         requires { IsReplica replica }
         ensures { Some result ≡ latest_of (stamp_at time replica ∷ hist_stamps self) }
     {
@@ -181,18 +182,18 @@ impl Packed {
 }
 
 // The stamp of a time and the number of a replica.
-fn stamp_at(time: u64, replica: u8) -> Stamp
+fn stamp_at(time: u64, replica: u32) -> Stamp
     requires { IsReplica replica }
     ensures { result ≡ stamp_at time replica }
 {
-    let Ok(replica) = ReplicaId::new(u16::from(replica)) else {
+    let Ok(replica) = ReplicaId::new(replica as u16) else {
         unreachable!()
     };
     Stamp { time, replica }
 }
 
 // Whether the first stamp is before the second, each given as its time and its replica's number.
-fn is_before(time: u64, replica: u8, than_time: u64, than_replica: u8) -> bool
+fn is_before(time: u64, replica: u32, than_time: u64, than_replica: u32) -> bool
     ensures { result ≡ is_lt (stamp_cmp (stamp_at time replica) (stamp_at than_time than_replica)) }
 {
     if time == than_time {
