@@ -232,8 +232,8 @@ def gossip(bench: Bench) -> None:
     setup: list[str] = []
     for replica in range(1, REPLICAS + 1):
         setup += reached(replica, scattered(20_000, 20_000 * (replica - 1)), 1)
-    sends = [f"send {1 + n % REPLICAS} {n % 64}" for n in range(200 * REPLICAS)]
-    # a frame of replica i is delivered to replica i + 1, where its pages are new, and then again, where they are known
+    # each replica sends its 64 buckets in turn: the first 64 of its 200 frames bring new pages to the next replica, the others known ones
+    sends = [f"send {1 + n % REPLICAS} {n // REPLICAS % 64}" for n in range(200 * REPLICAS)]
     delivers = [f"deliver {1 + (n + 1) % REPLICAS} {n + 1}" for n in range(200 * REPLICAS)]
     each(bench, "64 replicas of 20,000 pages, 200 sends each", setup, sends)
     each(bench, "their deliveries", setup + sends, delivers)
