@@ -3,7 +3,6 @@ pub mod Counting
 mod Examples
 pub mod KeyLemmas
 pub mod EvictionLemmas
-pub mod PackedLemmas
 pub mod PlacesBack
 pub mod SetKeyLemmas
 pub mod SlotLemmas

@@ -17,15 +17,14 @@ use Rattle.warm_stamps.proofs.DistinctLemmas.{Has, by_cases, distinct_rises, has
 use Rattle.warm_stamps.proofs.StampLemmas.{page_order}
 use Rattle.warm_history.specs.ReferenceSets.{ReferenceSet, references}
 use Rattle.warm_history.specs.declared.hist.PageHist.{PageHist}
-use Rattle.warm_history.specs.Histories.{hist, pages, history, entries_of}
+use Rattle.warm_history.specs.Histories.{hist, pages, history}
 use Rattle.warm_history.proofs.HistoryLemmas.{some_named}
-use Rattle.warm_rank.specs.declared.packed.PackedKey.{PackedKey}
+use Rattle.warm_rank.specs.declared.RankKey.{RankKey}
 use Rattle.warm_rank.specs.Greatest.{AreGreatest}
-use Rattle.warm_rank.specs.Keys.{rank_key, entry_key}
-use Rattle.warm_rank.specs.Packed.{packed_key, packed_keys, packed_page, packed_cmp}
+use Rattle.warm_rank.specs.Keys.{rank_key, entry_key, key_cmp, ranked_page}
 use Rattle.warm_rank.specs.Ranking.{eviction_cmp, hottest_pages}
-use Rattle.warm_rank.proofs.KeyLemmas.{keys_order_pages, page_of-rank_key}
-use Rattle.warm_rank.proofs.PackedLemmas.{packed_compares, packed_keeps_page, packed_order}
+use Rattle.warm_rank.specs.WarmUp.{entry_keys}
+use Rattle.warm_rank.proofs.KeyLemmas.{key_order, keys_order_pages, page_of-rank_key}
 use Rattle.warm_rank.proofs.SortLemmas.{ties, ties-here, ties-other, HasNoTies, IsAbove, distinct-descending, above_from_split}
 
 insert-map : {A B : Type 0} (f : A → B) (c : A → A → Ordering) (d : B → B → Ordering)
@@ -60,25 +59,16 @@ keys_of_entries f (p ∷ ps) some = go (f p) (some p (inl refl)) (keys_of_entrie
     go None is later = absurd (cc)
     go (Some h) is later = ap (λ t. rank_key p (Some h) ∷ t) later
 
-keys_of_pages : (S : ReferenceSet)
-    → map entry_key (entries_of (history S)) ≡ map (λ p. rank_key p (hist S p)) (pages S)
+-- a page's key, by what is known of it
+abbrev key_by : (PageId → Option PageHist) → PageId → RankKey
+key_by f p = rank_key p (f p)
+
+keys_of_pages : (S : ReferenceSet) → entry_keys (history S) ≡ map (key_by (hist S)) (pages S)
 unfolding history
 keys_of_pages S = keys_of_entries (hist S) (pages S) (λ p has. some_named S p (has_from_distinct page_cmp page_order (map (λ (r : Reference). r.page) (references S)) p has))
 
--- a page's packed key, by what is known of it
-abbrev packed_of : (PageId → Option PageHist) → PageId → PackedKey
-packed_of f p = packed_key (rank_key p (f p))
-
-packed_of_pages : (S : ReferenceSet) → packed_keys (history S) ≡ map (packed_of (hist S)) (pages S)
-packed_of_pages S = map_twice entry_key packed_key (entries_of (history S)) ∙ ap (map packed_key) (keys_of_pages S) ∙ sym (map_twice (λ p. rank_key p (hist S p)) packed_key (pages S))
-  where
-    map_twice : {A B C : Type 0} (f : A → B) (g : B → C) (xs : List A)
-        → map (λ x. g (f x)) xs ≡ map g (map f xs)
-    map_twice f g [] = refl
-    map_twice f g (x ∷ xs) = ap (λ t. g (f x) ∷ t) (map_twice f g xs)
-
-page_of-packed : (f : PageId → Option PageHist) (p : PageId) → packed_page (packed_of f p) ≡ p
-page_of-packed f p = packed_keeps_page (rank_key p (f p)) ∙ page_of-rank_key p (f p)
+page_of-key : (f : PageId → Option PageHist) (p : PageId) → ranked_page (key_by f p) ≡ p
+page_of-key f p = page_of-rank_key p (f p)
 
 map_inverse : {A B : Type 0} (f : A → B) (g : B → A) → ((x : A) → g (f x) ≡ x) → (xs : List A)
     → map g (map f xs) ≡ xs
@@ -87,47 +77,47 @@ map_inverse f g back (x ∷ xs) = ap (λ y. y ∷ map g (map f xs)) (back x) ∙
 
 -- the pages of the greatest keys are the warm-up list
 pub warm_from_keys : (S : ReferenceSet) (n : ℕ)
-    → map packed_page (take n (distinct (flip_args packed_cmp) (packed_keys (history S))))
+    → map ranked_page (take n (distinct (flip_args key_cmp) (entry_keys (history S))))
     ≡ hottest_pages S n
 warm_from_keys S n =
-    let key = packed_of (hist S) in
-    ap (λ ks. map packed_page (take n (distinct (flip_args packed_cmp) ks))) (packed_of_pages S)
-    ∙ ap (λ ks. map packed_page (take n ks)) (distinct-map key (flip_args (eviction_cmp S)) (flip_args packed_cmp) (λ p q. packed_compares (rank_key q (hist S q)) (rank_key p (hist S p)) ∙ keys_order_pages S q p) (pages S))
-    ∙ ap (map packed_page) (take-map key n (distinct (flip_args (eviction_cmp S)) (pages S)))
-    ∙ map_inverse key packed_page (page_of-packed (hist S)) (hottest_pages S n)
+    let key = key_by (hist S) in
+    ap (λ ks. map ranked_page (take n (distinct (flip_args key_cmp) ks))) (keys_of_pages S)
+    ∙ ap (λ ks. map ranked_page (take n ks)) (distinct-map key (flip_args (eviction_cmp S)) (flip_args key_cmp) (λ p q. keys_order_pages S q p) (pages S))
+    ∙ ap (map ranked_page) (take-map key n (distinct (flip_args (eviction_cmp S)) (pages S)))
+    ∙ map_inverse key ranked_page (page_of-key (hist S)) (hottest_pages S n)
 
 -- ---- no two keys of a history's entries tie
 
 none_tied : (f : PageId → Option PageHist) (p : PageId) (ps : List PageId)
     → AllByRecursion (λ q. page_cmp p q ≡ Less) ps
-    → ties packed_cmp (packed_of f p) (map (packed_of f) ps) ≡ 0
+    → ties key_cmp (key_by f p) (map (key_by f) ps) ≡ 0
 none_tied f p [] above = refl
 none_tied f p (q ∷ ps) above =
-    let apart : is_eq (packed_cmp (packed_of f p) (packed_of f q)) ≡ false = by_cases (packed_cmp (packed_of f p) (packed_of f q)) _
+    let apart : is_eq (key_cmp (key_by f p) (key_by f q)) ≡ false = by_cases (key_cmp (key_by f p) (key_by f q)) _
     (λ less. ap is_eq less)
     (λ tied.
-    let same : p ≡ q = sym (page_of-packed f p) ∙ ap packed_page {x = packed_of f p} {y = packed_of f q} (packed_order.same (packed_of f p) (packed_of f q) tied) ∙ page_of-packed f q in
+    let same : p ≡ q = sym (page_of-key f p) ∙ ap ranked_page {x = key_by f p} {y = key_by f q} (key_order.same (key_by f p) (key_by f q) tied) ∙ page_of-key f q in
     let no : Less ≡ Equal = sym above.0 ∙ ap (page_cmp p) (sym same) ∙ tied_itself page_order.total p in
     absurd (cc))
     (λ more. ap is_eq more)
     in
-    ties-other packed_cmp packed_order (packed_of f p) (packed_of f q) (map (packed_of f) ps) apart ∙ none_tied f p ps above.1
+    ties-other key_cmp key_order (key_by f p) (key_by f q) (map (key_by f) ps) apart ∙ none_tied f p ps above.1
 
 no_ties : (f : PageId → Option PageHist) (ps : List PageId) → IsAscending page_cmp ps
-    → HasNoTies packed_cmp (map (packed_of f) ps)
+    → HasNoTies key_cmp (map (key_by f) ps)
 no_ties f [] rising x = omega arith
 no_ties f (p ∷ ps) rising x =
-    let key : PackedKey = packed_of f p in
-    let keys : List PackedKey = map (packed_of f) ps in
-    by_cases (packed_cmp x key) _
-    (λ less. omega (arith, ties-other packed_cmp packed_order x key keys (ap is_eq less), no_ties f ps rising.1 x))
+    let key : RankKey = key_by f p in
+    let keys : List RankKey = map (key_by f) ps in
+    by_cases (key_cmp x key) _
+    (λ less. omega (arith, ties-other key_cmp key_order x key keys (ap is_eq less), no_ties f ps rising.1 x))
     (λ tied.
-    let same : x ≡ key = packed_order.same x key tied in
-    omega (arith, ties-here packed_cmp packed_order x key keys tied, ap (λ k. ties packed_cmp k keys) same ∙ none_tied f p ps rising.0))
-    (λ more. omega (arith, ties-other packed_cmp packed_order x key keys (ap is_eq more), no_ties f ps rising.1 x))
+    let same : x ≡ key = key_order.same x key tied in
+    omega (arith, ties-here key_cmp key_order x key keys tied, ap (λ k. ties key_cmp k keys) same ∙ none_tied f p ps rising.0))
+    (λ more. omega (arith, ties-other key_cmp key_order x key keys (ap is_eq more), no_ties f ps rising.1 x))
 
-history_has_no_ties : (S : ReferenceSet) → HasNoTies packed_cmp (packed_keys (history S))
-history_has_no_ties S = subst (HasNoTies packed_cmp) (sym (packed_of_pages S)) (no_ties (hist S) (pages S) (distinct_rises page_cmp page_order (map (λ (r : Reference). r.page) (references S))))
+history_has_no_ties : (S : ReferenceSet) → HasNoTies key_cmp (entry_keys (history S))
+history_has_no_ties S = subst (HasNoTies key_cmp) (sym (keys_of_pages S)) (no_ties (hist S) (pages S) (distinct_rises page_cmp page_order (map (λ (r : Reference). r.page) (references S))))
 
 -- ---- the warm-up list from a part of the keys, or from all, once it is sorted
 
@@ -145,28 +135,28 @@ all_of (x ∷ xs) zero short = absurd (omega arith)
 all_of (x ∷ xs) (suc n) short = ap (λ t. x ∷ t) (all_of xs n (omega arith))
 
 -- a part of a history's keys of which no item is below one of the rest
-warm_from_parts : (S : ReferenceSet) (n : ℕ) (rest top sorted : List PackedKey)
-    → IsPermutation (packed_keys (history S)) (rest ++ top) → IsAbove packed_cmp rest top
-    → IsPermutation top sorted → IsSorted packed_cmp sorted
-    → take n (reverse sorted ++ distinct (flip_args packed_cmp) rest) ≡ reverse sorted
-    → map packed_page (reverse sorted) ≡ hottest_pages S n
+warm_from_parts : (S : ReferenceSet) (n : ℕ) (rest top sorted : List RankKey)
+    → IsPermutation (entry_keys (history S)) (rest ++ top) → IsAbove key_cmp rest top
+    → IsPermutation top sorted → IsSorted key_cmp sorted
+    → take n (reverse sorted ++ distinct (flip_args key_cmp) rest) ≡ reverse sorted
+    → map ranked_page (reverse sorted) ≡ hottest_pages S n
 warm_from_parts S n rest top sorted parted above moved in_order first =
-    ap (map packed_page) (sym first ∙ ap (take n) (sym (distinct-descending packed_cmp packed_order (packed_keys (history S)) rest top sorted (history_has_no_ties S) parted above moved in_order)))
+    ap (map ranked_page) (sym first ∙ ap (take n) (sym (distinct-descending key_cmp key_order (entry_keys (history S)) rest top sorted (history_has_no_ties S) parted above moved in_order)))
     ∙ warm_from_keys S n
 
 -- the n greatest of a history's keys in any order
-pub warm_from_greatest : (S : ReferenceSet) (n : ℕ) (keys top sorted : List PackedKey)
-    → IsPermutation (packed_keys (history S)) keys → AreGreatest packed_cmp keys n top
-    → IsPermutation top sorted → IsSorted packed_cmp sorted
-    → map packed_page (reverse sorted) ≡ hottest_pages S n
+pub warm_from_greatest : (S : ReferenceSet) (n : ℕ) (keys top sorted : List RankKey)
+    → IsPermutation (entry_keys (history S)) keys → AreGreatest key_cmp keys n top
+    → IsPermutation top sorted → IsSorted key_cmp sorted
+    → map ranked_page (reverse sorted) ≡ hottest_pages S n
 warm_from_greatest S n keys top sorted given great moved in_order =
-    warm_from_parts S n (great.others ++ great.next ∷ []) top sorted (IsPermutation-trans (packed_keys (history S)) keys ((great.others ++ great.next ∷ []) ++ top) given (subst (IsPermutation keys) (sym (append_assoc great.others (great.next ∷ []) top)) great.parts)) (above_from_split packed_cmp packed_order great.others great.next top great.split) moved in_order
+    warm_from_parts S n (great.others ++ great.next ∷ []) top sorted (IsPermutation-trans (entry_keys (history S)) keys ((great.others ++ great.next ∷ []) ++ top) given (subst (IsPermutation keys) (sym (append_assoc great.others (great.next ∷ []) top)) great.parts)) (above_from_split key_cmp key_order great.others great.next top great.split) moved in_order
     (first_of (reverse sorted) _ n (length-reverse sorted ∙ length_permutation top sorted moved ∙ great.count))
 
 -- all of a history's keys in any order
-pub warm_from_all : (S : ReferenceSet) (n : ℕ) (keys sorted : List PackedKey)
-    → IsPermutation (packed_keys (history S)) keys → length keys ≤ n → IsPermutation keys sorted
-    → IsSorted packed_cmp sorted → map packed_page (reverse sorted) ≡ hottest_pages S n
+pub warm_from_all : (S : ReferenceSet) (n : ℕ) (keys sorted : List RankKey)
+    → IsPermutation (entry_keys (history S)) keys → length keys ≤ n → IsPermutation keys sorted
+    → IsSorted key_cmp sorted → map ranked_page (reverse sorted) ≡ hottest_pages S n
 warm_from_all S n keys sorted given short moved in_order =
     warm_from_parts S n [] keys sorted given (λ r t none has. absurd none) moved in_order
     (all_of (reverse sorted) n (omega (arith, length-reverse sorted, length_permutation keys sorted moved)))

@@ -4,7 +4,6 @@ pub mod FlatKeys
 pub mod Greatest
 pub mod Keys
 pub mod Laws
-pub mod Packed
 pub mod Ranking
 pub mod Slots
 pub mod WarmUp

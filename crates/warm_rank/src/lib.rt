@@ -20,7 +20,6 @@ ghost use Rattle.warm_rank.specs.Ranking.{eviction_cmp};
 mod current;
 mod flat_key;
 pub mod laws;
-mod packed;
 mod slot_keys;
 mod slots;
 mod warm_up;

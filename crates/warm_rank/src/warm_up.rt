@@ -1,14 +1,12 @@
 //! The pages to load first.
 ghost use Rattle.std.specs.Prelude.{◌≡◌, ◌<◌, length, map, reverse, IfOk, IsPermutation, IsSorted};
 ghost use Rattle.warm_rank.specs.Greatest.{AreGreatest};
-ghost use Rattle.warm_rank.specs.Keys.{entry_key};
-ghost use Rattle.warm_rank.specs.Packed.{packed_cmp, packed_key, packed_keys, packed_page};
-ghost use Rattle.warm_rank.specs.WarmUp.{IsWarmUp, IsWarmUpOfKeys};
+ghost use Rattle.warm_rank.specs.Keys.{entry_key, key_cmp, ranked_page};
+ghost use Rattle.warm_rank.specs.WarmUp.{IsWarmUp, IsWarmUpOfKeys, entry_keys};
 
-use crate::key_of;
-use crate::packed::PackedKey;
+use crate::flat_key::FlatKey;
 use std::alloc::{AllocError, Global};
-use warm_history::{Entry, History, Unordered};
+use warm_history::{History, Unordered};
 use warm_stamps::PageId;
 
 /// The warm-up list: the `n` pages of a history that are evicted last, the hottest first; all pages
@@ -26,8 +24,8 @@ pub fn warm_list(alloc: Global, history: &History, n: usize) -> Result<Vec<PageI
 }
 
 // The keys of all entries, in any order.
-fn keys_of(alloc: Global, history: &History) -> Result<Vec<PackedKey>, AllocError>
-    ensures { IfOk result (λ keys. IsPermutation (packed_keys history.now) keys.items) }
+fn keys_of(alloc: Global, history: &History) -> Result<Vec<FlatKey>, AllocError>
+    ensures { IfOk result (λ keys. IsPermutation (entry_keys history.now) keys.items) }
 {
     keys_of_entries(alloc, history.len(), history.unordered())
 }
@@ -37,26 +35,19 @@ fn keys_of_entries(
     alloc: Global,
     count: usize,
     entries: Unordered<'_>,
-) -> Result<Vec<PackedKey>, AllocError>
-    ensures { IfOk result (λ keys.
-        keys.items ≡ map (λ e. packed_key (entry_key e)) entries.entry) }
+) -> Result<Vec<FlatKey>, AllocError>
+    ensures { IfOk result (λ keys. keys.items ≡ map entry_key entries.entry) }
 {
     let mut keys = Vec::with_capacity(alloc, count)?;
     for entry in entries {
-        keys.push(key_of_entry(entry))?;
+        keys.push(FlatKey::of_entry(entry))?;
     }
     Ok(keys)
 }
 
-fn key_of_entry(entry: Entry) -> PackedKey
-    ensures { result ≡ packed_key (entry_key entry) }
-{
-    PackedKey::of(key_of(entry.page, Some(entry.hist)))
-}
-
 // The warm-up list from the keys of a history's entries, in any order. Where fewer than all are
 // requested, the rest is partitioned off first and never sorted.
-fn hottest_pages(alloc: Global, keys: &mut [PackedKey], n: usize) -> Result<Vec<PageId>, AllocError>
+fn hottest_pages(alloc: Global, keys: &mut [FlatKey], n: usize) -> Result<Vec<PageId>, AllocError>
     ensures { IfOk result (λ pages. IsWarmUpOfKeys keys.old n pages.items) }
 {
     if n < keys.len() {
@@ -76,10 +67,10 @@ fn greatest<K: Ord>(items: &mut [K], n: usize) -> &mut [K]
 }
 
 // The pages of the keys, that of the greatest key first; the keys are sorted.
-fn descending_pages(alloc: Global, keys: &mut [PackedKey]) -> Result<Vec<PageId>, AllocError>
+fn descending_pages(alloc: Global, keys: &mut [FlatKey]) -> Result<Vec<PageId>, AllocError>
     ensures same_keys { IsPermutation keys.old keys.new }
-    ensures sorted { IsSorted packed_cmp keys.new }
-    ensures pages { IfOk result (λ pages. pages.items ≡ map packed_page (reverse keys.new)) }
+    ensures sorted { IsSorted key_cmp keys.new }
+    ensures pages { IfOk result (λ pages. pages.items ≡ map ranked_page (reverse keys.new)) }
 {
     keys.sort_unstable();
     keys.iter().rev().map(|key| key.page()).collect(alloc)

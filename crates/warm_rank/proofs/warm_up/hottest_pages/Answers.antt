@@ -1,8 +1,8 @@
 use Rattle.std.proofs.Common.{◌∙◌, subst, arith}
 use Rattle.std.proofs.lemmas.Result.{IfOk-weaker}
 use Rattle.warm_rank.specs.Greatest.{AreGreatest}
-use Rattle.warm_rank.specs.Packed.{packed_cmp}
-use Rattle.warm_rank.proofs.PackedLemmas.{derived_packed}
+use Rattle.warm_rank.specs.Keys.{key_cmp}
+use Rattle.warm_rank.proofs.KeyLemmas.{derived_order}
 use Rattle.warm_rank.proofs.WarmUpLemmas.{warm_from_greatest, warm_from_all}
 use Rattle.warm_rank.proofs.warm_up.hottest_pages.Goals as goal
 
@@ -10,7 +10,7 @@ pub returns-then-n-keys : goal.returns-then-n-keys
 returns-then-n-keys c =
     let top = c.greatest.result.now in
     let sorted = c.descending_pages.new.keys in
-    let great : AreGreatest packed_cmp c.args.keys.now c.args.n top = subst (λ cmp. AreGreatest cmp c.args.keys.now c.args.n top) derived_packed c.greatest.ensures in
+    let great : AreGreatest key_cmp c.args.keys.now c.args.n top = subst (λ cmp. AreGreatest cmp c.args.keys.now c.args.n top) derived_order c.greatest.ensures in
     IfOk-weaker c.descending_pages.result _ _
     (λ pages is_pages S given. is_pages ∙ warm_from_greatest S c.args.n c.args.keys.now top sorted given great c.descending_pages.ensures.same_keys c.descending_pages.ensures.sorted)
     c.descending_pages.ensures.pages
