@@ -109,7 +109,7 @@ impl<W: Write> Printer<W> {
 
 /// The number of entries of a frame.
 fn entries_of(frame: &[u8]) -> u64 {
-    if frame[4] == 1 { u64::from(u32::from_be_bytes(frame[19..23].try_into().expect("four bytes"))) } else { 0 }
+    if frame[4] == 1 { u64::from(u32::from_be_bytes(frame[20..24].try_into().expect("four bytes"))) } else { 0 }
 }
 
 fn pins(accesses: u64, setup: Setup, out: impl Write) -> Result<(), Fault> {

@@ -216,7 +216,7 @@ int warm_limit(warm *handle, uint64_t time);
  * a page that was referenced at time 2^64 - 1 is the hottest one for ever. Frames that a sender that is not trusted made, or a transport
  * may change, need warm_limit.
  * Refused: WARM_TRUNCATED to WARM_BAD_ORDER, by the first fault from left to right; WARM_LATE_HORIZON where the horizon is later than the
- * limit (each kind of frame has one; that of an older format is 0), WARM_LATE_STAMP where a stamp is; WARM_MEMORY at any
+ * limit (each kind of frame has one; that of the oldest format is 0), WARM_LATE_STAMP where a stamp is; WARM_MEMORY at any
  * point. The answers of the frame before then still wait.
  * Caller: frame points to length bytes, of any content. */
 int warm_receive(warm *handle, const uint8_t *frame, size_t length);

@@ -14,7 +14,7 @@ use std::time::Instant;
 
 const FEW: u64 = 1_000;
 const MOST: usize = 1_000;
-const HEADER: usize = 19;
+const HEADER: usize = 20;
 const TABLE: usize = 32 * BUCKETS;
 const READ_SIZE: usize = 65_536;
 

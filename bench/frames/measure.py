@@ -15,7 +15,7 @@ from pathlib import Path
 HERE = Path(__file__).resolve().parent
 OURS = [HERE.parent.parent / "crates/benches/out/benches", "frames"]
 RUNS = 5
-FRAME = 31_023
+FRAME = 31_024
 SUMMED = 3_100_000
 # the frames of a stream, and the bytes of its pieces
 STREAM = 1000

@@ -33,20 +33,22 @@ pub fn put_entry(bytes: &mut Vec<u8>, entry: &Entry) {
     }
 }
 
-/// The magic number of frames that are written, and that of an older format that is also read.
+/// The magic number of frames that are written, and those of two older formats that are also read.
+const PADDED: [u8; 4] = *b"L2G3";
 const WIDE: [u8; 4] = *b"L2G2";
 const NARROW: [u8; 4] = *b"L2G1";
 
 /// The longest header: magic number, kind, sender, horizon and length.
-const HEADER: usize = 19;
+const HEADER: usize = 20;
 const MOST: usize = 1000;
 
 /// The header of a frame, and capacity for its body.
 pub fn header(kind: u8, sender: u16, horizon: u64, len: usize) -> Vec<u8> {
     let mut bytes = Vec::with_capacity(HEADER + len);
-    bytes.extend_from_slice(&WIDE);
+    bytes.extend_from_slice(&PADDED);
     bytes.push(kind);
     bytes.extend_from_slice(&sender.to_be_bytes());
+    bytes.push(0);
     bytes.extend_from_slice(&horizon.to_be_bytes());
     bytes.extend_from_slice(&(len as u32).to_be_bytes());
     bytes
@@ -122,21 +124,25 @@ fn entries_in(wide: bool, body: &[u8]) -> Option<Vec<Entry>> {
 }
 
 /// Whether a frame of entries is in the wide format, and what follows its magic number and its kind.
-fn format_of(bytes: &[u8]) -> Option<(bool, &[u8])> {
+fn format_of(bytes: &[u8]) -> Option<(bool, usize, &[u8])> {
     let (letters, rest) = bytes.split_first_chunk::<4>()?;
     let rest = rest.strip_prefix(&[1])?;
     match *letters {
-        WIDE => Some((true, rest)),
-        NARROW => Some((false, rest)),
+        PADDED => Some((true, HEADER, rest)),
+        WIDE => Some((true, HEADER - 1, rest)),
+        NARROW => Some((false, HEADER - 9, rest)),
         _ => None,
     }
 }
 
 pub fn decode(bytes: &[u8]) -> Option<Entries> {
-    let (wide, rest) = format_of(bytes)?;
+    let (wide, whole, rest) = format_of(bytes)?;
     let (sender, mut rest) = rest.split_first_chunk::<2>()?;
     if !(1..=64).contains(&u16::from_be_bytes(*sender)) {
         return None;
+    }
+    if whole == HEADER {
+        rest = rest.strip_prefix(&[0])?;
     }
     let mut horizon = 0;
     if wide {
@@ -208,19 +214,22 @@ impl Decoder {
 // The size that a header gives, once it is complete. `None` for a fault.
 fn size_of(header: &[u8]) -> Option<Option<usize>> {
     let letters = &header[..header.len().min(4)];
-    if !WIDE.starts_with(letters) && !NARROW.starts_with(letters) {
+    if !PADDED.starts_with(letters) && !WIDE.starts_with(letters) && !NARROW.starts_with(letters) {
         return None;
     }
     if header.len() < 5 {
         return Some(None);
     }
-    let (wide, rest) = format_of(header)?;
+    let (wide, whole, rest) = format_of(header)?;
     if let Some(sender) = rest.first_chunk::<2>() {
         if !(1..=64).contains(&u16::from_be_bytes(*sender)) {
             return None;
         }
     }
-    let (whole, longest) = if wide { (HEADER, 31) } else { (HEADER - 8, 27) };
+    if whole == HEADER && rest.get(2).is_some_and(|reserved| *reserved != 0) {
+        return None;
+    }
+    let longest = if wide { 31 } else { 27 };
     let Some(len) = header.get(whole - 4..whole) else {
         return Some(None);
     };

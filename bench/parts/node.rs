@@ -162,9 +162,10 @@ impl Node {
     }
 }
 
-/// The horizon and the body of a frame in either format; in the older one the horizon is 0.
+/// The horizon and the body of a frame in each format; in the oldest one the horizon is 0.
 fn horizon_and_body(bytes: &[u8]) -> (u64, &[u8]) {
     match &bytes[..4] {
+        b"L2G3" => (u64::from_be_bytes(bytes[8..16].try_into().expect("eight bytes")), &bytes[20..]),
         b"L2G2" => (u64::from_be_bytes(bytes[7..15].try_into().expect("eight bytes")), &bytes[19..]),
         _ => (0, &bytes[11..]),
     }

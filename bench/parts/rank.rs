@@ -1,7 +1,7 @@
 //! Ranks in plain Rust: the eviction order of a pool.
 
 use super::hist::{Entry, Hist, Page, Stamp};
-use std::cmp::Ordering;
+use std::cmp::{Ordering, Reverse};
 
 /// The history of a page, and the page, in the order of ranks and in 32 bytes: the wide numbers first. The page that is evicted first is least. A stamp
 /// that is not known is less than every stamp, so a page of no stamp is less than every page of one, and that less than every page of two.
@@ -50,7 +50,7 @@ impl Rank {
 
 impl Ord for Rank {
     fn cmp(&self, other: &Rank) -> Ordering {
-        let key = |rank: &Rank| (rank.prev, rank.prev_replica, rank.last, rank.last_replica, rank.dev, rank.no, rank.stays);
+        let key = |rank: &Rank| (rank.prev, rank.prev_replica, rank.last, rank.last_replica, Reverse(rank.dev), Reverse(rank.no), rank.stays);
         key(self).cmp(&key(other))
     }
 }

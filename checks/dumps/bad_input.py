@@ -9,7 +9,7 @@ import tempfile
 from pathlib import Path
 
 from drawing import drawn_history
-from model import WIDE, Fault, History, checked, digests_frame, dump_of, entries_frame, frame, put, read_dump, refusal
+from model import PADDED, Fault, History, checked, digests_frame, dump_of, entries_frame, frame, put, read_dump, refusal
 from program import Wrong, is_root
 from texts import SMALL, BadText, read_text, text_refusal
 
@@ -20,7 +20,7 @@ TOP = Path(__file__).resolve().parents[2]
 def small_dump():
     """One page of replica 1 at horizon 12, in both of the frames that docs/FORMATS.md has, and its digests."""
     history = History(12, {(0, 7): [(20, 1), (10, 1)]})
-    return entries_frame(WIDE, 1, 12, [((0, 7), [(20, 1), (10, 1)])]) + digests_frame(WIDE, 1, 12, history)
+    return entries_frame(PADDED, 1, 12, [((0, 7), [(20, 1), (10, 1)])]) + digests_frame(PADDED, 1, 12, history)
 
 
 def damaged_dumps(draw):
@@ -41,13 +41,13 @@ def odd_dumps(draw):
     empty = History(0)
     yield dump + dump
     yield dump + b"\0"
-    yield frame(WIDE, 3, 2, 12, put(6, 8)) + dump
-    yield entries_frame(WIDE, 1, 12, entries) + dump
-    yield entries_frame(WIDE, 1, 13, entries) + dump
-    yield entries_frame(WIDE, 1, 12, entries) + digests_frame(WIDE, 1, 13, History(13, dict(entries)))
-    yield digests_frame(WIDE, 1, 0, drawn_history(draw).join(History(0, dict(entries))))
+    yield frame(PADDED, 3, 2, 12, put(6, 8)) + dump
+    yield entries_frame(PADDED, 1, 12, entries) + dump
+    yield entries_frame(PADDED, 1, 13, entries) + dump
+    yield entries_frame(PADDED, 1, 12, entries) + digests_frame(PADDED, 1, 13, History(13, dict(entries)))
+    yield digests_frame(PADDED, 1, 0, drawn_history(draw).join(History(0, dict(entries))))
     yield dump_of(empty, 1) + dump
-    yield entries_frame(WIDE, 1, 0, [((1, page), [(1, 1)]) for page in range(1000)])
+    yield entries_frame(PADDED, 1, 0, [((1, page), [(1, 1)]) for page in range(1000)])
     yield b""
 
 

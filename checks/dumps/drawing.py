@@ -1,6 +1,6 @@
-"""Histories and dumps of them, drawn at random: frames of both formats, of several senders, that overlap and are in any order."""
+"""Histories and dumps of them, drawn at random: frames of all formats, of several senders, that overlap and are in any order."""
 
-from model import NARROW, WIDE, History, digests_frame, entries_frame
+from model import NARROW, PADDED, WIDE, History, digests_frame, entries_frame
 
 MOST = 2**64 - 1
 
@@ -45,7 +45,7 @@ def is_narrow(history):
 
 def drawn_dump(draw, history):
     """A dump of the history, not as it is written: entries in any pieces, some in two frames or with older stamps beside them."""
-    forms = [WIDE, NARROW] if is_narrow(history) else [WIDE]
+    forms = [PADDED, WIDE, NARROW] if is_narrow(history) else [PADDED, WIDE]
     frames = []
     left = history.entries()
     while left:

@@ -12,19 +12,21 @@ BUCKETS, MOST_ENTRIES = 64, 1000
 
 
 class Format(NamedTuple):
-    """A format of frames: its letters, and how many bytes of it a horizon, a page's number and the longest body have."""
+    """A format of frames: its letters, and how many bytes of it are reserved, and a horizon, a page's number and the longest body have."""
 
     magic: bytes
+    reserved: int
     horizon: int
     number: int
     most: int
 
     def header(self):
-        return 11 + self.horizon
+        return 11 + self.reserved + self.horizon
 
 
-WIDE = Format(b"L2G2", 8, 8, 31004)
-NARROW = Format(b"L2G1", 0, 4, 27004)
+PADDED = Format(b"L2G3", 1, 8, 8, 31004)
+WIDE = Format(b"L2G2", 0, 8, 8, 31004)
+NARROW = Format(b"L2G1", 0, 0, 4, 27004)
 
 
 class History:
@@ -101,7 +103,7 @@ def spelled_entries(form, entries):
 
 
 def frame(form, kind, sender, horizon, body):
-    return form.magic + put(kind, 1) + put(sender, 2) + put(horizon, form.horizon) + put(len(body), 4) + body
+    return form.magic + put(kind, 1) + put(sender, 2) + put(0, form.reserved) + put(horizon, form.horizon) + put(len(body), 4) + body
 
 
 def entries_frame(form, sender, horizon, entries):
@@ -127,8 +129,8 @@ def dump_of(history, sender):
     text = b""
     for entries in buckets:
         for at in range(0, len(entries), MOST_ENTRIES):
-            text += entries_frame(WIDE, sender, history.horizon, entries[at : at + MOST_ENTRIES])
-    return text + digests_frame(WIDE, sender, history.horizon, history)
+            text += entries_frame(PADDED, sender, history.horizon, entries[at : at + MOST_ENTRIES])
+    return text + digests_frame(PADDED, sender, history.horizon, history)
 
 
 # ---- reading
@@ -140,14 +142,14 @@ def number(data):
 
 def size_of(data, at):
     """The size of the frame that begins here, by its header. Raises CutShort where the header is cut before it shows a fault."""
-    data = data[at : at + WIDE.header()]
+    data = data[at : at + PADDED.header()]
 
     def need(count):
         if len(data) < count:
             raise Fault("CutShort", at)
 
     need(4)
-    form = {form.magic: form for form in (WIDE, NARROW)}.get(data[:4])
+    form = {form.magic: form for form in (PADDED, WIDE, NARROW)}.get(data[:4])
     if form is None:
         raise Fault("BadMagic", at)
     need(5)
@@ -157,6 +159,9 @@ def size_of(data, at):
     need(7)
     if not 1 <= number(data[5:7]) <= 64:
         raise Fault("BadSender", at)
+    need(7 + form.reserved)
+    if any(data[7 : 7 + form.reserved]):
+        raise Fault("BadKind", at)
     need(form.header())
     length = number(data[form.header() - 4 : form.header()])
     if not {1: 4 <= length <= form.most, 2: length == 2048, 3: length == 8}[kind]:
@@ -224,7 +229,7 @@ def read_dump(data):
         if len(data) < at + size:
             raise Fault("CutShort", at)
         text = data[at : at + size]
-        body, own = text[form.header() :], number(text[7 : 7 + form.horizon])
+        body, own = text[form.header() :], number(text[7 + form.reserved : 7 + form.reserved + form.horizon])
         entries = entries_in(form, body, at) if kind == 1 else []
         if kind == 3:
             raise Fault("BadKind", at)
@@ -267,7 +272,8 @@ def shown(history):
 def hotness(entry):
     """Greater for a page that leaves later: two stamps before one, then the second latest, the latest, and the page."""
     page, stamps = entry
-    return (1, stamps[1], stamps[0], page) if len(stamps) == 2 else (0, stamps[0], stamps[0], page)
+    late = (-page[0], -page[1])
+    return (1, stamps[1], stamps[0], late) if len(stamps) == 2 else (0, stamps[0], stamps[0], late)
 
 
 def hottest(history, count):

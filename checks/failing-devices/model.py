@@ -31,7 +31,7 @@ def leaves_before(page: Page) -> tuple:
     times = sorted({time for device, no, time in KNOWN if (device, no) == page}, reverse=True)
     distance = sum(time > times[1] for _, _, time in KNOWN) if len(times) > 1 else float("inf")
     latest = times[0] if times else -1
-    return distance, -latest, (-page[0], -page[1])
+    return distance, -latest, page
 
 
 @dataclass

@@ -73,14 +73,14 @@ class References:
         return References(self.horizon, frozenset((page, stamp) for page, stamp in self.given if page in pages))
 
     def leaving(self) -> Callable[[Page], tuple]:
-        """Of two pages the lesser leaves first: the one of greater backward 2-distance, then of older latest stamp, then the lesser."""
+        """Of two pages the lesser leaves first: the one of greater backward 2-distance, then of older latest stamp, then the greater."""
         stamps = self.stamps()
         in_order = sorted(stamp for _, stamp in self.kept())
 
         def place(page: Page) -> tuple:
             known = stamps.get(page, [])
             later = len(in_order) - bisect_right(in_order, known[1]) if len(known) > 1 else float("inf")
-            return -later, known[:1], page
+            return -later, known[:1], (-page[0], -page[1])
 
         return place
 

@@ -44,7 +44,7 @@ static void carry_answers(warm *from, warm *to, uint8_t *frame, size_t room) {
 
 /* One round of gossip: the first offers its digests, the second answers with what differs and a request, the first answers that. */
 static void gossip(warm *first, warm *second) {
-    static uint8_t frame[32768]; /* no frame is larger than 31,023 bytes */
+    static uint8_t frame[32768]; /* no frame is larger than 31,024 bytes */
     size_t length;
     DO(warm_offer(first, frame, sizeof frame, &length));
     DO(warm_receive(second, frame, length));

@@ -189,9 +189,9 @@ static void answers(warm *handle) {
     OK(warm_offer(&other, frame, sizeof frame, &length));
     OK(warm_receive(handle, frame, length));
     EXPECT(WARM_BUFFER_TOO_SMALL, warm_next_answer(handle, frame, 0, &length));
-    MUST(length == 54);
+    MUST(length == 55);
     EXPECT(WARM_BUFFER_TOO_SMALL, warm_next_answer(handle, frame, length - 1, &length));
-    MUST(length == 54); /* it stays the next */
+    MUST(length == 55); /* it stays the next */
     OK(warm_next_answer(handle, frame, length, &length));
     OK(warm_receive(&other, frame, length));
     OK(warm_history_length(&other, &count));
@@ -240,16 +240,16 @@ static void buffers(void) {
     OK(warm_list(&handle, &page, 0, &count));
     MUST(count == 0);
     EXPECT(WARM_BUFFER_TOO_SMALL, warm_offer(&handle, frame, 0, &length));
-    MUST(length == 2067);
+    MUST(length == 2068);
     EXPECT(WARM_BUFFER_TOO_SMALL, warm_offer(&handle, frame, length - 1, &length));
     OK(warm_offer(&handle, frame, sizeof frame, &length));
-    MUST(memcmp(frame + 19 + 7 * 32, "\x57\x8d\x81\xdb\xdf\x5f\xd3\xe0", 8) == 0); /* the digest of bucket 7 begins so, docs/FORMATS.md says */
+    MUST(memcmp(frame + 20 + 7 * 32, "\x57\x8d\x81\xdb\xdf\x5f\xd3\xe0", 8) == 0); /* the digest of bucket 7 begins so, docs/FORMATS.md says */
     EXPECT(WARM_BAD_BUCKET, warm_send(&handle, 64, false, page, frame, sizeof frame, &length));
     EXPECT(WARM_BAD_BUCKET, warm_send(&handle, 255, true, page, frame, 0, &length));
     EXPECT(WARM_BUFFER_TOO_SMALL, warm_send(&handle, 7, false, page, frame, 0, &length));
-    MUST(length == 54);
-    EXPECT(WARM_BUFFER_TOO_SMALL, warm_send(&handle, 7, false, page, frame, 53, &length));
-    MUST(length == 54);
+    MUST(length == 55);
+    EXPECT(WARM_BUFFER_TOO_SMALL, warm_send(&handle, 7, false, page, frame, 54, &length));
+    MUST(length == 55);
     answers(&handle);
     OK(warm_horizon(&handle, 15, &horizon));
     OK(warm_horizon(&handle, 3, &horizon));
@@ -259,10 +259,14 @@ static void buffers(void) {
 }
 
 /* The frame of page 0:7 with 20@1 and 10@1 from replica 1, with the horizon 12: an example of docs/FORMATS.md. */
-static const uint8_t good[54] = {'L', '2', 'G', '2', 1, 0, 1, 0, 0, 0, 0, 0, 0, 0, 12, 0, 0, 0, 0x23, 0, 0, 0, 1, 0, 0,
+static const uint8_t good[55] = {'L', '2', 'G', '3', 1, 0, 1, 0, 0, 0, 0, 0, 0, 0, 0, 12, 0, 0, 0, 0x23, 0, 0, 0, 1, 0, 0,
     0, 0, 0, 0, 0, 0, 0, 7, 2, 0, 0, 0, 0, 0, 0, 0, 20, 0, 1, 0, 0, 0, 0, 0, 0, 0, 10, 0, 1};
 
-/* The frame of page 0:8 with the same stamps in the older format, which has no horizon and four bytes of a page's number. */
+/* The same of page 0:9 in the older format without a reserved byte. */
+static const uint8_t wide[54] = {'L', '2', 'G', '2', 1, 0, 1, 0, 0, 0, 0, 0, 0, 0, 12, 0, 0, 0, 0x23, 0, 0, 0, 1, 0, 0,
+    0, 0, 0, 0, 0, 0, 0, 9, 2, 0, 0, 0, 0, 0, 0, 0, 20, 0, 1, 0, 0, 0, 0, 0, 0, 0, 10, 0, 1};
+
+/* The frame of page 0:8 with the same stamps in the oldest format, which has no horizon and four bytes of a page's number. */
 static const uint8_t narrow[42] = {'L', '2', 'G', '1', 1, 0, 1, 0, 0, 0, 0x1f, 0, 0, 0, 1, 0, 0, 0, 0, 0, 8, 2,
     0, 0, 0, 0, 0, 0, 0, 20, 0, 1, 0, 0, 0, 0, 0, 0, 0, 10, 0, 1};
 
@@ -271,9 +275,9 @@ static void damaged_frames(void) {
     static const struct {
         int status;
         uint8_t at, byte;
-    } cases[] = {{WARM_BAD_MAGIC, 0, 'M'}, {WARM_BAD_MAGIC, 3, '3'}, {WARM_BAD_KIND, 4, 4}, {WARM_BAD_SENDER, 6, 65}, {WARM_TRUNCATED, 18, 0x24},
-        {WARM_BAD_LENGTH, 18, 0x22}, {WARM_BAD_LENGTH, 18, 3}, {WARM_BAD_COUNT, 21, 4}, {WARM_BAD_LENGTH, 22, 0}, {WARM_BAD_LENGTH, 22, 2},
-        {WARM_BAD_TAG, 33, 3}, {WARM_BAD_STAMP, 43, 0}, {WARM_BAD_STAMP, 51, 20}};
+    } cases[] = {{WARM_BAD_MAGIC, 0, 'M'}, {WARM_BAD_MAGIC, 3, '4'}, {WARM_BAD_KIND, 4, 4}, {WARM_BAD_SENDER, 6, 65}, {WARM_BAD_KIND, 7, 1},
+        {WARM_TRUNCATED, 19, 0x24}, {WARM_BAD_LENGTH, 19, 0x22}, {WARM_BAD_LENGTH, 19, 3}, {WARM_BAD_COUNT, 22, 4}, {WARM_BAD_LENGTH, 23, 0},
+        {WARM_BAD_LENGTH, 23, 2}, {WARM_BAD_TAG, 34, 3}, {WARM_BAD_STAMP, 44, 0}, {WARM_BAD_STAMP, 52, 20}};
     uint8_t frame[sizeof good];
     size_t count;
     warm_device none = {0};
@@ -289,9 +293,10 @@ static void damaged_frames(void) {
         MUST(count == 0);
     }
     OK(warm_receive(&handle, good, sizeof good));
+    OK(warm_receive(&handle, wide, sizeof wide));
     OK(warm_receive(&handle, narrow, sizeof narrow));
     OK(warm_history_length(&handle, &count));
-    MUST(count == 2);
+    MUST(count == 3);
     warm_close(&handle);
 }
 
@@ -306,8 +311,8 @@ static void open_alone(warm *handle, uint16_t replica) {
     OK(warm_open(handle, replica, 1, PAGE_SIZE, &none, 0));
 }
 
-/* A frame of one entry with two stamps has 54 bytes, one of digests 2,067: docs/FORMATS.md says so. */
-enum { DUMP_ENTRY = 54, DUMP_SIZE = DUMP_ENTRY + 2067 };
+/* A frame of one entry with two stamps has 55 bytes, one of digests 2,068: docs/FORMATS.md says so. */
+enum { DUMP_ENTRY = 55, DUMP_SIZE = DUMP_ENTRY + 2068 };
 
 /* The dump of page 0:7 with 20@1 and 10@1 from replica 1, in a file of its own. */
 static int dump_of_one(void) {
@@ -329,10 +334,10 @@ static void damaged_dumps(void) {
         int status;
         int at;
         uint8_t byte;
-    } cases[] = {{WARM_BAD_MAGIC, 0, 'M'}, {WARM_BAD_KIND, 4, 4}, {WARM_BAD_SENDER, 6, 65}, {WARM_HORIZONS_DIFFER, 14, 1}, {WARM_BAD_LENGTH, 18, 0x22},
-        {WARM_BAD_COUNT, 21, 4}, {WARM_DIGESTS_DIFFER, 32, 8}, {WARM_BAD_TAG, 33, 3}, {WARM_DIGESTS_DIFFER, 41, 21}, {WARM_BAD_STAMP, 43, 0},
-        {WARM_BAD_MAGIC, DUMP_ENTRY, 'M'}, {WARM_BAD_KIND, DUMP_ENTRY + 4, 0}, {WARM_HORIZONS_DIFFER, DUMP_ENTRY + 14, 1},
-        {WARM_DIGESTS_DIFFER, DUMP_ENTRY + 19, 0}, {WARM_DIGESTS_DIFFER, DUMP_SIZE - 1, 0}};
+    } cases[] = {{WARM_BAD_MAGIC, 0, 'M'}, {WARM_BAD_KIND, 4, 4}, {WARM_BAD_SENDER, 6, 65}, {WARM_BAD_KIND, 7, 1}, {WARM_HORIZONS_DIFFER, 15, 1},
+        {WARM_BAD_LENGTH, 19, 0x22}, {WARM_BAD_COUNT, 22, 4}, {WARM_DIGESTS_DIFFER, 33, 8}, {WARM_BAD_TAG, 34, 3}, {WARM_DIGESTS_DIFFER, 42, 21},
+        {WARM_BAD_STAMP, 44, 0}, {WARM_BAD_MAGIC, DUMP_ENTRY, 'M'}, {WARM_BAD_KIND, DUMP_ENTRY + 4, 0}, {WARM_HORIZONS_DIFFER, DUMP_ENTRY + 15, 1},
+        {WARM_DIGESTS_DIFFER, DUMP_ENTRY + 20, 0}, {WARM_DIGESTS_DIFFER, DUMP_SIZE - 1, 0}};
     const warm_reference own = {.time = 5, .no = 3, .replica = 2};
     int fd = dump_of_one();
     warm handle = {0};
@@ -363,11 +368,11 @@ static void wrong_lengths(void) {
     MUST(pwrite(fd, "", 1, DUMP_SIZE) == 1);
     OK(warm_save(&handle, fd)); /* a file that was not empty: the dump of no page, and the rest of the old one */
     EXPECT(WARM_MORE_FOLLOWS, warm_load(&handle, fd, DUMP_SIZE));
+    MUST(ftruncate(fd, 2068) == 0);
+    OK(warm_load(&handle, fd, 2068));
     MUST(ftruncate(fd, 2067) == 0);
-    OK(warm_load(&handle, fd, 2067));
-    MUST(ftruncate(fd, 2066) == 0);
-    EXPECT(WARM_CUT_SHORT, warm_load(&handle, fd, 2066));
-    EXPECT(WARM_DIGESTS_DIFFER, warm_load(&handle, fd, 2067)); /* a zero stands where its last byte was */
+    EXPECT(WARM_CUT_SHORT, warm_load(&handle, fd, 2067));
+    EXPECT(WARM_DIGESTS_DIFFER, warm_load(&handle, fd, 2068)); /* a zero stands where its last byte was */
     MUST(ftruncate(fd, 0) == 0);
     EXPECT(WARM_CUT_SHORT, warm_load(&handle, fd, 0));
     EXPECT(WARM_BAD_MAGIC, warm_load(&handle, fd, 1 << 20));
@@ -393,12 +398,12 @@ static void joined_dumps(void) {
     OK(warm_horizon(&handle, 0, &horizon));
     MUST(horizon == 15 && pages_of(&handle) == 2);
     OK(warm_next_answer(&handle, frame, sizeof frame, &length));
-    MUST(length == 44); /* page 0:8 with one stamp, as it was before the load */
+    MUST(length == 45); /* page 0:8 with one stamp, as it was before the load */
     OK(warm_send(&handle, 7, false, (warm_page){0}, frame, sizeof frame, &length));
-    MUST(length == 44 && frame[33] == 1 && frame[41] == 20); /* of page 0:7 only 20@1 is left */
+    MUST(length == 45 && frame[34] == 1 && frame[42] == 20); /* of page 0:7 only 20@1 is left */
     OK(warm_load(&handle, fd, DUMP_SIZE));
     OK(warm_send(&handle, 7, false, (warm_page){0}, again, sizeof again, &length));
-    MUST(length == 44 && memcmp(frame, again, 44) == 0 && pages_of(&handle) == 2);
+    MUST(length == 45 && memcmp(frame, again, 45) == 0 && pages_of(&handle) == 2);
     warm_close(&handle);
     warm_close(&other);
     close(fd);
@@ -447,7 +452,7 @@ static void late_frames(void) {
     OK(warm_receive(&handle, good, sizeof good)); /* a handle that was just opened has no limit */
     knows(&handle, 1, 12);
     memcpy(frame, good, sizeof good);
-    memset(frame + 7, 0xff, 8);
+    memset(frame + 8, 0xff, 8);
     OK(warm_receive(&handle, frame, sizeof good));
     knows(&handle, 0, UINT64_MAX); /* the greatest horizon empties it */
     warm_close(&handle);

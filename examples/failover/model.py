@@ -6,7 +6,7 @@ usage: model.py TRACE FRAMES INTERVAL ACCESSES HABITS TAKEOVER..
 HABITS are ONCE-IN/HOLD, parted by commas. It prints ratios.csv, and then costs.csv without its last column, which is
 a time. No code is shared with the report or with warmplay: histories are dictionaries of the two latest times, pools
 are sets, and a victim is found by comparing all resident pages, by the definitions of docs/DEFINITIONS.md (the
-greatest backward 2-distance leaves first, then the older latest reference, then the lesser page).
+greatest backward 2-distance leaves first, then the older latest reference, then the greater page).
 """
 
 import random
@@ -26,7 +26,7 @@ Known = dict[int, Times]
 
 def leaves_first(known: Known) -> Callable[[int], tuple[int, int, int]]:
     """Of two pages the lesser leaves first. A page without a second reference is infinitely far back."""
-    return lambda page: (*known.get(page, (NEVER, NEVER)), page)
+    return lambda page: (*known.get(page, (NEVER, NEVER)), -page)
 
 
 def united(known: Known, more: Known) -> Known:
@@ -92,7 +92,7 @@ def round_of(known: Known) -> list[Known]:
 
 def size(piece: Known) -> int:
     """The bytes of a frame with these entries: a header and a count, page and tag of each, ten for each time."""
-    return 23 + sum(11 + 10 * sum(time != NEVER for time in times) for times in piece.values())
+    return 24 + sum(11 + 10 * sum(time != NEVER for time in times) for times in piece.values())
 
 
 def heard(rounds: list[list[Known]], one_of: int) -> tuple[Known, int]:

@@ -12,7 +12,7 @@ from page_trace import Access
 
 BUCKETS = 64
 ENTRIES_OF_A_FRAME = 1000
-HEADER_BYTES = 19 + 4  # a frame's header, and the count of its entries
+HEADER_BYTES = 20 + 4  # a frame's header, and the count of its entries
 ENTRY_BYTES = (21, 31)  # an entry with one stamp, and one with two
 SEED = 1  # of the draws that say which frames arrive
 

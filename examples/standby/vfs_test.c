@@ -395,25 +395,27 @@ static void many_pages(void) {
 }
 
 /* A request of replica 2 with this horizon. */
-static void request_with(uint8_t request[27], uint64_t horizon) {
-    memcpy(request, "L2G2\3\0\2\0\0\0\0\0\0\0\0\0\0\0\10\0\0\0\0\0\0\0\6", 27);
-    for (int at = 0; at < 8; at++) request[7 + at] = (uint8_t)(horizon >> (56 - 8 * at));
+static void request_with(uint8_t request[28], uint64_t horizon) {
+    memcpy(request, "L2G3\3\0\2\0\0\0\0\0\0\0\0\0\0\0\0\10\0\0\0\0\0\0\0\6", 28);
+    for (int at = 0; at < 8; at++) request[8 + at] = (uint8_t)(horizon >> (56 - 8 * at));
 }
 
-/* The times of a frame are found in either format, and a reference is later than each that was heard. A frame that speaks of a later time than
+/* The times of a frame are found in each format, and a reference is later than each that was heard. A frame that speaks of a later time than
  * is believed is refused, and neither empties the history nor moves its times. */
 static void heard_times(void) {
-    static const uint8_t two[] = "L2G2\1\0\1\0\0\0\0\0\0\0\0\0\0\0\70\0\0\0\2" /* the body has 4, 31 and 21 bytes */
+    static const uint8_t two[] = "L2G3\1\0\1\0\0\0\0\0\0\0\0\0\0\0\0\70\0\0\0\2" /* the body has 4, 31 and 21 bytes */
         "\0\0\0\0\0\0\0\0\0\7\2\0\0\0\0\0\0\1\4\0\1\0\0\0\0\0\0\0\12\0\1"
         "\0\0\0\0\0\0\0\0\0\107\1\0\0\0\0\0\0\0\5\0\1";
+    static const uint8_t wide[] = "L2G2\1\0\1\0\0\0\0\0\0\0\0\0\0\0\31\0\0\0\1\0\0\0\0\0\0\0\0\0\7\1\0\0\0\0\0\0\1\5\0\1";
     static const uint8_t old[] = "L2G1\1\0\1\0\0\0\25\0\0\0\1\0\0\0\0\0\7\1\0\0\0\0\0\0\2\0\0\1";
     static const uint64_t second = 1000000000;
     static pool_file file;
-    uint8_t request[27];
+    uint8_t request[28];
     size_t known;
     int fd = open(path_of("heard"), O_RDWR | O_CREAT | O_TRUNC, 0666);
     MUST(fd >= 0 && pool_file_open(&file, fd, 1, 4) == WARM_OK);
     MUST(warm_receive(pool_file_handle(&file), two, sizeof two - 1) == WARM_OK && frame_latest(two, sizeof two - 1) == 260);
+    MUST(warm_receive(pool_file_handle(&file), wide, sizeof wide - 1) == WARM_OK && frame_latest(wide, sizeof wide - 1) == 261);
     MUST(warm_receive(pool_file_handle(&file), old, sizeof old - 1) == WARM_OK && frame_latest(old, sizeof old - 1) == 512);
     request_with(request, 258);
     MUST(frame_latest(request, sizeof request) == 258);

@@ -105,7 +105,7 @@ class Replica:
     def rank(self, page: int) -> tuple[int, list[Stamp], int]:
         """Of two pages the one of lesser rank leaves first: the older second latest stamp, then the older latest one."""
         stamps = self.history.get(page, ())
-        return len(stamps), sorted(stamps), page
+        return len(stamps), sorted(stamps), -page
 
     def warm(self, count: int) -> list[int]:
         return sorted(self.history, key=self.rank, reverse=True)[:count]

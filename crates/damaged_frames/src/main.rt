@@ -4,8 +4,8 @@
 //! the result of `decode` for the bytes; then, after `|`, the results of a `Decoder` that is fed
 //! pieces of that many bytes, and its result at the end. A frame is printed with its fields except
 //! the horizon, and with `same` where `encode` gives the bytes that it was read from, horizon
-//! included: those of a frame of the format `L2G2`. A frame of `L2G1`, which is only read, is
-//! `other`. `checks/damaged-frames/check` compares with a reader of its own.
+//! included: those of a frame of the format `L2G3`. A frame of `L2G2` or `L2G1`, which are only
+//! read, is `other`. `checks/damaged-frames/check` compares with a reader of its own.
 #![tactic(auto)]
 
 use anyhow::{Context, Result, bail};

@@ -205,19 +205,19 @@ pub(crate) fn contested<P: Print>(rt: &P, met: &mut Met, mut contest: Contest) -
     requires { length contest ≡ 2 }
 {
     takes_none(rt, "set of a key")?;
-    set_of_two(&mut contest, 0, Some(never_referenced(2)));
+    set_of_two(&mut contest, 0, Some(never_referenced(1)));
     takes_none(rt, "set of a lesser key")?;
-    set_of_two(&mut contest, 1, Some(never_referenced(1)));
+    set_of_two(&mut contest, 1, Some(never_referenced(2)));
     takes_none(rt, "least")?;
     met.holds(contest.least() == Some(1), "another key is the least")?;
     takes_none(rt, "set of no key")?;
     set_of_two(&mut contest, 1, None);
     met.holds(contest.least() == Some(0), "a key is not cleared")?;
     takes_none(rt, "lower")?;
-    lower_of_two(&mut contest, 0, Some(never_referenced(1)));
+    lower_of_two(&mut contest, 0, Some(never_referenced(2)));
     let lowered = contest.key(0);
     met.holds(
-        lowered == Some(never_referenced(1)),
+        lowered == Some(never_referenced(2)),
         "a lesser key is not taken",
     )?;
     takes_none(rt, "clear_vacant")?;

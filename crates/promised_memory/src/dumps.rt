@@ -8,9 +8,9 @@ use warm_history::History;
 use warm_stamps::{PageId, Reference, ReplicaId, Stamp};
 
 // A frame of 1000 entries, each of two stamps, and the frame of 64 digests.
-const FULL: usize = 19 + 4 + 1000 * 31;
+const FULL: usize = 20 + 4 + 1000 * 31;
 
-const DIGESTS: usize = 19 + 64 * 32;
+const DIGESTS: usize = 20 + 64 * 32;
 
 // Adds pages of device 0 to a history: of the first number, and then each of a number that is
 // greater by `spread`. Each has two stamps of the replica.
@@ -96,7 +96,7 @@ fn of_all_buckets<P: Print>(
     let mut history = History::new(alloc);
     add(&mut history, replica, 0, 1, 64 * 64)?;
     add(&mut history, replica, 63, 64, 4000)?;
-    let short = 63 * (19 + 4 + 64 * 31);
+    let short = 63 * (20 + 4 + 64 * 31);
     let text = written(
         rt,
         met,

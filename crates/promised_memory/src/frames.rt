@@ -5,18 +5,18 @@ use std::io::Print;
 use warm_frames::{Message, decode};
 
 // A frame of no entries by sender 3, with horizon 5.
-const NOTHING: [u8; 23] = [
-    0x4C, 0x32, 0x47, 0x32, 1, 0, 3, 0, 0, 0, 0, 0, 0, 0, 5, 0, 0, 0, 4, 0, 0, 0, 0,
+const NOTHING: [u8; 24] = [
+    0x4C, 0x32, 0x47, 0x33, 1, 0, 3, 0, 0, 0, 0, 0, 0, 0, 0, 5, 0, 0, 0, 4, 0, 0, 0, 0,
 ];
 
 // A request of sender 2 for buckets 1 and 2, with horizon 5.
-const REQUEST: [u8; 27] = [
-    0x4C, 0x32, 0x47, 0x32, 3, 0, 2, 0, 0, 0, 0, 0, 0, 0, 5, 0, 0, 0, 8, 0, 0, 0, 0, 0, 0, 0, 6,
+const REQUEST: [u8; 28] = [
+    0x4C, 0x32, 0x47, 0x33, 3, 0, 2, 0, 0, 0, 0, 0, 0, 0, 0, 5, 0, 0, 0, 8, 0, 0, 0, 0, 0, 0, 0, 6,
 ];
 
-// The header of a frame of digests by sender 1 with horizon 5. The frame has 2,067 bytes.
-const DIGESTS: [u8; 19] = [
-    0x4C, 0x32, 0x47, 0x32, 2, 0, 1, 0, 0, 0, 0, 0, 0, 0, 5, 0, 0, 8, 0,
+// The header of a frame of digests by sender 1 with horizon 5. The frame has 2,068 bytes.
+const DIGESTS: [u8; 20] = [
+    0x4C, 0x32, 0x47, 0x33, 2, 0, 1, 0, 0, 0, 0, 0, 0, 0, 0, 5, 0, 0, 8, 0,
 ];
 
 // The same in the narrow format, which has no horizon and is only read.
@@ -70,8 +70,8 @@ pub(crate) fn rows<P: Print>(rt: &P, met: &mut Met, alloc: Global) -> Result<(),
     met.holds(is_nothing(alloc, &NOTHING, 5), "no entries are refused")?;
     takes_none(rt, "decode of a request")?;
     met.holds(is_request(alloc, &REQUEST, 5), "a request is refused")?;
-    let mut bytes = [7u8; 2067];
-    bytes[..19].copy_from_slice(&DIGESTS);
+    let mut bytes = [7u8; 2068];
+    bytes[..20].copy_from_slice(&DIGESTS);
     takes_none(rt, "decode of digests")?;
     met.holds(is_digests(alloc, &bytes, 5), "digests are refused")?;
     narrow(rt, met, alloc)

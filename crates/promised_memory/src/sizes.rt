@@ -110,7 +110,7 @@ fn encoded<P: Print>(
     takes(rt, count, "encode")?;
     let bytes = encode(alloc, &message)?;
     is_done(rt)?;
-    met.holds(bytes.len() == 21_023, "1000 entries have 21,023 bytes")?;
+    met.holds(bytes.len() == 21_024, "1000 entries have 21,024 bytes")?;
     Ok(bytes)
 }
 

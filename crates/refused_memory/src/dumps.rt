@@ -10,9 +10,9 @@ use warm_frames::FrameFault;
 use warm_history::History;
 
 // The size of the dump of the nine pages. The pages 0:0 to 0:8 are in a bucket each, and so in a
-// frame each: a header of 19 bytes, a count of 4, and an entry of 21 or, for the five pages with
-// two stamps, of 31. The frame of the digests has a header of 19 bytes and 64 digests of 32.
-const DUMP_SIZE: usize = 4 * (19 + 4 + 21) + 5 * (19 + 4 + 31) + 19 + 64 * 32;
+// frame each: a header of 20 bytes, a count of 4, and an entry of 21 or, for the five pages with
+// two stamps, of 31. The frame of the digests has a header of 20 bytes and 64 digests of 32.
+const DUMP_SIZE: usize = 4 * (20 + 4 + 21) + 5 * (20 + 4 + 31) + 20 + 64 * 32;
 
 const NO_MEMORY: DumpFault = DumpFault::Frame(FrameFault::Memory);
 

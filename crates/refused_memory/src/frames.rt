@@ -4,9 +4,9 @@ use std::alloc::Global;
 use warm_frames::{BoxedMessage, Decoder, Fed, FrameFault, Message, decode, encode};
 
 // A frame of sender 1, with horizon 12 and the entry 0:7 with stamps 20@1 and 10@1.
-const WIDE: [u8; 54] = [
-    0x4C, 0x32, 0x47, 0x32, 1, 0, 1, 0, 0, 0, 0, 0, 0, 0, 0x0C, 0, 0, 0, 0x23, 0, 0, 0, 1, 0, 0, 0,
-    0, 0, 0, 0, 0, 0, 7, 2, 0, 0, 0, 0, 0, 0, 0, 0x14, 0, 1, 0, 0, 0, 0, 0, 0, 0, 0x0A, 0, 1,
+const WIDE: [u8; 55] = [
+    0x4C, 0x32, 0x47, 0x33, 1, 0, 1, 0, 0, 0, 0, 0, 0, 0, 0, 0x0C, 0, 0, 0, 0x23, 0, 0, 0, 1, 0, 0,
+    0, 0, 0, 0, 0, 0, 0, 7, 2, 0, 0, 0, 0, 0, 0, 0, 0x14, 0, 1, 0, 0, 0, 0, 0, 0, 0, 0x0A, 0, 1,
 ];
 
 // The same in the older format, which has no horizon: it is 0.
@@ -68,7 +68,7 @@ fn pieces(met: &mut Met, alloc: Global) -> Result<(), Ended> {
     let second = fed(met, &mut decoder, &WIDE[20..53])?;
     met.holds(second.is_none(), "53 bytes are no frame")?;
     let Some(message) = fed(met, &mut decoder, &WIDE[53..])? else {
-        return Err(met.broken("54 bytes are a frame"));
+        return Err(met.broken("55 bytes are a frame"));
     };
     encoded(met, alloc, message.as_message(), &WIDE)
 }
@@ -78,7 +78,7 @@ pub(crate) fn rows(met: &mut Met, alloc: Global) -> Result<(), Ended> {
     encoded(met, alloc, &message, &WIDE)?;
     let older = decoded(met, alloc, &NARROW)?;
     let mut widened = WIDE;
-    widened[14] = 0;
+    widened[15] = 0;
     encoded(met, alloc, &older, &widened)?;
     pieces(met, alloc)
 }

@@ -263,7 +263,7 @@ fn join(met: &mut Met, alloc: Global, node: &mut Node<MemDevice>) -> Result<(), 
     }
     load(met, node, 1)?;
     load(met, node, 4)?;
-    met.holds(node.victim() == Some(page(1)), "0:1 is the lesser page")?;
+    met.holds(node.victim() == Some(page(4)), "0:4 is the greater page")?;
     let mut other = history_of_pages(alloc, 0, 4, 20)?;
     other.raise(15);
     let before = face_of(node);

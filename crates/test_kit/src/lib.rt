@@ -14,7 +14,7 @@ mod streams;
 mod text;
 mod values;
 
-pub use bytes::{NARROW, WIDE};
+pub use bytes::{NARROW, PADDED, WIDE};
 pub use devices::{alone, both, flaky, memory};
 pub use hooked::{HookedDevice, Hooks};
 pub use lists::{SeenAt, history_of, references};

@@ -41,7 +41,7 @@ fn each_beginning_is_cut_short(rt: HostRuntime) {
 }
 
 // The header of the digests ends here.
-const HEADERS: usize = SECOND + 19;
+const HEADERS: usize = SECOND + 20;
 
 // Whether a value of the byte at a place, where it changes the byte, gives the history. None gives
 // another.
@@ -139,21 +139,22 @@ fn changed_digests_of_buckets_48_to_63_are_refused(rt: HostRuntime) {
 
 // A place in the dump of the four pages, the byte that is put there, where the fault is found, and
 // the fault.
-const FAULTS: [(usize, u8, usize, DumpFault); 14] = [
-    (3, 0x33, 0, DumpFault::Frame(FrameFault::BadMagic)),
+const FAULTS: [(usize, u8, usize, DumpFault); 15] = [
+    (3, 0x34, 0, DumpFault::Frame(FrameFault::BadMagic)),
     (4, 4, 0, DumpFault::Frame(FrameFault::BadKind)),
     (4, 3, 0, DumpFault::Frame(FrameFault::BadLength)),
     (6, 0, 0, DumpFault::Frame(FrameFault::BadSender)),
-    (14, 1, FIRST, DumpFault::HorizonsDiffer),
-    (20, 4, 0, DumpFault::Frame(FrameFault::BadCount)),
-    (33, 3, 0, DumpFault::Frame(FrameFault::BadTag)),
-    (41, 6, SECOND, DumpFault::DigestsDiffer),
-    (43, 0, 0, DumpFault::Frame(FrameFault::BadStamp)),
-    (53, 0, 0, DumpFault::Frame(FrameFault::BadOrder)),
-    (110, 1, FIRST, DumpFault::HorizonsDiffer),
-    (153, 0, SECOND, DumpFault::Frame(FrameFault::BadMagic)),
-    (164, 1, SECOND, DumpFault::HorizonsDiffer),
-    (2216, 0, SECOND, DumpFault::DigestsDiffer),
+    (7, 1, 0, DumpFault::Frame(FrameFault::BadKind)),
+    (15, 1, FIRST, DumpFault::HorizonsDiffer),
+    (21, 4, 0, DumpFault::Frame(FrameFault::BadCount)),
+    (34, 3, 0, DumpFault::Frame(FrameFault::BadTag)),
+    (42, 6, SECOND, DumpFault::DigestsDiffer),
+    (44, 0, 0, DumpFault::Frame(FrameFault::BadStamp)),
+    (54, 0, 0, DumpFault::Frame(FrameFault::BadOrder)),
+    (112, 1, FIRST, DumpFault::HorizonsDiffer),
+    (155, 0, SECOND, DumpFault::Frame(FrameFault::BadMagic)),
+    (167, 1, SECOND, DumpFault::HorizonsDiffer),
+    (2219, 0, SECOND, DumpFault::DigestsDiffer),
 ];
 
 #[test]

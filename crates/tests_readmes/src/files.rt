@@ -18,7 +18,7 @@ fn one_call(rt: &impl Abort, alloc: Global) -> Result<()> {
     assert!(rt;
         fault
             == Some(DumpError {
-                at: 54,
+                at: 55,
                 fault: DumpFault::CutShort
             })
     );

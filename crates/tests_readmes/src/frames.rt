@@ -14,7 +14,7 @@ fn one_call(rt: &impl Abort, alloc: Global) -> Result<()> {
         request,
     };
     let bytes = encode(alloc, &asks)?;
-    assert!(rt; bytes.len() == 27); // a header of 19 bytes, and 8
+    assert!(rt; bytes.len() == 28); // a header of 20 bytes, and 8
     let read = decode(alloc, &bytes)?;
     assert!(rt; matches!(read, Message::Want { request, .. } if request.bits() == 0b10));
     let (front, back) = bytes.as_slice().split_at(20); // a stream that comes in two pieces
@@ -22,7 +22,7 @@ fn one_call(rt: &impl Abort, alloc: Global) -> Result<()> {
     let part = decoder.feed(front)?;
     assert!(rt; part.taken == 20 && part.message.is_none());
     let whole = decoder.feed(back)?;
-    assert!(rt; whole.taken == 7 && whole.message.is_some() && decoder.finish() == Ok(()));
+    assert!(rt; whole.taken == 8 && whole.message.is_some() && decoder.finish() == Ok(()));
     Ok(())
 }
 

@@ -50,18 +50,18 @@ pub(crate) fn mailed<R: Wait + Abort>(rt: &R, alloc: Global, texts: &[&[u8]]) ->
 
 // Replica 1 at this horizon sends one entry: this page of device 0, with one stamp of replica 1 at
 // this time.
-pub(crate) const fn entry_at(horizon: u8, no: u8, time: u8) -> [u8; 44] {
+pub(crate) const fn entry_at(horizon: u8, no: u8, time: u8) -> [u8; 45] {
     [
-        0x4C, 0x32, 0x47, 0x32, 1, 0, 1, 0, 0, 0, 0, 0, 0, 0, horizon, 0, 0, 0, 0x19, 0, 0, 0, 1,
-        0, 0, 0, 0, 0, 0, 0, 0, 0, no, 1, 0, 0, 0, 0, 0, 0, 0, time, 0, 1,
+        0x4C, 0x32, 0x47, 0x33, 1, 0, 1, 0, 0, 0, 0, 0, 0, 0, 0, horizon, 0, 0, 0, 0x19, 0, 0, 0,
+        1, 0, 0, 0, 0, 0, 0, 0, 0, 0, no, 1, 0, 0, 0, 0, 0, 0, 0, time, 0, 1,
     ]
 }
 
 // A request of a replica at this horizon for some of the first eight buckets.
-const fn request_of(number: u8, horizon: u8, request: u8) -> [u8; 27] {
+const fn request_of(number: u8, horizon: u8, request: u8) -> [u8; 28] {
     [
-        0x4C, 0x32, 0x47, 0x32, 3, 0, number, 0, 0, 0, 0, 0, 0, 0, horizon, 0, 0, 0, 8, 0, 0, 0, 0,
-        0, 0, 0, request,
+        0x4C, 0x32, 0x47, 0x33, 3, 0, number, 0, 0, 0, 0, 0, 0, 0, 0, horizon, 0, 0, 0, 8, 0, 0, 0,
+        0, 0, 0, 0, request,
     ]
 }
 
@@ -224,7 +224,7 @@ fn answers_are_kept_for_their_sender(rt: HostRuntime) {
     }
 }
 
-// Entries are received in both formats, and the later ones bring their horizon.
+// Entries are received in two formats, and the later ones bring their horizon.
 #[test]
 fn both_formats_come_in_one_stream(rt: HostRuntime) {
     let alloc = rt.alloc();
@@ -383,7 +383,7 @@ fn thousand(rt: &impl Abort, alloc: Global) -> EntryList {
     EntryList::of(entries).ok().expect(rt, "the pages rise")
 }
 
-// The longest message is received and sent: a header of 19 bytes, a count of 4, and a thousand
+// The longest message is received and sent: a header of 20 bytes, a count of 4, and a thousand
 // entries of 31.
 #[test]
 fn a_thousand_entries_go_through_an_outbox(rt: HostRuntime) {
@@ -394,7 +394,7 @@ fn a_thousand_entries_go_through_an_outbox(rt: HostRuntime) {
         entries: thousand(&rt, alloc),
     };
     let text = encode(alloc, &message).expect(&rt, "memory for the bytes");
-    assert!(rt; text.len() == 31_023);
+    assert!(rt; text.len() == 31_024);
     let mail = mailed(&rt, alloc, &[text.as_slice(), &request_of(9, 0, 2)]);
     let (boxes, receiver) = outbox_of(&rt, alloc, 9);
     let mut post = Outboxes::new(&rt, boxes);

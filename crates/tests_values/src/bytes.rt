@@ -1,20 +1,20 @@
-//! Frames of both formats, their bytes written by hand from the formats: `L2G1`, the narrow one,
-//! which has no horizon and page numbers of 32 bits and is only read, and `L2G2`, the wide one,
-//! which is also written. And the calls by which the tests read and write them.
+//! Frames of each format, their bytes written by hand from the formats: `L2G1`, the narrow one,
+//! which has no horizon and page numbers of 32 bits, and `L2G2`, the wide one, which are only read,
+//! and `L2G3`, the padded one, which is also written. And the calls by which the tests read and write them.
 use std::alloc::Global;
 use std::process::Abort;
-use test_kit::{NARROW, WIDE};
+use test_kit::{NARROW, PADDED, WIDE};
 use warm_frames::{FrameFault, Message, decode, encode};
 
-// NARROW in the wide format: the horizon is 0.
-pub(crate) const WIDENED: [u8; 54] = [
-    0x4C, 0x32, 0x47, 0x32, 1, 0, 1, 0, 0, 0, 0, 0, 0, 0, 0, 0, 0, 0, 0x23, 0, 0, 0, 1, 0, 0, 0, 0,
-    0, 0, 0, 0, 0, 7, 2, 0, 0, 0, 0, 0, 0, 0, 0x14, 0, 1, 0, 0, 0, 0, 0, 0, 0, 0x0A, 0, 1,
+// NARROW in the written format: the horizon is 0.
+pub(crate) const WIDENED: [u8; 55] = [
+    0x4C, 0x32, 0x47, 0x33, 1, 0, 1, 0, 0, 0, 0, 0, 0, 0, 0, 0, 0, 0, 0, 0x23, 0, 0, 0, 1, 0, 0, 0,
+    0, 0, 0, 0, 0, 0, 7, 2, 0, 0, 0, 0, 0, 0, 0, 0x14, 0, 1, 0, 0, 0, 0, 0, 0, 0, 0x0A, 0, 1,
 ];
 
 // A frame of no entries by sender 3.
-pub(crate) const NOTHING: [u8; 23] = [
-    0x4C, 0x32, 0x47, 0x32, 1, 0, 3, 0, 0, 0, 0, 0, 0, 0, 0, 0, 0, 0, 4, 0, 0, 0, 0,
+pub(crate) const NOTHING: [u8; 24] = [
+    0x4C, 0x32, 0x47, 0x33, 1, 0, 3, 0, 0, 0, 0, 0, 0, 0, 0, 0, 0, 0, 0, 4, 0, 0, 0, 0,
 ];
 
 // The same in the narrow format.
@@ -23,8 +23,8 @@ pub(crate) const NARROW_NOTHING: [u8; 15] = [
 ];
 
 // A request of sender 2 for buckets 1 and 2.
-pub(crate) const REQUEST: [u8; 27] = [
-    0x4C, 0x32, 0x47, 0x32, 3, 0, 2, 0, 0, 0, 0, 0, 0, 0, 0, 0, 0, 0, 8, 0, 0, 0, 0, 0, 0, 0, 6,
+pub(crate) const REQUEST: [u8; 28] = [
+    0x4C, 0x32, 0x47, 0x33, 3, 0, 2, 0, 0, 0, 0, 0, 0, 0, 0, 0, 0, 0, 0, 8, 0, 0, 0, 0, 0, 0, 0, 6,
 ];
 
 // The same in the narrow format.
@@ -36,6 +36,13 @@ pub(crate) const NARROW_REQUEST: [u8; 19] = [
 pub(crate) fn changed(place: usize, value: u8) -> [u8; 54] {
     let mut bytes = WIDE;
     bytes[place % 54] = value;
+    bytes
+}
+
+// The frame PADDED with another byte at a place.
+pub(crate) fn padded_changed(place: usize, value: u8) -> [u8; 55] {
+    let mut bytes = PADDED;
+    bytes[place % 55] = value;
     bytes
 }
 

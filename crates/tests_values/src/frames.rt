@@ -2,7 +2,7 @@
 use crate::bytes::{WIDENED, encoded, fault, put};
 use std::alloc::Global;
 use std::process::Abort;
-use test_kit::{NARROW, WIDE, bucket, entry, once, page, page_on, replica, twice};
+use test_kit::{NARROW, PADDED, WIDE, bucket, entry, once, page, page_on, replica, twice};
 use warm_frames::{DigestTable, EntryList, FrameFault, Message, decode, put_entry};
 use warm_history::Entry;
 
@@ -36,8 +36,10 @@ fn says_twice(rt: &impl Abort, message: Message, since: u64) -> bool {
 
 #[test]
 fn entries_have_one_encoding(rt: HostRuntime) {
-    let wide = read_as(&rt, rt.alloc(), &WIDE, &WIDE);
+    let wide = read_as(&rt, rt.alloc(), &WIDE, &PADDED);
     assert!(rt; says_twice(&rt, wide, 12));
+    let padded = read_as(&rt, rt.alloc(), &PADDED, &PADDED);
+    assert!(rt; says_twice(&rt, padded, 12));
     let narrow = read_as(&rt, rt.alloc(), &NARROW, &WIDENED);
     assert!(rt; says_twice(&rt, narrow, 0));
 }
@@ -63,14 +65,14 @@ fn table_bytes(rt: &impl Abort, alloc: Global) -> Vec<u8> {
 // Whether these are those bytes.
 fn are_spread(bytes: &[u8]) -> bool {
     let header = [
-        0x4C, 0x32, 0x47, 0x32, 2, 0, 64, 0, 0, 0, 0, 0, 0, 0, 12, 0, 0, 8, 0,
+        0x4C, 0x32, 0x47, 0x33, 2, 0, 64, 0, 0, 0, 0, 0, 0, 0, 0, 12, 0, 0, 8, 0,
     ];
-    bytes.len() == 2067
+    bytes.len() == 2068
         && bytes.starts_with(&header)
-        && bytes[19] == 7
-        && bytes[50] == 7
-        && bytes[51] == 0
-        && bytes[2066] == 9
+        && bytes[20] == 7
+        && bytes[51] == 7
+        && bytes[52] == 0
+        && bytes[2067] == 9
 }
 
 // Whether the bytes are sender 64's table of those digests at this horizon.
@@ -129,9 +131,9 @@ fn frame_of(
 
 // The header and the count of sender 1's entries: how many bytes the body has, and its count, by
 // their last two bytes.
-const fn wide_start(len: [u8; 2], count: [u8; 2]) -> [u8; 23] {
+const fn wide_start(len: [u8; 2], count: [u8; 2]) -> [u8; 24] {
     [
-        0x4C, 0x32, 0x47, 0x32, 1, 0, 1, 0, 0, 0, 0, 0, 0, 0, 0, 0, 0, len[0], len[1], 0, 0,
+        0x4C, 0x32, 0x47, 0x33, 1, 0, 1, 0, 0, 0, 0, 0, 0, 0, 0, 0, 0, 0, len[0], len[1], 0, 0,
         count[0], count[1],
     ]
 }
@@ -153,7 +155,7 @@ fn has_entries(rt: &impl Abort, alloc: Global, bytes: &[u8], count: usize) -> bo
 fn the_longest_frame_of_each_format(rt: HostRuntime) {
     let alloc = rt.alloc();
     let wide = longest_wide(&rt, alloc);
-    assert!(rt; wide.len() == 31_023 && has_entries(&rt, alloc, &wide, 1000));
+    assert!(rt; wide.len() == 31_024 && has_entries(&rt, alloc, &wide, 1000));
     // Its body has 27,004 bytes.
     let narrow = [
         0x4C, 0x32, 0x47, 0x31, 1, 0, 1, 0, 0, 0x69, 0x7C, 0, 0, 3, 0xE8,
@@ -174,7 +176,7 @@ fn a_frame_of_1001_short_entries_is_refused(rt: HostRuntime) {
     let once = [1, 0, 0, 0, 0, 0, 0, 0, 0x14, 0, 1];
     let start = wide_start([0x52, 0x0C], [3, 0xE8]);
     let wide = frame_of(&rt, alloc, &start, 1000, &[0; 4], &once);
-    assert!(rt; wide.len() == 21_023 && has_entries(&rt, alloc, &wide, 1000));
+    assert!(rt; wide.len() == 21_024 && has_entries(&rt, alloc, &wide, 1000));
     let start = wide_start([0x52, 0x21], [3, 0xE9]);
     let wide = frame_of(&rt, alloc, &start, 1001, &[0; 4], &once);
     assert!(rt; fault(alloc, &wide) == Some(FrameFault::BadCount));

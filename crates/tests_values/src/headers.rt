@@ -1,4 +1,4 @@
-//! Limits of the fields of a header, in both formats: what is refused, by `decode` and by a
+//! Limits of the fields of a header, in all formats: what is refused, by `decode` and by a
 //! decoder, before the body is read.
 use crate::bytes::{fault, row_holds};
 use std::alloc::Global;
@@ -23,6 +23,17 @@ fn wide_header(kind: u8, sender: u16, horizon: u64, len: u32) -> [u8; 19] {
     bytes
 }
 
+// A header of the padded format.
+fn padded_header(kind: u8, sender: u16, horizon: u64, len: u32) -> [u8; 20] {
+    let mut bytes = [0; 20];
+    bytes[..4].copy_from_slice(&[0x4C, 0x32, 0x47, 0x33]);
+    bytes[4] = kind;
+    bytes[5..7].copy_from_slice(&sender.to_be_bytes());
+    bytes[8..16].copy_from_slice(&horizon.to_be_bytes());
+    bytes[16..].copy_from_slice(&len.to_be_bytes());
+    bytes
+}
+
 // Whether a header without a body is refused with this fault. A decoder refuses it too, unless only
 // the body is missing.
 fn is_refused(alloc: Global, header: &[u8], want: FrameFault) -> bool {
@@ -39,9 +50,11 @@ fn is_refused(alloc: Global, header: &[u8], want: FrameFault) -> bool {
 fn is_refused_wide(alloc: Global, kind: u8, sender: u16, len: u32, want: FrameFault) -> bool {
     is_refused(alloc, &wide_header(kind, sender, 0, len), want)
         && is_refused(alloc, &wide_header(kind, sender, u64::MAX, len), want)
+        && is_refused(alloc, &padded_header(kind, sender, 0, len), want)
+        && is_refused(alloc, &padded_header(kind, sender, u64::MAX, len), want)
 }
 
-// The fields of a header, and why it is refused in either format. Kinds and senders just past their
+// The fields of a header, and why it is refused in each format. Kinds and senders just past their
 // limits are tested with the frames that are cut in pieces.
 const HEADERS: [(u8, u16, u32, FrameFault); 14] = [
     (4, 0, 0, FrameFault::BadKind),

@@ -1,5 +1,5 @@
 //! Tests of warm_stamps, warm_refbuffer, warm_random, warm_play_fault and warm_frames: limits of
-//! small values and their bytes, the schedules that seeds give, the bytes of frames in both
+//! small values and their bytes, the schedules that seeds give, the bytes of frames in all
 //! formats, whole and in pieces, and what their faults display.
 //!
 //! They use only public calls, and have a crate of their own so that the gate proves those

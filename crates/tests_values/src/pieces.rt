@@ -1,12 +1,12 @@
 //! Frames that are given in pieces, cut at each byte, and the byte at which a fault is detected.
 use crate::bytes::{
     NARROW_NOTHING, NARROW_REQUEST, NOTHING, REQUEST, WIDENED, changed, encoded, fault, joined,
-    narrow_changed, put, row_holds,
+    narrow_changed, padded_changed, put, row_holds,
 };
 use crate::frames::longest_wide;
 use std::alloc::Global;
 use std::process::Abort;
-use test_kit::{NARROW, WIDE};
+use test_kit::{NARROW, PADDED, WIDE};
 use warm_frames::{Decoder, FrameFault};
 
 // Feeds the start of a piece, and appends the encoding of a returned message to the text. Returns
@@ -62,7 +62,7 @@ fn come_in_two(rt: &impl Abort, alloc: Global, bytes: &[u8], want: &[u8], first:
     give(rt, alloc, &[begin, end], want)
 }
 
-// Frames of both formats alternate in the stream, which has 180 bytes and is cut at each of them.
+// Frames of two formats alternate in the stream, which has 182 bytes and is cut at each of them.
 #[test]
 fn both_formats_in_one_stream(rt: HostRuntime) {
     let mixed: [&[u8]; 6] = [
@@ -74,8 +74,8 @@ fn both_formats_in_one_stream(rt: HostRuntime) {
         &NOTHING,
     ];
     let stream = joined(&rt, rt.alloc(), &mixed);
-    assert!(rt; stream.len() == 180);
-    let wide: [&[u8]; 6] = [&WIDENED, &WIDE, &REQUEST, &REQUEST, &NOTHING, &NOTHING];
+    assert!(rt; stream.len() == 182);
+    let wide: [&[u8]; 6] = [&WIDENED, &PADDED, &REQUEST, &REQUEST, &NOTHING, &NOTHING];
     let want = joined(&rt, rt.alloc(), &wide);
     for first in 0..=stream.len() {
         let comes = come_in_two(&rt, rt.alloc(), &stream, &want, first);
@@ -108,7 +108,8 @@ fn comes_twice(rt: &impl Abort, alloc: Global, bytes: &[u8], want: &[u8], size: 
 #[test]
 fn a_frame_twice_over(rt: HostRuntime) {
     for size in [1, 2, 41, 42, 43, 53, 54, 55, 84, 108] {
-        comes_twice(&rt, rt.alloc(), &WIDE, &WIDE, size);
+        comes_twice(&rt, rt.alloc(), &WIDE, &PADDED, size);
+        comes_twice(&rt, rt.alloc(), &PADDED, &PADDED, size);
         comes_twice(&rt, rt.alloc(), &NARROW, &WIDENED, size);
     }
 }
@@ -147,17 +148,17 @@ fn an_empty_piece_changes_nothing(rt: HostRuntime) {
         feed_all(&rt, rt.alloc(), &mut decoder, begin, &mut text);
         row_holds(&rt, first, takes_nothing(&mut decoder));
         feed_all(&rt, rt.alloc(), &mut decoder, end, &mut text);
-        row_holds(&rt, first, text.as_slice() == WIDE.as_slice());
+        row_holds(&rt, first, text.as_slice() == PADDED.as_slice());
     }
 }
 
-// Three of the longest frames, 93,069 bytes, are fed as one piece.
+// Three of the longest frames, 93,072 bytes, are fed as one piece.
 #[test]
 fn a_piece_may_have_more_than_65_536_bytes(rt: HostRuntime) {
     let frame = longest_wide(&rt, rt.alloc());
     let frame = frame.as_slice();
     let stream = joined(&rt, rt.alloc(), &[frame, frame, frame]);
-    assert!(rt; stream.len() == 93_069);
+    assert!(rt; stream.len() == 93_072);
     assert!(rt; give(&rt, rt.alloc(), &[stream.as_slice()], stream.as_slice()));
 }
 
@@ -172,6 +173,7 @@ fn is_not_the_end(rt: &impl Abort, alloc: Global, part: &[u8]) {
 
 #[test]
 fn a_part_is_not_the_end(rt: HostRuntime) {
+    is_not_the_end(&rt, rt.alloc(), &PADDED[..54]);
     is_not_the_end(&rt, rt.alloc(), &WIDE[..53]);
     is_not_the_end(&rt, rt.alloc(), &NARROW[..41]);
 }
@@ -213,12 +215,20 @@ const WIDE_FAULTS: [(usize, u8, usize, FrameFault); 13] = [
     (53, 65, 53, FrameFault::BadStamp),
 ];
 
+// The same for PADDED.
+const PADDED_FAULTS: [(usize, u8, usize, FrameFault); 3] = [
+    (7, 1, 7, FrameFault::BadKind),
+    (16, 1, 19, FrameFault::BadLength),
+    (54, 65, 54, FrameFault::BadStamp),
+];
+
 // The same for NARROW. With the magic number of the wide format, zeros of the page are in the place
 // of the length.
-const NARROW_FAULTS: [(usize, u8, usize, FrameFault); 16] = [
+const NARROW_FAULTS: [(usize, u8, usize, FrameFault); 17] = [
     (0, 0x4D, 3, FrameFault::BadMagic),
     (3, 0x30, 3, FrameFault::BadMagic),
-    (3, 0x33, 3, FrameFault::BadMagic),
+    (3, 0x33, 19, FrameFault::BadLength),
+    (3, 0x34, 3, FrameFault::BadMagic),
     (3, 0x32, 18, FrameFault::BadLength),
     (4, 0, 4, FrameFault::BadKind),
     (4, 4, 4, FrameFault::BadKind),
@@ -238,6 +248,10 @@ const NARROW_FAULTS: [(usize, u8, usize, FrameFault); 16] = [
 fn a_fault_comes_with_its_byte(rt: HostRuntime) {
     for (place, value, at, want) in WIDE_FAULTS {
         let is_found = faults_at(rt.alloc(), &changed(place, value), at, want);
+        row_holds(&rt, place, is_found);
+    }
+    for (place, value, at, want) in PADDED_FAULTS {
+        let is_found = faults_at(rt.alloc(), &padded_changed(place, value), at, want);
         row_holds(&rt, place, is_found);
     }
     for (place, value, at, want) in NARROW_FAULTS {

@@ -48,15 +48,15 @@ two_frames : history_messages 2 (record { horizon = 0; entries = first ∷ seven
 two_frames = refl
 
 one_page_spelled : text_of (history_messages 1 one_page) ≡
-    0x4C ∷ 0x32 ∷ 0x47 ∷ 0x32 ∷ 1 ∷ 0 ∷ 1 ∷ 0 ∷ 0 ∷ 0 ∷ 0 ∷ 0 ∷ 0 ∷ 0 ∷ 0x0A ∷ 0 ∷ 0 ∷ 0 ∷ 0x23 ∷ 0
-    ∷ 0 ∷ 0 ∷ 1
+    0x4C ∷ 0x32 ∷ 0x47 ∷ 0x33 ∷ 1 ∷ 0 ∷ 1 ∷ 0 ∷ 0 ∷ 0 ∷ 0 ∷ 0 ∷ 0 ∷ 0 ∷ 0 ∷ 0x0A ∷ 0 ∷ 0 ∷ 0 ∷ 0x23
+    ∷ 0 ∷ 0 ∷ 0 ∷ 1
     ∷ 0 ∷ 0 ∷ 0 ∷ 0 ∷ 0 ∷ 0 ∷ 0 ∷ 0 ∷ 0 ∷ 7 ∷ 2 ∷ 0 ∷ 0 ∷ 0 ∷ 0 ∷ 0 ∷ 0 ∷ 0 ∷ 0x14 ∷ 0 ∷ 1 ∷ 0 ∷ 0
     ∷ 0 ∷ 0 ∷ 0 ∷ 0 ∷ 0 ∷ 0x0A ∷ 0 ∷ 1 ∷ []
 one_page_spelled = refl
 
 -- the dump of nothing is the frame of the digests, 2,048 bytes of them
 nothing_dumped : dump_of 3 nothing ≡
-    (0x4C ∷ 0x32 ∷ 0x47 ∷ 0x32 ∷ 2 ∷ 0 ∷ 3 ∷ 0 ∷ 0 ∷ 0 ∷ 0 ∷ 0 ∷ 0 ∷ 0 ∷ 0 ∷ 0 ∷ 0 ∷ 8 ∷ 0 ∷ [])
+    (0x4C ∷ 0x32 ∷ 0x47 ∷ 0x33 ∷ 2 ∷ 0 ∷ 3 ∷ 0 ∷ 0 ∷ 0 ∷ 0 ∷ 0 ∷ 0 ∷ 0 ∷ 0 ∷ 0 ∷ 0 ∷ 0 ∷ 8 ∷ 0 ∷ [])
     ++ flat_map (λ digest. digest) (digests_of [])
 unfolding digest_bytes sha256
 nothing_dumped = refl

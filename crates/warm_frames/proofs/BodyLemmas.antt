@@ -17,7 +17,7 @@ use Rattle.warm_history.specs.Carried.{comes_after}
 use Rattle.warm_history.specs.Histories.{PagesAscend}
 use Rattle.warm_history.proofs.MergeLemmas.{rises_on}
 use Rattle.warm_frames.specs.declared.format.Format.{Format}
-use Rattle.warm_frames.specs.declared.format.Format.TheVariants.{Narrow, Wide}
+use Rattle.warm_frames.specs.declared.format.Format.TheVariants.{Narrow, Wide, Padded}
 use Rattle.warm_frames.specs.declared.layout.TheConstants.{MAX_ENTRIES, DIGEST_SIZE}
 use Rattle.warm_frames.specs.declared.fault.FrameFault.TheVariants.{BadLength, BadCount}
 use Rattle.warm_frames.specs.Entries.{hist_bytes, page_bytes_in, entry_bytes_in, entries_bytes_in, IsEntry, IsEntryList}
@@ -170,6 +170,7 @@ short_page : (format : Format) (p : PageId)
     → length (page_bytes_in format p) + 21 ≡ entry_size format
 short_page Narrow p = refl
 short_page Wide p = refl
+short_page Padded p = refl
 
 pub short_entries : (format : Format) (es : List Entry)
     → length (entries_bytes_in format es) ≤ entry_size format * length es

@@ -67,10 +67,10 @@ request_encoded : encoding_in Narrow (Want 2 0 6)
     ≡ letters ++ 3 ∷ 0 ∷ 2 ∷ 0 ∷ 0 ∷ 0 ∷ 8 ∷ 0 ∷ 0 ∷ 0 ∷ 0 ∷ 0 ∷ 0 ∷ 0 ∷ 6 ∷ []
 request_encoded = refl
 
--- the wide encoding of the request, and of an entry under a horizon
+-- the written encoding of the request, and of an entry under a horizon
 request_written : encoding (Want 2 0 6)
-    ≡ 0x4C ∷ 0x32 ∷ 0x47 ∷ 0x32 ∷ 3 ∷ 0 ∷ 2 ∷ 0 ∷ 0 ∷ 0 ∷ 0 ∷ 0 ∷ 0 ∷ 0 ∷ 0 ∷ 0 ∷ 0 ∷ 0 ∷ 8 ∷ 0 ∷ 0
-    ∷ 0 ∷ 0 ∷ 0 ∷ 0 ∷ 0 ∷ 6 ∷ []
+    ≡ 0x4C ∷ 0x32 ∷ 0x47 ∷ 0x33 ∷ 3 ∷ 0 ∷ 2 ∷ 0 ∷ 0 ∷ 0 ∷ 0 ∷ 0 ∷ 0 ∷ 0 ∷ 0 ∷ 0 ∷ 0 ∷ 0 ∷ 0 ∷ 8 ∷ 0
+    ∷ 0 ∷ 0 ∷ 0 ∷ 0 ∷ 0 ∷ 0 ∷ 6 ∷ []
 request_written = refl
 
 -- a page in ten bytes, its number's fourth byte from the end and its last
@@ -80,9 +80,19 @@ page_wide high n = 0 ∷ 0 ∷ 0 ∷ 0 ∷ 0 ∷ high ∷ 0 ∷ 0 ∷ 0 ∷ n �
 abbrev wide_frame : List ℕ → List ℕ
 wide_frame text = 0x4C ∷ 0x32 ∷ 0x47 ∷ 0x32 ∷ 1 ∷ 0 ∷ 1 ∷ 0 ∷ 0 ∷ 0 ∷ 0 ∷ 0 ∷ 0 ∷ 0 ∷ 12 ∷ 0 ∷ 0 ∷ 0 ∷ 0x23 ∷ 0 ∷ 0 ∷ 0 ∷ 1 ∷ text
 
-wide_written : encoding (Entries 1 12 (twice 7 (at 20 1) (at 10 1) ∷ []))
-    ≡ wide_frame (page_wide 0 7 ++ 2 ∷ (twenty ++ ten))
-wide_written = refl
+abbrev padded_frame : List ℕ → List ℕ
+padded_frame text =
+    0x4C ∷ 0x32 ∷ 0x47 ∷ 0x33 ∷ 1 ∷ 0 ∷ 1 ∷ 0 ∷ 0 ∷ 0 ∷ 0 ∷ 0 ∷ 0 ∷ 0 ∷ 0 ∷ 12 ∷ 0 ∷ 0 ∷ 0 ∷ 0x23
+    ∷ 0 ∷ 0 ∷ 0 ∷ 1 ∷ text
+
+padded_written : encoding (Entries 1 12 (twice 7 (at 20 1) (at 10 1) ∷ []))
+    ≡ padded_frame (page_wide 0 7 ++ 2 ∷ (twenty ++ ten))
+padded_written = refl
+
+padded_read : read_frame (padded_frame (page_wide 0 7 ++ 2 ∷ (twenty ++ ten)))
+    ≡ Ok (Entries 1 12 (twice 7 (at 20 1) (at 10 1) ∷ []))
+unfolding read_frame start_at length_at body_at read_message read_entries count_at all_entries entries_at entry_at read_page hist_at two_in
+padded_read = refl
 
 wide_read : read_frame (wide_frame (page_wide 0 7 ++ 2 ∷ (twenty ++ ten)))
     ≡ Ok (Entries 1 12 (twice 7 (at 20 1) (at 10 1) ∷ []))
@@ -128,6 +138,10 @@ other_letters = refl
 kind_4 : read_frame (letters ++ 4 ∷ []) ≡ Err BadKind
 unfolding read_frame start_at
 kind_4 = refl
+
+reserved_1 : read_frame (0x4C ∷ 0x32 ∷ 0x47 ∷ 0x33 ∷ 1 ∷ 0 ∷ 1 ∷ 1 ∷ []) ≡ Err BadKind
+unfolding read_frame start_at
+reserved_1 = refl
 
 sender_65 : read_frame (letters ++ 1 ∷ 0 ∷ 65 ∷ []) ≡ Err BadSender
 unfolding read_frame start_at

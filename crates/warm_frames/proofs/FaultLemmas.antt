@@ -12,8 +12,8 @@ use Rattle.warm_stamps.specs.Bytes.{stamp_of}
 use Rattle.warm_stamps.specs.Stamps.{stamp_cmp}
 use Rattle.warm_history.specs.Carried.{comes_after}
 use Rattle.warm_frames.specs.declared.format.Format.{Format}
-use Rattle.warm_frames.specs.declared.format.Format.TheVariants.{Narrow, Wide}
-use Rattle.warm_frames.specs.declared.layout.TheConstants.{MAGIC, NARROW_MAGIC, MAX_ENTRIES, DIGEST_SIZE}
+use Rattle.warm_frames.specs.declared.format.Format.TheVariants.{Narrow, Wide, Padded}
+use Rattle.warm_frames.specs.declared.layout.TheConstants.{MAGIC, WIDE_MAGIC, NARROW_MAGIC, MAX_ENTRIES, DIGEST_SIZE}
 use Rattle.warm_frames.specs.declared.fault.FrameFault.{FrameFault}
 use Rattle.warm_frames.specs.declared.fault.FrameFault.TheVariants.{Truncated, BadMagic, BadKind, BadSender, BadLength, BadCount, BadStamp, BadOrder}
 use Rattle.warm_frames.specs.declared.reading.Kind.{Kind}
@@ -98,6 +98,7 @@ page_lasts : (format : Format) (bytes : List ℕ) → Only IsLasting (read_page 
 unfolding read_page
 page_lasts Narrow bytes = only_then IsLasting (front_at 6 BadLength bytes) _ (front_lasts 6 bytes) (λ six is_six. tt)
 page_lasts Wide bytes = only_then IsLasting (front_at 10 BadLength bytes) _ (front_lasts 10 bytes) (λ ten is_ten. tt)
+page_lasts Padded bytes = only_then IsLasting (front_at 10 BadLength bytes) _ (front_lasts 10 bytes) (λ ten is_ten. tt)
 
 entry_lasts : (format : Format) (before : Option PageId) (bytes : List ℕ)
     → Only IsLasting (entry_at format before bytes)
@@ -172,41 +173,55 @@ pub byte_long : (short : FrameFault) (bytes : List ℕ) (x : ℕ × List ℕ) �
 byte_long short [] x e = absurd cc
 byte_long short (b ∷ bytes) x e = subst (λ (p : ℕ × List ℕ). length (b ∷ bytes) ≡ 1 + length p.1) (ok_is (b, bytes) x e) (omega arith)
 
+-- how many bytes a header has, by whether its letters are those of the padded or of the wide format
+abbrev pub most_by : Bool → Bool → ℕ
+most_by a b = cond a 20 (cond b 19 11)
+
 -- how many bytes the header has that begins so
 abbrev pub most_of : Result (ℕ × List ℕ) FrameFault → ℕ
-most_of (Ok x) = cond (eqb x.0 MAGIC) 19 11
-most_of (Err fault) = 19
+most_of (Ok x) = most_by (eqb x.0 MAGIC) (eqb x.0 WIDE_MAGIC)
+most_of (Err fault) = 20
 
 abbrev pub header_most : List ℕ → ℕ
 header_most bytes = most_of (number_at w32 Truncated bytes)
 
 format_short : (P : FrameFault → Type 0) (letters : ℕ) → P BadMagic → Only P (format_of letters)
-format_short P letters bad = cases (eqb letters MAGIC) (eqb letters NARROW_MAGIC)
+format_short P letters bad = cases (eqb letters MAGIC) (eqb letters WIDE_MAGIC) (eqb letters NARROW_MAGIC)
   where
-    cases : (a b : Bool) → Only P (cond a (done Wide) (cond b (done Narrow) (Err BadMagic)))
-    cases true b = tt
-    cases false true = tt
-    cases false false = bad
+    cases : (a b d : Bool) → Only P (cond a (done Padded) (cond b (done Wide) (cond d (done Narrow) (Err BadMagic))))
+    cases true b d = tt
+    cases false true d = tt
+    cases false false true = tt
+    cases false false false = bad
 
 -- which format the letters have
 pub format_is : (letters : ℕ) (format : Format) → format_of letters ≡ Ok format
-    → header_size format ≡ cond (eqb letters MAGIC) 19 11
-format_is letters format e = cases (eqb letters MAGIC) (eqb letters NARROW_MAGIC) e
+    → header_size format ≡ most_by (eqb letters MAGIC) (eqb letters WIDE_MAGIC)
+format_is letters format e =
+    cases (eqb letters MAGIC) (eqb letters WIDE_MAGIC) (eqb letters NARROW_MAGIC) e
   where
-    cases : (a b : Bool) → cond a (done Wide) (cond b (done Narrow) (Err BadMagic)) ≡ Ok format
-        → header_size format ≡ cond a 19 11
-    cases true b is = ap header_size (sym (ok_is Wide format is))
-    cases false true is = ap header_size (sym (ok_is Narrow format is))
-    cases false false is = absurd cc
+    cases : (a b d : Bool)
+        → cond a (done Padded) (cond b (done Wide) (cond d (done Narrow) (Err BadMagic))) ≡ Ok format
+        → header_size format ≡ most_by a b
+    cases true b d is = ap header_size (sym (ok_is Padded format is))
+    cases false true d is = ap header_size (sym (ok_is Wide format is))
+    cases false false true is = ap header_size (sym (ok_is Narrow format is))
+    cases false false false is = absurd cc
 
 horizon_short : (P : FrameFault → Type 0) (format : Format) (bytes : List ℕ)
-    → (length bytes < 8 → header_size format ≡ 19 → P Truncated) → Only P (horizon_at format bytes)
-horizon_short P Narrow bytes short = tt
-horizon_short P Wide bytes short = number_short P w64 bytes (λ few. short few refl)
+    → (length bytes + 11 < header_size format → P Truncated) → P BadKind
+    → Only P (horizon_at format bytes)
+horizon_short P Narrow bytes short bad = tt
+horizon_short P Wide bytes short bad = number_short P w64 bytes (λ few. short (omega (arith, few)))
+horizon_short P Padded bytes short bad =
+    only_then P (byte_at Truncated bytes) _ (byte_short P bytes (λ few. short (omega (arith, few)))) (λ reserved is_reserved.
+    only_then P (want (eqb reserved.0 0) BadKind) _ (only_want P (eqb reserved.0 0) BadKind bad) (λ unset is_unset.
+    number_short P w64 reserved.1 (λ few. short (omega (arith, few, byte_long Truncated bytes reserved is_reserved)))))
 
-either_most : (b : Bool) → 11 ≤ cond b 19 11
-either_most true = omega arith
-either_most false = omega arith
+either_most : (a b : Bool) → 11 ≤ most_by a b
+either_most true b = omega arith
+either_most false true = omega arith
+either_most false false = omega arith
 
 pub start_short : (bytes : List ℕ)
     → Only (ShortOrLasting (header_most bytes) (length bytes)) (start_at bytes)
@@ -214,17 +229,17 @@ unfolding start_at
 start_short bytes =
     let P = ShortOrLasting (header_most bytes) (length bytes) in
     only_then P (number_at w32 Truncated bytes) _ (number_short P w32 bytes (λ few. inl (refl, few_most bytes (omega (arith, few))))) (λ letters is_letters.
-    let most : header_most bytes ≡ cond (eqb letters.0 MAGIC) 19 11 = ap most_of is_letters in
+    let most : header_most bytes ≡ most_by (eqb letters.0 MAGIC) (eqb letters.0 WIDE_MAGIC) = ap most_of is_letters in
     only_then P (format_of letters.0) _ (format_short P letters.0 (inr (omega arith, omega arith))) (λ format is_format.
     only_then P (byte_at Truncated letters.1) _ (byte_short P letters.1 (λ few. inl (refl, few_most bytes (omega (arith, few, number_long w32 Truncated bytes letters is_letters))))) (λ number is_number.
     only_then P (kind_of number.0) _ (kind_short P number.0 (inr (omega arith, omega arith))) (λ kind is_kind.
     only_then P (number_at w16 Truncated number.1) _ (number_short P w16 number.1 (λ few. inl (refl, few_most bytes (omega (arith, few, number_long w32 Truncated bytes letters is_letters, byte_long Truncated letters.1 number is_number))))) (λ sender is_sender.
     only_then P (want (is_replica sender.0) BadSender) _ (only_want P (is_replica sender.0) BadSender (inr (omega arith, omega arith))) (λ good is_good.
-    only_then P (horizon_at format sender.1) _ (horizon_short P format sender.1 (λ few wide. inl (refl, omega (arith, few, wide, most, format_is letters.0 format is_format, number_long w32 Truncated bytes letters is_letters, byte_long Truncated letters.1 number is_number, number_long w16 Truncated number.1 sender is_sender)))) (λ horizon is_horizon. tt)))))))
+    only_then P (horizon_at format sender.1) _ (horizon_short P format sender.1 (λ few. inl (refl, omega (arith, few, most, format_is letters.0 format is_format, number_long w32 Truncated bytes letters is_letters, byte_long Truncated letters.1 number is_number, number_long w16 Truncated number.1 sender is_sender))) (inr (omega arith, omega arith))) (λ horizon is_horizon. tt)))))))
   where
     few_most : (bytes : List ℕ) → length bytes < 11 → length bytes < header_most bytes
     few_most bytes few = cases (number_at w32 Truncated bytes)
       where
         cases : (r : Result (ℕ × List ℕ) FrameFault) → length bytes < most_of r
-        cases (Ok x) = omega (arith, few, either_most (eqb x.0 MAGIC))
+        cases (Ok x) = omega (arith, few, either_most (eqb x.0 MAGIC) (eqb x.0 WIDE_MAGIC))
         cases (Err e) = omega (arith, few)

@@ -18,7 +18,7 @@ use Rattle.warm_history.specs.declared.hist.PageHist.TheVariants.{Once, Twice}
 use Rattle.warm_history.specs.declared.hist.Entry.{Entry}
 use Rattle.warm_history.specs.Carried.{comes_after}
 use Rattle.warm_frames.specs.declared.format.Format.{Format}
-use Rattle.warm_frames.specs.declared.format.Format.TheVariants.{Narrow, Wide}
+use Rattle.warm_frames.specs.declared.format.Format.TheVariants.{Narrow, Wide, Padded}
 use Rattle.warm_frames.specs.declared.fault.FrameFault.{FrameFault}
 use Rattle.warm_frames.specs.declared.fault.FrameFault.TheVariants.{BadLength, BadStamp, BadOrder}
 use Rattle.warm_frames.specs.Entries.{hist_bytes, page_bytes_in, entry_bytes_in, IsHist, IsEntry}
@@ -253,6 +253,7 @@ hist_again (Twice two) rest fits =
 abbrev pub IsNarrowIn : Format → PageId → Type 0
 IsNarrowIn Narrow p = p.no < 2 ^ 32
 IsNarrowIn Wide p = Unit {0}
+IsNarrowIn Padded p = Unit {0}
 
 pub record TakesPage (format : Format) (bytes : List ℕ) (x : PageId × List ℕ) : Type 0 where
   pub taken : Takes bytes (page_bytes_in format x.0) x.1
@@ -282,12 +283,23 @@ page_takes Wide bytes x fits e =
       fits = IsPage-of a.0.0 t.fits;
       narrow = tt;
     })
+page_takes Padded bytes x fits e =
+    let a = bind_ok (front_at 10 BadLength bytes) (λ ten. Ok (page_from_bytes ten.0, ten.1)) x e in
+    let t = front_takes 10 BadLength bytes a.0 fits a.1 in
+    let page = page_from_bytes a.0.0 in
+    let made : PageId × List ℕ = (page, a.0.1) in
+    subst (TakesPage Padded bytes) (ok_is made x a.2) (record {
+      taken = record { parts = t.taken.parts ∙ ap (λ (w : List ℕ). w ++ a.0.1) (sym (page_spelled a.0.0 t.len t.fits)); rest_fits = t.taken.rest_fits };
+      fits = IsPage-of a.0.0 t.fits;
+      narrow = tt;
+    })
 
 page_at_again : (format : Format) (p : PageId) (rest : List ℕ) → IsPage p → IsNarrowIn format p
     → read_page format (page_bytes_in format p ++ rest) ≡ Ok (p, rest)
 unfolding read_page
 page_at_again Narrow p rest fits narrow = rw (front_again 6 BadLength (narrow_bytes_of_page p) rest refl, narrow_again p (record { dev = fits.dev; no = narrow })) refl
 page_at_again Wide p rest fits narrow = rw (front_again 10 BadLength (bytes_of_page p) rest refl, page_again p fits) refl
+page_at_again Padded p rest fits narrow = rw (front_again 10 BadLength (bytes_of_page p) rest refl, page_again p fits) refl
 
 -- ---- entries
 
@@ -332,8 +344,8 @@ entry_again format before e rest fits narrow greater =
 -- what is written of an entry is read
 pub written_again : (before : Option PageId) (e : Entry) (rest : List ℕ) → IsEntry e
     → comes_after before e.page ≡ true
-    → written_entry_at before (entry_bytes_in Wide e ++ rest) ≡ Ok (e, rest)
-written_again before e rest fits greater = entry_again Wide before e rest fits tt greater
+    → written_entry_at before (entry_bytes_in Padded e ++ rest) ≡ Ok (e, rest)
+written_again before e rest fits greater = entry_again Padded before e rest fits tt greater
 
 -- nothing is no entry
 pub nothing_written : written_entry_at None [] ≡ Err BadLength

@@ -9,10 +9,10 @@ use Rattle.warm_stamps.specs.Bytes.{IsReplica}
 use Rattle.warm_stamps.proofs.ByteLemmas.{IsBytes}
 use Rattle.warm_history.specs.declared.hist.Entry.{Entry}
 use Rattle.warm_frames.specs.declared.format.Format.{Format}
-use Rattle.warm_frames.specs.declared.format.Format.TheVariants.{Narrow, Wide}
-use Rattle.warm_frames.specs.declared.layout.TheConstants.{MAGIC, NARROW_MAGIC, MAX_ENTRIES}
+use Rattle.warm_frames.specs.declared.format.Format.TheVariants.{Narrow, Wide, Padded}
+use Rattle.warm_frames.specs.declared.layout.TheConstants.{MAGIC, WIDE_MAGIC, NARROW_MAGIC, MAX_ENTRIES}
 use Rattle.warm_frames.specs.declared.fault.FrameFault.{FrameFault}
-use Rattle.warm_frames.specs.declared.fault.FrameFault.TheVariants.{Truncated, BadMagic, BadSender, BadLength}
+use Rattle.warm_frames.specs.declared.fault.FrameFault.TheVariants.{Truncated, BadMagic, BadKind, BadSender, BadLength}
 use Rattle.warm_frames.specs.declared.message.Message.{Message}
 use Rattle.warm_frames.specs.declared.message.Message.TheVariants as messages
 use Rattle.warm_frames.specs.declared.reading.Kind.{Kind}
@@ -44,18 +44,23 @@ kind_again kinds.Want = refl
 
 -- the number of the format's letters
 format_takes : (n : ℕ) (format : Format) → format_of n ≡ Ok format → n ≡ magic_of format
-format_takes n format e = cases (eqb n MAGIC) refl (eqb n NARROW_MAGIC) refl e
+format_takes n format e = cases (eqb n MAGIC) refl (eqb n WIDE_MAGIC) refl (eqb n NARROW_MAGIC) refl e
   where
-    cases : (a : Bool) → eqb n MAGIC ≡ a → (b : Bool) → eqb n NARROW_MAGIC ≡ b
-        → cond a (done Wide) (cond b (done Narrow) (Err BadMagic)) ≡ Ok format → n ≡ magic_of format
-    cases true is_a b is_b is = eqb-true _ _ is_a ∙ ap magic_of (ok_is Wide format is)
-    cases false is_a true is_b is = eqb-true _ _ is_b ∙ ap magic_of (ok_is Narrow format is)
-    cases false is_a false is_b is = absurd cc
+    cases : (a : Bool) → eqb n MAGIC ≡ a → (b : Bool) → eqb n WIDE_MAGIC ≡ b
+        → (d : Bool) → eqb n NARROW_MAGIC ≡ d
+        → cond a (done Padded) (cond b (done Wide) (cond d (done Narrow) (Err BadMagic))) ≡ Ok format
+        → n ≡ magic_of format
+    cases true is_a b is_b d is_d is = eqb-true _ _ is_a ∙ ap magic_of (ok_is Padded format is)
+    cases false is_a true is_b d is_d is = eqb-true _ _ is_b ∙ ap magic_of (ok_is Wide format is)
+    cases false is_a false is_b true is_d is =
+        eqb-true _ _ is_d ∙ ap magic_of (ok_is Narrow format is)
+    cases false is_a false is_b false is_d is = absurd cc
 
 -- the format can hold the horizon
 abbrev pub HoldsHorizon : Format → ℕ → Type 0
 HoldsHorizon Narrow horizon = horizon ≡ 0
 HoldsHorizon Wide horizon = Unit {0}
+HoldsHorizon Padded horizon = Unit {0}
 
 pub record TakesHorizon (format : Format) (bytes : List ℕ) (x : ℕ × List ℕ) : Type 0 where
   pub taken : Takes bytes (horizon_bytes format x.0) x.1
@@ -66,6 +71,13 @@ horizon_takes : (format : Format) (bytes : List ℕ) (x : ℕ × List ℕ) → I
     → horizon_at format bytes ≡ Ok x → TakesHorizon format bytes x
 horizon_takes Narrow bytes x fits e = subst (TakesHorizon Narrow bytes) (ok_is (0, bytes) x e) (record { taken = record { parts = refl; rest_fits = fits }; few = omega arith; held = refl })
 horizon_takes Wide bytes x fits e = let t = number_takes w64 (2 ^ 64) Truncated wide64 bytes x fits e in record { taken = t.0; few = t.1; held = tt }
+horizon_takes Padded bytes x fits e =
+    let a = bind_ok (byte_at Truncated bytes) _ x e in
+    let z = want_ok (eqb a.0.0 0) BadKind _ x a.2 in
+    let t1 = byte_takes Truncated bytes a.0 fits a.1 in
+    let t2 = number_takes w64 (2 ^ 64) Truncated wide64 a.0.1 x t1.rest_fits z.1 in
+    let reserved : Takes bytes (0 ∷ []) a.0.1 = subst (λ (n : ℕ). Takes bytes (n ∷ []) a.0.1) (eqb-true _ _ z.0) t1 in
+    record { taken = Takes-then bytes (0 ∷ []) a.0.1 (to_be_bytes w64 x.0) x.1 reserved t2.0; few = t2.1; held = tt }
 
 -- the magic number, the kind, the sender and the horizon
 abbrev pub start_bytes : Start → List ℕ
@@ -111,8 +123,11 @@ start_again Narrow kind sender horizon rest good few none =
     rw (letters, kind_again kind, number_again w16 (2 ^ 16) Truncated wide16 sender rest (omega (arith, good)), replica_true sender good)
     (ap (λ (h : ℕ). Ok (record { format = Narrow; kind = kind; sender = sender; horizon = h }, rest)) (sym none))
 start_again Wide kind sender horizon rest good few none =
-    let letters = number_again w32 (2 ^ 32) Truncated wide32 MAGIC (kind_number kind ∷ (to_be_bytes w16 sender ++ (to_be_bytes w64 horizon ++ rest))) (omega arith) in
+    let letters = number_again w32 (2 ^ 32) Truncated wide32 WIDE_MAGIC (kind_number kind ∷ (to_be_bytes w16 sender ++ (to_be_bytes w64 horizon ++ rest))) (omega arith) in
     rw (letters, kind_again kind, number_again w16 (2 ^ 16) Truncated wide16 sender (to_be_bytes w64 horizon ++ rest) (omega (arith, good)), replica_true sender good, number_again w64 (2 ^ 64) Truncated wide64 horizon rest few) refl
+start_again Padded kind sender horizon rest good few none =
+    let letters = number_again w32 (2 ^ 32) Truncated wide32 MAGIC (kind_number kind ∷ (to_be_bytes w16 sender ++ (0 ∷ (to_be_bytes w64 horizon ++ rest)))) (omega arith) in
+    rw (letters, kind_again kind, number_again w16 (2 ^ 16) Truncated wide16 sender (0 ∷ (to_be_bytes w64 horizon ++ rest)) (omega (arith, good)), replica_true sender good, number_again w64 (2 ^ 64) Truncated wide64 horizon rest few) refl
 
 -- ---- the length and the body
 
@@ -212,6 +227,9 @@ encoding_parts Narrow (messages.Want sender horizon request) = refl
 encoding_parts Wide (messages.Entries sender horizon entries) = refl
 encoding_parts Wide (messages.Digest sender horizon digests) = refl
 encoding_parts Wide (messages.Want sender horizon request) = refl
+encoding_parts Padded (messages.Entries sender horizon entries) = refl
+encoding_parts Padded (messages.Digest sender horizon digests) = refl
+encoding_parts Padded (messages.Want sender horizon request) = refl
 
 -- what the format says of the horizon and the pages says that it can hold the frame
 holds_entries : (format : Format) (sender horizon : ℕ) (es : List Entry)
@@ -219,16 +237,19 @@ holds_entries : (format : Format) (sender horizon : ℕ) (es : List Entry)
     → CanHold format (messages.Entries sender horizon es)
 holds_entries Narrow sender horizon es none narrow = (none, narrow)
 holds_entries Wide sender horizon es none narrow = tt
+holds_entries Padded sender horizon es none narrow = tt
 
 holds_digest : (format : Format) (sender horizon : ℕ) (digests : List (List ℕ))
     → HoldsHorizon format horizon → CanHold format (messages.Digest sender horizon digests)
 holds_digest Narrow sender horizon digests none = none
 holds_digest Wide sender horizon digests none = tt
+holds_digest Padded sender horizon digests none = tt
 
 holds_want : (format : Format) (sender horizon request : ℕ) → HoldsHorizon format horizon
     → CanHold format (messages.Want sender horizon request)
 holds_want Narrow sender horizon request none = none
 holds_want Wide sender horizon request none = tt
+holds_want Padded sender horizon request none = tt
 
 held_horizon : (format : Format) (f : Message) → CanHold format f
     → HoldsHorizon format (frame_horizon f)
@@ -236,16 +257,22 @@ held_horizon Narrow (messages.Entries sender horizon entries) holds = holds.0
 held_horizon Narrow (messages.Digest sender horizon digests) holds = holds
 held_horizon Narrow (messages.Want sender horizon request) holds = holds
 held_horizon Wide f holds = tt
+held_horizon Padded f holds = tt
 
 wide_all : (es : List Entry) → AllByRecursion (λ e. IsNarrowIn Wide e.page) es
 wide_all [] = tt
 wide_all (e ∷ es) = (tt, wide_all es)
+
+padded_all : (es : List Entry) → AllByRecursion (λ e. IsNarrowIn Padded e.page) es
+padded_all [] = tt
+padded_all (e ∷ es) = (tt, padded_all es)
 
 held_pages : (format : Format) (sender horizon : ℕ) (es : List Entry)
     → CanHold format (messages.Entries sender horizon es)
     → AllByRecursion (λ e. IsNarrowIn format e.page) es
 held_pages Narrow sender horizon es holds = holds.1
 held_pages Wide sender horizon es holds = wide_all es
+held_pages Padded sender horizon es holds = padded_all es
 
 -- a reader of bodies returns a frame of this kind, sender, horizon and body
 pub record IsFrameOf (start : Start) (body : List ℕ) (f : Message) : Type 0 where
@@ -297,6 +324,7 @@ pub record HasLength (format : Format) (f : Message) : Type 0 where
 most_size : (format : Format) → entry_size format ≤ 31
 most_size Narrow = omega arith
 most_size Wide = omega arith
+most_size Padded = omega arith
 
 pub body_length : (format : Format) (f : Message) → IsValidMessage f → HasLength format f
 body_length Narrow (messages.Entries sender horizon entries) fits =
@@ -312,6 +340,13 @@ body_length Wide (messages.Entries sender horizon entries) fits =
     let short : length (entries_bytes_in Wide entries) ≤ 31 * length entries = short_entries Wide entries in
     let least : 4 ≤ length (to_be_bytes w32 (length entries) ++ entries_bytes_in Wide entries) = omega arith in
     let most : length (to_be_bytes w32 (length entries) ++ entries_bytes_in Wide entries) ≤ 4 + 31 * MAX_ENTRIES = omega arith in
+    record { few = omega arith; allowed = grind (arith, nat_tests, least, most) }
+body_length Padded (messages.Entries sender horizon entries) fits =
+    let listed = fits.2.at_most in
+    let whole : length (to_be_bytes w32 (length entries) ++ entries_bytes_in Padded entries) ≡ 4 + length (entries_bytes_in Padded entries) = length-append (to_be_bytes w32 (length entries)) (entries_bytes_in Padded entries) in
+    let short : length (entries_bytes_in Padded entries) ≤ 31 * length entries = short_entries Padded entries in
+    let least : 4 ≤ length (to_be_bytes w32 (length entries) ++ entries_bytes_in Padded entries) = omega arith in
+    let most : length (to_be_bytes w32 (length entries) ++ entries_bytes_in Padded entries) ≤ 4 + 31 * MAX_ENTRIES = omega arith in
     record { few = omega arith; allowed = grind (arith, nat_tests, least, most) }
 body_length format (messages.Digest sender horizon digests) fits =
     let len = length-digests digests fits.2 in

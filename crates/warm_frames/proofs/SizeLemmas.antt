@@ -4,20 +4,20 @@ use Rattle.std.specs.Int.{Width, w16, w32, w64, byte_len, from_be_bytes}
 use Rattle.std.proofs.lemmas.Bool.{ltb-false, ltb-true, le-ltb}
 use Rattle.std.proofs.lemmas.Bool.Decides.{nat_tests}
 use Rattle.std.proofs.lemmas.List.{append-nil, take_all, take-append-drop, take-append-le, drop-append-le, length-append, length-take, nil_from_length}
-use Rattle.warm_frames.specs.declared.layout.TheConstants.{MAX_ENTRY_SIZE, MAX_ENTRIES, HEADER_SIZE, MAGIC}
+use Rattle.warm_frames.specs.declared.layout.TheConstants.{MAX_ENTRY_SIZE, MAX_ENTRIES, HEADER_SIZE, MAGIC, WIDE_MAGIC}
 use Rattle.warm_frames.specs.declared.fault.FrameFault.{FrameFault}
-use Rattle.warm_frames.specs.declared.fault.FrameFault.TheVariants.{Truncated, BadSender, BadLength}
+use Rattle.warm_frames.specs.declared.fault.FrameFault.TheVariants.{Truncated, BadKind, BadSender, BadLength}
 use Rattle.warm_frames.specs.declared.message.Message.{Message}
 use Rattle.warm_frames.specs.declared.reading.Kind.{Kind}
 use Rattle.warm_frames.specs.declared.reading.Kind.TheVariants as kinds
 use Rattle.warm_frames.specs.declared.format.Format.{Format}
-use Rattle.warm_frames.specs.declared.format.Format.TheVariants.{Narrow, Wide}
+use Rattle.warm_frames.specs.declared.format.Format.TheVariants.{Narrow, Wide, Padded}
 use Rattle.warm_frames.specs.Pieces.{IsLasting, IsIncomplete, ShowsFault}
 use Rattle.warm_frames.specs.Reading.{◌>>=◌, number_at, byte_at, want, is_replica, kind_of, may_have, Start, format_of, horizon_at, start_at, length_at, whole_body, body_at, read_message, read_frame}
 use Rattle.warm_frames.specs.Sizes.{header_size, frame_size}
 use Rattle.warm_frames.specs.Encoding.{Encodes}
 use Rattle.warm_frames.proofs.FieldLemmas.{bind_ok, want_ok, ok_is}
-use Rattle.warm_frames.proofs.FaultLemmas.{Only, only_then, only_fault, only_want, frame_lasts, ShortOrLasting, number_short, start_short, header_most, most_of, format_is, number_long, byte_long}
+use Rattle.warm_frames.proofs.FaultLemmas.{Only, only_then, only_fault, only_want, frame_lasts, ShortOrLasting, number_short, start_short, header_most, most_by, most_of, format_is, number_long, byte_long}
 use Rattle.warm_frames.proofs.FrameLemmas.{length_ok, frame_read}
 
 -- ---- results, with more bytes behind
@@ -66,6 +66,9 @@ horizon_goes : (format : Format) (bytes more : List ℕ)
     → Goes (behind more) (horizon_at format bytes) (horizon_at format (bytes ++ more))
 horizon_goes Narrow bytes more = refl
 horizon_goes Wide bytes more = number_goes w64 bytes more
+horizon_goes Padded bytes more =
+    goes_on (behind more) (behind more) _ _ _ _ (byte_goes bytes more) (λ reserved.
+    goes_on (λ b. b) (behind more) _ _ _ _ (stays (want (eqb reserved.0 0) BadKind)) (λ unset. number_goes w64 reserved.1 more))
 
 start_goes : (bytes more : List ℕ) → Goes (behind more) (start_at bytes) (start_at (bytes ++ more))
 unfolding start_at
@@ -124,6 +127,10 @@ horizon_long : (format : Format) (bytes : List ℕ) (x : ℕ × List ℕ) → ho
     → length bytes + 11 ≡ header_size format + length x.1
 horizon_long Narrow bytes x e = subst (λ (y : ℕ × List ℕ). length bytes + 11 ≡ 11 + length y.1) (ok_is (0, bytes) x e) (omega arith)
 horizon_long Wide bytes x e = omega (arith, number_long w64 Truncated bytes x e)
+horizon_long Padded bytes x e =
+    let a = bind_ok (byte_at Truncated bytes) _ x e in
+    let z = want_ok (eqb a.0.0 0) BadKind _ x a.2 in
+    omega (arith, byte_long Truncated bytes a.0 a.1, number_long w64 Truncated a.0.1 x z.1)
 
 -- what is read of a header as far as the horizon: how long it is, and that the letters are those of
 -- its format
@@ -212,22 +219,26 @@ most_bytes : (format : Format) (kind : Kind) (len : ℕ) → may_have format kin
     → len ≤ 4 + MAX_ENTRY_SIZE * MAX_ENTRIES
 most_bytes Narrow kinds.Entries len e = grind (arith, nat_tests, e)
 most_bytes Wide kinds.Entries len e = grind (arith, nat_tests, e)
+most_bytes Padded kinds.Entries len e = grind (arith, nat_tests, e)
 most_bytes format kinds.Digest len e = grind (arith, nat_tests, e)
 most_bytes format kinds.Want len e = grind (arith, nat_tests, e)
 
 least_bytes : (format : Format) (kind : Kind) (len : ℕ) → may_have format kind len ≡ true → 4 ≤ len
 least_bytes Narrow kinds.Entries len e = grind (arith, nat_tests, e)
 least_bytes Wide kinds.Entries len e = grind (arith, nat_tests, e)
+least_bytes Padded kinds.Entries len e = grind (arith, nat_tests, e)
 least_bytes format kinds.Digest len e = grind (arith, nat_tests, e)
 least_bytes format kinds.Want len e = grind (arith, nat_tests, e)
 
-most_header : (format : Format) → header_size format ≤ 19
+most_header : (format : Format) → header_size format ≤ 20
 most_header Narrow = omega arith
 most_header Wide = omega arith
+most_header Padded = omega arith
 
 least_header : (format : Format) → 11 ≤ header_size format
 least_header Narrow = omega arith
 least_header Wide = omega arith
+least_header Padded = omega arith
 
 -- ---- faults of a header
 
@@ -281,12 +292,13 @@ header_fewer bytes e = ⊎_elim (λ short. short.1) (λ lasts. absurd (truncated
 most_header_of : (bytes : List ℕ) → header_most bytes ≤ HEADER_SIZE
 most_header_of bytes = cases (number_at w32 Truncated bytes)
   where
-    either_way : (b : Bool) → cond b 19 11 ≤ HEADER_SIZE
-    either_way true = omega arith
-    either_way false = omega arith
+    either_way : (a b : Bool) → most_by a b ≤ HEADER_SIZE
+    either_way true b = omega arith
+    either_way false true = omega arith
+    either_way false false = omega arith
 
     cases : (r : Result (ℕ × List ℕ) FrameFault) → most_of r ≤ HEADER_SIZE
-    cases (Ok x) = either_way (eqb x.0 MAGIC)
+    cases (Ok x) = either_way (eqb x.0 MAGIC) (eqb x.0 WIDE_MAGIC)
     cases (Err e) = omega arith
 
 pub header_short : (bytes : List ℕ) → frame_size bytes ≡ Err Truncated → length bytes < HEADER_SIZE

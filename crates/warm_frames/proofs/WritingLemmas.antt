@@ -5,7 +5,7 @@ use Rattle.std.proofs.lemmas.List.{append-nil, take_more, length-append}
 use Rattle.std.proofs.lemmas.List.Concat.{flat_map-append}
 use Rattle.warm_stamps.specs.Bytes.{bytes_of_page, IsReplica}
 use Rattle.warm_history.specs.declared.hist.Entry.{Entry}
-use Rattle.warm_frames.specs.declared.format.Format.TheVariants.{Wide}
+use Rattle.warm_frames.specs.declared.format.Format.TheVariants.{Padded}
 use Rattle.warm_frames.specs.declared.message.Message.TheVariants as messages
 use Rattle.warm_frames.specs.Entries.{hist_bytes, entry_bytes, entries_bytes}
 use Rattle.warm_frames.specs.Digests.{IsDigestTable, table_size}
@@ -34,10 +34,10 @@ length_and_one es i len more e lt is one so_far =
 
 pub digests_encoded : (text : List ℕ) (sender horizon : ℕ) (digests : List (List ℕ))
     → IsReplica sender → horizon < 2 ^ 64 → IsDigestTable digests
-    → text ≡ header_bytes Wide 2 sender horizon table_size ++ flat_map (λ digest. digest) digests
-    → EncodesIn Wide text (messages.Digest sender horizon digests)
+    → text ≡ header_bytes Padded 2 sender horizon table_size ++ flat_map (λ digest. digest) digests
+    → EncodesIn Padded text (messages.Digest sender horizon digests)
 digests_encoded text sender horizon digests good few table is = record {
   fits = (good, few, table);
   holds = tt;
-  text = is ∙ ap (λ (n : ℕ). header_bytes Wide 2 sender horizon n ++ flat_map (λ digest. digest) digests) (sym (length-digests digests table));
+  text = is ∙ ap (λ (n : ℕ). header_bytes Padded 2 sender horizon n ++ flat_map (λ digest. digest) digests) (sym (length-digests digests table));
 }

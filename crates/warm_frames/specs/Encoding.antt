@@ -5,8 +5,8 @@ use Rattle.std.specs.Int.{w16, w32, w64, to_be_bytes}
 use Rattle.warm_stamps.specs.Bytes.{IsReplica}
 use Rattle.warm_history.specs.declared.hist.Entry.{Entry}
 use Rattle.warm_frames.specs.declared.format.Format.{Format}
-use Rattle.warm_frames.specs.declared.format.Format.TheVariants.{Narrow, Wide}
-use Rattle.warm_frames.specs.declared.layout.TheConstants.{MAGIC, NARROW_MAGIC}
+use Rattle.warm_frames.specs.declared.format.Format.TheVariants.{Narrow, Wide, Padded}
+use Rattle.warm_frames.specs.declared.layout.TheConstants.{MAGIC, WIDE_MAGIC, NARROW_MAGIC}
 use Rattle.warm_frames.specs.declared.message.Message.{Message}
 use Rattle.warm_frames.specs.declared.message.Message.TheVariants.{Entries, Digest, Want}
 use Rattle.warm_frames.specs.Entries.{IsEntryList, entries_bytes_in}
@@ -24,12 +24,14 @@ IsValidMessage (Want sender horizon request) = IsReplica sender × (horizon < 2 
 -- the magic number of a format
 abbrev pub magic_of : Format → ℕ
 magic_of Narrow = NARROW_MAGIC
-magic_of Wide = MAGIC
+magic_of Wide = WIDE_MAGIC
+magic_of Padded = MAGIC
 
--- the horizon, where the format has one
+-- the reserved byte and the horizon, where the format has them
 abbrev pub horizon_bytes : Format → ℕ → List ℕ
 horizon_bytes Narrow horizon = []
 horizon_bytes Wide horizon = to_be_bytes w64 horizon
+horizon_bytes Padded horizon = 0 ∷ to_be_bytes w64 horizon
 
 -- the magic number, the kind, the sender, the horizon and the length of the body
 abbrev pub header_bytes : Format → ℕ → ℕ → ℕ → ℕ → List ℕ
@@ -53,7 +55,7 @@ encoding_in format (Want sender horizon request) =
 
 -- the encoding that is written
 abbrev pub encoding : Message → List ℕ
-encoding f = encoding_in Wide f
+encoding f = encoding_in Padded f
 
 -- the numbers of all pages fit in 32 bits
 abbrev pub AreNarrow : List Entry → Type 0
@@ -63,6 +65,7 @@ AreNarrow es = AllByRecursion (λ e. e.page.no < 2 ^ 32) es
 -- bits
 abbrev pub CanHold : Format → Message → Type 0
 CanHold Wide f = ⊤
+CanHold Padded f = ⊤
 CanHold Narrow (Entries sender horizon entries) = (horizon ≡ 0) × AreNarrow entries
 CanHold Narrow (Digest sender horizon digests) = horizon ≡ 0
 CanHold Narrow (Want sender horizon request) = horizon ≡ 0

@@ -11,7 +11,7 @@ use Rattle.warm_history.specs.declared.hist.PageHist.TheVariants.{Once, Twice}
 use Rattle.warm_history.specs.declared.hist.Entry.{Entry}
 use Rattle.warm_history.specs.Histories.{PagesAscend}
 use Rattle.warm_frames.specs.declared.format.Format.{Format}
-use Rattle.warm_frames.specs.declared.format.Format.TheVariants.{Narrow, Wide}
+use Rattle.warm_frames.specs.declared.format.Format.TheVariants.{Narrow, Wide, Padded}
 use Rattle.warm_frames.specs.declared.layout.TheConstants.{MAX_ENTRIES}
 
 -- the stamps of an entry are valid, and of two the second is older
@@ -43,6 +43,7 @@ hist_bytes (Twice two) = 2 ∷ (bytes_of_stamp two.last ++ bytes_of_stamp two.pr
 abbrev pub page_bytes_in : Format → PageId → List ℕ
 page_bytes_in Narrow p = narrow_bytes_of_page p
 page_bytes_in Wide p = bytes_of_page p
+page_bytes_in Padded p = bytes_of_page p
 
 -- the page, and what is kept of it
 abbrev pub entry_bytes_in : Format → Entry → List ℕ
@@ -54,7 +55,7 @@ entries_bytes_in format es = flat_map (entry_bytes_in format) es
 
 -- an entry's bytes as they are written and digested
 abbrev pub entry_bytes : Entry → List ℕ
-entry_bytes e = entry_bytes_in Wide e
+entry_bytes e = entry_bytes_in Padded e
 
 abbrev pub entries_bytes : List Entry → List ℕ
-entries_bytes es = entries_bytes_in Wide es
+entries_bytes es = entries_bytes_in Padded es

@@ -15,8 +15,8 @@ use Rattle.warm_history.specs.declared.hist.PageHist.TheVariants.{Once, Twice}
 use Rattle.warm_history.specs.declared.hist.Entry.{Entry}
 use Rattle.warm_history.specs.Carried.{comes_after}
 use Rattle.warm_frames.specs.declared.format.Format.{Format}
-use Rattle.warm_frames.specs.declared.format.Format.TheVariants.{Narrow, Wide}
-use Rattle.warm_frames.specs.declared.layout.TheConstants.{MAGIC, NARROW_MAGIC}
+use Rattle.warm_frames.specs.declared.format.Format.TheVariants.{Narrow, Wide, Padded}
+use Rattle.warm_frames.specs.declared.layout.TheConstants.{MAGIC, WIDE_MAGIC, NARROW_MAGIC}
 use Rattle.warm_frames.specs.declared.layout.TheConstants.{NARROW_MAX_ENTRY_SIZE, MAX_ENTRY_SIZE}
 use Rattle.warm_frames.specs.declared.layout.TheConstants.{MAX_ENTRIES, DIGEST_SIZE}
 use Rattle.warm_frames.specs.declared.fault.FrameFault.{FrameFault}
@@ -75,13 +75,16 @@ kind_of (suc (suc (suc (suc n)))) = Err BadKind
 
 -- the format of the magic number
 abbrev pub format_of : ℕ → Result Format FrameFault
-format_of letters = if letters == MAGIC then Ok Wide else if letters == NARROW_MAGIC then Ok Narrow
+format_of letters = if letters == MAGIC then Ok Padded
+    else if letters == WIDE_MAGIC then Ok Wide
+    else if letters == NARROW_MAGIC then Ok Narrow
     else Err BadMagic
 
 -- the most bytes of an entry
 abbrev pub entry_size : Format → ℕ
 entry_size Narrow = NARROW_MAX_ENTRY_SIZE
 entry_size Wide = MAX_ENTRY_SIZE
+entry_size Padded = MAX_ENTRY_SIZE
 
 -- the valid body lengths of a frame of this kind
 abbrev pub may_have : Format → Kind → ℕ → Bool
@@ -100,6 +103,10 @@ pub record Start : Type 0 where
 abbrev pub horizon_at : Format → List ℕ → Result (ℕ × List ℕ) FrameFault
 horizon_at Narrow bytes = Ok (0, bytes)
 horizon_at Wide bytes = number_at w64 Truncated bytes
+horizon_at Padded bytes = do
+  reserved ← byte_at Truncated bytes
+  unset ← want (reserved.0 == 0) BadKind
+  number_at w64 Truncated reserved.1
 
 -- the magic number, the kind, the sender and the horizon, and what follows
 unfoldable pub start_at : List ℕ → Result (Start × List ℕ) FrameFault
@@ -169,6 +176,9 @@ read_page Narrow bytes = do
 read_page Wide bytes = do
   ten ← front_at 10 BadLength bytes
   Ok (page_from_bytes ten.0, ten.1)
+read_page Padded bytes = do
+  ten ← front_at 10 BadLength bytes
+  Ok (page_from_bytes ten.0, ten.1)
 
 -- an entry whose page is greater than the one before
 unfoldable pub entry_at : Format → Option PageId → List ℕ → Result (Entry × List ℕ) FrameFault
@@ -188,7 +198,7 @@ entry_with page read = do
 
 -- an entry as it is written
 abbrev pub written_entry_at : Option PageId → List ℕ → Result (Entry × List ℕ) FrameFault
-written_entry_at before bytes = entry_at Wide before bytes
+written_entry_at before bytes = entry_at Padded before bytes
 
 -- this many entries
 unfoldable pub entries_at : Format → ℕ → Option PageId → List ℕ

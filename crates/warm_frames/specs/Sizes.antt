@@ -4,14 +4,15 @@ use Rattle.std.specs.Prelude.{Ok, Err}
 use Rattle.warm_frames.specs.declared.fault.FrameFault.{FrameFault}
 use Rattle.warm_frames.specs.declared.fault.FrameFault.TheVariants.{Truncated}
 use Rattle.warm_frames.specs.declared.format.Format.{Format}
-use Rattle.warm_frames.specs.declared.format.Format.TheVariants.{Narrow, Wide}
-use Rattle.warm_frames.specs.declared.layout.TheConstants.{HEADER_SIZE, NARROW_HEADER_SIZE}
+use Rattle.warm_frames.specs.declared.format.Format.TheVariants.{Narrow, Wide, Padded}
+use Rattle.warm_frames.specs.declared.layout.TheConstants.{HEADER_SIZE, WIDE_HEADER_SIZE, NARROW_HEADER_SIZE}
 use Rattle.warm_frames.specs.Reading.{◌>>=◌, start_at, length_at}
 
 -- the size of a header in bytes
 abbrev pub header_size : Format → ℕ
 header_size Narrow = NARROW_HEADER_SIZE
-header_size Wide = HEADER_SIZE
+header_size Wide = WIDE_HEADER_SIZE
+header_size Padded = HEADER_SIZE
 
 -- the size of the frame that begins with these bytes, its header and its body
 unfoldable pub frame_size : List ℕ → Result ℕ FrameFault

@@ -15,10 +15,10 @@ pub enum FrameFault {
     /// 2: the bytes end inside the header or the body.
     #[error("Truncated")]
     Truncated,
-    /// 3: the first four bytes are neither `L2G2` nor `L2G1`.
+    /// 3: the first four bytes are none of `L2G3`, `L2G2` and `L2G1`.
     #[error("BadMagic")]
     BadMagic,
-    /// 4: the kind is not 1, 2 or 3.
+    /// 4: the kind is not 1, 2 or 3, or the reserved byte of `L2G3` is not 0.
     #[error("BadKind")]
     BadKind,
     /// 5: the sender's number is not a valid replica number.

@@ -1,5 +1,5 @@
-//! The two formats of frames: the narrow one, which is only read, and the wide one, which is also
-//! written.
+//! The three formats of frames: the narrow and the wide one, which are only read, and the padded
+//! one, which is also written.
 ghost use Rattle.std.specs.Prelude.{◌≡◌};
 ghost use Rattle.warm_frames.specs.Reading.{format_of, entry_size};
 ghost use Rattle.warm_frames.specs.Sizes.{header_size};
@@ -7,6 +7,7 @@ ghost use Rattle.warm_frames.specs.Sizes.{header_size};
 use crate::fault::FrameFault;
 use crate::layout::{
     HEADER_SIZE, MAGIC, MAX_ENTRY_SIZE, NARROW_HEADER_SIZE, NARROW_MAGIC, NARROW_MAX_ENTRY_SIZE,
+    WIDE_HEADER_SIZE, WIDE_MAGIC,
 };
 
 #[derive(Clone, Copy)]
@@ -15,12 +16,17 @@ pub(crate) enum Format {
     Narrow,
     // A horizon, and page numbers of 64 bits.
     Wide,
+    // A reserved byte too.
+    Padded,
 }
 
 pub(crate) fn format_of(letters: u32) -> Result<Format, FrameFault>
     ensures { result ≡ format_of letters }
 {
     if letters == MAGIC {
+        return Ok(Format::Padded);
+    }
+    if letters == WIDE_MAGIC {
         return Ok(Format::Wide);
     }
     if letters == NARROW_MAGIC {
@@ -35,6 +41,7 @@ pub(crate) fn entry_size(format: Format) -> usize
     match format {
         Format::Narrow => NARROW_MAX_ENTRY_SIZE,
         Format::Wide => MAX_ENTRY_SIZE,
+        Format::Padded => MAX_ENTRY_SIZE,
     }
 }
 
@@ -43,6 +50,7 @@ pub(crate) fn header_size(format: Format) -> usize
 {
     match format {
         Format::Narrow => NARROW_HEADER_SIZE,
-        Format::Wide => HEADER_SIZE,
+        Format::Wide => WIDE_HEADER_SIZE,
+        Format::Padded => HEADER_SIZE,
     }
 }

@@ -1,24 +1,28 @@
 //! The layout of frames: the numbers that writing and reading share.
 //!
-//! A frame is the bytes of a message: a header and a body, one after the other. There are two
-//! formats: the wide one is written and read, the narrow one is only read. A number of more than
-//! one byte has its highest byte first. All sizes are in bytes.
+//! A frame is the bytes of a message: a header and a body, one after the other. There are three
+//! formats: the padded one is written and read, the wide and the narrow one are only read. A number
+//! of more than one byte has its highest byte first. All sizes are in bytes.
 //!
-//! | Header | Wide | Narrow |
-//! |---|---|---|
-//! | magic number | [`MAGIC_SIZE`] | [`MAGIC_SIZE`] |
-//! | kind | [`KIND_SIZE`] | [`KIND_SIZE`] |
-//! | number of the sender | [`SENDER_SIZE`] | [`SENDER_SIZE`] |
-//! | horizon | [`HORIZON_SIZE`] | none |
-//! | length of the body | [`LENGTH_SIZE`] | [`LENGTH_SIZE`] |
+//! | Header | Padded | Wide | Narrow |
+//! |---|---|---|---|
+//! | magic number | [`MAGIC_SIZE`] | [`MAGIC_SIZE`] | [`MAGIC_SIZE`] |
+//! | kind | [`KIND_SIZE`] | [`KIND_SIZE`] | [`KIND_SIZE`] |
+//! | number of the sender | [`SENDER_SIZE`] | [`SENDER_SIZE`] | [`SENDER_SIZE`] |
+//! | reserved | [`RESERVED_SIZE`] | none | none |
+//! | horizon | [`HORIZON_SIZE`] | [`HORIZON_SIZE`] | none |
+//! | length of the body | [`LENGTH_SIZE`] | [`LENGTH_SIZE`] | [`LENGTH_SIZE`] |
 //!
 //! The body of a frame of entries is their count ([`COUNT_SIZE`]) and the entries: each is a page,
 //! a tag and one or two stamps, the later one first. The body of a frame of digests is the digest
 //! of each bucket, and that of a request is a number with a bit for each bucket.
 use warm_stamps::BUCKETS;
 
+/// The magic number of the padded format: the letters `L2G3`.
+pub const MAGIC: u32 = 0x4C32_4733;
+
 /// The magic number of the wide format: the letters `L2G2`.
-pub const MAGIC: u32 = 0x4C32_4732;
+pub const WIDE_MAGIC: u32 = 0x4C32_4732;
 
 /// The magic number of the narrow format: the letters `L2G1`.
 pub const NARROW_MAGIC: u32 = 0x4C32_4731;
@@ -41,14 +45,24 @@ pub const KIND_SIZE: usize = 1;
 /// The size of the sender's number.
 pub const SENDER_SIZE: usize = 2;
 
-/// The size of the horizon, which only the wide format has.
+/// The size of the reserved byte, which is 0, and which only the padded format has.
+pub const RESERVED_SIZE: usize = 1;
+
+/// The size of the horizon, which the narrow format does not have.
 pub const HORIZON_SIZE: usize = 8;
 
 /// The size of the length, which counts the bytes of the body.
 pub const LENGTH_SIZE: usize = 4;
 
+/// The size of a header of the padded format: 20.
+pub const HEADER_SIZE: usize = WIDE_HEADER_SIZE + RESERVED_SIZE;
+
 /// The size of a header of the wide format: 19.
-pub const HEADER_SIZE: usize = MAGIC_SIZE + KIND_SIZE + SENDER_SIZE + HORIZON_SIZE + LENGTH_SIZE;
+pub const WIDE_HEADER_SIZE: usize = MAGIC_SIZE
+    + KIND_SIZE
+    + SENDER_SIZE
+    + HORIZON_SIZE
+    + LENGTH_SIZE;
 
 /// The size of a header of the narrow format: 11.
 pub const NARROW_HEADER_SIZE: usize = MAGIC_SIZE + KIND_SIZE + SENDER_SIZE + LENGTH_SIZE;
@@ -59,8 +73,8 @@ pub const MAX_ENTRIES: usize = 1000;
 /// The size of the count of entries.
 pub const COUNT_SIZE: usize = 4;
 
-/// The size of a page in the wide format: two bytes of its device's number, then eight of its page
-/// number.
+/// The size of a page in the padded and in the wide format: two bytes of its device's number, then
+/// eight of its page number.
 pub const PAGE_ID_SIZE: usize = 10;
 
 /// The size of a page in the narrow format: two bytes of its device's number, then four of its page

@@ -62,7 +62,7 @@ impl Message {
 /// A list of messages, in the order in which they are sent. Contracts see the list.
 pub type MessageList = Items<Message>;
 
-/// Encodes the message as a frame of the format `L2G2`. `AllocError` occurs only where the
+/// Encodes the message as a frame of the format `L2G3`. `AllocError` occurs only where the
 /// allocation of the bytes fails.
 pub fn encode(alloc: Global, message: &Message) -> Result<Vec<u8>, AllocError>
     // The bytes written encode the message, so `decode` returns it.
@@ -89,14 +89,15 @@ pub fn encode(alloc: Global, message: &Message) -> Result<Vec<u8>, AllocError>
     }
 }
 
-/// Decodes the message that the bytes encode, all of them: a frame of the format `L2G2`, or of the
-/// older `L2G1`, which is read with horizon 0.
+/// Decodes the message that the bytes encode, all of them: a frame of the format `L2G3`, or of one
+/// of the older `L2G2` and `L2G1`, of which the last is read with horizon 0.
 ///
 /// Refused by the first fault from left to right:
-/// - `Truncated`: fewer than 4 bytes, then `BadMagic`: neither `L2G2` nor `L2G1`;
+/// - `Truncated`: fewer than 4 bytes, then `BadMagic`: none of `L2G3`, `L2G2` and `L2G1`;
 /// - `Truncated`: no byte for the kind, then `BadKind`: not 1, 2 or 3;
 /// - `Truncated`: fewer than 2 bytes for the sender, then `BadSender`: not a valid replica number;
-/// - in `L2G2` `Truncated`: fewer than 8 bytes for the horizon;
+/// - in `L2G3` `Truncated`: no reserved byte, then `BadKind`: it is not 0;
+/// - in `L2G3` and `L2G2` `Truncated`: fewer than 8 bytes for the horizon;
 /// - `Truncated`: fewer than 4 bytes for the length, then `BadLength`: not valid for the kind.
 ///   Entries have 4 to 31,004 bytes (a count, and 31 for each of the most; in `L2G1` 4 to 27,004,
 ///   and 27), digests 2048 and a request 8;

@@ -108,6 +108,13 @@ fn horizon_at(format: Format, bytes: &[u8]) -> Result<(u64, &[u8]), FrameFault>
     match format {
         Format::Narrow => Ok((0, bytes)),
         Format::Wide => u64_at(bytes, FrameFault::Truncated),
+        Format::Padded => {
+            let (reserved, rest) = u8_at(bytes, FrameFault::Truncated)?;
+            if reserved != 0 {
+                return Err(FrameFault::BadKind);
+            }
+            u64_at(rest, FrameFault::Truncated)
+        }
     }
 }
 
@@ -236,6 +243,10 @@ fn page_at(format: Format, bytes: &[u8]) -> Result<(PageId, &[u8]), FrameFault>
             Ok((page_from_narrow(page), rest))
         }
         Format::Wide => {
+            let (page, rest) = front_at::<PAGE_ID_SIZE>(bytes)?;
+            Ok((page_from(page), rest))
+        }
+        Format::Padded => {
             let (page, rest) = front_at::<PAGE_ID_SIZE>(bytes)?;
             Ok((page_from(page), rest))
         }

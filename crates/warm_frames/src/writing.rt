@@ -5,7 +5,7 @@ ghost use Rattle.warm_stamps.specs.Bytes.{IsReplica, bytes_of_page, bytes_of_sta
 ghost use Rattle.warm_frames.specs.declared.layout.TheConstants.{MAX_ENTRIES, MAX_ENTRY_SIZE};
 ghost use Rattle.warm_frames.specs.declared.layout.TheConstants.{ONCE_TAG, PAGE_ID_SIZE};
 ghost use Rattle.warm_frames.specs.declared.layout.TheConstants.{STAMP_SIZE, TWICE_SIZE, TWICE_TAG};
-ghost use Rattle.warm_frames.specs.declared.format.Format.TheVariants.{Wide};
+ghost use Rattle.warm_frames.specs.declared.format.Format.TheVariants.{Padded};
 ghost use Rattle.warm_frames.specs.declared.message.Message.TheVariants as messages;
 ghost use Rattle.warm_frames.specs.Entries.{hist_bytes, entry_bytes, entries_bytes};
 ghost use Rattle.warm_frames.specs.Encoding.{header_bytes, EncodesIn};
@@ -28,13 +28,14 @@ fn header(
     horizon: u64,
     len: u32,
 ) -> Result<Vec<u8>, AllocError>
-    ensures text { IfOk result (λ text. text.items ≡ header_bytes Wide kind sender horizon len) }
+    ensures text { IfOk result (λ text. text.items ≡ header_bytes Padded kind sender horizon len) }
     ensures sender { IsReplica sender }
 {
     let mut text = Vec::with_capacity(alloc, HEADER_SIZE + len as usize)?;
     text.extend_from_slice(&MAGIC.to_be_bytes())?;
     text.push(kind)?;
     text.extend_from_slice(&sender.get().to_be_bytes())?;
+    text.push(0)?;
     text.extend_from_slice(&horizon.to_be_bytes())?;
     text.extend_from_slice(&len.to_be_bytes())?;
     Ok(text)
@@ -140,7 +141,7 @@ pub(crate) fn entries_text(
     horizon: u64,
     entries: &EntryList,
 ) -> Result<Vec<u8>, AllocError>
-    ensures { IfOk result (λ text. EncodesIn Wide text.items
+    ensures { IfOk result (λ text. EncodesIn Padded text.items
         (messages.Entries sender horizon entries.now)) }
 {
     let entries = entries.as_slice();
@@ -159,7 +160,7 @@ pub(crate) fn digest_text(
     horizon: u64,
     digests: &DigestTable,
 ) -> Result<Vec<u8>, AllocError>
-    ensures { IfOk result (λ text. EncodesIn Wide text.items
+    ensures { IfOk result (λ text. EncodesIn Padded text.items
         (messages.Digest sender horizon digests.now)) }
 {
     let mut text = header(alloc, DIGEST_KIND, sender, horizon, TABLE_SIZE as u32)?;
@@ -174,7 +175,7 @@ pub(crate) fn want_text(
     request: BucketSet,
 ) -> Result<Vec<u8>, AllocError>
     ensures { IfOk result (λ text.
-        EncodesIn Wide text.items (messages.Want sender horizon request)) }
+        EncodesIn Padded text.items (messages.Want sender horizon request)) }
 {
     let mut text = header(alloc, WANT_KIND, sender, horizon, REQUEST_SIZE as u32)?;
     text.extend_from_slice(&request.bits().to_be_bytes())?;

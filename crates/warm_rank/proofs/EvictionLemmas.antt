@@ -21,10 +21,10 @@ use Rattle.warm_rank.proofs.KeyLemmas.{keys_order_pages}
 pub eviction_order : (S : ReferenceSet) → IsStrictOrder (eviction_cmp S)
 unfolding eviction_cmp
 eviction_order S = record {
-  total = then_total (on_total (dist S) (options_total (back_total nat_cmp_total))) (then_total (on_total (latest S) (options_total stamp_order.total)) page_order.total);
+  total = then_total (on_total (dist S) (options_total (back_total nat_cmp_total))) (then_total (on_total (latest S) (options_total stamp_order.total)) (back_total page_order.total));
   same = λ p q e.
-      let last = both_tie (farther_cmp (dist S p) (dist S q)) (ordering_then (older_cmp (latest S p) (latest S q)) (page_cmp p q)) e in
-      page_order.same p q (both_tie (older_cmp (latest S p) (latest S q)) (page_cmp p q) last.1).1;
+      let last = both_tie (farther_cmp (dist S p) (dist S q)) (ordering_then (older_cmp (latest S p) (latest S q)) (page_cmp q p)) e in
+      sym (page_order.same q p (both_tie (older_cmp (latest S p) (latest S q)) (page_cmp q p) last.1).1);
 }
 
 pub eviction_is_order : EvictionIsOrder

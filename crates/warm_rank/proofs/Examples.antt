@@ -59,14 +59,14 @@ older_is_evicted_first : eviction_cmp scan (page 5) (page 6) ≡ Less
 unfolding eviction_cmp
 older_is_evicted_first = refl
 
--- a page without a reference is evicted before them, and of two such pages the lesser
+-- a page without a reference is evicted before them, and of two such pages the greater
 unknown_is_evicted_first : eviction_cmp scan (page 7) (page 5) ≡ Less
 unfolding eviction_cmp
 unknown_is_evicted_first = refl
 
-lesser_unknown_is_evicted_first : eviction_cmp scan (page 7) (page 8) ≡ Less
+greater_unknown_is_evicted_first : eviction_cmp scan (page 8) (page 7) ≡ Less
 unfolding eviction_cmp
-lesser_unknown_is_evicted_first = refl
+greater_unknown_is_evicted_first = refl
 
 scan_victim : IsVictim scan (page 1 ∷ page 5 ∷ page 6 ∷ []) (Some (page 5))
 unfolding eviction_cmp

@@ -3,10 +3,10 @@ use Rattle.std.proofs.Common.{◌≡◌, ℕ, List, [], ◌∷◌, sym, ap, refl
 use Rattle.std.specs.Option.{option_cmp}
 use Rattle.std.specs.Cmp.{IsTotalOrder}
 use Rattle.std.specs.Cmp.Lexicographic.{options_total}
-use Rattle.std.specs.Ordering.{nat_cmp, on, then_cmp, ordering_then}
+use Rattle.std.specs.Ordering.{flip_args, nat_cmp, on, then_cmp, ordering_then}
 use Rattle.std.specs.declared.cmp.Ordering.{Ordering}
 use Rattle.std.specs.declared.cmp.Ordering.TheVariants.{Equal}
-use Rattle.std.proofs.lemmas.Cmp.{then_total, on_total, nat_cmp_total}
+use Rattle.std.proofs.lemmas.Cmp.{then_total, on_total, back_total, nat_cmp_total}
 use Rattle.warm_stamps.specs.declared.Stamp.{Stamp}
 use Rattle.warm_stamps.specs.declared.PageId.{PageId}
 use Rattle.warm_stamps.specs.Stamps.{stamp_cmp, page_cmp}
@@ -30,7 +30,7 @@ ranks : (S : ReferenceSet) (p q : PageId) (xs ys : List Stamp)
     → ((s : Stamp) → Has xs s → IsStampOf S s) → ((s : Stamp) → Has ys s → IsStampOf S s)
     → key_cmp (rank_key p (first_two xs)) (rank_key q (first_two ys))
     ≡ ordering_then (farther_cmp (distance_from S xs) (distance_from S ys))
-    (ordering_then (older_cmp (first xs) (first ys)) (page_cmp p q))
+    (ordering_then (older_cmp (first xs) (first ys)) (page_cmp q p))
 ranks S p q [] [] of_x of_y = refl
 ranks S p q [] (b ∷ []) of_x of_y = refl
 ranks S p q [] (b ∷ b' ∷ ys) of_x of_y = refl
@@ -39,7 +39,7 @@ ranks S p q (a ∷ []) (b ∷ []) of_x of_y = refl
 ranks S p q (a ∷ []) (b ∷ b' ∷ ys) of_x of_y = refl
 ranks S p q (a ∷ a' ∷ xs) [] of_x of_y = refl
 ranks S p q (a ∷ a' ∷ xs) (b ∷ []) of_x of_y = refl
-ranks S p q (a ∷ a' ∷ xs) (b ∷ b' ∷ ys) of_x of_y = ap (λ o. ordering_then o (ordering_then (stamp_cmp a b) (page_cmp p q))) (sym (counts_rank S a' b' (of_x a' (inr (inl refl))) (of_y b' (inr (inl refl)))))
+ranks S p q (a ∷ a' ∷ xs) (b ∷ b' ∷ ys) of_x of_y = ap (λ o. ordering_then o (ordering_then (stamp_cmp a b) (page_cmp q p))) (sym (counts_rank S a' b' (of_x a' (inr (inl refl))) (of_y b' (inr (inl refl)))))
 
 pub keys_order_pages : KeysOrderPages
 unfolding eviction_cmp
@@ -59,25 +59,25 @@ page_of-rank_key p (Some (page.Twice two)) = refl
 
 -- only equal keys tie
 same_keys : (j k : RankKey) → key_cmp j k ≡ Equal → j ≡ k
-same_keys (Never p) (Never q) e = ap Never (page_order.same p q e)
+same_keys (Never p) (Never q) e = let pages : p.0 ≡ q.0 = sym (page_order.same q.0 p.0 e) in λ i. Never (record { 0 = pages i })
 same_keys (Never p) (Once b q) e = absurd (cc)
 same_keys (Never p) (Twice b' b q) e = absurd (cc)
 same_keys (Once a p) (Never q) e = absurd (cc)
 same_keys (Once a p) (Once b q) e =
-    let both = both_tie (stamp_cmp a b) (page_cmp p q) e in
+    let both = both_tie (stamp_cmp a b) (page_cmp q.0 p.0) e in
     let lasts : a ≡ b = stamp_order.same a b both.0 in
-    let pages : p ≡ q = page_order.same p q both.1 in
-    cc
+    let pages : p.0 ≡ q.0 = sym (page_order.same q.0 p.0 both.1) in
+    λ i. Once (lasts i) (record { 0 = pages i })
 same_keys (Once a p) (Twice b' b q) e = absurd (cc)
 same_keys (Twice a' a p) (Never q) e = absurd (cc)
 same_keys (Twice a' a p) (Once b q) e = absurd (cc)
 same_keys (Twice a' a p) (Twice b' b q) e =
-    let first = both_tie (stamp_cmp a' b') (ordering_then (stamp_cmp a b) (page_cmp p q)) e in
-    let both = both_tie (stamp_cmp a b) (page_cmp p q) first.1 in
+    let first = both_tie (stamp_cmp a' b') (ordering_then (stamp_cmp a b) (page_cmp q.0 p.0)) e in
+    let both = both_tie (stamp_cmp a b) (page_cmp q.0 p.0) first.1 in
     let prevs : a' ≡ b' = stamp_order.same a' b' first.0 in
     let lasts : a ≡ b = stamp_order.same a b both.0 in
-    let pages : p ≡ q = page_order.same p q both.1 in
-    cc
+    let pages : p.0 ≡ q.0 = sym (page_order.same q.0 p.0 both.1) in
+    λ i. Twice (prevs i) (lasts i) (record { 0 = pages i })
 
 how_many : RankKey → ℕ
 how_many (Never p) = 0
@@ -96,7 +96,7 @@ last_of (Twice a' a p) = Some a
 
 -- keys are ordered by what they hold, one after the other
 by_parts : RankKey → RankKey → Ordering
-by_parts = then_cmp (on how_many nat_cmp) (then_cmp (on prev_of (option_cmp stamp_cmp)) (then_cmp (on last_of (option_cmp stamp_cmp)) (on ranked_page page_cmp)))
+by_parts = then_cmp (on how_many nat_cmp) (then_cmp (on prev_of (option_cmp stamp_cmp)) (then_cmp (on last_of (option_cmp stamp_cmp)) (on ranked_page (flip_args page_cmp))))
 
 parts_are_key : (j k : RankKey) → by_parts j k ≡ key_cmp j k
 unfolding how_many prev_of last_of by_parts
@@ -112,7 +112,7 @@ parts_are_key (Twice a' a p) (Twice b' b q) = refl
 
 parts_total : IsTotalOrder by_parts
 unfolding by_parts
-parts_total = then_total (on_total how_many nat_cmp_total) (then_total (on_total prev_of (options_total stamp_order.total)) (then_total (on_total last_of (options_total stamp_order.total)) (on_total ranked_page page_order.total)))
+parts_total = then_total (on_total how_many nat_cmp_total) (then_total (on_total prev_of (options_total stamp_order.total)) (then_total (on_total last_of (options_total stamp_order.total)) (on_total ranked_page (back_total page_order.total))))
 
 pub key_order : IsStrictOrder key_cmp
 key_order = record { total = subst IsTotalOrder (λ i j k. parts_are_key j k i) parts_total; same = same_keys }

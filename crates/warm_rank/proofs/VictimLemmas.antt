@@ -31,7 +31,7 @@ before_is_farther : (S : ReferenceSet) (p q : PageId) → IsBefore S p q
     → IsNotFarther (dist S q) (dist S p)
 unfolding eviction_cmp
 before_is_farther S p q before =
-    not_farther (dist S p) (dist S q) (never_greater (farther_cmp (dist S p) (dist S q)) (ordering_then (older_cmp (latest S p) (latest S q)) (page_cmp p q)) before)
+    not_farther (dist S p) (dist S q) (never_greater (farther_cmp (dist S p) (dist S q)) (ordering_then (older_cmp (latest S p) (latest S q)) (page_cmp q p)) before)
 
 itself : (x : Option ℕ) → IsNotFarther x x
 itself None = tt

@@ -1,7 +1,8 @@
 -- Keys in half the room: the fields of a key, side by side.
 use Rattle.std.specs.Prelude.{◌≡◌, ◌≢◌, ℕ, ◌==◌, cond}
-use Rattle.std.specs.Ordering.{nat_cmp, on, then_cmp}
+use Rattle.std.specs.Ordering.{flip_args, nat_cmp, on, then_cmp}
 use Rattle.std.specs.declared.cmp.Ordering.{Ordering}
+use Rattle.std.specs.declared.cmp.Reverse.{Reverse}
 use Rattle.warm_stamps.specs.declared.Stamp.{Stamp}
 use Rattle.warm_stamps.specs.declared.PageId.{PageId}
 use Rattle.warm_stamps.specs.Replicas.{IsReplica}
@@ -16,7 +17,7 @@ stamp_at time replica = record { time = time; replica = replica }
 -- the key that has these fields
 abbrev pub key_in : Fields → RankKey
 key_in f =
-    let page : PageId = record { dev = f.dev; no = f.no } in
+    let page : Reverse PageId = record { 0 = record { dev = f.dev; no = f.no } } in
     let older : Stamp = stamp_at f.older_time f.older_replica in
     cond (f.stamps == 0) (Never page)
     (cond (f.stamps == 1) (Once older page)
@@ -31,9 +32,9 @@ fields_of (Never p) =
       stamps = 0;
       older_replica = 0;
       later_replica = 0;
-      dev = p.dev;
+      dev = p.0.dev;
       later_time = 0;
-      no = p.no;
+      no = p.0.no;
     }
 fields_of (Once a p) =
     record {
@@ -41,9 +42,9 @@ fields_of (Once a p) =
       stamps = 1;
       older_replica = a.replica;
       later_replica = 0;
-      dev = p.dev;
+      dev = p.0.dev;
       later_time = 0;
-      no = p.no;
+      no = p.0.no;
     }
 fields_of (Twice a' a p) =
     record {
@@ -51,9 +52,9 @@ fields_of (Twice a' a p) =
       stamps = 2;
       older_replica = a'.replica;
       later_replica = a.replica;
-      dev = p.dev;
+      dev = p.0.dev;
       later_time = a.time;
-      no = p.no;
+      no = p.0.no;
     }
 
 -- these are the fields of a key whose replicas there may be
@@ -62,7 +63,7 @@ pub record AreFields (f : Fields) : Type 0 where
   pub older : f.stamps ≢ 0 → IsReplica f.older_replica
   pub later : f.stamps ≢ 0 → f.stamps ≢ 1 → IsReplica f.later_replica
 
--- field by field
+-- field by field, those of the page turned
 abbrev pub fields_cmp : Fields → Fields → Ordering
 fields_cmp =
     then_cmp (on (λ f. f.stamps) nat_cmp)
@@ -70,5 +71,5 @@ fields_cmp =
     (then_cmp (on (λ f. f.older_replica) nat_cmp)
     (then_cmp (on (λ f. f.later_time) nat_cmp)
     (then_cmp (on (λ f. f.later_replica) nat_cmp)
-    (then_cmp (on (λ f. f.dev) nat_cmp)
-    (on (λ f. f.no) nat_cmp))))))
+    (then_cmp (on (λ f. f.dev) (flip_args nat_cmp))
+    (on (λ f. f.no) (flip_args nat_cmp)))))))

@@ -46,9 +46,11 @@ abbrev pub older_cmp : Option Stamp → Option Stamp → Ordering
 older_cmp = option_cmp stamp_cmp
 
 -- the eviction order: the greatest distance first, of equal ones the oldest latest stamp, then the
--- least page
+-- greatest page
 unfoldable pub eviction_cmp : ReferenceSet → PageId → PageId → Ordering
-eviction_cmp S = then_cmp (on (dist S) farther_cmp) (then_cmp (on (latest S) older_cmp) page_cmp)
+eviction_cmp S =
+    then_cmp (on (dist S) farther_cmp)
+    (then_cmp (on (latest S) older_cmp) (flip_args page_cmp))
 
 -- the page p is evicted before the page q
 abbrev pub IsBefore : ReferenceSet → PageId → PageId → Type 0

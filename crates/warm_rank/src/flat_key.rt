@@ -15,7 +15,7 @@ ghost use Rattle.warm_rank.specs.contracts.RankKeyPartialOrd.TheImpl.Laws as par
 ghost use Rattle.warm_rank.specs.contracts.RankKeyOrd.TheImpl.Laws as order;
 
 use crate::RankKey;
-use std::cmp::Ordering;
+use std::cmp::{Ordering, Reverse};
 use std::marker::Model;
 use warm_history::{Entry, PageHist};
 use warm_stamps::{PageId, ReplicaId, Stamp};
@@ -111,6 +111,7 @@ impl FlatKey {
         ensures { result ≡ entry_key entry }
     {
         let Entry { page, hist } = entry;
+        let page = Reverse(page);
         match hist {
             PageHist::Once(last) => once(last, page),
             PageHist::Twice(two) => {
@@ -126,10 +127,10 @@ impl FlatKey {
         ensures { result ≡ self }
     {
         let fields = self.fields;
-        let page = PageId {
+        let page = Reverse(PageId {
             dev: fields.dev,
             no: fields.no,
-        };
+        });
         if fields.stamps == 0 {
             return RankKey::Never { page };
         }
@@ -177,7 +178,7 @@ impl FlatKey {
 }
 
 // The rank of a page without a known reference.
-fn never(page: PageId) -> FlatKey
+fn never(page: Reverse<PageId>) -> FlatKey
     ensures { result ≡ Never page }
 {
     let fields = Fields {
@@ -185,15 +186,15 @@ fn never(page: PageId) -> FlatKey
         stamps: 0,
         older_replica: 0,
         later_replica: 0,
-        dev: page.dev,
+        dev: page.0.dev,
         later_time: 0,
-        no: page.no,
+        no: page.0.no,
     };
     FlatKey { fields }
 }
 
 // The rank of a page with one known reference.
-fn once(last: Stamp, page: PageId) -> FlatKey
+fn once(last: Stamp, page: Reverse<PageId>) -> FlatKey
     ensures { result ≡ Once last page }
 {
     let fields = Fields {
@@ -201,15 +202,15 @@ fn once(last: Stamp, page: PageId) -> FlatKey
         stamps: 1,
         older_replica: last.replica.get(),
         later_replica: 0,
-        dev: page.dev,
+        dev: page.0.dev,
         later_time: 0,
-        no: page.no,
+        no: page.0.no,
     };
     FlatKey { fields }
 }
 
 // The rank of a page with two known references or more.
-fn twice(prev: Stamp, last: Stamp, page: PageId) -> FlatKey
+fn twice(prev: Stamp, last: Stamp, page: Reverse<PageId>) -> FlatKey
     ensures { result ≡ Twice prev last page }
 {
     let fields = Fields {
@@ -217,9 +218,9 @@ fn twice(prev: Stamp, last: Stamp, page: PageId) -> FlatKey
         stamps: 2,
         older_replica: prev.replica.get(),
         later_replica: last.replica.get(),
-        dev: page.dev,
+        dev: page.0.dev,
         later_time: last.time,
-        no: page.no,
+        no: page.0.no,
     };
     FlatKey { fields }
 }
@@ -235,7 +236,7 @@ fn stamp_at(time: u64, replica: u16) -> Stamp
     Stamp { time, replica }
 }
 
-// The order of the fields of two ranks. Mostly the older times decide.
+// The order of the fields of two ranks, those of the page turned. Mostly the older times decide.
 fn compare_fields(a: &Fields, b: &Fields) -> Ordering
     ensures { result ≡ fields_cmp a.now b.now }
 {
@@ -255,7 +256,7 @@ fn compare_fields(a: &Fields, b: &Fields) -> Ordering
         return a.later_replica.cmp(&b.later_replica);
     }
     if a.dev != b.dev {
-        return a.dev.cmp(&b.dev);
+        return b.dev.cmp(&a.dev);
     }
-    a.no.cmp(&b.no)
+    b.no.cmp(&a.no)
 }

@@ -27,7 +27,7 @@ mod winners;
 
 pub use current::CurrentKeys;
 pub use slots::Contest;
-use std::cmp::Ordering;
+use std::cmp::{Ordering, Reverse};
 use warm_history::{History, PageHist};
 use warm_stamps::{PageId, Stamp};
 pub use warm_up::warm_list;
@@ -38,26 +38,26 @@ pub const MAX_FRAMES: usize = 65_536;
 /// The rank of a page, by its two latest stamps. Of two pages, the one with the lesser key is
 /// evicted first.
 ///
-/// The derived order is the eviction order: pages that were never referenced, by page; then pages
-/// that were referenced once, by that stamp, then page; then pages that were referenced twice or
-/// more, by the second latest stamp, then the latest, then page. [`key_of`] makes the key of a
-/// page.
+/// The derived order is the eviction order: pages that were never referenced, the greatest page
+/// first; then pages that were referenced once, by that stamp, then page; then pages that were
+/// referenced twice or more, by the second latest stamp, then the latest, then page. [`key_of`]
+/// makes the key of a page.
 #[derive(Debug, Clone, Copy, PartialEq, Eq, PartialOrd, Ord)]
 pub enum RankKey {
     /// A page without a known reference.
     Never {
-        page: PageId,
+        page: Reverse<PageId>,
     },
     /// A page with one known reference: its distance is infinite.
     Once {
         last: Stamp,
-        page: PageId,
+        page: Reverse<PageId>,
     },
     /// A page with two known references or more: its latest stamp and its second latest.
     Twice {
         prev: Stamp,
         last: Stamp,
-        page: PageId,
+        page: Reverse<PageId>,
     },
 }
 
@@ -67,13 +67,13 @@ impl RankKey {
         ensures { result ≡ ranked_page self }
     {
         match self {
-            RankKey::Never { page } => page,
-            RankKey::Once { last: _, page } => page,
+            RankKey::Never { page } => page.0,
+            RankKey::Once { last: _, page } => page.0,
             RankKey::Twice {
                 prev: _,
                 last: _,
                 page,
-            } => page,
+            } => page.0,
         }
     }
 }
@@ -83,7 +83,9 @@ pub fn key_of(page: PageId, hist: Option<PageHist>) -> RankKey
     ensures { result ≡ rank_key page hist }
 {
     match hist {
-        None => RankKey::Never { page },
+        None => RankKey::Never {
+            page: Reverse(page),
+        },
         Some(hist) => key_of_referenced(page, hist),
     }
 }
@@ -91,6 +93,7 @@ pub fn key_of(page: PageId, hist: Option<PageHist>) -> RankKey
 fn key_of_referenced(page: PageId, hist: PageHist) -> RankKey
     ensures { result ≡ rank_key page (Some hist) }
 {
+    let page = Reverse(page);
     match hist {
         PageHist::Once(last) => RankKey::Once { last, page },
         PageHist::Twice(two) => {

@@ -10,6 +10,7 @@ use crate::slot_keys::SlotKeys;
 use crate::winners::{number_leaves, play_above, play_all};
 use crate::{MAX_FRAMES, RankKey};
 use std::alloc::{AllocError, Global};
+use std::cmp::Reverse;
 use std::marker::Model;
 use warm_stamps::PageId;
 
@@ -167,6 +168,6 @@ fn set_each<C: CurrentKeys>(keys: &mut SlotKeys, current: &C)
 // The value stored in a slot without a key. It means nothing.
 const fn unused_key() -> RankKey {
     RankKey::Never {
-        page: PageId { dev: 0, no: 0 },
+        page: Reverse(PageId { dev: 0, no: 0 }),
     }
 }

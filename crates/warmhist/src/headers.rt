@@ -2,6 +2,7 @@
 
 use warm_frames::layout::{
     HEADER_SIZE, KIND_SIZE, MAGIC_SIZE, NARROW_HEADER_SIZE, NARROW_MAGIC, SENDER_SIZE,
+    WIDE_HEADER_SIZE, WIDE_MAGIC,
 };
 
 // How many bytes the magic number, the kind and the sender have.
@@ -65,6 +66,9 @@ impl Headers {
         self.held = self.held.saturating_add(1);
         if self.held == MAGIC_SIZE && self.tail & LOW_32 == u64::from(NARROW_MAGIC) {
             self.size = NARROW_HEADER_SIZE;
+        }
+        if self.held == MAGIC_SIZE && self.tail & LOW_32 == u64::from(WIDE_MAGIC) {
+            self.size = WIDE_HEADER_SIZE;
         }
         if self.held == UP_TO_SENDER {
             self.senders |= 1 << ((self.tail & LOW_16) % 64);

@@ -12,8 +12,8 @@ pub const DASH: &str = "-";
 // What `--version` prints behind the name. The number is that of include/warm.pc.in, and stands
 // here once; CHANGELOG's table has the formats of each version.
 const VERSION: &str = "1.0
-reads frames L2G2 and L2G1
-writes frames L2G2";
+reads frames L2G3 and L2G2 and L2G1
+writes frames L2G3";
 
 /// What the words ask for.
 #[derive(Drop)]

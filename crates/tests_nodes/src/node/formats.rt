@@ -1,9 +1,9 @@
-//! Messages that a node receives in either format, and messages of pages that no device has.
+//! Messages that a node receives in each format, and messages of pages that no device has.
 
 use super::{NO_PAGE, Row, Said, answers, fresh, runs};
 use std::alloc::Global;
 use std::process::Abort;
-use test_kit::{NARROW, WIDE};
+use test_kit::{NARROW, PADDED, WIDE};
 use warm_frames::decode;
 
 // The bytes `WIDE`, of the page of device 0 whose number is in these bytes. Its stamp 10@1 is older
@@ -40,10 +40,11 @@ const LAST_WIDE: &[Row] = &[
 ];
 
 #[test]
-fn messages_of_both_formats_are_received(rt: HostRuntime) {
+fn messages_of_all_formats_are_received(rt: HostRuntime) {
     let alloc = rt.alloc();
     takes(&rt, alloc, &NARROW, &[Row::Knows(0, &[(7, 20, 10)])]);
     takes(&rt, alloc, &WIDE, &[Row::Knows(12, &[(7, 20, 0)])]);
+    takes(&rt, alloc, &PADDED, &[Row::Knows(12, &[(7, 20, 0)])]);
     takes(&rt, alloc, &wide([0, 0, 0, 1, 0, 0, 0, 0]), FIRST_WIDE);
     takes(&rt, alloc, &wide([255; 8]), LAST_WIDE);
 }

@@ -95,7 +95,7 @@ fn digests_and_requests_bring_their_horizon(rt: HostRuntime) {
 }
 
 // Of pages 0, 1 and 2 the last was referenced once, and leaves first. At 10 page 1 has one stamp,
-// the older one; at 28 pages 0 and 1 have none, and the lesser leaves.
+// the older one; at 28 pages 0 and 1 have none, and the greater leaves.
 const VICTIMS: &[Row] = &[
     Row::Absorbs(&[
         (0, 1, 2, 1),
@@ -116,7 +116,7 @@ const VICTIMS: &[Row] = &[
     Row::Receives(Sent::Request(21, 0), &[]),
     Row::Victim(Some(1)),
     Row::Receives(Sent::Digests(28, &[(0, 2, 30, 1), (0, 7, 40, 1)]), &[]),
-    Row::Victim(Some(0)),
+    Row::Victim(Some(1)),
 ];
 
 #[test]

@@ -66,8 +66,7 @@ const HOTTEST_PUT_OUT: &[Row] = &[
     NONE_LEFT,
 ];
 
-// The frames are full of pages without a reference, which are evicted in the order of their
-// numbers.
+// The frames are full of pages without a reference, of which the greatest is evicted first.
 const OVER_COLD_PAGES: &[Row] = &[
     Row::Pins(14, Said::Pinned(0, 1)),
     Row::Unpins(0, 1),
@@ -78,12 +77,12 @@ const OVER_COLD_PAGES: &[Row] = &[
     Row::Pins(11, Said::Pinned(3, 1)),
     Row::Unpins(3, 1),
     FOUR,
-    Row::Victim(Some(11)),
+    Row::Victim(Some(14)),
     Row::Loads(Said::Loaded(Some(4))),
-    Row::Victim(Some(12)),
+    Row::Victim(Some(13)),
     Row::Loads(Said::Loaded(Some(3))),
     Row::Loads(Said::Loaded(Some(2))),
-    Row::Victim(Some(14)),
+    Row::Victim(Some(11)),
     Row::Loads(Said::Loaded(Some(1))),
     Row::Victim(Some(1)),
     NONE_LEFT,

@@ -7,7 +7,7 @@ use warm_devices::MemDevice;
 use warm_history::History;
 use warm_pool::PoolFault;
 
-// Each page is loaded into a frame of its own, and one more into that of the page of the least
+// Each page is loaded into a frame of its own, and one more into that of the page of the greatest
 // number.
 #[test]
 fn a_pool_fills_65_536_frames(rt: HostRuntime) {
@@ -17,7 +17,7 @@ fn a_pool_fills_65_536_frames(rt: HostRuntime) {
         let row = Row::Loads(0, u64::from(at), Said::At(at, 1));
         rows.push(row).expect(&rt, AMPLE);
     }
-    let row = Row::Loads(0, 65_536, Said::At(0, 2));
+    let row = Row::Loads(0, 65_536, Said::At(65_535, 2));
     rows.push(row).expect(&rt, AMPLE);
     let device = memory(alloc, 65_537).expect(&rt, AMPLE);
     lives(&rt, alloc, 65_536, device, rows.as_slice())

@@ -29,7 +29,7 @@ const fn at(index: u32, generation: u64, evicted: Option<PageId>) -> Placed {
     }
 }
 
-// No page was ever referenced, so of two unpinned ones that of the lesser number is evicted. A page
+// No page was ever referenced, so of two unpinned ones that of the greater number is evicted. A page
 // that is resident evicts none, and neither does one that takes a frame without a page.
 #[test]
 fn a_pin_and_a_load_say_what_they_evicted(rt: HostRuntime) {
@@ -39,9 +39,9 @@ fn a_pin_and_a_load_say_what_they_evicted(rt: HostRuntime) {
     assert!(rt; loaded(&mut pool, &history, 1) == Ok(at(0, 1, None)));
     assert!(rt; loaded(&mut pool, &history, 2) == Ok(at(1, 1, None)));
     assert!(rt; loaded(&mut pool, &history, 1) == Ok(at(0, 1, None)));
-    assert!(rt; loaded(&mut pool, &history, 3) == Ok(at(0, 2, Some(page(1)))));
-    assert!(rt; pinned(&mut pool, &history, 3) == Ok(at(0, 2, None)));
-    assert!(rt; pinned(&mut pool, &history, 4) == Ok(at(1, 2, Some(page(2)))));
+    assert!(rt; loaded(&mut pool, &history, 3) == Ok(at(1, 2, Some(page(2)))));
+    assert!(rt; pinned(&mut pool, &history, 3) == Ok(at(1, 2, None)));
+    assert!(rt; pinned(&mut pool, &history, 4) == Ok(at(0, 2, Some(page(1)))));
     assert!(rt; pinned(&mut pool, &history, 5) == Err(PoolFault::AllFixed));
     drop(pool);
 }

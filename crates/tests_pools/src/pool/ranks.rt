@@ -37,7 +37,7 @@ fn all_ranks_follow_a_raised_horizon(rt: HostRuntime) {
     let rows = [Row::Leaves(1), Row::Unpins(1, 1), Row::Leaves(2)];
     runs(&rt, &mut pool, &history, &rows);
     forget(&mut pool, &mut history, 101);
-    let rows = [Row::Leaves(1), Row::Loads(0, 3, Said::At(0, 2))];
+    let rows = [Row::Leaves(2), Row::Loads(0, 3, Said::At(1, 2))];
     runs(&rt, &mut pool, &history, &rows);
     closes(&rt, pool);
 }
@@ -48,7 +48,7 @@ fn leaves_after(pool: &mut Pool<MemDevice>, history: &History, named: &[PageId])
     pool.victim()
 }
 
-// Three pages are loaded that were never referenced, so the one of the least number is evicted
+// Three pages are loaded that were never referenced, so the one of the greatest number is evicted
 // first. A named page has the rank that the history gives it, also where those of the others are
 // not yet up to date, and a page that is not resident may be named.
 #[test]
@@ -61,10 +61,10 @@ fn only_named_pages_get_their_new_ranks(rt: HostRuntime) {
         Row::Loads(0, 1, Said::At(0, 1)),
         Row::Loads(0, 2, Said::At(1, 1)),
         Row::Loads(0, 3, Said::At(2, 1)),
-        Row::Leaves(1),
+        Row::Leaves(3),
     ];
     runs(&rt, &mut pool, &history, &rows);
-    assert!(rt; leaves_after(&mut pool, &later, &[page(1)]) == Some(page(2)));
+    assert!(rt; leaves_after(&mut pool, &later, &[page(1)]) == Some(page(3)));
     assert!(rt; leaves_after(&mut pool, &later, &[page(2), page(7)]) == Some(page(3)));
     closes(&rt, pool);
 }

@@ -32,11 +32,11 @@ const ROWS: [Row<'static>; 16] = [
     Row::Writes(0, 1, 0, &[7], Said::Done),
     Row::Unpins(0, 1),
     Row::Loads(0, FIRST_WIDE + 1, Said::At(2, 1)),
-    Row::Leaves(0),
-    Row::Loads(0, 1, Said::At(1, 2)),
-    Row::Resident(0, 0, false),
+    Row::Leaves(FIRST_WIDE + 1),
+    Row::Loads(0, 1, Said::At(2, 2)),
+    Row::Resident(0, 0, true),
     Row::Resident(0, FIRST_WIDE, true),
-    Row::Resident(0, FIRST_WIDE + 1, true),
+    Row::Resident(0, FIRST_WIDE + 1, false),
 ];
 
 // A pool of three frames over the device runs the test cases.
