@@ -26,11 +26,11 @@ fn broken_after(alloc: Global, text: &[u8], len: usize) -> Option<DumpError> {
 const BREAKS: [(usize, usize); 8] = [
     (0, 0),
     (1, 0),
-    (95, 0),
+    (96, 0),
     (FIRST, FIRST),
-    (149, FIRST),
+    (151, FIRST),
     (SECOND, SECOND),
-    (2216, SECOND),
+    (2219, SECOND),
     (WHOLE, WHOLE),
 ];
 
@@ -69,7 +69,7 @@ fn a_failed_write_is_a_write_fault(rt: HostRuntime) {
         let written = written_in(&rt, rt.alloc(), left);
         assert!(rt; written == Err(DumpFault::WriteFault), "of {left} bytes");
     }
-    assert!(rt; written_in(&rt, rt.alloc(), 2218) == Ok(()));
+    assert!(rt; written_in(&rt, rt.alloc(), 2221) == Ok(()));
 }
 
 #[test]
