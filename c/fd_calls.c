@@ -46,12 +46,18 @@ static request take_request(void) {
     return taken;
 }
 
-/* Past the end of the file are zeros. */
+static bool is_end(int fd, off_t at) {
+    struct stat file;
+    return fstat(fd, &file) == 0 && S_ISREG(file.st_mode) && at >= file.st_size;
+}
+
+/* Past the end of the file are zeros. With O_DIRECT a system may refuse the rest of a read that ended there, since it is not aligned. */
 static ssize_t read_file(int fd, uint8_t *into, size_t length, off_t at) {
     size_t done = 0;
     while (done < length) {
         ssize_t got = pread(fd, into + done, length - done, at + (off_t)done);
         if (got < 0 && errno == EINTR) continue;
+        if (got < 0 && errno == EINVAL && done > 0 && is_end(fd, at + (off_t)done)) got = 0;
         if (got < 0) return -1;
         if (got == 0) {
             memset(into + done, 0, length - done);

@@ -18,10 +18,10 @@
 #include <unistd.h>
 
 /* Where most is not 0, a call moves at most that many bytes, and every other call is interrupted. Where it is to put nothing, it does, and
- * where a sync is to fail, the next one does. */
+ * where a sync is to fail, the next one does. Where reads are direct, their places are multiples of 512. */
 static struct {
     size_t most;
-    bool was_interrupted, puts_nothing, fails_sync;
+    bool was_interrupted, puts_nothing, fails_sync, is_direct;
     int syncs;
 } slow;
 
@@ -35,6 +35,10 @@ static bool interrupts(void) {
 static size_t part(size_t length) { return slow.most != 0 && slow.most < length ? slow.most : length; }
 
 static ssize_t slow_pread(int fd, void *into, size_t length, off_t at) {
+    if (slow.is_direct && at % 512 != 0) {
+        errno = EINVAL;
+        return -1;
+    }
     return interrupts() ? -1 : pread(fd, into, part(length), at);
 }
 
@@ -140,6 +144,25 @@ static void test_slow_calls(void) {
     slow.puts_nothing = true;
     FAILS(write_at(fd, 0, SIZE), EIO);
     slow.puts_nothing = false;
+    close(fd);
+}
+
+/* Where reads are direct, a page that the end of the file is in is read whole, and another rest that is refused is a read that fails. */
+static void test_direct(void) {
+    int fd = new_file(), ends[2];
+    MUST(pipe(ends) == 0 && write_at(fd, 0, 5000) == 5000);
+    slow.is_direct = true;
+    MUST(read_at(fd, 4096, 4096) == 4096 && memcmp(got, page + 4096, 904) == 0 && is_filled(got + 904, 4096 - 904, 0) && got[4096] == 0xEE);
+    MUST(read_at(fd, 8192, 4096) == 4096 && is_filled(got, 4096, 0));
+    FAILS(read_at(fd, 100, 4096), EINVAL);
+    FAILS(read_at(fd, 5100, 4096), EINVAL);
+    FAILS(read_at(ends[0], 0, 4096), ESPIPE);
+    slow.most = 1000;
+    FAILS(read_at(fd, 0, 4096), EINVAL);
+    slow.most = 0;
+    slow.is_direct = false;
+    close(ends[0]);
+    close(ends[1]);
     close(fd);
 }
 
@@ -305,6 +328,7 @@ int main(void) {
     for (size_t at = 0; at < SIZE; at++) page[at] = (uint8_t)(at % 251 + 1);
     test_file();
     test_slow_calls();
+    test_direct();
     test_identities();
     test_failed_sync();
     test_descriptors();

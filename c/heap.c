@@ -1,0 +1,163 @@
+/*
+ * heap.c: the memory of the library, as heap.h says. Nothing here is proved; c/check tests it.
+ *
+ * Blocks of whole units are cut from runs. A run is 256 units in one block of malloc, for blocks of
+ * one size, and is freed with the last of them. aligned_alloc is no help: with glibc's a block of
+ * 4,096 bytes takes twice as much, since what it keeps before a block is in the page before.
+ */
+#define _POSIX_C_SOURCE 200809L /* pthread_mutex_t */
+#include "heap.h"
+
+#include <pthread.h>
+#include <stdint.h>
+#include <stdlib.h>
+#include <string.h>
+
+enum { RUN_BYTES = 256 * HEAP_UNIT, MALLOC_ALIGNS = 16 };
+
+typedef struct run {
+    uint8_t *at;   /* its first block */
+    void *memory;  /* what malloc answered */
+    size_t size;   /* of each block */
+    size_t cut;    /* how many blocks were ever in use: those behind them were not touched */
+    size_t used;   /* how many are in use */
+    void *freed;   /* the last of these that was freed; each of them begins with the one before */
+} run;
+
+/* The runs, in the order of their addresses. Who reads or changes them has the lock. */
+static pthread_mutex_t lock = PTHREAD_MUTEX_INITIALIZER;
+static run *runs;
+static size_t run_count, run_room;
+static size_t recent; /* the run of the last call, if it is still there */
+
+static char none;
+
+static tried answer(void *p) { return (tried){.ok = p != NULL, .p = p != NULL ? p : &none}; }
+
+static bool is_in_units(size_t n, size_t a) {
+    return a == 1 && n != 0 && n % HEAP_UNIT == 0 && n / HEAP_UNIT <= HEAP_MOST_UNITS;
+}
+
+/* How many runs begin at an address or before it. */
+static size_t runs_until(const void *p) {
+    size_t low = 0, high = run_count;
+    while (low < high) {
+        size_t middle = low + (high - low) / 2;
+        if ((uintptr_t)runs[middle].at <= (uintptr_t)p) low = middle + 1;
+        else high = middle;
+    }
+    return low;
+}
+
+/* The run that a block was cut from. */
+static run *run_of(const void *p) {
+    size_t until = runs_until(p);
+    if (until == 0 || (uintptr_t)p - (uintptr_t)runs[until - 1].at >= RUN_BYTES) return NULL;
+    return &runs[until - 1];
+}
+
+static bool makes_room(void) {
+    if (run_count < run_room) return true;
+    size_t room = run_room != 0 ? 2 * run_room : 16;
+    run *larger = realloc(runs, room * sizeof(run));
+    if (larger == NULL) return false;
+    runs = larger;
+    run_room = room;
+    return true;
+}
+
+static run *new_run(size_t size) {
+    uint8_t *memory = malloc(RUN_BYTES + HEAP_UNIT - MALLOC_ALIGNS);
+    if (memory == NULL || !makes_room()) {
+        free(memory);
+        return NULL;
+    }
+    uint8_t *at = memory + (HEAP_UNIT - (uintptr_t)memory % HEAP_UNIT) % HEAP_UNIT;
+    recent = runs_until(at);
+    run *made = &runs[recent];
+    memmove(made + 1, made, (run_count - recent) * sizeof(run));
+    *made = (run){.at = at, .memory = memory, .size = size};
+    run_count++;
+    return made;
+}
+
+static void free_run(run *empty) {
+    free(empty->memory);
+    run_count--;
+    memmove(empty, empty + 1, (run_count - (size_t)(empty - runs)) * sizeof(run));
+    if (run_count != 0) return;
+    free(runs);
+    runs = NULL;
+    run_room = 0;
+}
+
+static bool has_room(const run *it, size_t size) {
+    return it->size == size && it->used < RUN_BYTES / size;
+}
+
+/* A run with room for a block of this size: that of the last call, or the first, or a new one. */
+static run *run_with_room(size_t size) {
+    if (recent < run_count && has_room(&runs[recent], size)) return &runs[recent];
+    for (recent = 0; recent < run_count; recent++)
+        if (has_room(&runs[recent], size)) return &runs[recent];
+    return new_run(size);
+}
+
+static void *take_block(size_t size) {
+    run *from = run_with_room(size);
+    if (from == NULL) return NULL;
+    void *block = from->freed;
+    if (block != NULL) from->freed = *(void **)block;
+    else block = from->at + size * from->cut++;
+    from->used++;
+    return block;
+}
+
+static void give_block(run *to, void *block) {
+    *(void **)block = to->freed;
+    to->freed = block;
+    to->used--;
+    recent = (size_t)(to - runs);
+    if (to->used == 0) free_run(to);
+}
+
+/* The size of a block that was cut from a run; 0 of any other. */
+static size_t size_in_units(const void *p) {
+    if ((uintptr_t)p % HEAP_UNIT != 0) return 0;
+    pthread_mutex_lock(&lock);
+    const run *its = run_of(p);
+    size_t size = its != NULL ? its->size : 0;
+    pthread_mutex_unlock(&lock);
+    return size;
+}
+
+tried rattle_alloc(size_t n, size_t a) {
+    if (!is_in_units(n, a)) return answer(malloc(n != 0 ? n : a));
+    pthread_mutex_lock(&lock);
+    void *block = take_block(n);
+    pthread_mutex_unlock(&lock);
+    return answer(block);
+}
+
+tried rattle_realloc(void *p, size_t kept, size_t n, size_t a) {
+    size_t size = size_in_units(p);
+    if (size == 0 && !is_in_units(n, a)) return answer(realloc(p, n != 0 ? n : a));
+    if (size == n) return answer(p);
+    tried moved = rattle_alloc(n, a);
+    if (!moved.ok) return moved;
+    memcpy(moved.p, p, kept);
+    rattle_dealloc(p);
+    return moved;
+}
+
+void rattle_dealloc(void *p) {
+    if ((uintptr_t)p % HEAP_UNIT != 0) {
+        free(p);
+        return;
+    }
+    pthread_mutex_lock(&lock);
+    run *its = run_of(p);
+    if (its != NULL) give_block(its, p);
+    pthread_mutex_unlock(&lock);
+    if (its == NULL) free(p);
+}
