@@ -1,27 +1,27 @@
 /*
  * heap.c: the memory of the library, as heap.h says. Nothing here is proved; c/check tests it.
  *
- * Blocks of whole units are cut from runs. A run is 256 units in one block of malloc, for blocks of
- * one size, and is freed with the last of them. aligned_alloc is no help: with glibc's a block of
- * 4,096 bytes takes twice as much, since what it keeps before a block is in the page before.
+ * Blocks of whole units are cut from runs. A run is 256 units that the system maps, for blocks of
+ * one size, and is given back with the last of them. aligned_alloc is no help: with glibc's a block
+ * of one unit takes two, since what it keeps before the block is in the unit before.
  */
-#define _POSIX_C_SOURCE 200809L /* pthread_mutex_t */
+#define _DEFAULT_SOURCE 1 /* pthread_mutex_t, MAP_ANONYMOUS */
 #include "heap.h"
 
 #include <pthread.h>
 #include <stdint.h>
 #include <stdlib.h>
 #include <string.h>
+#include <sys/mman.h>
 
-enum { RUN_BYTES = 256 * HEAP_UNIT, MALLOC_ALIGNS = 16 };
+enum { RUN_BYTES = 256 * HEAP_UNIT };
 
 typedef struct run {
-    uint8_t *at;   /* its first block */
-    void *memory;  /* what malloc answered */
-    size_t size;   /* of each block */
-    size_t cut;    /* how many blocks were ever in use: those behind them were not touched */
-    size_t used;   /* how many are in use */
-    void *freed;   /* the last of these that was freed; each of them begins with the one before */
+    uint8_t *at; /* its first block */
+    size_t size; /* of each block */
+    size_t cut;  /* how many blocks were ever in use: those behind them were not touched */
+    size_t used; /* how many are in use */
+    void *freed; /* the last of these that was freed; each of them begins with the one before */
 } run;
 
 /* The runs, in the order of their addresses. Who reads or changes them has the lock. */
@@ -66,29 +66,34 @@ static bool makes_room(void) {
     return true;
 }
 
-static run *new_run(size_t size) {
-    uint8_t *memory = malloc(RUN_BYTES + HEAP_UNIT - MALLOC_ALIGNS);
-    if (memory == NULL || !makes_room()) {
-        free(memory);
-        return NULL;
-    }
-    uint8_t *at = memory + (HEAP_UNIT - (uintptr_t)memory % HEAP_UNIT) % HEAP_UNIT;
-    recent = runs_until(at);
-    run *made = &runs[recent];
-    memmove(made + 1, made, (run_count - recent) * sizeof(run));
-    *made = (run){.at = at, .memory = memory, .size = size};
-    run_count++;
-    return made;
-}
-
-static void free_run(run *empty) {
-    free(empty->memory);
-    run_count--;
-    memmove(empty, empty + 1, (run_count - (size_t)(empty - runs)) * sizeof(run));
+static void free_if_none(void) {
     if (run_count != 0) return;
     free(runs);
     runs = NULL;
     run_room = 0;
+}
+
+static run *new_run(size_t size) {
+    if (!makes_room()) return NULL;
+    void *at = mmap(NULL, RUN_BYTES, PROT_READ | PROT_WRITE, MAP_PRIVATE | MAP_ANONYMOUS, -1, 0);
+    if (at == MAP_FAILED) {
+        free_if_none();
+        return NULL;
+    }
+    recent = runs_until(at);
+    run *made = &runs[recent];
+    memmove(made + 1, made, (run_count - recent) * sizeof(run));
+    *made = (run){.at = at, .size = size};
+    run_count++;
+    return made;
+}
+
+/* A run that the system does not take back, as it has too many mappings, is used again. */
+static void free_run(run *empty) {
+    if (munmap(empty->at, RUN_BYTES) != 0) return;
+    run_count--;
+    memmove(empty, empty + 1, (run_count - (size_t)(empty - runs)) * sizeof(run));
+    free_if_none();
 }
 
 static bool has_room(const run *it, size_t size) {

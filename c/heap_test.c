@@ -1,9 +1,9 @@
 /*
  * Tests heap.c: in place of the proved part this program takes, resizes and frees blocks, and looks
- * that no two of them overlap. It has the code of heap.c in itself, over a malloc that counts its
- * blocks, refuses one, or answers one that begins at a multiple of 4,096.
+ * that no two of them overlap. It has the code of heap.c in itself, over a malloc and an mmap that
+ * count their blocks, refuse one, or answer one that begins at a multiple of 4,096.
  */
-#define _POSIX_C_SOURCE 200809L /* sysconf, pthread_create */
+#define _DEFAULT_SOURCE 1 /* pthread_create, MAP_ANONYMOUS */
 #include <pthread.h>
 #include <stdatomic.h>
 #include <stdbool.h>
@@ -11,12 +11,13 @@
 #include <stdio.h>
 #include <stdlib.h>
 #include <string.h>
-#include <unistd.h>
+#include <sys/mman.h>
 
-/* How many blocks of malloc are in use, and how many calls from now on one fails: 0 is never. */
+/* How many blocks and mappings are in use, and how many calls from now on one fails: 0 is never. */
 static atomic_long in_use, fails_at;
-static atomic_size_t asked; /* bytes of malloc, by all calls together */
-static bool aligns;         /* malloc answers multiples of 4,096 */
+static atomic_size_t mapped; /* bytes */
+static bool aligns;          /* malloc answers multiples of 4,096 */
+static bool keeps_mappings;  /* munmap fails */
 
 static bool refuses(void) { return fails_at != 0 && --fails_at == 0; }
 
@@ -24,7 +25,6 @@ static void *counted_malloc(size_t n) {
     if (refuses()) return NULL;
     void *p = aligns ? aligned_alloc(4096, (n + 4095) / 4096 * 4096) : malloc(n);
     in_use += p != NULL;
-    asked += n;
     return p;
 }
 
@@ -40,6 +40,23 @@ static void counted_free(void *p) {
     free(p);
 }
 
+static void *counted_mmap(void *at, size_t n, int may, int how, int fd, off_t from) {
+    if (refuses()) return MAP_FAILED;
+    void *p = mmap(at, n, may, how, fd, from);
+    in_use += p != MAP_FAILED;
+    mapped += p != MAP_FAILED ? n : 0;
+    return p;
+}
+
+static int counted_munmap(void *p, size_t n) {
+    if (keeps_mappings) return -1;
+    in_use--;
+    mapped -= n;
+    return munmap(p, n);
+}
+
+#define mmap counted_mmap
+#define munmap counted_munmap
 #define malloc counted_malloc
 #define realloc counted_realloc
 #define free counted_free
@@ -47,6 +64,8 @@ static void counted_free(void *p) {
 #undef malloc
 #undef realloc
 #undef free
+#undef mmap
+#undef munmap
 
 enum { UNIT = 4096, LARGE = 16 * UNIT, MANY = 10000, LIVE = 600, STEPS = 40000, THREADS = 4 };
 
@@ -146,7 +165,24 @@ static void test_aligned_malloc(void) {
     MUST(in_use == 0 && runs == NULL);
 }
 
-/* Each call of malloc refused in turn: the answer says so, and what is there stays. */
+/* Mappings that the system does not take back are used again, for blocks of their size. */
+static void test_kept(void) {
+    block all[300], large = take(LARGE, 1);
+    for (uint32_t k = 0; k < 300; k++) all[k] = take(UNIT, k);
+    keeps_mappings = true;
+    for (uint32_t k = 0; k < 300; k++) drop(&all[k]);
+    drop(&large);
+    MUST(in_use == 4 && run_count == 3); /* and the list of the runs */
+    for (uint32_t k = 0; k < 300; k++) all[k] = take(UNIT, k);
+    large = take(LARGE, 1);
+    MUST(in_use == 4 && run_count == 3);
+    keeps_mappings = false;
+    for (uint32_t k = 0; k < 300; k++) drop(&all[k]);
+    drop(&large);
+    MUST(in_use == 0 && runs == NULL && mapped == 0);
+}
+
+/* Each call of malloc or mmap refused in turn: the answer says so, and what is there stays. */
 static void test_refusals(void) {
     for (long at = 1; at < 60; at++) {
         block all[20];
@@ -217,28 +253,30 @@ static void test_churn(void) {
 }
 
 static size_t resident(void) {
-    long unused, pages = 0;
-    FILE *file = fopen("/proc/self/statm", "r");
-    MUST(file != NULL && fscanf(file, "%ld %ld", &unused, &pages) == 2 && fclose(file) == 0);
-    return (size_t)pages * (size_t)sysconf(_SC_PAGESIZE);
+    char line[200];
+    unsigned long kilobytes = 0;
+    FILE *file = fopen("/proc/self/smaps_rollup", "r");
+    MUST(file != NULL);
+    while (kilobytes == 0 && fgets(line, sizeof line, file) != NULL)
+        sscanf(line, "Rss: %lu kB", &kilobytes);
+    fclose(file);
+    return kilobytes * 1024;
 }
 
-/* Many frames: what is asked of malloc for them, and what memory the process then has. */
+/* Many frames: what is mapped for them, what the process then has more, and what it keeps. */
 static void test_memory(bool is_plain) {
     static block all[MANY];
-    size_t bytes = (size_t)MANY * UNIT, before = resident();
-    asked = 0;
-    for (uint32_t at = 0; at < MANY; at++) {
-        all[at] = take(UNIT, at);
-        memset(all[at].p, (int)at, UNIT);
-        fill(&all[at]);
-    }
-    size_t grown = resident() - before;
-    printf("heap_test: %d blocks of %d bytes: malloc %.4f, resident %.4f of their bytes\n", MANY,
-           UNIT, (double)asked / (double)bytes, (double)grown / (double)bytes);
-    MUST(asked <= bytes / 100 * 105 && (!is_plain || grown <= bytes / 100 * 105));
+    const double bytes = (double)MANY * UNIT;
+    memset(all, 1, sizeof all);
+    size_t before = resident();
+    for (uint32_t at = 0; at < MANY; at++) all[at] = take(UNIT, at);
+    double part = (double)mapped / bytes, has = (double)(resident() - before) / bytes;
     for (uint32_t at = 0; at < MANY; at++) drop(&all[(at * 7919) % MANY]);
-    MUST(in_use == 0 && runs == NULL);
+    double left = (double)(resident() - before) / bytes;
+    printf("heap_test: %d blocks of %d bytes: %.4f of their bytes are mapped, %.4f resident; "
+           "then %.4f\n", MANY, UNIT, part, has, left);
+    MUST(part < 1.05 && mapped == 0 && in_use == 0 && runs == NULL);
+    MUST(!is_plain || (has < 1.05 && left < 0.01));
 }
 
 /* heap_test plain: also what the process has, which a sanitizer and valgrind add to. */
@@ -247,6 +285,7 @@ int main(int count, char **words) {
     test_sizes();
     test_resizes();
     test_aligned_malloc();
+    test_kept();
     test_refusals();
     test_churn();
     puts("heap_test: as expected");

@@ -155,8 +155,8 @@ enum {
  * flushes fail. A write beyond the file size limit of the process raises SIGXFSZ, and fails where that is ignored.)
  *
  * O_DIRECT: a descriptor of a device may have it where page_size is a multiple of 4,096. The memory of each page is then aligned to 4,096
- * bytes, as its place in the file is, which is enough for file systems that ask for no more. (It is cut from blocks of a megabyte, of which
- * each is freed with its last page.) With another page size the system may refuse each read (EINVAL), and that is WARM_READ_FAULT.
+ * bytes, as its place in the file is, which is enough for file systems that ask for no more. (It is no memory of malloc: the system maps
+ * it by the megabyte.) With another page size the system may refuse each read (EINVAL), and that is WARM_READ_FAULT.
  *
  * A history alone: a replica that keeps no pages, as one that gathers histories and passes them on, opens a handle with no device and one
  * frame of one byte: warm_open(&handle, replica, 1, 1, devices, 0). References, lists, frames and dumps are as ever; each warm_pin

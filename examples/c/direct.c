@@ -1,8 +1,10 @@
 /* A device whose descriptor has O_DIRECT: pages of multiples of 4,096 bytes go to the file past the system's cache, and come back.
- * direct [FOLDER] makes its file there, or in /tmp. direct memory prints how much memory a pool of 10,000 frames takes. */
+ * direct [FOLDER] makes its file there, or in /tmp. direct memory prints how much memory a pool of 10,000 frames takes, and opens it where
+ * the process may have less. */
 #define _GNU_SOURCE /* O_DIRECT, mkstemp */
 #include <errno.h>
 #include <fcntl.h>
+#include <sys/resource.h>
 
 #define PROGRAM "direct"
 #include "expect.h"
@@ -73,37 +75,60 @@ static void pages_of(size_t page_size) {
 /* Whether there is such a file; and whether one byte off a unit is refused. */
 static bool opens_file(const char *folder) {
     char path[512];
+    fill(1, UNIT);
     snprintf(path, sizeof path, "%s/warm-direct-XXXXXX", folder);
     plain = mkstemp(path);
     MUST(plain >= 0);
     direct = open(path, O_RDWR | O_DIRECT);
-    MUST(unlink(path) == 0 && ftruncate(plain, LARGE) == 0);
+    MUST(unlink(path) == 0 && write(plain, bytes, UNIT) == UNIT && fsync(plain) == 0);
     if (direct < 0) return false;
     is_strict = pread(direct, bytes + 1, UNIT, 0) < 0 && errno == EINVAL;
     return pread(direct, bytes, UNIT, 0) == UNIT;
 }
 
-static size_t resident(void) {
-    long unused, pages = 0;
-    FILE *file = fopen("/proc/self/statm", "r");
-    MUST(file != NULL && fscanf(file, "%ld %ld", &unused, &pages) == 2 && fclose(file) == 0);
-    return (size_t)pages * (size_t)sysconf(_SC_PAGESIZE);
+/* The memory that the process has, by the system's count. */
+static double resident(void) {
+    char line[200];
+    unsigned long kilobytes = 0;
+    FILE *file = fopen("/proc/self/smaps_rollup", "r");
+    MUST(file != NULL);
+    while (kilobytes == 0 && fgets(line, sizeof line, file) != NULL) sscanf(line, "Rss: %lu kB", &kilobytes);
+    fclose(file);
+    return (double)kilobytes * 1024;
 }
 
-/* What the process has more with a pool, and whether all of it is given back. */
+/* What the process has more with a pool, and what it keeps. All was used once before, so that its code is there. */
 static void memory(void) {
     const warm_device none = {0};
     const double whole = (double)MANY * UNIT;
     warm handle = {0};
     OK(warm_open(&handle, 1, 1, UNIT, &none, 0));
     warm_close(&handle);
-    size_t before = resident();
+    resident();
+    double before = resident();
     OK(warm_open(&handle, 1, MANY, UNIT, &none, 0));
-    double with = (double)(resident() - before) / whole;
+    double with = (resident() - before) / whole;
     warm_close(&handle);
-    double left = ((double)resident() - (double)before) / whole;
-    printf("direct: %d frames of %d bytes: %.4f of their bytes; %.4f after the close\n", MANY, UNIT, with, left);
-    MUST(left < 0.05);
+    double after = (resident() - before) / whole;
+    printf("direct: %d frames of %d bytes take %.4f of their bytes; %.4f after the close\n", MANY, UNIT, with, after);
+    MUST(with <= 1.05 && after < 0.01);
+}
+
+/* A process that may have no more memory than half of the pool: the call is refused, nothing is kept, and with more it succeeds. */
+static void little_memory(void) {
+    const warm_device none = {0};
+    struct rlimit all, half;
+    warm handle = {0};
+    double before = resident();
+    MUST(getrlimit(RLIMIT_AS, &all) == 0);
+    half = all;
+    half.rlim_cur = (rlim_t)MANY * UNIT / 2;
+    MUST(setrlimit(RLIMIT_AS, &half) == 0);
+    EXPECT(WARM_MEMORY, warm_open(&handle, 1, MANY, UNIT, &none, 0));
+    MUST(setrlimit(RLIMIT_AS, &all) == 0);
+    MUST(!handle.is_open && resident() - before < 0.05 * MANY * UNIT);
+    OK(warm_open(&handle, 1, MANY, UNIT, &none, 0));
+    warm_close(&handle);
 }
 
 int main(int count, char **words) {
@@ -112,6 +137,7 @@ int main(int count, char **words) {
     MUST(bytes != NULL);
     if (strcmp(folder, "memory") == 0) {
         memory();
+        little_memory();
     } else if (!opens_file(folder)) {
         printf("direct: no file of %s has O_DIRECT\n", folder);
     } else {
