@@ -22,13 +22,16 @@ typedef struct run {
     size_t cut;  /* how many blocks were ever in use: those behind them were not touched */
     size_t used; /* how many are in use */
     void *freed; /* the last of these that was freed; each of them begins with the one before */
+    /* among the runs of its size that have room, where it is one: the next, and what points here */
+    struct run *next, **link;
 } run;
 
-/* The runs, in the order of their addresses. Who reads or changes them has the lock. */
+/* The runs, in the order of their addresses; and of each size, in units, the first of those that
+ * have room. Who reads or changes them has the lock. */
 static pthread_mutex_t lock = PTHREAD_MUTEX_INITIALIZER;
-static run *runs;
+static run **runs;
 static size_t run_count, run_room;
-static size_t recent; /* the run of the last call, if it is still there */
+static run *with_room[HEAP_MOST_UNITS + 1];
 
 static char none;
 
@@ -43,7 +46,7 @@ static size_t runs_until(const void *p) {
     size_t low = 0, high = run_count;
     while (low < high) {
         size_t middle = low + (high - low) / 2;
-        if ((uintptr_t)runs[middle].at <= (uintptr_t)p) low = middle + 1;
+        if ((uintptr_t)runs[middle]->at <= (uintptr_t)p) low = middle + 1;
         else high = middle;
     }
     return low;
@@ -52,14 +55,14 @@ static size_t runs_until(const void *p) {
 /* The run that a block was cut from. */
 static run *run_of(const void *p) {
     size_t until = runs_until(p);
-    if (until == 0 || (uintptr_t)p - (uintptr_t)runs[until - 1].at >= RUN_BYTES) return NULL;
-    return &runs[until - 1];
+    if (until == 0 || (uintptr_t)p - (uintptr_t)runs[until - 1]->at >= RUN_BYTES) return NULL;
+    return runs[until - 1];
 }
 
 static bool makes_room(void) {
     if (run_count < run_room) return true;
     size_t room = run_room != 0 ? 2 * run_room : 16;
-    run *larger = realloc(runs, room * sizeof(run));
+    run **larger = realloc(runs, room * sizeof(run *));
     if (larger == NULL) return false;
     runs = larger;
     run_room = room;
@@ -73,56 +76,77 @@ static void free_if_none(void) {
     run_room = 0;
 }
 
-static run *new_run(size_t size) {
-    if (!makes_room()) return NULL;
+static bool has_room(const run *it) { return it->used < RUN_BYTES / it->size; }
+
+/* Puts a run first among those of its size that have room. */
+static void link_run(run *it) {
+    it->link = &with_room[it->size / HEAP_UNIT];
+    it->next = *it->link;
+    if (it->next != NULL) it->next->link = &it->next;
+    *it->link = it;
+}
+
+static void unlink_run(const run *it) {
+    *it->link = it->next;
+    if (it->next != NULL) it->next->link = it->link;
+}
+
+/* A run that the system maps, or NULL. */
+static run *mapped_run(size_t size) {
+    run *made = malloc(sizeof(run));
+    if (made == NULL) return NULL;
     void *at = mmap(NULL, RUN_BYTES, PROT_READ | PROT_WRITE, MAP_PRIVATE | MAP_ANONYMOUS, -1, 0);
     if (at == MAP_FAILED) {
+        free(made);
+        return NULL;
+    }
+    *made = (run){.at = at, .size = size};
+    return made;
+}
+
+static run *new_run(size_t size) {
+    if (!makes_room()) return NULL;
+    run *made = mapped_run(size);
+    if (made == NULL) {
         free_if_none();
         return NULL;
     }
-    recent = runs_until(at);
-    run *made = &runs[recent];
-    memmove(made + 1, made, (run_count - recent) * sizeof(run));
-    *made = (run){.at = at, .size = size};
+    run **place = runs + runs_until(made->at);
+    memmove(place + 1, place, (size_t)(runs + run_count - place) * sizeof(run *));
+    *place = made;
     run_count++;
+    link_run(made);
     return made;
 }
 
 /* A run that the system does not take back, as it has too many mappings, is used again. */
 static void free_run(run *empty) {
+    run **place = runs + runs_until(empty->at) - 1;
     if (munmap(empty->at, RUN_BYTES) != 0) return;
+    unlink_run(empty);
+    free(empty);
     run_count--;
-    memmove(empty, empty + 1, (run_count - (size_t)(empty - runs)) * sizeof(run));
+    memmove(place, place + 1, (size_t)(runs + run_count - place) * sizeof(run *));
     free_if_none();
 }
 
-static bool has_room(const run *it, size_t size) {
-    return it->size == size && it->used < RUN_BYTES / size;
-}
-
-/* A run with room for a block of this size: that of the last call, or the first, or a new one. */
-static run *run_with_room(size_t size) {
-    if (recent < run_count && has_room(&runs[recent], size)) return &runs[recent];
-    for (recent = 0; recent < run_count; recent++)
-        if (has_room(&runs[recent], size)) return &runs[recent];
-    return new_run(size);
-}
-
 static void *take_block(size_t size) {
-    run *from = run_with_room(size);
+    run *from = with_room[size / HEAP_UNIT];
+    if (from == NULL) from = new_run(size);
     if (from == NULL) return NULL;
     void *block = from->freed;
     if (block != NULL) from->freed = *(void **)block;
     else block = from->at + size * from->cut++;
     from->used++;
+    if (!has_room(from)) unlink_run(from);
     return block;
 }
 
 static void give_block(run *to, void *block) {
     *(void **)block = to->freed;
     to->freed = block;
+    if (!has_room(to)) link_run(to);
     to->used--;
-    recent = (size_t)(to - runs);
     if (to->used == 0) free_run(to);
 }
 

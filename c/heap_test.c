@@ -172,19 +172,34 @@ static void test_kept(void) {
     keeps_mappings = true;
     for (uint32_t k = 0; k < 300; k++) drop(&all[k]);
     drop(&large);
-    MUST(in_use == 4 && run_count == 3); /* and the list of the runs */
+    MUST(in_use == 7 && run_count == 3); /* and a note of each, and the list of the runs */
     for (uint32_t k = 0; k < 300; k++) all[k] = take(UNIT, k);
     large = take(LARGE, 1);
-    MUST(in_use == 4 && run_count == 3);
+    MUST(in_use == 7 && run_count == 3);
     keeps_mappings = false;
     for (uint32_t k = 0; k < 300; k++) drop(&all[k]);
     drop(&large);
     MUST(in_use == 0 && runs == NULL && mapped == 0);
 }
 
+/* Blocks that were freed among others, in many runs, are used again before a run is mapped. */
+static void test_holes(void) {
+    static block all[MANY];
+    for (uint32_t at = 0; at < MANY; at++) all[at] = take(UNIT, at);
+    size_t before = mapped;
+    for (uint32_t part = 2; part < 300; part += 99) {
+        for (uint32_t at = 0; at < MANY; at += part) drop(&all[at]);
+        MUST(mapped == before);
+        for (uint32_t at = 0; at < MANY; at += part) all[at] = take(UNIT, at + 1);
+        MUST(mapped == before);
+    }
+    for (uint32_t at = 0; at < MANY; at++) drop(&all[at]);
+    MUST(in_use == 0 && runs == NULL && mapped == 0);
+}
+
 /* Each call of malloc or mmap refused in turn: the answer says so, and what is there stays. */
 static void test_refusals(void) {
-    for (long at = 1; at < 60; at++) {
+    for (long at = 1; at < 120; at++) {
         block all[20];
         size_t count = 0, refused = 0;
         fails_at = at;
@@ -286,6 +301,7 @@ int main(int count, char **words) {
     test_resizes();
     test_aligned_malloc();
     test_kept();
+    test_holes();
     test_refusals();
     test_churn();
     puts("heap_test: as expected");
