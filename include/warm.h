@@ -157,7 +157,7 @@ enum {
  * O_DIRECT: a descriptor of a device may have it where page_size is a multiple of 4,096. The memory of each page is then aligned to 4,096
  * bytes, as its place in the file is, which is enough for file systems that ask for no more. (It is no memory of malloc: the system maps
  * it by the megabyte.) With another page size the system may refuse each read (EINVAL), and that is WARM_READ_FAULT. No thread forks while
- * another is in a call that reads such a device: the system may then lose what is read (BUGS and NOTES of open(2)).
+ * another is in a call: with O_DIRECT the system may then lose what is read or written (NOTES of open(2)).
  *
  * A history alone: a replica that keeps no pages, as one that gathers histories and passes them on, opens a handle with no device and one
  * frame of one byte: warm_open(&handle, replica, 1, 1, devices, 0). References, lists, frames and dumps are as ever; each warm_pin
