@@ -5,7 +5,7 @@
  * one size, and is given back with the last of them. aligned_alloc is no help: with glibc's a block
  * of one unit takes two, since what it keeps before the block is in the unit before.
  */
-#define _DEFAULT_SOURCE 1 /* pthread_mutex_t, MAP_ANONYMOUS */
+#define _DEFAULT_SOURCE 1 /* pthread_mutex_t, MAP_ANONYMOUS, madvise */
 #include "heap.h"
 
 #include <pthread.h>
@@ -119,10 +119,20 @@ static run *new_run(size_t size) {
     return made;
 }
 
-/* A run that the system does not take back, as it has too many mappings, is used again. */
+/* A run whose addresses the system does not take back, as it has too many mappings. It is used again
+ * as if it were new; until then the system has its memory. */
+static void keep_run(run *empty) {
+    if (madvise(empty->at, RUN_BYTES, MADV_DONTNEED) != 0) return;
+    empty->cut = 0;
+    empty->freed = NULL;
+}
+
 static void free_run(run *empty) {
     run **place = runs + runs_until(empty->at) - 1;
-    if (munmap(empty->at, RUN_BYTES) != 0) return;
+    if (munmap(empty->at, RUN_BYTES) != 0) {
+        keep_run(empty);
+        return;
+    }
     unlink_run(empty);
     free(empty);
     run_count--;

@@ -165,13 +165,17 @@ static void test_aligned_malloc(void) {
     MUST(in_use == 0 && runs == NULL);
 }
 
-/* Mappings that the system does not take back are used again, for blocks of their size. */
+/* Mappings that the system does not take back are used again, for blocks of their size; the memory is
+ * given back, and is then zeros. */
 static void test_kept(void) {
     block all[300], large = take(LARGE, 1);
     for (uint32_t k = 0; k < 300; k++) all[k] = take(UNIT, k);
+    const uint8_t *kept = all[0].p;
+    MUST(kept[509] == 1);
     keeps_mappings = true;
     for (uint32_t k = 0; k < 300; k++) drop(&all[k]);
     drop(&large);
+    MUST(kept[0] == 0 && kept[509] == 0);
     MUST(in_use == 7 && run_count == 3); /* and a note of each, and the list of the runs */
     for (uint32_t k = 0; k < 300; k++) all[k] = take(UNIT, k);
     large = take(LARGE, 1);
