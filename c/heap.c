@@ -119,8 +119,8 @@ static run *new_run(size_t size) {
     return made;
 }
 
-/* A run whose addresses the system does not take back, as it has too many mappings. It is used again
- * as if it were new; until then the system has its memory. */
+/* A run whose addresses the system does not take back, as it has too many mappings. It is used
+ * again as if it were new; until then the system has its memory. */
 static void keep_run(run *empty) {
     if (madvise(empty->at, RUN_BYTES, MADV_DONTNEED) != 0) return;
     empty->cut = 0;

@@ -165,8 +165,8 @@ static void test_aligned_malloc(void) {
     MUST(in_use == 0 && runs == NULL);
 }
 
-/* Mappings that the system does not take back are used again, for blocks of their size; the memory is
- * given back, and is then zeros. */
+/* Mappings that the system does not take back are used again, for blocks of their size; the memory
+ * is given back, and is then zeros. */
 static void test_kept(void) {
     block all[300], large = take(LARGE, 1);
     for (uint32_t k = 0; k < 300; k++) all[k] = take(UNIT, k);
