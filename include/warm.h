@@ -42,6 +42,11 @@
  *    longjmp, and no thread is cancelled in one.
  *  - malloc, realloc and free are of one allocator, and align a block to each power of two up to 16 that divides its size.
  * "Caller" at a function says what else it asks, and which elements its pointers have.
+ *
+ * Latches on pages are the engine's. The library has none, and its calls are made one at a time. An engine whose threads share pages keeps
+ * an array of latches of its own, one for each frame of the pool, and indexes it by slot.index: it takes the latch after warm_pin, and
+ * releases it before warm_unpin. While a page is pinned it stays in its frame: each pin of it gives the same index, and no other page has
+ * that index. warm_write_back looks at no latch: it writes a pinned page as it is at that moment.
  */
 #ifndef WARM_H
 #define WARM_H
@@ -49,6 +54,12 @@
 #include <stdbool.h>
 #include <stddef.h>
 #include <stdint.h>
+
+/* The version of the library. It is also that of warm.pc and of the shared library, whose SONAME has the first number. */
+#define WARM_VERSION_MAJOR 1
+#define WARM_VERSION_MINOR 0
+#define WARM_VERSION_PATCH 0
+#define WARM_VERSION "1.0.0"
 
 #ifdef __cplusplus
 extern "C" {
@@ -141,8 +152,16 @@ enum {
  * file, has no O_APPEND (each write would go to the end of the file, wherever the page is), and nothing else writes to a page of its
  * file that may be in a frame. A page may be in one from the warm_pin or warm_step that reads it on; of any other the handle has no copy.
  * (A descriptor that is closed or negative, that is of a pipe, or that may not be read or written does no harm: reads, writes and
- * flushes fail. O_DIRECT is not for devices: the memory of a page is not aligned for it, so the system may refuse each read (EINVAL), and
- * that is WARM_READ_FAULT. A write beyond the file size limit of the process raises SIGXFSZ, and fails where that is ignored.) */
+ * flushes fail. A write beyond the file size limit of the process raises SIGXFSZ, and fails where that is ignored.)
+ *
+ * O_DIRECT: a descriptor of a device may have it where page_size is a multiple of 4,096. The memory of each page is then aligned to 4,096
+ * bytes, as its place in the file is, which is enough for file systems that ask for no more. (It is no memory of malloc: the system maps
+ * it by the megabyte.) With another page size the system may refuse each read (EINVAL), and that is WARM_READ_FAULT. No thread forks while
+ * another is in a call: with O_DIRECT the system may then lose what is read or written (NOTES of open(2)).
+ *
+ * A history alone: a replica that keeps no pages, as one that gathers histories and passes them on, opens a handle with no device and one
+ * frame of one byte: warm_open(&handle, replica, 1, 1, devices, 0). References, lists, frames and dumps are as ever; each warm_pin
+ * returns WARM_NO_DEVICE, and warm_step and warm_victim find no page. */
 int warm_open(warm *handle, uint16_t replica, size_t frames, size_t page_size, const warm_device *devices, size_t device_count);
 
 /* Closes a handle and frees what it holds; a closed one stays closed. No page is written: what was written to pages and not written back is
@@ -245,8 +264,8 @@ int warm_history_length(warm *handle, size_t *length);
 /* Writes a dump of the history to the file of a descriptor, from byte 0 on, and syncs it (fsync). A dump is the frames of all entries and
  * then the frame of the digests; docs/FORMATS.md has its bytes. The history and the pool are as they were.
  * Refused: WARM_MEMORY, WARM_DUMP_NOT_WRITTEN. The file may then hold any part of the dump, or all of it.
- * Caller: the file is empty, is open for writing without O_APPEND, and no device of a handle; nothing else writes to it. In a file that is
- * not empty the bytes past the dump stay, and warm_load refuses them (WARM_MORE_FOLLOWS). The descriptor is not closed.
+ * Caller: the file is empty, is open for writing without O_APPEND and O_DIRECT, and no device of a handle; nothing else writes to it. In a
+ * file that is not empty the bytes past the dump stay, and warm_load refuses them (WARM_MORE_FOLLOWS). The descriptor is not closed.
  *
  * To replace a file so that after a crash it is the old one or the new one: create a new file beside it (open with O_CREAT | O_EXCL, in the
  * same folder), call warm_save, and where that returns WARM_OK, rename the new file over the old one and fsync the folder. Where it
@@ -259,8 +278,8 @@ int warm_save(warm *handle, int fd);
  * dump is the caller's own file.
  * Refused: by the first fault from left to right, WARM_BAD_MAGIC to WARM_BAD_ORDER, WARM_HORIZONS_DIFFER, WARM_DIGESTS_DIFFER,
  * WARM_MORE_FOLLOWS, WARM_CUT_SHORT; WARM_DUMP_NOT_READ, WARM_MEMORY at any point.
- * Caller: length is the size of the file (st_size of fstat), and the file, open for reading, does not change during the call. With a
- * length that is too small the dump is cut short; past the end of the file are zeros, which are no dump. */
+ * Caller: length is the size of the file (st_size of fstat), and the file, open for reading without O_DIRECT, does not change during the
+ * call. With a length that is too small the dump is cut short; past the end of the file are zeros, which are no dump. */
 int warm_load(warm *handle, int fd, uint64_t length);
 
 /* Writes the name of a status and a zero byte after it, as many bytes of both as there is room for, and the length of the name without

@@ -103,8 +103,8 @@ def formats():
 
 
 def check_version(program):
-    """The version of include/warm.pc.in, and the formats that CHANGELOG's table has."""
-    version = re.search("^Version: (.*)$", (TOP / "include/warm.pc.in").read_text(), re.MULTILINE)[1]
+    """The first two numbers of the version of include/warm.h, and the formats that CHANGELOG's table has."""
+    version = re.search(r'^#define WARM_VERSION "(\d+\.\d+)\.', (TOP / "include/warm.h").read_text(), re.MULTILINE)[1]
     read, written = formats()
     text = f"warmhist {version}\nreads frames {' and '.join(read)}\nwrites frames {' and '.join(written)}\n"
     for asked in ("--version", "-V"):

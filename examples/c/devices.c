@@ -1,5 +1,6 @@
 /* Two devices of one handle: each page goes to the file of its device, and two devices of one file are refused. And what reaches a file for
- * certain: a close syncs what was written, and a sync that failed is not forgotten. The program has an fsync of its own, which counts. */
+ * certain: a close syncs what was written, and a sync that failed is not forgotten. The program has an fsync of its own, which counts.
+ * And no device: a history alone. */
 #define _GNU_SOURCE /* mkstemp, syscall */
 #include <errno.h>
 #include <fcntl.h>
@@ -191,6 +192,71 @@ static void close_syncs(void) {
     close(second);
 }
 
+/* What the first knows, bucket by bucket, at the second, which then answers nothing to the first's digests. */
+static void tell_all(warm *first, warm *second) {
+    static uint8_t frame[32768];
+    const warm_page none = {0};
+    size_t length;
+    for (uint8_t bucket = 0; bucket < 64; bucket++) {
+        OK(warm_send(first, bucket, false, none, frame, sizeof frame, &length));
+        OK(warm_receive(second, frame, length));
+    }
+    OK(warm_offer(first, frame, sizeof frame, &length));
+    OK(warm_receive(second, frame, length));
+    OK(warm_next_answer(second, frame, sizeof frame, &length));
+    MUST(length == 0);
+}
+
+/* A pool that can have no page: none is pinned, loaded, named or written. */
+static void has_no_pages(warm *handle, warm_page known) {
+    warm_slot slot = {.generation = 1};
+    warm_page page = {.no = 99, .dev = 9};
+    uint8_t byte = 'h';
+    bool found = true;
+    EXPECT(WARM_NO_DEVICE, warm_pin(handle, known, &slot));
+    EXPECT(WARM_STALE_SLOT, warm_read(handle, slot, 0, &byte, 1));
+    EXPECT(WARM_STALE_SLOT, warm_write(handle, slot, 0, &byte, 1));
+    EXPECT(WARM_STALE_SLOT, warm_unpin(handle, slot));
+    OK(warm_step(handle, &found, &page));
+    MUST(!found);
+    found = true;
+    OK(warm_victim(handle, &found, &page));
+    MUST(!found && page.no == 99 && page.dev == 9 && byte == 'h' && slot.generation == 1);
+    OK(warm_write_back(handle));
+}
+
+/* No device, and one frame of one byte: a history alone, which hears of pages, lists them, passes them on, is saved and loaded. */
+static void history_alone(void) {
+    const warm_reference references[] = {
+        {.time = 10, .no = 7, .replica = 1}, {.time = 20, .no = 7, .replica = 1}, {.time = 30, .no = 3, .dev = 5, .replica = 1}};
+    const warm_device none = {0};
+    warm first = {0}, second = {0}, restarted = {0};
+    warm_page listed[4];
+    size_t count = 0;
+    uint64_t horizon = 0;
+    int fd = temporary();
+    OK(warm_open(&first, 1, 1, 1, &none, 0));
+    OK(warm_open(&second, 2, 1, 1, &none, 0));
+    OK(warm_open(&restarted, 2, 1, 1, &none, 0));
+    OK(warm_absorb(&first, references, 3));
+    tell_all(&first, &second);
+    OK(warm_list(&second, listed, 4, &count));
+    MUST(count == 2 && listed[0].no == 7 && listed[0].dev == 0 && listed[1].no == 3 && listed[1].dev == 5);
+    has_no_pages(&second, listed[0]);
+    OK(warm_save(&second, fd));
+    OK(warm_load(&restarted, fd, (uint64_t)lseek(fd, 0, SEEK_END)));
+    OK(warm_history_length(&restarted, &count));
+    MUST(count == 2);
+    tell_all(&restarted, &first);
+    OK(warm_horizon(&restarted, 25, &horizon));
+    OK(warm_history_length(&restarted, &count));
+    MUST(horizon == 25 && count == 1);
+    warm_close(&first);
+    warm_close(&second);
+    warm_close(&restarted);
+    close(fd);
+}
+
 int main(void) {
     two_files();
     same_file();
@@ -199,5 +265,6 @@ int main(void) {
     syncs.calls = 0;
     failed_sync();
     close_syncs();
+    history_alone();
     return end_as_expected();
 }

@@ -1,7 +1,7 @@
 //! A file descriptor of the engine. Its reads, writes and flushes are asked for by what `io` calls
 //! of C, `read` and `write`.
 //!
-//! In the library for C these two symbols are functions of c/warm_files.c, which make the calls of
+//! In the library for C these two symbols are functions of c/fd_calls.c, which make the calls of
 //! the system at once, in the same thread. A request is nine bytes that are written to the
 //! descriptor: one for its kind (1 reads, 2 writes, 3 flushes, 4 asks which file it is of), eight
 //! for the offset in its file, highest byte first.

@@ -15,8 +15,8 @@
 //! - [`warm_open`] and [`warm_close`] create and drop the node, and [`warm_status_name`] takes no
 //!   handle. Each of the other functions returns 64 on a closed handle, and changes nothing.
 //!
-//! c/warm_files.c has what is not proved: the calls of the system on the descriptors, which
-//! `descriptor` asks for.
+//! c/fd_calls.c has what is not proved: the calls of the system on the descriptors, which
+//! `descriptor` asks for. c/heap.c, where its memory is from, is not proved either.
 //!
 //! Nothing is undefined for any handle, slot or length, as long as the caller keeps what the header
 //! asks: a handle that was all zeros before its first call, and that only these functions change;

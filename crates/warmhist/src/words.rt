@@ -9,8 +9,8 @@ use warm_stamps::{MAX_REPLICAS, ReplicaId};
 /// The name of standard input as a FILE, and of standard output as OUT.
 pub const DASH: &str = "-";
 
-// What `--version` prints behind the name. The number is that of include/warm.pc.in, and stands
-// here once; CHANGELOG's table has the formats of each version.
+// What `--version` prints behind the name. The number is the first two of WARM_VERSION in
+// include/warm.h, and stands here once; CHANGELOG's table has the formats of each version.
 const VERSION: &str = "1.0
 reads frames L2G2 and L2G1
 writes frames L2G2";

@@ -1,10 +1,10 @@
 /*
- * warm_files.c: the calls of the system that the library makes, which are pread, pwrite, fsync and fstat. The proved part, crates/warm_c,
- * asks for them as warm_files.h says (crates/warm_c/src/descriptor.rt). Nothing here is proved; c/check tests it.
+ * fd_calls.c: the calls of the system that the library makes, which are pread, pwrite, fsync and fstat. The proved part, crates/warm_c,
+ * asks for them as fd_calls.h says (crates/warm_c/src/descriptor.rt). Nothing here is proved; c/check tests it.
  */
 #define _FILE_OFFSET_BITS 64
 #define _POSIX_C_SOURCE 200809L /* pread, pwrite */
-#include "warm_files.h"
+#include "fd_calls.h"
 #include "warm.h"
 
 #include <errno.h>
@@ -46,12 +46,18 @@ static request take_request(void) {
     return taken;
 }
 
-/* Past the end of the file are zeros. */
+static bool is_end(int fd, off_t at) {
+    struct stat file;
+    return fstat(fd, &file) == 0 && S_ISREG(file.st_mode) && at >= file.st_size;
+}
+
+/* Past the end of the file are zeros. With O_DIRECT a system may refuse the rest of a read that ended there, since it is not aligned. */
 static ssize_t read_file(int fd, uint8_t *into, size_t length, off_t at) {
     size_t done = 0;
     while (done < length) {
         ssize_t got = pread(fd, into + done, length - done, at + (off_t)done);
         if (got < 0 && errno == EINTR) continue;
+        if (got < 0 && errno == EINVAL && done > 0 && is_end(fd, at + (off_t)done)) got = 0;
         if (got < 0) return -1;
         if (got == 0) {
             memset(into + done, 0, length - done);
@@ -82,7 +88,7 @@ static ssize_t flush_file(int fd) {
     int status;
     do status = fsync(fd);
     while (status != 0 && errno == EINTR);
-    return status == 0 ? WARM_FILES_REQUEST : -1;
+    return status == 0 ? FD_CALLS_REQUEST : -1;
 }
 
 static void put_number(uint8_t *into, uint64_t number) {
@@ -91,34 +97,34 @@ static void put_number(uint8_t *into, uint64_t number) {
 
 static ssize_t read_identity(int fd, uint8_t *into, size_t length) {
     struct stat file;
-    if (length != WARM_FILES_IDENTITY_LENGTH) return invalid();
+    if (length != FD_CALLS_IDENTITY_LENGTH) return invalid();
     if (fstat(fd, &file) != 0) return -1;
     put_number(into, file.st_dev);
     put_number(into + 8, file.st_ino);
-    return WARM_FILES_IDENTITY_LENGTH;
+    return FD_CALLS_IDENTITY_LENGTH;
 }
 
 static ssize_t start_request(int fd, const uint8_t *bytes, size_t length) {
     uint64_t at = 0;
-    if (length != WARM_FILES_REQUEST) return invalid();
-    for (int i = 1; i < WARM_FILES_REQUEST; i++) at = at << 8 | bytes[i];
+    if (length != FD_CALLS_REQUEST) return invalid();
+    for (int i = 1; i < FD_CALLS_REQUEST; i++) at = at << 8 | bytes[i];
     if (at > INT64_MAX) return invalid();
-    if (bytes[0] == WARM_FILES_FLUSH && at == 0) return flush_file(fd);
-    if (bytes[0] != WARM_FILES_READ && bytes[0] != WARM_FILES_WRITE && (bytes[0] != WARM_FILES_IDENTITY || at != 0)) return invalid();
+    if (bytes[0] == FD_CALLS_FLUSH && at == 0) return flush_file(fd);
+    if (bytes[0] != FD_CALLS_READ && bytes[0] != FD_CALLS_WRITE && (bytes[0] != FD_CALLS_IDENTITY || at != 0)) return invalid();
     waiting = (request){.kind = bytes[0], .fd = fd, .at = (off_t)at};
-    return WARM_FILES_REQUEST;
+    return FD_CALLS_REQUEST;
 }
 
-ssize_t warm_files_read(int fd, void *into, size_t length) {
+ssize_t fd_calls_read(int fd, void *into, size_t length) {
     request asked = take_request();
-    if (asked.kind == WARM_FILES_IDENTITY && asked.fd == fd) return read_identity(fd, into, length);
-    if (asked.kind != WARM_FILES_READ || asked.fd != fd) return invalid();
+    if (asked.kind == FD_CALLS_IDENTITY && asked.fd == fd) return read_identity(fd, into, length);
+    if (asked.kind != FD_CALLS_READ || asked.fd != fd) return invalid();
     return read_file(fd, into, length, asked.at);
 }
 
-ssize_t warm_files_write(int fd, const void *from, size_t length) {
+ssize_t fd_calls_write(int fd, const void *from, size_t length) {
     request asked = take_request();
     if (asked.kind == 0) return start_request(fd, from, length);
-    if (asked.kind != WARM_FILES_WRITE || asked.fd != fd) return invalid();
+    if (asked.kind != FD_CALLS_WRITE || asked.fd != fd) return invalid();
     return write_file(fd, from, length, asked.at);
 }

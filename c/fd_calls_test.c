@@ -1,6 +1,6 @@
 /*
- * Tests warm_files.c: in place of the proved part this program makes requests, and compares the answers with what the file holds by
- * the system's own calls. It has the code of warm_files.c in itself, over calls of the system that can be made to do little at a time.
+ * Tests fd_calls.c: in place of the proved part this program makes requests, and compares the answers with what the file holds by
+ * the system's own calls. It has the code of fd_calls.c in itself, over calls of the system that can be made to do little at a time.
  */
 #define _GNU_SOURCE /* mkstemp, pipe, ftruncate */
 #define _FILE_OFFSET_BITS 64
@@ -18,10 +18,10 @@
 #include <unistd.h>
 
 /* Where most is not 0, a call moves at most that many bytes, and every other call is interrupted. Where it is to put nothing, it does, and
- * where a sync is to fail, the next one does. */
+ * where a sync is to fail, the next one does. Where reads are direct, their places are multiples of 512. */
 static struct {
     size_t most;
-    bool was_interrupted, puts_nothing, fails_sync;
+    bool was_interrupted, puts_nothing, fails_sync, is_direct;
     int syncs;
 } slow;
 
@@ -35,6 +35,10 @@ static bool interrupts(void) {
 static size_t part(size_t length) { return slow.most != 0 && slow.most < length ? slow.most : length; }
 
 static ssize_t slow_pread(int fd, void *into, size_t length, off_t at) {
+    if (slow.is_direct && at % 512 != 0) {
+        errno = EINVAL;
+        return -1;
+    }
     return interrupts() ? -1 : pread(fd, into, part(length), at);
 }
 
@@ -57,7 +61,7 @@ static int slow_fsync(int fd) {
 #define pread slow_pread
 #define pwrite slow_pwrite
 #define fsync slow_fsync
-#include "warm_files.c"
+#include "fd_calls.c"
 #undef pread
 #undef pwrite
 #undef fsync
@@ -66,7 +70,7 @@ enum { SIZE = 65536, NO_FILE = 999 };
 
 static void must(bool holds, const char *what, int line) {
     if (holds) return;
-    fprintf(stderr, "warm_files_test.c:%d: %s\n", line, what);
+    fprintf(stderr, "fd_calls_test.c:%d: %s\n", line, what);
     exit(1);
 }
 #define MUST(holds) must(holds, #holds, __LINE__)
@@ -78,16 +82,16 @@ static uint8_t page[SIZE], got[SIZE];
 static ssize_t ask(int fd, uint8_t kind, uint64_t at) {
     uint8_t request[9] = {kind};
     for (int i = 1; i < 9; i++) request[i] = (uint8_t)(at >> (64 - 8 * i));
-    return warm_files_write(fd, request, sizeof request);
+    return fd_calls_write(fd, request, sizeof request);
 }
 
 static ssize_t read_at(int fd, uint64_t at, size_t length) {
     memset(got, 0xEE, sizeof got);
-    return ask(fd, 1, at) == 9 ? warm_files_read(fd, got, length) : -2;
+    return ask(fd, 1, at) == 9 ? fd_calls_read(fd, got, length) : -2;
 }
 
 static ssize_t write_at(int fd, uint64_t at, size_t length) {
-    return ask(fd, 2, at) == 9 ? warm_files_write(fd, page, length) : -2;
+    return ask(fd, 2, at) == 9 ? fd_calls_write(fd, page, length) : -2;
 }
 
 static bool is_filled(const uint8_t *bytes, size_t length, uint8_t with) {
@@ -103,7 +107,7 @@ static bool holds(int fd, off_t at, const uint8_t *bytes, size_t length) {
 }
 
 static int new_file(void) {
-    char path[] = "/tmp/warm-files-XXXXXX";
+    char path[] = "/tmp/fd-calls-XXXXXX";
     int fd = mkstemp(path);
     MUST(fd >= 0 && unlink(path) == 0);
     return fd;
@@ -143,7 +147,26 @@ static void test_slow_calls(void) {
     close(fd);
 }
 
-static bool gets_identity(int fd, uint8_t *into) { return ask(fd, 4, 0) == 9 && warm_files_read(fd, into, 16) == 16; }
+/* Where reads are direct, a page that the end of the file is in is read whole, and another rest that is refused is a read that fails. */
+static void test_direct(void) {
+    int fd = new_file(), ends[2];
+    MUST(pipe(ends) == 0 && write_at(fd, 0, 5000) == 5000);
+    slow.is_direct = true;
+    MUST(read_at(fd, 4096, 4096) == 4096 && memcmp(got, page + 4096, 904) == 0 && is_filled(got + 904, 4096 - 904, 0) && got[4096] == 0xEE);
+    MUST(read_at(fd, 8192, 4096) == 4096 && is_filled(got, 4096, 0));
+    FAILS(read_at(fd, 100, 4096), EINVAL);
+    FAILS(read_at(fd, 5100, 4096), EINVAL);
+    FAILS(read_at(ends[0], 0, 4096), ESPIPE);
+    slow.most = 1000;
+    FAILS(read_at(fd, 0, 4096), EINVAL);
+    slow.most = 0;
+    slow.is_direct = false;
+    close(ends[0]);
+    close(ends[1]);
+    close(fd);
+}
+
+static bool gets_identity(int fd, uint8_t *into) { return ask(fd, 4, 0) == 9 && fd_calls_read(fd, into, 16) == 16; }
 
 /* Descriptors of one file give one identity, whichever they are, and another file has another. */
 static void test_identities(void) {
@@ -163,9 +186,9 @@ static void test_identities(void) {
     MUST(gets_identity(other, again) && memcmp(first, again, 16) != 0);
     MUST(gets_identity(ends[0], pair) && memcmp(first, pair, 16) != 0);
     MUST(close(third) == 0 && ask(third, 4, 0) == 9); /* a request is no call of the system */
-    FAILS(warm_files_read(third, again, 16), EBADF);
+    FAILS(fd_calls_read(third, again, 16), EBADF);
     MUST(ask(-1, 4, 0) == 9);
-    FAILS(warm_files_read(-1, again, 16), EBADF);
+    FAILS(fd_calls_read(-1, again, 16), EBADF);
     close(ends[0]);
     close(ends[1]);
     close(second);
@@ -201,7 +224,7 @@ static void test_descriptors(void) {
     FAILS(write_at(reader, 0, 512), EBADF); /* not open for writing */
     /* closed between the request and its data */
     MUST(ask(fd, 1, 0) == 9 && close(fd) == 0);
-    FAILS(warm_files_read(fd, got, 512), EBADF);
+    FAILS(fd_calls_read(fd, got, 512), EBADF);
     close(ends[0]);
     close(ends[1]);
     close(full);
@@ -230,10 +253,10 @@ static void is_as_ever(int fd) {
 
 static void test_order(void) {
     int fd = new_file(), other = new_file();
-    FAILS(warm_files_read(fd, got, 512), EINVAL); /* no request before */
-    FAILS(warm_files_write(fd, page, 512), EINVAL);
-    FAILS(warm_files_write(fd, page, 8), EINVAL);
-    FAILS(warm_files_write(fd, page, 0), EINVAL);
+    FAILS(fd_calls_read(fd, got, 512), EINVAL); /* no request before */
+    FAILS(fd_calls_write(fd, page, 512), EINVAL);
+    FAILS(fd_calls_write(fd, page, 8), EINVAL);
+    FAILS(fd_calls_write(fd, page, 0), EINVAL);
     FAILS(ask(fd, 0, 0), EINVAL); /* no such kind */
     FAILS(ask(fd, 5, 0), EINVAL);
     FAILS(ask(fd, 255, 0), EINVAL);
@@ -241,29 +264,29 @@ static void test_order(void) {
     FAILS(ask(fd, 4, 1), EINVAL); /* nor has an identity */
     is_as_ever(fd);
     MUST(ask(fd, 1, 0) == 9); /* a read asked for, and a write made */
-    FAILS(warm_files_write(fd, page, 512), EINVAL);
-    FAILS(warm_files_read(fd, got, 512), EINVAL);
+    FAILS(fd_calls_write(fd, page, 512), EINVAL);
+    FAILS(fd_calls_read(fd, got, 512), EINVAL);
     is_as_ever(fd);
     MUST(ask(fd, 2, 0) == 9); /* a write asked for, and a read made */
-    FAILS(warm_files_read(fd, got, 512), EINVAL);
-    FAILS(warm_files_write(fd, page, 512), EINVAL);
+    FAILS(fd_calls_read(fd, got, 512), EINVAL);
+    FAILS(fd_calls_write(fd, page, 512), EINVAL);
     is_as_ever(fd);
     MUST(ask(fd, 1, 0) == 9); /* of another descriptor */
-    FAILS(warm_files_read(other, got, 512), EINVAL);
+    FAILS(fd_calls_read(other, got, 512), EINVAL);
     MUST(ask(fd, 2, 0) == 9);
-    FAILS(warm_files_write(other, page, 512), EINVAL);
+    FAILS(fd_calls_write(other, page, 512), EINVAL);
     MUST(lseek(other, 0, SEEK_END) == 0);
     is_as_ever(fd);
     MUST(ask(fd, 4, 0) == 9); /* an identity asked for, and a write made */
-    FAILS(warm_files_write(fd, page, 16), EINVAL);
-    FAILS(warm_files_read(fd, got, 16), EINVAL);
+    FAILS(fd_calls_write(fd, page, 16), EINVAL);
+    FAILS(fd_calls_read(fd, got, 16), EINVAL);
     MUST(ask(fd, 4, 0) == 9); /* of another descriptor */
-    FAILS(warm_files_read(other, got, 16), EINVAL);
+    FAILS(fd_calls_read(other, got, 16), EINVAL);
     is_as_ever(fd);
     MUST(ask(fd, 4, 0) == 9); /* of another length */
-    FAILS(warm_files_read(fd, got, 15), EINVAL);
+    FAILS(fd_calls_read(fd, got, 15), EINVAL);
     MUST(ask(fd, 4, 0) == 9);
-    FAILS(warm_files_read(fd, got, 17), EINVAL);
+    FAILS(fd_calls_read(fd, got, 17), EINVAL);
     is_as_ever(fd);
     MUST(ask(fd, 1, 0) == 9); /* a request before the last has its data */
     FAILS(ask(fd, 3, 0), EINVAL);
@@ -287,7 +310,7 @@ static void test_places(void) {
 /* Another thread's request is not this one's. */
 static void *other_thread(void *of) {
     int fd = *(int *)of;
-    FAILS(warm_files_write(fd, page, 512), EINVAL);
+    FAILS(fd_calls_write(fd, page, 512), EINVAL);
     MUST(ask(fd, 3, 0) == 9);
     return NULL;
 }
@@ -297,7 +320,7 @@ static void test_threads(void) {
     pthread_t thread;
     MUST(ask(fd, 2, 0) == 9);
     MUST(pthread_create(&thread, NULL, other_thread, &fd) == 0 && pthread_join(thread, NULL) == 0);
-    MUST(warm_files_write(fd, page, 512) == 512 && holds(fd, 0, page, 512));
+    MUST(fd_calls_write(fd, page, 512) == 512 && holds(fd, 0, page, 512));
     close(fd);
 }
 
@@ -305,6 +328,7 @@ int main(void) {
     for (size_t at = 0; at < SIZE; at++) page[at] = (uint8_t)(at % 251 + 1);
     test_file();
     test_slow_calls();
+    test_direct();
     test_identities();
     test_failed_sync();
     test_descriptors();
@@ -312,6 +336,6 @@ int main(void) {
     test_order();
     test_places();
     test_threads();
-    puts("warm_files_test: as expected");
+    puts("fd_calls_test: as expected");
     return 0;
 }

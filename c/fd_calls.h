@@ -1,0 +1,30 @@
+/*
+ * fd_calls.h: what the proved part of the library calls in place of read and write. scripts/c-library renames these two symbols in the
+ * archive that rt makes of crates/warm_c, so that a descriptor of the engine is reached here alone.
+ *
+ * A request is nine bytes that are written to a descriptor: one for its kind, eight for the place in the file, highest byte first.
+ *  - FD_CALLS_READ: the next call is a read of the same descriptor. It fills its buffer from that place on, with zeros past the
+ *    end of the file.
+ *  - FD_CALLS_WRITE: the next call is a write to the same descriptor. It puts its bytes at that place.
+ *  - FD_CALLS_FLUSH: the file is synced while the request is written. Its place is 0.
+ *  - FD_CALLS_IDENTITY: the next call is a read of the same descriptor, of FD_CALLS_IDENTITY_LENGTH bytes: st_dev and st_ino of fstat, eight
+ *    bytes each, highest byte first. All descriptors of one file give the same. Two device nodes of one block device do not. Its place is 0.
+ *
+ * A call does all that is asked of it and returns its length, or returns -1 with errno. A call that is no request, and that does not
+ * belong to the one before it, fails with EINVAL. Each call ends the request before it, also a call that fails. Each thread has
+ * requests of its own.
+ *
+ * The proof assumes less, and what C says of read and write: a call returns -1 or at most its length, and touches nothing but its buffer.
+ */
+#ifndef FD_CALLS_H
+#define FD_CALLS_H
+
+#include <stddef.h>
+#include <sys/types.h>
+
+enum { FD_CALLS_READ = 1, FD_CALLS_WRITE = 2, FD_CALLS_FLUSH = 3, FD_CALLS_IDENTITY = 4, FD_CALLS_REQUEST = 9, FD_CALLS_IDENTITY_LENGTH = 16 };
+
+ssize_t fd_calls_read(int fd, void *into, size_t length);
+ssize_t fd_calls_write(int fd, const void *from, size_t length);
+
+#endif
