@@ -91,10 +91,10 @@ fn take_reference(
     ensures whole { AreKept maps.new }
     ensures err { OnErr result (maps.new ≡ maps.old) }
 {
-    let Some(recent) = Packed::once(reference.stamp).cut_before(horizon) else {
+    let Some(mut recent) = Packed::once(reference.stamp).cut_before(horizon) else {
         return Ok(BucketSet::new());
     };
-    let Some(_note) = maps.record(reference.page, recent, false)? else {
+    let Some(_change) = maps.record(reference.page, &mut recent, false)? else {
         return Ok(BucketSet::new());
     };
     Ok(BucketSet::new().with(bucket_of(reference.page)))
@@ -173,12 +173,14 @@ fn take(
     ensures whole { AreKept maps.new }
 {
     undo.reserve(1)?;
-    let Some(note) = maps.record(page, more, likely_new)? else {
+    let mut hist = more;
+    let Some(change) = maps.record(page, &mut hist, likely_new)? else {
         return Ok(Outcome {
             changed: BucketSet::new(),
             is_new: false,
         });
     };
+    let note = UndoNote::new(page, change, hist);
     let is_new = note.hist.is_none();
     undo.push_reserved(note);
     Ok(Outcome {
