@@ -14,7 +14,7 @@ ghost use Rattle.warm_history.specs.MapPairs.{as_entries};
 ghost use Rattle.warm_history.specs.BucketMaps.{KeysAscend, RecordsStamps, found};
 ghost use Rattle.warm_history.specs.Merges.{after_page};
 ghost use Rattle.warm_history.specs.NearPairs.{full, widened, IsMapOf, IsBare};
-ghost use Rattle.warm_history.specs.Undo.{note_of, noted, put_back};
+ghost use Rattle.warm_history.specs.Undo.{noted, put_back};
 ghost use Rattle.warm_history.specs.Walks.{AreTwoLatest, TellsChange, merged};
 
 use crate::hist::Entry;
@@ -47,21 +47,6 @@ pub(crate) enum Change {
 pub(crate) struct UndoNote {
     pub(crate) page: PageId,
     pub(crate) hist: Option<Packed>,
-}
-
-impl UndoNote {
-    // The note of a change of a page; where it was known, this was known of it.
-    pub(crate) fn new(page: PageId, change: Change, before: Packed) -> UndoNote
-        ensures { result ≡ note_of page change before }
-    {
-        match change {
-            Change::New => UndoNote { page, hist: None },
-            Change::Known => UndoNote {
-                page,
-                hist: Some(before),
-            },
-        }
-    }
 }
 
 // The pages of a bucket.

@@ -204,6 +204,7 @@ fn is_before(time: u64, replica: u32, than_time: u64, than_replica: u32) -> bool
 
 // Merges more stamps into the history of a page, puts the old history in their place, and returns
 // whether it changes.
+#[inline]
 pub(crate) fn merge_into(known: &mut Packed, more: &mut Packed) -> bool
     ensures now { Some known.new ≡ latest_of (hist_stamps more.old ++ hist_stamps known.old) }
     ensures before { more.new ≡ known.old }

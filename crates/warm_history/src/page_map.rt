@@ -1,5 +1,7 @@
 //! One of the two maps of a bucket: what is known of pages at keys of one type.
-ghost use Rattle.std.specs.Prelude.{◌≡◌, ◌+◌, ◌<◌, length, IfOk, OnErr};
+ghost use Rattle.std.specs.BTreeMap.{is_at};
+ghost use Rattle.std.specs.Map.{lookup};
+ghost use Rattle.std.specs.Prelude.{◌≡◌, ◌+◌, ◌<◌, length, IfOk, None, OnErr, OnOk, Some};
 ghost use Rattle.warm_history.specs.BucketMaps.{ChangesAt};
 ghost use Rattle.warm_history.specs.Cuts.{cut_at};
 ghost use Rattle.warm_history.specs.Undo.{put_back_at};
@@ -76,12 +78,29 @@ fn record_likely_known<K: Ord + Copy>(
         }
         return Ok(None);
     }
+    record_new(map, key, more)?;
+    Ok(Some(Change::New))
+}
+
+// The same for a page that is not in the map. A call of its own: a function clears the room of its
+// locals when it is entered, and this one's are large.
+fn record_new<K: Ord + Copy>(
+    map: &mut BTreeMap<K, Packed>,
+    key: K,
+    more: &Packed,
+) -> Result<(), AllocError>
+    requires { lookup (is_at (K.cmp key)) map.old.entries ≡ None }
+    ensures ok { OnOk result
+        (ChangesAt K.cmp map.old.entries key more.now (Some Change.New) more.now map.new.entries) }
+    ensures err { OnErr result (map.new.entries ≡ map.old.entries) }
+    ensures small { length map.old.entries < MAX_PAIRS → length map.new.entries < MAX_PAIRS }
+{
     if map.len() >= MAX_PAIRS - 1 {
         return Err(AllocError);
     }
     prove_two_latest(more);
     map.insert(key, *more)?;
-    Ok(Some(Change::New))
+    Ok(())
 }
 
 // Restores what was known of a page with this key. Allocation-free.

@@ -1,7 +1,9 @@
-use Rattle.std.proofs.Common.{ap, ◌∙◌, sym, refl, Some, ◌++◌}
-use Rattle.std.specs.Map.{set_value}
-use Rattle.std.specs.BTreeMap.{is_at, insert_entry}
+use Rattle.std.proofs.Common.{ap, ◌∙◌, sym, subst, refl, Some, ◌++◌}
+use Rattle.std.specs.Map.{lookup, set_value}
+use Rattle.std.specs.BTreeMap.{is_at}
 use Rattle.std.proofs.lemmas.Map.Steps.{set_value_same}
+use Rattle.warm_history.specs.declared.bucket_map.Change.TheVariants.{New}
+use Rattle.warm_history.specs.BucketMaps.{ChangesAt}
 use Rattle.warm_history.specs.Histories.{hist_stamps, known_stamps, latest_of}
 use Rattle.warm_history.proofs.RecordLemmas.{set_there}
 use Rattle.warm_history.proofs.page_map.record_likely_known.Goals as goal
@@ -39,13 +41,11 @@ returns-then-merge_into-clause-ok g c = λ page.
     )
 
 -- it is new
+pub record_new-requires : goal.record_new-requires
+record_new-requires g c = ap (λ m. lookup (is_at (g.K.Ord.cmp c.args.key)) m.entries) c.get_mut.follows.holds-at-none ∙ sym c.in_default.ensures.value
+
 pub returns-clause-ok : goal.returns-clause-ok
-returns-clause-ok g c = λ page.
-    let h = c.args.more.now in
+returns-clause-ok g c =
     let kept = ap (λ m. m.entries) c.get_mut.follows.holds-at-none in
-    let key = c.args.key in (
-      h,
-      c.prove_two_latest.ensures ∙ ap (λ k. latest_of (hist_stamps c.args.more.now ++ known_stamps k)) c.in_default.ensures.value,
-      c.in_ok-insert.ensures.entries ∙ ap (λ es. insert_entry g.K.Ord.cmp es key h) kept,
-      (refl, c.in_default.ensures.value, λ same. absurd (cc)),
-    )
+    let more = c.args.more.now in
+    subst (λ es. ChangesAt g.K.Ord.cmp es c.args.key more (Some New) more c.record_new.new.map.entries) kept c.in_ok-record_new.ensures.ok

@@ -1,4 +1,4 @@
-use Rattle.std.proofs.Common.{ℕ, [], ◌∷◌, ◌++◌, ◌^◌, ◌<◌, arith, ap, subst, sym, ◌∙◌}
+use Rattle.std.proofs.Common.{ℕ, ◌^◌, ◌<◌, arith, ap, subst, sym, ◌∙◌}
 use Rattle.std.specs.Prelude.{bit_or}
 use Rattle.warm_stamps.specs.Buckets.{page_bucket}
 use Rattle.warm_history.specs.MapKeys.{key_of_page, page_of_key}
@@ -18,8 +18,7 @@ returns-clause-undo c =
     let notes : _ = c.reserve.new.self.items in
     let page = c.args.page in
     let after = c.record.new.more in
-    ap (λ u. undone u new) c.push_reserved.ensures.items
-    ∙ ap (λ k. undone (notes ++ k ∷ []) new) c.new-note.ensures
+    ap (λ u. undone u new) c.push_note.ensures
     ∙ undone_more notes _ (note_of page c.in-Some.change after) old new (ap (λ x. noted page x after) c.in-Some.is) c.in_ok-change.ensures.undo
     ∙ ap (λ u. undone u old) c.reserve.ensures.items
 
