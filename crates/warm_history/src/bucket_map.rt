@@ -14,7 +14,7 @@ ghost use Rattle.warm_history.specs.MapPairs.{as_entries};
 ghost use Rattle.warm_history.specs.BucketMaps.{KeysAscend, RecordsStamps, found};
 ghost use Rattle.warm_history.specs.Merges.{after_page};
 ghost use Rattle.warm_history.specs.NearPairs.{full, widened, IsMapOf, IsBare};
-ghost use Rattle.warm_history.specs.Undo.{put_back};
+ghost use Rattle.warm_history.specs.Undo.{noted, put_back};
 ghost use Rattle.warm_history.specs.Walks.{AreTwoLatest, TellsChange, merged};
 
 use crate::hist::Entry;
@@ -32,6 +32,15 @@ use warm_stamps::{BUCKETS, PageId};
 // Each of the two maps of a bucket has fewer pairs than this, 2^57, so that the count of all pairs
 // does not overflow. No memory holds as many.
 pub(crate) const MAX_PAIRS: usize = 1 << 57;
+
+// How a page changes.
+#[derive(Debug, Clone, Copy)]
+pub(crate) enum Change {
+    // Nothing was known of it.
+    New,
+    // Something else was known of it.
+    Known,
+}
 
 // What was known of a page before that changed.
 #[derive(Debug, Clone, Copy)]
@@ -84,25 +93,26 @@ impl BucketMap {
         self.far.get(&key_of_page(page)).copied()
     }
 
-    // Takes in the given stamps of a page of this bucket, and returns what was known of it where
-    // that changes.
+    // Takes in the given stamps of a page of this bucket, and returns how that changes the page.
+    // What was known of it is put in the place of the stamps.
     pub(crate) fn record(
         &mut self,
         page: PageId,
-        more: Packed,
+        more: &mut Packed,
         likely_new: bool,
-    ) -> Result<Option<UndoNote>, AllocError>
+    ) -> Result<Option<Change>, AllocError>
         requires { IsMapOf (page_bucket page) self.old }
-        ensures ok { IfOk result (λ note. RecordsStamps (full (page_bucket page) self.old)
-            page (key_of_page page) more note (full (page_bucket page) self.new)) }
+        ensures ok { IfOk result (λ change. RecordsStamps (full (page_bucket page) self.old) page
+            (key_of_page page) more.old (noted page change more.new)
+            (full (page_bucket page) self.new)) }
         ensures err { OnErr result
             (full (page_bucket page) self.new ≡ full (page_bucket page) self.old) }
         ensures map { IsMapOf (page_bucket page) self.new }
     {
         if page.dev < NEAR_DEVICES {
-            return record_in(&mut self.near, near_key(page), page, more, likely_new);
+            return record_in(&mut self.near, near_key(page), more, likely_new);
         }
-        record_in(&mut self.far, key_of_page(page), page, more, likely_new)
+        record_in(&mut self.far, key_of_page(page), more, likely_new)
     }
 
     // Takes in a run of near pairs of this bucket, whose number this is, and returns whether that

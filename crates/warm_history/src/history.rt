@@ -203,8 +203,8 @@ impl History {
     /// buckets whose entries changed.
     ///
     /// Time grows with the batch, and with the logarithm of the number of pages. `AllocError`
-    /// occurs where the allocation of the undo list (the old values of the batch's pages) or of a
-    /// new page fails, and changes nothing.
+    /// occurs where the allocation of a new page fails or, in a batch of two references or more,
+    /// that of the undo list (the old values of the batch's pages), and changes nothing.
     pub fn absorb(&mut self, batch: &[Reference]) -> Result<BucketSet, AllocError>
         ensures ok { OnOk result (TakesIn self.old (set_of_list batch.now) self.new) }
         ensures exact { OnOk result

@@ -230,9 +230,10 @@ fn add_change(
         → AddsPart (Some before) key more changed.old.items fresh changed.new.items fresh) }
 {
     let mut now = before;
-    let Some(_before) = merge_into(&mut now, more) else {
+    let mut exchanged = more;
+    if !merge_into(&mut now, &mut exchanged) {
         return Ok(());
-    };
+    }
     changed.push((key, now))?;
     Ok(())
 }
