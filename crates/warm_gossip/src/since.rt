@@ -51,7 +51,8 @@ impl<D: PageDevice> Node<D> {
         ensures refused { IfErr result (λ why. why ≡ Memory) }
     {
         let history = self.history.history();
-        let Portion { entries, more } = history.entries_since(bucket, since, after, MAX_ENTRIES)?;
+        let portion = history.entries_since(bucket, since, after, MAX_ENTRIES)?;
+        let Portion { entries, more } = portion;
         let message = Message::Entries {
             sender: self.id,
             horizon: history.horizon(),

@@ -6,6 +6,7 @@ use Rattle.std.specs.Ordering.{flip_args, is_lt, on}
 use Rattle.std.specs.declared.cmp.Ordering.TheVariants.{Less, Equal, Greater}
 use Rattle.std.proofs.lemmas.Bool.Decides.{nat_tests}
 use Rattle.std.proofs.lemmas.Cmp.{tied_itself}
+use Rattle.std.proofs.lemmas.Option.{same_Some}
 use Rattle.std.proofs.lemmas.List.Elements.{All-contains, All-from_recursion, Contains-append_cases, Contains-append_right, Contains-get_or, Contains-push_cases}
 use Rattle.warm_stamps.specs.declared.PageId.{PageId}
 use Rattle.warm_stamps.specs.declared.Reference.{Reference}
@@ -123,15 +124,16 @@ kept_by_lesser : (a b : ℕ) (s : Stamp) → is_kept (max a b) s ≡ true → is
 kept_by_lesser a b s is = grind (arith, nat_tests)
 
 module _ (S T : ReferenceSet) (since : ℕ) (es : List Entry) (before : HasBefore since S T) (are : AreSince since (history S) es) where
-  abbrev held : List Reference
+  held : List Reference
   held = list_references_of (entries_of (history S))
 
-  abbrev given : List Reference
+  given : List Reference
   given = list_references_of es
 
   -- a reference that the history holds is brought, or was there
   brought : (r : Reference) → IsIn r held → is_kept (max T.horizon S.horizon) r.stamp ≡ true
       → IsIn r (T.given ++ given)
+  unfolding history held given
   brought r here kept =
       let of = in_entry r (entries_of (history S)) here in
       let e = of.0 in
@@ -148,6 +150,7 @@ module _ (S T : ReferenceSet) (since : ℕ) (es : List Entry) (before : HasBefor
 
   same : SameReferences (T ∪ references_of (history_of_entries_at S.horizon es))
       (T ∪ references_of (history S))
+  unfolding history held given
   same =
       let horizons = horizon-history S in
       record {
@@ -182,7 +185,7 @@ all_after q (x ∷ es) all = rw all.0 (ap (λ t. x ∷ t) (all_after q es all.1)
 at_index : (P : Entry → Type 0) (es : List Entry) (k : ℕ) (e : Entry) → AllByRecursion P es
     → slice_get es k ≡ Some e → P e
 at_index P [] k e all is = let no : None ≡ Some e = is in absurd (cc)
-at_index P (x ∷ es) zero e all is = let same : x ≡ e = cc in subst P same all.0
+at_index P (x ∷ es) zero e all is = let same : x ≡ e = same_Some x e is in subst P same all.0
 at_index P (x ∷ es) (suc k) e all is = at_index P es k e all.1 is
 
 -- of rising entries those after the page of one are those behind it
@@ -190,7 +193,7 @@ behind : (es : List Entry) (k : ℕ) (e : Entry) → PagesAscend es → slice_ge
     → after_page e.page es ≡ drop (suc k) es
 behind [] k e rise is = let no : None ≡ Some e = is in absurd (cc)
 behind (x ∷ es) zero e rise is =
-    let same : x ≡ e = cc in
+    let same : x ≡ e = same_Some x e is in
     subst (λ (y : Entry). after_page y.page (x ∷ es) ≡ es) same (rw (tied_itself page_order.total x.page) (all_after x.page es rise.0))
 behind (x ∷ es) (suc k) e rise is =
     let less : page_cmp x.page e.page ≡ Less = at_index (λ y. page_cmp x.page y.page ≡ Less) es k e rise.0 is in
@@ -202,8 +205,8 @@ less_is q p is = cases (page_cmp q p) refl is
   where
     cases : (o : _) → page_cmp q p ≡ o → is_lt o ≡ true → page_cmp q p ≡ Less
     cases Less e lt = e
-    cases Equal e lt = absurd (cc)
-    cases Greater e lt = absurd (cc)
+    cases Equal e lt = let never : false ≡ true = lt in absurd (cc)
+    cases Greater e lt = let never : false ≡ true = lt in absurd (cc)
 
 after_too : (after : Option PageId) (q p : PageId) → comes_after after q ≡ true
     → is_lt (page_cmp q p) ≡ true → comes_after after p ≡ true

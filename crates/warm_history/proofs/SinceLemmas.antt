@@ -1,8 +1,10 @@
 -- What is taken of a bucket since a time is the history of what is carried since then.
-use Rattle.std.proofs.Common.{◌≡◌, ℕ, Bool, true, false, cond, is_some, List, [], ◌∷◌, take, filter, map, sym, ap, refl, ◌∙◌, Option, Some, None}
+use Rattle.std.proofs.Common.{◌≡◌, ℕ, ◌<◌, ◌≤◌, Bool, true, false, cond, is_some, List, [], ◌∷◌, ◌++◌, length, take, drop, filter, map, sym, ap, refl, ◌∙◌, Option, Some, None, append_assoc, append-nil, arith, IsTrue}
+use Rattle.std.specs.Prelude.{◌↔◌}
 use Rattle.std.specs.List.{cons_option, list_any}
 use Rattle.std.specs.Option.{option_map}
 use Rattle.std.specs.Ordering.{is_eq}
+use Rattle.std.proofs.lemmas.List.{length-drop, take_at, drop_at, take_all, drop_all}
 use Rattle.warm_stamps.specs.declared.PageId.{PageId}
 use Rattle.warm_stamps.specs.declared.Reference.{Reference}
 use Rattle.warm_stamps.specs.Stamps.{page_cmp}
@@ -70,3 +72,29 @@ history-since S bucket since after limit =
     ∙ list-since (references S) bucket since after limit
     ∙ ap list_history (sym (references-those test S))
     ∙ sym (entries-history (carried_since S bucket since after limit))
+
+-- ---- a portion, entry by entry
+
+-- one entry more is taken
+pub taken_more : (taken ahead left all : List Entry) (e : Entry) → taken ++ ahead ≡ all
+    → ahead ≡ e ∷ left → (taken ++ e ∷ []) ++ left ≡ all
+taken_more taken ahead left all e is first = append_assoc taken (e ∷ []) left ∙ ap (λ (l : List Entry). taken ++ l) (sym first) ∙ is
+
+-- as many are taken as are wanted
+pub taken_enough : (n : ℕ) (taken ahead all : List Entry) → taken ++ ahead ≡ all → length taken ≡ n
+    → (taken ≡ take n all) × (ahead ≡ drop n all)
+taken_enough n taken ahead all is len = (sym (ap (take n) (sym is) ∙ take_at taken ahead n len), sym (ap (drop n) (sym is) ∙ drop_at taken ahead n len))
+
+-- all are taken
+pub taken_all : (n : ℕ) (taken ahead left all : List Entry) → taken ++ ahead ≡ all → ahead ≡ []
+    → left ≡ [] → length taken ≤ n → (taken ≡ take n all) × (left ≡ drop n all)
+taken_all n taken ahead left all is none over few =
+    let whole : taken ≡ all = sym (append-nil taken) ∙ ap (λ (l : List Entry). taken ++ l) (sym none) ∙ is in
+    (sym (ap (take n) (sym whole) ∙ take_all n taken few), over ∙ sym (ap (drop n) (sym whole) ∙ drop_all n taken few))
+
+-- some are left where there are more than are wanted
+pub left_more : (n : ℕ) (all left : List Entry) (b : Bool) → (IsTrue b ↔ 0 < length left)
+    → left ≡ drop n all → IsTrue b ↔ n < length all
+left_more n all left b is rest =
+    let count : length left ≡ length (drop n all) = ap (λ (l : List Entry). length l) rest in
+    (λ more. let some : 0 < length left = is.0 more in omega (arith, length-drop n all, count, some), λ lt. is.1 (omega (arith, length-drop n all, count, lt)))

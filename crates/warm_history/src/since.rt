@@ -1,6 +1,5 @@
 //! What a bucket has since a time, in portions: who has sent a bucket before sends what is new.
-ghost use Rattle.std.specs.Prelude.{◌≡◌, ◌<◌, ◌↔◌, [], ◌∷◌, ◌++◌, drop, false, length, take};
-ghost use Rattle.std.specs.Prelude.{IfOk, IsTrue, OnOk};
+ghost use Rattle.std.specs.Prelude.{◌≡◌, ◌<◌, ◌↔◌, drop, length, take, IfOk, IsTrue, OnOk};
 ghost use Rattle.std.specs.Iterator.{YieldsFirst};
 ghost use Rattle.warm_history.specs.KeptEntries.{is_recent};
 ghost use Rattle.warm_history.specs.Since.{recent_entries};
@@ -33,8 +32,10 @@ pub(crate) fn portion_since(
         ↔ limit < length (recent_entries since ahead.entry)) }
 {
     let entries = first_since(alloc, &mut ahead, since, limit)?;
-    let more = has_next(&mut ahead, since);
-    Ok(Portion { entries, more })
+    Ok(Portion {
+        entries,
+        more: has_next(&mut ahead, since),
+    })
 }
 
 // Takes the first `limit` of the entries ahead whose latest stamp is not before the time.
@@ -51,32 +52,13 @@ fn first_since(
 {
     let mut entries = Vec::new(alloc);
     while entries.len() < limit {
-        if !push_next(&mut entries, ahead, since)? {
-            return Ok(entries);
+        match next_since(ahead, since) {
+            // Taken apart, since the toolchain has no proof of an entry that is moved whole here.
+            Some(Entry { page, hist }) => entries.push(Entry { page, hist })?,
+            None => return Ok(entries),
         }
     }
     Ok(entries)
-}
-
-// Adds the first of the entries ahead whose latest stamp is not before the time, and returns
-// whether there was one.
-fn push_next(
-    entries: &mut Vec<Entry>,
-    ahead: &mut BucketEntries<'_>,
-    since: u64,
-) -> Result<bool, AllocError>
-    ensures taken { IfOk result (λ there. IsTrue there → (e : Entry)
-        × (entries.new.items ≡ entries.old.items ++ e ∷ [])
-        × (recent_entries since ahead.old ≡ e ∷ recent_entries since ahead.new)) }
-    ensures none { IfOk result (λ there. there ≡ false →
-        (entries.new.items ≡ entries.old.items) × (recent_entries since ahead.old ≡ [])
-        × (recent_entries since ahead.new ≡ [])) }
-{
-    let Some(entry) = next_since(ahead, since) else {
-        return Ok(false);
-    };
-    entries.push(entry)?;
-    Ok(true)
 }
 
 // Whether the latest stamp of any entry ahead is not before the time.
@@ -92,7 +74,8 @@ fn has_next(ahead: &mut BucketEntries<'_>, since: u64) -> bool
 // The first of the entries ahead whose latest stamp is not before the time; those before it are
 // skipped.
 fn next_since(ahead: &mut BucketEntries<'_>, since: u64) -> Option<Entry>
-    ensures { YieldsFirst (λ (ahead : _). recent_entries since ahead) ahead.old result ahead.new }
+    ensures steps { YieldsFirst (λ (ahead : _). recent_entries since ahead)
+        ahead.old result ahead.new }
 {
     loop {
         let entry = ahead.next()?;
