@@ -1,4 +1,5 @@
 //! What a bucket has since a time, in portions.
+use crate::histories::are_equal;
 use std::process::Abort;
 use test_kit::{SeenAt, bucket, history_of, page_on, seen};
 use warm_history::{Entry, History};
@@ -19,13 +20,7 @@ const SEEN: [SeenAt; 9] = [
 
 // A test case: a time, a page, the number of entries requested after it, the pages that come, and
 // whether more follow.
-type Row = (
-    u64,
-    Option<(u16, u64)>,
-    usize,
-    &'static [(u16, u64)],
-    bool,
-);
+type Row = (u64, Option<(u16, u64)>, usize, &'static [(u16, u64)], bool);
 
 const ROWS: [Row; 14] = [
     (
@@ -69,24 +64,28 @@ const ROWS: [Row; 14] = [
 
 // Whether these are the history's entries of these pages, with all their stamps.
 fn are_of(history: &History, entries: &[Entry], pages: &[(u16, u64)]) -> bool {
-    if entries.len() != pages.len() {
-        return false;
-    }
-    for at in 0..pages.len() {
-        let (dev, no) = pages[at];
-        let known = entries[at];
-        if known.page != page_on(dev, no) || history.get(known.page) != Some(known.hist) {
+    for (place, (dev, no)) in pages.iter().enumerate() {
+        let Some(known) = entries.get(place) else {
+            return false;
+        };
+        if known.page != page_on(*dev, *no) || history.get(known.page) != Some(known.hist) {
             return false;
         }
     }
-    true
+    entries.len() == pages.len()
+}
+
+fn page_of(after: Option<(u16, u64)>) -> Option<PageId> {
+    match after {
+        Some((dev, no)) => Some(page_on(dev, no)),
+        None => None,
+    }
 }
 
 fn gives(rt: &impl Abort, history: &History, row: Row) -> bool {
     let (since, after, limit, pages, more) = row;
-    let after = after.map(|(dev, no)| page_on(dev, no));
     let portion = history
-        .entries_since(bucket(1), since, after, limit)
+        .entries_since(bucket(1), since, page_of(after), limit)
         .expect(rt, "memory for entries");
     portion.more == more && are_of(history, &portion.entries, pages)
 }
@@ -99,10 +98,11 @@ fn gives_what_a_bucket_has_since_a_time(rt: HostRuntime) {
     }
 }
 
-// References to the pages 0:0 to 0:6,399 at the times from this one on, 100 pages of each bucket.
-fn all_pages(rt: &impl Abort, history: &mut History, time: u64) {
-    for no in 0..6_400u64 {
-        let one: [Reference; 1] = [seen(page_on(0, no), time + no, 1)];
+// Absorbs references to the first pages of device 0, as many as this, the first at this time and
+// each next one later.
+fn see(rt: &impl Abort, history: &mut History, pages: u64, time: u64) {
+    for no in 0..pages {
+        let one: [Reference; 1] = [seen(page_on(0, no), time.saturating_add(no), 1)];
         history.absorb(&one).expect(rt, "memory for a reference");
     }
 }
@@ -138,21 +138,21 @@ fn take_bucket(
 #[test]
 fn who_has_all_from_before_then_has_all(rt: HostRuntime) {
     let mut sender = History::new(rt.alloc());
-    all_pages(&rt, &mut sender, 0);
+    see(&rt, &mut sender, 6_400, 0);
     let mut receiver = sender.copy().expect(&rt, "memory for a copy");
-    all_pages(&rt, &mut sender, 10_000);
-    for no in 0..3_600u64 {
-        let one: [Reference; 1] = [seen(page_on(0, no), 10_000 + no, 1)];
-        receiver.absorb(&one).expect(&rt, "memory for a reference");
-    }
+    see(&rt, &mut sender, 6_400, 10_000);
+    see(&rt, &mut receiver, 3_600, 10_000);
     let mut portions = 0usize;
     for number in 0..BUCKETS {
-        portions = portions
-            .saturating_add(take_bucket(&rt, &sender, &mut receiver, number, 13_600));
+        portions = portions.saturating_add(take_bucket(
+            &rt,
+            &sender,
+            &mut receiver,
+            number,
+            13_600,
+        ));
     }
     assert!(rt; portions == 128);
     assert!(rt; receiver.len() == 6_400);
-    for number in 0..BUCKETS {
-        assert!(rt; receiver.bucket(bucket(number)).eq(sender.bucket(bucket(number))));
-    }
+    assert!(rt; are_equal(&receiver, &sender));
 }
