@@ -1,6 +1,6 @@
 -- What a message of the entries since a time brings, and what is kept of a warm-up where a device
 -- is retired.
-use Rattle.std.proofs.Common.{◌≡◌, ℕ, List, length, map, take, Option, Some, None, IfSome, ap, sym, subst, ◌∙◌, arith}
+use Rattle.std.proofs.Common.{◌≡◌, ℕ, List, length, take, Option, Some, None, IfSome, ap, sym, subst, ◌∙◌, arith}
 use Rattle.std.proofs.lemmas.List.{length-map}
 use Rattle.warm_stamps.specs.declared.PageId.{PageId}
 use Rattle.warm_history.specs.declared.hist.Entry.{Entry}

@@ -1,7 +1,7 @@
 -- What the entries since a time bring to who has all from before, and what comes after a portion.
-use Rattle.std.proofs.Common.{◌≡◌, ℕ, zero, suc, ◌+◌, Bool, true, false, cond, ◌&&◌, List, [], ◌∷◌, ◌++◌, length, take, drop, filter, map, max, Option, Some, None, refl, sym, ap, subst, ◌∙◌, inl, inr, arith, ◌⊎◌, add-one}
+use Rattle.std.proofs.Common.{◌≡◌, ℕ, zero, suc, ◌+◌, Bool, true, false, cond, ◌&&◌, List, [], ◌∷◌, ◌++◌, take, drop, filter, max, Option, Some, None, refl, sym, ap, subst, ◌∙◌, inl, inr, arith, ◌⊎◌, add-one}
 use Rattle.std.specs.Prelude.{◌==◌, slice_get}
-use Rattle.std.specs.List.{AllByRecursion, All, Contains}
+use Rattle.std.specs.List.{AllByRecursion, Contains}
 use Rattle.std.specs.Ordering.{flip_args, is_lt, on}
 use Rattle.std.specs.declared.cmp.Ordering.TheVariants.{Less, Equal, Greater}
 use Rattle.std.proofs.lemmas.Bool.Decides.{nat_tests}
@@ -12,7 +12,7 @@ use Rattle.warm_stamps.specs.declared.PageId.{PageId}
 use Rattle.warm_stamps.specs.declared.Reference.{Reference}
 use Rattle.warm_stamps.specs.declared.Stamp.{Stamp}
 use Rattle.warm_stamps.specs.Buckets.{page_bucket}
-use Rattle.warm_stamps.specs.Distinct.{distinct, IsAscending}
+use Rattle.warm_stamps.specs.Distinct.{distinct}
 use Rattle.warm_stamps.specs.Stamps.{stamp_cmp, page_cmp}
 use Rattle.warm_stamps.proofs.DistinctLemmas.{Has, flipped, has_from_distinct, rising_filter}
 use Rattle.warm_stamps.proofs.StampLemmas.{stamp_order, page_order, IsStrictOrder-flip}
@@ -20,9 +20,9 @@ use Rattle.warm_history.specs.declared.hist.PageHist.{PageHist}
 use Rattle.warm_history.specs.declared.hist.PageHist.TheVariants.{Once, Twice}
 use Rattle.warm_history.specs.declared.hist.Entry.{Entry}
 use Rattle.warm_history.specs.Carried.{comes_after, is_next_in_bucket}
-use Rattle.warm_history.specs.Histories.{HistoryView, IsHistory, entries_of, history, history_of_entries_at, references_of}
+use Rattle.warm_history.specs.Histories.{entries_of, history, history_of_entries_at, references_of}
 use Rattle.warm_history.specs.KeptEntries.{is_recent}
-use Rattle.warm_history.specs.ListHistories.{IsDescending, PagesAscend, first_two, hist_stamps, known_stamps, list_history, list_references_of, references_of_entry}
+use Rattle.warm_history.specs.ListHistories.{IsDescending, PagesAscend, first_two, known_stamps, list_history, list_references_of, references_of_entry}
 use Rattle.warm_history.specs.Merges.{after_page, later_of_bucket}
 use Rattle.warm_history.specs.ReferenceSets.{ReferenceSet, is_kept, references, references_from, ◌∪◌}
 use Rattle.warm_history.specs.References.{IsIn, SameReferences}

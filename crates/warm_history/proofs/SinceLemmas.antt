@@ -1,14 +1,12 @@
 -- What is taken of a bucket since a time is the history of what is carried since then.
-use Rattle.std.proofs.Common.{◌≡◌, ℕ, ◌<◌, ◌≤◌, Bool, true, false, cond, is_some, List, [], ◌∷◌, ◌++◌, length, take, drop, filter, map, sym, ap, refl, ◌∙◌, Option, Some, None, append_assoc, append-nil, arith, IsTrue}
+use Rattle.std.proofs.Common.{◌≡◌, ℕ, ◌<◌, ◌≤◌, Bool, true, false, is_some, List, [], ◌∷◌, ◌++◌, length, take, drop, filter, map, sym, ap, refl, ◌∙◌, Option, Some, None, append_assoc, append-nil, arith, IsTrue}
 use Rattle.std.specs.Prelude.{◌↔◌}
-use Rattle.std.specs.List.{cons_option, list_any}
-use Rattle.std.specs.Option.{option_map}
+use Rattle.std.specs.List.{list_any}
 use Rattle.std.specs.Ordering.{is_eq}
 use Rattle.std.proofs.lemmas.List.{length-drop, take_at, drop_at, take_all, drop_all}
 use Rattle.warm_stamps.specs.declared.PageId.{PageId}
 use Rattle.warm_stamps.specs.declared.Reference.{Reference}
 use Rattle.warm_stamps.specs.Stamps.{page_cmp}
-use Rattle.warm_stamps.specs.Distinct.{distinct}
 use Rattle.warm_stamps.proofs.DistinctLemmas.{distinct_rises, rising_filter, rising_take, all_filter}
 use Rattle.warm_stamps.proofs.StampLemmas.{page_order}
 use Rattle.warm_history.specs.declared.hist.PageHist.{PageHist}
@@ -17,7 +15,6 @@ use Rattle.warm_history.specs.Carried.{is_next_in_bucket}
 use Rattle.warm_history.specs.Histories.{entries_of, history}
 use Rattle.warm_history.specs.KeptEntries.{is_recent}
 use Rattle.warm_history.specs.ListHistories.{list_hist, list_pages, list_history}
-use Rattle.warm_history.specs.Merges.{later_of_bucket}
 use Rattle.warm_history.specs.ReferenceSets.{ReferenceSet, references}
 use Rattle.warm_history.specs.Since.{is_since, pages_since, carried_since, recent_entries, entries_since}
 use Rattle.warm_history.proofs.CarriedLemmas.{references-those}
