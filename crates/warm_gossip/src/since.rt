@@ -25,7 +25,9 @@ impl<D: PageDevice> Node<D> {
     /// greater than `after` and whose latest stamp is not before the time `since`; and whether more
     /// of these follow. It is for a replica that publishes its history one way, where nobody
     /// answers: of each bucket it sends what is new since it last sent it, and at `since` 0 all.
-    /// An entry has both its stamps, also where the second latest is before `since`.
+    /// An entry has both its stamps, also where the second latest is before `since`. The times are
+    /// those of stamps, and not of when they were absorbed: where references come late, `since` is
+    /// that much earlier.
     ///
     /// Who receives such messages of all buckets, each until no more follow, and had all references
     /// of this history from before `since`, has all that it holds
