@@ -44,7 +44,7 @@ warms_again h v w x count under = elim x.pages as (λ o. IfSome o (λ ps. IsUnde
 -- retiring a device leaves the number of frames
 pub retired_count : {v w : PoolView} {dev : ℕ} {device : DeviceState} → Retired v dev device w
     → length w.frames ≡ length v.frames
-retired_count {v} retired = ap (λ x. length x.frames) retired.becomes ∙ length-map _ v.frames
+retired_count {v} retired = ap (λ x. length x.frames) retired.becomes ∙ length-map v.frames _
 
 -- a refusal leaves pages and frames
 refused_keeps : (v w : PoolView) (dev : ℕ) (device : DeviceState) (why : PoolFault)
