@@ -20,3 +20,5 @@ mod dumps;
 mod histories;
 #[cfg(test)]
 mod ranks;
+#[cfg(test)]
+mod since;

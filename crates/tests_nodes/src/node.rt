@@ -8,6 +8,8 @@ mod dropped;
 mod formats;
 mod horizons;
 mod joins;
+mod portions;
+mod retired;
 mod sizes;
 mod warm_ups;
 

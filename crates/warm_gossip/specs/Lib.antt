@@ -1,6 +1,7 @@
 pub mod Faults
 pub mod State
 pub mod Answers
+pub mod Since
 pub mod Chunks
 pub mod Round
 pub mod Step

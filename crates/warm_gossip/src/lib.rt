@@ -28,9 +28,11 @@ pub mod laws;
 mod machine;
 mod node;
 mod pool_calls;
+mod since;
 mod warm_step;
 
 pub use call::{Call, Reply};
 pub use fault::NodeFault;
 pub use machine::ViewOfNode;
 pub use node::Node;
+pub use since::SentPortion;
