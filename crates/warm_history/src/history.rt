@@ -387,6 +387,7 @@ impl<'a> Iterator for BucketEntries<'a> {
 
     ghost remaining = { item_count (λ entries. entries) };
 
+    #[inline(always)]
     fn next(&mut self) -> Option<Entry> {
         self.left.next_entry()
     }
@@ -418,6 +419,7 @@ impl<'a> Iterator for Unordered<'a> {
 
     ghost remaining = { item_count (λ entries. entries) };
 
+    #[inline(always)]
     fn next(&mut self) -> Option<Entry> {
         self.left.next()
     }
