@@ -91,8 +91,6 @@ fn twice_bytes(page: PageId, last: Stamp, prev: Stamp) -> [u8; MAX_ENTRY_SIZE]
 /// `AllocError` occurs only where their allocation fails, so never where the text has capacity for
 /// them. They are at most [`crate::MAX_ENTRY_SIZE`] bytes. The text is then unchanged. Its capacity
 /// never shrinks.
-// It is a part of each loop that calls it: an entry then goes into the text from registers.
-#[inline(always)]
 pub fn put_entry(text: &mut Vec<u8>, entry: &Entry) -> Result<(), AllocError>
     ensures items { OnOk result (text.new.items ≡ text.old.items ++ entry_bytes entry.now) }
     ensures err { OnErr result (text.new.items ≡ text.old.items) }

@@ -212,9 +212,7 @@ impl<'a> Model for BucketPairs<'a> {
 }
 
 impl<'a> BucketPairs<'a> {
-    // The first of the pairs that are left, as an entry. It is a part of each loop that calls it:
-    // an entry that is returned is written to memory, and read again in other pieces.
-    #[inline(always)]
+    // The first of the pairs that are left, as an entry.
     pub(crate) fn next_entry(&mut self) -> Option<Entry>
         ensures { YieldsFirst (λ (left : _). as_entries left) self.old result self.new }
     {
@@ -224,21 +222,12 @@ impl<'a> BucketPairs<'a> {
                 hist: hist.get(),
             });
         }
-        next_far(&mut self.far)
+        let (key, hist) = self.far.next()?;
+        Some(Entry {
+            page: page_of_key(*key),
+            hist: hist.get(),
+        })
     }
-}
-
-// The first of the far pairs that are left, as an entry. It is no part of the loops, since nearly
-// all histories have none.
-#[inline(never)]
-fn next_far(far: &mut Range<'_, u128, Packed>) -> Option<Entry>
-    ensures { YieldsFirst (λ (left : _). as_entries left) far.old result far.new }
-{
-    let (key, hist) = far.next()?;
-    Some(Entry {
-        page: page_of_key(*key),
-        hist: hist.get(),
-    })
 }
 
 // The near pairs from the pages after the given one on. The last page with the near key of the

@@ -53,7 +53,6 @@ impl<'a> Iterator for CutEntries<'a> {
 
     ghost remaining = { item_count (λ entries. entries) };
 
-    #[inline(always)]
     fn next(&mut self) -> Option<Entry> {
         next_cut(&mut self.ahead, self.horizon)
     }
@@ -61,7 +60,6 @@ impl<'a> Iterator for CutEntries<'a> {
 
 // The first entry that has a stamp not older than the horizon, after the cut; those before it are
 // skipped.
-#[inline(always)]
 fn next_cut(ahead: &mut BucketEntries<'_>, horizon: u64) -> Option<Entry>
     ensures { YieldsFirst (λ (ahead : _). kept_entries horizon ahead) ahead.old result ahead.new }
 {

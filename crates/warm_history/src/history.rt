@@ -387,7 +387,6 @@ impl<'a> Iterator for BucketEntries<'a> {
 
     ghost remaining = { item_count (λ entries. entries) };
 
-    #[inline(always)]
     fn next(&mut self) -> Option<Entry> {
         self.left.next_entry()
     }
@@ -419,7 +418,6 @@ impl<'a> Iterator for Unordered<'a> {
 
     ghost remaining = { item_count (λ entries. entries) };
 
-    #[inline(always)]
     fn next(&mut self) -> Option<Entry> {
         self.left.next()
     }
