@@ -3,7 +3,8 @@
 use std::fs::{self, File, Files};
 use std::process::Abort;
 use warm_devices::{
-    DeviceFault, FileDevice, Flaky, Logged, MemDevice, NotYet, OpenFault, PageDevice, PageLog, let_go,
+    DeviceFault, FileDevice, Flaky, Logged, MemDevice, NotYet, OpenFault, PageDevice, PageLog,
+    let_go,
 };
 
 #[test]
