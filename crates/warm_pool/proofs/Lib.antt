@@ -9,6 +9,7 @@ pub mod FlushLemmas
 pub mod FrameParts
 pub mod Keeps
 pub mod Lagging
+pub mod Lents
 pub mod Loads
 pub mod MoveLemmas
 pub mod Opens

@@ -11,6 +11,7 @@ pub mod Flushes
 pub mod WritingBack
 pub mod Pinning
 pub mod PageBytes
+pub mod Lending
 pub mod Refreshing
 pub mod Retiring
 pub mod Faults
