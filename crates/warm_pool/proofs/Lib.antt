@@ -14,6 +14,7 @@ pub mod Loads
 pub mod MoveLemmas
 pub mod Opens
 pub mod Pins
+pub mod OtherDevices
 pub mod PlacedLemmas
 pub mod PlaceLemmas
 pub mod PoolSteps
@@ -22,7 +23,9 @@ pub mod Renewals
 pub mod RetireLemmas
 pub mod SettleLemmas
 pub mod Slots
+pub mod SomeLemmas
 pub mod VacateLemmas
 pub mod WriteBacks
 pub mod Writes
 pub mod KeepingLemmas
+pub mod Zeroes

@@ -9,9 +9,11 @@ pub mod Opening
 pub mod DeviceCalls
 pub mod Flushes
 pub mod WritingBack
+pub mod WritingSome
 pub mod Pinning
 pub mod PageBytes
 pub mod Lending
+pub mod Zeroing
 pub mod Refreshing
 pub mod Retiring
 pub mod Faults

@@ -79,6 +79,17 @@ abbrev pub selects : Devices → Option PageId → Bool
 selects All page = true
 selects (One dev) page = is_on dev page
 
+-- each device is unchanged but that of this page
+abbrev pub KeepsDevicesBut : Option PageId → PoolState → PoolState → Type 0
+KeepsDevicesBut page old new = (k : ℕ) → is_on k page ≡ false
+    → nth_device new.devices k ≡ nth_device old.devices k
+
+-- each device of which no page is selected is unchanged
+abbrev pub KeepsUnselected : Devices → PoolState → PoolState → Type 0
+KeepsUnselected which old new =
+    (k : ℕ) → ((p : PageId) → p.dev ≡ k → selects which (Some p) ≡ false)
+    → nth_device new.devices k ≡ nth_device old.devices k
+
 abbrev pub clean_if : Devices → FrameState → FrameState
 clean_if which f = if selects which f.page then cleaned f else f
 
