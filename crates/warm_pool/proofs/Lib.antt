@@ -6,6 +6,7 @@ pub mod DeviceSteps
 pub mod EmptyLemmas
 pub mod Examples
 pub mod FlushLemmas
+pub mod ForgetLemmas
 pub mod FrameParts
 pub mod Keeps
 pub mod Lagging

@@ -16,5 +16,6 @@ pub mod Lending
 pub mod Zeroing
 pub mod Refreshing
 pub mod Retiring
+pub mod Forgetting
 pub mod Faults
 pub mod Laws

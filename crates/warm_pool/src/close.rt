@@ -248,7 +248,7 @@ impl<D: PageDevice> Pool<D> {
 }
 
 // Whether a selected frame has a pinned page.
-fn is_fixed(frames: &Frames, which: Devices) -> bool
+pub(crate) fn is_fixed(frames: &Frames, which: Devices) -> bool
     ensures { MatchBool result (IsFixedIn which frames.now.frames)
         (AreUnfixed which frames.now.frames) }
 {

@@ -1,5 +1,5 @@
-//! What an engine asks of a pool: bytes lent to be written to, pages that begin with zeros, and pages
-//! written back a few at a time.
+//! What an engine asks of a pool: bytes lent to be written to, pages that begin with zeros, pages
+//! written back a few at a time, and pages that are forgotten.
 ghost use Rattle.warm_pool.specs.State.{RankedBy};
 
 use super::{AMPLE, Said, fills, given, held, pool_over, reads, slot};
@@ -31,6 +31,18 @@ fn flushes<D: PageDevice>(pool: &mut Pool<D>, history: &History, dev: u16) -> Re
     ensures { RankedBy pool.new history.now }
 {
     pool.flush_device(dev)
+}
+
+fn forgets<D: PageDevice>(
+    pool: &mut Pool<D>,
+    history: &History,
+    dev: u16,
+    from: u64,
+) -> Result<(), PoolFault>
+    requires { RankedBy pool.old history.now }
+    ensures { RankedBy pool.new history.now }
+{
+    pool.forget_pages(dev, from)
 }
 
 // Writes AA to all bytes of the slot's page, as they are lent; returns whether the slot holds it.
@@ -86,4 +98,20 @@ fn pages_are_written_back_a_few_at_a_time(rt: HostRuntime) {
     assert!(rt; flushes(&mut pool, &history, 0) == Ok(()));
     assert!(rt; flushes(&mut pool, &history, 1) == Err(PoolFault::NoDevice));
     assert!(rt; pool.close().is_ok());
+}
+
+#[test]
+fn the_last_pages_are_forgotten(rt: HostRuntime) {
+    let alloc = rt.alloc();
+    let history = History::new(alloc);
+    let mut pool = pool_over(&rt, alloc, 4, memory(alloc, 8).expect(&rt, AMPLE));
+    assert!(rt; fills(&mut pool, &history, 1));
+    assert!(rt; fills(&mut pool, &history, 5));
+    assert!(rt; held(&mut pool, &history, 4) == Some(slot(2, 1)));
+    assert!(rt; forgets(&mut pool, &history, 0, 4) == Err(PoolFault::Fixed));
+    assert!(rt; forgets(&mut pool, &history, 1, 0) == Err(PoolFault::NoDevice));
+    assert!(rt; pool.dirty() == 2 && forgets(&mut pool, &history, 0, 5) == Ok(()));
+    assert!(rt; !pool.resident(page(5)) && pool.resident(page(4)) && pool.resident(page(1)));
+    assert!(rt; pool.dirty() == 1);
+    drop(pool);
 }
