@@ -6,13 +6,16 @@ pub mod DeviceSteps
 pub mod EmptyLemmas
 pub mod Examples
 pub mod FlushLemmas
+pub mod ForgetLemmas
 pub mod FrameParts
 pub mod Keeps
 pub mod Lagging
+pub mod Lents
 pub mod Loads
 pub mod MoveLemmas
 pub mod Opens
 pub mod Pins
+pub mod OtherDevices
 pub mod PlacedLemmas
 pub mod PlaceLemmas
 pub mod PoolSteps
@@ -21,7 +24,9 @@ pub mod Renewals
 pub mod RetireLemmas
 pub mod SettleLemmas
 pub mod Slots
+pub mod SomeLemmas
 pub mod VacateLemmas
 pub mod WriteBacks
 pub mod Writes
 pub mod KeepingLemmas
+pub mod Zeroes

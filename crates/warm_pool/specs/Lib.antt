@@ -9,9 +9,13 @@ pub mod Opening
 pub mod DeviceCalls
 pub mod Flushes
 pub mod WritingBack
+pub mod WritingSome
 pub mod Pinning
 pub mod PageBytes
+pub mod Lending
+pub mod Zeroing
 pub mod Refreshing
 pub mod Retiring
+pub mod Forgetting
 pub mod Faults
 pub mod Laws

@@ -13,7 +13,7 @@ ghost use Rattle.warm_pool.specs.View.{view_of, HasPage, IsResident, Holds};
 ghost use Rattle.warm_pool.specs.Keeping.{SameButFailures, KeepsRanks, KeepsBytes, KeepsFrames};
 ghost use Rattle.warm_pool.specs.Keeping.{KeepsOthers};
 ghost use Rattle.warm_pool.specs.Opening.{IsUpTo, IsSize, NewPoolRefused};
-ghost use Rattle.warm_pool.specs.WritingBack.{Cleans, CleanFails};
+ghost use Rattle.warm_pool.specs.WritingBack.{Cleans, CleanFails, KeepsDevicesBut};
 ghost use Rattle.warm_pool.specs.Pinning.{Pinned, PinRefused, Loaded, IsPlaced, LoadRefused};
 ghost use Rattle.warm_pool.specs.Pinning.{PutsIn, PutRefused, unpinned, current_slot, IsNextVictim};
 ghost use Rattle.warm_pool.specs.Pinning.{LoadsInto, LoadFails, FixesPage, FixRefused};
@@ -441,7 +441,7 @@ impl<D: PageDevice> Pool<D> {
     }
 
     // Checks that a device has the page; otherwise returns why it can't be loaded.
-    fn check(&self, page: PageId) -> Result<(), PoolFault>
+    pub(crate) fn check(&self, page: PageId) -> Result<(), PoolFault>
         ensures known { OnOk result (HasPage (view_of self.now) page) }
         ensures unknown { OnErr result (HasPage (view_of self.now) page → ⊥) }
         ensures load { IfErr result (λ fault. (h : HistoryView) → LoadRefused h
@@ -460,7 +460,7 @@ impl<D: PageDevice> Pool<D> {
     }
 
     // The slot of a frame's current page.
-    fn slot_at(&self, at: usize) -> Slot
+    pub(crate) fn slot_at(&self, at: usize) -> Slot
         requires { at < length self.now.frames }
         ensures { result ≡ current_slot self.now at }
     {
@@ -472,7 +472,7 @@ impl<D: PageDevice> Pool<D> {
     }
 
     // Adds a pin to a resident page. No page is evicted for it.
-    fn add_fix(&mut self, at: usize) -> Result<Placed, PoolFault>
+    pub(crate) fn add_fix(&mut self, at: usize) -> Result<Placed, PoolFault>
         requires there { at < length self.old.frames }
         requires held { (nth_frame self.old.frames at).page ≢ None }
         ensures ranked { KeepsRanks self.old self.new }
@@ -498,7 +498,7 @@ impl<D: PageDevice> Pool<D> {
     }
 
     // The frame into which a page is loaded.
-    fn frame_to_load(&mut self) -> Option<usize>
+    pub(crate) fn frame_to_load(&mut self) -> Option<usize>
         ensures same { self.new ≡ self.old }
         ensures to_load { IsNextFrameToLoad self.old result }
         ensures there { IfSome result (λ at. at < length self.old.frames) }
@@ -629,6 +629,9 @@ pub(crate) fn write_back<D: PageDevice>(
     ensures failed { OnErr result (CleanFails
         (pool_over D.state frames.old frames.old.page_size devices.old.items) at
         (pool_over D.state frames.new frames.old.page_size devices.new.items)) }
+    ensures others { KeepsDevicesBut (nth_frame frames.old.frames at).page
+        (pool_over D.state frames.old frames.old.page_size devices.old.items)
+        (pool_over D.state frames.new frames.old.page_size devices.new.items) }
 {
     let Some(page) = frames.page(at) else {
         return Ok(());
@@ -680,7 +683,7 @@ fn check_shape<D: PageDevice>(
 }
 
 // The rank that the history gives a page.
-fn rank_of(history: &History, page: PageId) -> RankKey
+pub(crate) fn rank_of(history: &History, page: PageId) -> RankKey
     ensures { result ≡ rank_key page (hist (references_of history.now) page) }
 {
     // The rank is over the references that the history holds: their history is this history.
