@@ -10,8 +10,8 @@ use warm_pool::{PoolFault, RetireError};
 use warm_stamps::PageId;
 
 // The fault of a refusal.
-fn refused(result: Result<(), RetireError<MemDevice>>) -> Option<PoolFault> {
-    match result {
+fn refused(answer: Result<(), RetireError<MemDevice>>) -> Option<PoolFault> {
+    match answer {
         Ok(()) => None,
         Err(unretired) => Some(unretired.fault),
     }
