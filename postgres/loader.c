@@ -1,0 +1,295 @@
+/*-------------------------------------------------------------------------
+ *
+ * loader.c
+ *		The worker that reads the pages of one database of a standby.
+ *
+ * A loader takes a batch from its slot, and reads it file by file, in short
+ * transactions of some pages each.  Each holds AccessShareLock on the relation,
+ * which keeps the replay of a drop or a truncation from passing it; where the
+ * lock is not free at once, the pages are left for later, so that a loader
+ * waits for no lock, and replay waits for a loader only some milliseconds.
+ *
+ *-------------------------------------------------------------------------
+ */
+#include "postgres.h"
+
+#include "access/relation.h"
+#include "access/xact.h"
+#include "access/xlog.h"
+#include "miscadmin.h"
+#include "pgstat.h"
+#include "postmaster/bgworker.h"
+#include "postmaster/interrupt.h"
+#include "storage/bufmgr.h"
+#include "storage/ipc.h"
+#include "storage/lmgr.h"
+#include "storage/proc.h"
+#include "storage/smgr.h"
+#include "tcop/tcopprot.h"
+#include "utils/memutils.h"
+#include "warm_standby.h"
+
+#define PAGES_A_LOCK	32
+#define IDLE_MS			1000
+#define IDLE_TURNS		60
+
+PGDLLEXPORT void warm_standby_loader_main(Datum main_arg);
+
+static WsLoader *slot;
+static uint64 epoch;
+static WsLoaded done;			/* since it was last added to the shared counts */
+static WsRequest batch[WS_BATCH];
+
+/* By file and block.  Shared memory is compared nowhere: batch is our own. */
+static int
+by_file(const void *a, const void *b)
+{
+	const WsRequest *x = a;
+	const WsRequest *y = b;
+
+	if (x->space != y->space)
+		return x->space < y->space ? -1 : 1;
+	if (x->file != y->file)
+		return x->file < y->file ? -1 : 1;
+	if (x->fork != y->fork)
+		return x->fork < y->fork ? -1 : 1;
+	return x->block < y->block ? -1 : x->block > y->block;
+}
+
+static bool
+same_file(const WsRequest *a, const WsRequest *b)
+{
+	return a->space == b->space && a->file == b->file && a->fork == b->fork;
+}
+
+static void
+set_outcome(WsRequest *some, int count, WsOutcome outcome)
+{
+	for (int i = 0; i < count; i++)
+		some[i].outcome = outcome;
+}
+
+/* Reads pages of one fork of a relation that is locked. */
+static void
+read_pages(Relation relation, WsRequest *some, int count)
+{
+	ForkNumber	fork = some->fork;
+	BlockNumber blocks = 0;
+
+	if (smgrexists(RelationGetSmgr(relation), fork))
+		blocks = smgrnblocks(RelationGetSmgr(relation), fork);
+	for (int i = 0; i < count; i++)
+	{
+		if (some[i].block >= blocks)
+		{
+			some[i].outcome = WS_NO_BLOCK;
+			continue;
+		}
+		if (some[i].prefetch)
+		{
+			(void) PrefetchBuffer(relation, fork, some[i].block);
+			done.prefetched++;
+		}
+		else
+		{
+			ReleaseBuffer(ReadBufferExtended(relation, fork, some[i].block, RBM_NORMAL, NULL));
+			done.read++;
+		}
+		some[i].outcome = WS_LOADED;
+		CHECK_FOR_INTERRUPTS();
+	}
+}
+
+/* Reads pages of one file, in a transaction. */
+static void
+read_file(WsRequest *some, int count)
+{
+	Oid			relid = RelidOfFile(some->space, some->file);
+	Relation	relation;
+
+	if (!OidIsValid(relid))
+	{
+		set_outcome(some, count, WS_NO_FILE);
+		return;
+	}
+	if (!ConditionalLockRelationOid(relid, AccessShareLock))
+	{
+		set_outcome(some, count, WS_BUSY);
+		return;
+	}
+	relation = try_relation_open(relid, NoLock);
+	if (relation == NULL)
+	{
+		UnlockRelationOid(relid, AccessShareLock);
+		set_outcome(some, count, WS_NO_FILE);
+		return;
+	}
+	/* It may have got another file before it was locked. */
+	if (RelationFile(relation) == some->file && RelationSpace(relation) == some->space)
+		read_pages(relation, some, count);
+	else
+		set_outcome(some, count, WS_NO_FILE);
+	relation_close(relation, AccessShareLock);
+}
+
+/* The same, where an error costs these pages and nothing else. */
+static void
+try_file(WsRequest *some, int count)
+{
+	MemoryContext context = CurrentMemoryContext;
+
+	PG_TRY();
+	{
+		StartTransactionCommand();
+		read_file(some, count);
+		CommitTransactionCommand();
+	}
+	PG_CATCH();
+	{
+		ErrorData  *error;
+
+		MemoryContextSwitchTo(context);
+		error = CopyErrorData();
+		FlushErrorState();
+		AbortCurrentTransaction();
+		for (int i = 0; i < count; i++)
+			if (some[i].outcome == WS_WAITING)
+				some[i].outcome = WS_FAILED;
+		done.errors++;
+		ereport(DEBUG1, (errmsg_internal("warm_standby could not read file %u: %s", some->file,
+										 error->message)));
+		FreeErrorData(error);
+	}
+	PG_END_TRY();
+	MemoryContextSwitchTo(context);
+}
+
+/* Whether the worker that started this loader is there, on a standby. */
+static bool
+is_needed(void)
+{
+	bool		needed;
+
+	LWLockAcquire(ws_shared->lock, LW_SHARED);
+	needed = ws_shared->epoch == epoch;
+	LWLockRelease(ws_shared->lock);
+	return needed && RecoveryInProgress();
+}
+
+static void
+load(uint32 count)
+{
+	TimestampTz begun = GetCurrentTimestamp();
+
+	qsort(batch, count, sizeof(WsRequest), by_file);
+	for (uint32 i = 0, k; i < count; i = k)
+	{
+		for (k = i + 1; k < count && k - i < PAGES_A_LOCK; k++)
+			if (!same_file(&batch[i], &batch[k]))
+				break;
+		CHECK_FOR_INTERRUPTS();
+		if (!is_needed())
+			return;
+		try_file(&batch[i], k - i);
+	}
+	done.read_us += GetCurrentTimestamp() - begun;
+}
+
+/* Takes the batch of the slot, where there is one. */
+static uint32
+take_batch(void)
+{
+	uint32		count = 0;
+
+	LWLockAcquire(ws_shared->lock, LW_SHARED);
+	if (ws_shared->epoch == epoch && slot->state == WS_SLOT_FULL)
+	{
+		count = slot->count;
+		memcpy(batch, slot->pages, count * sizeof(WsRequest));
+	}
+	LWLockRelease(ws_shared->lock);
+	return count;
+}
+
+static void
+give_outcomes(uint32 count)
+{
+	LWLockAcquire(ws_shared->lock, LW_EXCLUSIVE);
+	if (ws_shared->epoch == epoch)
+	{
+		memcpy(slot->pages, batch, count * sizeof(WsRequest));
+		slot->state = WS_SLOT_DONE;
+	}
+	ws_shared->loaded.read += done.read;
+	ws_shared->loaded.prefetched += done.prefetched;
+	ws_shared->loaded.errors += done.errors;
+	ws_shared->loaded.read_us += done.read_us;
+	LWLockRelease(ws_shared->lock);
+	memset(&done, 0, sizeof done);
+}
+
+/* The latch is of no use to anybody after this process. */
+static void
+leave(int code, Datum arg)
+{
+	LWLockAcquire(ws_shared->lock, LW_EXCLUSIVE);
+	if (ws_shared->epoch == epoch)
+		slot->latch = NULL;
+	LWLockRelease(ws_shared->lock);
+}
+
+static Oid
+enter(int number)
+{
+	Oid			database = InvalidOid;
+
+	slot = &ws_shared->loaders[number];
+	LWLockAcquire(ws_shared->lock, LW_EXCLUSIVE);
+	if (ws_shared->epoch == epoch)
+	{
+		database = slot->database;
+		slot->latch = MyLatch;
+	}
+	LWLockRelease(ws_shared->lock);
+	return database;
+}
+
+void
+warm_standby_loader_main(Datum main_arg)
+{
+	Oid			database;
+	int			idle = 0;
+
+	pqsignal(SIGTERM, die);
+	pqsignal(SIGHUP, SignalHandlerForConfigReload);
+	BackgroundWorkerUnblockSignals();
+	memcpy(&epoch, MyBgworkerEntry->bgw_extra, sizeof epoch);
+	before_shmem_exit(leave, (Datum) 0);
+	database = enter(DatumGetInt32(main_arg));
+	if (!OidIsValid(database))
+		proc_exit(0);
+	BackgroundWorkerInitializeConnectionByOid(database, InvalidOid, BGWORKER_BYPASS_ALLOWCONN);
+
+	while (is_needed() && idle < IDLE_TURNS)
+	{
+		uint32		count = take_batch();
+
+		idle++;
+		if (count > 0)
+		{
+			load(count);
+			give_outcomes(count);
+			idle = 0;
+		}
+		(void) WaitLatch(MyLatch, WL_LATCH_SET | WL_TIMEOUT | WL_EXIT_ON_PM_DEATH, IDLE_MS,
+						 PG_WAIT_EXTENSION);
+		ResetLatch(MyLatch);
+		CHECK_FOR_INTERRUPTS();
+		if (ConfigReloadPending)
+		{
+			ConfigReloadPending = false;
+			ProcessConfigFile(PGC_SIGHUP);
+		}
+	}
+	proc_exit(0);
+}

@@ -1,0 +1,238 @@
+/*-------------------------------------------------------------------------
+ *
+ * receive.c
+ *		Messages out of the WAL of a standby.
+ *
+ * The worker reads the WAL that was replayed, from pg_wal, by an XLogReader of
+ * its own.  Nothing is hooked: the startup process does not know of it, so
+ * replay waits for nothing and fails by nothing of ours.  Where the worker
+ * falls behind until a segment is gone, or a record cannot be read, it goes on
+ * at the end of what was replayed, and counts the bytes that it skipped.
+ *
+ *-------------------------------------------------------------------------
+ */
+#include "postgres.h"
+
+#include <fcntl.h>
+#include <unistd.h>
+
+#include "access/rmgr.h"
+#include "access/xlog.h"
+#include "access/xlog_internal.h"
+#include "access/xlogreader.h"
+#include "access/xlogrecovery.h"
+#include "access/xlogutils.h"
+#include "miscadmin.h"
+#include "replication/message.h"
+#include "storage/fd.h"
+#include "utils/memutils.h"
+#include "warm_standby.h"
+
+/* Most WAL that one turn reads, so that other work gets its turn too. */
+#define BYTES_A_TURN	(16 * 1024 * 1024)
+
+static MemoryContext reader_context = NULL;
+static XLogReaderState *reader = NULL;
+static int	segment = -1;
+static XLogSegNo segment_number;
+static TimeLineID segment_timeline;
+static XLogRecPtr position;		/* where the next record begins */
+
+static void
+close_segment(void)
+{
+	if (segment >= 0)
+		close(segment);
+	segment = -1;
+}
+
+static bool
+open_segment(XLogSegNo number, TimeLineID timeline)
+{
+	char		path[MAXPGPATH];
+
+	if (segment >= 0 && segment_number == number && segment_timeline == timeline)
+		return true;
+	close_segment();
+	XLogFilePath(path, timeline, number, wal_segment_size);
+	segment = BasicOpenFile(path, O_RDONLY | PG_BINARY);
+	segment_number = number;
+	segment_timeline = timeline;
+	return segment >= 0;
+}
+
+/* Reads a page of WAL, as far as it was replayed.  Never raises an error. */
+static int
+read_page(XLogReaderState *state, XLogRecPtr page, int wanted, XLogRecPtr record, char *into)
+{
+	TimeLineID	timeline;
+	XLogRecPtr	end = GetXLogReplayRecPtr(&timeline);
+	XLogSegNo	number;
+	int			length = XLOG_BLCKSZ;
+
+	if (page + wanted > end)
+		return -1;
+	if (page + XLOG_BLCKSZ > end)
+		length = (int) (end - page);
+	XLogReadDetermineTimeline(state, page, wanted, timeline);
+	XLByteToSeg(page, number, wal_segment_size);
+	if (!open_segment(number, state->currTLI) ||
+		pg_pread(segment, into, length, XLogSegmentOffset(page, wal_segment_size)) != length)
+		return -1;
+	state->seg.ws_tli = state->currTLI;
+	return length;
+}
+
+/* Begins at the redo point of the last restartpoint, whose WAL is kept. */
+void
+ws_receive_start(void)
+{
+	MemoryContext old;
+
+	ws_receive_stop();
+	reader_context = AllocSetContextCreate(TopMemoryContext, "warm_standby WAL reader",
+										   ALLOCSET_DEFAULT_SIZES);
+	old = MemoryContextSwitchTo(reader_context);
+	reader = XLogReaderAllocate(wal_segment_size, NULL, XL_ROUTINE(.page_read = read_page), NULL);
+	MemoryContextSwitchTo(old);
+	if (reader == NULL)
+		ereport(ERROR,
+				(errcode(ERRCODE_OUT_OF_MEMORY),
+				 errmsg("out of memory"),
+				 errdetail("Failed while allocating a WAL reading processor.")));
+	position = GetRedoRecPtr();
+	XLogBeginRead(reader, position);
+}
+
+void
+ws_receive_stop(void)
+{
+	if (reader_context != NULL)
+		MemoryContextDelete(reader_context);
+	reader_context = NULL;
+	reader = NULL;
+	close_segment();
+}
+
+/* Hands on the message of a record, where it is one of ours. */
+static void
+look_at_record(void)
+{
+	xl_logical_message *message = (xl_logical_message *) XLogRecGetData(reader);
+	Size		length = XLogRecGetDataLen(reader);
+
+	if (XLogRecGetRmid(reader) != RM_LOGICALMSG_ID ||
+		(XLogRecGetInfo(reader) & ~XLR_INFO_MASK) != XLOG_LOGICAL_MESSAGE ||
+		length < SizeOfLogicalMessage + sizeof WS_NAME ||
+		message->dbId != InvalidOid || message->prefix_size != sizeof WS_NAME ||
+		memcmp(message->message, WS_NAME, sizeof WS_NAME) != 0 ||
+		message->message_size != length - SizeOfLogicalMessage - sizeof WS_NAME)
+		return;
+	ws_message((const uint8 *) message->message + sizeof WS_NAME, message->message_size);
+}
+
+/* Goes on at the end of what was replayed. */
+static void
+skip_to(XLogRecPtr end)
+{
+	ws_stats.wal_skipped += end - position;
+	close_segment();
+	position = end;
+	XLogBeginRead(reader, position);
+}
+
+/* Reads what was replayed; true where there is more than a turn of it. */
+bool
+ws_receive(void)
+{
+	XLogRecPtr	begun = position;
+	XLogRecPtr	end = GetXLogReplayRecPtr(NULL);
+	MemoryContext old = MemoryContextSwitchTo(reader_context);	/* its buffers grow */
+
+	while (position < end && position - begun < BYTES_A_TURN)
+	{
+		char	   *message;
+
+		CHECK_FOR_INTERRUPTS();
+		if (XLogReadRecord(reader, &message) == NULL)
+		{
+			ereport(DEBUG1, (errmsg_internal("warm_standby skips WAL from %X/%X to %X/%X: %s",
+											 LSN_FORMAT_ARGS(position), LSN_FORMAT_ARGS(end),
+											 message != NULL ? message : "it is gone")));
+			skip_to(end);
+			break;
+		}
+		look_at_record();
+		position = reader->EndRecPtr;
+	}
+	MemoryContextSwitchTo(old);
+	ws_stats.wal_read += position - begun;
+	return position < end;
+}
+
+/* ---- messages ---- */
+
+static void
+refuse(int status)
+{
+	ws_stats.refused[status]++;
+}
+
+/* A number that was given twice says that two primaries gave them. */
+static void
+take_directory(const uint8 *bytes, Size length)
+{
+	if (length % WS_DEVICE_BYTES != 0)
+	{
+		refuse(WS_BAD_DIRECTORY);
+		return;
+	}
+	for (const uint8 *at = bytes; at < bytes + length; at += WS_DEVICE_BYTES)
+	{
+		WsDevice	device = {.space = (Oid) ws_get(at + 2, 4), .database = (Oid) ws_get(at + 6, 4),
+		.fork = at[10]};
+		uint16		number = (uint16) ws_get(at, 2);
+
+		if (device.fork > MAX_FORKNUM || !OidIsValid(device.space))
+		{
+			refuse(WS_BAD_DIRECTORY);
+			return;
+		}
+		if (!ws_directory_put(number, &device))
+		{
+			refuse(WS_OTHER_DIRECTORY);
+			ws_history_reset("another primary gave the numbers of devices");
+			ws_directory_put(number, &device);
+		}
+	}
+}
+
+/* Takes in a message: the bytes behind the prefix. */
+void
+ws_message(const uint8 *bytes, Size length)
+{
+	TimestampTz time;
+
+	if (length < WS_HEADER)
+		refuse(WS_BAD_MESSAGE);
+	else if (bytes[0] != WS_MESSAGE_VERSION)
+		refuse(WS_BAD_VERSION);
+	else if (bytes[1] != WS_MESSAGE_FRAME && bytes[1] != WS_MESSAGE_DIRECTORY)
+		refuse(WS_BAD_MESSAGE);
+	else
+	{
+		time = (TimestampTz) ws_get(bytes + 2, 8);
+		bytes += WS_HEADER;
+		length -= WS_HEADER;
+		if (time > GetCurrentTimestamp() + ws_clock_tolerance * INT64CONST(1000000))
+			refuse(WS_LATE_MESSAGE);
+		else if (bytes[1 - WS_HEADER] == WS_MESSAGE_DIRECTORY)
+			take_directory(bytes, length);
+		else if (ws_history_receive(bytes, length) == WARM_OK)
+		{
+			ws_clock_heard(time);
+			ws_stats.frames_received++;
+			ws_stats.last_frame = Max(ws_stats.last_frame, time);
+		}
+	}
+}

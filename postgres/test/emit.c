@@ -1,0 +1,37 @@
+/*-------------------------------------------------------------------------
+ *
+ * emit.c
+ *		A function of the tests alone: it writes any bytes as a message.
+ *
+ * SQL writes logical messages of the database that it is connected to, which a
+ * standby does not take for ours.  These are of no database.
+ *
+ *-------------------------------------------------------------------------
+ */
+#include "postgres.h"
+
+#include "access/xloginsert.h"
+#include "fmgr.h"
+#include "replication/message.h"
+#include "utils/builtins.h"
+
+PG_MODULE_MAGIC;
+
+PG_FUNCTION_INFO_V1(emit_message);
+
+Datum
+emit_message(PG_FUNCTION_ARGS)
+{
+	bytea	   *bytes = PG_GETARG_BYTEA_PP(0);
+	xl_logical_message record = {0};
+
+	record.dbId = InvalidOid;
+	record.prefix_size = sizeof "warm_standby";
+	record.message_size = VARSIZE_ANY_EXHDR(bytes);
+	XLogBeginInsert();
+	XLogRegisterData((char *) &record, SizeOfLogicalMessage);
+	XLogRegisterData((char *) "warm_standby", sizeof "warm_standby");
+	XLogRegisterData(VARDATA_ANY(bytes), VARSIZE_ANY_EXHDR(bytes));
+	XLogInsert(RM_LOGICALMSG_ID, XLOG_LOGICAL_MESSAGE);
+	PG_RETURN_VOID();
+}
