@@ -51,7 +51,8 @@ clean_up() {
 # Builds the extension, without a warning, and installs it into the copy.
 build() {
     local config=/usr/lib/postgresql/$version/bin/pg_config
-    make -s -C "$work/build" PG_CONFIG="$config" WARM="$library" with_llvm=no PROFILE=-Werror > "$work/build.log" 2>&1 ||
+    make -s -C "$work/build" PG_CONFIG="$config" WARM="$library" with_llvm=no PROFILE=-Werror > "$work/build.log" 2>&1 &&
+        make -s -C "$work/build/test" PG_CONFIG="$config" with_llvm=no PROFILE=-Werror >> "$work/build.log" 2>&1 ||
         fail "the extension is not built: $(tail -n 20 "$work/build.log")"
     make -s -C "$work/build" PG_CONFIG="$config" WARM="$library" with_llvm=no DESTDIR="$work" install >> "$work/build.log" 2>&1 ||
         fail "the extension is not installed: $(tail -n 20 "$work/build.log")"

@@ -27,7 +27,7 @@
 #define DIRECTORY_FILE "warm_standby.directory"
 #define DIRECTORY_DRAFT "warm_standby.directory.tmp"
 #define DIRECTORY_MAGIC UINT64CONST(0x5741524d44495231)	/* WARMDIR1 */
-#define DIRECTORY_HEADER 20		/* magic, system identifier, count */
+#define DIRECTORY_HEADER 28		/* magic, system identifier, latest time, count */
 
 #define REFERENCES 1024
 #define US_PER_S INT64CONST(1000000)
@@ -287,7 +287,7 @@ save_directory(void)
 		to = ws_put(ws_put(to, device->database, 4), device->fork, 1);
 		given++;
 	}
-	ws_put(ws_put(bytes + 8, GetSystemIdentifier(), 8), given, 4);
+	ws_put(ws_put(ws_put(bytes + 8, GetSystemIdentifier(), 8), latest, 8), given, 4);
 	INIT_CRC32C(crc);
 	COMP_CRC32C(crc, bytes, to - bytes);
 	FIN_CRC32C(crc);
@@ -336,7 +336,7 @@ directory_is_good(const uint8 *bytes, Size length)
 
 	if (length < DIRECTORY_HEADER + 4 || ws_get(bytes, 8) != DIRECTORY_MAGIC ||
 		ws_get(bytes + 8, 8) != GetSystemIdentifier() ||
-		length != DIRECTORY_HEADER + 4 + ws_get(bytes + 16, 4) * WS_DEVICE_BYTES)
+		length != DIRECTORY_HEADER + 4 + ws_get(bytes + 24, 4) * WS_DEVICE_BYTES)
 		return false;
 	INIT_CRC32C(crc);
 	COMP_CRC32C(crc, bytes, length - 4);
@@ -389,6 +389,8 @@ load_directory(void)
 
 		good = ws_directory_put((uint16) ws_get(at, 2), &device);
 	}
+	if (good)
+		latest = ws_get(bytes + 16, 8);
 	pfree(bytes);
 	if (!good)
 	{

@@ -222,12 +222,15 @@ reap_loaders(void)
 	}
 }
 
+/* Wakes the loaders: after a promotion they end by themselves. */
 void
-ws_stop_loaders(void)
+ws_wake_loaders(void)
 {
+	LWLockAcquire(ws_shared->lock, LW_SHARED);
 	for (int i = 0; i < ws_shared->loader_count; i++)
-		if (handles[i] != NULL)
-			TerminateBackgroundWorker(handles[i]);
+		if (ws_shared->loaders[i].latch != NULL)
+			SetLatch(ws_shared->loaders[i].latch);
+	LWLockRelease(ws_shared->lock);
 }
 
 /* The slot of a database, one that is free, or -1.  A shared catalog's pages may go to any. */

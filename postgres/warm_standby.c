@@ -289,7 +289,7 @@ static void
 promote(void)
 {
 	ws_receive_stop();
-	ws_stop_loaders();
+	ws_wake_loaders();
 	begin_role();
 	ereport(LOG, (errmsg("warm_standby was promoted: " INT64_FORMAT " pages known, " INT64_FORMAT
 						 " of " INT64_FORMAT " wanted pages resident", ws_stats.known,

@@ -220,7 +220,7 @@ extern void ws_message(const uint8 *bytes, Size length);
 extern void ws_rank_reset(void);
 extern void ws_round(void);
 extern void ws_make_list(void);
-extern void ws_stop_loaders(void);
+extern void ws_wake_loaders(void);
 
 /* A message: a header of WS_HEADER bytes, and its content. */
 #define WS_MESSAGE_VERSION 1
