@@ -16,7 +16,9 @@ as() {
 }
 
 make_work() {
-    work=$(mktemp -d "${TMPDIR:-/tmp}/warm-postgres-XXXXXX")
+    local parent=${TMPDIR:-/tmp}
+    [ -d /dev/shm ] && [ -w /dev/shm ] && [ -z "${TMPDIR:-}" ] && parent=/dev/shm
+    work=$(mktemp -d "$parent/warm-postgres-XXXXXX")
     bin=$work/usr/lib/postgresql/$version/bin
     servers=()
     loads=()

@@ -14,10 +14,6 @@
 #include "storage/buf_internals.h"
 #include "utils/rel.h"
 
-#if PG_VERSION_NUM < 150000
-#error "warm_standby needs PostgreSQL 15 or later"
-#endif
-
 #if PG_VERSION_NUM >= 160000
 #include "utils/relfilenumbermap.h"
 #define TagSpace(tag)			((tag)->spcOid)

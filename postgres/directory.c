@@ -26,9 +26,10 @@ typedef struct Number
 	uint16		number;
 } Number;
 
+int			ws_device_count = 0;	/* the greatest number given, plus 1 */
+
 static HTAB *numbers = NULL;
 static WsDevice *devices = NULL;	/* by number; fork -1: not given */
-static int	device_count = 0;	/* the greatest number given, plus 1 */
 static int	device_room = 0;
 
 /* Forgets all numbers. */
@@ -45,98 +46,109 @@ ws_directory_reset(void)
 	numbers = hash_create("warm_standby devices", 64, &control,
 						  HASH_ELEM | HASH_BLOBS | HASH_CONTEXT);
 	device_room = 64;
-	device_count = 0;
+	ws_device_count = 0;
 	devices = MemoryContextAlloc(TopMemoryContext, device_room * sizeof(WsDevice));
 }
 
-/* The number of a device, or -1. */
-int
-ws_directory_find(const WsDevice *device)
+/* The device of a number, or NULL. */
+static const WsDevice *
+device_of(int number)
+{
+	return number < ws_device_count && devices[number].fork >= 0 ? &devices[number] : NULL;
+}
+
+/* Notes that a device has a number; false where it has another, or the number another device. */
+static bool
+put(uint16 number, const WsDevice *device)
 {
 	Number	   *entry = hash_search(numbers, device, HASH_FIND, NULL);
 
-	return entry != NULL ? entry->number : -1;
-}
-
-/* The number of a device, given now where it has none; -1 where all are given. */
-int
-ws_directory_give(const WsDevice *device)
-{
-	int			number = ws_directory_find(device);
-
-	if (number >= 0)
-		return number;
-	if (device_count == MOST_DEVICES)
-		return -1;
-	number = device_count;
-	ws_directory_put(number, device);
-	return number;
-}
-
-static void
-make_room(int number)
-{
-	if (number >= device_room)
+	if (entry != NULL || device_of(number) != NULL)
+		return entry != NULL && entry->number == number;
+	while (number >= device_room)
 	{
-		while (number >= device_room)
-			device_room *= 2;
+		device_room *= 2;
 		devices = repalloc(devices, device_room * sizeof(WsDevice));
 	}
-	while (device_count <= number)
-		devices[device_count++].fork = -1;
-}
-
-/*
- * Notes that a device has a number.  Returns false, and changes nothing, where
- * the device has another one, or the number is of another device.
- */
-bool
-ws_directory_put(uint16 number, const WsDevice *device)
-{
-	int			known = ws_directory_find(device);
-	bool		found;
-	Number	   *entry;
-
-	if (known >= 0)
-		return known == number;
-	if (ws_directory_get(number) != NULL)
-		return false;
-	make_room(number);
-	entry = hash_search(numbers, device, HASH_ENTER, &found);
-	entry->number = number;
+	while (ws_device_count <= number)
+		devices[ws_device_count++].fork = -1;
 	devices[number] = *device;
+	entry = hash_search(numbers, device, HASH_ENTER, NULL);
+	entry->number = number;
 	return true;
 }
 
-/* The device of a number, or NULL. */
-const WsDevice *
-ws_directory_get(uint16 number)
-{
-	return number < device_count && devices[number].fork >= 0 ? &devices[number] : NULL;
-}
-
-/* The greatest number given, plus 1. */
-int
-ws_directory_count(void)
-{
-	return device_count;
-}
-
 /*
- * The page of the history that a buffer's tag names.  Returns its device's
- * number, or -1 where it has none.  With give, it is given one.
+ * Writes the page of the history that a buffer's tag names; false where its
+ * device has no number.  With give, it is given one, where there are any.
  */
-int
+bool
 ws_page_of(const BufferTag *tag, bool give, warm_page *page)
 {
 	WsDevice	device = {.space = TagSpace(tag), .database = TagDatabase(tag),
 	.fork = tag->forkNum};
-	int			number;
+	Number	   *entry;
 
 	if (tag->forkNum < MAIN_FORKNUM || tag->forkNum > MAX_FORKNUM)
-		return -1;
-	number = give ? ws_directory_give(&device) : ws_directory_find(&device);
-	page->dev = (uint16) Max(number, 0);
+		return false;
 	page->no = (uint64) TagFile(tag) << 32 | tag->blockNum;
-	return number;
+	entry = hash_search(numbers, &device, HASH_FIND, NULL);
+	if (entry != NULL)
+		page->dev = entry->number;
+	else if (give && ws_device_count < MOST_DEVICES)
+	{
+		page->dev = (uint16) ws_device_count;
+		put(page->dev, &device);
+	}
+	else
+		return false;
+	return true;
+}
+
+/* Writes the names of a page of the history; false where its device is not known. */
+bool
+ws_names_of(warm_page page, WsPage *names)
+{
+	const WsDevice *device = device_of(page.dev);
+
+	if (device != NULL)
+		*names = (WsPage) {.device = *device, .file = (Oid) (page.no >> 32),
+	.block = (BlockNumber) page.no};
+	return device != NULL;
+}
+
+/* Writes the numbers from *next on, at most so many of them; returns the end of the bytes. */
+uint8 *
+ws_directory_encode(int *next, int most, uint8 *to)
+{
+	for (; most > 0 && *next < ws_device_count; ++*next)
+	{
+		const WsDevice *device = device_of(*next);
+
+		if (device == NULL)
+			continue;
+		to = ws_put(ws_put(to, *next, 2), device->space, 4);
+		to = ws_put(ws_put(to, device->database, 4), device->fork, 1);
+		most--;
+	}
+	return to;
+}
+
+/* Takes numbers in, up to the first that is refused. */
+int
+ws_directory_decode(const uint8 *bytes, Size length)
+{
+	if (length % WS_DEVICE_BYTES != 0)
+		return WS_BAD_DIRECTORY;
+	for (const uint8 *at = bytes; at < bytes + length; at += WS_DEVICE_BYTES)
+	{
+		WsDevice	device = {.space = (Oid) ws_get(at + 2, 4), .database = (Oid) ws_get(at + 6, 4),
+		.fork = at[10]};
+
+		if (device.fork > MAX_FORKNUM || !OidIsValid(device.space))
+			return WS_BAD_DIRECTORY;
+		if (!put((uint16) ws_get(at, 2), &device))
+			return WS_OTHER_DIRECTORY;
+	}
+	return WARM_OK;
 }

@@ -12,6 +12,7 @@
 #include "postgres.h"
 
 #include <fcntl.h>
+#include <limits.h>
 #include <sys/stat.h>
 #include <unistd.h>
 
@@ -23,38 +24,41 @@
 #include "warm_standby.h"
 
 #define HISTORY_FILE "warm_standby.history"
-#define HISTORY_DRAFT "warm_standby.history.tmp"
 #define DIRECTORY_FILE "warm_standby.directory"
-#define DIRECTORY_DRAFT "warm_standby.directory.tmp"
+#define DRAFT_FILE "warm_standby.tmp"
 #define DIRECTORY_MAGIC UINT64CONST(0x5741524d44495231)	/* WARMDIR1 */
-#define DIRECTORY_HEADER 28		/* magic, system identifier, latest time, count */
+#define DIRECTORY_HEADER 24		/* magic, system identifier, latest time */
+#define MOST_DIRECTORY_BYTES (DIRECTORY_HEADER + 65536 * WS_DEVICE_BYTES + 4)
 
 #define REFERENCES 1024
-#define US_PER_S INT64CONST(1000000)
 #define BOUND_US (60 * US_PER_S)
 
 uint64		ws_changed_buckets = 0;
+uint64		ws_latest = 0;	/* the latest time given or heard of */
 
 static warm history = {0};
-static uint64 latest = 0;		/* the latest time given or heard of */
 static uint16 replica = 1;		/* of a primary, by its timeline */
 static warm_reference references[REFERENCES];
 static int	reference_count = 0;
 
-static const char *
-status_name(int status)
+static const char *own_names[] = {"BadMessage", "BadVersion", "BadDirectory", "OtherDirectory",
+"LateMessage"};
+
+/* Writes the name of a status, of WS_NAME_ROOM bytes at most. */
+void
+ws_status_name(int status, char *name)
 {
-	static char name[32];
 	Size		length;
 
-	warm_status_name(status, (uint8 *) name, sizeof name, &length);
-	name[sizeof name - 1] = '\0';
-	return name;
+	if (status >= WS_BAD_MESSAGE && status <= WS_LATE_MESSAGE)
+		strlcpy(name, own_names[status - WS_BAD_MESSAGE], WS_NAME_ROOM);
+	else
+		warm_status_name(status, (uint8 *) name, WS_NAME_ROOM, &length);
 }
 
 /* Opens an empty history. */
-void
-ws_history_open(void)
+static void
+open_history(void)
 {
 	warm_device none = {0};
 	int			status = warm_open(&history, 1, 1, 1, &none, 0);
@@ -62,7 +66,7 @@ ws_history_open(void)
 	if (status != WARM_OK)
 		ereport(ERROR,
 				(errcode(ERRCODE_OUT_OF_MEMORY),
-				 errmsg("warm_standby could not open its history: %s", status_name(status))));
+				 errmsg("warm_standby could not open its history: %s", ws_shared->names[status])));
 	reference_count = 0;
 	ws_changed_buckets = 0;
 }
@@ -76,8 +80,8 @@ ws_history_reset(const char *why)
 	(void) unlink(HISTORY_FILE);
 	(void) unlink(DIRECTORY_FILE);
 	ws_directory_reset();
-	ws_history_open();
-	latest = 0;
+	open_history();
+	ws_latest = 0;
 	ws_stats.resets++;
 }
 
@@ -101,19 +105,12 @@ ws_clock(void)
 {
 	uint64		now = (uint64) GetCurrentTimestamp();
 
-	if (latest > time_limit())
+	if (ws_latest > time_limit())
 		ws_history_reset("the clock was set back");
-	latest = Max(now, latest + 1);
+	ws_latest = Max(now, ws_latest + 1);
 	/* Timelines differ, so two primaries do. */
 	replica = (uint16) ((GetWALInsertionTimeLine() - 1) % 64 + 1);
-	return latest;
-}
-
-/* A primary wrote a message at this time. */
-void
-ws_clock_heard(uint64 time)
-{
-	latest = Max(latest, time);
+	return ws_latest;
 }
 
 /* ---- references and frames ---- */
@@ -122,7 +119,7 @@ static void
 note(int status)
 {
 	if (status != WARM_OK && status >= 0 && status < WS_STATUSES)
-		ws_stats.refused[status]++;
+		ws_refused[status]++;
 }
 
 /* Hands in what ws_reference has kept. */
@@ -141,7 +138,7 @@ ws_reference(warm_page page, uint64 time)
 	references[reference_count++] = (warm_reference) {.time = time, .no = page.no, .dev = page.dev,
 	.replica = replica};
 	ws_changed_buckets |= UINT64CONST(1) << ((page.dev + page.no) % 64);
-	ws_stats.references++;
+	ws_stats.page_references++;
 	if (reference_count == REFERENCES)
 		ws_references_end();
 }
@@ -158,12 +155,11 @@ ws_history_receive(const uint8 *frame, Size length)
 	return status;
 }
 
-/* The next frame of a bucket; false where the library refuses it. */
+/* The next frame of a bucket, of at most WS_FRAME_ROOM bytes; false where it is refused. */
 bool
-ws_history_pieces(uint8 bucket, bool has_after, warm_page after, uint8 *frame, Size room,
-				  Size *length)
+ws_history_piece(uint8 bucket, bool has_after, warm_page after, uint8 *frame, Size *length)
 {
-	int			status = warm_send(&history, bucket, has_after, after, frame, room, length);
+	int			status = warm_send(&history, bucket, has_after, after, frame, WS_FRAME_ROOM, length);
 
 	note(status);
 	return status == WARM_OK;
@@ -193,127 +189,91 @@ known(void)
 
 /*
  * Forgets pages that were not referenced for too long; and where there are
- * too many pages, the older references of all, in steps of an eighth of the
+ * too many pages, the older references of all, in steps of a quarter of the
  * time that is left.  It walks the history, so it is done once a minute, or
  * where there are more pages than the bound and an eighth.
  */
 void
 ws_history_bound(void)
 {
-	static uint64 bounded_at = 0;
+	static uint64 bound_at = 0;
 	Size		most = ws_history_pages > 0 ? ws_history_pages : (Size) NBuffers * 4;
-	uint64		now = Max((uint64) GetCurrentTimestamp(), latest);
+	uint64		now = Max((uint64) GetCurrentTimestamp(), ws_latest);
 	uint64		age = (uint64) ws_history_age * 60 * US_PER_S;
 	uint64		horizon = 0;
 
 	ws_stats.known = known();
-	ws_stats.devices = ws_directory_count();
-	if (ws_stats.known <= most + most / 8 && now >= bounded_at && now - bounded_at < BOUND_US)
+	ws_stats.devices = ws_device_count;
+	if (ws_stats.known <= most + most / 8 && ws_us() < bound_at)
 		return;
-	bounded_at = now;
+	bound_at = ws_us() + BOUND_US;
 	warm_horizon(&history, age > 0 && age < now ? now - age : 0, &horizon);
 	if (horizon == 0 && known() > most)
 		warm_horizon(&history, now - Min(now, UINT64CONST(86400) * US_PER_S), &horizon);
 	while (known() > most && horizon < now)
-		warm_horizon(&history, horizon + (now - horizon) / 8 + 1, &horizon);
+		warm_horizon(&history, horizon + (now - horizon) / 4 + 1, &horizon);
 	ws_stats.known = known();
 }
 
 /* ---- the files ---- */
 
-/* Writes a whole file by a descriptor; the caller closes it. */
-static bool
-write_all(int fd, const uint8 *bytes, Size length)
-{
-	errno = 0;
-	if (write(fd, bytes, length) != (ssize_t) length)
-	{
-		if (errno == 0)
-			errno = ENOSPC;
-		return false;
-	}
-	return pg_fsync(fd) == 0;
-}
-
 static int
-open_draft(const char *path)
+open_draft(void)
 {
-	(void) unlink(path);
-	return OpenTransientFile(path, O_CREAT | O_EXCL | O_WRONLY | PG_BINARY);
+	(void) unlink(DRAFT_FILE);
+	return OpenTransientFile(DRAFT_FILE, O_CREAT | O_EXCL | O_WRONLY | PG_BINARY);
 }
 
-/* Replaces a file by its draft, or drops the draft.  Errors are only logged. */
+/* Puts the draft into a file's place; where there was a fault, says so and drops it. */
 static bool
-end_draft(int fd, const char *draft, const char *path, bool written)
+end_draft(int fd, const char *path, const char *fault)
 {
-	int			write_errno = errno;
-
-	if (fd >= 0 && CloseTransientFile(fd) != 0 && written)
-	{
-		write_errno = errno;
-		written = false;
-	}
-	if (written && durable_rename(draft, path, LOG) == 0)
+	if (fd >= 0 && CloseTransientFile(fd) != 0 && fault == NULL)
+		fault = strerror(errno);
+	if (fault == NULL && durable_rename(DRAFT_FILE, path, LOG) == 0)
 		return true;
-	if (!written)
-	{
-		errno = write_errno;
-		ereport(LOG, (errcode_for_file_access(),
-					  errmsg("warm_standby could not write \"%s\": %m", draft)));
-	}
-	(void) unlink(draft);
+	if (fault != NULL)
+		ereport(LOG, (errmsg("warm_standby could not write \"%s\": %s", path, fault)));
+	(void) unlink(DRAFT_FILE);
 	return false;
 }
 
 static bool
 save_directory(void)
 {
-	int			count = ws_directory_count();
-	uint8	   *bytes = palloc(DIRECTORY_HEADER + count * WS_DEVICE_BYTES + sizeof(pg_crc32c));
-	uint8	   *to = ws_put(bytes, DIRECTORY_MAGIC, 8);
-	int			given = 0;
-	int			fd;
-	bool		written;
+	uint8	   *bytes = palloc(DIRECTORY_HEADER + ws_device_count * WS_DEVICE_BYTES + 4);
+	const char *fault = NULL;
+	int			next = 0;
+	int			fd = open_draft();
+	Size		length;
 	pg_crc32c	crc;
 
-	to = bytes + DIRECTORY_HEADER;
-	for (int i = 0; i < count; i++)
-	{
-		const WsDevice *device = ws_directory_get(i);
-
-		if (device == NULL)
-			continue;
-		to = ws_put(ws_put(to, i, 2), device->space, 4);
-		to = ws_put(ws_put(to, device->database, 4), device->fork, 1);
-		given++;
-	}
-	ws_put(ws_put(ws_put(bytes + 8, GetSystemIdentifier(), 8), latest, 8), given, 4);
+	if (fd < 0)
+		return end_draft(fd, DIRECTORY_FILE, strerror(errno));
+	ws_put(ws_put(ws_put(bytes, DIRECTORY_MAGIC, 8), GetSystemIdentifier(), 8), ws_latest, 8);
+	length = ws_directory_encode(&next, INT_MAX, bytes + DIRECTORY_HEADER) - bytes;
 	INIT_CRC32C(crc);
-	COMP_CRC32C(crc, bytes, to - bytes);
+	COMP_CRC32C(crc, bytes, length);
 	FIN_CRC32C(crc);
-	to = ws_put(to, crc, 4);
-	fd = open_draft(DIRECTORY_DRAFT);
-	written = fd >= 0 && write_all(fd, bytes, to - bytes);
-	written = end_draft(fd, DIRECTORY_DRAFT, DIRECTORY_FILE, written);
-	pfree(bytes);
-	return written;
+	ws_put(bytes + length, crc, 4);
+	length += 4;
+	errno = ENOSPC;				/* a write that is short says nothing */
+	if (write(fd, bytes, length) != (ssize_t) length || pg_fsync(fd) != 0)
+		fault = strerror(errno);
+	return end_draft(fd, DIRECTORY_FILE, fault);
 }
 
 static bool
 save_history(void)
 {
-	int			fd = open_draft(HISTORY_DRAFT);
-	int			status = WARM_DUMP_NOT_WRITTEN;
+	int			fd = open_draft();
+	int			status;
 
-	if (fd >= 0)
-	{
-		errno = 0;
-		status = warm_save(&history, fd);
-		if (status != WARM_OK && errno == 0)
-			errno = status == WARM_MEMORY ? ENOMEM : EIO;
-		note(status);
-	}
-	return end_draft(fd, HISTORY_DRAFT, HISTORY_FILE, status == WARM_OK);
+	if (fd < 0)
+		return end_draft(fd, HISTORY_FILE, strerror(errno));
+	status = warm_save(&history, fd);
+	note(status);
+	return end_draft(fd, HISTORY_FILE, status == WARM_OK ? NULL : ws_shared->names[status]);
 }
 
 /*
@@ -329,40 +289,16 @@ ws_history_save(void)
 		ws_stats.save_failures++;
 }
 
-static bool
-directory_is_good(const uint8 *bytes, Size length)
-{
-	pg_crc32c	crc;
-
-	if (length < DIRECTORY_HEADER + 4 || ws_get(bytes, 8) != DIRECTORY_MAGIC ||
-		ws_get(bytes + 8, 8) != GetSystemIdentifier() ||
-		length != DIRECTORY_HEADER + 4 + ws_get(bytes + 24, 4) * WS_DEVICE_BYTES)
-		return false;
-	INIT_CRC32C(crc);
-	COMP_CRC32C(crc, bytes, length - 4);
-	FIN_CRC32C(crc);
-	return crc == ws_get(bytes + length - 4, 4);
-}
-
 /* Opens a file for reading; -1 where there is none. */
 static int
 open_saved(const char *path, Size *length)
 {
-	struct stat st;
+	struct stat st = {0};
 	int			fd = OpenTransientFile(path, O_RDONLY | PG_BINARY);
 
-	if (fd < 0)
-	{
-		if (errno != ENOENT)
-			ereport(LOG, (errcode_for_file_access(),
-						  errmsg("warm_standby could not open \"%s\": %m", path)));
-		return -1;
-	}
-	if (fstat(fd, &st) != 0 || st.st_size < 0)
-	{
-		CloseTransientFile(fd);
-		return -1;
-	}
+	if (fd < 0 ? errno != ENOENT : fstat(fd, &st) != 0)
+		ereport(LOG, (errcode_for_file_access(),
+					  errmsg("warm_standby could not read \"%s\": %m", path)));
 	*length = st.st_size;
 	return fd;
 }
@@ -374,48 +310,53 @@ load_directory(void)
 	int			fd = open_saved(DIRECTORY_FILE, &length);
 	uint8	   *bytes;
 	bool		good;
+	pg_crc32c	crc;
 
 	if (fd < 0)
 		return false;
-	length = Min(length, 65536 * WS_DEVICE_BYTES + 1024);
+	length = Min(length, MOST_DIRECTORY_BYTES);
 	bytes = palloc(length + 1);
-	good = read(fd, bytes, length) == (ssize_t) length && directory_is_good(bytes, length);
+	good = length >= DIRECTORY_HEADER + 4 && read(fd, bytes, length) == (ssize_t) length &&
+		ws_get(bytes, 8) == DIRECTORY_MAGIC && ws_get(bytes + 8, 8) == GetSystemIdentifier();
 	CloseTransientFile(fd);
-	for (const uint8 *at = bytes + DIRECTORY_HEADER; good && at < bytes + length - 4;
-		 at += WS_DEVICE_BYTES)
-	{
-		WsDevice	device = {.space = (Oid) ws_get(at + 2, 4), .database = (Oid) ws_get(at + 6, 4),
-		.fork = at[10]};
-
-		good = ws_directory_put((uint16) ws_get(at, 2), &device);
-	}
 	if (good)
-		latest = ws_get(bytes + 16, 8);
-	pfree(bytes);
+	{
+		length -= 4;
+		INIT_CRC32C(crc);
+		COMP_CRC32C(crc, bytes, length);
+		FIN_CRC32C(crc);
+		ws_latest = ws_get(bytes + 16, 8);
+		good = crc == ws_get(bytes + length, 4) &&
+			ws_directory_decode(bytes + DIRECTORY_HEADER, length - DIRECTORY_HEADER) == WARM_OK;
+	}
 	if (!good)
 	{
 		ereport(LOG, (errmsg("warm_standby does not use \"%s\": it is damaged, or of another cluster",
 							 DIRECTORY_FILE)));
 		ws_directory_reset();
+		ws_latest = 0;
 	}
 	return good;
 }
 
-/* Takes in what was saved.  Files that are damaged are left alone. */
+/* Begins with what was saved.  Files that are damaged are left alone. */
 void
-ws_history_load(void)
+ws_history_start(void)
 {
 	Size		length;
 	int			fd;
 	int			status;
 
+	open_history();
 	ws_directory_reset();
-	if (!load_directory() || (fd = open_saved(HISTORY_FILE, &length)) < 0)
-		return;
-	status = warm_load(&history, fd, length);
-	CloseTransientFile(fd);
-	note(status);
-	if (status != WARM_OK)
-		ereport(LOG, (errmsg("warm_standby does not use \"%s\": %s", HISTORY_FILE,
-							 status_name(status))));
+	if (load_directory() && (fd = open_saved(HISTORY_FILE, &length)) >= 0)
+	{
+		status = warm_load(&history, fd, length);
+		CloseTransientFile(fd);
+		note(status);
+		if (status != WARM_OK)
+			ereport(LOG, (errmsg("warm_standby does not use \"%s\": %s", HISTORY_FILE,
+								 ws_shared->names[status])));
+	}
+	ws_history_bound();
 }

@@ -31,7 +31,7 @@
 
 #define PAGES_A_LOCK	32
 #define IDLE_MS			1000
-#define IDLE_TURNS		60
+#define IDLE_TURNS		10
 
 PGDLLEXPORT void warm_standby_loader_main(Datum main_arg);
 
@@ -40,96 +40,71 @@ static uint64 epoch;
 static WsLoaded done;			/* since it was last added to the shared counts */
 static WsRequest batch[WS_BATCH];
 
-/* By file and block.  Shared memory is compared nowhere: batch is our own. */
+/* By device and file, in any order, and then by block. */
 static int
-by_file(const void *a, const void *b)
+by_page(const void *a, const void *b)
 {
-	const WsRequest *x = a;
-	const WsRequest *y = b;
+	const WsPage *x = &((const WsRequest *) a)->page;
+	const WsPage *y = &((const WsRequest *) b)->page;
+	int			order = memcmp(x, y, offsetof(WsPage, block));
 
-	if (x->space != y->space)
-		return x->space < y->space ? -1 : 1;
-	if (x->file != y->file)
-		return x->file < y->file ? -1 : 1;
-	if (x->fork != y->fork)
-		return x->fork < y->fork ? -1 : 1;
-	return x->block < y->block ? -1 : x->block > y->block;
-}
-
-static bool
-same_file(const WsRequest *a, const WsRequest *b)
-{
-	return a->space == b->space && a->file == b->file && a->fork == b->fork;
-}
-
-static void
-set_outcome(WsRequest *some, int count, WsOutcome outcome)
-{
-	for (int i = 0; i < count; i++)
-		some[i].outcome = outcome;
+	return order != 0 ? order : x->block < y->block ? -1 : x->block > y->block;
 }
 
 /* Reads pages of one fork of a relation that is locked. */
 static void
 read_pages(Relation relation, WsRequest *some, int count)
 {
-	ForkNumber	fork = some->fork;
+	ForkNumber	fork = some->page.device.fork;
 	BlockNumber blocks = 0;
 
 	if (smgrexists(RelationGetSmgr(relation), fork))
 		blocks = smgrnblocks(RelationGetSmgr(relation), fork);
 	for (int i = 0; i < count; i++)
 	{
-		if (some[i].block >= blocks)
+		if (some[i].page.block >= blocks)
 		{
 			some[i].outcome = WS_NO_BLOCK;
 			continue;
 		}
 		if (some[i].prefetch)
 		{
-			(void) PrefetchBuffer(relation, fork, some[i].block);
-			done.prefetched++;
+			(void) PrefetchBuffer(relation, fork, some[i].page.block);
+			done.pages_prefetched++;
 		}
 		else
 		{
-			ReleaseBuffer(ReadBufferExtended(relation, fork, some[i].block, RBM_NORMAL, NULL));
-			done.read++;
+			ReleaseBuffer(ReadBufferExtended(relation, fork, some[i].page.block, RBM_NORMAL, NULL));
+			done.pages_read++;
 		}
 		some[i].outcome = WS_LOADED;
 		CHECK_FOR_INTERRUPTS();
 	}
 }
 
-/* Reads pages of one file, in a transaction. */
-static void
+/* Reads pages of one file, in a transaction; returns why those fail that were not looked at. */
+static WsOutcome
 read_file(WsRequest *some, int count)
 {
-	Oid			relid = RelidOfFile(some->space, some->file);
+	Oid			relid = RelidOfFile(some->page.device.space, some->page.file);
 	Relation	relation;
 
 	if (!OidIsValid(relid))
-	{
-		set_outcome(some, count, WS_NO_FILE);
-		return;
-	}
+		return WS_NO_FILE;
 	if (!ConditionalLockRelationOid(relid, AccessShareLock))
-	{
-		set_outcome(some, count, WS_BUSY);
-		return;
-	}
+		return WS_BUSY;
 	relation = try_relation_open(relid, NoLock);
 	if (relation == NULL)
 	{
 		UnlockRelationOid(relid, AccessShareLock);
-		set_outcome(some, count, WS_NO_FILE);
-		return;
+		return WS_NO_FILE;
 	}
 	/* It may have got another file before it was locked. */
-	if (RelationFile(relation) == some->file && RelationSpace(relation) == some->space)
+	if (RelationFile(relation) == some->page.file &&
+		RelationSpace(relation) == some->page.device.space)
 		read_pages(relation, some, count);
-	else
-		set_outcome(some, count, WS_NO_FILE);
 	relation_close(relation, AccessShareLock);
+	return WS_NO_FILE;
 }
 
 /* The same, where an error costs these pages and nothing else. */
@@ -137,11 +112,12 @@ static void
 try_file(WsRequest *some, int count)
 {
 	MemoryContext context = CurrentMemoryContext;
+	volatile WsOutcome rest = WS_FAILED;
 
 	PG_TRY();
 	{
 		StartTransactionCommand();
-		read_file(some, count);
+		rest = read_file(some, count);
 		CommitTransactionCommand();
 	}
 	PG_CATCH();
@@ -152,16 +128,16 @@ try_file(WsRequest *some, int count)
 		error = CopyErrorData();
 		FlushErrorState();
 		AbortCurrentTransaction();
-		for (int i = 0; i < count; i++)
-			if (some[i].outcome == WS_WAITING)
-				some[i].outcome = WS_FAILED;
-		done.errors++;
-		ereport(DEBUG1, (errmsg_internal("warm_standby could not read file %u: %s", some->file,
+		done.read_errors++;
+		ereport(DEBUG1, (errmsg_internal("warm_standby could not read file %u: %s", some->page.file,
 										 error->message)));
 		FreeErrorData(error);
 	}
 	PG_END_TRY();
 	MemoryContextSwitchTo(context);
+	for (int i = 0; i < count; i++)
+		if (some[i].outcome == WS_WAITING)
+			some[i].outcome = rest;
 }
 
 /* Whether the worker that started this loader is there, on a standby. */
@@ -179,20 +155,20 @@ is_needed(void)
 static void
 load(uint32 count)
 {
-	TimestampTz begun = GetCurrentTimestamp();
+	uint64		begun = ws_us();
 
-	qsort(batch, count, sizeof(WsRequest), by_file);
+	qsort(batch, count, sizeof(WsRequest), by_page);
 	for (uint32 i = 0, k; i < count; i = k)
 	{
 		for (k = i + 1; k < count && k - i < PAGES_A_LOCK; k++)
-			if (!same_file(&batch[i], &batch[k]))
+			if (memcmp(&batch[k].page, &batch[i].page, offsetof(WsPage, block)) != 0)
 				break;
 		CHECK_FOR_INTERRUPTS();
 		if (!is_needed())
 			return;
 		try_file(&batch[i], k - i);
 	}
-	done.read_us += GetCurrentTimestamp() - begun;
+	done.read_us += ws_us() - begun;
 }
 
 /* Takes the batch of the slot, where there is one. */
@@ -220,9 +196,9 @@ give_outcomes(uint32 count)
 		memcpy(slot->pages, batch, count * sizeof(WsRequest));
 		slot->state = WS_SLOT_DONE;
 	}
-	ws_shared->loaded.read += done.read;
-	ws_shared->loaded.prefetched += done.prefetched;
-	ws_shared->loaded.errors += done.errors;
+	ws_shared->loaded.pages_read += done.pages_read;
+	ws_shared->loaded.pages_prefetched += done.pages_prefetched;
+	ws_shared->loaded.read_errors += done.read_errors;
 	ws_shared->loaded.read_us += done.read_us;
 	LWLockRelease(ws_shared->lock);
 	memset(&done, 0, sizeof done);
@@ -238,12 +214,18 @@ leave(int code, Datum arg)
 	LWLockRelease(ws_shared->lock);
 }
 
-static Oid
-enter(int number)
+void
+warm_standby_loader_main(Datum main_arg)
 {
 	Oid			database = InvalidOid;
+	int			idle = 0;
 
-	slot = &ws_shared->loaders[number];
+	pqsignal(SIGTERM, die);
+	pqsignal(SIGHUP, SignalHandlerForConfigReload);
+	BackgroundWorkerUnblockSignals();
+	memcpy(&epoch, MyBgworkerEntry->bgw_extra, sizeof epoch);
+	slot = &ws_shared->loaders[DatumGetInt32(main_arg)];
+	before_shmem_exit(leave, (Datum) 0);
 	LWLockAcquire(ws_shared->lock, LW_EXCLUSIVE);
 	if (ws_shared->epoch == epoch)
 	{
@@ -251,21 +233,6 @@ enter(int number)
 		slot->latch = MyLatch;
 	}
 	LWLockRelease(ws_shared->lock);
-	return database;
-}
-
-void
-warm_standby_loader_main(Datum main_arg)
-{
-	Oid			database;
-	int			idle = 0;
-
-	pqsignal(SIGTERM, die);
-	pqsignal(SIGHUP, SignalHandlerForConfigReload);
-	BackgroundWorkerUnblockSignals();
-	memcpy(&epoch, MyBgworkerEntry->bgw_extra, sizeof epoch);
-	before_shmem_exit(leave, (Datum) 0);
-	database = enter(DatumGetInt32(main_arg));
 	if (!OidIsValid(database))
 		proc_exit(0);
 	BackgroundWorkerInitializeConnectionByOid(database, InvalidOid, BGWORKER_BYPASS_ALLOWCONN);

@@ -23,7 +23,8 @@
 #define FRAME_HEADER	23		/* of a frame of entries, with its count */
 #define FRAME_ENTRIES	1000
 #define DEVICES_A_MESSAGE 1000
-#define DIRECTORY_US	INT64CONST(10000000)
+#define MOST_LATE_US	(60 * US_PER_S)
+#define DIRECTORY_US	(10 * US_PER_S)
 
 /* Where the publication is: a bucket, and the page after which it goes on. */
 static bool is_sending = false;
@@ -34,10 +35,11 @@ static warm_page after;
 static uint8 next_changed = 0;	/* where the search for a changed bucket begins */
 static uint8 next_in_turn = 0;
 static int	devices_sent = 0;
-static TimestampTz directory_at = 0;	/* when all of it was sent last */
+static uint64 directory_at;		/* when all of it was sent last */
 static int64 allowance = 0;		/* bytes that may be sent now */
-static TimestampTz paid_at = 0;
-static TimestampTz turn_at = 0; /* when the next bucket in turn is due */
+static XLogRecPtr last_message = InvalidXLogRecPtr;
+static uint64 paid_at;
+static uint64 turn_at;			/* when the next bucket in turn is due */
 
 /* The next publication sends the directory first. */
 void
@@ -46,29 +48,25 @@ ws_publish_reset(void)
 	is_sending = false;
 	devices_sent = 0;
 	allowance = 0;
-	paid_at = turn_at = GetCurrentTimestamp();
+	directory_at = paid_at = turn_at = ws_us();
 }
 
 /* Writes one message.  An idle server makes no checkpoint for its sake. */
 static void
 emit(uint8 kind, uint8 *message, Size length)
 {
-	xl_logical_message record = {0};
+	xl_logical_message record = {.dbId = InvalidOid, .transactional = false,
+	.prefix_size = sizeof WS_NAME, .message_size = length};
 
 	message[0] = WS_MESSAGE_VERSION;
 	message[1] = kind;
 	ws_put(message + 2, (uint64) GetCurrentTimestamp(), 8);
-	record.dbId = InvalidOid;
-	record.transactional = false;
-	record.prefix_size = sizeof WS_NAME;
-	record.message_size = length;
-
 	XLogBeginInsert();
 	XLogRegisterData((char *) &record, SizeOfLogicalMessage);
 	XLogRegisterData((char *) WS_NAME, sizeof WS_NAME);
 	XLogRegisterData((char *) message, length);
 	XLogSetRecordFlags(XLOG_MARK_UNIMPORTANT);
-	XLogInsert(RM_LOGICALMSG_ID, XLOG_LOGICAL_MESSAGE);
+	last_message = XLogInsert(RM_LOGICALMSG_ID, XLOG_LOGICAL_MESSAGE);
 	allowance -= length;
 	ws_stats.frames_sent++;
 	ws_stats.bytes_sent += length;
@@ -79,51 +77,21 @@ emit(uint8 kind, uint8 *message, Size length)
  * since no standby uses a page whose device it does not know.
  */
 static void
-send_directory(TimestampTz now)
+send_directory(uint64 now)
 {
-	uint8	   *message;
+	uint8		message[WS_HEADER + DEVICES_A_MESSAGE * WS_DEVICE_BYTES];
 
-	if (now - directory_at > DIRECTORY_US || now < directory_at)
+	if (now - directory_at > DIRECTORY_US)
 	{
 		devices_sent = 0;
 		directory_at = now;
 	}
-	if (devices_sent == ws_directory_count())
-		return;
-	message = palloc(WS_HEADER + DEVICES_A_MESSAGE * WS_DEVICE_BYTES);
-	while (devices_sent < ws_directory_count())
+	while (devices_sent < ws_device_count)
 	{
-		uint8	   *to = message + WS_HEADER;
+		uint8	   *end = ws_directory_encode(&devices_sent, DEVICES_A_MESSAGE, message + WS_HEADER);
 
-		for (int i = 0; i < DEVICES_A_MESSAGE && devices_sent < ws_directory_count(); i++)
-		{
-			const WsDevice *device = ws_directory_get(devices_sent);
-
-			if (device != NULL)
-			{
-				to = ws_put(ws_put(to, devices_sent, 2), device->space, 4);
-				to = ws_put(ws_put(to, device->database, 4), device->fork, 1);
-			}
-			devices_sent++;
-		}
-		emit(WS_MESSAGE_DIRECTORY, message, to - message);
+		emit(WS_MESSAGE_DIRECTORY, message, end - message);
 	}
-	pfree(message);
-}
-
-/* Writes the last page of a frame of entries, and returns their number. */
-static uint64
-last_page(const uint8 *frame, Size length, warm_page *page)
-{
-	const uint8 *at = frame + FRAME_HEADER;
-
-	while (at < frame + length)
-	{
-		page->dev = (uint16) ws_get(at, 2);
-		page->no = ws_get(at + 2, 8);
-		at += 11 + 10 * at[10];
-	}
-	return ws_get(frame + FRAME_HEADER - 4, 4);
 }
 
 /*
@@ -137,15 +105,19 @@ static void
 send_piece(void)
 {
 	uint8		message[WS_HEADER + WS_FRAME_ROOM];
+	const uint8 *at = message + WS_HEADER + FRAME_HEADER;
 	Size		length;
 	uint64		count;
 
-	if (!ws_history_pieces(bucket, has_after, after, message + WS_HEADER, WS_FRAME_ROOM, &length))
-	{
-		is_sending = false;
+	is_sending = ws_history_piece(bucket, has_after, after, message + WS_HEADER, &length);
+	if (!is_sending)
 		return;
+	count = ws_get(at - 4, 4);
+	for (; at < message + WS_HEADER + length; at += 11 + 10 * at[10])
+	{
+		after.dev = (uint16) ws_get(at, 2);
+		after.no = ws_get(at + 2, 8);
 	}
-	count = last_page(message + WS_HEADER, length, &after);
 	if (count > 0)
 		emit(WS_MESSAGE_FRAME, message, WS_HEADER + length);
 	has_after = true;
@@ -154,25 +126,24 @@ send_piece(void)
 
 /* Takes the next bucket that changed, or that is due in turn. */
 static bool
-next_bucket(TimestampTz now)
+next_bucket(uint64 now)
 {
-	uint64		bit;
-
-	for (int i = 0; i < BUCKETS; i++)
+	if (ws_changed_buckets != 0)
 	{
-		bucket = (next_changed + i) % BUCKETS;
-		bit = UINT64CONST(1) << bucket;
-		if ((ws_changed_buckets & bit) == 0)
-			continue;
-		ws_changed_buckets &= ~bit;
-		next_changed = (bucket + 1) % BUCKETS;
-		return true;
+		while ((ws_changed_buckets >> next_changed & 1) == 0)
+			next_changed = (next_changed + 1) % BUCKETS;
+		ws_changed_buckets &= ~(UINT64CONST(1) << next_changed);
+		bucket = next_changed;
 	}
-	if (turn_at > now)
+	else if (now >= turn_at)
+	{
+		bucket = next_in_turn;
+		next_in_turn = (next_in_turn + 1) % BUCKETS;
+		turn_at += ws_full_interval * US_PER_S / BUCKETS;
+	}
+	else
 		return false;
-	bucket = next_in_turn;
-	next_in_turn = (next_in_turn + 1) % BUCKETS;
-	turn_at += ws_full_interval * INT64CONST(1000000) / BUCKETS;
+	has_after = false;
 	return true;
 }
 
@@ -180,26 +151,18 @@ next_bucket(TimestampTz now)
 void
 ws_publish(void)
 {
-	TimestampTz now = GetCurrentTimestamp();
+	uint64		now = ws_us();
 	int64		rate = ws_publish_rate * INT64CONST(1024);
 
-	if (now > paid_at)
-		allowance += (int64) ((double) rate * Min(now - paid_at, INT64CONST(60000000)) / 1e6);
-	allowance = Min(allowance, Max(rate, WS_FRAME_ROOM) * INT64CONST(10));
+	allowance += (int64) (rate * ((now - paid_at) / 1e6));
+	allowance = Min(allowance, Max(rate, WS_FRAME_ROOM) * 10);
 	paid_at = now;
-	if (turn_at < now - INT64CONST(60000000) || turn_at > now + INT64CONST(86400000000))
-		turn_at = now;
+	turn_at = Max(turn_at, now - MOST_LATE_US);
 	send_directory(now);
-	while (allowance > 0)
+	while (allowance > 0 && (is_sending || next_bucket(now)))
 	{
-		if (!is_sending)
-		{
-			if (!next_bucket(now))
-				break;
-			is_sending = true;
-			has_after = false;
-		}
 		send_piece();
 		send_directory(now);
 	}
+	XLogSetAsyncXactLSN(last_message);	/* so that the WAL writer does not leave it */
 }

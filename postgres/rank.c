@@ -23,7 +23,7 @@
 #include "warm_standby.h"
 
 /* How long a file or page that could not be loaded is left alone. */
-#define FORGIVE_US		INT64CONST(300000000)
+#define FORGIVE_US		(300 * US_PER_S)
 #define MOST_UNLOADABLE 65536
 
 typedef struct Wanted
@@ -46,25 +46,19 @@ typedef struct Wanted
 #include "lib/simplehash.h"
 
 /*
- * A page; with block InvalidBlockNumber a whole file; and with file InvalidOid
- * too a whole database, of which the device has nothing else.
+ * Pages; with block InvalidBlockNumber whole files; and with file InvalidOid too
+ * whole databases, whose device has nothing else.
  */
-typedef struct Unloadable
-{
-	WsDevice	device;
-	Oid			file;
-	BlockNumber block;
-} Unloadable;
-
 static HTAB *unloadable = NULL;
-static TimestampTz unloadable_since;
+static uint64 unloadable_since;
 static MemoryContext round_context = NULL;
 static BackgroundWorkerHandle *handles[WS_MOST_LOADERS];
-static TimestampTz round_at;
+static uint64 round_at;			/* when the last round began */
 static double load_allowance;	/* pages that may be read now */
-static TimestampTz complained_at = 0;
+static uint64 complained_at = 0;
 static bool is_warm;
-static Size prefetched;			/* ranks beyond the wanted that were prefetched */
+static Size prefetched;			/* ranks beyond the wanted, prefetched since then: */
+static uint64 prefetched_since = 0;
 
 /* One round. */
 static warm_page *pages;
@@ -77,54 +71,45 @@ static bool *resident;
 static void
 forgive(void)
 {
-	HASHCTL		control = {.keysize = sizeof(Unloadable), .entrysize = sizeof(Unloadable),
+	HASHCTL		control = {.keysize = sizeof(WsPage), .entrysize = sizeof(WsPage),
 	.hcxt = TopMemoryContext};
 
 	if (unloadable != NULL)
 		hash_destroy(unloadable);
 	unloadable = hash_create("warm_standby unloadable pages", 256, &control,
 							 HASH_ELEM | HASH_BLOBS | HASH_CONTEXT);
-	unloadable_since = GetCurrentTimestamp();
-}
-
-/* Enters or finds a page, a file or a database. */
-static bool
-unloadable_search(WsDevice device, Oid file, BlockNumber block, HASHACTION action)
-{
-	Unloadable	key;
-	bool		found;
-
-	memset(&key, 0, sizeof key);
-	key.device = device;
-	key.file = file;
-	key.block = block;
-	if (action == HASH_ENTER && hash_get_num_entries(unloadable) >= MOST_UNLOADABLE)
-		return false;
-	hash_search(unloadable, &key, action, &found);
-	return found;
-}
-
-static void
-note_unloadable(const WsRequest *request)
-{
-	const WsDevice *device = ws_directory_get(request->device);
-
-	if (device != NULL && request->outcome >= WS_NO_FILE)
-		unloadable_search(*device, request->file,
-						  request->outcome == WS_NO_FILE ? InvalidBlockNumber : request->block,
-						  HASH_ENTER);
+	unloadable_since = ws_us();
 }
 
 static bool
-is_unloadable(const warm_page *page, const WsDevice *device)
+is_unloadable(const WsPage *page)
 {
-	Oid			file = (Oid) (page->no >> 32);
-	WsDevice	database = {.database = device->database};
+	WsPage		file = {.device = page->device, .file = page->file, .block = InvalidBlockNumber};
+	WsPage		database = {.device.database = page->device.database, .block = InvalidBlockNumber};
 
 	return hash_get_num_entries(unloadable) > 0 &&
-		(unloadable_search(*device, file, InvalidBlockNumber, HASH_FIND) ||
-		 unloadable_search(*device, file, (BlockNumber) page->no, HASH_FIND) ||
-		 unloadable_search(database, InvalidOid, InvalidBlockNumber, HASH_FIND));
+		(hash_search(unloadable, page, HASH_FIND, NULL) != NULL ||
+		 hash_search(unloadable, &file, HASH_FIND, NULL) != NULL ||
+		 hash_search(unloadable, &database, HASH_FIND, NULL) != NULL);
+}
+
+/* Notes what a loader could not read; of one that has ended, its database. */
+static void
+note_unloadable(const WsLoader *loader, bool ended)
+{
+	WsPage		key = {.device.database = loader->database, .block = InvalidBlockNumber};
+
+	if (ended && loader->state == WS_SLOT_FULL)
+		hash_search(unloadable, &key, HASH_ENTER, NULL);
+	for (int i = 0; loader->state == WS_SLOT_DONE && i < loader->count; i++)
+	{
+		key = loader->pages[i].page;
+		if (loader->pages[i].outcome == WS_NO_FILE)
+			key.block = InvalidBlockNumber;
+		if (loader->pages[i].outcome >= WS_NO_FILE &&
+			hash_get_num_entries(unloadable) < MOST_UNLOADABLE)
+			hash_search(unloadable, &key, HASH_ENTER, NULL);
+	}
 }
 
 /* ---- loaders ---- */
@@ -155,38 +140,31 @@ ws_rank_reset(void)
 		round_context = AllocSetContextCreate(TopMemoryContext, "warm_standby round",
 											  ALLOCSET_DEFAULT_SIZES);
 	forgive();
-	round_at = GetCurrentTimestamp();
+	round_at = ws_us();
 	load_allowance = 0;
 	is_warm = false;
-	prefetched = 0;
 }
 
 static bool
 start_loader(int slot)
 {
-	BackgroundWorker worker = {0};
-	MemoryContext old;
+	MemoryContext old = MemoryContextSwitchTo(TopMemoryContext);
+	BackgroundWorker worker;
 	bool		started;
 
-	worker.bgw_flags = BGWORKER_SHMEM_ACCESS | BGWORKER_BACKEND_DATABASE_CONNECTION;
-	worker.bgw_start_time = BgWorkerStart_ConsistentState;
+	ws_describe_worker(&worker, "warm_standby_loader_main", "warm_standby loader");
 	worker.bgw_restart_time = BGW_NEVER_RESTART;
-	strlcpy(worker.bgw_library_name, WS_NAME, BGW_MAXLEN);
-	strlcpy(worker.bgw_function_name, "warm_standby_loader_main", BGW_MAXLEN);
-	strlcpy(worker.bgw_name, "warm_standby loader", BGW_MAXLEN);
-	strlcpy(worker.bgw_type, "warm_standby loader", BGW_MAXLEN);
 	worker.bgw_main_arg = Int32GetDatum(slot);
 	memcpy(worker.bgw_extra, &ws_shared->epoch, sizeof ws_shared->epoch);
-	old = MemoryContextSwitchTo(TopMemoryContext);
 	started = RegisterDynamicBackgroundWorker(&worker, &handles[slot]);
 	MemoryContextSwitchTo(old);
-	if (started)
-		return true;
-	if (GetCurrentTimestamp() - complained_at > FORGIVE_US)
+	if (!started && round_at - complained_at > FORGIVE_US)
+	{
 		ereport(LOG, (errmsg("warm_standby has no worker process for a loader"),
 					  errhint("Raise max_worker_processes.")));
-	complained_at = GetCurrentTimestamp();
-	return false;
+		complained_at = round_at;
+	}
+	return started;
 }
 
 /*
@@ -210,27 +188,11 @@ reap_loaders(void)
 			ended = true;
 		}
 		LWLockAcquire(ws_shared->lock, LW_EXCLUSIVE);
-		if (loader->state == WS_SLOT_DONE)
-			for (uint32 k = 0; k < loader->count; k++)
-				note_unloadable(&loader->pages[k]);
-		else if (loader->state == WS_SLOT_FULL && ended)
-			unloadable_search((WsDevice) {.database = loader->database}, InvalidOid,
-							  InvalidBlockNumber, HASH_ENTER);
+		note_unloadable(loader, ended);
 		if (loader->state == WS_SLOT_DONE || ended)
 			clear_slot(loader, ended);
 		LWLockRelease(ws_shared->lock);
 	}
-}
-
-/* Wakes the loaders: after a promotion they end by themselves. */
-void
-ws_wake_loaders(void)
-{
-	LWLockAcquire(ws_shared->lock, LW_SHARED);
-	for (int i = 0; i < ws_shared->loader_count; i++)
-		if (ws_shared->loaders[i].latch != NULL)
-			SetLatch(ws_shared->loaders[i].latch);
-	LWLockRelease(ws_shared->lock);
 }
 
 /* The slot of a database, one that is free, or -1.  A shared catalog's pages may go to any. */
@@ -253,26 +215,17 @@ slot_of(Oid database)
 
 /* Keeps a page for a loader; false where none takes it now.  Only the worker fills an idle slot. */
 static bool
-hand_out(const warm_page *page, const WsDevice *device, bool prefetch)
+hand_out(warm_page page, bool prefetch)
 {
-	int			slot = slot_of(device->database);
-	WsLoader   *loader;
-	WsRequest  *request;
+	WsRequest	request = {.prefetch = prefetch, .outcome = WS_WAITING};
+	int			slot = ws_names_of(page, &request.page) ? slot_of(request.page.device.database) : -1;
+	WsLoader   *loader = &ws_shared->loaders[Max(slot, 0)];
 
-	if (slot < 0)
-		return false;
-	loader = &ws_shared->loaders[slot];
-	if (loader->state != WS_SLOT_IDLE || loader->count == WS_BATCH)
+	if (slot < 0 || loader->state != WS_SLOT_IDLE || loader->count == WS_BATCH)
 		return false;
 	if (!OidIsValid(loader->database))
-	{
-		loader->count = 0;
-		loader->database = device->database;
-	}
-	request = &loader->pages[loader->count++];
-	*request = (WsRequest) {.space = device->space, .file = (Oid) (page->no >> 32),
-	.block = (BlockNumber) page->no, .device = page->dev, .fork = device->fork,
-	.prefetch = prefetch, .outcome = WS_WAITING};
+		loader->database = request.page.device.database;
+	loader->pages[loader->count++] = request;
 	return true;
 }
 
@@ -283,39 +236,26 @@ send_batches(void)
 	for (int i = 0; i < ws_shared->loader_count; i++)
 	{
 		WsLoader   *loader = &ws_shared->loaders[i];
-		bool		has_work;
 
+		if (loader->state != WS_SLOT_IDLE || loader->count == 0)
+			continue;
 		LWLockAcquire(ws_shared->lock, LW_EXCLUSIVE);
-		has_work = loader->state == WS_SLOT_IDLE && loader->count > 0;
-		if (has_work)
-		{
-			loader->state = WS_SLOT_FULL;
-			if (loader->latch != NULL)
-				SetLatch(loader->latch);
-		}
+		loader->state = WS_SLOT_FULL;
+		if (loader->latch != NULL)
+			SetLatch(loader->latch);
 		LWLockRelease(ws_shared->lock);
-		if (has_work && handles[i] == NULL && !start_loader(i))
-		{
-			LWLockAcquire(ws_shared->lock, LW_EXCLUSIVE);
-			clear_slot(loader, true);
-			LWLockRelease(ws_shared->lock);
-		}
+		if (handles[i] == NULL && !start_loader(i))
+			clear_slot(loader, true);	/* nobody else knows of it */
 	}
 }
 
 /* ---- a round ---- */
 
-static Size
-wanted_limit(void)
-{
-	return (Size) (ws_fraction * NBuffers);
-}
-
 /* Ranks: pages that have a device and can be loaded, hottest first. */
 static void
 rank_pages(void)
 {
-	Size		limit = wanted_limit();
+	Size		limit = (Size) (ws_fraction * NBuffers);
 	Size		room = limit * 2 + ws_prefetch_pages;
 	Size		listed;
 
@@ -325,12 +265,14 @@ rank_pages(void)
 	ws_stats.unloadable = 0;
 	for (Size i = 0; i < listed; i++)
 	{
-		const WsDevice *device = ws_directory_get(pages[i].dev);
+		WsPage		names;
 
-		if (device != NULL && !is_unloadable(&pages[i], device))
-			pages[page_count++] = pages[i];
-		else if (device != NULL)
+		if (!ws_names_of(pages[i], &names))
+			continue;
+		if (is_unloadable(&names))
 			ws_stats.unloadable++;
+		else
+			pages[page_count++] = pages[i];
 	}
 	wanted_count = Min(page_count, limit);
 	page_count = Min(page_count, limit + ws_prefetch_pages);
@@ -346,22 +288,20 @@ usage_of(Size rank)
 }
 
 /* Raises a usage count, where the buffer has that page still. */
-static bool
+static void
 touch(int buffer, const BufferTag *tag, uint32 usage)
 {
 	BufferDesc *descriptor = GetBufferDescriptor(buffer);
 	uint32		state = LockBufHdr(descriptor);
 	uint32		has = BUF_STATE_GET_USAGECOUNT(state);
-	bool		touched = false;
 
 	if (has < usage && (state & BM_VALID) != 0 &&
 		memcmp(&descriptor->tag, tag, sizeof *tag) == 0)
 	{
 		state += (usage - has) * BUF_USAGECOUNT_ONE;
-		touched = true;
+		ws_stats.pages_touched++;
 	}
 	UnlockBufHdr(descriptor, state);
-	return touched;
 }
 
 /* Marks the wanted pages that are resident, and touches them. */
@@ -373,9 +313,8 @@ walk_buffers(void)
 	for (Size i = 0; i < wanted_count; i++)
 	{
 		bool		found;
-		Wanted	   *entry = wanted_insert(ranks, pages[i], &found);
 
-		entry->rank = (uint32) i;
+		wanted_insert(ranks, pages[i], &found)->rank = (uint32) i;
 	}
 	ws_stats.resident = 0;
 	for (int i = 0; i < NBuffers; i++)
@@ -385,15 +324,13 @@ walk_buffers(void)
 		warm_page	page;
 		Wanted	   *entry;
 
-		if (!ws_look(i, &tag, &state) || ws_page_of(&tag, false, &page) < 0 ||
+		if (!ws_look(i, &tag, &state) || !ws_page_of(&tag, false, &page) ||
 			(entry = wanted_lookup(ranks, page)) == NULL)
 			continue;
-		if (!resident[entry->rank])
-			ws_stats.resident++;
 		resident[entry->rank] = true;
-		if (ws_load && BUF_STATE_GET_USAGECOUNT(state) < usage_of(entry->rank) &&
-			touch(i, &tag, usage_of(entry->rank)))
-			ws_stats.touched++;
+		ws_stats.resident++;
+		if (ws_load && BUF_STATE_GET_USAGECOUNT(state) < usage_of(entry->rank))
+			touch(i, &tag, usage_of(entry->rank));
 	}
 	ws_stats.wanted = wanted_count;
 }
@@ -403,13 +340,16 @@ static void
 load_pages(void)
 {
 	for (Size i = 0; i < wanted_count && load_allowance >= 1; i++)
-		if (!resident[i] && hand_out(&pages[i], ws_directory_get(pages[i].dev), false))
+		if (!resident[i] && hand_out(pages[i], false))
 			load_allowance--;
-	if (ws_stats.resident < ws_stats.wanted || page_count <= wanted_count)
+	if (round_at - prefetched_since > FORGIVE_US)
+	{
 		prefetched = 0;
+		prefetched_since = round_at;
+	}
 	for (Size i = wanted_count + prefetched; i < page_count && load_allowance >= 1; i++)
 	{
-		if (!hand_out(&pages[i], ws_directory_get(pages[i].dev), true))
+		if (!hand_out(pages[i], true))
 			break;
 		prefetched++;
 		load_allowance--;
@@ -417,28 +357,15 @@ load_pages(void)
 	send_batches();
 }
 
-static void
-say_whether_warm(void)
-{
-	if (!is_warm && ws_stats.wanted > 0 && ws_stats.resident >= ws_stats.wanted * 0.99)
-	{
-		is_warm = true;
-		ereport(LOG, (errmsg("warm_standby is warm: " INT64_FORMAT " of " INT64_FORMAT
-							 " wanted pages are resident", ws_stats.resident, ws_stats.wanted)));
-	}
-	else if (ws_stats.resident < ws_stats.wanted * 0.9)
-		is_warm = false;
-}
-
 /* A round of a standby. */
 void
 ws_round(void)
 {
-	TimestampTz begun = GetCurrentTimestamp();
-	double		passed = Max(begun - round_at, 0) / 1e6;
+	uint64		begun = ws_us();
+	double		passed = (begun - round_at) / 1e6;
 
 	round_at = begun;
-	if (begun - unloadable_since > FORGIVE_US || begun < unloadable_since)
+	if (begun - unloadable_since > FORGIVE_US)
 		forgive();
 	load_allowance = Min(load_allowance + passed * ws_load_rate,
 						 Max(2.0 * ws_load_rate * ws_load_interval / 1000, 1));
@@ -448,9 +375,12 @@ ws_round(void)
 	if (ws_load)
 		load_pages();
 	MemoryContextReset(round_context);
-	say_whether_warm();
+	if (!is_warm && ws_stats.wanted > 0 && ws_stats.resident >= ws_stats.wanted * 0.99)
+		ereport(LOG, (errmsg("warm_standby is warm: " INT64_FORMAT " of " INT64_FORMAT
+							 " wanted pages are resident", ws_stats.resident, ws_stats.wanted)));
+	is_warm = ws_stats.resident >= ws_stats.wanted * (is_warm ? 0.9 : 0.99) && ws_stats.wanted > 0;
 	ws_stats.rounds++;
-	ws_stats.round_us = GetCurrentTimestamp() - begun;
+	ws_stats.round_us = ws_us() - begun;
 }
 
 /* Puts the hottest pages where SQL finds them. */
@@ -464,13 +394,8 @@ ws_make_list(void)
 	LWLockAcquire(ws_shared->lock, LW_EXCLUSIVE);
 	ws_shared->list_count = 0;
 	for (Size i = 0; i < count; i++)
-	{
-		const WsDevice *device = ws_directory_get(pages[i].dev);
-
-		if (device != NULL)
-			ws_shared->list[ws_shared->list_count++] = (WsListed) {.device = *device,
-			.file = (Oid) (pages[i].no >> 32), .block = (BlockNumber) pages[i].no};
-	}
+		if (ws_names_of(pages[i], &ws_shared->list[ws_shared->list_count]))
+			ws_shared->list_count++;
 	ws_shared->list_made++;
 	ws_shared->list_wanted = false;
 	LWLockRelease(ws_shared->lock);

@@ -96,10 +96,7 @@ ws_receive_start(void)
 	reader = XLogReaderAllocate(wal_segment_size, NULL, XL_ROUTINE(.page_read = read_page), NULL);
 	MemoryContextSwitchTo(old);
 	if (reader == NULL)
-		ereport(ERROR,
-				(errcode(ERRCODE_OUT_OF_MEMORY),
-				 errmsg("out of memory"),
-				 errdetail("Failed while allocating a WAL reading processor.")));
+		ereport(ERROR, (errcode(ERRCODE_OUT_OF_MEMORY), errmsg("out of memory")));
 	position = GetRedoRecPtr();
 	XLogBeginRead(reader, position);
 }
@@ -112,6 +109,53 @@ ws_receive_stop(void)
 	reader_context = NULL;
 	reader = NULL;
 	close_segment();
+}
+
+/* What a message that begins so is refused for, or WARM_OK. */
+static int
+header_status(const uint8 *bytes, Size length)
+{
+	if (length < WS_HEADER)
+		return WS_BAD_MESSAGE;
+	if (bytes[0] != WS_MESSAGE_VERSION)
+		return WS_BAD_VERSION;
+	if (bytes[1] != WS_MESSAGE_FRAME && bytes[1] != WS_MESSAGE_DIRECTORY)
+		return WS_BAD_MESSAGE;
+	if ((TimestampTz) ws_get(bytes + 2, 8) >
+		GetCurrentTimestamp() + ws_clock_tolerance * INT64CONST(1000000))
+		return WS_LATE_MESSAGE;
+	return WARM_OK;
+}
+
+/*
+ * Takes in a message: the bytes behind the prefix.  A device number that was
+ * given twice says that two primaries gave them: the later one is believed.
+ */
+static void
+take_message(const uint8 *bytes, Size length)
+{
+	int			status = header_status(bytes, length);
+	uint64		time;
+
+	if (status == WARM_OK && bytes[1] == WS_MESSAGE_DIRECTORY)
+	{
+		status = ws_directory_decode(bytes + WS_HEADER, length - WS_HEADER);
+		if (status == WS_OTHER_DIRECTORY)
+		{
+			ws_history_reset("another primary gave the numbers of devices");
+			(void) ws_directory_decode(bytes + WS_HEADER, length - WS_HEADER);
+		}
+	}
+	else if (status == WARM_OK &&
+			 ws_history_receive(bytes + WS_HEADER, length - WS_HEADER) == WARM_OK)
+	{
+		time = ws_get(bytes + 2, 8);
+		ws_latest = Max(ws_latest, time);
+		ws_last_frame = Max(ws_last_frame, (TimestampTz) time);
+		ws_stats.frames_received++;
+	}
+	if (status != WARM_OK)
+		ws_refused[status]++;
 }
 
 /* Hands on the message of a record, where it is one of ours. */
@@ -128,17 +172,7 @@ look_at_record(void)
 		memcmp(message->message, WS_NAME, sizeof WS_NAME) != 0 ||
 		message->message_size != length - SizeOfLogicalMessage - sizeof WS_NAME)
 		return;
-	ws_message((const uint8 *) message->message + sizeof WS_NAME, message->message_size);
-}
-
-/* Goes on at the end of what was replayed. */
-static void
-skip_to(XLogRecPtr end)
-{
-	ws_stats.wal_skipped += end - position;
-	close_segment();
-	position = end;
-	XLogBeginRead(reader, position);
+	take_message((const uint8 *) message->message + sizeof WS_NAME, message->message_size);
 }
 
 /* Reads what was replayed; true where there is more than a turn of it. */
@@ -159,7 +193,9 @@ ws_receive(void)
 			ereport(DEBUG1, (errmsg_internal("warm_standby skips WAL from %X/%X to %X/%X: %s",
 											 LSN_FORMAT_ARGS(position), LSN_FORMAT_ARGS(end),
 											 message != NULL ? message : "it is gone")));
-			skip_to(end);
+			ws_stats.wal_skipped += end - position;
+			close_segment();
+			XLogBeginRead(reader, position = end);
 			break;
 		}
 		look_at_record();
@@ -168,71 +204,4 @@ ws_receive(void)
 	MemoryContextSwitchTo(old);
 	ws_stats.wal_read += position - begun;
 	return position < end;
-}
-
-/* ---- messages ---- */
-
-static void
-refuse(int status)
-{
-	ws_stats.refused[status]++;
-}
-
-/* A number that was given twice says that two primaries gave them. */
-static void
-take_directory(const uint8 *bytes, Size length)
-{
-	if (length % WS_DEVICE_BYTES != 0)
-	{
-		refuse(WS_BAD_DIRECTORY);
-		return;
-	}
-	for (const uint8 *at = bytes; at < bytes + length; at += WS_DEVICE_BYTES)
-	{
-		WsDevice	device = {.space = (Oid) ws_get(at + 2, 4), .database = (Oid) ws_get(at + 6, 4),
-		.fork = at[10]};
-		uint16		number = (uint16) ws_get(at, 2);
-
-		if (device.fork > MAX_FORKNUM || !OidIsValid(device.space))
-		{
-			refuse(WS_BAD_DIRECTORY);
-			return;
-		}
-		if (!ws_directory_put(number, &device))
-		{
-			refuse(WS_OTHER_DIRECTORY);
-			ws_history_reset("another primary gave the numbers of devices");
-			ws_directory_put(number, &device);
-		}
-	}
-}
-
-/* Takes in a message: the bytes behind the prefix. */
-void
-ws_message(const uint8 *bytes, Size length)
-{
-	TimestampTz time;
-
-	if (length < WS_HEADER)
-		refuse(WS_BAD_MESSAGE);
-	else if (bytes[0] != WS_MESSAGE_VERSION)
-		refuse(WS_BAD_VERSION);
-	else if (bytes[1] != WS_MESSAGE_FRAME && bytes[1] != WS_MESSAGE_DIRECTORY)
-		refuse(WS_BAD_MESSAGE);
-	else
-	{
-		time = (TimestampTz) ws_get(bytes + 2, 8);
-		bytes += WS_HEADER;
-		length -= WS_HEADER;
-		if (time > GetCurrentTimestamp() + ws_clock_tolerance * INT64CONST(1000000))
-			refuse(WS_LATE_MESSAGE);
-		else if (bytes[1 - WS_HEADER] == WS_MESSAGE_DIRECTORY)
-			take_directory(bytes, length);
-		else if (ws_history_receive(bytes, length) == WARM_OK)
-		{
-			ws_clock_heard(time);
-			ws_stats.frames_received++;
-			ws_stats.last_frame = Max(ws_stats.last_frame, time);
-		}
-	}
 }

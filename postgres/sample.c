@@ -16,19 +16,19 @@
  */
 #include "postgres.h"
 
+#include "common/hashfn.h"
 #include "miscadmin.h"
-#include "portability/instr_time.h"
 #include "storage/bufmgr.h"
 #include "utils/memutils.h"
 #include "warm_standby.h"
 
-#define SATURATED_US	INT64CONST(60000000)
+#define SATURATED_US	(60 * US_PER_S)
 #define SEEN_NONE		UINT64CONST(15)
 
 /* For each buffer a hash of its page, with its usage count in the last bits. */
 static uint64 *seen = NULL;
 static bool is_first = true;
-static TimestampTz saturated_at = 0;
+static uint64 saturated_at = 0;
 
 /*
  * Reads the tag and the state of a valid buffer.  The descriptor is read
@@ -58,21 +58,6 @@ ws_look(int buffer, BufferTag *tag, uint32 *state)
 	return (*state & (BM_VALID | BM_TAG_VALID)) == (BM_VALID | BM_TAG_VALID);
 }
 
-/* A hash of a tag, with its last four bits 0. */
-static inline uint64
-tag_hash(const BufferTag *tag)
-{
-	uint64		a = (uint64) TagFile(tag) << 32 | tag->blockNum;
-	uint64		b = (uint64) TagDatabase(tag) << 32 | (TagSpace(tag) ^ (uint32) tag->forkNum << 28);
-
-	a ^= b * UINT64CONST(0x9e3779b97f4a7c15);
-	a ^= a >> 33;
-	a *= UINT64CONST(0xff51afd7ed558ccd);
-	a ^= a >> 33;
-	a *= UINT64CONST(0xc4ceb9fe1a85ec53);
-	return (a ^ a >> 29) & ~SEEN_NONE;
-}
-
 /* The next sample is the first: it only notes what is there. */
 void
 ws_sample_reset(void)
@@ -80,27 +65,27 @@ ws_sample_reset(void)
 	if (seen == NULL)
 		seen = MemoryContextAllocHuge(TopMemoryContext, sizeof(uint64) * (Size) NBuffers);
 	is_first = true;
-	saturated_at = GetCurrentTimestamp();
+	saturated_at = ws_us();
 }
 
-/* Whether a page was referenced, by what was seen before and what is seen now. */
+/*
+ * Whether a page was referenced, by what was seen before and what is seen now:
+ * it came in, its count rose, or that has been at its greatest for long.
+ */
 static inline bool
 is_referenced(uint64 before, uint64 now, bool saturated)
 {
-	uint64		usage = now & SEEN_NONE;
-
-	if ((before & SEEN_NONE) == SEEN_NONE || (before & ~SEEN_NONE) != (now & ~SEEN_NONE))
-		return true;
-	return usage > (before & SEEN_NONE) || (saturated && usage == BM_MAX_USAGE_COUNT);
+	return (before ^ now) > SEEN_NONE || (before & SEEN_NONE) == SEEN_NONE || now > before ||
+		(saturated && (now & SEEN_NONE) == BM_MAX_USAGE_COUNT);
 }
 
 /* Takes a sample. */
 void
 ws_sample(void)
 {
-	uint64		now = ws_clock();
-	TimestampTz begun = GetCurrentTimestamp();
-	bool		saturated = begun - saturated_at >= SATURATED_US || begun < saturated_at;
+	uint64		time = ws_clock();
+	uint64		begun = ws_us();
+	bool		saturated = begun - saturated_at >= SATURATED_US;
 
 	if (saturated)
 		saturated_at = begun;
@@ -114,15 +99,16 @@ ws_sample(void)
 		/* Pages of unlogged relations are not on a standby. */
 		if (ws_look(i, &tag, &state) && (state & BM_PERMANENT) != 0)
 		{
-			mark = tag_hash(&tag) | BUF_STATE_GET_USAGECOUNT(state);
+			mark = hash_bytes_extended((const unsigned char *) &tag, sizeof tag, 0);
+			mark = (mark & ~SEEN_NONE) | BUF_STATE_GET_USAGECOUNT(state);
 			if (!is_first && is_referenced(seen[i], mark, saturated) &&
-				ws_page_of(&tag, true, &page) >= 0)
-				ws_reference(page, now);
+				ws_page_of(&tag, true, &page))
+				ws_reference(page, time);
 		}
 		seen[i] = mark;
 	}
 	ws_references_end();
 	is_first = false;
 	ws_stats.samples++;
-	ws_stats.sample_us = GetCurrentTimestamp() - begun;
+	ws_stats.sample_us = ws_us() - begun;
 }

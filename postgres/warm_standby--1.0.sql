@@ -4,16 +4,13 @@
 \echo Use "CREATE EXTENSION warm_standby" to load this file. \quit
 
 CREATE FUNCTION warm_standby_status(
-    OUT role text, OUT started timestamptz,
-    OUT known bigint, OUT wanted bigint, OUT resident bigint, OUT unloadable bigint,
-    OUT last_frame timestamptz, OUT frames_received bigint, OUT refused bigint,
-    OUT wal_read bigint, OUT wal_skipped bigint,
-    OUT pages_read bigint, OUT read_ms double precision,
-    OUT pages_prefetched bigint, OUT read_errors bigint, OUT pages_touched bigint,
-    OUT loaders integer, OUT rounds bigint, OUT round_ms double precision,
-    OUT samples bigint, OUT sample_ms double precision, OUT page_references bigint,
-    OUT frames_sent bigint, OUT bytes_sent bigint, OUT devices bigint,
-    OUT saves bigint, OUT save_failures bigint, OUT resets bigint)
+    OUT role text, OUT last_frame timestamptz, OUT refused bigint,
+    OUT loaders integer, OUT known bigint, OUT devices bigint, OUT wanted bigint,
+    OUT resident bigint, OUT unloadable bigint, OUT frames_received bigint, OUT wal_read bigint,
+    OUT wal_skipped bigint, OUT pages_touched bigint, OUT rounds bigint, OUT round_us bigint,
+    OUT samples bigint, OUT sample_us bigint, OUT page_references bigint, OUT frames_sent bigint,
+    OUT bytes_sent bigint, OUT saves bigint, OUT save_failures bigint, OUT resets bigint,
+    OUT pages_read bigint, OUT read_us bigint, OUT pages_prefetched bigint, OUT read_errors bigint)
 RETURNS record
 AS 'MODULE_PATHNAME'
 LANGUAGE C STRICT VOLATILE PARALLEL RESTRICTED;
@@ -32,15 +29,15 @@ AS 'MODULE_PATHNAME'
 LANGUAGE C STRICT VOLATILE PARALLEL RESTRICTED;
 
 CREATE VIEW pg_stat_warm_standby AS
-    SELECT role, started, known, wanted, resident,
+    SELECT role, known, wanted, resident,
            round(100.0 * resident / nullif(wanted, 0), 1) AS percent_warm,
-           clock_timestamp() - last_frame AS last_frame_age,
-           unloadable, frames_received, refused,
+           clock_timestamp() - last_frame AS last_frame_age, frames_received, refused,
            (SELECT jsonb_object_agg(r.name, r.frames) FROM warm_standby_refused() r)
                AS refused_by_name,
-           wal_read, wal_skipped, pages_read, read_ms, pages_prefetched, read_errors,
-           pages_touched, loaders, rounds, round_ms, samples, sample_ms, page_references,
-           frames_sent, bytes_sent, devices, saves, save_failures, resets
+           unloadable, loaders, pages_read, round(read_us / 1000.0, 1) AS read_ms, read_errors,
+           pages_prefetched, pages_touched, rounds, round(round_us / 1000.0, 1) AS round_ms,
+           samples, round(sample_us / 1000.0, 1) AS sample_ms, page_references, frames_sent,
+           bytes_sent, wal_read, wal_skipped, devices, saves, save_failures, resets
     FROM warm_standby_status();
 
 -- The relations of this database among the hottest pages, at most 16,384.

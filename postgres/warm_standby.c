@@ -13,6 +13,7 @@
 #include "fmgr.h"
 #include "miscadmin.h"
 #include "pgstat.h"
+#include "portability/instr_time.h"
 #include "postmaster/bgworker.h"
 #include "postmaster/interrupt.h"
 #include "storage/ipc.h"
@@ -29,94 +30,89 @@ PGDLLEXPORT void _PG_init(void);
 PGDLLEXPORT void warm_standby_main(Datum main_arg);
 
 #define RESTART_SECONDS 5
-#define SAVE_AGAIN_US	INT64CONST(10000000)
+#define SAVE_AGAIN_US	(10 * US_PER_S)
 
 /* After work of some cost the worker leaves the processor for nine times as long. */
 #define SHARE			9
 
 WsShared   *ws_shared = NULL;
 WsStats		ws_stats;
+int64		ws_refused[WS_STATUSES];
+TimestampTz ws_last_frame = 0;
 
-bool		ws_enabled = true;
-int			ws_sample_interval = 1000;
-int			ws_publish_interval = 5000;
-int			ws_full_interval = 600;
-int			ws_publish_rate = 1024;
-int			ws_history_age = 1440;
-int			ws_history_pages = 0;
-int			ws_clock_tolerance = 600;
-bool		ws_load = true;
-int			ws_load_interval = 1000;
-int			ws_load_rate = 2000;
-double		ws_fraction = 0.8;
-int			ws_prefetch_pages = 0;
-int			ws_max_loaders = 4;
+bool		ws_enabled;
+bool		ws_load;
+double		ws_fraction;
+int			ws_max_loaders;
+int			ws_sample_interval, ws_publish_interval, ws_full_interval, ws_publish_rate;
+int			ws_history_age, ws_history_pages;
+int			ws_load_interval, ws_load_rate, ws_prefetch_pages, ws_clock_tolerance;
 
 static shmem_request_hook_type prev_shmem_request_hook = NULL;
 static shmem_startup_hook_type prev_shmem_startup_hook = NULL;
 
 /* ---- settings ---- */
 
-static void
-define_int(const char *name, const char *what, const char *more, int *value, int least, int most,
-		   GucContext context, int unit)
+typedef struct IntSetting
 {
-	DefineCustomIntVariable(name, what, more, value, *value, least, most, context, unit,
-							NULL, NULL, NULL);
-}
+	int		   *value;
+	const char *name;
+	int			usual, least, most;
+	int			unit;
+	const char *what;
+	const char *more;
+} IntSetting;
+
+/* All of them by SIGHUP.  The first six are a primary's, the others a standby's. */
+static const IntSetting int_settings[] = {
+	{&ws_sample_interval, "warm_standby.sample_interval", 1000, 10, 3600 * 1000, GUC_UNIT_MS,
+		"Sets the time between two samples of a primary's buffers.",
+	"References to a page within one interval count as one."},
+	{&ws_publish_interval, "warm_standby.publish_interval", 5000, 100, 3600 * 1000, GUC_UNIT_MS,
+	"Sets the time between two publications of what changed."},
+	{&ws_full_interval, "warm_standby.full_interval", 600, 1, 7 * 86400, GUC_UNIT_S,
+	"Sets the time in which everything known is published once."},
+	{&ws_publish_rate, "warm_standby.publish_rate", 1024, 1, 1024 * 1024, GUC_UNIT_KB,
+	"Sets how much WAL is written for publications each second."},
+	{&ws_history_age, "warm_standby.history_age", 1440, 0, INT_MAX / 60, GUC_UNIT_MIN,
+	"Sets after which time without a reference a page is forgotten.", "0 means never."},
+	{&ws_history_pages, "warm_standby.history_pages", 0, 0, INT_MAX / 2, 0,
+	"Sets how many pages are known at most.", "0 means four times shared_buffers."},
+	{&ws_load_interval, "warm_standby.load_interval", 1000, 10, 3600 * 1000, GUC_UNIT_MS,
+	"Sets the time between two rounds of loading."},
+	{&ws_load_rate, "warm_standby.load_rate", 2000, 0, 1000000, 0,
+		"Sets how many pages a standby reads each second at most.",
+	"A loader takes at most 4096 pages a round."},
+	{&ws_prefetch_pages, "warm_standby.prefetch_pages", 0, 0, INT_MAX / 2, GUC_UNIT_BLOCKS,
+	"Sets how many further pages are read into the operating system's cache."},
+	{&ws_clock_tolerance, "warm_standby.clock_tolerance", 600, 1, 7 * 86400, GUC_UNIT_S,
+		"Sets how far ahead of this server's clock a time is believed.",
+	"A frame with a later time is refused."},
+};
 
 static void
-define_primary_settings(void)
+define_settings(void)
 {
-	define_int("warm_standby.sample_interval",
-			   "Sets the time between two samples of the buffers of a primary.",
-			   "References within one interval count as one.",
-			   &ws_sample_interval, 10, 3600 * 1000, PGC_SIGHUP, GUC_UNIT_MS);
-	define_int("warm_standby.publish_interval",
-			   "Sets the time between two publications of what changed.", NULL,
-			   &ws_publish_interval, 100, 3600 * 1000, PGC_SIGHUP, GUC_UNIT_MS);
-	define_int("warm_standby.full_interval",
-			   "Sets the time in which everything known is published once.", NULL,
-			   &ws_full_interval, 1, 7 * 86400, PGC_SIGHUP, GUC_UNIT_S);
-	define_int("warm_standby.publish_rate",
-			   "Sets how much WAL is written for publications, each second at most.", NULL,
-			   &ws_publish_rate, 1, 1024 * 1024, PGC_SIGHUP, GUC_UNIT_KB);
-	define_int("warm_standby.history_age",
-			   "Sets after which time without a reference a page is forgotten.",
-			   "0 forgets no page for its age.",
-			   &ws_history_age, 0, INT_MAX / 60, PGC_SIGHUP, GUC_UNIT_MIN);
-	define_int("warm_standby.history_pages",
-			   "Sets how many pages are known at most.",
-			   "0 means four times shared_buffers.",
-			   &ws_history_pages, 0, INT_MAX / 2, PGC_SIGHUP, 0);
-}
-
-static void
-define_standby_settings(void)
-{
+	DefineCustomBoolVariable("warm_standby.enabled", "Whether warm_standby does anything.", NULL,
+							 &ws_enabled, true, PGC_SIGHUP, 0, NULL, NULL, NULL);
 	DefineCustomBoolVariable("warm_standby.load", "Whether a standby loads pages.", NULL,
 							 &ws_load, true, PGC_SIGHUP, 0, NULL, NULL, NULL);
-	define_int("warm_standby.load_interval",
-			   "Sets the time between two rounds of loading on a standby.", NULL,
-			   &ws_load_interval, 10, 3600 * 1000, PGC_SIGHUP, GUC_UNIT_MS);
-	define_int("warm_standby.load_rate",
-			   "Sets how many pages a standby reads each second at most.",
-			   "A loader takes at most 4096 pages a round.",
-			   &ws_load_rate, 0, 1000000, PGC_SIGHUP, 0);
 	DefineCustomRealVariable("warm_standby.fraction",
 							 "Sets the share of shared_buffers that a standby keeps warm.", NULL,
 							 &ws_fraction, 0.8, 0.0, 1.0, PGC_SIGHUP, 0, NULL, NULL, NULL);
-	define_int("warm_standby.prefetch_pages",
-			   "Sets how many further pages are read into the operating system's cache.", NULL,
-			   &ws_prefetch_pages, 0, INT_MAX / 2, PGC_SIGHUP, GUC_UNIT_BLOCKS);
-	define_int("warm_standby.clock_tolerance",
-			   "Sets how far ahead of this server's clock a time is believed.",
-			   "A frame with a later time is refused.",
-			   &ws_clock_tolerance, 1, 7 * 86400, PGC_SIGHUP, GUC_UNIT_S);
-	define_int("warm_standby.max_loaders",
-			   "Sets how many databases are loaded at the same time.",
-			   "Each loader is one of max_worker_processes.",
-			   &ws_max_loaders, 1, WS_MOST_LOADERS, PGC_POSTMASTER, 0);
+	DefineCustomIntVariable("warm_standby.max_loaders",
+							"Sets how many databases are loaded at the same time.",
+							"Each loader is one of max_worker_processes.",
+							&ws_max_loaders, 4, 1, WS_MOST_LOADERS, PGC_POSTMASTER, 0,
+							NULL, NULL, NULL);
+	for (int i = 0; i < lengthof(int_settings); i++)
+	{
+		const IntSetting *s = &int_settings[i];
+
+		DefineCustomIntVariable(s->name, s->what, s->more, s->value, s->usual, s->least, s->most,
+								PGC_SIGHUP, s->unit, NULL, NULL, NULL);
+	}
+	MarkGUCPrefixReserved(WS_NAME);
 }
 
 /* ---- shared memory ---- */
@@ -155,69 +151,60 @@ shmem_startup(void)
 	LWLockRelease(AddinShmemInitLock);
 }
 
+/* Describes a worker of this library, which is connected and runs on a standby too. */
+void
+ws_describe_worker(BackgroundWorker *worker, const char *function, const char *name)
+{
+	memset(worker, 0, sizeof *worker);
+	worker->bgw_flags = BGWORKER_SHMEM_ACCESS | BGWORKER_BACKEND_DATABASE_CONNECTION;
+	worker->bgw_start_time = BgWorkerStart_ConsistentState;
+	strlcpy(worker->bgw_library_name, WS_NAME, BGW_MAXLEN);
+	strlcpy(worker->bgw_function_name, function, BGW_MAXLEN);
+	strlcpy(worker->bgw_name, name, BGW_MAXLEN);
+	strlcpy(worker->bgw_type, name, BGW_MAXLEN);
+}
+
 void
 _PG_init(void)
 {
-	BackgroundWorker worker = {0};
+	BackgroundWorker worker;
 
 	if (!process_shared_preload_libraries_in_progress)
 		return;
-	DefineCustomBoolVariable("warm_standby.enabled", "Whether warm_standby does anything.", NULL,
-							 &ws_enabled, true, PGC_SIGHUP, 0, NULL, NULL, NULL);
-	define_primary_settings();
-	define_standby_settings();
-	MarkGUCPrefixReserved(WS_NAME);
-
+	define_settings();
 	prev_shmem_request_hook = shmem_request_hook;
 	shmem_request_hook = shmem_request;
 	prev_shmem_startup_hook = shmem_startup_hook;
 	shmem_startup_hook = shmem_startup;
 
-	worker.bgw_flags = BGWORKER_SHMEM_ACCESS | BGWORKER_BACKEND_DATABASE_CONNECTION;
-	worker.bgw_start_time = BgWorkerStart_ConsistentState;
+	ws_describe_worker(&worker, "warm_standby_main", WS_NAME);
 	worker.bgw_restart_time = RESTART_SECONDS;
-	strlcpy(worker.bgw_library_name, WS_NAME, BGW_MAXLEN);
-	strlcpy(worker.bgw_function_name, "warm_standby_main", BGW_MAXLEN);
-	strlcpy(worker.bgw_name, WS_NAME, BGW_MAXLEN);
-	strlcpy(worker.bgw_type, WS_NAME, BGW_MAXLEN);
 	RegisterBackgroundWorker(&worker);
 }
 
 /* ---- the worker ---- */
 
-/* When something is due next. */
-typedef struct Due
-{
-	int			interval;		/* ms */
-	TimestampTz at;
-} Due;
-
 static bool is_standby;
 static XLogRecPtr saved_redo;
-static TimestampTz saved_at;
+static uint64 saved_at;
 
-/* Whether something is due; it begins now.  A clock that was set back makes it due. */
-static bool
-is_due(Due *due, int interval, TimestampTz now)
+/* Microseconds of a clock that nobody sets: what the worker waits by. */
+uint64
+ws_us(void)
 {
-	if (now < due->at && due->at - now <= due->interval * INT64CONST(1000) * (SHARE + 1))
-		return false;
-	due->interval = interval;
-	due->at = now + interval * INT64CONST(1000);
-	return true;
+	instr_time	now;
+
+	INSTR_TIME_SET_CURRENT(now);
+	return INSTR_TIME_GET_MICROSEC(now);
 }
 
-/* It has ended: it is not begun again before the processor had its rest. */
-static void
-has_ended(Due *due, TimestampTz begun)
+/* When work that began then is to be done again: after its rest at least. */
+static uint64
+next_time(uint64 begun, int interval)
 {
-	TimestampTz now = GetCurrentTimestamp();
+	uint64		now = ws_us();
 
-	if (now > begun)
-	{
-		due->interval = (int) Max(due->interval, (now - begun) / 1000);
-		due->at = Max(due->at, now + (now - begun) * SHARE);
-	}
+	return Max(begun + interval * UINT64CONST(1000), now + (now - begun) * SHARE);
 }
 
 static void
@@ -226,33 +213,6 @@ leave(int code, Datum arg)
 	LWLockAcquire(ws_shared->lock, LW_EXCLUSIVE);
 	ws_shared->latch = NULL;
 	LWLockRelease(ws_shared->lock);
-}
-
-/* Shows what the worker has counted; true where SQL waits for a list. */
-static bool
-show(void)
-{
-	bool		list_wanted;
-
-	ws_stats.standby = is_standby;
-	LWLockAcquire(ws_shared->lock, LW_EXCLUSIVE);
-	ws_shared->stats = ws_stats;
-	list_wanted = ws_shared->list_wanted;
-	LWLockRelease(ws_shared->lock);
-	return list_wanted;
-}
-
-/* Saves the history after each checkpoint or restartpoint. */
-static void
-save_at_checkpoint(TimestampTz now)
-{
-	XLogRecPtr	redo = GetRedoRecPtr();
-
-	if (redo == saved_redo || (now >= saved_at && now - saved_at < SAVE_AGAIN_US))
-		return;
-	saved_redo = redo;
-	saved_at = now;
-	ws_history_save();
 }
 
 static void
@@ -265,6 +225,7 @@ begin_role(void)
 	{
 		ws_sample_reset();
 		ws_publish_reset();
+		ws_stats.wanted = ws_stats.resident = ws_stats.unloadable = 0;
 	}
 }
 
@@ -272,14 +233,16 @@ begin_role(void)
 static void
 start(void)
 {
-	ws_history_open();
-	ws_history_load();
-	ws_history_bound();
+	LWLockAcquire(ws_shared->lock, LW_EXCLUSIVE);
+	ws_shared->latch = MyLatch;
+	ws_shared->epoch++;
+	for (int i = 0; i < WS_STATUSES; i++)
+		ws_status_name(i, ws_shared->names[i]);
+	LWLockRelease(ws_shared->lock);
+	ws_history_start();
 	ws_rank_reset();
 	begin_role();
 	saved_redo = GetRedoRecPtr();
-	saved_at = GetCurrentTimestamp();
-	ws_stats.started = saved_at;
 	ereport(LOG, (errmsg("warm_standby started on a %s, with " INT64_FORMAT " pages known",
 						 is_standby ? "standby" : "primary", ws_stats.known)));
 }
@@ -288,78 +251,85 @@ start(void)
 static void
 promote(void)
 {
-	ws_receive_stop();
-	ws_wake_loaders();
-	begin_role();
 	ereport(LOG, (errmsg("warm_standby was promoted: " INT64_FORMAT " pages known, " INT64_FORMAT
 						 " of " INT64_FORMAT " wanted pages resident", ws_stats.known,
 						 ws_stats.resident, ws_stats.wanted)));
+	ws_receive_stop();
+	ws_rank_reset();			/* the loaders end by themselves */
+	begin_role();
 }
 
-/* Does what is due; returns for how many milliseconds nothing more is. */
-static int64
-primary_turn(TimestampTz now)
+/* Does what is due; returns when something is due next. */
+static uint64
+primary_turn(void)
 {
-	static Due	sample;
-	static Due	publish;
+	static uint64 sample_at = 0;
+	static uint64 publish_at = 0;
+	uint64		now = ws_us();
 
-	if (is_due(&sample, ws_sample_interval, now))
+	if (now >= sample_at)
 	{
 		ws_sample();
-		has_ended(&sample, now);
+		sample_at = next_time(now, ws_sample_interval);
 	}
-	now = GetCurrentTimestamp();
-	if (XLogIsNeeded() && is_due(&publish, ws_publish_interval, now))
+	now = ws_us();
+	if (now >= publish_at)
 	{
 		ws_history_bound();
-		ws_publish();
-		has_ended(&publish, now);
+		if (XLogIsNeeded())		/* else no standby reads it */
+			ws_publish();
+		publish_at = next_time(now, ws_publish_interval);
 	}
-	return (Min(sample.at, publish.at) - GetCurrentTimestamp()) / 1000 + 1;
+	return Min(sample_at, publish_at);
 }
 
-static int64
-standby_turn(TimestampTz now)
+static uint64
+standby_turn(void)
 {
-	static Due	round;
+	static uint64 round_at = 0;
+	uint64		now = ws_us();
 
 	if (ws_receive())
-		return 0;
-	now = GetCurrentTimestamp();
-	if (is_due(&round, ws_load_interval, now))
+		return now;
+	if (now >= round_at)
 	{
 		ws_history_bound();
 		ws_round();
-		has_ended(&round, now);
+		round_at = next_time(now, ws_load_interval);
 	}
-	return Min((round.at - GetCurrentTimestamp()) / 1000 + 1, ws_load_interval);
+	return round_at;
 }
 
-/* One turn; returns for how many milliseconds the worker may sleep. */
-static int64
+/* One turn; returns for how many milliseconds the worker may sleep, a second at most. */
+static long
 turn(void)
 {
-	TimestampTz now = GetCurrentTimestamp();
-	int64		sleep = 1000;
+	uint64		next = ws_us() + US_PER_S;
+	uint64		now;
+	bool		list_wanted;
 
 	if (is_standby && !RecoveryInProgress())
 		promote();
 	if (ws_enabled)
-		sleep = is_standby ? standby_turn(now) : primary_turn(now);
-	save_at_checkpoint(now);
-	if (show())
-		ws_make_list();
-	return Max(Min(sleep, 60000), 0);
-}
-
-static void
-enter(void)
-{
-	before_shmem_exit(leave, (Datum) 0);
+		next = Min(next, is_standby ? standby_turn() : primary_turn());
+	now = ws_us();
+	if (GetRedoRecPtr() != saved_redo && now - saved_at > SAVE_AGAIN_US)
+	{
+		saved_redo = GetRedoRecPtr();	/* a checkpoint, or a restartpoint */
+		saved_at = now;
+		ws_history_save();
+	}
 	LWLockAcquire(ws_shared->lock, LW_EXCLUSIVE);
-	ws_shared->latch = MyLatch;
-	ws_shared->epoch++;
+	ws_shared->is_standby = is_standby;
+	ws_shared->last_frame = ws_last_frame;
+	ws_shared->stats = ws_stats;
+	memcpy(ws_shared->refused, ws_refused, sizeof ws_refused);
+	list_wanted = ws_shared->list_wanted;
 	LWLockRelease(ws_shared->lock);
+	if (list_wanted)
+		ws_make_list();
+	now = ws_us();
+	return now < next ? (long) ((next - now) / 1000 + 1) : 0;
 }
 
 /*
@@ -376,13 +346,13 @@ warm_standby_main(Datum main_arg)
 	pqsignal(SIGTERM, SignalHandlerForShutdownRequest);
 	BackgroundWorkerUnblockSignals();
 	BackgroundWorkerInitializeConnection(NULL, NULL, 0);
-	enter();
+	before_shmem_exit(leave, (Datum) 0);
 	context = AllocSetContextCreate(TopMemoryContext, WS_NAME, ALLOCSET_DEFAULT_SIZES);
 	MemoryContextSwitchTo(context);
 	start();
 	while (!ShutdownRequestPending)
 	{
-		int64		sleep = turn();
+		long		sleep = turn();
 
 		MemoryContextReset(context);
 		if (sleep > 0)

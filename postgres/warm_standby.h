@@ -3,22 +3,12 @@
  * warm_standby.h
  *		A streaming standby that takes over warm.
  *
- * One worker, warm_standby, owns the history of page references: a handle of
- * libwarm_c, which no other process touches.  On a primary it samples the
- * buffer descriptors and writes frames of the history into the WAL, as
- * logical messages of no database.  On a standby it reads them back from the
- * WAL, ranks the pages, and hands those that are missing to loaders, one for
- * each database, which read them into shared buffers.
- *
- *		directory.c		the numbers of (tablespace, database, fork)
- *		history.c		the handle, the clock, the horizon, and the saved files
- *		sample.c		references, from the buffer descriptors
- *		publish.c		messages into the WAL
- *		receive.c		messages out of the WAL
- *		rank.c			which pages are wanted and missing; touches; batches
- *		loader.c		the worker that reads the pages of one database
- *		status.c		what SQL sees
- *		warm_standby.c	settings, shared memory, and the worker's loop
+ * One worker owns the history of page references: a handle of libwarm_c, which
+ * no other process touches.  On a primary it samples the buffer descriptors
+ * (sample.c) and writes frames of the history into the WAL, as logical messages
+ * of no database (publish.c).  On a standby it reads them back from the WAL
+ * (receive.c), ranks the pages (rank.c), and hands those that are missing to
+ * loaders, one for each database (loader.c).
  *
  *-------------------------------------------------------------------------
  */
@@ -27,6 +17,7 @@
 
 #include "access/xlogdefs.h"
 #include "compat.h"
+#include "postmaster/bgworker.h"
 #include "storage/block.h"
 #include "storage/condition_variable.h"
 #include "storage/latch.h"
@@ -35,9 +26,11 @@
 #include "warm.h"
 
 #define WS_NAME "warm_standby"
+#define US_PER_S UINT64CONST(1000000)
 
 /* Statuses of messages: those of warm.h are below 100, these are ours. */
 #define WS_STATUSES		128
+#define WS_NAME_ROOM	32
 #define WS_BAD_MESSAGE	100		/* too short, or of an unknown kind */
 #define WS_BAD_VERSION	101		/* of another version of the message */
 #define WS_BAD_DIRECTORY 102	/* a directory that is damaged */
@@ -47,9 +40,7 @@
 /* Pages handed to a loader at a time, and pages that SQL can list. */
 #define WS_BATCH		4096
 #define WS_LISTED		16384
-
-/* Most loaders that warm_standby.max_loaders can ask for. */
-#define WS_MOST_LOADERS 64
+#define WS_MOST_LOADERS 64		/* that warm_standby.max_loaders can ask for */
 
 /* A device of the history: files of one tablespace, database and fork. */
 typedef struct WsDevice
@@ -58,6 +49,14 @@ typedef struct WsDevice
 	Oid			database;
 	int32		fork;
 } WsDevice;
+
+/* A page by its names.  No two pages differ in anything but these 20 bytes. */
+typedef struct WsPage
+{
+	WsDevice	device;
+	Oid			file;
+	BlockNumber block;
+} WsPage;
 
 /* What a loader answers to a page. */
 typedef enum WsOutcome
@@ -72,11 +71,7 @@ typedef enum WsOutcome
 
 typedef struct WsRequest
 {
-	Oid			space;
-	Oid			file;
-	BlockNumber block;
-	uint16		device;
-	uint8		fork;
+	WsPage		page;
 	bool		prefetch;		/* into the system's cache only */
 	uint8		outcome;
 } WsRequest;
@@ -97,108 +92,98 @@ typedef struct WsLoader
 	WsRequest	pages[WS_BATCH];
 } WsLoader;
 
-/* A page in the list that SQL asks for. */
-typedef struct WsListed
-{
-	WsDevice	device;
-	Oid			file;
-	BlockNumber block;
-} WsListed;
-
-/* What the worker and the loaders show.  Guarded by WsShared.lock. */
+/* What the worker counts: all int64, in the order of warm_standby_status. */
 typedef struct WsStats
 {
-	bool		standby;
-	TimestampTz started;
 	int64		known;			/* pages of the history */
 	int64		devices;
-	int64		samples;
-	int64		sample_us;		/* cost of the last sample */
-	int64		references;
-	int64		frames_sent;
-	int64		bytes_sent;
-	int64		frames_received;
-	int64		wal_read;		/* bytes of WAL that were looked through */
-	int64		wal_skipped;	/* bytes that were gone, or unreadable */
-	TimestampTz last_frame;		/* when the newest frame was written */
-	int64		rounds;
-	int64		round_us;		/* cost of the last round */
 	int64		wanted;
 	int64		resident;
 	int64		unloadable;
-	int64		touched;
+	int64		frames_received;
+	int64		wal_read;		/* bytes of WAL that were looked through */
+	int64		wal_skipped;	/* bytes that were gone, or unreadable */
+	int64		pages_touched;
+	int64		rounds;
+	int64		round_us;		/* cost of the last round */
+	int64		samples;
+	int64		sample_us;		/* cost of the last sample */
+	int64		page_references;
+	int64		frames_sent;
+	int64		bytes_sent;
 	int64		saves;
 	int64		save_failures;
 	int64		resets;
-	int64		refused[WS_STATUSES];
 } WsStats;
 
+/* What the loaders count, in the same way. */
 typedef struct WsLoaded
 {
-	int64		read;
-	int64		prefetched;
-	int64		errors;
+	int64		pages_read;
 	int64		read_us;
+	int64		pages_prefetched;
+	int64		read_errors;
 } WsLoaded;
 
+/* lock guards all of it, but the batch of a slot that its state gives to one process. */
 typedef struct WsShared
 {
 	LWLock	   *lock;
 	Latch	   *latch;			/* of the worker, NULL while there is none */
 	uint64		epoch;			/* counts the starts of the worker */
+	bool		is_standby;
+	TimestampTz last_frame;		/* when the newest frame was written */
 	WsStats		stats;
 	WsLoaded	loaded;
+	int64		refused[WS_STATUSES];
+	char		names[WS_STATUSES][WS_NAME_ROOM];	/* of the statuses */
 	bool		list_wanted;
 	uint64		list_made;		/* counts the lists */
 	uint32		list_count;
 	ConditionVariable list_ready;
-	WsListed	list[WS_LISTED];
+	WsPage		list[WS_LISTED];
 	int			loader_count;
 	WsLoader	loaders[FLEXIBLE_ARRAY_MEMBER];
 } WsShared;
 
 extern WsShared *ws_shared;
-extern WsStats ws_stats;		/* the worker's own, copied once a turn */
 
-/* Settings. */
+/* The worker's own, copied once a turn. */
+extern WsStats ws_stats;
+extern int64 ws_refused[WS_STATUSES];
+extern TimestampTz ws_last_frame;
+
+/* Settings, in the units that their names have in warm_standby.c. */
 extern bool ws_enabled;
-extern int	ws_sample_interval;
-extern int	ws_publish_interval;
-extern int	ws_full_interval;
-extern int	ws_publish_rate;
-extern int	ws_history_age;
-extern int	ws_history_pages;
-extern int	ws_clock_tolerance;
 extern bool ws_load;
-extern int	ws_load_interval;
-extern int	ws_load_rate;
 extern double ws_fraction;
-extern int	ws_prefetch_pages;
 extern int	ws_max_loaders;
+extern int	ws_sample_interval, ws_publish_interval, ws_full_interval, ws_publish_rate;
+extern int	ws_history_age, ws_history_pages;
+extern int	ws_load_interval, ws_load_rate, ws_prefetch_pages, ws_clock_tolerance;
 
 /* directory.c */
 extern void ws_directory_reset(void);
-extern int	ws_directory_find(const WsDevice *device);
-extern int	ws_directory_give(const WsDevice *device);
-extern bool ws_directory_put(uint16 number, const WsDevice *device);
-extern const WsDevice *ws_directory_get(uint16 number);
-extern int	ws_directory_count(void);
-extern int	ws_page_of(const BufferTag *tag, bool give, warm_page *page);
+extern int	ws_device_count;
+extern bool ws_page_of(const BufferTag *tag, bool give, warm_page *page);
+extern bool ws_names_of(warm_page page, WsPage *names);
+extern uint8 *ws_directory_encode(int *next, int most, uint8 *to);
+extern int	ws_directory_decode(const uint8 *bytes, Size length);
 
 /* history.c */
-extern void ws_history_open(void);
+extern void ws_status_name(int status, char *name);
 extern void ws_history_reset(const char *why);
 extern uint64 ws_clock(void);
-extern void ws_clock_heard(uint64 time);
+extern uint64 ws_latest;
 extern void ws_reference(warm_page page, uint64 time);
 extern void ws_references_end(void);
 extern int	ws_history_receive(const uint8 *frame, Size length);
-extern bool ws_history_pieces(uint8 bucket, bool has_after, warm_page after, uint8 *frame,
-							  Size room, Size *length);
+extern bool ws_history_piece(uint8 bucket, bool has_after, warm_page after, uint8 *frame,
+							 Size *length);
 extern Size ws_history_list(warm_page *pages, Size room);
 extern void ws_history_bound(void);
 extern void ws_history_save(void);
-extern void ws_history_load(void);
+extern void ws_history_start(void);
 extern uint64 ws_changed_buckets;
 
 /* sample.c */
@@ -214,13 +199,15 @@ extern void ws_publish(void);
 extern void ws_receive_start(void);
 extern bool ws_receive(void);
 extern void ws_receive_stop(void);
-extern void ws_message(const uint8 *bytes, Size length);
 
 /* rank.c */
 extern void ws_rank_reset(void);
 extern void ws_round(void);
 extern void ws_make_list(void);
-extern void ws_wake_loaders(void);
+
+/* warm_standby.c */
+extern uint64 ws_us(void);
+extern void ws_describe_worker(BackgroundWorker *worker, const char *function, const char *name);
 
 /* A message: a header of WS_HEADER bytes, and its content. */
 #define WS_MESSAGE_VERSION 1

@@ -1,13 +1,4 @@
-/*-------------------------------------------------------------------------
- *
- * emit.c
- *		A function of the tests alone: it writes any bytes as a message.
- *
- * SQL writes logical messages of the database that it is connected to, which a
- * standby does not take for ours.  These are of no database.
- *
- *-------------------------------------------------------------------------
- */
+/* postgres/test/emit.c: a function of the tests alone, that writes any bytes as a message */
 #include "postgres.h"
 
 #include "access/xloginsert.h"
@@ -23,11 +14,9 @@ Datum
 emit_message(PG_FUNCTION_ARGS)
 {
 	bytea	   *bytes = PG_GETARG_BYTEA_PP(0);
-	xl_logical_message record = {0};
+	xl_logical_message record = {.dbId = InvalidOid, .prefix_size = sizeof "warm_standby",
+	.message_size = VARSIZE_ANY_EXHDR(bytes)};
 
-	record.dbId = InvalidOid;
-	record.prefix_size = sizeof "warm_standby";
-	record.message_size = VARSIZE_ANY_EXHDR(bytes);
 	XLogBeginInsert();
 	XLogRegisterData((char *) &record, SizeOfLogicalMessage);
 	XLogRegisterData((char *) "warm_standby", sizeof "warm_standby");
