@@ -29,8 +29,7 @@ typedef struct Number
 int			ws_device_count = 0;	/* the greatest number given, plus 1 */
 
 static HTAB *numbers = NULL;
-static WsDevice *devices = NULL;	/* by number; fork -1: not given */
-static int	device_room = 0;
+static WsDevice devices[MOST_DEVICES];	/* by number; fork -1: not given */
 
 /* Forgets all numbers. */
 void
@@ -41,13 +40,9 @@ ws_directory_reset(void)
 
 	if (numbers != NULL)
 		hash_destroy(numbers);
-	if (devices != NULL)
-		pfree(devices);
 	numbers = hash_create("warm_standby devices", 64, &control,
 						  HASH_ELEM | HASH_BLOBS | HASH_CONTEXT);
-	device_room = 64;
 	ws_device_count = 0;
-	devices = MemoryContextAlloc(TopMemoryContext, device_room * sizeof(WsDevice));
 }
 
 /* The device of a number, or NULL. */
@@ -65,11 +60,6 @@ put(uint16 number, const WsDevice *device)
 
 	if (entry != NULL || device_of(number) != NULL)
 		return entry != NULL && entry->number == number;
-	while (number >= device_room)
-	{
-		device_room *= 2;
-		devices = repalloc(devices, device_room * sizeof(WsDevice));
-	}
 	while (ws_device_count <= number)
 		devices[ws_device_count++].fork = -1;
 	devices[number] = *device;

@@ -85,8 +85,6 @@ ws_history_reset(const char *why)
 	ws_stats.resets++;
 }
 
-/* ---- the clock ---- */
-
 /* The limit of times that are believed, in microseconds since 2000. */
 static uint64
 time_limit(void)
@@ -113,8 +111,6 @@ ws_clock(void)
 	return ws_latest;
 }
 
-/* ---- references and frames ---- */
-
 static void
 note(int status)
 {
@@ -126,8 +122,7 @@ note(int status)
 void
 ws_references_end(void)
 {
-	if (reference_count > 0)
-		note(warm_absorb(&history, references, reference_count));
+	note(warm_absorb(&history, references, reference_count));
 	reference_count = 0;
 }
 
@@ -159,7 +154,8 @@ ws_history_receive(const uint8 *frame, Size length)
 bool
 ws_history_piece(uint8 bucket, bool has_after, warm_page after, uint8 *frame, Size *length)
 {
-	int			status = warm_send(&history, bucket, has_after, after, frame, WS_FRAME_ROOM, length);
+	int			status = warm_send(&history, bucket, has_after, after, frame, WS_FRAME_ROOM,
+								   length);
 
 	note(status);
 	return status == WARM_OK;
@@ -175,8 +171,6 @@ ws_history_list(warm_page *pages, Size room)
 		note(warm_list(&history, pages, room, &count));
 	return count;
 }
-
-/* ---- the bound ---- */
 
 static Size
 known(void)
@@ -214,8 +208,6 @@ ws_history_bound(void)
 		warm_horizon(&history, horizon + (now - horizon) / 4 + 1, &horizon);
 	ws_stats.known = known();
 }
-
-/* ---- the files ---- */
 
 static int
 open_draft(void)
@@ -331,7 +323,7 @@ load_directory(void)
 	}
 	if (!good)
 	{
-		ereport(LOG, (errmsg("warm_standby does not use \"%s\": it is damaged, or of another cluster",
+		ereport(LOG, (errmsg("warm_standby does not use \"%s\": damaged, or of another cluster",
 							 DIRECTORY_FILE)));
 		ws_directory_reset();
 		ws_latest = 0;

@@ -214,17 +214,13 @@ leave(int code, Datum arg)
 	LWLockRelease(ws_shared->lock);
 }
 
-void
-warm_standby_loader_main(Datum main_arg)
+/* Takes the slot of that number, and returns its database; InvalidOid where it is not ours. */
+static Oid
+enter(int number)
 {
 	Oid			database = InvalidOid;
-	int			idle = 0;
 
-	pqsignal(SIGTERM, die);
-	pqsignal(SIGHUP, SignalHandlerForConfigReload);
-	BackgroundWorkerUnblockSignals();
-	memcpy(&epoch, MyBgworkerEntry->bgw_extra, sizeof epoch);
-	slot = &ws_shared->loaders[DatumGetInt32(main_arg)];
+	slot = &ws_shared->loaders[number];
 	before_shmem_exit(leave, (Datum) 0);
 	LWLockAcquire(ws_shared->lock, LW_EXCLUSIVE);
 	if (ws_shared->epoch == epoch)
@@ -233,6 +229,20 @@ warm_standby_loader_main(Datum main_arg)
 		slot->latch = MyLatch;
 	}
 	LWLockRelease(ws_shared->lock);
+	return database;
+}
+
+void
+warm_standby_loader_main(Datum main_arg)
+{
+	Oid			database;
+	int			idle = 0;
+
+	pqsignal(SIGTERM, die);
+	pqsignal(SIGHUP, SignalHandlerForConfigReload);
+	BackgroundWorkerUnblockSignals();
+	memcpy(&epoch, MyBgworkerEntry->bgw_extra, sizeof epoch);
+	database = enter(DatumGetInt32(main_arg));
 	if (!OidIsValid(database))
 		proc_exit(0);
 	BackgroundWorkerInitializeConnectionByOid(database, InvalidOid, BGWORKER_BYPASS_ALLOWCONN);

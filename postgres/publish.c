@@ -88,7 +88,8 @@ send_directory(uint64 now)
 	}
 	while (devices_sent < ws_device_count)
 	{
-		uint8	   *end = ws_directory_encode(&devices_sent, DEVICES_A_MESSAGE, message + WS_HEADER);
+		uint8	   *end = ws_directory_encode(&devices_sent, DEVICES_A_MESSAGE,
+											  message + WS_HEADER);
 
 		emit(WS_MESSAGE_DIRECTORY, message, end - message);
 	}

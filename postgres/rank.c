@@ -66,8 +66,6 @@ static Size page_count;
 static Size wanted_count;		/* of these, how many are wanted */
 static bool *resident;
 
-/* ---- what cannot be loaded ---- */
-
 static void
 forgive(void)
 {
@@ -111,8 +109,6 @@ note_unloadable(const WsLoader *loader, bool ended)
 			hash_search(unloadable, &key, HASH_ENTER, NULL);
 	}
 }
-
-/* ---- loaders ---- */
 
 /* Makes a slot empty; with ended, of no database. */
 static void
@@ -213,12 +209,13 @@ slot_of(Oid database)
 	return OidIsValid(database) ? vacant : -1;
 }
 
-/* Keeps a page for a loader; false where none takes it now.  Only the worker fills an idle slot. */
+/* Keeps a page for a loader; false where none takes it now.  Only we fill an idle slot. */
 static bool
 hand_out(warm_page page, bool prefetch)
 {
 	WsRequest	request = {.prefetch = prefetch, .outcome = WS_WAITING};
-	int			slot = ws_names_of(page, &request.page) ? slot_of(request.page.device.database) : -1;
+	bool		named = ws_names_of(page, &request.page);
+	int			slot = named ? slot_of(request.page.device.database) : -1;
 	WsLoader   *loader = &ws_shared->loaders[Max(slot, 0)];
 
 	if (slot < 0 || loader->state != WS_SLOT_IDLE || loader->count == WS_BATCH)
@@ -248,8 +245,6 @@ send_batches(void)
 			clear_slot(loader, true);	/* nobody else knows of it */
 	}
 }
-
-/* ---- a round ---- */
 
 /* Ranks: pages that have a device and can be loaded, hottest first. */
 static void

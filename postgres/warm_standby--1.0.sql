@@ -34,9 +34,9 @@ CREATE VIEW pg_stat_warm_standby AS
            clock_timestamp() - last_frame AS last_frame_age, frames_received, refused,
            (SELECT jsonb_object_agg(r.name, r.frames) FROM warm_standby_refused() r)
                AS refused_by_name,
-           unloadable, loaders, pages_read, round(read_us / 1000.0, 1) AS read_ms, read_errors,
-           pages_prefetched, pages_touched, rounds, round(round_us / 1000.0, 1) AS round_ms,
-           samples, round(sample_us / 1000.0, 1) AS sample_ms, page_references, frames_sent,
+           unloadable, loaders, pages_read, round(read_us / 1000.0, 3) AS read_ms, read_errors,
+           pages_prefetched, pages_touched, rounds, round(round_us / 1000.0, 3) AS round_ms,
+           samples, round(sample_us / 1000.0, 3) AS sample_ms, page_references, frames_sent,
            bytes_sent, wal_read, wal_skipped, devices, saves, save_failures, resets
     FROM warm_standby_status();
 

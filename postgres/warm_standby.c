@@ -51,8 +51,6 @@ int			ws_load_interval, ws_load_rate, ws_prefetch_pages, ws_clock_tolerance;
 static shmem_request_hook_type prev_shmem_request_hook = NULL;
 static shmem_startup_hook_type prev_shmem_startup_hook = NULL;
 
-/* ---- settings ---- */
-
 typedef struct IntSetting
 {
 	int		   *value;
@@ -114,8 +112,6 @@ define_settings(void)
 	}
 	MarkGUCPrefixReserved(WS_NAME);
 }
-
-/* ---- shared memory ---- */
 
 static Size
 shared_size(void)
@@ -181,8 +177,6 @@ _PG_init(void)
 	worker.bgw_restart_time = RESTART_SECONDS;
 	RegisterBackgroundWorker(&worker);
 }
-
-/* ---- the worker ---- */
 
 static bool is_standby;
 static XLogRecPtr saved_redo;
