@@ -230,8 +230,9 @@ end_draft(int fd, const char *path, const char *fault)
 	return false;
 }
 
-static bool
-save_directory(void)
+/* Saves the directory, and the latest time. */
+bool
+ws_directory_save(void)
 {
 	uint8	   *bytes = palloc(DIRECTORY_HEADER + ws_device_count * WS_DEVICE_BYTES + 4);
 	const char *fault = NULL;
@@ -275,7 +276,7 @@ save_history(void)
 void
 ws_history_save(void)
 {
-	if (save_directory() && save_history())
+	if (ws_directory_save() && save_history())
 		ws_stats.saves++;
 	else
 		ws_stats.save_failures++;

@@ -34,6 +34,7 @@ static warm_page after;
 
 static uint8 next_changed = 0;	/* where the search for a changed bucket begins */
 static uint8 next_in_turn = 0;
+static int	devices_saved = 0;
 static int	devices_sent = 0;
 static uint64 directory_at;		/* when all of it was sent last */
 static int64 allowance = 0;		/* bytes that may be sent now */
@@ -74,18 +75,22 @@ emit(uint8 kind, uint8 *message, Size length)
 
 /*
  * Sends the numbers of devices that were not sent; now and then all of them,
- * since no standby uses a page whose device it does not know.
+ * since no standby uses a page whose device it does not know.  They are saved
+ * first, so that a primary that crashed does not give them again.
  */
 static void
 send_directory(uint64 now)
 {
 	uint8		message[WS_HEADER + DEVICES_A_MESSAGE * WS_DEVICE_BYTES];
 
-	if (now - directory_at > DIRECTORY_US)
+	if (devices_saved != ws_device_count)
+		(void) ws_directory_save();
+	if (now - directory_at > DIRECTORY_US || devices_saved > ws_device_count)
 	{
 		devices_sent = 0;
 		directory_at = now;
 	}
+	devices_saved = ws_device_count;
 	while (devices_sent < ws_device_count)
 	{
 		uint8	   *end = ws_directory_encode(&devices_sent, DEVICES_A_MESSAGE,

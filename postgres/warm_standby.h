@@ -182,6 +182,7 @@ extern bool ws_history_piece(uint8 bucket, bool has_after, warm_page after, uint
 							 Size *length);
 extern Size ws_history_list(warm_page *pages, Size room);
 extern void ws_history_bound(void);
+extern bool ws_directory_save(void);
 extern void ws_history_save(void);
 extern void ws_history_start(void);
 extern uint64 ws_changed_buckets;
