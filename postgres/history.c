@@ -19,7 +19,6 @@
 #include "access/xlog.h"
 #include "miscadmin.h"
 #include "port/pg_crc32c.h"
-#include "storage/bufmgr.h"
 #include "storage/fd.h"
 #include "warm_standby.h"
 

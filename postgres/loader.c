@@ -18,12 +18,10 @@
 #include "access/xlog.h"
 #include "miscadmin.h"
 #include "pgstat.h"
-#include "postmaster/bgworker.h"
 #include "postmaster/interrupt.h"
 #include "storage/bufmgr.h"
 #include "storage/ipc.h"
 #include "storage/lmgr.h"
-#include "storage/proc.h"
 #include "storage/smgr.h"
 #include "tcop/tcopprot.h"
 #include "utils/memutils.h"
@@ -37,6 +35,7 @@ PGDLLEXPORT void warm_standby_loader_main(Datum main_arg);
 
 static WsLoader *slot;
 static uint64 epoch;
+static bool is_connected = false;
 static WsLoaded done;			/* since it was last added to the shared counts */
 static WsRequest batch[WS_BATCH];
 
@@ -204,13 +203,23 @@ give_outcomes(uint32 count)
 	memset(&done, 0, sizeof done);
 }
 
-/* The latch is of no use to anybody after this process. */
+/*
+ * Gives the slot back, with a batch that it may have got meanwhile.  One that
+ * could not connect leaves its batch, by which the worker sees that.
+ */
 static void
 leave(int code, Datum arg)
 {
 	LWLockAcquire(ws_shared->lock, LW_EXCLUSIVE);
 	if (ws_shared->epoch == epoch)
+	{
 		slot->latch = NULL;
+		if (is_connected)
+		{
+			slot->state = WS_SLOT_IDLE;
+			slot->database = InvalidOid;
+		}
+	}
 	LWLockRelease(ws_shared->lock);
 }
 
@@ -246,6 +255,7 @@ warm_standby_loader_main(Datum main_arg)
 	if (!OidIsValid(database))
 		proc_exit(0);
 	BackgroundWorkerInitializeConnectionByOid(database, InvalidOid, BGWORKER_BYPASS_ALLOWCONN);
+	is_connected = true;
 
 	while (is_needed() && idle < IDLE_TURNS)
 	{

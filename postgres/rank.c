@@ -13,11 +13,7 @@
  */
 #include "postgres.h"
 
-#include "access/xlog.h"
-#include "catalog/pg_tablespace_d.h"
 #include "miscadmin.h"
-#include "postmaster/bgworker.h"
-#include "storage/bufmgr.h"
 #include "utils/hsearch.h"
 #include "utils/memutils.h"
 #include "warm_standby.h"
@@ -165,8 +161,8 @@ start_loader(int slot)
 
 /*
  * Frees the slots of loaders that have ended, and notes what others answered.
- * One that ended over its batch could not connect, or was ended by somebody:
- * its database is left alone for a while.
+ * One that left a batch could not connect: its database is left alone for a
+ * while.
  */
 static void
 reap_loaders(void)
@@ -209,7 +205,7 @@ slot_of(Oid database)
 	return OidIsValid(database) ? vacant : -1;
 }
 
-/* Keeps a page for a loader; false where none takes it now.  Only we fill an idle slot. */
+/* Keeps a page for a loader; false where none takes it now.  Under the lock. */
 static bool
 hand_out(warm_page page, bool prefetch)
 {
@@ -233,15 +229,17 @@ send_batches(void)
 	for (int i = 0; i < ws_shared->loader_count; i++)
 	{
 		WsLoader   *loader = &ws_shared->loaders[i];
+		bool		has_work;
 
-		if (loader->state != WS_SLOT_IDLE || loader->count == 0)
-			continue;
 		LWLockAcquire(ws_shared->lock, LW_EXCLUSIVE);
-		loader->state = WS_SLOT_FULL;
-		if (loader->latch != NULL)
+		has_work = loader->state == WS_SLOT_IDLE && loader->count > 0 &&
+			OidIsValid(loader->database);
+		if (has_work)
+			loader->state = WS_SLOT_FULL;
+		if (has_work && loader->latch != NULL)
 			SetLatch(loader->latch);
 		LWLockRelease(ws_shared->lock);
-		if (handles[i] == NULL && !start_loader(i))
+		if (has_work && handles[i] == NULL && !start_loader(i))
 			clear_slot(loader, true);	/* nobody else knows of it */
 	}
 }
@@ -334,6 +332,7 @@ walk_buffers(void)
 static void
 load_pages(void)
 {
+	LWLockAcquire(ws_shared->lock, LW_EXCLUSIVE);
 	for (Size i = 0; i < wanted_count && load_allowance >= 1; i++)
 		if (!resident[i] && hand_out(pages[i], false))
 			load_allowance--;
@@ -349,6 +348,7 @@ load_pages(void)
 		prefetched++;
 		load_allowance--;
 	}
+	LWLockRelease(ws_shared->lock);
 	send_batches();
 }
 

@@ -18,7 +18,6 @@
 
 #include "common/hashfn.h"
 #include "miscadmin.h"
-#include "storage/bufmgr.h"
 #include "utils/memutils.h"
 #include "warm_standby.h"
 

@@ -4,7 +4,6 @@
 #include "access/xloginsert.h"
 #include "fmgr.h"
 #include "replication/message.h"
-#include "utils/builtins.h"
 
 PG_MODULE_MAGIC;
 
