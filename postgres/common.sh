@@ -61,7 +61,7 @@ build() {
 }
 
 # sql SERVER STATEMENTS: what they print, or an error.
-sql() { as "$bin/psql" -XqAt -h "$work/run" -p "$(port "$1")" -d "${database:-postgres}" -v ON_ERROR_STOP=1 -c "$2"; }
+sql() { PGOPTIONS='-c client_min_messages=warning' as "$bin/psql" -XqAt -h "$work/run" -p "$(port "$1")" -d "${database:-postgres}" -v ON_ERROR_STOP=1 -c "$2"; }
 
 # A server's port names its socket alone.
 port() {
