@@ -72,7 +72,7 @@ port() {
     fail "there is no server $1"
 }
 
-start() { as "$bin/pg_ctl" -D "$work/$1" -w -s -t 60 -l "$work/$1.log" start > /dev/null || fail "$1 does not start: $(tail -n 20 "$work/$1.log")"; }
+start() { as "$bin/pg_ctl" -D "$work/$1" -w -s -t 60 -l "$work/$1.log" start > /dev/null 2>&1 || fail "$1 does not start: $(tail -n 20 "$work/$1.log")"; }
 stop() { as "$bin/pg_ctl" -D "$work/$1" -w -s -m "${2:-fast}" stop > /dev/null; }
 promote() { as "$bin/pg_ctl" -D "$work/$1" -w -s promote > /dev/null; }
 
