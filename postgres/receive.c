@@ -61,7 +61,7 @@ open_segment(XLogSegNo number, TimeLineID timeline)
 	return segment >= 0;
 }
 
-/* Reads a page of WAL, as far as it was replayed.  Never raises an error. */
+/* Reads a page of WAL, as far as it was replayed.  A segment that is gone is no error. */
 static int
 read_page(XLogReaderState *state, XLogRecPtr page, int wanted, XLogRecPtr record, char *into)
 {
@@ -121,8 +121,7 @@ header_status(const uint8 *bytes, Size length)
 		return WS_BAD_VERSION;
 	if (bytes[1] != WS_MESSAGE_FRAME && bytes[1] != WS_MESSAGE_DIRECTORY)
 		return WS_BAD_MESSAGE;
-	if ((TimestampTz) ws_get(bytes + 2, 8) >
-		GetCurrentTimestamp() + ws_clock_tolerance * INT64CONST(1000000))
+	if (ws_get(bytes + 2, 8) > (uint64) GetCurrentTimestamp() + ws_clock_tolerance * US_PER_S)
 		return WS_LATE_MESSAGE;
 	return WARM_OK;
 }
