@@ -193,8 +193,12 @@ ws_receive(void)
 											 LSN_FORMAT_ARGS(position), LSN_FORMAT_ARGS(end),
 											 message != NULL ? message : "it is gone")));
 			ws_stats.wal_skipped += end - position;
+			ws_stats.wal_read -= end - position;
 			close_segment();
-			XLogBeginRead(reader, position = end);
+			/* A record does not begin at a page, but behind its header. */
+			position = end % XLOG_BLCKSZ != 0 ? end : end +
+				(XLogSegmentOffset(end, wal_segment_size) != 0 ? SizeOfXLogShortPHD : SizeOfXLogLongPHD);
+			XLogBeginRead(reader, position);
 			break;
 		}
 		look_at_record();
