@@ -138,8 +138,9 @@ next_bucket(uint64 now)
 	{
 		while ((ws_changed_buckets >> next_changed & 1) == 0)
 			next_changed = (next_changed + 1) % BUCKETS;
-		ws_changed_buckets &= ~(UINT64CONST(1) << next_changed);
 		bucket = next_changed;
+		ws_changed_buckets &= ~(UINT64CONST(1) << bucket);
+		next_changed = (bucket + 1) % BUCKETS;	/* those that change often do not shut others out */
 	}
 	else if (now >= turn_at)
 	{
@@ -163,7 +164,7 @@ ws_publish(void)
 	allowance += (int64) (rate * ((now - paid_at) / 1e6));
 	allowance = Min(allowance, Max(rate, WS_FRAME_ROOM) * 10);
 	paid_at = now;
-	turn_at = Max(turn_at, now - MOST_LATE_US);
+	turn_at = Max(turn_at + MOST_LATE_US, now) - MOST_LATE_US;
 	send_directory(now);
 	while (allowance > 0 && (is_sending || next_bucket(now)))
 	{
