@@ -107,11 +107,11 @@ ws_names_of(warm_page page, WsPage *names)
 	return device != NULL;
 }
 
-/* Writes the numbers from *next on, at most so many of them; returns the end of the bytes. */
+/* Writes the numbers from *next to below end, at most so many; returns the end of the bytes. */
 uint8 *
-ws_directory_encode(int *next, int most, uint8 *to)
+ws_directory_encode(int *next, int end, int most, uint8 *to)
 {
-	for (; most > 0 && *next < ws_device_count; ++*next)
+	for (; most > 0 && *next < end; ++*next)
 	{
 		const WsDevice *device = device_of(*next);
 

@@ -80,6 +80,7 @@ ws_history_reset(const char *why)
 	(void) unlink(DIRECTORY_FILE);
 	ws_directory_reset();
 	open_history();
+	ws_publish_reset();			/* the numbers are given, saved and sent anew */
 	ws_latest = 0;
 	ws_stats.resets++;
 }
@@ -245,7 +246,7 @@ ws_directory_save(void)
 	if (fd < 0)
 		return end_draft(fd, DIRECTORY_FILE, strerror(errno));
 	ws_put(ws_put(ws_put(bytes, DIRECTORY_MAGIC, 8), GetSystemIdentifier(), 8), ws_latest, 8);
-	length = ws_directory_encode(&next, INT_MAX, bytes + DIRECTORY_HEADER) - bytes;
+	length = ws_directory_encode(&next, ws_device_count, INT_MAX, bytes + DIRECTORY_HEADER) - bytes;
 	INIT_CRC32C(crc);
 	COMP_CRC32C(crc, bytes, length);
 	FIN_CRC32C(crc);

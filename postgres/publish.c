@@ -16,6 +16,8 @@
 
 #include "access/xlog.h"
 #include "access/xloginsert.h"
+#include "miscadmin.h"
+#include "postmaster/interrupt.h"
 #include "replication/message.h"
 #include "warm_standby.h"
 
@@ -27,27 +29,24 @@
 #define DIRECTORY_US	(10 * US_PER_S)
 
 /* Where the publication is: a bucket, and the page after which it goes on. */
-static bool is_sending = false;
+static bool is_sending, has_after;
 static uint8 bucket;
-static bool has_after;
 static warm_page after;
 
 static uint8 next_changed = 0;	/* where the search for a changed bucket begins */
 static uint8 next_in_turn = 0;
-static int	devices_saved = 0;
-static int	devices_sent = 0;
+static int	devices_saved, devices_sent;	/* the numbers below these */
 static uint64 directory_at;		/* when all of it was sent last */
 static int64 allowance = 0;		/* bytes that may be sent now */
 static XLogRecPtr last_message = InvalidXLogRecPtr;
-static uint64 paid_at;
-static uint64 turn_at;			/* when the next bucket in turn is due */
+static uint64 paid_at, turn_at; /* turn: when the next bucket in turn is due */
 
 /* The next publication sends the directory first. */
 void
 ws_publish_reset(void)
 {
 	is_sending = false;
-	devices_sent = 0;
+	devices_saved = devices_sent = 0;
 	allowance = 0;
 	directory_at = paid_at = turn_at = ws_us();
 }
@@ -76,24 +75,24 @@ emit(uint8 kind, uint8 *message, Size length)
 /*
  * Sends the numbers of devices that were not sent; now and then all of them,
  * since no standby uses a page whose device it does not know.  They are saved
- * first, so that a primary that crashed does not give them again.
+ * first, so that a primary that crashed does not give them again; where that
+ * fails, they wait for the next publication.
  */
 static void
 send_directory(uint64 now)
 {
 	uint8		message[WS_HEADER + DEVICES_A_MESSAGE * WS_DEVICE_BYTES];
 
-	if (devices_saved != ws_device_count)
-		(void) ws_directory_save();
-	if (now - directory_at > DIRECTORY_US || devices_saved > ws_device_count)
+	if (devices_saved != ws_device_count && ws_directory_save())
+		devices_saved = ws_device_count;
+	if (now - directory_at > DIRECTORY_US)
 	{
 		devices_sent = 0;
 		directory_at = now;
 	}
-	devices_saved = ws_device_count;
-	while (devices_sent < ws_device_count)
+	while (devices_sent < devices_saved)
 	{
-		uint8	   *end = ws_directory_encode(&devices_sent, DEVICES_A_MESSAGE,
+		uint8	   *end = ws_directory_encode(&devices_sent, devices_saved, DEVICES_A_MESSAGE,
 											  message + WS_HEADER);
 
 		emit(WS_MESSAGE_DIRECTORY, message, end - message);
@@ -166,10 +165,10 @@ ws_publish(void)
 	paid_at = now;
 	turn_at = Max(turn_at + MOST_LATE_US, now) - MOST_LATE_US;
 	send_directory(now);
-	while (allowance > 0 && (is_sending || next_bucket(now)))
+	while (allowance > 0 && !ShutdownRequestPending && (is_sending || next_bucket(now)))
 	{
+		CHECK_FOR_INTERRUPTS();
 		send_piece();
-		send_directory(now);
 	}
 	XLogSetAsyncXactLSN(last_message);	/* so that the WAL writer does not leave it */
 }

@@ -167,7 +167,7 @@ extern void ws_directory_reset(void);
 extern int	ws_device_count;
 extern bool ws_page_of(const BufferTag *tag, bool give, warm_page *page);
 extern bool ws_names_of(warm_page page, WsPage *names);
-extern uint8 *ws_directory_encode(int *next, int most, uint8 *to);
+extern uint8 *ws_directory_encode(int *next, int end, int most, uint8 *to);
 extern int	ws_directory_decode(const uint8 *bytes, Size length);
 
 /* history.c */
