@@ -67,10 +67,7 @@ ws_sample_reset(void)
 	saturated_at = ws_us();
 }
 
-/*
- * Whether a page was referenced, by what was seen before and what is seen now:
- * it came in, its count rose, or that has been at its greatest for long.
- */
+/* Whether the page came in, or its count rose, or has been at its greatest for long. */
 static inline bool
 is_referenced(uint64 before, uint64 now, bool saturated)
 {

@@ -245,6 +245,8 @@ promote(void)
 	ereport(LOG, (errmsg("warm_standby was promoted: " INT64_FORMAT " pages known, " INT64_FORMAT
 						 " of " INT64_FORMAT " wanted pages resident", ws_stats.known,
 						 ws_stats.resident, ws_stats.wanted)));
+	while (ws_enabled && !ShutdownRequestPending && ws_receive())
+		;						/* what was replayed last, so that no number is given twice */
 	ws_receive_stop();
 	ws_rank_reset();			/* the loaders end by themselves */
 	begin_role();
