@@ -27,9 +27,9 @@ PGDLLEXPORT void _PG_init(void);
 PGDLLEXPORT void warm_standby_main(Datum main_arg);
 
 #define RESTART_SECONDS 5
-#define SAVE_AGAIN_US	(10 * US_PER_S)
+#define SAVE_AGAIN_MS	10000
 
-/* After work of some cost the worker leaves the processor for nine times as long. */
+/* A sample, a publication, a round, a save: each rests nine times as long as it took. */
 #define SHARE			9
 
 WsShared   *ws_shared = NULL;
@@ -58,7 +58,7 @@ typedef struct IntSetting
 	const char *more;
 } IntSetting;
 
-/* All of them by SIGHUP.  The first six are a primary's, the others a standby's. */
+/* All of them by SIGHUP.  The first four are a primary's; ages, pages and clocks of both. */
 static const IntSetting int_settings[] = {
 	{&ws_sample_interval, "warm_standby.sample_interval", 1000, 10, 3600 * 1000, GUC_UNIT_MS,
 		"Sets the time between two samples of a primary's buffers.",
@@ -177,7 +177,7 @@ _PG_init(void)
 
 static bool is_standby;
 static XLogRecPtr saved_redo;
-static uint64 saved_at;
+static uint64 sample_at, publish_at, round_at, save_at; /* when they are due */
 
 /* Microseconds of a clock that nobody sets: what the worker waits by. */
 uint64
@@ -226,6 +226,7 @@ start(void)
 {
 	LWLockAcquire(ws_shared->lock, LW_EXCLUSIVE);
 	ws_shared->latch = MyLatch;
+	ws_shared->is_standby = RecoveryInProgress();
 	ws_shared->epoch++;
 	for (int i = 0; i < WS_STATUSES; i++)
 		ws_status_name(i, ws_shared->names[i]);
@@ -256,8 +257,6 @@ promote(void)
 static uint64
 primary_turn(void)
 {
-	static uint64 sample_at = 0;
-	static uint64 publish_at = 0;
 	uint64		now = ws_us();
 
 	if (now >= sample_at)
@@ -279,18 +278,16 @@ primary_turn(void)
 static uint64
 standby_turn(void)
 {
-	static uint64 round_at = 0;
+	bool		more = ws_receive();
 	uint64		now = ws_us();
 
-	if (ws_receive())
-		return now;
+	ws_history_bound();			/* also while it catches up */
 	if (now >= round_at)
 	{
-		ws_history_bound();
 		ws_round();
 		round_at = next_time(now, ws_load_interval);
 	}
-	return round_at;
+	return more ? now : round_at;
 }
 
 /* One turn; returns for how many milliseconds the worker may sleep, a second at most. */
@@ -305,12 +302,14 @@ turn(void)
 		promote();
 	if (ws_enabled)
 		next = Min(next, is_standby ? standby_turn() : primary_turn());
+	else if (!is_standby)
+		ws_sample_reset();		/* what comes in meanwhile is no reference */
 	now = ws_us();
-	if (GetRedoRecPtr() != saved_redo && now - saved_at > SAVE_AGAIN_US)
+	if (GetRedoRecPtr() != saved_redo && now >= save_at)
 	{
 		saved_redo = GetRedoRecPtr();	/* a checkpoint, or a restartpoint */
-		saved_at = now;
 		ws_history_save();
+		save_at = next_time(now, SAVE_AGAIN_MS);
 	}
 	LWLockAcquire(ws_shared->lock, LW_EXCLUSIVE);
 	ws_shared->is_standby = is_standby;
@@ -357,6 +356,7 @@ warm_standby_main(Datum main_arg)
 		{
 			ConfigReloadPending = false;
 			ProcessConfigFile(PGC_SIGHUP);
+			sample_at = publish_at = round_at = 0;	/* the intervals may be others */
 		}
 	}
 	ws_history_save();
