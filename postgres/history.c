@@ -177,6 +177,7 @@ known(void)
 {
 	Size		length = 0;
 
+	CHECK_FOR_INTERRUPTS();		/* between steps that walk the history */
 	warm_history_length(&history, &length);
 	return length;
 }
@@ -339,8 +340,7 @@ void
 ws_history_start(void)
 {
 	Size		length;
-	int			fd;
-	int			status;
+	int			fd, status;
 
 	open_history();
 	ws_directory_reset();

@@ -58,8 +58,7 @@ static uint64 prefetched_since = 0;
 
 /* One round. */
 static warm_page *pages;
-static Size page_count;
-static Size wanted_count;		/* of these, how many are wanted */
+static Size page_count, wanted_count;	/* how many, and how many of these are wanted */
 static bool *resident;
 
 static void
@@ -249,7 +248,7 @@ static void
 rank_pages(void)
 {
 	Size		limit = (Size) (ws_fraction * NBuffers);
-	Size		room = limit * 2 + ws_prefetch_pages;
+	Size		room = Min(limit * 2 + ws_prefetch_pages, (Size) ws_stats.known);
 	Size		listed;
 
 	pages = MemoryContextAllocHuge(round_context, sizeof(warm_page) * Max(room, 1));

@@ -41,6 +41,8 @@ ws_look(int buffer, BufferTag *tag, uint32 *state)
 	BufferDesc *descriptor = GetBufferDescriptor(buffer);
 	uint32		before = pg_atomic_read_u32(&descriptor->state);
 
+	if (buffer % 65536 == 0)
+		CHECK_FOR_INTERRUPTS(); /* a walk is long, and a drop of a database waits for us */
 	if ((before & BM_VALID) == 0)
 		return false;
 	pg_read_barrier();

@@ -99,8 +99,7 @@ warm_standby_refused(PG_FUNCTION_ARGS)
 static void
 ask_for_list(void)
 {
-	uint64		before;
-	uint64		made;
+	uint64		before, made;
 
 	LWLockAcquire(ws_shared->lock, LW_EXCLUSIVE);
 	before = made = ws_shared->list_made;

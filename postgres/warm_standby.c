@@ -201,6 +201,7 @@ next_time(uint64 begun, int interval)
 static void
 leave(int code, Datum arg)
 {
+	LWLockReleaseAll();			/* an error may have come below ours */
 	LWLockAcquire(ws_shared->lock, LW_EXCLUSIVE);
 	ws_shared->latch = NULL;
 	LWLockRelease(ws_shared->lock);
