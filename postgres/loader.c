@@ -115,6 +115,7 @@ try_file(WsRequest *some, int count)
 
 	PG_TRY();
 	{
+		SetCurrentStatementStartTimestamp();
 		StartTransactionCommand();
 		rest = read_file(some, count);
 		CommitTransactionCommand();
@@ -266,6 +267,7 @@ warm_standby_loader_main(Datum main_arg)
 		{
 			load(count);
 			give_outcomes(count);
+			(void) pgstat_report_stat(false);
 			idle = 0;
 		}
 		(void) WaitLatch(MyLatch, WL_LATCH_SET | WL_TIMEOUT | WL_EXIT_ON_PM_DEATH, IDLE_MS,
