@@ -111,11 +111,13 @@ ws_clock(void)
 	return ws_latest;
 }
 
-static void
+/* Counts a call of the library that is refused; returns its status. */
+static int
 note(int status)
 {
 	if (status != WARM_OK && status >= 0 && status < WS_STATUSES)
 		ws_refused[status]++;
+	return status;
 }
 
 /* Hands in what ws_reference has kept. */
@@ -138,27 +140,25 @@ ws_reference(warm_page page, uint64 time)
 		ws_references_end();
 }
 
-/* Takes in a frame.  One that is refused is counted by its status. */
+/*
+ * Takes in a frame.  Where this server believed later times than it does now,
+ * its horizon may be later than all that comes: the history begins anew.
+ */
 int
 ws_history_receive(const uint8 *frame, Size length)
 {
-	int			status;
-
+	if (ws_latest > time_limit())
+		ws_history_reset("the clock was set back");
 	warm_limit(&history, time_limit());
-	status = warm_receive(&history, frame, length);
-	note(status);
-	return status;
+	return note(warm_receive(&history, frame, length));
 }
 
 /* The next frame of a bucket, of at most WS_FRAME_ROOM bytes; false where it is refused. */
 bool
 ws_history_piece(uint8 bucket, bool has_after, warm_page after, uint8 *frame, Size *length)
 {
-	int			status = warm_send(&history, bucket, has_after, after, frame, WS_FRAME_ROOM,
-								   length);
-
-	note(status);
-	return status == WARM_OK;
+	return note(warm_send(&history, bucket, has_after, after, frame, WS_FRAME_ROOM,
+						  length)) == WARM_OK;
 }
 
 /* The hottest pages, hottest first. */
@@ -267,8 +267,7 @@ save_history(void)
 
 	if (fd < 0)
 		return end_draft(fd, HISTORY_FILE, strerror(errno));
-	status = warm_save(&history, fd);
-	note(status);
+	status = note(warm_save(&history, fd));
 	return end_draft(fd, HISTORY_FILE, status == WARM_OK ? NULL : ws_shared->names[status]);
 }
 
@@ -346,9 +345,8 @@ ws_history_start(void)
 	ws_directory_reset();
 	if (load_directory() && (fd = open_saved(HISTORY_FILE, &length)) >= 0)
 	{
-		status = warm_load(&history, fd, length);
+		status = note(warm_load(&history, fd, length));
 		CloseTransientFile(fd);
-		note(status);
 		if (status != WARM_OK)
 			ereport(LOG, (errmsg("warm_standby does not use \"%s\": %s", HISTORY_FILE,
 								 ws_shared->names[status])));
