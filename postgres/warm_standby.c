@@ -263,12 +263,12 @@ primary_turn(void)
 	if (now >= sample_at)
 	{
 		ws_sample();
+		ws_history_bound();
 		sample_at = next_time(now, ws_sample_interval);
 	}
 	now = ws_us();
 	if (now >= publish_at)
 	{
-		ws_history_bound();
 		if (XLogIsNeeded())		/* else no standby reads it */
 			ws_publish();
 		publish_at = next_time(now, ws_publish_interval);
