@@ -6,8 +6,8 @@
  * A loader takes a batch from its slot, and reads it file by file, in short
  * transactions of some pages each.  Each holds AccessShareLock on the relation,
  * which keeps the replay of a drop or a truncation from passing it; where the
- * lock is not free at once, the pages are left for later, so that a loader
- * waits for no lock, and replay waits for a loader only some milliseconds.
+ * lock is not free at once, the pages are left for later.  So a loader waits for
+ * no lock but those of catalogs, and replay waits for these few reads at most.
  *
  *-------------------------------------------------------------------------
  */

@@ -5,7 +5,7 @@
  *
  * The worker reads the WAL that was replayed, from pg_wal, by an XLogReader of
  * its own.  Nothing is hooked: the startup process does not know of it, so
- * replay waits for nothing and fails by nothing of ours.  Where the worker
+ * no message of ours makes replay wait or fail.  Where the worker
  * falls behind until a segment is gone, or a record cannot be read, it goes on
  * at the end of what was replayed, and counts the bytes that it skipped.
  *
