@@ -7,6 +7,7 @@ ghost use Rattle.warm_schedule.specs.Answers.{shown_text, pages_text};
 ghost use Rattle.warm_schedule.specs.Answers.{slot_text, hex_text, byte_text, bytes_text};
 ghost use Rattle.warm_schedule.specs.Answers.{page_if_any, refused_text};
 ghost use Rattle.warm_schedule.specs.Answers.{answer_text, bad_line, end_refused};
+ghost use Rattle.warm_world.specs.declared.event.Answer.TheVariants.{Pinned};
 ghost use Rattle.warm_schedule.specs.declared.printer.TheConstants.{AT_ONCE};
 
 use std::io::{self, Write};
@@ -179,6 +180,33 @@ pub fn print_answer<W: Write>(writer: &mut W, answer: &Answer) -> io::Result<()>
     ensures { Prints result (W.contents writer.old) (W.contents writer.new)
         (answer_text answer.now) }
 {
+    if let Answer::Done = answer {
+        return writer.write_all(b"ok\n");
+    }
+    if let Answer::Pinned(slot) = answer {
+        return print_pinned(writer, *slot);
+    }
+    print_any(writer, answer)
+}
+
+// The line of a slot whose page was pinned.
+#[inline(never)]
+fn print_pinned<W: Write>(writer: &mut W, slot: Slot) -> io::Result<()>
+    ensures { Prints result (W.contents writer.old) (W.contents writer.new)
+        (answer_text (Pinned slot)) }
+{
+    writer.write_all(b"slot ")?;
+    print_slot(writer, slot)?;
+    writer.write_all(b"\n")
+}
+
+// The text of any answer. It and the line of a slot are out of line, so that an `ok` clears nothing
+// of what they hold.
+#[inline(never)]
+fn print_any<W: Write>(writer: &mut W, answer: &Answer) -> io::Result<()>
+    ensures { Prints result (W.contents writer.old) (W.contents writer.new)
+        (answer_text answer.now) }
+{
     match answer {
         Answer::Done => writer.write_all(b"ok\n"),
         Answer::Shown(shown) => print_history(writer, shown.as_history()),
@@ -189,11 +217,7 @@ pub fn print_answer<W: Write>(writer: &mut W, answer: &Answer) -> io::Result<()>
             }
             writeln!(writer, "took {count} from {first}")
         }
-        Answer::Pinned(slot) => {
-            writer.write_all(b"slot ")?;
-            print_slot(writer, *slot)?;
-            writer.write_all(b"\n")
-        }
+        Answer::Pinned(slot) => print_pinned(writer, *slot),
         Answer::Bytes(bytes) => {
             writer.write_all(b"bytes")?;
             print_bytes(writer, bytes.as_slice())?;
