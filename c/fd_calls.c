@@ -1,6 +1,7 @@
 /*
  * fd_calls.c: the calls of the system that the library makes, which are pread, pwrite, fsync and fstat. The proved part, crates/warm_c,
- * asks for them as fd_calls.h says (crates/warm_c/src/descriptor.rt). Nothing here is proved; c/check tests it.
+ * asks for them as fd_calls.h says (crates/warm_c/src/descriptor.rt). And warm_before_write, since the proved part makes no call of the
+ * engine's. Nothing here is proved; c/check tests it.
  */
 #define _FILE_OFFSET_BITS 64
 #define _POSIX_C_SOURCE 200809L /* pread, pwrite */
@@ -8,13 +9,15 @@
 #include "warm.h"
 
 #include <errno.h>
+#include <pthread.h>
+#include <stdlib.h>
 #include <string.h>
 #include <sys/stat.h>
 #include <unistd.h>
 
 _Static_assert(sizeof(off_t) == 8, "a place in a file has 64 bits");
 
-/* The layouts that the proved part has (crates/warm_c/src/values.rt and handle.rt). */
+/* The layouts that the proved part has (crates/warm_c/src/values.rt, counters.rt and handle.rt). */
 _Static_assert(sizeof(size_t) == 8 && sizeof(bool) == 1, "lengths have 64 bits, and a bool is a byte that is 0 or 1");
 _Static_assert(sizeof(warm) == 16 && offsetof(warm, at) == 8, "a handle");
 _Static_assert(sizeof(warm_page) == 16 && offsetof(warm_page, dev) == 8, "a page");
@@ -22,6 +25,13 @@ _Static_assert(sizeof(warm_reference) == 24 && offsetof(warm_reference, dev) == 
 _Static_assert(offsetof(warm_reference, replica) == 18, "a reference's replica");
 _Static_assert(sizeof(warm_slot) == 16 && offsetof(warm_slot, index) == 8, "a slot");
 _Static_assert(sizeof(warm_device) == 16 && offsetof(warm_device, fd) == 8, "a device");
+_Static_assert(sizeof(warm_counters) == 48 && offsetof(warm_counters, misses) == 8, "the counts of a pool");
+_Static_assert(offsetof(warm_counters, evictions) == 16 && offsetof(warm_counters, written_back) == 24, "the pages that left, and were written");
+_Static_assert(offsetof(warm_counters, resident) == 32 && offsetof(warm_counters, dirty) == 40, "the pages that are there");
+_Static_assert(sizeof(warm_device_counters) == 32 && offsetof(warm_device_counters, writes) == 8, "the counts of a device");
+_Static_assert(offsetof(warm_device_counters, flushes) == 16 && offsetof(warm_device_counters, failures) == 24, "its flushes and failures");
+_Static_assert(sizeof(warm_failure) == 16 && offsetof(warm_failure, dev) == 8, "a call that failed");
+_Static_assert(offsetof(warm_failure, what) == 10 && offsetof(warm_failure, error) == 12, "what was done, and its errno");
 /* warm_pin writes the index of a slot and the four bytes after it as one number. */
 _Static_assert(__BYTE_ORDER__ == __ORDER_LITTLE_ENDIAN__, "the lowest byte of a number is first");
 
@@ -33,6 +43,20 @@ typedef struct request {
 
 /* The request of this thread that waits for its read or write. */
 static _Thread_local request waiting;
+
+/* errno of the last call of this thread that failed; 0: none has. */
+static _Thread_local int last_failure;
+
+typedef struct callback {
+    int fd;
+    warm_before_write_call *call;
+    void *context;
+} callback;
+
+/* The callbacks of warm_before_write, in the order of their descriptors. Who reads or changes them has the lock, and calls none then. */
+static pthread_mutex_t lock = PTHREAD_MUTEX_INITIALIZER;
+static callback *callbacks;
+static size_t callback_count, callback_room;
 
 static ssize_t invalid(void) {
     errno = EINVAL;
@@ -83,6 +107,84 @@ static ssize_t write_file(int fd, const uint8_t *from, size_t length, off_t at) 
     return (ssize_t)length;
 }
 
+/* ---- what is asked before a write ---- */
+
+/* How many callbacks are of lower descriptors. */
+static size_t callbacks_before(int fd) {
+    size_t low = 0, high = callback_count;
+    while (low < high) {
+        size_t middle = low + (high - low) / 2;
+        if (callbacks[middle].fd < fd) low = middle + 1;
+        else high = middle;
+    }
+    return low;
+}
+
+static bool is_of(size_t place, int fd) { return place < callback_count && callbacks[place].fd == fd; }
+
+static bool makes_room(void) {
+    if (callback_count < callback_room) return true;
+    size_t room = callback_room != 0 ? 2 * callback_room : 4;
+    callback *larger = realloc(callbacks, room * sizeof(callback));
+    if (larger == NULL) return false;
+    callbacks = larger;
+    callback_room = room;
+    return true;
+}
+
+static bool put_callback(callback put) {
+    size_t place = callbacks_before(put.fd);
+    if (!is_of(place, put.fd)) {
+        if (!makes_room()) return false;
+        memmove(callbacks + place + 1, callbacks + place, (callback_count - place) * sizeof(callback));
+        callback_count++;
+    }
+    callbacks[place] = put;
+    return true;
+}
+
+/* The last one takes the table with it, so that nothing is left at the end of a program. */
+static void drop_callback(int fd) {
+    size_t place = callbacks_before(fd);
+    if (!is_of(place, fd)) return;
+    callback_count--;
+    memmove(callbacks + place, callbacks + place + 1, (callback_count - place) * sizeof(callback));
+    if (callback_count > 0) return;
+    free(callbacks);
+    callbacks = NULL;
+    callback_room = 0;
+}
+
+int warm_before_write(int fd, warm_before_write_call *call, void *context) {
+    bool is_done = true;
+    pthread_mutex_lock(&lock);
+    if (call == NULL) drop_callback(fd);
+    else is_done = put_callback((callback){.fd = fd, .call = call, .context = context});
+    pthread_mutex_unlock(&lock);
+    return is_done ? WARM_OK : WARM_MEMORY;
+}
+
+/* A copy, which is called without the lock: a callback may wait for a log, and may call warm_before_write. */
+static callback callback_of(int fd) {
+    callback found = {.fd = fd};
+    pthread_mutex_lock(&lock);
+    size_t place = callbacks_before(fd);
+    if (is_of(place, fd)) found = callbacks[place];
+    pthread_mutex_unlock(&lock);
+    return found;
+}
+
+static ssize_t write_if_allowed(int fd, const uint8_t *from, size_t length, off_t at) {
+    callback before = callback_of(fd);
+    if (before.call != NULL && before.call(before.context, (uint64_t)at, from, length) != 0) {
+        errno = EAGAIN;
+        return -1;
+    }
+    return write_file(fd, from, length, at);
+}
+
+/* ---- requests ---- */
+
 /* fsync fails where a descriptor cannot be synced, as a pipe: then nothing written to it is on a device. */
 static ssize_t flush_file(int fd) {
     int status;
@@ -91,17 +193,29 @@ static ssize_t flush_file(int fd) {
     return status == 0 ? FD_CALLS_REQUEST : -1;
 }
 
-static void put_number(uint8_t *into, uint64_t number) {
-    for (int i = 7; i >= 0; i--, number >>= 8) into[i] = (uint8_t)number;
+static void put_number(uint8_t *into, int width, uint64_t number) {
+    for (int i = width - 1; i >= 0; i--, number >>= 8) into[i] = (uint8_t)number;
 }
 
 static ssize_t read_identity(int fd, uint8_t *into, size_t length) {
     struct stat file;
     if (length != FD_CALLS_IDENTITY_LENGTH) return invalid();
     if (fstat(fd, &file) != 0) return -1;
-    put_number(into, file.st_dev);
-    put_number(into + 8, file.st_ino);
+    put_number(into, 8, file.st_dev);
+    put_number(into + 8, 8, file.st_ino);
     return FD_CALLS_IDENTITY_LENGTH;
+}
+
+static ssize_t read_failure(uint8_t *into, size_t length) {
+    if (length != FD_CALLS_FAILURE_LENGTH) return invalid();
+    put_number(into, FD_CALLS_FAILURE_LENGTH, (uint64_t)last_failure);
+    return FD_CALLS_FAILURE_LENGTH;
+}
+
+/* Whether a request of this kind is followed by a read or a write, and may have this place. */
+static bool waits(uint8_t kind, uint64_t at) {
+    if (kind == FD_CALLS_READ || kind == FD_CALLS_WRITE) return true;
+    return (kind == FD_CALLS_IDENTITY || kind == FD_CALLS_FAILURE) && at == 0;
 }
 
 static ssize_t start_request(int fd, const uint8_t *bytes, size_t length) {
@@ -110,21 +224,33 @@ static ssize_t start_request(int fd, const uint8_t *bytes, size_t length) {
     for (int i = 1; i < FD_CALLS_REQUEST; i++) at = at << 8 | bytes[i];
     if (at > INT64_MAX) return invalid();
     if (bytes[0] == FD_CALLS_FLUSH && at == 0) return flush_file(fd);
-    if (bytes[0] != FD_CALLS_READ && bytes[0] != FD_CALLS_WRITE && (bytes[0] != FD_CALLS_IDENTITY || at != 0)) return invalid();
+    if (!waits(bytes[0], at)) return invalid();
     waiting = (request){.kind = bytes[0], .fd = fd, .at = (off_t)at};
     return FD_CALLS_REQUEST;
 }
 
-ssize_t fd_calls_read(int fd, void *into, size_t length) {
-    request asked = take_request();
-    if (asked.kind == FD_CALLS_IDENTITY && asked.fd == fd) return read_identity(fd, into, length);
-    if (asked.kind != FD_CALLS_READ || asked.fd != fd) return invalid();
-    return read_file(fd, into, length, asked.at);
+static ssize_t make_read(request asked, int fd, void *into, size_t length) {
+    if (asked.fd != fd) return invalid();
+    switch (asked.kind) {
+        case FD_CALLS_READ: return read_file(fd, into, length, asked.at);
+        case FD_CALLS_IDENTITY: return read_identity(fd, into, length);
+        case FD_CALLS_FAILURE: return read_failure(into, length);
+        default: return invalid();
+    }
 }
 
-ssize_t fd_calls_write(int fd, const void *from, size_t length) {
-    request asked = take_request();
+static ssize_t make_write(request asked, int fd, const void *from, size_t length) {
     if (asked.kind == 0) return start_request(fd, from, length);
     if (asked.kind != FD_CALLS_WRITE || asked.fd != fd) return invalid();
-    return write_file(fd, from, length, asked.at);
+    return write_if_allowed(fd, from, length, asked.at);
 }
+
+/* What a call returns, noted where it failed. */
+static ssize_t noted(ssize_t result) {
+    if (result < 0) last_failure = errno;
+    return result;
+}
+
+ssize_t fd_calls_read(int fd, void *into, size_t length) { return noted(make_read(take_request(), fd, into, length)); }
+
+ssize_t fd_calls_write(int fd, const void *from, size_t length) { return noted(make_write(take_request(), fd, from, length)); }

@@ -9,6 +9,12 @@
  *  - FD_CALLS_FLUSH: the file is synced while the request is written. Its place is 0.
  *  - FD_CALLS_IDENTITY: the next call is a read of the same descriptor, of FD_CALLS_IDENTITY_LENGTH bytes: st_dev and st_ino of fstat, eight
  *    bytes each, highest byte first. All descriptors of one file give the same. Two device nodes of one block device do not. Its place is 0.
+ *  - FD_CALLS_FAILURE: the next call is a read of the same descriptor, of FD_CALLS_FAILURE_LENGTH bytes: errno of the last call of this
+ *    thread that failed, of whatever descriptor, highest byte first, and 0 where none has. No system is asked. Its place is 0.
+ *
+ * Before the bytes of a write are put into the file the callback of warm_before_write, if the descriptor has one, is asked: once for the
+ * whole write, by this thread, and without a lock. Where it says not yet the call fails with EAGAIN, and the file is as it was. A callback
+ * may use other handles, and so make requests of its own: the request of the call that it is in is taken by then.
  *
  * A call does all that is asked of it and returns its length, or returns -1 with errno. A call that is no request, and that does not
  * belong to the one before it, fails with EINVAL. Each call ends the request before it, also a call that fails. Each thread has
@@ -22,7 +28,8 @@
 #include <stddef.h>
 #include <sys/types.h>
 
-enum { FD_CALLS_READ = 1, FD_CALLS_WRITE = 2, FD_CALLS_FLUSH = 3, FD_CALLS_IDENTITY = 4, FD_CALLS_REQUEST = 9, FD_CALLS_IDENTITY_LENGTH = 16 };
+enum { FD_CALLS_READ = 1, FD_CALLS_WRITE = 2, FD_CALLS_FLUSH = 3, FD_CALLS_IDENTITY = 4, FD_CALLS_FAILURE = 5 };
+enum { FD_CALLS_REQUEST = 9, FD_CALLS_IDENTITY_LENGTH = 16, FD_CALLS_FAILURE_LENGTH = 4 };
 
 ssize_t fd_calls_read(int fd, void *into, size_t length);
 ssize_t fd_calls_write(int fd, const void *from, size_t length);

@@ -18,10 +18,11 @@
 #include <unistd.h>
 
 /* Where most is not 0, a call moves at most that many bytes, and every other call is interrupted. Where it is to put nothing, it does, and
- * where a sync is to fail, the next one does. Where reads are direct, their places are multiples of 512. */
+ * where a sync is to fail, the next one does. Where reads are direct, their places are multiples of 512. Where there is no memory, each
+ * allocation fails. */
 static struct {
     size_t most;
-    bool was_interrupted, puts_nothing, fails_sync, is_direct;
+    bool was_interrupted, puts_nothing, fails_sync, is_direct, has_no_memory;
     int syncs;
 } slow;
 
@@ -58,13 +59,17 @@ static int slow_fsync(int fd) {
     return fsync(fd);
 }
 
+static void *slow_realloc(void *old, size_t size) { return slow.has_no_memory ? NULL : realloc(old, size); }
+
 #define pread slow_pread
 #define pwrite slow_pwrite
 #define fsync slow_fsync
+#define realloc slow_realloc
 #include "fd_calls.c"
 #undef pread
 #undef pwrite
 #undef fsync
+#undef realloc
 
 enum { SIZE = 65536, NO_FILE = 999 };
 
@@ -258,10 +263,11 @@ static void test_order(void) {
     FAILS(fd_calls_write(fd, page, 8), EINVAL);
     FAILS(fd_calls_write(fd, page, 0), EINVAL);
     FAILS(ask(fd, 0, 0), EINVAL); /* no such kind */
-    FAILS(ask(fd, 5, 0), EINVAL);
+    FAILS(ask(fd, 6, 0), EINVAL);
     FAILS(ask(fd, 255, 0), EINVAL);
     FAILS(ask(fd, 3, 1), EINVAL); /* a flush has no place */
     FAILS(ask(fd, 4, 1), EINVAL); /* nor has an identity */
+    FAILS(ask(fd, 5, 1), EINVAL); /* nor a failure */
     is_as_ever(fd);
     MUST(ask(fd, 1, 0) == 9); /* a read asked for, and a write made */
     FAILS(fd_calls_write(fd, page, 512), EINVAL);
@@ -287,6 +293,12 @@ static void test_order(void) {
     FAILS(fd_calls_read(fd, got, 15), EINVAL);
     MUST(ask(fd, 4, 0) == 9);
     FAILS(fd_calls_read(fd, got, 17), EINVAL);
+    MUST(ask(fd, 5, 0) == 9);
+    FAILS(fd_calls_read(fd, got, 3), EINVAL);
+    MUST(ask(fd, 5, 0) == 9);
+    FAILS(fd_calls_read(other, got, 4), EINVAL);
+    MUST(ask(fd, 5, 0) == 9);
+    FAILS(fd_calls_write(fd, page, 4), EINVAL);
     is_as_ever(fd);
     MUST(ask(fd, 1, 0) == 9); /* a request before the last has its data */
     FAILS(ask(fd, 3, 0), EINVAL);
@@ -324,6 +336,201 @@ static void test_threads(void) {
     close(fd);
 }
 
+/* errno of the last call of this thread that failed, asked of any descriptor; -1 where it is not answered. */
+static int failure_at(int fd) {
+    uint8_t number[4];
+    if (ask(fd, 5, 0) != 9 || fd_calls_read(fd, number, 4) != 4) return -1;
+    return number[0] << 24 | number[1] << 16 | number[2] << 8 | number[3];
+}
+
+static void *fresh_thread(void *of) {
+    MUST(failure_at(*(int *)of) == 0);
+    FAILS(read_at(NO_FILE, 0, 512), EBADF);
+    MUST(failure_at(*(int *)of) == EBADF);
+    return NULL;
+}
+
+/* What succeeds later changes it not, and neither does another thread. */
+static void test_failures(void) {
+    int fd = new_file(), full = open("/dev/full", O_RDWR);
+    pthread_t thread;
+    MUST(full >= 0);
+    FAILS(write_at(full, 0, 512), ENOSPC);
+    MUST(failure_at(full) == ENOSPC && failure_at(fd) == ENOSPC && failure_at(-1) == ENOSPC);
+    is_as_ever(fd);
+    MUST(ask(fd, 3, 0) == 9 && failure_at(fd) == ENOSPC);
+    MUST(pthread_create(&thread, NULL, fresh_thread, &fd) == 0 && pthread_join(thread, NULL) == 0);
+    MUST(failure_at(fd) == ENOSPC);
+    slow.fails_sync = true;
+    FAILS(ask(fd, 3, 0), EIO);
+    MUST(failure_at(fd) == EIO);
+    FAILS(fd_calls_read(fd, got, 512), EINVAL);
+    MUST(failure_at(fd) == EINVAL);
+    close(full);
+    close(fd);
+}
+
+/* ---- what is asked before a write ---- */
+
+/* What a callback was asked for last, and what it answers. */
+typedef struct asked_for {
+    int calls, answer;
+    uint64_t at;
+    const uint8_t *bytes;
+    size_t length;
+} asked_for;
+
+static int answer_it(void *context, uint64_t at, const uint8_t *bytes, size_t length) {
+    asked_for *it = context;
+    *it = (asked_for){it->calls + 1, it->answer, at, bytes, length};
+    errno = ENOMEM; /* of its own calls: it means nothing */
+    return it->answer;
+}
+
+static bool was_asked(asked_for *it, int calls, uint64_t at, size_t length) {
+    return it->calls == calls && it->at == at && it->bytes == page && it->length == length;
+}
+
+/* A write that it does not let go fails by name, and the file is as it was; the next one is asked for again. */
+static void test_before_write(void) {
+    int fd = new_file(), copy = dup(fd);
+    asked_for log = {.answer = 1};
+    MUST(copy >= 0 && warm_before_write(fd, answer_it, &log) == WARM_OK);
+    FAILS(write_at(fd, 100, SIZE), EAGAIN);
+    MUST(was_asked(&log, 1, 100, SIZE) && lseek(fd, 0, SEEK_END) == 0 && failure_at(fd) == EAGAIN);
+    FAILS(fd_calls_write(fd, page, 512), EINVAL); /* no request is left */
+    log.answer = -1;
+    FAILS(write_at(fd, 0, 9), EAGAIN); /* a page as long as a request */
+    MUST(was_asked(&log, 2, 0, 9));
+    log.answer = 0;
+    slow.most = 1000; /* a write in parts is asked for once */
+    MUST(write_at(fd, 100, SIZE) == SIZE && was_asked(&log, 3, 100, SIZE) && holds(fd, 100, page, SIZE));
+    slow.most = 0;
+    MUST(read_at(fd, 0, 512) == 512 && ask(fd, 3, 0) == 9 && failure_at(fd) == EAGAIN && log.calls == 3);
+    slow.puts_nothing = true;
+    FAILS(write_at(fd, 0, 512), EIO);
+    FAILS(write_at(fd, 0, 512), EIO); /* what failed is asked for again */
+    slow.puts_nothing = false;
+    MUST(log.calls == 5 && write_at(copy, 0, 512) == 512 && log.calls == 5);
+    MUST(warm_before_write(fd, NULL, NULL) == WARM_OK && write_at(fd, 0, 512) == 512 && log.calls == 5);
+    MUST(warm_before_write(fd, NULL, NULL) == WARM_OK); /* there is none */
+    close(copy);
+    close(fd);
+}
+
+/* Each descriptor has its own, and the later one of a descriptor stands. */
+static void test_two_callbacks(void) {
+    int fd = new_file(), other = new_file();
+    asked_for first = {.answer = 1}, second = {.answer = 0}, third = {.answer = 0};
+    MUST(warm_before_write(fd, answer_it, &first) == WARM_OK && warm_before_write(other, answer_it, &second) == WARM_OK);
+    FAILS(write_at(fd, 0, 512), EAGAIN);
+    MUST(write_at(other, 512, 512) == 512 && was_asked(&first, 1, 0, 512) && was_asked(&second, 1, 512, 512));
+    MUST(warm_before_write(fd, answer_it, &third) == WARM_OK);
+    MUST(write_at(fd, 7, 512) == 512 && first.calls == 1 && was_asked(&third, 1, 7, 512));
+    MUST(warm_before_write(fd, NULL, &third) == WARM_OK && write_at(fd, 0, 512) == 512 && third.calls == 1);
+    MUST(write_at(other, 0, 512) == 512 && second.calls == 2);
+    MUST(warm_before_write(-1, answer_it, &first) == WARM_OK); /* no file has it */
+    FAILS(write_at(-1, 0, 512), EAGAIN);
+    MUST(first.calls == 2 && warm_before_write(-1, NULL, NULL) == WARM_OK && warm_before_write(other, NULL, NULL) == WARM_OK);
+    MUST(callbacks == NULL);
+    close(other);
+    close(fd);
+}
+
+/* Descriptors in no order: each is found, and one that is taken away takes no other with it. */
+static void test_many_callbacks(void) {
+    enum { MANY = 1000, STEP = 617 };
+    static asked_for logs[MANY];
+    for (int i = 0, at = 0; i < MANY; i++, at = (at + STEP) % MANY) {
+        logs[at].answer = 1;
+        MUST(warm_before_write(INT32_MIN + at, answer_it, &logs[at]) == WARM_OK);
+    }
+    for (int i = 0, at = 0; i < MANY; i++, at = (at + 3 * STEP) % MANY) {
+        FAILS(write_at(INT32_MIN + at, 0, 512), EAGAIN);
+        MUST(logs[at].calls == 1 && warm_before_write(INT32_MIN + at, NULL, NULL) == WARM_OK);
+        FAILS(write_at(INT32_MIN + at, 0, 512), EBADF);
+        MUST(logs[at].calls == 1);
+    }
+    MUST(callbacks == NULL && callback_count == 0);
+}
+
+/* Where there is no room for one more, nothing changes; and none is needed to replace one or to take one away. */
+static void test_no_memory(void) {
+    asked_for log = {.answer = 1}, later = {.answer = 1};
+    int fd = new_file();
+    slow.has_no_memory = true;
+    MUST(warm_before_write(fd, answer_it, &log) == WARM_MEMORY && write_at(fd, 0, 512) == 512 && log.calls == 0);
+    slow.has_no_memory = false;
+    for (int i = 0; i < 4; i++) MUST(warm_before_write(NO_FILE + i, answer_it, &log) == WARM_OK);
+    slow.has_no_memory = true;
+    MUST(warm_before_write(fd, answer_it, &later) == WARM_MEMORY && write_at(fd, 0, 512) == 512);
+    MUST(warm_before_write(NO_FILE, answer_it, &later) == WARM_OK);
+    FAILS(write_at(NO_FILE, 0, 512), EAGAIN);
+    FAILS(write_at(NO_FILE + 3, 0, 512), EAGAIN);
+    MUST(later.calls == 1 && log.calls == 1);
+    for (int i = 0; i < 4; i++) MUST(warm_before_write(NO_FILE + i, NULL, NULL) == WARM_OK);
+    slow.has_no_memory = false;
+    MUST(callbacks == NULL);
+    close(fd);
+}
+
+/* A callback that writes and syncs a file of its own by whole requests, as calls of another handle do, and takes itself away. */
+static int write_log(void *context, uint64_t at, const uint8_t *bytes, size_t length) {
+    const int *fds = context;
+    MUST(at == 512 && bytes == page && length == 512 && lseek(fds[1], 0, SEEK_END) == 0);
+    FAILS(read_at(NO_FILE, 0, 512), EBADF);
+    MUST(write_at(fds[0], 0, 100) == 100 && ask(fds[0], 3, 0) == 9 && failure_at(fds[0]) == EBADF);
+    return warm_before_write(fds[1], NULL, NULL);
+}
+
+static void test_calls_inside(void) {
+    int fds[] = {new_file(), new_file()};
+    MUST(warm_before_write(fds[1], write_log, fds) == WARM_OK);
+    MUST(write_at(fds[1], 512, 512) == 512 && holds(fds[1], 512, page, 512) && holds(fds[0], 0, page, 100));
+    is_as_ever(fds[1]);
+    MUST(callbacks == NULL);
+    close(fds[0]);
+    close(fds[1]);
+}
+
+enum { THREADS = 4, ROUNDS = 300 };
+
+static int count_it(void *context, uint64_t at, const uint8_t *bytes, size_t length) {
+    (void)bytes;
+    MUST(length == 512);
+    ++*(int *)context;
+    return at != 0;
+}
+
+/* Each thread has a file with its callback, and sets and takes away others. */
+static void *thread_with_callback(void *of) {
+    int number = *(int *)of, fd = new_file(), calls = 0, others = 0;
+    MUST(warm_before_write(fd, count_it, &calls) == WARM_OK);
+    for (int i = 0; i < ROUNDS; i++) {
+        int other = NO_FILE + number + THREADS * i;
+        MUST(warm_before_write(other, count_it, &others) == WARM_OK);
+        MUST(write_at(fd, 0, 512) == 512);
+        FAILS(write_at(fd, 512, 512), EAGAIN);
+        if (i % 2 == 0) MUST(warm_before_write(other, NULL, NULL) == WARM_OK);
+    }
+    MUST(calls == 2 * ROUNDS && others == 0);
+    for (int i = 1; i < ROUNDS; i += 2) MUST(warm_before_write(NO_FILE + number + THREADS * i, NULL, NULL) == WARM_OK);
+    MUST(warm_before_write(fd, NULL, NULL) == WARM_OK);
+    close(fd);
+    return NULL;
+}
+
+static void test_callbacks_of_threads(void) {
+    pthread_t threads[THREADS];
+    int numbers[THREADS];
+    for (int i = 0; i < THREADS; i++) {
+        numbers[i] = i;
+        MUST(pthread_create(&threads[i], NULL, thread_with_callback, &numbers[i]) == 0);
+    }
+    for (int i = 0; i < THREADS; i++) MUST(pthread_join(threads[i], NULL) == 0);
+    MUST(callbacks == NULL);
+}
+
 int main(void) {
     for (size_t at = 0; at < SIZE; at++) page[at] = (uint8_t)(at % 251 + 1);
     test_file();
@@ -336,6 +543,13 @@ int main(void) {
     test_order();
     test_places();
     test_threads();
+    test_failures();
+    test_before_write();
+    test_two_callbacks();
+    test_many_callbacks();
+    test_no_memory();
+    test_calls_inside();
+    test_callbacks_of_threads();
     puts("fd_calls_test: as expected");
     return 0;
 }

@@ -14,7 +14,8 @@
 #include <string.h>
 #include <sys/mman.h>
 
-enum { RUN_BYTES = 256 * HEAP_UNIT };
+/* Behind the last block of a run is a unit that nobody writes to: it takes addresses and no memory. */
+enum { RUN_BYTES = 256 * HEAP_UNIT, MAPPED_BYTES = RUN_BYTES + HEAP_UNIT };
 
 typedef struct run {
     uint8_t *at; /* its first block */
@@ -95,7 +96,7 @@ static void unlink_run(const run *it) {
 static run *mapped_run(size_t size) {
     run *made = malloc(sizeof(run));
     if (made == NULL) return NULL;
-    void *at = mmap(NULL, RUN_BYTES, PROT_READ | PROT_WRITE, MAP_PRIVATE | MAP_ANONYMOUS, -1, 0);
+    void *at = mmap(NULL, MAPPED_BYTES, PROT_READ | PROT_WRITE, MAP_PRIVATE | MAP_ANONYMOUS, -1, 0);
     if (at == MAP_FAILED) {
         free(made);
         return NULL;
@@ -122,14 +123,14 @@ static run *new_run(size_t size) {
 /* A run whose addresses the system does not take back, as it has too many mappings. It is used
  * again as if it were new; until then the system has its memory. */
 static void keep_run(run *empty) {
-    if (madvise(empty->at, RUN_BYTES, MADV_DONTNEED) != 0) return;
+    if (madvise(empty->at, MAPPED_BYTES, MADV_DONTNEED) != 0) return;
     empty->cut = 0;
     empty->freed = NULL;
 }
 
 static void free_run(run *empty) {
     run **place = runs + runs_until(empty->at) - 1;
-    if (munmap(empty->at, RUN_BYTES) != 0) {
+    if (munmap(empty->at, MAPPED_BYTES) != 0) {
         keep_run(empty);
         return;
     }

@@ -3,8 +3,10 @@
  * They stand in the place of its own, which are malloc, realloc and free alone.
  *
  * A block for bytes (of alignment 1) that has 1 to 16 whole units of 4,096 bytes begins at a
- * multiple of 4,096, so that a page of such a size can be read and written with O_DIRECT. Any other
- * block is malloc's, and aligned as malloc aligns it. Any thread may call any of the three.
+ * multiple of 4,096, so that a page of such a size can be read and written with O_DIRECT. The 4,096
+ * bytes behind it may be read, by who is lent its page and may read some bytes too many: they are
+ * another block's or nobody's. Any other block is malloc's, and aligned as malloc aligns it. Any
+ * thread may call any of the three.
  *
  * The proof assumes what C says of malloc, realloc and free (libc/src/heap.rt of the toolchain).
  */

@@ -271,6 +271,21 @@ static void test_churn(void) {
     MUST(in_use == 0 && runs == NULL);
 }
 
+/* Behind each block of pages as many bytes as a page has may be read, also behind the last block of a run. */
+static void test_behind(void) {
+    enum { BLOCKS = 256 };
+    static block all[BLOCKS];
+    static volatile uint8_t seen;
+    for (size_t size = UNIT; size <= LARGE; size += UNIT) {
+        for (uint32_t at = 0; at < BLOCKS; at++) all[at] = take(size, at);
+        for (int at = 0; at < BLOCKS; at++)
+            for (size_t behind = 0; behind < UNIT; behind += UNIT - 1) seen = all[at].p[size + behind];
+        for (int at = 0; at < BLOCKS; at++) drop(&all[at]);
+    }
+    (void)seen;
+    MUST(in_use == 0 && runs == NULL);
+}
+
 static size_t resident(void) {
     char line[200];
     unsigned long kilobytes = 0;
@@ -308,6 +323,7 @@ int main(int count, char **words) {
     test_holes();
     test_refusals();
     test_churn();
+    test_behind();
     puts("heap_test: as expected");
     return 0;
 }

@@ -21,8 +21,8 @@
  *     warm_write_back(&handle);
  *     warm_close(&handle);
  *
- * Statuses. Every function that returns an int returns WARM_OK or why the call is refused. A refused call changes nothing but counts of
- * device failures, and writes nothing through its pointers, unless its description says otherwise. "Refused" at a function lists its
+ * Statuses. Every function that returns an int returns WARM_OK or why the call is refused. A refused call changes nothing but what is counted
+ * and which failure was last, and writes nothing through its pointers, unless its description says otherwise. "Refused" at a function lists its
  * statuses in the order in which they are checked. Each function that takes a handle, but warm_open and warm_close, also returns
  * WARM_CLOSED on a closed handle. A call may change errno, which means nothing.
  *
@@ -35,7 +35,9 @@
  * What no call checks, and the caller guarantees for every function:
  *  - A handle is all zeros before its first call, and after that only these functions change it. It is neither copied nor moved while
  *    it is open. After a fork, one of the two processes alone uses it.
- *  - One call at a time uses a handle, and all calls of a handle are made by one thread. Different handles are independent.
+ *  - One call at a time uses a handle, from any thread. Where calls of a handle are made by different threads, each has ended before the next
+ *    begins, by a lock that the caller holds during each call (as pthread_mutex_lock), or by a thread's start or join. Different handles are
+ *    independent.
  *  - No pointer is null, also where its length is 0: it may then point to anything. A pointer with a length points to that many
  *    elements, any other to one element. Each is aligned for its type, and no two arguments of a call overlap.
  *  - No call is made in a signal handler, nor in the forked child of a process with other threads. No signal handler leaves a call by
@@ -46,7 +48,7 @@
  * Latches on pages are the engine's. The library has none, and its calls are made one at a time. An engine whose threads share pages keeps
  * an array of latches of its own, one for each frame of the pool, and indexes it by slot.index: it takes the latch after warm_pin, and
  * releases it before warm_unpin. While a page is pinned it stays in its frame: each pin of it gives the same index, and no other page has
- * that index. warm_write_back looks at no latch: it writes a pinned page as it is at that moment.
+ * that index. A call that writes pages back looks at no latch: it writes a pinned page as it is at that moment.
  */
 #ifndef WARM_H
 #define WARM_H
@@ -57,9 +59,9 @@
 
 /* The version of the library. It is also that of warm.pc and of the shared library, whose SONAME has the first number. */
 #define WARM_VERSION_MAJOR 1
-#define WARM_VERSION_MINOR 0
+#define WARM_VERSION_MINOR 1
 #define WARM_VERSION_PATCH 0
-#define WARM_VERSION "1.0.0"
+#define WARM_VERSION "1.1.0"
 
 #ifdef __cplusplus
 extern "C" {
@@ -98,6 +100,38 @@ typedef struct warm_device {
     int32_t fd;
 } warm_device;
 
+/* What a pool has done since its handle was opened, and what it has now. A count that passes 2^64 - 1 goes on from 0, so that what two
+ * readings differ by is right. A refused call is neither a hit nor a miss. */
+typedef struct warm_counters {
+    uint64_t hits;         /* pins of a page that was in a frame */
+    uint64_t misses;       /* pins of a page that was in none, whether it was read or filled with zeros */
+    uint64_t evictions;    /* pages that left their frame for another one, by a pin or by warm_step */
+    uint64_t written_back; /* pages that were written to their device */
+    uint64_t resident;     /* pages that are in frames */
+    uint64_t dirty;        /* those of them that were written to and not written back */
+} warm_counters;
+
+/* What was asked of a device since warm_open, or since warm_replace put it in its place: reads and writes of pages, and flushes, whether they
+ * failed or not; and how many of all these failed. A flush that is refused since one failed before counts too, as both. A count that
+ * reaches 2^64 - 1 stays. */
+typedef struct warm_device_counters {
+    uint64_t reads;
+    uint64_t writes;
+    uint64_t flushes;
+    uint64_t failures;
+} warm_device_counters;
+
+/* What was done when a call of a device failed. */
+enum { WARM_FAILED_READ = 1, WARM_FAILED_WRITE = 2, WARM_FAILED_FLUSH = 3 };
+
+/* A call of a device that failed. */
+typedef struct warm_failure {
+    uint64_t no;   /* the number of the page; 0 of a flush */
+    uint16_t dev;  /* the number of the device */
+    uint16_t what; /* WARM_FAILED_READ, WARM_FAILED_WRITE or WARM_FAILED_FLUSH */
+    int32_t error; /* the errno of pread, pwrite or fsync; EAGAIN where warm_before_write says "not yet" */
+} warm_failure;
+
 /* The statuses. 1 to 13 are those of the pool and the node, 34 to 42 say why bytes are no frame, 64 to 71 are the library's own, and 77 to
  * 82 say why a dump was not read or not written. */
 enum {
@@ -105,14 +139,14 @@ enum {
     WARM_MEMORY = 1,        /* an allocation failed */
     WARM_BAD_FRAMES = 2,    /* a pool has 1 to 65,536 frames */
     WARM_SIZE_DIFFERS = 3,  /* a page has 1 to 65,536 bytes */
-    WARM_NO_DEVICE = 4,     /* there is no such device; of warm_open: there are too many, or one is too large */
+    WARM_NO_DEVICE = 4,     /* there is no such device; of warm_open: there are too many; of it and of warm_replace: one is too large */
     WARM_NO_PAGE = 5,       /* the device has no such page */
     WARM_ALL_FIXED = 6,     /* each frame of the pool has a pinned page */
     WARM_READ_FAULT = 7,    /* the page could not be read */
     WARM_WRITE_BACK = 8,    /* the page that would leave could not be written */
     WARM_FIXES_FULL = 9,    /* the page has 2^32 - 1 pins, or 2^64 - 1 pages were put into the frame */
     WARM_OUT_OF_PAGE = 10,  /* the bytes reach beyond the end of the page */
-    WARM_FIXED = 11,        /* a page is pinned; no function of this header returns it */
+    WARM_FIXED = 11,        /* a page that is to leave its frame is pinned */
     WARM_FAULT = 12,        /* a page could not be written, or a device not flushed */
     WARM_STALE_SLOT = 13,   /* the slot holds no pinned page, or another than it was given for */
     WARM_TRUNCATED = 34,    /* of a frame: its bytes end too early */
@@ -182,6 +216,12 @@ int warm_absorb(warm *handle, const warm_reference *references, size_t count);
  * Caller: slot points to one element. */
 int warm_pin(warm *handle, warm_page page, warm_slot *slot);
 
+/* Pins a page as warm_pin does, and fills it with zeros. The page is not read: so this is for a page that is new, or is to be written anew. It
+ * is written to: the zeros reach the device when it leaves its frame, or at warm_write_back. Allocation-free.
+ * Refused: what warm_pin is refused with, in its order, but WARM_READ_FAULT.
+ * Caller: slot points to one element. */
+int warm_pin_zeroed(warm *handle, warm_page page, warm_slot *slot);
+
 /* Takes one pin from the slot's page. Allocation-free.
  * Refused: WARM_STALE_SLOT.
  * Caller: unpins a page as often as it pinned it. A slot whose page another part of the program still pins is not stale. */
@@ -197,6 +237,26 @@ int warm_read(warm *handle, warm_slot slot, size_t at, uint8_t *into, size_t len
  * Refused: WARM_STALE_SLOT, WARM_OUT_OF_PAGE.
  * Caller: bytes points to length bytes. */
 int warm_write(warm *handle, warm_slot slot, size_t at, const uint8_t *bytes, size_t length);
+
+/* Writes where the bytes of the slot's page lie: page_size bytes, to be read. Nothing is copied. Allocation-free.
+ * The pointer is valid until the page's last unpin, or warm_close: as long as a page is pinned it stays where it is, whatever else is called.
+ * The bytes are the page's own, so they change where the page is written to.
+ * Refused: WARM_STALE_SLOT.
+ * Caller: bytes points to one element. Nothing is written through the pointer that is written there, and nothing is read through it after
+ * the page's last unpin, nor while another thread writes to the page. */
+int warm_lend(warm *handle, warm_slot slot, const uint8_t **bytes);
+
+/* The same, to be read and written to. What the bytes are when the page is written back is its content: the page counts as written to from here
+ * on, until it is written back. Allocation-free.
+ * Refused: WARM_STALE_SLOT.
+ * Caller: bytes points to one element. What is written through the pointer that is written there is written while the page is pinned, and
+ * while no call uses the handle; and after the page may have been written back (by warm_write_back, warm_write_back_some or warm_flush),
+ * only once warm_lend_mut was called again: the page does not count as written to otherwise, and what is written is lost when it leaves. */
+int warm_lend_mut(warm *handle, warm_slot slot, uint8_t **bytes);
+
+/* Writes whether a page is in a frame of the pool. A page that no device has is in none. Allocation-free.
+ * Caller: resident points to one element. */
+int warm_resident(warm *handle, warm_page page, bool *resident);
 
 /* Writes whether there is a page that would leave the pool next, and which; page is as it was where there is none. Allocation-free.
  * Caller: found and page point to one element each. */
@@ -223,6 +283,19 @@ int warm_offer(warm *handle, uint8_t *frame, size_t room, size_t *length);
  * Refused: WARM_BAD_BUCKET, WARM_MEMORY; WARM_BUFFER_TOO_SMALL, where length is the room that it needs.
  * Caller: has_after is false or true; frame points to room bytes, length to one element. */
 int warm_send(warm *handle, uint8_t bucket, bool has_after, warm_page after, uint8_t *frame, size_t room, size_t *length);
+
+/* Writes the frame with the first 1000 entries of a bucket (0 to 63) whose latest stamp is not before the time since, or, where has_after, of
+ * those of them whose page is greater than after; its length; whether more of them follow; and the page of the frame's last entry. To go on,
+ * call it again with that page as after; last is as it was where the frame has no entry. since 0 is before all stamps: this is then
+ * warm_send, which says the rest as well.
+ * It is for a replica that publishes its history one way, where nobody answers: it sends each bucket, until no more follow, with what is new
+ * since it last sent it, and with since 0 from time to time, as frames may be lost. Whoever had all references from before since
+ * and receives these frames has all that the sender's history holds. The times are those of stamps, not of when they were absorbed: where
+ * references come late, since is that much earlier. To the receiver such a frame is one of warm_send.
+ * Refused: WARM_BAD_BUCKET, WARM_MEMORY; WARM_BUFFER_TOO_SMALL, where length is the room that it needs. more and last are then as they were.
+ * Caller: has_after is false or true; frame points to room bytes, length, more and last to one element each. */
+int warm_send_since(warm *handle, uint8_t bucket, uint64_t since, bool has_after, warm_page after, uint8_t *frame, size_t room, size_t *length,
+    bool *more, warm_page *last);
 
 /* Sets the limit of a handle: from then on warm_receive refuses each frame that speaks of a time later than this one. Of a handle that was
  * just opened the limit is 2^64 - 1, which refuses none; no other function changes it. Where times are of a clock, the limit is the current
@@ -257,6 +330,54 @@ int warm_horizon(warm *handle, uint64_t time, uint64_t *horizon);
  * Caller: nothing more. */
 int warm_write_back(warm *handle);
 
+/* Writes back at most limit of the pages that were written to and not written back, and writes how many of them are left: so a checkpoint
+ * goes on in portions, between other calls. No device is flushed: see warm_flush. The pages are taken in the order of their frames, from the
+ * first one at each call; one that is written to again meanwhile may be written back twice before others are once, so a checkpoint that must
+ * end takes a limit above the number of pages that are written to between two calls. With a limit of 0 nothing is written. Allocation-free.
+ * Refused: WARM_FAULT at the first write that fails; left is then as it was, and a page that was not written is still in the pool.
+ * Caller: left points to one element. */
+int warm_write_back_some(warm *handle, size_t limit, size_t *left);
+
+/* Writes the pages of one device that were written to and not written back, and flushes it (fsync) where it waits for that. Allocation-free.
+ * Refused: WARM_NO_DEVICE; WARM_FAULT at the first write or flush that fails, of which warm_write_back says what holds then. */
+int warm_flush(warm *handle, uint16_t dev);
+
+/* Makes the pages of a device with the number from and above leave their frames, and writes none: what was written to them and not written back
+ * is lost. It is for a file that was cut, or is to be: the file is not touched. The history is kept, and the device still has as many pages:
+ * a later warm_pin or warm_step reads them again. Allocation-free.
+ * Refused: WARM_NO_DEVICE, WARM_FIXED where one of the pages is pinned. Nothing has then left. */
+int warm_forget(warm *handle, uint16_t dev, uint64_t from);
+
+/* Replaces a device: the pages of the old one that were written to and not written back are written, it is flushed (fsync) where it waits for
+ * that, and its pages leave their frames. From then on a page of this number of device is one of the new file. The history is kept,
+ * so that the new pages are ranked by what was referenced under their names before. The old descriptor is not closed: it is the caller's
+ * again. A device that is to have no file for now gets no page, and a negative descriptor that no other device has, as -1 - dev.
+ * The files of all devices are looked at (fstat), as by warm_open. What warm_before_write set is of a descriptor: the new one has its own
+ * or none.
+ * Refused: WARM_NO_DEVICE where there is no device of this number, or the pages of the new one do not fit into 2^63 - 1 bytes;
+ * WARM_MEMORY, or WARM_SAME_FILE where two devices would be of one file; WARM_FIXED where a page of the old device is pinned; WARM_FAULT where
+ * a write or the flush of the old device fails. The handle then has the old device. A flush that failed before is remembered: such a
+ * device is replaced by none, until the handle is closed and opened again.
+ * Caller: device points to one element, which is not kept; what warm_open asks holds of its descriptor from here on. */
+int warm_replace(warm *handle, uint16_t dev, const warm_device *device);
+
+/* Writes what the pool has counted since warm_open, and how many pages are in frames and written to now. It looks at each frame.
+ * Allocation-free.
+ * Caller: counters points to one element. */
+int warm_counts(warm *handle, warm_counters *counters);
+
+/* Writes what was counted of a device. Allocation-free.
+ * Refused: WARM_NO_DEVICE.
+ * Caller: counters points to one element. */
+int warm_device_counts(warm *handle, uint16_t dev, warm_device_counters *counters);
+
+/* Writes whether a read, a write or a flush of a device has failed since warm_open, and which did last; failure is as it was where none has.
+ * It is what WARM_READ_FAULT, WARM_WRITE_BACK and WARM_FAULT do not say: the device, the page and the errno. It stays until the next
+ * failure, whatever succeeds meanwhile. A flush that is refused since one failed before has the errno of that one. Where the device was
+ * replaced since, by warm_replace, the errno is 0. Allocation-free.
+ * Caller: found and failure point to one element each. */
+int warm_last_failure(warm *handle, bool *found, warm_failure *failure);
+
 /* Writes how many pages the history knows.
  * Caller: length points to one element. */
 int warm_history_length(warm *handle, size_t *length);
@@ -281,6 +402,30 @@ int warm_save(warm *handle, int fd);
  * Caller: length is the size of the file (st_size of fstat), and the file, open for reading without O_DIRECT, does not change during the
  * call. With a length that is too small the dump is cut short; past the end of the file are zeros, which are no dump. */
 int warm_load(warm *handle, int fd, uint64_t length);
+
+/* What is asked before a write to a descriptor: at is the place in its file, and bytes are what is to be written there. 0 lets the write go
+ * on. Anything else means "not yet". */
+typedef int warm_before_write_call(void *context, uint64_t at, const uint8_t *bytes, size_t length);
+
+/* The log before the page: from now on each write to this descriptor asks call first. Where it says "not yet" nothing is written, and the
+ * write is one that failed. The page stays dirty and in its frame; each call of the library that would write it is refused as by any write that
+ * fails, with WARM_WRITE_BACK (warm_pin, warm_step) or WARM_FAULT (warm_write_back), and the caller tries again later. A call that never lets
+ * go loses nothing before warm_close. Where call is null, nothing is asked any more. It belongs to no handle, and may be set before warm_open
+ * and after it.
+ *
+ * A write is asked for as a whole, and again each time that it is tried, also where it was let go and then failed. So a page is in its file
+ * only where call let it go before: a call that syncs the log up to the number in the page's bytes, or says "not yet" until the log is so
+ * far, keeps the order log, page, flush. Reads and flushes are not asked for. The pieces of a dump that warm_save writes to such a
+ * descriptor are, and "not yet" is then WARM_DUMP_NOT_WRITTEN.
+ *
+ * It is called in the thread whose call of the library writes, and no lock is held. It may read, write and sync files of its own, call
+ * warm_before_write, and use other handles. Where handles of two threads write to one descriptor, both may be in it at the same time.
+ * Refused: WARM_MEMORY, and what was asked before still is.
+ * Caller: call and context may be null. call makes no call of the handle that is writing. It returns (no longjmp, no exception, no end of
+ * its thread), changes nothing in bytes, and keeps no pointer to them. A call of a handle that another thread is in may still ask what was
+ * set before, so context is good until that is over. The descriptor is known by its number alone: call is taken away before it is closed,
+ * or the next file that has the number is asked for. A copy of a descriptor (dup) is another one. */
+int warm_before_write(int fd, warm_before_write_call *call, void *context);
 
 /* Writes the name of a status and a zero byte after it, as many bytes of both as there is room for, and the length of the name without
  * the zero byte. Returns WARM_OK. A number that is no status has the name Unknown.

@@ -90,6 +90,8 @@ class Pool:
         made = [Device(pages, left) for pages, left in devices]
         self.frames = [Frame() for _ in range(frames)]
         self.devices, self.spare = made[:2], made[2:]
+        self.hits = self.misses = self.evictions = self.written_back = 0
+        self.failed = "none"  # the call of a device that failed last: what was done, of which device, to which page
 
     def ask(self, line: str) -> str:
         """The answer to a line."""
@@ -99,6 +101,32 @@ class Pool:
         except Refused as refused:
             number = refused.args[0]
             return f"refused {number} {NAMES[number]}"
+
+    def read_from(self, device: int, no: int) -> bytes:
+        try:
+            return self.devices[device].read(no)
+        except Refused:
+            self.failed = f"Read {device} {no}"
+            raise
+
+    def write_to(self, page: Page, text: bytes, fault: int) -> None:
+        device, no = page
+        try:
+            self.devices[device].write(no, text, fault)
+        except Refused:
+            self.failed = f"Write {device} {no}"
+            raise
+        self.written_back += 1
+
+    def flush(self, device: int) -> None:
+        try:
+            self.devices[device].flush()
+        except Refused:
+            self.failed = f"Flush {device}"
+            raise
+
+    def is_resident(self, page: Page) -> bool:
+        return any(frame.page == page for frame in self.frames)
 
     def victim(self) -> Frame | None:
         free = [frame for frame in self.frames if frame.page is not None and frame.fixes == 0]
@@ -116,10 +144,11 @@ class Pool:
         frame = next((frame for frame in self.frames if frame.page is None), None) or self.victim()
         if frame is None:
             raise Refused(6)
-        text = self.devices[device].read(no)
+        text = self.read_from(device, no)
         if frame.dirty:
-            left, old = frame.page
-            self.devices[left].write(old, frame.text, 8)
+            self.write_to(frame.page, frame.text, 8)
+        if frame.page is not None:
+            self.evictions += 1
         frame.page, frame.text, frame.dirty = (device, no), text, False
         frame.generation += 1
         return frame
@@ -137,7 +166,7 @@ class Pool:
         """Writes the pages of one device back, or of all."""
         for frame in self.frames:
             if frame.dirty and device in (None, frame.page[0]):
-                self.devices[frame.page[0]].write(frame.page[1], frame.text, 12)
+                self.write_to(frame.page, frame.text, 12)
                 frame.dirty = False
 
     def unfixed(self, device: int | None) -> None:
@@ -147,8 +176,11 @@ class Pool:
     # the calls, by their words
 
     def pin(self, device: int, no: int) -> str:
+        found = self.is_resident((device, no))
         frame = self.bring(device, no)
         frame.fixes += 1
+        self.hits += found
+        self.misses += not found
         return self.slot_of(frame)
 
     def load(self, device: int, no: int) -> str:
@@ -183,10 +215,15 @@ class Pool:
         victim = self.victim()
         return f"resident{shown} victim " + (f"{victim.page[0]}:{victim.page[1]}" if victim else "none")
 
+    def counts(self) -> str:
+        resident = sum(frame.page is not None for frame in self.frames)
+        dirty = sum(frame.dirty for frame in self.frames)
+        return f"counts {self.hits} {self.misses} {self.evictions} {self.written_back} resident {resident} dirty {dirty} failed {self.failed}"
+
     def writeback(self) -> str:
         self.clean(None)
-        for device in self.devices:
-            device.flush()
+        for device in range(len(self.devices)):
+            self.flush(device)
         return "ok"
 
     def empty(self) -> str:
@@ -203,7 +240,7 @@ class Pool:
             raise Refused(4)
         self.unfixed(device)
         self.clean(device)
-        self.devices[device].flush()
+        self.flush(device)
         for frame in self.frames:
             if frame.page is not None and frame.page[0] == device:
                 frame.vacate()

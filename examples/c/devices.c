@@ -1,5 +1,5 @@
 /* Two devices of one handle: each page goes to the file of its device, and two devices of one file are refused. And what reaches a file for
- * certain: a close syncs what was written, and a sync that failed is not forgotten. The program has an fsync of its own, which counts.
+ * certain: a close and a replacement sync what was written, and a sync that failed is not forgotten. The program has an fsync of its own, which counts.
  * And no device: a history alone. */
 #define _GNU_SOURCE /* mkstemp, syscall */
 #include <errno.h>
@@ -159,6 +159,7 @@ static void failed_sync(void) {
     write_to(&handle, (warm_page){.no = 2}, 'd');
     EXPECT(WARM_FAULT, warm_write_back(&handle));
     MUST(syncs.calls == 1 && read_from(&handle, (warm_page){.no = 2}) == 'd');
+    EXPECT(WARM_FAULT, warm_replace(&handle, 0, &(warm_device){.pages = 8, .fd = -1})); /* nor is it got rid of by another file */
     warm_close(&handle);
     MUST(syncs.calls == 1);
     OK(warm_open(&handle, 1, 2, PAGE_SIZE, devices, 2)); /* it knows nothing of what failed before */
@@ -190,6 +191,26 @@ static void close_syncs(void) {
     MUST(syncs.calls == 2);
     close(first);
     close(second);
+}
+
+/* A file that is replaced is synced where it waits for that, and no other is. */
+static void replace_syncs(void) {
+    int first = temporary(), second = temporary(), third = temporary();
+    const warm_device devices[] = {{.pages = 8, .fd = first}, {.pages = 8, .fd = second}};
+    warm handle = {0};
+    OK(warm_open(&handle, 1, 2, PAGE_SIZE, devices, 2));
+    write_to(&handle, (warm_page){.dev = 0, .no = 1}, 'h');
+    write_to(&handle, (warm_page){.dev = 1, .no = 1}, 'i');
+    syncs.calls = 0;
+    OK(warm_replace(&handle, 1, &(warm_device){.pages = 8, .fd = third}));
+    MUST(syncs.calls == 1 && syncs.last == second && byte_at(second, PAGE_SIZE) == 'i');
+    OK(warm_replace(&handle, 1, &devices[1])); /* nothing was written to the third */
+    MUST(syncs.calls == 1);
+    warm_close(&handle);
+    MUST(syncs.calls == 1); /* page 0:1 was never written back */
+    close(first);
+    close(second);
+    close(third);
 }
 
 /* What the first knows, bucket by bucket, at the second, which then answers nothing to the first's digests. */
@@ -265,6 +286,7 @@ int main(void) {
     syncs.calls = 0;
     failed_sync();
     close_syncs();
+    replace_syncs();
     history_alone();
     return end_as_expected();
 }

@@ -43,7 +43,7 @@
 #include "clock.h"
 #include "frames.h"
 
-enum { DEFAULT_PAGE_SIZE = 4096, SMALLEST_PAGE = 512, SIZE_AT = 16, COUNTER_AT = 24, HEADER_PART = COUNTER_AT + POOL_COUNTER };
+enum { DEFAULT_PAGE_SIZE = 4096, SMALLEST_PAGE = 512, LENT_UNIT = 4096, SIZE_AT = 16, COUNTER_AT = 24, HEADER_PART = COUNTER_AT + POOL_COUNTER };
 
 static const uint64_t SKEW = POOL_SKEW_SECONDS * (uint64_t)1000000000;
 
@@ -100,7 +100,9 @@ static int open_handle(pool_file *file, int which, size_t page_size) {
     if (status != WARM_OK) return status;
     file->current = which;
     file->page_size = page_size;
+    file->page_shift = __builtin_ctzll(page_size);
     residents_clear(&file->residents);
+    held_clear(&file->held);
     return WARM_OK;
 }
 
@@ -111,7 +113,7 @@ int pool_file_open(pool_file *file, int fd, uint16_t replica, size_t frames) {
     read_clock(file);
     memcpy(file->counter, header + COUNTER_AT, POOL_COUNTER);
     file->header_page_size = page_size_in(header + SIZE_AT);
-    int status = residents_open(&file->residents, frames) ? WARM_OK : WARM_MEMORY;
+    int status = residents_open(&file->residents, frames) && held_open(&file->held, frames) ? WARM_OK : WARM_MEMORY;
     if (status == WARM_OK) status = open_handle(file, 0, file->header_page_size != 0 ? file->header_page_size : DEFAULT_PAGE_SIZE);
     if (status != WARM_OK) pool_file_close(file);
     return status;
@@ -121,6 +123,7 @@ void pool_file_close(pool_file *file) {
     warm_close(&file->handles[0]);
     warm_close(&file->handles[1]);
     residents_close(&file->residents);
+    held_close(&file->held);
 }
 
 /* ---- references ---- */
@@ -146,21 +149,45 @@ static void refer(pool_file *file, uint64_t no, bool is_in) {
 /* ---- bytes ---- */
 
 static int pin(pool_file *file, uint64_t no, warm_slot *slot) {
-    int status = warm_pin(pool_file_handle(file), (warm_page){.no = no}, slot);
+    int status = residents_have(&file->residents, no) ? WARM_OK : held_drop(&file->held, pool_file_handle(file));
+    if (status == WARM_OK) status = warm_pin(pool_file_handle(file), (warm_page){.no = no}, slot);
     if (status != WARM_OK) return status;
     /* A page beyond the end of the file is made of zeros, and read from no device. */
     if (residents_note(&file->residents, *slot, no) && no * file->page_size < file->size) file->device_reads++;
     return WARM_OK;
 }
 
-static int read_part(pool_file *file, uint64_t no, size_t at, uint8_t *into, size_t length, bool is_page) {
+/* Pins a page, which then stays pinned until the next page comes in, or as long as it has users. */
+static int hold_new(pool_file *file, uint64_t no, held_page **page) {
+    const uint8_t *bytes;
     warm_slot slot;
-    if (is_page) refer(file, no, residents_have(&file->residents, no));
     int status = pin(file, no, &slot);
     if (status != WARM_OK) return status;
-    status = warm_read(pool_file_handle(file), slot, at, into, length);
-    int unpinned = warm_unpin(pool_file_handle(file), slot);
-    return status != WARM_OK ? status : unpinned;
+    status = warm_lend(pool_file_handle(file), slot, &bytes);
+    if (status == WARM_OK) *page = held_add(&file->held, slot, bytes);
+    else warm_unpin(pool_file_handle(file), slot);
+    return status;
+}
+
+/* The page of a frame, counted from 1, which is the one that the page is in; or 0. */
+static int hold_in(pool_file *file, uint32_t frame, uint64_t no, held_page **page) {
+    if (frame == 0 || file->held.pages[frame - 1].bytes == NULL) return hold_new(file, no, page);
+    *page = &file->held.pages[frame - 1];
+    return WARM_OK;
+}
+
+/* The same with a reference to the page. */
+static int hold_page(pool_file *file, uint64_t no, held_page **page) {
+    uint32_t frame = residents_frame(&file->residents, no);
+    refer(file, no, frame != 0);
+    return hold_in(file, frame, no, page);
+}
+
+static int read_part(pool_file *file, uint64_t no, size_t at, uint8_t *into, size_t length, bool is_page) {
+    held_page *page;
+    int status = is_page ? hold_page(file, no, &page) : hold_in(file, residents_frame(&file->residents, no), no, &page);
+    if (status == WARM_OK) memcpy(into, page->bytes + at, length);
+    return status;
 }
 
 /* Writes a page to the file itself. */
@@ -182,19 +209,18 @@ static int write_past_pool(pool_file *file, uint64_t no, const uint8_t *bytes) {
  * written over at once. It is in no frame, so no frame has older bytes.
  */
 static int write_part(pool_file *file, uint64_t no, size_t at, const uint8_t *bytes, size_t length) {
-    warm_slot slot;
-    bool is_in = residents_have(&file->residents, no), is_new = no * file->page_size >= file->size;
-    if (!is_new && length == file->page_size && !is_in) {
+    held_page *page;
+    uint32_t frame = residents_frame(&file->residents, no);
+    bool is_new = no * file->page_size >= file->size;
+    if (!is_new && length == file->page_size && frame == 0) {
         file->direct_writes++;
         return write_past_pool(file, no, bytes);
     }
-    if (is_new) refer(file, no, is_in);
-    int status = pin(file, no, &slot);
-    if (status != WARM_OK) return status;
-    status = warm_write(pool_file_handle(file), slot, at, bytes, length);
+    if (is_new) refer(file, no, frame != 0);
+    int status = hold_in(file, frame, no, &page);
+    if (status == WARM_OK) status = warm_write(pool_file_handle(file), page->slot, at, bytes, length);
     if (status == WARM_OK) file->is_dirty = true;
-    int unpinned = warm_unpin(pool_file_handle(file), slot);
-    return status != WARM_OK ? status : unpinned;
+    return status;
 }
 
 /* The part of a range of bytes that is in the page of its first byte. */
@@ -229,6 +255,33 @@ int pool_file_read(pool_file *file, uint8_t *into, size_t length, uint64_t offse
     if (there == length) return WARM_OK;
     memset(into + there, 0, length - there);
     return POOL_SHORT;
+}
+
+/* Half of the frames are always free for pages that are read and written. Of a damaged page SQLite may read some bytes more than it has (the
+ * xFetch of its newer versions leaves 256 for that): behind a frame of whole units of 4,096 bytes they are there, whatever they are. */
+static bool can_lend(const pool_file *file, size_t length, uint64_t offset) {
+    if (length != file->page_size || length % LENT_UNIT != 0 || (offset & (length - 1)) != 0) return false;
+    return offset < file->size && length <= file->size - offset && file->lent < file->frames / 2;
+}
+
+int pool_file_lend(pool_file *file, size_t length, uint64_t offset, const uint8_t **bytes) {
+    held_page *page;
+    *bytes = NULL;
+    if (file->is_failed) return POOL_IO;
+    if (!can_lend(file, length, offset)) return WARM_OK;
+    int status = hold_page(file, offset >> file->page_shift, &page);
+    if (status != WARM_OK) return status;
+    *bytes = page->bytes;
+    page->users++;
+    file->lent++;
+    file->lends++;
+    file->page_reads++;
+    return WARM_OK;
+}
+
+void pool_file_take_back(pool_file *file, uint64_t offset) {
+    file->lent--;
+    file->held.pages[residents_frame(&file->residents, offset >> file->page_shift) - 1].users--;
 }
 
 static int write_bytes(pool_file *file, const uint8_t *bytes, size_t length, uint64_t offset) {
@@ -361,6 +414,8 @@ int pool_file_enter(pool_file *file) {
     bool is_same = memcmp(file->counter, header + COUNTER_AT, POOL_COUNTER) == 0;
     file->header_page_size = page_size;
     if (is_same && (page_size == 0 || page_size == file->page_size)) return WARM_OK;
+    /* SQLite has no page where it has no lock. If it had, its bytes would go with the frames. */
+    if (file->lent > 0) return POOL_IO;
     int status = reload(file, page_size);
     /* Where it is refused the frames are as old as before, and the next call must see that. */
     if (status == WARM_OK) memcpy(file->counter, header + COUNTER_AT, POOL_COUNTER);
@@ -425,7 +480,8 @@ int pool_file_step(pool_file *file, bool *found) {
     warm_slot slot;
     *found = false;
     pool_file_absorb(file);
-    int status = warm_step(pool_file_handle(file), found, &page);
+    int status = held_drop(&file->held, pool_file_handle(file));
+    if (status == WARM_OK) status = warm_step(pool_file_handle(file), found, &page);
     if (status != WARM_OK || !*found) return status;
     file->warmed++;
     /* The page is there: a pin tells its frame. If it did not, the pool could no longer say which pages are in it. */
@@ -437,7 +493,7 @@ int pool_file_step(pool_file *file, bool *found) {
 }
 
 void pool_file_print(const pool_file *file, FILE *to) {
-    fprintf(to, "pool: %llu page reads, %llu device reads, %llu warmed up, %llu direct writes, %llu reloads, %llu lost references\n",
-        (unsigned long long)file->page_reads, (unsigned long long)file->device_reads, (unsigned long long)file->warmed,
+    fprintf(to, "pool: %llu page reads, %llu lent, %llu device reads, %llu warmed up, %llu direct writes, %llu reloads, %llu lost references\n",
+        (unsigned long long)file->page_reads, (unsigned long long)file->lends, (unsigned long long)file->device_reads, (unsigned long long)file->warmed,
         (unsigned long long)file->direct_writes, (unsigned long long)file->reloads, (unsigned long long)file->lost_references);
 }

@@ -8,6 +8,7 @@
 #include <stdio.h>
 
 #include "batch.h"
+#include "held.h"
 #include "residents.h"
 #include "warm.h"
 
@@ -31,6 +32,7 @@ typedef struct pool_file {
     int fd;
     uint16_t replica;
     size_t frames, page_size;
+    int page_shift; /* a page has 2^page_shift bytes */
     uint64_t size;  /* of the file, as if every dirty page were written */
     bool is_dirty;    /* something was written into the pool since the last sync: it may be in frames or in the file by now */
     bool is_unsynced; /* the file was written or truncated past the pool since the last sync */
@@ -41,7 +43,9 @@ typedef struct pool_file {
     batch batch;
     uint64_t time;         /* of the next reference */
     residents residents;   /* of the open handle */
-    uint64_t page_reads, device_reads, warmed, lost_references, reloads, direct_writes;
+    held held;             /* pages of the open handle */
+    size_t lent;           /* how many pages are lent, each as often as it is */
+    uint64_t page_reads, device_reads, lends, warmed, lost_references, reloads, direct_writes;
 } pool_file;
 
 /* A pool of so many frames over a file that is open for reading and writing. The caller closes the descriptor after pool_file_close. */
@@ -54,6 +58,15 @@ void pool_file_close(pool_file *file);
 warm *pool_file_handle(pool_file *file);
 
 int pool_file_read(pool_file *file, uint8_t *into, size_t length, uint64_t offset);
+
+/* Lends the bytes of one whole page, which stays in its frame until pool_file_take_back. What is written to the page meanwhile is seen in them.
+ * bytes is NULL where the page is not lent, and is to be read: half of the frames are lent already, the page is none that the file has, or
+ * the bytes are no page of the pool, or one of less than 4,096 bytes, behind which nothing may be read. */
+int pool_file_lend(pool_file *file, size_t length, uint64_t offset, const uint8_t **bytes);
+
+/* A page that was lent at this offset is so once less. */
+void pool_file_take_back(pool_file *file, uint64_t offset);
+
 int pool_file_write(pool_file *file, const uint8_t *bytes, size_t length, uint64_t offset);
 int pool_file_truncate(pool_file *file, uint64_t size);
 

@@ -52,8 +52,10 @@ bool residents_note(residents *r, warm_slot slot, uint64_t page) {
     return true;
 }
 
-bool residents_have(const residents *r, uint64_t page) {
+uint32_t residents_frame(const residents *r, uint64_t page) {
     uint32_t at = r->heads[hash_of(r, page)];
     while (at != 0 && r->pages[at - 1] != page) at = r->next[at - 1];
-    return at != 0;
+    return at;
 }
+
+bool residents_have(const residents *r, uint64_t page) { return residents_frame(r, page) != 0; }

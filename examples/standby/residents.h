@@ -29,4 +29,7 @@ bool residents_note(residents *r, warm_slot slot, uint64_t page);
 /* Whether the page is in a frame. It is so exactly where each page that came in was noted before the next one came. */
 bool residents_have(const residents *r, uint64_t page);
 
+/* Its frame, counted from 1, or 0 where it is in none. */
+uint32_t residents_frame(const residents *r, uint64_t page);
+
 #endif

@@ -137,12 +137,13 @@ static void take_over(const options *o, pool_file *file, source *primary) {
     printf("standby: outage: warm-up %llu us, %llu pages\n", (unsigned long long)(outage() - began), (unsigned long long)(file->warmed - warmed));
 }
 
-/* Pages that SQLite asked for, and those of them that were read from the file. Stock SQLite reads each that its cache misses. */
+/* Pages that SQLite asked for, and those of them that were read from the file. Stock SQLite reads each that its cache misses. SQLite itself does
+ * not count those that it is lent. */
 static void count_pages(sqlite3 *db, pool_file *file, uint64_t *asked, uint64_t *device) {
     int hits = 0, misses = 0, high;
     sqlite3_db_status(db, SQLITE_DBSTATUS_CACHE_HIT, &hits, &high, 0);
     sqlite3_db_status(db, SQLITE_DBSTATUS_CACHE_MISS, &misses, &high, 0);
-    *asked = (uint64_t)hits + (uint64_t)misses;
+    *asked = (uint64_t)hits + (uint64_t)misses + (file != NULL ? file->lends : 0);
     *device = file != NULL ? file->device_reads : (uint64_t)misses;
 }
 

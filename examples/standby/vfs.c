@@ -1,10 +1,19 @@
 /*
- * An SQLite VFS over a buffer pool. Pages of a main database are pinned, copied and unpinned; every other file (journals, temporary files)
- * and all locks are those of the default VFS. Why committed transactions outlive kill -9 is said in pool_file.c.
+ * An SQLite VFS over a buffer pool. Pages of a main database are read where they lie in the pool (xFetch), or copied; every other file
+ * (journals, temporary files) and all locks are those of the default VFS. Why committed transactions outlive kill -9 is said in pool_file.c.
+ *
+ * Why a page may be lent. SQLite asks for one by xFetch where mmap_size is not 0: for each page but the first, in a transaction that reads,
+ * and in one that writes for a cursor that does not (getPageMMap in pager.c of SQLite 3.40). It only reads through the pointer, and takes a
+ * page that it has changed from its own cache. Over a map of the file what is written by xWrite shows in the pages that are out, and
+ * SQLite counts on no less: before it changes, moves or rolls back pages that a cursor is on, the cursor lets them go (saveAllCursors,
+ * sqlite3BtreeTripAllCursors). The same holds here, since xWrite writes into the frame. No page is out without a lock, and page 1,
+ * which is never lent, is held until all others are back (pagerUnlockIfUnused). So frames are dropped for another connection's commit only
+ * when none is lent.
  *
  * Limits:
- *  - The methods have version 1, without shared memory. So journal_mode=WAL needs locking_mode=EXCLUSIVE, and stays as it was without.
- *    To open a database that is in WAL mode EXCLUSIVE is set before anything is read, as pool_vfs_open does. There is no memory map.
+ *  - The methods have version 3, but none of shared memory. So journal_mode=WAL needs locking_mode=EXCLUSIVE, and stays as it was without.
+ *    To open a database that is in WAL mode EXCLUSIVE is set before anything is read, as pool_vfs_open does. Pages of a WAL are not lent.
+ *  - Nothing is mapped: PRAGMA mmap_size is 0 or not 0, and another number means nothing.
  *  - A pool has one thread, so a connection is used by the thread that opened it.
  *  - Each connection has a pool of its own. Two connections to one file are right, and share no frame: each drops its frames when the
  *    change counter says that the other has committed.
@@ -27,6 +36,7 @@ typedef struct db_file {
     sqlite3_file base;
     pool_file *pool;
     int lock;
+    sqlite3_int64 mmap_size; /* as SQLite was told: it asks for pages by xFetch where it is not 0 */
 } db_file;
 
 static sqlite3_vfs *inner_vfs;
@@ -241,6 +251,14 @@ static int db_check_reserved(sqlite3_file *file, int *is_reserved) {
     return inner(file)->pMethods->xCheckReservedLock(inner(file), is_reserved);
 }
 
+/* Answers the old size, and takes the new one where it is not negative. Nothing is mapped, so that each size but 0 is enough for all pages. */
+static int set_mmap_size(db_file *own, sqlite3_int64 *size) {
+    sqlite3_int64 asked = *size;
+    *size = own->mmap_size;
+    if (asked >= 0) own->mmap_size = asked;
+    return SQLITE_OK;
+}
+
 static int db_control(sqlite3_file *file, int code, void *argument) {
     switch (code) {
         /* Each comes before xSync, and in place of it with synchronous=OFF: see pool_file.c. SQLite does not look at the answer to the
@@ -250,7 +268,7 @@ static int db_control(sqlite3_file *file, int code, void *argument) {
         /* The default VFS would change the length of the file itself. */
         case SQLITE_FCNTL_SIZE_HINT:
         case SQLITE_FCNTL_CHUNK_SIZE: return SQLITE_OK;
-        case SQLITE_FCNTL_MMAP_SIZE: return SQLITE_NOTFOUND;
+        case SQLITE_FCNTL_MMAP_SIZE: return set_mmap_size((db_file *)file, argument);
         default: break;
     }
     int result = inner(file)->pMethods->xFileControl(inner(file), code, argument);
@@ -275,8 +293,22 @@ static int db_characteristics(sqlite3_file *file) {
     return inner(file)->pMethods->xDeviceCharacteristics(inner(file)) & kept;
 }
 
+/* SQLite reads through the pointer alone (getPageMMap of its pager.c). */
+static int db_fetch(sqlite3_file *file, sqlite3_int64 offset, int length, void **bytes) {
+    const uint8_t *lent;
+    int status = pool_file_lend(pool_of(file), (size_t)length, (uint64_t)offset, &lent);
+    *bytes = (void *)(uintptr_t)lent;
+    return result_of(status, SQLITE_IOERR_READ);
+}
+
+/* Without bytes it says that the file may have changed, which pool_file_enter has seen. No page is lent then. */
+static int db_unfetch(sqlite3_file *file, sqlite3_int64 offset, void *bytes) {
+    if (bytes != NULL) pool_file_take_back(pool_of(file), (uint64_t)offset);
+    return SQLITE_OK;
+}
+
 static const sqlite3_io_methods db_methods = {
-    .iVersion = 1,
+    .iVersion = 3, /* without the methods of version 2, which are those of shared memory */
     .xClose = db_close,
     .xRead = db_read,
     .xWrite = db_write,
@@ -289,6 +321,8 @@ static const sqlite3_io_methods db_methods = {
     .xFileControl = db_control,
     .xSectorSize = db_sector_size,
     .xDeviceCharacteristics = db_characteristics,
+    .xFetch = db_fetch,
+    .xUnfetch = db_unfetch,
 };
 
 /* ---- the methods of the VFS ---- */
@@ -314,6 +348,7 @@ static int open_db(const char *name, sqlite3_file *file, int flags, int *flags_o
     int result = inner_vfs->xOpen(inner_vfs, name, inner(file), flags, &opened_with);
     if (result != SQLITE_OK) return result;
     own->lock = SQLITE_LOCK_NONE;
+    own->mmap_size = 0;
     result = pool_at(name, &own->pool);
     if (result != SQLITE_OK) {
         inner(file)->pMethods->xClose(inner(file));
@@ -442,5 +477,5 @@ int pool_vfs_open(const char *path, int flags, bool is_alone, sqlite3 **db) {
     int result = sqlite3_open_v2(path, db, flags, POOL_VFS);
     if (result == SQLITE_OK && is_alone) result = sqlite3_exec(*db, "PRAGMA locking_mode = EXCLUSIVE;", NULL, NULL, NULL);
     if (result != SQLITE_OK) return result;
-    return sqlite3_exec(*db, "PRAGMA cache_size = 0; PRAGMA cache_spill = OFF;", NULL, NULL, NULL);
+    return sqlite3_exec(*db, "PRAGMA cache_size = 0; PRAGMA cache_spill = OFF; PRAGMA mmap_size = 0x7fff0000;", NULL, NULL, NULL);
 }

@@ -26,10 +26,10 @@ int pool_vfs_prepare(const char *now_at, const char *path, pool_file **pool);
 /* The pool of a connection's main database, or NULL where it was opened by another VFS. */
 pool_file *pool_vfs_of(sqlite3 *db);
 
-/* Opens a database by the VFS "warm" with the settings that it wants: the least cache of SQLite's own, as the pool has the pages, and no
- * spilling, so that pages reach the pool once a transaction, at its commit. A connection that is alone has locking_mode=EXCLUSIVE: no
- * other one reads or writes the file until it is closed, and WAL can be used. Answers an SQLite result; db is to be closed in either
- * case. */
+/* Opens a database by the VFS "warm" with the settings that it wants: the least cache of SQLite's own, as the pool has the pages; no spilling,
+ * so that pages reach the pool once a transaction, at its commit; and a mmap_size that is not 0, so that pages are read where they lie. A
+ * connection that is alone has locking_mode=EXCLUSIVE: no other one reads or writes the file until it is closed, and WAL can be used.
+ * Answers an SQLite result; db is to be closed in either case. */
 int pool_vfs_open(const char *path, int flags, bool is_alone, sqlite3 **db);
 
 #endif

@@ -112,8 +112,8 @@ static void draw_statement(char *sql, size_t room, bool is_alone) {
     static const char *const fixed[] = {"BEGIN", "BEGIN", "COMMIT", "COMMIT", "ROLLBACK", "SAVEPOINT s", "ROLLBACK TO s", "RELEASE s", "VACUUM",
         "PRAGMA page_size=1024", "PRAGMA page_size=8192", "PRAGMA page_size=512", "PRAGMA page_size=4096", "PRAGMA auto_vacuum=1",
         "PRAGMA auto_vacuum=2", "PRAGMA auto_vacuum=0", "PRAGMA incremental_vacuum(7)", "PRAGMA synchronous=OFF", "PRAGMA synchronous=FULL",
-        "CREATE INDEX i ON t(b)", "DROP INDEX i", "REINDEX", "ANALYZE", "DELETE FROM t", "PRAGMA page_count",
-        "PRAGMA freelist_count", "PRAGMA integrity_check", "PRAGMA shrink_memory", "PRAGMA secure_delete=1"};
+        "CREATE INDEX i ON t(b)", "DROP INDEX i", "REINDEX", "ANALYZE", "DELETE FROM t", "PRAGMA page_count", "PRAGMA mmap_size=0",
+        "PRAGMA mmap_size=100000", "PRAGMA mmap_size=10000000", "PRAGMA freelist_count", "PRAGMA integrity_check", "PRAGMA shrink_memory", "PRAGMA secure_delete=1"};
     uint32_t a = draw(4000), n = 1 + draw(300);
     switch (draw(8)) {
         case 0:

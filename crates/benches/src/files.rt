@@ -6,7 +6,7 @@ use crate::parts::{added_bytes, asked_number, replica, twice};
 use anyhow::{Result, bail};
 use std::alloc::Global;
 use std::time::{Duration, Instant};
-use warm_files::{read_dump, write_dump};
+use warm_dump::{read_dump, write_dump};
 use warm_history::History;
 use warm_stamps::{PageId, ReplicaId};
 

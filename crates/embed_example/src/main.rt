@@ -4,14 +4,15 @@
 //! its references to the standby, until both histories are equal. The standby is restarted from a
 //! dump of its history, loads the hottest pages, and takes over. A cold standby, which knows
 //! nothing, makes the same accesses: both print how many pages they read. Then a page is written
-//! to, and the standby shuts down in an orderly way. Each refusal is an error, and `?` returns it.
+//! to, another is filled in place, and the standby shuts down in an orderly way. Each refusal is an
+//! error, and `?` returns it.
 #![tactic(auto)]
 
 use anyhow::{Result, bail};
 use std::alloc::Global;
 use std::io::Print;
 use warm_devices::MemDevice;
-use warm_files::{read_dump, write_dump};
+use warm_dump::{read_dump, write_dump};
 use warm_frames::{decode, encode};
 use warm_gossip::Node;
 use warm_pool::Pool;
@@ -124,7 +125,7 @@ fn make_equal(
     bail!("the histories still differ")
 }
 
-// The dump of a node's history. A program writes it to a file through `warm_store::Draft`, which
+// The dump of a node's history. A program writes it to a file through `atomic_file::Draft`, which
 // replaces the old dump whole.
 fn dumped(alloc: Global, node: &Node<MemDevice>) -> Result<Vec<u8>> {
     let mut bytes = Vec::new(alloc);
@@ -159,6 +160,16 @@ fn change(node: &mut Node<MemDevice>, no: u64, text: &[u8]) -> Result<Vec<u8>> {
     let bytes = node.read(slot, 0, text.len())?;
     node.unpin(slot)?;
     Ok(bytes.into_vec())
+}
+
+// Pins a page without reading it, fills it in place and unpins it. Returns how many bytes it has.
+// Nothing is copied.
+fn renew(node: &mut Node<MemDevice>, no: u64, byte: u8) -> Result<usize> {
+    let slot = node.pin_zeroed(page(no))?;
+    node.bytes_mut(slot).fill(byte);
+    let size = node.bytes(slot)?.len();
+    node.unpin(slot)?;
+    Ok(size)
 }
 
 // The primary is used, and gossips with the standby. Returns the dump of the standby's history;
@@ -212,6 +223,8 @@ fn main(rt: HostRuntime) -> Result<()> {
     take_over(&rt, alloc, "warm standby", &mut standby)?;
     let bytes = change(&mut standby, 2, b"warm")?;
     println!(rt; "wrote {} bytes", bytes.len())?;
+    let size = renew(&mut standby, 3, b'w')?;
+    println!(rt; "filled {} bytes in place", size)?;
     standby.into_pool().close()?;
     println!(rt; "closed")?;
     Ok(())

@@ -25,6 +25,9 @@ pub enum Asked {
     Reads(Slot),
     /// `show`: the resident pages, and the next victim.
     Shows,
+    /// `counts`: the counts of the pool, the numbers of resident and dirty pages, and the call of a
+    /// device that failed last.
+    Counts,
     /// `writeback`
     WritesBack,
     /// `empty`
@@ -104,6 +107,7 @@ fn asked_by(word: &str, numbers: &[u64; MAX_NUMBERS]) -> Result<Asked> {
         }
         "read" => Ok(Asked::Reads(slot(numbers)?)),
         "show" => Ok(Asked::Shows),
+        "counts" => Ok(Asked::Counts),
         "writeback" => Ok(Asked::WritesBack),
         "empty" => Ok(Asked::Empties),
         "retire" => Ok(Asked::Retires(device(numbers[0])?)),

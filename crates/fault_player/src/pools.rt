@@ -10,7 +10,7 @@ use std::alloc::Global;
 use std::io::Print;
 use warm_devices::{Flaky, MemDevice};
 use warm_history::History;
-use warm_pool::{Pool, PoolFault, Slot};
+use warm_pool::{FailedCall, Pool, PoolFault, Slot};
 use warm_stamps::PageId;
 
 /// The size of a page in bytes.
@@ -86,6 +86,7 @@ fn ask(
         Asked::Writes(slot, at, len, byte) => write(rt, pool, history, slot, at, len, byte),
         Asked::Reads(slot) => read(rt, pool, slot),
         Asked::Shows => show(rt, pool),
+        Asked::Counts => counts(rt, pool),
         Asked::WritesBack => print_done(rt, pool.write_back_all()),
         Asked::Empties => print_done(rt, pool.empty()),
         Asked::Closes => bail!("a pool is closed by its owner"),
@@ -170,6 +171,32 @@ fn show(rt: &impl Print, pool: &mut Pool<Failing>) -> Result<()>
     match pool.victim() {
         Some(page) => Ok(println!(rt; " victim {}:{}", page.dev, page.no)?),
         None => Ok(println!(rt; " victim none")?),
+    }
+}
+
+fn counts(rt: &impl Print, pool: &Pool<Failing>) -> Result<()> {
+    let counts = pool.counts();
+    print!(rt;
+        "counts {} {} {}",
+        counts.hits, counts.misses, counts.evictions
+    )?;
+    print!(rt;
+        " {} resident {}",
+        counts.written_back,
+        pool.resident_count()
+    )?;
+    print!(rt; " dirty {}", pool.dirty())?;
+    match pool.last_failure() {
+        Some(failed) => print_failed(rt, failed),
+        None => Ok(println!(rt; " failed none")?),
+    }
+}
+
+fn print_failed(rt: &impl Print, failed: FailedCall) -> Result<()> {
+    print!(rt; " failed {} {}", failed.what.name(), failed.dev)?;
+    match failed.page {
+        Some(no) => Ok(println!(rt; " {no}")?),
+        None => Ok(println!(rt; "")?),
     }
 }
 

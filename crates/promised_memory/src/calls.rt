@@ -115,8 +115,40 @@ fn written_back<P: Print>(rt: &P, met: &mut Met, node: &mut Node<MemDevice>) -> 
     met.holds(node.write_back().is_ok(), "a page is not written back")
 }
 
-// A page is pinned, written to and unpinned; another replaces it, and is written back; the horizon
-// rises past one of them, and the node restarts.
+// Whether the bytes of the slot's page are lent, to be written to.
+fn is_lent(node: &mut Node<MemDevice>, slot: Slot) -> bool {
+    if !node.pool().holds(slot) {
+        return false;
+    }
+    let bytes = node.bytes_mut(slot);
+    bytes.len() == 16
+}
+
+// A page is pinned with zeros, its bytes are lent, it is written back, and it is forgotten.
+fn lent<P: Print>(rt: &P, met: &mut Met, node: &mut Node<MemDevice>) -> Result<(), Ended> {
+    takes_none(rt, "pin_zeroed")?;
+    let Ok(slot) = node.pin_zeroed(PageId { dev: 0, no: 3 }) else {
+        return Err(met.broken("a pin with zeros is refused"));
+    };
+    takes_none(rt, "bytes_mut")?;
+    met.holds(is_lent(node, slot), "no bytes are lent to be written to")?;
+    takes_none(rt, "bytes")?;
+    met.holds(node.bytes(slot).is_ok(), "no bytes are lent")?;
+    takes_none(rt, "write_back_some")?;
+    met.holds(
+        matches!(node.write_back_some(1), Ok(0)),
+        "the dirty page is not written back",
+    )?;
+    takes_none(rt, "flush_device")?;
+    met.holds(node.flush_device(0).is_ok(), "a device is not flushed")?;
+    takes_none(rt, "unpin of a page of zeros")?;
+    met.holds(node.unpin(slot).is_ok(), "its unpin is refused")?;
+    takes_none(rt, "forget_pages")?;
+    met.holds(node.forget_pages(0, 3).is_ok(), "a page is not forgotten")
+}
+
+// A page is pinned, written to and unpinned; another replaces it, and is written back; a third is
+// pinned with zeros and forgotten; the horizon rises past one of them, and the node restarts.
 pub(crate) fn rows<P: Print>(
     rt: &P,
     met: &mut Met,
@@ -132,6 +164,7 @@ pub(crate) fn rows<P: Print>(
     written_back(rt, met, node)?;
     takes_none(rt, "unpin of a stale slot")?;
     met.holds(!is_unpinned(node, 1), "a stale slot is unpinned")?;
+    lent(rt, met, node)?;
     takes_none(rt, "horizon")?;
     met.holds(is_raised(node, 2), "a horizon is refused")?;
     takes_none(rt, "restart")?;

@@ -3,7 +3,7 @@
 use refused_rows::{Ended, Met, is_done, takes};
 use std::alloc::Global;
 use std::io::Print;
-use warm_files::{read_dump, write_dump};
+use warm_dump::{read_dump, write_dump};
 use warm_history::History;
 use warm_stamps::{PageId, Reference, ReplicaId, Stamp};
 

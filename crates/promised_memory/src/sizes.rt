@@ -82,6 +82,16 @@ fn listed<P: Print>(rt: &P, history: &History) -> Result<Vec<Entry>, Ended> {
     Ok(entries)
 }
 
+// The same since the first time, in one portion.
+fn listed_since<P: Print>(rt: &P, met: &mut Met, history: &History) -> Result<(), Ended> {
+    let bucket = bucket()?;
+    takes(rt, history.len(), "entries_since")?;
+    let portion = history.entries_since(bucket, 0, None, history.len())?;
+    is_done(rt)?;
+    let is_all = portion.entries.len() == history.len() && !portion.more;
+    met.holds(is_all, "a portion has all entries")
+}
+
 // Lists and digests of a history, which are made of all of its entries.
 fn read<P: Print>(rt: &P, alloc: Global, history: &History) -> Result<(), Ended> {
     takes(rt, history.len(), "warm_list")?;
@@ -177,8 +187,20 @@ fn asked<P: Print>(
     }
 }
 
-// A node absorbs the references, and returns the entries of their bucket in one message and as the
-// answer to a request.
+// The entries of the bucket since the first time, in one message.
+fn sent_since<P: Print>(rt: &P, node: &Node<MemDevice>) -> Result<(), Ended> {
+    let bucket = bucket()?;
+    takes(rt, PAGES as usize, "send_since")?;
+    let sent = node.send_since(bucket, 0, None);
+    is_done(rt)?;
+    match sent {
+        Ok(_) => Ok(()),
+        Err(_) => Err(Ended::NoMemory),
+    }
+}
+
+// A node absorbs the references, and returns the entries of their bucket in one message, in one
+// portion, and as the answer to a request.
 fn taught<P: Print>(rt: &P, node: &mut Node<MemDevice>, batch: RefList) -> Result<(), Ended> {
     let size = PAGES as usize;
     asked(rt, node, size, "absorb of a node", Call::Absorb(batch))?;
@@ -187,6 +209,7 @@ fn taught<P: Print>(rt: &P, node: &mut Node<MemDevice>, batch: RefList) -> Resul
         after: None,
     };
     asked(rt, node, size, "send", call)?;
+    sent_since(rt, node)?;
     let request = Message::Want {
         sender: replica()?,
         horizon: 0,
@@ -234,6 +257,7 @@ pub(crate) fn rows<P: Print>(rt: &P, met: &mut Met, alloc: Global) -> Result<(),
     copied(rt, met, alloc, &history)?;
     read(rt, alloc, &history)?;
     let entries = listed(rt, &history)?;
+    listed_since(rt, met, &history)?;
     let bytes = encoded(rt, met, alloc, entries)?;
     fed(rt, met, alloc, &bytes)?;
     made(rt, alloc)?;

@@ -5,7 +5,7 @@ use refused_rows::{Ended, Met};
 use std::alloc::Global;
 use std::io;
 use std::io::Read;
-use warm_files::{DumpError, DumpFault, read_dump, write_dump};
+use warm_dump::{DumpError, DumpFault, read_dump, write_dump};
 use warm_frames::FrameFault;
 use warm_history::History;
 

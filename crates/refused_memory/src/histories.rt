@@ -108,12 +108,9 @@ fn join_raised(met: &mut Met, alloc: Global) -> Result<(), Ended> {
 
 // The entries of a history, in the order of its pages.
 pub(crate) fn entries_of(alloc: Global, history: &History) -> Result<Vec<Entry>, Ended> {
-    let mut entries = Vec::new(alloc);
-    for entry in history.iter() {
-        let Ok(()) = entries.push(entry) else {
-            return Err(Ended::NoMemory);
-        };
-    }
+    let Ok(entries) = history.iter().collect(alloc) else {
+        return Err(Ended::NoMemory);
+    };
     Ok(entries)
 }
 
@@ -185,6 +182,26 @@ fn entries(met: &mut Met, alloc: Global) -> Result<(), Ended> {
     met.holds(found.len() == 2, "the bucket has 0:1 and 0:65")
 }
 
+// Of the pages of bucket 1, each referenced at the time of the last, one comes at a time.
+fn entries_since(met: &mut Met, alloc: Global) -> Result<(), Ended> {
+    let history = history_of_pages(alloc, 0, PAGES, FIRST)?;
+    let Some(bucket) = Bucket::new(1) else {
+        return Err(met.broken("1 is a bucket"));
+    };
+    let portion = match history.entries_since(bucket, FIRST, None, 1) {
+        Ok(portion) => portion,
+        Err(_) => {
+            met.refuse(is_unchanged(&history)?, "a refused portion changes nothing")?;
+            let Ok(portion) = history.entries_since(bucket, FIRST, None, 1) else {
+                return Err(met.broken("a portion is refused again"));
+            };
+            portion
+        }
+    };
+    let is_first = portion.entries.len() == 1 && portion.more;
+    met.holds(is_first, "0:65 follows 0:1")
+}
+
 pub(crate) fn rows(met: &mut Met, alloc: Global) -> Result<(), Ended> {
     absorb(met, alloc)?;
     join(met, alloc)?;
@@ -192,5 +209,6 @@ pub(crate) fn rows(met: &mut Met, alloc: Global) -> Result<(), Ended> {
     join_entries(met, alloc)?;
     join_entries_raised(met, alloc)?;
     copy(met, alloc)?;
-    entries(met, alloc)
+    entries(met, alloc)?;
+    entries_since(met, alloc)
 }

@@ -246,6 +246,27 @@ fn answer(met: &mut Met, node: &mut Node<MemDevice>) -> Result<(), Ended> {
     answered(met, node, &request(21)?, 0)
 }
 
+// What a node sends of bucket 1 since time 0: all. Nothing changes, whether it is refused or not.
+fn send_since(met: &mut Met, node: &mut Node<MemDevice>) -> Result<(), Ended> {
+    let Some(bucket) = Bucket::new(1) else {
+        return Err(met.broken("1 is a bucket"));
+    };
+    let before = face_of(node);
+    let sent = match node.send_since(bucket, 0, None) {
+        Ok(sent) => sent,
+        Err(fault) => {
+            let same = fault == NodeFault::Memory && face_of(node) == before;
+            met.refuse(same, "a refused portion of a node changes nothing")?;
+            let Ok(sent) = node.send_since(bucket, 0, None) else {
+                return Err(met.broken("a portion of a node is refused again"));
+            };
+            sent
+        }
+    };
+    met.holds(face_of(node) == before, "a portion changes nothing")?;
+    met.holds(!sent.more, "a message has the whole bucket")
+}
+
 // Loads a page, and lets it be a victim.
 fn load(met: &mut Met, node: &mut Node<MemDevice>, no: u64) -> Result<(), Ended> {
     let Reply::Pinned(slot) = node.call(Call::Pin(page(no))) else {
@@ -276,8 +297,8 @@ fn join(met: &mut Met, alloc: Global, node: &mut Node<MemDevice>) -> Result<(), 
     met.holds(node.victim() == Some(page(4)), "the pages are ranked again")
 }
 
-// Makes the call of an index on a node. After the third, another node sends it a page, and its
-// answers are requested.
+// Makes the call of an index on a node. After the third, another node sends it a page, and a portion
+// and its answers are requested.
 fn ask_at(
     met: &mut Met,
     alloc: Global,
@@ -290,6 +311,7 @@ fn ask_at(
         return Ok(());
     }
     inform(met, node, other)?;
+    send_since(met, node)?;
     answer(met, node)
 }
 

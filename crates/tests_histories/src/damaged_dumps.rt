@@ -7,7 +7,7 @@ use crate::histories::are_equal;
 use std::alloc::Global;
 use std::fmt;
 use std::process::Abort;
-use warm_files::{DumpError, DumpFault};
+use warm_dump::{DumpError, DumpFault};
 use warm_frames::{DIGEST_SIZE, FrameFault};
 use warm_history::History;
 

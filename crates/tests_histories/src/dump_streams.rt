@@ -5,7 +5,7 @@ use crate::histories::are_equal;
 use std::alloc::Global;
 use std::process::Abort;
 use test_kit::{BrokenReader, CountingReader, FullWriter, MarkingWriter, TrickleReader, replica};
-use warm_files::{DumpError, DumpFault, READ_SIZE, read_dump, write_dump};
+use warm_dump::{DumpError, DumpFault, READ_SIZE, read_dump, write_dump};
 
 #[test]
 fn a_dump_may_come_in_bytes(rt: HostRuntime) {

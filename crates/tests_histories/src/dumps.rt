@@ -6,7 +6,7 @@ use sha2::{Digest, Sha256};
 use std::alloc::Global;
 use std::process::Abort;
 use test_kit::{history_of, page_on, replica, seen};
-use warm_files::{DumpError, read_dump, write_dump};
+use warm_dump::{DumpError, read_dump, write_dump};
 use warm_history::History;
 use warm_stamps::BUCKETS;
 

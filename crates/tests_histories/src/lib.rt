@@ -1,4 +1,4 @@
-//! Tests of warm_history, warm_rank, warm_digest and warm_files: histories and their horizons,
+//! Tests of warm_history, warm_rank, warm_digest and warm_dump: histories and their horizons,
 //! which buckets a call changes, which pages are evicted first and which a warm-up loads, the
 //! digests of their buckets, and histories as files.
 //!
@@ -20,3 +20,5 @@ mod dumps;
 mod histories;
 #[cfg(test)]
 mod ranks;
+#[cfg(test)]
+mod since;

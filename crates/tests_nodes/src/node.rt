@@ -5,9 +5,12 @@
 //! path, on which the drops of all owned values are proved.
 
 mod dropped;
+mod engine;
 mod formats;
 mod horizons;
 mod joins;
+mod portions;
+mod retired;
 mod sizes;
 mod warm_ups;
 

@@ -2,7 +2,10 @@
 
 use std::fs::{self, File, Files};
 use std::process::Abort;
-use warm_devices::{DeviceFault, FileDevice, Flaky, MemDevice, OpenFault, PageDevice, let_go};
+use warm_devices::{
+    DeviceFault, FileDevice, Flaky, Logged, MemDevice, NotYet, OpenFault, PageDevice, PageLog,
+    let_go,
+};
 
 #[test]
 fn a_device_in_memory_keeps_its_pages(rt: HostRuntime) {
@@ -166,4 +169,36 @@ fn a_sparse_file_has_pages_past_32_bits(rt: HostRuntime) {
     assert!(rt; byte_at(&rt, path, 0) == Some(0));
     assert!(rt; byte_at(&rt, path, 8_589_934_592) == None);
     fs::remove_file(&rt, path).expect(&rt, "the file goes");
+}
+
+// A log that is durable for the pages below a number.
+#[derive(Drop)]
+struct DurableBelow {
+    end: u64,
+}
+
+impl PageLog for DurableBelow {
+    ghost use Rattle.std.specs.Prelude.{ℕ};
+
+    ghost answers = { λ log no bytes answer after. Unit {0} };
+
+    fn before_write(&mut self, no: u64, _bytes: &[u8]) -> Result<(), NotYet> {
+        if no < self.end {
+            return Ok(());
+        }
+        Err(NotYet)
+    }
+}
+
+#[test]
+fn a_log_holds_a_write_back(rt: HostRuntime) {
+    let inner = MemDevice::new(rt.alloc(), 4, 2).expect(&rt, "memory for pages");
+    let mut device = Logged::new(inner, DurableBelow { end: 2 });
+    let mut page = [0; 2];
+    assert!(rt; device.write(1, &[7, 8]) == Ok(()) && device.flush() == Ok(()));
+    assert!(rt; device.write(2, &[7, 8]) == Err(DeviceFault::Write));
+    assert!(rt; device.failures() == 1 && device.waiting());
+    assert!(rt; device.read(2, &mut page) == Ok(()) && page == [0; 2]);
+    assert!(rt; device.flush() == Ok(()) && !device.waiting() && device.failures() == 1);
+    assert!(rt; device.read(1, &mut page) == Ok(()) && page == [7, 8]);
 }

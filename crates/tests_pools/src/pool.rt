@@ -9,6 +9,8 @@ ghost use Rattle.std.specs.Prelude.{◌≤◌, length};
 ghost use Rattle.warm_pool.specs.Keeping.{KeepsRanks};
 ghost use Rattle.warm_pool.specs.State.{IsRankedByAll, RankedBy};
 
+mod counts;
+mod engine;
 mod let_go;
 mod limits;
 mod placed;
@@ -18,9 +20,9 @@ mod wide;
 use std::alloc::Global;
 use std::process::Abort;
 use test_kit::{alone, both, flaky, memory, page, page_on};
-use warm_devices::{MemDevice, PageDevice};
+use warm_devices::{DeviceFault, MemDevice, PageDevice};
 use warm_history::History;
-use warm_pool::{NewPoolFault, Pool, PoolFault, RetireError, Slot};
+use warm_pool::{FailedCall, NewPoolFault, Pool, PoolCounts, PoolFault, RetireError, Slot};
 use warm_stamps::PageId;
 
 const fn slot(index: u32, generation: u64) -> Slot {
@@ -263,10 +265,26 @@ enum Row<'a> {
     Has(u64, bool),
     // The number of frames.
     Frames(usize),
+    // The hits, misses, evictions and pages written back so far.
+    Counts(u64, u64, u64, u64),
+    // The numbers of resident and of dirty pages.
+    Sizes(usize, usize),
+    // The call of a device that failed last, if one has: the device, the page, and what was done.
+    Failed(u16, Option<u64>, DeviceFault),
+    NoneFailed,
     // Dirty pages are written back.
     WritesBack(Said),
     // The frames are emptied.
     Empties(Said),
+}
+
+const fn counted(hits: u64, misses: u64, evictions: u64, written_back: u64) -> PoolCounts {
+    PoolCounts {
+        hits,
+        misses,
+        evictions,
+        written_back,
+    }
 }
 
 // Whether a test case that changes nothing gives its expected result.
@@ -280,6 +298,14 @@ fn shows<D: PageDevice>(rt: &impl Abort, pool: &mut Pool<D>, row: Row<'_>) -> bo
         Row::Resident(dev, no, wanted) => pool.resident(page_on(dev, no)) == wanted,
         Row::Has(no, wanted) => pool.has(page(no)) == wanted,
         Row::Frames(wanted) => pool.frames() == wanted,
+        Row::Counts(hits, misses, evictions, written_back) => {
+            pool.counts() == counted(hits, misses, evictions, written_back)
+        }
+        Row::Sizes(resident, dirty) => pool.resident_count() == resident && pool.dirty() == dirty,
+        Row::Failed(dev, page, what) => {
+            pool.last_failure() == Some(FailedCall { dev, page, what })
+        }
+        Row::NoneFailed => pool.last_failure().is_none(),
         _ => panic!(rt; "no such row"),
     }
 }

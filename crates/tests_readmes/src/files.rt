@@ -1,9 +1,9 @@
-//! The call that the README of `warm_files` shows.
+//! The call that the README of `warm_dump` shows.
 use anyhow::Result;
 use std::alloc::Global;
 use std::process::Abort;
 use test_kit::{history_of, page};
-use warm_files::{DumpError, DumpFault, read_dump, write_dump};
+use warm_dump::{DumpError, DumpFault, read_dump, write_dump};
 use warm_stamps::ReplicaId;
 
 fn one_call(rt: &impl Abort, alloc: Global) -> Result<()> {
@@ -26,6 +26,6 @@ fn one_call(rt: &impl Abort, alloc: Global) -> Result<()> {
 }
 
 #[test]
-fn one_call_of_warm_files(rt: HostRuntime) {
+fn one_call_of_warm_dump(rt: HostRuntime) {
     assert!(rt; one_call(&rt, rt.alloc()).is_ok());
 }

@@ -1,6 +1,6 @@
 -- The status of each refusal has the refusal's name.
 use Rattle.std.proofs.Common.{refl}
-use Rattle.warm_files.specs.declared.fault.DumpFault.TheVariants as dump
+use Rattle.warm_dump.specs.declared.fault.DumpFault.TheVariants as dump
 use Rattle.warm_frames.specs.declared.fault.FrameFault.TheVariants as frame
 use Rattle.warm_frames.specs.declared.limit.TimeFault.TheVariants as time
 use Rattle.warm_pool.specs.declared.fault.NewPoolFault.TheVariants as new

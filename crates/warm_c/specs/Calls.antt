@@ -5,8 +5,8 @@ use Rattle.warm_stamps.specs.Replicas.{IsReplica}
 use Rattle.warm_stamps.specs.Buckets.{IsBucket}
 use Rattle.warm_stamps.specs.declared.PageId.{PageId}
 use Rattle.warm_history.specs.Histories.{HistoryView, IsHistory, entries_of}
-use Rattle.warm_files.specs.Reading.{IsDump, IsDumpRefused}
-use Rattle.warm_files.specs.Writing.{StopsWriting}
+use Rattle.warm_dump.specs.Reading.{IsDump, IsDumpRefused}
+use Rattle.warm_dump.specs.Writing.{StopsWriting}
 use Rattle.warm_frames.specs.declared.message.Message.{Message}
 use Rattle.warm_frames.specs.declared.limit.TimeFault.{TimeFault}
 use Rattle.warm_frames.specs.declared.limit.TimeFault.TheVariants.{LateHorizon, LateStamp}
@@ -14,6 +14,7 @@ use Rattle.warm_frames.specs.Limits.{SpeaksBy, StampsBy, entries_in, horizon_in}
 use Rattle.warm_frames.specs.Reading.{GivesReading, read_frame, reserved_by}
 use Rattle.warm_frames.specs.Encoding.{Encodes, encoding}
 use Rattle.warm_pool.specs.State.{IsSettled}
+use Rattle.warm_pool.specs.View.{view_of, IsResident}
 use Rattle.warm_gossip.specs.declared.call.Call.{Call}
 use Rattle.warm_gossip.specs.declared.call.Call.TheVariants.{Absorb, Send, Receive, Horizon, Pin}
 use Rattle.warm_gossip.specs.declared.call.Call.TheVariants.{Unpin, Read, Write, Victim, WarmList}
@@ -32,18 +33,20 @@ use Rattle.warm_c.specs.declared.values.PinnedSlot.{PinnedSlot}
 use Rattle.warm_c.specs.declared.values.WarmPage.{WarmPage}
 use Rattle.warm_c.specs.declared.values.WarmReference.{WarmReference}
 use Rattle.warm_c.specs.declared.values.WarmSlot.{WarmSlot}
-use Rattle.warm_c.specs.Values.{c_page, IsOptionalPage, page_of_c, pinned_slot, reference_of}
+use Rattle.warm_c.specs.Values.{c_page, IsBool, IsOptionalPage, page_of_c, pinned_slot, reference_of}
 use Rattle.warm_c.specs.Values.{slot_of_c, with_start}
 
 -- what a call of the library ends with
 abbrev pub Ending : Type 0
 Ending = Result (Unit {0}) Refusal
 
--- what is held beside the node is as it was: the answers that wait, and the limit of times
+-- what is held beside the node is as it was: the answers that wait, the limit of times, and the
+-- devices
 pub record SameBeside (old new : OpenNode) : Type 0 where
   pub answers : new.answers ≡ old.answers
   pub given : new.given ≡ old.given
   pub limit : new.limit ≡ old.limit
+  pub devices : new.devices ≡ old.devices
 
 -- The node has answered this call so, and what is held beside it is as it was.
 abbrev pub Replies : Call → OpenNode → Reply → OpenNode → Type 0
@@ -121,6 +124,11 @@ StepsWarmUp found page found' page' old (Ok given) new = (loaded : Option PageId
 StepsWarmUp found page found' page' old (Err why) new = RefusedByNode WarmStep old why new
     × (found' ≡ found) × (page' ≡ page)
 
+-- whether the page is in a frame
+abbrev pub SaysResident : WarmPage → ℕ → OpenNode → OpenNode → Type 0
+SaysResident page number old new =
+    IsBool number (IsResident (view_of old.node.pool) (page_of_c page)) × (new ≡ old)
+
 abbrev pub WritesBack : OpenNode → Ending → OpenNode → Type 0
 WritesBack old (Ok given) new = SameView old.node new.node × IsSettled new.node.pool
     × SameBeside old new
@@ -171,7 +179,7 @@ abbrev pub Receives : List ℕ → OpenNode → Ending → OpenNode → Type 0
 Receives bytes old (Ok given) new =
     (message : Message) × Encodes bytes message × SpeaksBy old.limit message
     × Goes old.node (Receive message) (Answers new.answers) new.node × (new.given ≡ 0)
-    × (new.limit ≡ old.limit)
+    × (new.limit ≡ old.limit) × (new.devices ≡ old.devices)
 Receives bytes old (Err (Node why)) new = (message : Message) × Encodes bytes message
     × SpeaksBy old.limit message × Replies (Receive message) old (Refused why) new
 Receives bytes old (Err (Late fault)) new = (message : Message) × Encodes bytes message

@@ -82,14 +82,15 @@ pub record MayOpen (a : OpenRequest) : Type 0 where
   pub devices : AreDevices a.page_size a.devices
   pub apart : DescriptorsDiffer a.devices
 
--- a node with an empty history, over a pool without a page; no answer waits, and no time is later
--- than the limit
+-- a node with an empty history, over a pool without a page; no answer waits, no time is later than
+-- the limit, and the devices are those of the request
 abbrev pub opened_handle : OpenRequest → OpenNode
 opened_handle a = record {
   node = opened_node a.replica (fresh_pool a.frames a.page_size (fd_devices a.page_size a.devices));
   answers = [];
   given = 0;
   limit = 2 ^ 64 - 1;
+  devices = a.devices;
 }
 
 -- why no devices are made: where both hold, `NoDevice`

@@ -1,7 +1,13 @@
 pub mod Calls
+pub mod Counters
+pub mod Counting
+pub mod Devices
+pub mod Engine
 pub mod FdParts
 pub mod Handles
+pub mod Lending
 pub mod Owning
+pub mod Since
 pub mod StatusNames
 pub mod Statuses
 pub mod Values

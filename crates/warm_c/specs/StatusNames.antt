@@ -1,6 +1,6 @@
 -- The names of statuses.
 use Rattle.std.specs.Prelude.{◌≡◌, ℕ, ℤ, pos, negsuc, List, [], ◌∷◌, codes, if◌then◌else◌, ◌==◌}
-use Rattle.warm_files.specs.declared.fault.DumpFault.TheVariants as dump
+use Rattle.warm_dump.specs.declared.fault.DumpFault.TheVariants as dump
 use Rattle.warm_frames.specs.declared.fault.FrameFault.TheVariants as frame
 use Rattle.warm_frames.specs.declared.limit.TimeFault.TheVariants as time
 use Rattle.warm_gossip.specs.declared.fault.NodeFault.TheVariants as node

@@ -4,9 +4,9 @@ use Rattle.warm_frames.specs.declared.fault.FrameFault.{FrameFault}
 use Rattle.warm_frames.specs.declared.fault.FrameFault.TheVariants as frame
 use Rattle.warm_frames.specs.declared.limit.TimeFault.{TimeFault}
 use Rattle.warm_frames.specs.Faults as frame_faults
-use Rattle.warm_files.specs.declared.fault.DumpFault.{DumpFault}
-use Rattle.warm_files.specs.declared.fault.DumpFault.TheVariants as dump
-use Rattle.warm_files.specs.Faults as dump_faults
+use Rattle.warm_dump.specs.declared.fault.DumpFault.{DumpFault}
+use Rattle.warm_dump.specs.declared.fault.DumpFault.TheVariants as dump
+use Rattle.warm_dump.specs.Faults as dump_faults
 use Rattle.warm_pool.specs.Faults as pool_faults
 use Rattle.warm_gossip.specs.Faults as node_faults
 use Rattle.warm_c.specs.declared.status.Refusal.{Refusal}

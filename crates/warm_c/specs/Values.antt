@@ -1,5 +1,5 @@
 -- What crosses to C, in the node's terms.
-use Rattle.std.specs.Prelude.{ℕ, ◌≡◌, Bool, true, false, List, [], ◌∷◌, ◌++◌, length, drop, Option}
+use Rattle.std.specs.Prelude.{ℕ, ◌≡◌, ◌↔◌, ◌≤◌, Bool, true, false, List, [], ◌∷◌, ◌++◌, length, drop, Option}
 use Rattle.std.specs.Prelude.{Some, None}
 use Rattle.warm_stamps.specs.declared.PageId.{PageId}
 use Rattle.warm_stamps.specs.declared.Reference.{Reference}
@@ -25,6 +25,10 @@ page_if false p = None
 abbrev pub IsOptionalPage : Option PageId → WarmPage → ℕ → WarmPage → Type 0
 IsOptionalPage None before found page = (found ≡ 0) × (page ≡ before)
 IsOptionalPage (Some p) before found page = (found ≡ 1) × (page ≡ c_page p)
+
+-- a bool of C that says whether this holds
+abbrev pub IsBool : ℕ → Type 0 → Type 0
+IsBool n holds = (n ≤ 1) × ((n ≡ 1) ↔ holds)
 
 -- a reference as the node knows it
 abbrev pub reference_of : WarmReference → Reference

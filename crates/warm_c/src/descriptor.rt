@@ -3,14 +3,16 @@
 //!
 //! In the library for C these two symbols are functions of c/fd_calls.c, which make the calls of
 //! the system at once, in the same thread. A request is nine bytes that are written to the
-//! descriptor: one for its kind (1 reads, 2 writes, 3 flushes, 4 asks which file it is of), eight
-//! for the offset in its file, highest byte first.
+//! descriptor: one for its kind (1 reads, 2 writes, 3 flushes, 4 asks which file it is of, 5 asks
+//! why a call failed), eight for the offset in its file, highest byte first.
 //!
 //! - The read that follows a 1 fills its buffer from that offset on, with zeros past the end of the
 //!   file.
 //! - The write that follows a 2 puts its bytes there.
 //! - A flush is done as it is asked for.
 //! - The read that follows a 4 returns the identity of the file, 16 bytes.
+//! - The read that follows a 5 returns the errno of the call that failed last in this thread, 4
+//!   bytes, highest byte first.
 ghost use Rattle.std.specs.Prelude.{◌≡◌};
 
 const READ: u8 = 1;
@@ -20,6 +22,8 @@ const WRITE: u8 = 2;
 const FLUSH: u8 = 3;
 
 const IDENTITY: u8 = 4;
+
+const FAILURE: u8 = 5;
 
 /// A file descriptor of the engine.
 #[derive(Clone, Copy)]
@@ -75,5 +79,15 @@ impl Descriptor {
     /// Syncs the file. False where that fails.
     pub fn flush(self) -> bool {
         ask(self.fd, FLUSH, 0)
+    }
+
+    /// Returns the errno of the call that failed last in this thread, of whatever descriptor: after
+    /// a call here that failed, its own, as long as no other was made. 0 where none has failed.
+    pub fn failure(self) -> i32 {
+        let mut errno = [0; 4];
+        if !ask(self.fd, FAILURE, 0) || io::read_full(self.fd, &mut errno) != errno.len() {
+            return 0;
+        }
+        i32::from_be_bytes(errno)
     }
 }

@@ -1,7 +1,7 @@
 //! The calls of an open handle that write its history to a file, or join one from a file.
 ghost use Rattle.std.specs.Prelude.{None, IfErr, OnOk};
 ghost use Rattle.std.specs.Io.KnownBytes.{Appends};
-ghost use Rattle.warm_files.specs.Dumps.{dump_of};
+ghost use Rattle.warm_dump.specs.Dumps.{dump_of};
 ghost use Rattle.warm_c.specs.Calls.{SaveRefused, Loads, Saves};
 
 use crate::descriptor::Descriptor;
@@ -10,7 +10,7 @@ use crate::open_node::OpenNode;
 use crate::status::Refusal;
 use std::alloc::Global;
 use std::io::{Read, Write};
-use warm_files::{read_dump, write_dump};
+use warm_dump::{read_dump, write_dump};
 use warm_history::laws::prove_is_history;
 
 impl OpenNode {

@@ -2,6 +2,7 @@
 //! can say.
 ghost use Rattle.std.specs.Prelude.{◌≡◌, ◌*◌, ◌^◌, ◌<◌, ◌≤◌, IfNone, IfSome, false};
 
+use crate::counters::WarmDeviceCounters;
 use crate::descriptor::Descriptor;
 use crate::device_file::DeviceFile;
 use warm_devices::{DeviceFault, PageDevice};
@@ -11,8 +12,8 @@ use warm_devices::{DeviceFault, PageDevice};
 ///
 /// Pages past the end of the file read as zeros, and a write of one extends the file. The
 /// descriptor is the engine's: it is not closed here. The device is safe whatever the descriptor is
-/// and the file contains, and it counts its failures. It claims nothing of the bytes. Once a flush
-/// has failed, each later one fails, as [`DeviceFile`] says.
+/// and the file contains, and it counts its calls and its failures. It claims nothing of the bytes.
+/// Once a flush has failed, each later one fails, as [`DeviceFile`] says.
 pub struct FdDevice {
     file: DeviceFile,
     pages: u64,
@@ -45,6 +46,30 @@ impl FdDevice {
             }),
             _ => None,
         }
+    }
+
+    /// Returns how many reads, writes and flushes were made, and how many of them failed. A flush
+    /// that is refused since one failed before is counted too.
+    pub fn counters(&self) -> WarmDeviceCounters
+        ensures reads { result.reads ≡ self.now.file.calls.reads }
+        ensures writes { result.writes ≡ self.now.file.calls.writes }
+        ensures flushes { result.flushes ≡ self.now.file.calls.flushes }
+        ensures failures { result.failures ≡ (fd_state self.now).failures }
+    {
+        let calls = self.file.calls();
+        WarmDeviceCounters {
+            reads: calls.reads,
+            writes: calls.writes,
+            flushes: calls.flushes,
+            failures: self.failures,
+        }
+    }
+
+    /// Returns the errno of the call that failed last; 0 where none has.
+    pub fn error(&self) -> i32
+        ensures { result ≡ self.now.file.error }
+    {
+        self.file.error()
     }
 }
 

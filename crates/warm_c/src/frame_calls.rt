@@ -3,10 +3,12 @@ ghost use Rattle.std.specs.Prelude.{◌≡◌, ◌<◌, ◌≤◌, length};
 ghost use Rattle.warm_gossip.specs.declared.call.Call.TheVariants.{Offer};
 ghost use Rattle.warm_c.specs.Calls.{GivesNext, Limits, PutsFrame, Receives, Sends};
 ghost use Rattle.warm_c.specs.Calls.{SendsFromBucket};
+ghost use Rattle.warm_c.specs.Since.{SendsSince, last_in, send_buffers};
 ghost use Rattle.warm_c.specs.Values.{with_start};
 
 use crate::open_node::OpenNode;
 use crate::status::Refusal;
+use crate::values::{WarmPage, c_bool};
 use std::alloc::Global;
 use warm_frames::{Message, check_times, decode, encode};
 use warm_stamps::{Bucket, PageId};
@@ -36,6 +38,18 @@ fn put_frame(
     }
     put_bytes(&bytes, frame);
     Ok(())
+}
+
+// Writes the page of the last entry of a message, where it has one.
+fn put_last(message: &Message, last: &mut WarmPage)
+    ensures { last.new ≡ last_in message.now last.old }
+{
+    let Message::Entries { entries, .. } = message else {
+        return;
+    };
+    if let Some(entry) = entries.as_slice().last() {
+        *last = WarmPage::of(entry.page);
+    }
 }
 
 impl OpenNode {
@@ -75,6 +89,42 @@ impl OpenNode {
         };
         let message = self.node.send(bucket, after)?;
         put_frame(alloc, &message, frame, len)
+    }
+
+    /// Calls [`warm_gossip::Node::send_since`] and writes the frame of its message, and its length,
+    /// whether more entries follow, and the page of the last one.
+    ///
+    /// # Errors
+    /// The buffer, `more` and `last` are unchanged.
+    /// - `BadBucket`: the bucket's number is not valid.
+    /// - `Node`, with `Memory`: an allocation failed.
+    /// - `BufferTooSmall`: the frame does not fit; its length is written.
+    pub fn send_since(
+        &mut self,
+        alloc: Global,
+        bucket: u8,
+        since: u64,
+        after: Option<PageId>,
+        frame: &mut [u8],
+        len: &mut usize,
+        more: &mut u8,
+        last: &mut WarmPage,
+    ) -> Result<(), Refusal>
+        ensures { SendsSince bucket since after
+            (send_buffers frame.old len.old more.old last.old)
+            (send_buffers frame.new len.new more.new last.new)
+            self.old result self.new }
+    {
+        let Some(bucket) = Bucket::new(bucket) else {
+            return Err(Refusal::BadBucket);
+        };
+        let sent = self.node.send_since(bucket, since, after)?;
+        if let Err(why) = put_frame(alloc, &sent.message, frame, len) {
+            return Err(why);
+        }
+        *more = c_bool(sent.more);
+        put_last(&sent.message, last);
+        Ok(())
     }
 
     /// Sets the latest time that a received frame may speak of.

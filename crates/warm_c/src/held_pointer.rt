@@ -8,12 +8,13 @@ ghost use Rattle.warm_c.specs.Owning.{pointer_owns};
 use crate::open_node::OpenNode;
 use crate::raw_box::RawBox;
 use std::alloc::Global;
-use std::marker::Model;
+use std::marker::{Model, Send};
 use std::ptr::null_mut;
 
 /// The pointer of a box, or null. To proofs it owns the box's value, which is `node`.
 ///
-/// Its drop forgets what it owns: [`HeldPointer::into_box`] takes a box out.
+/// Its drop forgets what it owns: [`HeldPointer::into_box`] takes a box out. It may go to another
+/// thread, since the box may.
 #[repr(C)]
 #[derive(Drop)]
 pub struct HeldPointer {
@@ -26,6 +27,8 @@ impl Model for HeldPointer {
     ghost also_owns = { λ p.
         pointer_owns (ghosts.dealloc_token p.alloc) node_row p.at p.node };
 }
+
+unsafe impl Send for HeldPointer {}
 
 impl HeldPointer {
     // The pointer of a box that was taken apart.

@@ -2,8 +2,8 @@
 //! include/warm.h.
 //!
 //! A handle holds a node over the caller's file descriptors, the answers to the frame that it
-//! received last, and a limit of the times in frames. All zeros is a closed handle. A function
-//! returns a status: 0, or the number of why it is refused.
+//! received last, a limit of the times in frames, and the devices that it was given. All zeros is a
+//! closed handle. A function returns a status: 0, or the number of why it is refused.
 //!
 //! Most functions, `warm_NAME`, make the node's call `Node::NAME`. The others are:
 //!
@@ -11,6 +11,10 @@
 //!   makes `Node::read_into`, and [`warm_horizon`] makes `Node::raise`.
 //! - [`warm_history_length`] counts the pages of the node's history, [`warm_save`] writes a dump of
 //!   it, and [`warm_load`] joins the history of a dump (`Node::join`).
+//! - [`warm_resident`], [`warm_lend`], [`warm_counts`], [`warm_device_counts`] and
+//!   [`warm_last_failure`] ask the node's pool, [`warm_lend_mut`] makes `Node::bytes_mut`,
+//!   [`warm_replace`] `Node::retire`, [`warm_flush`] `Node::flush_device`, and [`warm_forget`]
+//!   `Node::forget_pages`.
 //! - [`warm_limit`] and [`warm_next_answer`] are of the handle alone.
 //! - [`warm_open`] and [`warm_close`] create and drop the node, and [`warm_status_name`] takes no
 //!   handle. Each of the other functions returns 64 on a closed handle, and changes nothing.
@@ -20,31 +24,42 @@
 //!
 //! Nothing is undefined for any handle, slot or length, as long as the caller keeps what the header
 //! asks: a handle that was all zeros before its first call, and that only these functions change;
-//! one call at a time on one thread; and pointers to as much as their lengths say, which do not
-//! overlap.
+//! one call at a time, from any thread, since a handle may go from one to another
+//! ([`laws::handles_cross`]); and pointers to as much as their lengths say, which do not overlap.
 #![tactic(auto)]
 
 ghost use Rattle.std.specs.Fn.{FnOnceReturnsAtMut};
 ghost use Rattle.std.specs.Prelude.{◌≡◌, pos, [], ◌∷◌, ◌++◌, length, None, Some};
 ghost use Rattle.warm_gossip.specs.declared.call.Call.TheVariants.{Offer};
 ghost use Rattle.warm_c.specs.Calls.{Absorbs, CountsPages, GivesNext, Limits, Lists, Loads, Names};
-ghost use Rattle.warm_c.specs.Calls.{Pins, Raises, ReadsPage, Receives, Saves, Sends};
+ghost use Rattle.warm_c.specs.Calls.{Pins, Raises, ReadsPage, Receives, Saves, SaysResident, Sends};
 ghost use Rattle.warm_c.specs.Calls.{SendsFromBucket, StepsWarmUp, Unpins, Writes, WritesBack};
+ghost use Rattle.warm_c.specs.Counting.{CountsDevice, CountsPool, SaysFailure};
+ghost use Rattle.warm_c.specs.Devices.{Replaces};
+ghost use Rattle.warm_c.specs.Engine.{FlushesDevice, ForgetsPages, PinsZeroed, WritesSome};
 ghost use Rattle.warm_c.specs.Handles.{Called, Opens, Surely, open_request};
+ghost use Rattle.warm_c.specs.Lending.{Lends, LendsMut};
+ghost use Rattle.warm_c.specs.Since.{SendsSince, send_buffers};
 ghost use Rattle.warm_c.specs.StatusNames.{status_name};
 ghost use Rattle.warm_c.specs.Statuses.{code_of, status_of};
 ghost use Rattle.warm_c.specs.declared.status.Refusal.TheVariants.{Closed};
 ghost use Rattle.warm_c.specs.Values.{page_if, with_some};
 
+mod count_calls;
+pub mod counters;
 pub mod descriptor;
+mod device_calls;
 pub mod device_file;
 mod dump_calls;
 pub mod dump_file;
+mod engine_calls;
 pub mod fd_device;
 mod frame_calls;
 pub mod handle;
 pub mod held_pointer;
 mod history_calls;
+pub mod laws;
+mod lending;
 pub mod open_node;
 mod opening;
 mod pool_calls;
@@ -52,12 +67,15 @@ pub mod raw_box;
 pub mod status;
 pub mod values;
 
+use crate::counters::{WarmCounters, WarmDeviceCounters, WarmFailure};
 use crate::descriptor::Descriptor;
 use crate::handle::Handle;
 use crate::open_node::OpenNode;
 use crate::opening::open;
 use crate::status::{Refusal, name_of_status, put_text, status_of};
-use crate::values::{PinnedSlot, WarmDevice, WarmPage, WarmReference, WarmSlot, page_if, put_page};
+use crate::values::{
+    PinnedSlot, WarmDevice, WarmPage, WarmReference, WarmSlot, c_bool, page_if, put_page,
+};
 use std::alloc::Global;
 use warm_gossip::NodeFault;
 
@@ -189,6 +207,29 @@ pub extern "C" fn warm_pin(
     put_back(handle, node, done)
 }
 
+/// Pins a page as [`warm_pin`] does and fills it with zeros, without reading it.
+///
+/// # Errors
+/// 4 to 6, 8 and 9, in the order of [`warm_pool::Pool::pin_zeroed`]. The slot is unchanged, and of
+/// the node only counts of failures have changed.
+#[unsafe(no_mangle)]
+pub extern "C" fn warm_pin_zeroed(
+    alloc: Global,
+    handle: &mut Handle,
+    page: WarmPage,
+    slot: &mut PinnedSlot,
+) -> i32
+    ensures called { Called (PinsZeroed page slot.old slot.new) handle.old.held.node result
+        handle.new.held.node }
+    ensures closed { handle.old.held.node ≡ None → slot.new ≡ slot.old }
+{
+    let Some(mut node) = handle.take(alloc) else {
+        return closed();
+    };
+    let done = node.pin_zeroed(page, slot);
+    put_back(handle, node, done)
+}
+
 /// Removes a pin from the slot's page.
 ///
 /// # Errors
@@ -243,6 +284,70 @@ pub extern "C" fn warm_write(
         handle.new.held.node }
 {
     on_open(alloc, handle, |node| node.write(slot, at, bytes))
+}
+
+/// Writes the address of the bytes of the slot's page, to be read. Allocation-free.
+///
+/// # Errors
+/// 13: the slot does not hold its page. The pointer is unchanged.
+#[unsafe(no_mangle)]
+pub extern "C" fn warm_lend(
+    alloc: Global,
+    handle: &mut Handle,
+    slot: WarmSlot,
+    bytes: &mut *const u8,
+) -> i32
+    ensures called { Called (Lends slot bytes.old bytes.new) handle.old.held.node result
+        handle.new.held.node }
+    ensures closed { handle.old.held.node ≡ None → bytes.new ≡ bytes.old }
+{
+    let Some(node) = handle.take(alloc) else {
+        return closed();
+    };
+    let done = node.lend(slot, bytes);
+    put_back(handle, node, done)
+}
+
+/// Writes the address of the bytes of the slot's page, to be written to. The page becomes dirty.
+/// Allocation-free.
+///
+/// # Errors
+/// 13: the slot does not hold its page. The pointer is unchanged.
+#[unsafe(no_mangle)]
+pub extern "C" fn warm_lend_mut(
+    alloc: Global,
+    handle: &mut Handle,
+    slot: WarmSlot,
+    bytes: &mut *mut u8,
+) -> i32
+    ensures called { Called (LendsMut slot bytes.old bytes.new) handle.old.held.node result
+        handle.new.held.node }
+    ensures closed { handle.old.held.node ≡ None → bytes.new ≡ bytes.old }
+{
+    let Some(mut node) = handle.take(alloc) else {
+        return closed();
+    };
+    let done = node.lend_mut(slot, bytes);
+    put_back(handle, node, done)
+}
+
+/// Writes whether the page is in a frame, 1 or 0.
+#[unsafe(no_mangle)]
+pub extern "C" fn warm_resident(
+    alloc: Global,
+    handle: &mut Handle,
+    page: WarmPage,
+    resident: &mut u8,
+) -> i32
+    ensures called { Called (Surely (SaysResident page resident.new)) handle.old.held.node result
+        handle.new.held.node }
+    ensures closed { handle.old.held.node ≡ None → resident.new ≡ resident.old }
+{
+    let Some(node) = handle.take(alloc) else {
+        return closed();
+    };
+    *resident = c_bool(node.resident(page));
+    put_back(handle, node, Ok(()))
 }
 
 /// Writes whether there is a page that would be evicted next, 1 or 0, and which. Where there is
@@ -374,6 +479,45 @@ pub extern "C" fn warm_send(
     put_back(handle, node, done)
 }
 
+/// Writes the frame with the first 1000 entries of a bucket, of those whose latest stamp is not
+/// before the time `since`, and, where `has_after`, whose page is greater than `after`; its length;
+/// whether more of them follow, 1 or 0; and the page of the last one, after which to go on. `last` is
+/// unchanged where there is none.
+///
+/// # Errors
+/// The buffer, `more` and `last` are unchanged.
+/// - 68: the bucket's number is not valid.
+/// - 1: an allocation failed.
+/// - 66: the frame does not fit; its length is written.
+#[unsafe(no_mangle)]
+pub extern "C" fn warm_send_since(
+    alloc: Global,
+    handle: &mut Handle,
+    bucket: u8,
+    since: u64,
+    has_after: bool,
+    after: WarmPage,
+    frame: &mut [u8],
+    len: &mut usize,
+    more: &mut u8,
+    last: &mut WarmPage,
+) -> i32
+    ensures called { Called (SendsSince bucket since (page_if has_after after)
+        (send_buffers frame.old len.old more.old last.old)
+        (send_buffers frame.new len.new more.new last.new)) handle.old.held.node result
+        handle.new.held.node }
+    ensures closed { handle.old.held.node ≡ None
+        → send_buffers frame.new len.new more.new last.new
+        ≡ send_buffers frame.old len.old more.old last.old }
+{
+    let Some(mut node) = handle.take(alloc) else {
+        return closed();
+    };
+    let after = page_if(has_after, after);
+    let done = node.send_since(alloc, bucket, since, after, frame, len, more, last);
+    put_back(handle, node, done)
+}
+
 /// Sets the latest time that a received frame may speak of: [`warm_receive`] refuses a frame whose
 /// horizon or a stamp is later. Of a handle that was just opened it is 2^64 - 1, which refuses
 /// none.
@@ -456,6 +600,140 @@ pub extern "C" fn warm_write_back(alloc: Global, handle: &mut Handle) -> i32
     ensures { Called WritesBack handle.old.held.node result handle.new.held.node }
 {
     on_open(alloc, handle, |node| node.write_back())
+}
+
+/// Writes back at most `limit` dirty pages, and writes how many are dirty still. No device is
+/// flushed.
+///
+/// # Errors
+/// 12: a write failed. Of what a caller sees, only counts of failures have changed; `left` is
+/// unchanged.
+#[unsafe(no_mangle)]
+pub extern "C" fn warm_write_back_some(
+    alloc: Global,
+    handle: &mut Handle,
+    limit: usize,
+    left: &mut usize,
+) -> i32
+    ensures called { Called (WritesSome limit left.old left.new) handle.old.held.node result
+        handle.new.held.node }
+    ensures closed { handle.old.held.node ≡ None → left.new ≡ left.old }
+{
+    let Some(mut node) = handle.take(alloc) else {
+        return closed();
+    };
+    let done = node.write_back_some(limit, left);
+    put_back(handle, node, done)
+}
+
+/// Writes back the dirty pages of one device, and flushes it where it is unflushed.
+///
+/// # Errors
+/// In this order. Of what a caller sees, only counts of failures have changed.
+/// - 4: there is no device of this number.
+/// - 12: a write or the flush failed.
+#[unsafe(no_mangle)]
+pub extern "C" fn warm_flush(alloc: Global, handle: &mut Handle, dev: u16) -> i32
+    ensures { Called (FlushesDevice dev) handle.old.held.node result handle.new.held.node }
+{
+    on_open(alloc, handle, |node| node.flush(dev))
+}
+
+/// Evicts the pages of a device with the number `from` and above without writing them.
+///
+/// # Errors
+/// In this order; nothing has changed.
+/// - 4: there is no device of this number.
+/// - 11: one of the pages is pinned.
+#[unsafe(no_mangle)]
+pub extern "C" fn warm_forget(alloc: Global, handle: &mut Handle, dev: u16, from: u64) -> i32
+    ensures { Called (ForgetsPages dev from) handle.old.held.node result handle.new.held.node }
+{
+    on_open(alloc, handle, |node| node.forget(dev, from))
+}
+
+/// Replaces a device with one over another descriptor: the pages of the old one are written back,
+/// it is flushed, and its pages are evicted. The history is kept.
+///
+/// # Errors
+/// In this order, and 1 where an allocation failed before 11. The devices are unchanged.
+/// - 4: there is no device of this number, or the pages of the new one exceed 2^63 - 1 bytes.
+/// - 69: two devices would be of one file.
+/// - 11: a page of the old device is pinned.
+/// - 12: a write or the flush of the old device failed.
+#[unsafe(no_mangle)]
+pub extern "C" fn warm_replace(
+    alloc: Global,
+    handle: &mut Handle,
+    dev: u16,
+    device: &WarmDevice,
+) -> i32
+    ensures { Called (Replaces dev device.now) handle.old.held.node result
+        handle.new.held.node }
+{
+    on_open(alloc, handle, |node| node.replace(alloc, dev, device))
+}
+
+/// Writes what the pool has counted since the handle was opened, and how many pages are resident
+/// and dirty.
+#[unsafe(no_mangle)]
+pub extern "C" fn warm_counts(
+    alloc: Global,
+    handle: &mut Handle,
+    counters: &mut WarmCounters,
+) -> i32
+    ensures called { Called (Surely (CountsPool counters.new)) handle.old.held.node result
+        handle.new.held.node }
+    ensures closed { handle.old.held.node ≡ None → counters.new ≡ counters.old }
+{
+    let Some(node) = handle.take(alloc) else {
+        return closed();
+    };
+    *counters = node.counts();
+    put_back(handle, node, Ok(()))
+}
+
+/// Writes what a device has counted since it was made.
+///
+/// # Errors
+/// 4: there is no device of this number. `counters` is unchanged.
+#[unsafe(no_mangle)]
+pub extern "C" fn warm_device_counts(
+    alloc: Global,
+    handle: &mut Handle,
+    dev: u16,
+    counters: &mut WarmDeviceCounters,
+) -> i32
+    ensures called { Called (CountsDevice dev counters.old counters.new) handle.old.held.node result
+        handle.new.held.node }
+    ensures closed { handle.old.held.node ≡ None → counters.new ≡ counters.old }
+{
+    let Some(node) = handle.take(alloc) else {
+        return closed();
+    };
+    let done = node.device_counts(dev, counters);
+    put_back(handle, node, done)
+}
+
+/// Writes whether a call of a device has failed, 1 or 0, and which did last; where none has,
+/// `failure` is unchanged.
+#[unsafe(no_mangle)]
+pub extern "C" fn warm_last_failure(
+    alloc: Global,
+    handle: &mut Handle,
+    found: &mut u8,
+    failure: &mut WarmFailure,
+) -> i32
+    ensures called { Called (Surely (SaysFailure failure.old found.new failure.new))
+        handle.old.held.node result handle.new.held.node }
+    ensures closed { handle.old.held.node ≡ None
+        → (found.new ≡ found.old) × (failure.new ≡ failure.old) }
+{
+    let Some(node) = handle.take(alloc) else {
+        return closed();
+    };
+    node.last_failure(found, failure);
+    put_back(handle, node, Ok(()))
 }
 
 /// Writes how many pages the history knows.

@@ -1,10 +1,12 @@
 //! The node that an open handle holds, and what it keeps beside it.
 use crate::fd_device::FdDevice;
+use crate::values::WarmDevice;
 use warm_frames::MessageList;
 use warm_gossip::Node;
+use warm_stamps::Items;
 
-/// A node over the engine's descriptors, the answers to the frame that it received last, and the
-/// limit of the times that frames speak of.
+/// A node over the engine's descriptors, the answers to the frame that it received last, the limit
+/// of the times that frames speak of, and the devices.
 #[derive(Drop)]
 pub struct OpenNode {
     /// The node.
@@ -15,4 +17,6 @@ pub struct OpenNode {
     pub given: usize,
     /// The latest time that a received frame may speak of.
     pub limit: u64,
+    /// The devices over which the node is, as C gave them.
+    pub devices: Items<WarmDevice>,
 }

@@ -1,6 +1,7 @@
 //! Creating the node that an open handle holds.
 ghost use Rattle.std.specs.Bool.{Decides};
-ghost use Rattle.std.specs.Prelude.{◌≡◌, ◌≤◌, length, map, IfErr, IfOk, OnOk};
+ghost use Rattle.std.specs.Prelude.{◌≡◌, ◌<◌, ◌≤◌, length, map, set, IfErr, IfOk};
+ghost use Rattle.std.specs.Prelude.{OnOk};
 ghost use Rattle.warm_c.specs.FdParts.{fd_state};
 ghost use Rattle.warm_c.specs.Handles.{AllDiffer, AreDevices, DescriptorsDiffer, MayOpen, IsClash};
 ghost use Rattle.warm_c.specs.Handles.{DevicesRefused, OpenRefused, open_request, fd_devices};
@@ -17,7 +18,7 @@ use std::iter::FromIterator;
 use warm_frames::MessageList;
 use warm_gossip::{Node, NodeFault};
 use warm_pool::{MAX_DEVICES, Pool, PoolFault};
-use warm_stamps::ReplicaId;
+use warm_stamps::{Items, ReplicaId};
 
 // Whether no two of these descriptors are equal.
 fn descriptors_differ(alloc: Global, fds: Vec<i32>) -> Result<bool, AllocError>
@@ -61,8 +62,35 @@ fn files_of(alloc: Global, devices: &[WarmDevice]) -> Result<Vec<u128>, AllocErr
     Ok(files)
 }
 
-// Checks that no two devices have one descriptor, nor one file by what the system says.
-fn check_apart(alloc: Global, devices: &[WarmDevice]) -> Result<(), Refusal>
+// Copies these devices.
+fn copy_of(alloc: Global, devices: &[WarmDevice]) -> Result<Vec<WarmDevice>, AllocError>
+    ensures { IfOk result (λ copy. copy.items ≡ devices.now) }
+{
+    let mut copy = Vec::with_capacity(alloc, devices.len())?;
+    copy.extend_from_slice(devices)?;
+    Ok(copy)
+}
+
+/// Copies these devices, with another in the place of one of them.
+pub fn devices_with(
+    alloc: Global,
+    devices: &[WarmDevice],
+    at: usize,
+    device: WarmDevice,
+) -> Result<Vec<WarmDevice>, AllocError>
+    requires { at < length devices.now }
+    ensures { IfOk result (λ made. made.items ≡ set devices.now at device) }
+{
+    let mut made = copy_of(alloc, devices)?;
+    made[at] = device;
+    Ok(made)
+}
+
+/// Checks that no two devices have one descriptor, nor one file by what the system says.
+///
+/// # Errors
+/// `Node`, with `Memory`; `SameFile`.
+pub fn check_apart(alloc: Global, devices: &[WarmDevice]) -> Result<(), Refusal>
     ensures apart { OnOk result (DescriptorsDiffer devices.now) }
     ensures refused { IfErr result (IsClash devices.now) }
 {
@@ -131,13 +159,15 @@ pub fn open(
     let Ok(replica) = ReplicaId::new(replica) else {
         return Err(Refusal::BadReplica);
     };
-    let devices = devices_of(alloc, page_size, devices)?;
-    match Pool::new(alloc, frames, page_size, devices) {
+    let made = devices_of(alloc, page_size, devices)?;
+    let copy = copy_of(alloc, devices)?;
+    match Pool::new(alloc, frames, page_size, made) {
         Ok(pool) => Ok(OpenNode {
             node: Node::new(alloc, replica, pool),
             answers: MessageList::of(Vec::new(alloc)),
             given: 0,
             limit: u64::MAX,
+            devices: Items::of(copy),
         }),
         Err(error) => Err(Refusal::NewPool(error.fault)),
     }

@@ -1,9 +1,11 @@
 //! The calls on the pool of an open handle.
-ghost use Rattle.std.specs.Prelude.{IfErr, IfOk};
+ghost use Rattle.std.specs.Prelude.{◌↔◌, IfErr, IfOk, IsTrue};
+ghost use Rattle.warm_pool.specs.View.{view_of, IsResident};
 ghost use Rattle.warm_gossip.specs.declared.call.Call.TheVariants.{Victim, WarmStep};
 ghost use Rattle.warm_gossip.specs.declared.call.Reply.TheVariants.{Loaded, Page};
 ghost use Rattle.warm_c.specs.Calls.{Pins, ReadsPage, RefusedByNode, Replies, Unpins, Writes};
 ghost use Rattle.warm_c.specs.Calls.{WritesBack};
+ghost use Rattle.warm_c.specs.Values.{page_of_c};
 
 use crate::open_node::OpenNode;
 use crate::status::Refusal;
@@ -61,6 +63,13 @@ impl OpenNode {
         ensures { Replies Victim self.old (Page result) self.new }
     {
         self.node.victim()
+    }
+
+    /// Whether the page is in a frame of the pool.
+    pub fn resident(&self, page: WarmPage) -> bool
+        ensures { IsTrue result ↔ IsResident (view_of self.now.node.pool) (page_of_c page) }
+    {
+        self.node.pool().resident(page.page())
     }
 
     /// Calls [`warm_gossip::Node::warm_step`], and returns the page that was loaded, if one was.

@@ -6,7 +6,7 @@ ghost use Rattle.warm_c.specs.StatusNames.{name_in, status_name, NamesRefusals};
 ghost use Rattle.warm_c.specs.Values.{with_some};
 
 use std::alloc::AllocError;
-use warm_files::DumpFault;
+use warm_dump::DumpFault;
 use warm_frames::{FrameFault, TimeFault};
 use warm_gossip::NodeFault;
 use warm_pool::{NewPoolFault, PoolFault};

@@ -1,7 +1,7 @@
 //! What crosses to C, beside numbers, bytes and a handle.
-ghost use Rattle.std.specs.Prelude.{◌≡◌};
+ghost use Rattle.std.specs.Prelude.{◌≡◌, IsTrue};
 ghost use Rattle.warm_c.specs.Values.{c_page, c_slot, page_if, page_of_c, slot_of_c};
-ghost use Rattle.warm_c.specs.Values.{IsOptionalPage};
+ghost use Rattle.warm_c.specs.Values.{IsBool, IsOptionalPage};
 
 use warm_pool::Slot;
 use warm_stamps::PageId;
@@ -119,11 +119,18 @@ pub fn page_if(is_there: bool, page: WarmPage) -> Option<PageId>
     if is_there { Some(page.page()) } else { None }
 }
 
+/// Returns a bool of C.
+///
+/// It is a number here, and not a `bool`, where a call writes it: what a caller of C never wrote may
+/// be none, and is none of what this reads.
+pub fn c_bool(holds: bool) -> u8
+    ensures { IsBool result (IsTrue holds) }
+{
+    if holds { 1 } else { 0 }
+}
+
 /// Writes whether there is a page, as a bool of C, and which; `page` is unchanged where there is
 /// none.
-///
-/// `found` is a number here, and not a `bool`: what a caller of C never wrote may be none, and is
-/// none of what this reads.
 pub fn put_page(given: Option<PageId>, found: &mut u8, page: &mut WarmPage)
     ensures { IsOptionalPage given page.old found.new page.new }
 {

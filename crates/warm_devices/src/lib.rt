@@ -7,21 +7,28 @@
 //! failures increased by one in that call; a count of `u64::MAX` stays and counts as increased.
 //!
 //! A device declares whether it is *honest* (its reads return the bytes last written) and whether
-//! it is *unfailing* (its calls never fail). [`MemDevice`] is both, [`Flaky`] is honest where its
-//! inner device is, and [`FileDevice`] claims neither, since no proof can say what a file holds.
+//! it is *unfailing* (its calls never fail). [`MemDevice`] is both, [`Flaky`] and [`Logged`] are
+//! honest where the device within is, [`Counted`] is what the device within is, and [`FileDevice`]
+//! claims neither, since no proof can say what a file holds.
 #![tactic(auto)]
 
 mod boxed;
+mod counted;
 mod device;
 mod fault;
 mod file;
 mod flaky;
+mod log;
+mod logged;
 mod memory;
 
+pub use counted::{Counted, DeviceCounts};
 pub use device::{PageDevice, let_go};
 pub use fault::{DeviceFault, OpenFault};
 pub use file::FileDevice;
 pub use flaky::Flaky;
+pub use log::{NotYet, PageLog};
+pub use logged::Logged;
 pub use memory::MemDevice;
 
 /// The maximum size of a page of a pool, and of a page that a failed write fills, in bytes.

@@ -3,6 +3,7 @@ use Rattle.std.specs.Prelude.{◌≡◌, ℕ, List, length, Some, Result, Ok, Er
 use Rattle.warm_history.specs.declared.hist.Entry.{Entry}
 use Rattle.warm_history.specs.Histories.{HistoryView, history_of_entries_at, join}
 use Rattle.warm_stamps.specs.declared.PageId.{PageId}
+use Rattle.warm_pool.specs.declared.fault.PoolFault.{PoolFault}
 use Rattle.warm_pool.specs.declared.fault.PoolFault.TheVariants.{Fault}
 use Rattle.warm_pool.specs.Keeping.{KeepsBytes, KeepsFrames}
 use Rattle.warm_pool.specs.PageBytes.{MakesDirty}
@@ -56,6 +57,11 @@ Joins old other new = node_view new ≡ record (node_view old) { history = join 
 abbrev pub NodeWriteBackFails : NodeState → NodeFault → NodeState → Type 0
 NodeWriteBackFails old why new = (why ≡ Pool Fault)
     × OnPool IsFailed (node_view old) (node_view new)
+
+-- a refusal of the pool, of whose fault this holds
+abbrev pub OfPool : (PoolFault → Type 0) → NodeFault → Type 0
+OfPool holds (Pool fault) = holds fault
+OfPool holds why = ⊥
 
 -- the pool after a refused pin: frames are unchanged, and devices are as after a refused pin of the
 -- pool

@@ -1,6 +1,7 @@
 pub mod Faults
 pub mod State
 pub mod Answers
+pub mod Since
 pub mod Chunks
 pub mod Round
 pub mod Step
@@ -8,5 +9,6 @@ pub mod WarmingUp
 pub mod Batches
 pub mod Given
 pub mod Clauses
+pub mod Lending
 pub mod Victims
 pub mod WarmUps

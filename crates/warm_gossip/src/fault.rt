@@ -12,8 +12,8 @@ pub enum NodeFault {
     /// 1: an allocation failed.
     #[error("Memory")]
     Memory,
-    /// 4 to 12: why its pool refuses. A node retires no device, so `SizeDiffers`, 3, is not among
-    /// these.
+    /// 4 to 12: why its pool refuses. `SizeDiffers`, 3, is not among these: a device that is not
+    /// retired comes back in an error of the pool's own.
     #[error(transparent)]
     Pool(PoolFault),
     /// 13: the slot does not hold its page.

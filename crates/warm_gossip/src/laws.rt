@@ -1,5 +1,5 @@
 //! Laws of nodes: the chunks in which a bucket is answered, a round of gossip, victims, warming up,
-//! batches of references, and the references that a list of calls gave a node.
+//! lent bytes, batches of references, and the references that a list of calls gave a node.
 //!
 //! Each function changes nothing. Its contract is a theorem, which the crates above cite and a
 //! reader can look up: the files of `specs/` that the clauses name state it in full. Most are about
@@ -10,6 +10,7 @@ ghost use Rattle.warm_frames.specs.Entries.{IsEntry, IsHist};
 ghost use Rattle.warm_digest.specs.Exchange.{Fits};
 ghost use Rattle.warm_gossip.specs.Batches.{BatchesAreTaken};
 ghost use Rattle.warm_gossip.specs.Chunks.{ChunksInTurn};
+ghost use Rattle.warm_gossip.specs.Lending.{LentBytesAreWritten};
 ghost use Rattle.warm_gossip.specs.Round.{EntriesBringAll, GossipRoundEnds, HistoryRoundJoins};
 ghost use Rattle.warm_gossip.specs.Round.{NodesJoin, OwnDigestsUnanswered};
 ghost use Rattle.warm_gossip.specs.State.{node_view};
@@ -81,6 +82,12 @@ pub fn warm_step_keeps_hottest()
 /// evicted for another.
 pub fn warm_up_loads()
     ensures { NodeWarmUpLoads }
+{}
+
+/// What is left in the bytes of a page that [`Node::bytes_mut`] lent is as after the call `Write`
+/// of these bytes, from the start of the page on. The page is dirty.
+pub fn lent_bytes_are_written()
+    ensures { LentBytesAreWritten }
 {}
 
 /// Each state that a legal list of calls reaches has the history of the references that the node

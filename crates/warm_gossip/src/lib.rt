@@ -16,21 +16,29 @@
 //! Each call is also a method of its own, as [`Node::pin`], which gives its result or the
 //! [`NodeFault`]. [`Node::call`] is for callers that store, send or replay calls as values.
 //!
+//! A program that holds a node, as a database engine does, has more than the calls: it is lent the
+//! bytes of pages ([`Node::bytes_mut`]), pins pages with zeros, writes dirty pages back a few at a
+//! time, and has pages forgotten when it cuts a file ([`Node::forget_pages`]).
+//!
 //! Contracts see a node as the plain data of `specs/State.antt`; `specs/Step.antt` defines the
 //! effect of each call on what a caller sees of it, and the refusals.
 #![tactic(auto)]
 
 mod answers;
 mod call;
+mod engine_calls;
 mod fault;
 mod history_calls;
 pub mod laws;
+mod lending;
 mod machine;
 mod node;
 mod pool_calls;
+mod since;
 mod warm_step;
 
 pub use call::{Call, Reply};
 pub use fault::NodeFault;
 pub use machine::ViewOfNode;
 pub use node::Node;
+pub use since::SentPortion;

@@ -1,6 +1,9 @@
 //! The calls on a node's pool.
 ghost use Rattle.std.specs.Prelude.{◌≡◌, length, IfErr, OnErr, OnOk};
+ghost use Rattle.warm_pool.specs.Keeping.{KeepsRanks};
+ghost use Rattle.warm_pool.specs.Retiring.{KeepsElsewhere, RetireRefused, Retired};
 ghost use Rattle.warm_pool.specs.State.{IsSettled};
+ghost use Rattle.warm_pool.specs.View.{view_of};
 ghost use Rattle.warm_gossip.specs.declared.call.Call.TheVariants.{Pin, Unpin, Read, Write, Victim};
 ghost use Rattle.warm_gossip.specs.declared.call.Call.TheVariants.{Restart};
 ghost use Rattle.warm_gossip.specs.declared.call.Reply.TheVariants.{Pinned, Bytes, Page};
@@ -11,7 +14,7 @@ use crate::fault::NodeFault;
 use crate::node::Node;
 use crate::warm_step::{WarmUp, passed_at_pin};
 use warm_devices::PageDevice;
-use warm_pool::{PoolFault, Slot};
+use warm_pool::{PoolFault, RetireError, Slot};
 use warm_stamps::{ByteList, PageId};
 
 impl<D: PageDevice> Node<D> {
@@ -139,6 +142,32 @@ impl<D: PageDevice> Node<D> {
         ensures refused { IfErr result (λ why. NodeWriteBackFails self.old why self.new) }
     {
         self.pool.write_back_all()?;
+        Ok(())
+    }
+
+    /// Replaces a device with another, as [`warm_pool::Pool::retire`] does: its dirty pages are
+    /// written back, it is flushed, its pages are evicted, and it is dropped. The history is kept,
+    /// with its horizon: pages of the new device that it knows are ranked by it, and warmed up.
+    ///
+    /// The next warm-up step begins with the hottest page again.
+    ///
+    /// # Errors
+    /// Those of [`warm_pool::Pool::retire`], in its order. Each gives the new device back, and
+    /// leaves pages, pin counts and contents unchanged.
+    pub fn retire(&mut self, dev: u16, device: D) -> Result<(), RetireError<D>>
+        ensures id { self.new.id ≡ self.old.id }
+        ensures history { self.new.history ≡ self.old.history }
+        ensures retired { OnOk result (Retired (view_of self.old.pool) dev
+            (D.state device) (view_of self.new.pool)) }
+        ensures refused { IfErr result (λ unretired. RetireRefused
+            (view_of self.old.pool) dev (D.state device) unretired.fault
+            (view_of self.new.pool)) }
+        ensures given_back { IfErr result (λ unretired. unretired.device ≡ device) }
+        ensures elsewhere { KeepsElsewhere dev self.old.pool self.new.pool }
+        ensures ranked { KeepsRanks self.old.pool self.new.pool }
+    {
+        self.pool.retire(dev, device)?;
+        self.warm_up.passed = 0;
         Ok(())
     }
 }

@@ -1,5 +1,5 @@
 -- What is taken of a history for a bucket is the history of what is carried.
-use Rattle.std.proofs.Common.{◌≡◌, ℕ, Bool, true, false, List, [], ◌∷◌, take, filter, sym, ap, refl, ◌∙◌, Option}
+use Rattle.std.proofs.Common.{◌≡◌, ℕ, Bool, true, false, List, [], ◌∷◌, take, filter, sym, ap, refl, subst, ◌∙◌, Option}
 use Rattle.std.specs.List.{list_any}
 use Rattle.std.specs.Ordering.{is_eq}
 use Rattle.warm_stamps.specs.declared.PageId.{PageId}
@@ -7,9 +7,10 @@ use Rattle.warm_stamps.specs.declared.Reference.{Reference}
 use Rattle.warm_stamps.specs.Stamps.{page_cmp}
 use Rattle.warm_history.specs.ReferenceSets.{ReferenceSet, is_kept, references_from, references, filter_references}
 use Rattle.warm_history.specs.ListHistories.{list_history}
-use Rattle.warm_history.specs.Histories.{entries_of, history}
+use Rattle.warm_history.specs.declared.hist.Entry.{Entry}
+use Rattle.warm_history.specs.Histories.{entries_of, history, history_of_entries, IsHistory}
 use Rattle.warm_history.specs.Carried.{is_next_in_bucket, pages_carried, carried}
-use Rattle.warm_history.proofs.HistoryLemmas.{entries-history}
+use Rattle.warm_history.proofs.HistoryLemmas.{entries-history, IsHistory-history, never_older}
 use Rattle.warm_history.proofs.ListCarriedLemmas as of_list
 
 kept-those : (test : Reference → Bool) (m : ℕ) (rs : List Reference)
@@ -41,3 +42,10 @@ history-carried S bucket after limit =
     ∙ of_list.history-carried (references S) bucket after limit
     ∙ ap list_history (sym (kept-those test S.horizon S.given))
     ∙ sym (entries-history (carried S bucket after limit))
+
+-- the entries of a history are a history without its horizon too
+pub history_alone : (es : List Entry) (S : ReferenceSet) → es ≡ entries_of (history S)
+    → IsHistory (history_of_entries es)
+history_alone es S is =
+    let whole = IsHistory-history S in
+    subst (λ fs. IsHistory (history_of_entries fs)) (sym is) (record { pages_ascend = whole.pages_ascend; stamps_descend = whole.stamps_descend; none_older = never_older (entries_of (history S)) })

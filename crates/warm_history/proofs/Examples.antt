@@ -11,6 +11,7 @@ use Rattle.warm_history.specs.Carried.{carried}
 use Rattle.warm_history.specs.Walks.{merged}
 use Rattle.warm_history.specs.Changes.{ChangesIn, SameInBucket}
 use Rattle.warm_history.specs.Losses.{KeepsIn, bucket_at_horizon}
+use Rattle.warm_history.specs.Since.{carried_since, entries_since}
 
 abbrev pub page : ℕ → ℕ → PageId
 page dev n = record { dev = dev; no = n }
@@ -115,6 +116,33 @@ after_the_last = refl
 another_bucket : history (carried one_bucket 2 None 2) ≡ history_of_entries []
 unfolding history one_bucket
 another_bucket = refl
+
+-- ---- what a bucket has since a time: the latest stamps of its pages 1, 65 and 129 are at 9, 4, 12
+
+sent_before : ReferenceSet
+sent_before = set_of_list (seen 1 9 1 ∷ seen 1 2 1 ∷ seen 65 4 1 ∷ seen 129 12 1 ∷ seen 2 20 1 ∷ [])
+
+-- an entry has its older stamp too
+since_a_time : history (carried_since sent_before 1 5 None 3)
+    ≡ history_of_entries (twice 1 (at 9 1) (at 2 1) ∷ once 129 (at 12 1) ∷ [])
+unfolding history sent_before
+since_a_time = refl
+
+-- one by one: the second portion begins after the page of the first
+first_portion : history (carried_since sent_before 1 5 None 1)
+    ≡ history_of_entries (twice 1 (at 9 1) (at 2 1) ∷ [])
+unfolding history sent_before
+first_portion = refl
+
+second_portion : history (carried_since sent_before 1 5 (Some (page 0 1)) 1)
+    ≡ history_of_entries (once 129 (at 12 1) ∷ [])
+unfolding history sent_before
+second_portion = refl
+
+-- a stamp at the time itself is not before it, and entries of other buckets are left out
+at_the_time : entries_since 1 4 None (once 1 (at 3 1) ∷ once 2 (at 5 1) ∷ once 65 (at 4 1) ∷ [])
+    ≡ once 65 (at 4 1) ∷ []
+at_the_time = refl
 
 -- ---- horizons
 

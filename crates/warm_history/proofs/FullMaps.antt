@@ -99,30 +99,30 @@ abbrev pub all_with : List BucketMap → ℕ → BucketMap → MapPairs
 all_with ms i n = all_pairs (fulls 0 (slice_set ms i n))
 
 -- what the map of the page's bucket records, all maps record
-pub recorded : {E : Type 0} (r : Result (Option UndoNote) E) (i p : ℕ) (page : PageId)
-    (more : PageHist) (d n : BucketMap) (ms : List BucketMap) (old : MapPairs) → AreMapsOf 0 ms
+pub recorded : {A E : Type 0} (r : Result A E) (note : A → Option UndoNote) (i p : ℕ)
+    (page : PageId) (more : PageHist) (d n : BucketMap) (ms : List BucketMap) (old : MapPairs) → AreMapsOf 0 ms
     → i < length ms → LiesIn i p → all_pairs (fulls 0 ms) ≡ old
-    → IfOk r (λ note. RecordsStamps (full i (get_or ms i d)) page p more note (full i n))
-    → IfOk r (λ note. RecordsStamps old page p more note (all_with ms i n))
-recorded (Ok change) i p page more d n ms old are there lies view records =
+    → IfOk r (λ change. RecordsStamps (full i (get_or ms i d)) page p more (note change) (full i n))
+    → IfOk r (λ change. RecordsStamps old page p more (note change) (all_with ms i n))
+recorded (Ok change) note i p page more d n ms old are there lies view records =
     let few : i < length (fulls 0 ms) = subst (λ k. i < k) (sym (length_fulls 0 ms)) there in
-    let own : RecordsStamps (map_at (fulls 0 ms) i) page p more change (full i n) = subst (λ k. RecordsStamps k page p more change (full i n)) (sym (map_at_fulls i d ms there)) records in
-    subst (λ k. RecordsStamps k page p more change (all_with ms i n)) view
-    (subst (λ fs. RecordsStamps (all_pairs (fulls 0 ms)) page p more change (all_pairs fs)) (sym (fulls_set i n ms))
-    (records_joined 0 i page p more change (fulls 0 ms) (full i n) (buckets_of 0 ms are) (lies_at i p lies) few own))
-recorded (Err e) i p page more d n ms old are there lies view records = tt
+    let own : RecordsStamps (map_at (fulls 0 ms) i) page p more (note change) (full i n) = subst (λ k. RecordsStamps k page p more (note change) (full i n)) (sym (map_at_fulls i d ms there)) records in
+    subst (λ k. RecordsStamps k page p more (note change) (all_with ms i n)) view
+    (subst (λ fs. RecordsStamps (all_pairs (fulls 0 ms)) page p more (note change) (all_pairs fs)) (sym (fulls_set i n ms))
+    (records_joined 0 i page p more (note change) (fulls 0 ms) (full i n) (buckets_of 0 ms are) (lies_at i p lies) few own))
+recorded (Err e) note i p page more d n ms old are there lies view records = tt
 
 -- the same, of the bucket that the page is in
-pub recorded_in_bucket : {E : Type 0} (r : Result (Option UndoNote) E) (i : ℕ) (page : PageId)
-    (more : PageHist) (d n : BucketMap) (ms : List BucketMap) (old : MapPairs) → page.dev < 65536
+pub recorded_in_bucket : {A E : Type 0} (r : Result A E) (note : A → Option UndoNote) (i : ℕ)
+    (page : PageId) (more : PageHist) (d n : BucketMap) (ms : List BucketMap) (old : MapPairs) → page.dev < 65536
     → page.no < 18446744073709551616 → AreMapsOf 0 ms → length ms ≡ 64 → i < 64
     → i ≡ page_bucket page → all_pairs (fulls 0 ms) ≡ old
-    → IfOk r (λ note. RecordsStamps (full (page_bucket page) (get_or ms i d)) page (key_of_page page) more note (full (page_bucket page) n))
-    → IfOk r (λ note. RecordsStamps old page (key_of_page page) more note (all_with ms i n))
-recorded_in_bucket r i page more d n ms old low fits are long below own view records =
-    recorded r i (key_of_page page) page more d n ms old are (subst (λ k. i < k) (sym long) below)
+    → IfOk r (λ change. RecordsStamps (full (page_bucket page) (get_or ms i d)) page (key_of_page page) more (note change) (full (page_bucket page) n))
+    → IfOk r (λ change. RecordsStamps old page (key_of_page page) more (note change) (all_with ms i n))
+recorded_in_bucket r note i page more d n ms old low fits are long below own view records =
+    recorded r note i (key_of_page page) page more d n ms old are (subst (λ k. i < k) (sym long) below)
     (subst (λ b. LiesIn b (key_of_page page)) (sym own) (own_bucket_of page low fits)) view
-    (subst (λ b. IfOk r (λ note. RecordsStamps (full b (get_or ms i d)) page (key_of_page page) more note (full b n))) (sym own) records)
+    (subst (λ b. IfOk r (λ change. RecordsStamps (full b (get_or ms i d)) page (key_of_page page) more (note change) (full b n))) (sym own) records)
 
 pub unchanged : {A E : Type 0} (r : Result A E) (i : ℕ) (d n : BucketMap) (ms : List BucketMap)
     (old : MapPairs) → i < length ms → all_pairs (fulls 0 ms) ≡ old

@@ -121,7 +121,7 @@ distinct-filter cmp order test xs = distinct_is cmp order (filter test xs) (filt
 -- ---- the two latest of them
 
 -- with a stamp all older ones are forgotten
-older_forgotten : (m : ℕ) (a b : Stamp) → stamp_cmp b a ≡ Less → is_kept m a ≡ false
+pub older_forgotten : (m : ℕ) (a b : Stamp) → stamp_cmp b a ≡ Less → is_kept m a ≡ false
     → is_kept m b ≡ false
 older_forgotten m a b less old = by_cases (nat_cmp b.time a.time) _
     (λ lt. grind (arith, nat_tests))

@@ -1,5 +1,6 @@
 pub mod Examples
 pub mod CarriedLemmas
+pub mod SinceLemmas
 pub mod Lists
 pub mod ListHistoryLemmas
 pub mod ListJoinLemmas
@@ -35,6 +36,7 @@ pub mod MergedBuckets
 pub mod BucketParts
 pub mod MergeIterLemmas
 pub mod SetLemmas
+pub mod SinceLaws
 pub mod PackedLemmas
 pub mod NearKeys
 pub mod WithKeys

@@ -17,7 +17,7 @@ use Rattle.warm_history.proofs.ListHistoryLemmas.{named, entries, get_entries, r
 
 -- ---- entries of chosen pages
 
-filter-entries : (f : PageId → Option PageHist) (test : PageId → Bool) (ps : List PageId)
+pub filter-entries : (f : PageId → Option PageHist) (test : PageId → Bool) (ps : List PageId)
     → filter (λ e. test e.page) (entries f ps) ≡ entries f (filter test ps)
 filter-entries f test [] = refl
 filter-entries f test (q ∷ qs) = cases (f q) (test q) refl (filter-entries f test qs) ∙ sym (apart (test q))
@@ -39,7 +39,7 @@ filter-entries f test (q ∷ qs) = cases (f q) (test q) refl (filter-entries f t
     cases (Some h) true is rest = rw is (ap (λ t. record { page = q; hist = h } ∷ t) rest)
     cases (Some h) false is rest = rw is rest
 
-take-entries : (f : PageId → Option PageHist) (n : ℕ) (ps : List PageId)
+pub take-entries : (f : PageId → Option PageHist) (n : ℕ) (ps : List PageId)
     → AllByRecursion (λ p. is_some (f p) ≡ true) ps → take n (entries f ps) ≡ entries f (take n ps)
 take-entries f zero ps all = refl
 take-entries f (suc n) [] all = refl
@@ -53,7 +53,7 @@ take-entries f (suc n) (q ∷ qs) all = cases (f q) all.0 (take-entries f n qs a
     cases (Some h) is rest = ap (λ t. record { page = q; hist = h } ∷ t) rest
 
 -- of each page that it names, a list says something
-all_said : (S : List Reference)
+pub all_said : (S : List Reference)
     → AllByRecursion (λ p. is_some (list_hist S p) ≡ true) (list_pages S)
 all_said S = all_of_has (λ p. is_some (list_hist S p) ≡ true) (list_pages S) (λ p has.
     sym (named-some S p) ∙ sym (named-distinct (map (λ (r : Reference). r.page) S) p) ∙ has_named (list_pages S) p has)
@@ -66,7 +66,7 @@ any-named [] p = refl
 any-named (q ∷ qs) p = rw (any-named qs p) (elim (is_eq (page_cmp q p)) as (λ b. (b || named qs p) ≡ cond b true (named qs p)) [ true ↦ refl | false ↦ refl ])
 
 -- the references of S to the pages ps
-abbrev among : List Reference → List PageId → List Reference
+abbrev pub among : List Reference → List PageId → List Reference
 among S ps = filter (λ r. list_any (λ p. is_eq (page_cmp p r.page)) ps) S
 
 nothing : (b : Bool) (none : List Reference) → none ≡ [] → none ≡ cond b none []
@@ -102,7 +102,7 @@ hist-among S ps p =
     ∙ elim (named ps p) as (λ b. first_two (distinct (flip_args stamp_cmp) (map (λ (r : Reference). r.stamp) (cond b (list_references_to S p) []))) ≡ cond b (list_hist S p) None) [ true ↦ refl | false ↦ refl ]
 
 -- the history of the references to rising pages has an entry for each of these pages
-history-among : (S : List Reference) (ps : List PageId) → IsAscending page_cmp ps
+pub history-among : (S : List Reference) (ps : List PageId) → IsAscending page_cmp ps
     → list_history (among S ps) ≡ entries (list_hist S) ps
 history-among S ps rising =
     let whole = IsHistory-history (among S ps) in

@@ -12,7 +12,7 @@ use Rattle.warm_history.specs.ListHistories.{first_two, list_hist, list_history}
 use Rattle.warm_history.specs.References.{IsIn}
 use Rattle.warm_history.proofs.ListHistoryLemmas.{told, same_hists}
 
-told_is_in : (S : List Reference) (p : PageId) (s : Stamp) → Has (told S p) s
+pub told_is_in : (S : List Reference) (p : PageId) (s : Stamp) → Has (told S p) s
     → IsIn (record { page = p; stamp = s }) S
 told_is_in [] p s has = absurd has
 told_is_in (r ∷ S) p s has = cases (told_is_in S p s) (is_eq (page_cmp r.page p)) refl
@@ -24,7 +24,7 @@ told_is_in (r ∷ S) p s has = cases (told_is_in S p s) (is_eq (page_cmp r.page 
         elim (rw here at has) [ inl e ↦ inl (λ i. record { page = page i; stamp = e i }) | inr there ↦ inr (rest there) ]
     cases rest false other = inr (rest (rw other at has))
 
-told_has : (S : List Reference) (p : PageId) (s : Stamp) → IsIn (record { page = p; stamp = s }) S
+pub told_has : (S : List Reference) (p : PageId) (s : Stamp) → IsIn (record { page = p; stamp = s }) S
     → Has (told S p) s
 told_has [] p s is_in = absurd is_in
 told_has (r ∷ S) p s is_in = elim is_in [

@@ -72,11 +72,11 @@ all_put_back P p None m all = all_remove P p m all
 all_put_back P p (Some h) m all = all_set P p h m all
 
 -- what is true of the keys of a map is true after it recorded at such a key, or nothing
-pub all_recorded : {E : Type 0} (r : Result (Option UndoNote) E) (P : ℕ → Type 0) (page : PageId)
-    (p : ℕ) (more : PageHist) (m n : MapPairs) → P p → AllKeys P m
-    → IfOk r (λ note. RecordsStamps m page p more note n) → OnErr r (n ≡ m) → AllKeys P n
-all_recorded (Ok change) P page p more m n is all ok err = subst (AllKeys P) (sym ok.2) (all_insert P p ok.0 m is all)
-all_recorded (Err e) P page p more m n is all ok err = subst (AllKeys P) (sym err) all
+pub all_recorded : {A E : Type 0} (r : Result A E) (note : A → Option UndoNote) (P : ℕ → Type 0)
+    (page : PageId) (p : ℕ) (more : PageHist) (m n : MapPairs) → P p → AllKeys P m
+    → IfOk r (λ change. RecordsStamps m page p more (note change) n) → OnErr r (n ≡ m) → AllKeys P n
+all_recorded (Ok change) note P page p more m n is all ok err = subst (AllKeys P) (sym ok.2) (all_insert P p ok.0 m is all)
+all_recorded (Err e) note P page p more m n is all ok err = subst (AllKeys P) (sym err) all
 
 -- ---- the two maps are of one bucket
 

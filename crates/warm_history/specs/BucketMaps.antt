@@ -10,11 +10,13 @@ use Rattle.warm_stamps.specs.Distinct.{IsAscending}
 use Rattle.warm_stamps.specs.declared.PageId.{PageId}
 use Rattle.warm_history.specs.declared.hist.PageHist.{PageHist}
 use Rattle.warm_history.specs.declared.bucket_map.BucketMap.{BucketMap}
+use Rattle.warm_history.specs.declared.bucket_map.Change.{Change}
 use Rattle.warm_history.specs.declared.bucket_map.UndoNote.{UndoNote}
 use Rattle.warm_history.specs.ListHistories.{latest_of, hist_stamps, known_stamps}
 use Rattle.warm_history.specs.MapKeys.{first_key}
 use Rattle.warm_history.specs.MapPairs.{MapPairs}
 use Rattle.warm_history.specs.NearPairs.{fulls}
+use Rattle.warm_history.specs.Undo.{noted}
 
 -- the pairs of all maps, one map after another
 abbrev pub all_pairs : List MapPairs → MapPairs
@@ -80,6 +82,12 @@ abbrev pub RecordsAt : {K : Type 0} → (K → K → Ordering) → List (K × Pa
 RecordsAt cmp old page key more note new = (h : PageHist)
     × (Some h ≡ latest_of (hist_stamps more ++ known_stamps (lookup (is_at (cmp key)) old)))
     × (new ≡ insert_entry cmp old key h) × IsNoteAt cmp note page key h old new
+
+-- the same of a change, where this was known before; any page may have the key
+abbrev pub ChangesAt : {K : Type 0} → (K → K → Ordering) → List (K × PageHist) → K → PageHist
+    → Option Change → PageHist → List (K × PageHist) → Type 0
+ChangesAt cmp old key more change before new = (page : PageId)
+    → RecordsAt cmp old page key more (noted page change before) new
 
 -- the same for keys that are numbers
 abbrev pub IsUndoNote : Option UndoNote → PageId → ℕ → PageHist → MapPairs → MapPairs → Type 0

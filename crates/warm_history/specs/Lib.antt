@@ -15,6 +15,7 @@ pub mod Runs
 pub mod Walks
 pub mod NearJoins
 pub mod Merges
+pub mod Since
 pub mod Cuts
 pub mod Undo
 pub mod PackedHists

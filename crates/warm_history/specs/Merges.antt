@@ -10,6 +10,7 @@ use Rattle.warm_history.specs.declared.merge_iter.BucketIter.{BucketIter}
 use Rattle.warm_history.specs.declared.merge_iter.MergeIter.{MergeIter}
 use Rattle.warm_history.specs.Carried.{is_next_in_bucket}
 use Rattle.warm_history.specs.MapPairs.{as_entries}
+use Rattle.warm_history.specs.NearPairs.{lent_entry}
 
 -- the entries of a bucket whose page is greater than the given one, if one is given
 abbrev pub later_of_bucket : ℕ → Option PageId → List Entry → List Entry
@@ -62,7 +63,7 @@ from_first (Some e) later = e ∷ later
 
 -- the entries left in a part
 abbrev pub bucket_iter_left : BucketIter → List Entry
-bucket_iter_left p = from_first p.first (as_entries p.later)
+bucket_iter_left p = from_first (lent_entry p.first) (as_entries p.later)
 
 -- the entries left in two sources, merged
 abbrev pub both_left : {I : Type 0} → (I → List Entry) → List I → List Entry
@@ -71,7 +72,7 @@ both_left left others = []
 
 -- the entries left in a merged pair of sources
 abbrev pub merge_iter_left : {I : Type 0} → (I → List Entry) → MergeIter I → List Entry
-merge_iter_left left m = from_first m.first (both_left left m.both)
+merge_iter_left left m = from_first (lent_entry m.first) (both_left left m.both)
 
 -- the entries left in 2, 4, 8, 16, 32 and all 64 parts
 abbrev pub two_left : MergeIter BucketIter → List Entry

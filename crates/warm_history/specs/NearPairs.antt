@@ -2,7 +2,10 @@
 -- keys. Together they are pairs at full keys.
 use Rattle.std.specs.Prelude.{◌≡◌, ℕ, List, [], ◌∷◌, ◌++◌, ◌+◌, ◌≤◌, ◌<◌, ◌^◌, ⊤, length, map}
 use Rattle.std.specs.List.{AllByRecursion}
+use Rattle.std.specs.Prelude.{Option, Some, None}
+use Rattle.warm_history.specs.declared.hist.Entry.{Entry}
 use Rattle.warm_history.specs.declared.bucket_map.BucketMap.{BucketMap}
+use Rattle.warm_history.specs.declared.bucket_map.Lent.{Lent}
 use Rattle.warm_history.specs.declared.bucket_map.TheConstants.{MAX_PAIRS}
 use Rattle.warm_history.specs.MapKeys.{first_key, full_key, first_far_key}
 use Rattle.warm_history.specs.MapPairs.{MapPairs}
@@ -54,3 +57,8 @@ near_pairs ms = map (λ m. m.near.entries) ms
 
 abbrev pub far_pairs : List BucketMap → List MapPairs
 far_pairs ms = map (λ m. m.far.entries) ms
+
+-- what is lent, as an entry
+abbrev pub lent_entry : Option Lent → Option Entry
+lent_entry None = None
+lent_entry (Some l) = Some (record { page = l.page; hist = l.hist.now })

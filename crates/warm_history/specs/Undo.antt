@@ -5,6 +5,9 @@ use Rattle.std.specs.BTreeMap.{is_at}
 use Rattle.std.specs.declared.cmp.Ordering.{Ordering}
 use Rattle.std.specs.Ordering.{nat_cmp}
 use Rattle.warm_history.specs.declared.hist.PageHist.{PageHist}
+use Rattle.warm_stamps.specs.declared.PageId.{PageId}
+use Rattle.warm_history.specs.declared.bucket_map.Change.{Change}
+use Rattle.warm_history.specs.declared.bucket_map.Change.TheVariants.{New, Known}
 use Rattle.warm_history.specs.declared.bucket_map.UndoNote.{UndoNote}
 use Rattle.warm_history.specs.MapKeys.{key_of_page}
 use Rattle.warm_history.specs.MapPairs.{MapPairs}
@@ -23,6 +26,16 @@ put_back key known pairs = put_back_at nat_cmp key known pairs
 abbrev pub undone : List UndoNote → MapPairs → MapPairs
 undone [] pairs = pairs
 undone (k ∷ ks) pairs = put_back (key_of_page k.page) k.hist (undone ks pairs)
+
+-- the note of a change of a page: nothing was known of it before, or this was
+abbrev pub note_of : PageId → Change → PageHist → UndoNote
+note_of page New before = record { page = page; hist = None }
+note_of page Known before = record { page = page; hist = Some before }
+
+-- the same of a change, if there was one
+abbrev pub noted : PageId → Option Change → PageHist → Option UndoNote
+noted page None before = None
+noted page (Some change) before = Some (note_of page change before)
 
 -- the notes of a change, if there was one
 abbrev pub notes_of : Option UndoNote → List UndoNote

@@ -4,6 +4,7 @@
 //! A search compares a near key in half the time of a full one, and a near pair has 32 bytes.
 ghost use Rattle.std.specs.Iterator.{YieldsFirst};
 ghost use Rattle.std.specs.Prelude.{◌≡◌, ◌+◌, ◌<◌, ◌^◌, [], ◌++◌, length, IfOk, IsTrue, OnErr};
+ghost use Rattle.std.specs.Prelude.{◌≤◌, take};
 ghost use Rattle.std.specs.Prelude.{OnOk};
 ghost use Rattle.std.specs.List.{AllByRecursion};
 ghost use Rattle.warm_stamps.specs.Buckets.{page_bucket};
@@ -13,12 +14,13 @@ ghost use Rattle.warm_history.specs.Cuts.{cut_at};
 ghost use Rattle.warm_history.specs.MapPairs.{as_entries};
 ghost use Rattle.warm_history.specs.BucketMaps.{KeysAscend, RecordsStamps, found};
 ghost use Rattle.warm_history.specs.Merges.{after_page};
-ghost use Rattle.warm_history.specs.NearPairs.{full, widened, IsMapOf, IsBare};
-ghost use Rattle.warm_history.specs.Undo.{put_back};
+ghost use Rattle.warm_history.specs.NearPairs.{full, lent_entry, widened, IsMapOf, IsBare};
+ghost use Rattle.warm_history.specs.Undo.{noted, put_back};
 ghost use Rattle.warm_history.specs.Walks.{AreTwoLatest, TellsChange, merged};
 
 use crate::hist::Entry;
 use crate::map_key::{NEAR_DEVICES, key_in, key_of_page, near_key, near_page, page_of_key};
+use crate::near_key::NearKey;
 use crate::packed::Packed;
 use crate::page_map::{forget_in, put_back_in, record_in};
 use crate::walk::merge_run;
@@ -33,6 +35,15 @@ use warm_stamps::{BUCKETS, PageId};
 // does not overflow. No memory holds as many.
 pub(crate) const MAX_PAIRS: usize = 1 << 57;
 
+// How a page changes.
+#[derive(Debug, Clone, Copy)]
+pub(crate) enum Change {
+    // Nothing was known of it.
+    New,
+    // Something else was known of it.
+    Known,
+}
+
 // What was known of a page before that changed.
 #[derive(Debug, Clone, Copy)]
 pub(crate) struct UndoNote {
@@ -43,7 +54,7 @@ pub(crate) struct UndoNote {
 // The pages of a bucket.
 #[derive(Debug, Clone, Drop)]
 pub(crate) struct BucketMap {
-    pub(crate) near: BTreeMap<u64, Packed>,
+    pub(crate) near: BTreeMap<NearKey, Packed>,
     far: BTreeMap<u128, Packed>,
 }
 
@@ -84,25 +95,26 @@ impl BucketMap {
         self.far.get(&key_of_page(page)).copied()
     }
 
-    // Takes in the given stamps of a page of this bucket, and returns what was known of it where
-    // that changes.
+    // Takes in the given stamps of a page of this bucket, and returns how that changes the page.
+    // What was known of it is put in the place of the stamps.
     pub(crate) fn record(
         &mut self,
         page: PageId,
-        more: Packed,
+        more: &mut Packed,
         likely_new: bool,
-    ) -> Result<Option<UndoNote>, AllocError>
+    ) -> Result<Option<Change>, AllocError>
         requires { IsMapOf (page_bucket page) self.old }
-        ensures ok { IfOk result (λ note. RecordsStamps (full (page_bucket page) self.old)
-            page (key_of_page page) more note (full (page_bucket page) self.new)) }
+        ensures ok { IfOk result (λ change. RecordsStamps (full (page_bucket page) self.old) page
+            (key_of_page page) more.old (noted page change more.new)
+            (full (page_bucket page) self.new)) }
         ensures err { OnErr result
             (full (page_bucket page) self.new ≡ full (page_bucket page) self.old) }
         ensures map { IsMapOf (page_bucket page) self.new }
     {
         if page.dev < NEAR_DEVICES {
-            return record_in(&mut self.near, near_key(page), page, more, likely_new);
+            return record_in(&mut self.near, near_key(page), more, likely_new);
         }
-        record_in(&mut self.far, key_of_page(page), page, more, likely_new)
+        record_in(&mut self.far, key_of_page(page), more, likely_new)
     }
 
     // Takes in a run of near pairs of this bucket, whose number this is, and returns whether that
@@ -111,7 +123,7 @@ impl BucketMap {
         &mut self,
         alloc: Global,
         number: u8,
-        run: &[(u64, Packed)],
+        run: &[(NearKey, Packed)],
     ) -> Result<bool, AllocError>
         requires map { IsMapOf number self.old }
         requires rise { KeysAscend (full number self.old) }
@@ -178,14 +190,30 @@ impl BucketMap {
         }
         BucketPairs {
             number,
-            near: self
-                .near
-                .range((Bound::Excluded(u64::MAX), Bound::Unbounded)),
+            near: self.near.range((Bound::Excluded(NearKey::new(u64::MAX)), Bound::Unbounded)),
             far: self
                 .far
                 .range((Bound::Excluded(key_in(number, last)), Bound::Unbounded)),
         }
     }
+}
+
+// A page, and its history as a map lends it: in 24 bytes, where an entry has 56.
+#[derive(Clone, Copy)]
+pub(crate) struct Lent<'a> {
+    pub(crate) page: PageId,
+    hist: &'a Packed,
+}
+
+// What is lent, as an entry.
+pub(crate) fn entry_of(lent: Option<Lent<'_>>) -> Option<Entry>
+    ensures { result ≡ lent_entry lent.entry }
+{
+    let Lent { page, hist } = lent?;
+    Some(Entry {
+        page,
+        hist: hist.get(),
+    })
 }
 
 // Iterates over the pairs of a bucket: those of near devices, then the others.
@@ -194,7 +222,7 @@ impl BucketMap {
 #[derive(Debug, Drop)]
 pub(crate) struct BucketPairs<'a> {
     number: u8,
-    near: Range<'a, u64, Packed>,
+    near: Range<'a, NearKey, Packed>,
     far: Range<'a, u128, Packed>,
 }
 
@@ -212,27 +240,106 @@ impl<'a> Model for BucketPairs<'a> {
 }
 
 impl<'a> BucketPairs<'a> {
+    // Lends the first of the pairs that are left.
+    #[inline]
+    pub(crate) fn next_lent(&mut self) -> Option<Lent<'a>>
+        ensures { YieldsFirst (λ (left : _). as_entries left)
+            self.old (lent_entry result) self.new }
+    {
+        if let Some((key, hist)) = self.near.next() {
+            return Some(Lent {
+                page: near_page(self.number, *key),
+                hist,
+            });
+        }
+        let (key, hist) = self.far.next()?;
+        Some(Lent {
+            page: page_of_key(*key),
+            hist,
+        })
+    }
+
     // The first of the pairs that are left, as an entry.
     pub(crate) fn next_entry(&mut self) -> Option<Entry>
         ensures { YieldsFirst (λ (left : _). as_entries left) self.old result self.new }
     {
-        if let Some((key, hist)) = self.near.next() {
-            return Some(Entry {
-                page: near_page(self.number, *key),
-                hist: hist.get(),
-            });
-        }
-        let (key, hist) = self.far.next()?;
-        Some(Entry {
+        entry_of(self.next_lent())
+    }
+}
+
+// The first `limit` of some pairs, as entries. They are taken map by map, and each is written into
+// the list at once.
+pub(crate) fn first_entries(
+    alloc: Global,
+    pairs: BucketPairs<'_>,
+    limit: usize,
+) -> Result<Vec<Entry>, AllocError>
+    ensures { IfOk result (λ es. es.items ≡ take limit (as_entries pairs.entry)) }
+{
+    let BucketPairs {
+        number,
+        mut near,
+        mut far,
+    } = pairs;
+    let mut entries = Vec::new(alloc);
+    add_near(&mut entries, number, &mut near, limit)?;
+    add_far(&mut entries, &mut far, limit)?;
+    Ok(entries)
+}
+
+// Adds near pairs of the bucket of this number to a list of entries, until it has `limit`.
+fn add_near(
+    entries: &mut Vec<Entry>,
+    number: u8,
+    near: &mut Range<'_, NearKey, Packed>,
+    limit: usize,
+) -> Result<(), AllocError>
+    requires number { number < BUCKETS }
+    requires few { length entries.old.items ≤ limit }
+    ensures { OnOk result (entries.new.items
+        ≡ take limit (entries.old.items ++ as_entries (widened number near.old))) }
+{
+    while entries.len() < limit {
+        let Some((key, hist)) = near.next() else {
+            return Ok(());
+        };
+        entries.push(Entry {
+            page: near_page(number, *key),
+            hist: hist.get(),
+        })?;
+    }
+    Ok(())
+}
+
+// Adds pairs of other devices to a list of entries, until it has `limit`.
+fn add_far(
+    entries: &mut Vec<Entry>,
+    far: &mut Range<'_, u128, Packed>,
+    limit: usize,
+) -> Result<(), AllocError>
+    requires { length entries.old.items ≤ limit }
+    ensures { OnOk result (entries.new.items
+        ≡ take limit (entries.old.items ++ as_entries far.old)) }
+{
+    while entries.len() < limit {
+        let Some((key, hist)) = far.next() else {
+            return Ok(());
+        };
+        entries.push(Entry {
             page: page_of_key(*key),
             hist: hist.get(),
-        })
+        })?;
     }
+    Ok(())
 }
 
 // The near pairs from the pages after the given one on. The last page with the near key of the
 // given one may be after it, since its low bits are those of this bucket.
-fn near_after(map: &BTreeMap<u64, Packed>, number: u8, last: PageId) -> Range<'_, u64, Packed>
+fn near_after(
+    map: &BTreeMap<NearKey, Packed>,
+    number: u8,
+    last: PageId,
+) -> Range<'_, NearKey, Packed>
     requires number { number < BUCKETS }
     requires near { last.dev < NEAR_DEVICES }
     requires keys { AllByRecursion (λ e. e.0 < 2 ^ 64) map.now.entries }

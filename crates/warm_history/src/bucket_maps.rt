@@ -12,12 +12,13 @@ ghost use Rattle.warm_history.specs.BucketMaps.{found};
 ghost use Rattle.warm_history.specs.NearJoins.{IsNear, NoFar, TellsBuckets};
 ghost use Rattle.warm_history.specs.NearPairs.{count_of, far_pairs, full, near_pairs, widened};
 ghost use Rattle.warm_history.specs.NearPairs.{IsMapOf};
-ghost use Rattle.warm_history.specs.Undo.{put_back, notes_of, Undoes};
+ghost use Rattle.warm_history.specs.Undo.{put_back, noted, notes_of, Undoes};
 ghost use Rattle.warm_history.specs.Walks.{AreTwoLatest, TellsChange, merged};
 
-use crate::bucket_map::{BucketMap, BucketPairs, UndoNote};
+use crate::bucket_map::{BucketMap, BucketPairs, Change, UndoNote};
 use crate::hist::Entry;
 use crate::near_join::join_maps;
+use crate::near_key::NearKey;
 use crate::packed::Packed;
 use std::alloc::{AllocError, Global};
 use std::array;
@@ -102,18 +103,21 @@ impl BucketMaps {
         self.maps[bucket_of(page).get() as usize].get(page)
     }
 
-    // Takes in the given stamps of a page, and returns what was known of it where that changes.
+    // Takes in the given stamps of a page, and returns how that changes the page. What was known of
+    // it is put in the place of the stamps.
     pub(crate) fn record(
         &mut self,
         page: PageId,
-        more: Packed,
+        more: &mut Packed,
         likely_new: bool,
-    ) -> Result<Option<UndoNote>, AllocError>
+    ) -> Result<Option<Change>, AllocError>
         requires { AreKept self.old }
-        ensures exact { OnOk result (TakesStamps self.old (key_of_page page) more self.new) }
+        ensures exact { OnOk result (TakesStamps self.old (key_of_page page) more.old self.new) }
         ensures whole { AreKept self.new }
-        ensures undo { IfOk result (λ note. Undoes (notes_of note) self.new self.old) }
-        ensures tells { IfOk result (λ note. SaysNote note (key_of_page page) self.old self.new) }
+        ensures undo { IfOk result
+            (λ change. Undoes (notes_of (noted page change more.new)) self.new self.old) }
+        ensures tells { IfOk result (λ change. SaysNote (noted page change more.new)
+            (key_of_page page) self.old self.new) }
         ensures err { OnErr result (self.new ≡ self.old) }
     {
         self.maps[bucket_of(page).get() as usize].record(page, more, likely_new)
@@ -125,7 +129,7 @@ impl BucketMaps {
         &mut self,
         alloc: Global,
         number: u8,
-        run: &[(u64, Packed)],
+        run: &[(NearKey, Packed)],
     ) -> Result<bool, AllocError>
         requires number { number < BUCKETS }
         requires rise { KeysAscend self.old }

@@ -1,6 +1,6 @@
 //! Histories, stored as maps from keys: the entries of a bucket lie together.
 ghost use Rattle.std.specs.Prelude.{◌≡◌, ◌↔◌, ◌≤◌, [], false, length, OnOk, OnErr, IfOk};
-ghost use Rattle.std.specs.Prelude.{IsPermutation, IsTrue, slice_get, take};
+ghost use Rattle.std.specs.Prelude.{IsPermutation, IsTrue, slice_get, take, ◌<◌};
 ghost use Rattle.warm_history.specs.ReferenceSets.{ReferenceSet, set_of_list, with_horizon, ◌∪◌};
 ghost use Rattle.warm_history.specs.Histories.{entries_of, history_of_entries};
 ghost use Rattle.warm_history.specs.Histories.{history_of_entries_at, hist, references_of, history};
@@ -10,12 +10,14 @@ ghost use Rattle.warm_history.specs.Losses.{KeepsIn, LosesIn, MarksLosing, bucke
 ghost use Rattle.warm_history.specs.Losses.{raised};
 ghost use Rattle.warm_history.specs.Changes.{MarksChanged};
 ghost use Rattle.warm_history.specs.Merges.{later_of_bucket};
+ghost use Rattle.warm_history.specs.Since.{AreCarriedSince, entries_since};
 
-use crate::bucket_map::BucketPairs;
+use crate::bucket_map::{self, BucketPairs};
 use crate::bucket_maps::{BucketMaps, EachEntry};
 use crate::cut::{CutEntries, losing, none_older};
 use crate::hist::{Entry, PageHist};
 use crate::merge_iter::{MergedEntries, Source, later_pairs, merged_entries};
+use crate::since::{Portion, portion_since};
 use crate::take_in::{lookup, raise, take_entries, take_pairs, take_references};
 use std::alloc::{AllocError, Global};
 use std::fmt;
@@ -203,8 +205,8 @@ impl History {
     /// buckets whose entries changed.
     ///
     /// Time grows with the batch, and with the logarithm of the number of pages. `AllocError`
-    /// occurs where the allocation of the undo list (the old values of the batch's pages) or of a
-    /// new page fails, and changes nothing.
+    /// occurs where the allocation of a new page fails or, in a batch of two references or more,
+    /// that of the undo list (the old values of the batch's pages), and changes nothing.
     pub fn absorb(&mut self, batch: &[Reference]) -> Result<BucketSet, AllocError>
         ensures ok { OnOk result (TakesIn self.old (set_of_list batch.now) self.new) }
         ensures exact { OnOk result
@@ -296,6 +298,38 @@ impl History {
         first_entries(self.alloc, self.later(bucket, after), limit)
     }
 
+    /// The first `limit` entries, in page order, of those in the bucket whose page is greater than
+    /// `after`, and whose latest stamp is not before the time `since`; of all such in the bucket,
+    /// where `after` is `None`. The portion also says whether more of these follow: then they are
+    /// the entries since this time after the page of the portion's last entry. The entries are a
+    /// history themselves, each with its second latest stamp, also where that is before `since`.
+    ///
+    /// Whoever has all references from before a time, and takes in what every bucket has since
+    /// then, has all: see [`crate::laws::since_brings_all`]. So a replica that publishes its
+    /// history again and again, with nobody to answer, sends of each bucket what is new.
+    ///
+    /// It costs a look-up, and a step for each entry of the bucket from there on, up to the first
+    /// such entry beyond the limit. `AllocError` occurs where their allocation fails.
+    pub fn entries_since(
+        &self,
+        bucket: Bucket,
+        since: u64,
+        after: Option<PageId>,
+        limit: usize,
+    ) -> Result<Portion, AllocError>
+        ensures first { IfOk result (λ portion. portion.entries.items
+            ≡ take limit (entries_since bucket since after (entries_of self.now))) }
+        ensures more { IfOk result (λ portion. IsTrue portion.more
+            ↔ limit < length (entries_since bucket since after (entries_of self.now))) }
+        ensures carried { IfOk result (λ portion.
+            AreCarriedSince self.now bucket since after limit portion.entries.items) }
+        ensures whole { IfOk result (λ portion.
+            IsHistory (history_of_entries portion.entries.items)) }
+        ensures limited { IfOk result (λ portion. length portion.entries.items ≤ limit) }
+    {
+        portion_since(self.alloc, self.later(bucket, after), since, limit)
+    }
+
     // The entries of a bucket whose page is greater than the given one, where one is given.
     fn later(&self, bucket: Bucket, after: Option<PageId>) -> BucketEntries<'_>
         ensures { result ≡ later_of_bucket bucket after (entries_of self.now) }
@@ -356,7 +390,7 @@ impl<'a> Iterator for Entries<'a> {
     ghost remaining = { item_count (λ entries. entries) };
 
     fn next(&mut self) -> Option<Entry> {
-        self.left.take_first()
+        bucket_map::entry_of(self.left.take_first())
     }
 }
 
@@ -431,5 +465,6 @@ fn first_entries(
 ) -> Result<Vec<Entry>, AllocError>
     ensures { IfOk result (λ es. es.items ≡ take limit entries.entry) }
 {
-    entries.take(limit).collect(alloc)
+    let BucketEntries { left } = entries;
+    bucket_map::first_entries(alloc, left, limit)
 }

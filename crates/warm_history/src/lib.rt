@@ -19,12 +19,15 @@ pub mod laws;
 mod map_key;
 mod merge_iter;
 mod near_join;
+mod near_key;
 mod packed;
 mod page_map;
 mod runs;
+mod since;
 mod take_in;
 mod walk;
 
 pub use cut::CutEntries;
 pub use hist::{Entry, PageHist, Two, is_sorted_by_page, join_hist};
 pub use history::{BucketEntries, Entries, History, Unordered};
+pub use since::Portion;

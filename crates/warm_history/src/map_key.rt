@@ -4,6 +4,7 @@ ghost use Rattle.warm_stamps.specs.declared.TheConstants.{BUCKETS};
 ghost use Rattle.warm_history.specs.MapKeys.{first_key, first_far_key, key_in, key_of_page};
 ghost use Rattle.warm_history.specs.MapKeys.{near_key, near_page, page_of_key, IsMapKey};
 
+use crate::near_key::NearKey;
 use warm_stamps::{BUCKETS, PageId, bucket_of};
 
 // The number of keys of each bucket: 2^80, one for each page.
@@ -62,23 +63,24 @@ pub(crate) fn first_far_key(number: u8) -> u128
 }
 
 // The near key of a page.
-pub(crate) fn near_key(page: PageId) -> u64
+pub(crate) fn near_key(page: PageId) -> NearKey
     requires { page.dev < NEAR_DEVICES }
     ensures value { result ≡ near_key page }
     ensures below { result < 2 ^ 64 }
 {
-    u64::from(page.dev) * NEAR_KEYS_PER_DEVICE + page.no / PAGES_PER_NEAR_KEY
+    NearKey::new(u64::from(page.dev) * NEAR_KEYS_PER_DEVICE + page.no / PAGES_PER_NEAR_KEY)
 }
 
 // The page of a near key in the bucket of this number.
-pub(crate) fn near_page(number: u8, key: u64) -> PageId
+pub(crate) fn near_page(number: u8, key: NearKey) -> PageId
     requires { number < BUCKETS }
     ensures { result ≡ near_page number key }
 {
-    let dev = key / NEAR_KEYS_PER_DEVICE;
+    let bits = key.get();
+    let dev = bits / NEAR_KEYS_PER_DEVICE;
     let low = (u64::from(number) + PAGES_PER_NEAR_KEY - dev) % PAGES_PER_NEAR_KEY;
     PageId {
         dev: dev as u16,
-        no: key % NEAR_KEYS_PER_DEVICE * PAGES_PER_NEAR_KEY + low,
+        no: bits % NEAR_KEYS_PER_DEVICE * PAGES_PER_NEAR_KEY + low,
     }
 }

@@ -8,14 +8,14 @@ ghost use Rattle.std.specs.Prelude.{◌≡◌, ◌+◌, ◌≤◌, ◌<◌};
 ghost use Rattle.warm_stamps.specs.declared.TheConstants.{BUCKETS};
 ghost use Rattle.warm_history.specs.MapPairs.{as_entries, kept, AreKept};
 ghost use Rattle.warm_history.specs.Histories.{entries_of};
+ghost use Rattle.warm_history.specs.NearPairs.{lent_entry};
 ghost use Rattle.warm_history.specs.Merges.{bucket_iter_left, two_left, four_left, eight_left};
 ghost use Rattle.warm_history.specs.Merges.{sixteen_left, thirty_two_left, all_left};
 ghost use Rattle.warm_history.specs.Merges.{first_of, rest_of, merge, both_left, merge_iter_left};
 ghost use Rattle.warm_history.specs.Merges.{of_buckets, is_later, later_of_bucket};
 
-use crate::bucket_map::BucketPairs;
+use crate::bucket_map::{BucketPairs, Lent};
 use crate::bucket_maps::BucketMaps;
-use crate::hist::Entry;
 use warm_stamps::PageId;
 
 // The pages of the bucket of this number that are greater than the given one, if one is given.
@@ -32,63 +32,63 @@ pub(crate) fn later_pairs(maps: &BucketMaps, number: u8, after: Option<PageId>) 
 }
 
 // A source of entries that are taken one by one, and whose first can be looked at.
-pub(crate) trait Source: Drop {
+pub(crate) trait Source<'a>: Drop {
     ghost use Rattle.std.specs.Prelude.{List};
     ghost use Rattle.warm_history.specs.declared.hist.Entry.{Entry};
 
     ghost left: { Self → List Entry };
 
     // The first entry that is left.
-    fn first(&self) -> Option<Entry>
-        ensures { result ≡ first_of (left self.now) };
+    fn first(&self) -> Option<Lent<'a>>
+        ensures { lent_entry result ≡ first_of (left self.now) };
 
     // Takes the first entry that is left.
-    fn take_first(&mut self) -> Option<Entry>
-        ensures first { result ≡ first_of (left self.old) }
+    fn take_first(&mut self) -> Option<Lent<'a>>
+        ensures first { lent_entry result ≡ first_of (left self.old) }
         ensures rest { left self.new ≡ rest_of (left self.old) };
 }
 
 // The entries of one bucket.
 #[derive(Drop)]
 pub(crate) struct BucketIter<'a> {
-    first: Option<Entry>,
+    first: Option<Lent<'a>>,
     later: BucketPairs<'a>,
 }
 
-impl<'a> Source for BucketIter<'a> {
+impl<'a> Source<'a> for BucketIter<'a> {
     ghost use Rattle.warm_history.specs.Merges.{bucket_iter_left};
 
     ghost left = { bucket_iter_left };
 
-    fn first(&self) -> Option<Entry> {
+    fn first(&self) -> Option<Lent<'a>> {
         self.first
     }
 
-    fn take_first(&mut self) -> Option<Entry> {
+    fn take_first(&mut self) -> Option<Lent<'a>> {
         let first = self.first?;
-        self.first = self.later.next_entry();
+        self.first = self.later.next_lent();
         Some(first)
     }
 }
 
 // The entries of two sources, merged in page order, where each source gives its own in page order.
 #[derive(Drop)]
-pub(crate) struct MergeIter<I> {
-    first: Option<Entry>,
+pub(crate) struct MergeIter<'a, I> {
+    first: Option<Lent<'a>>,
     // An array, since with two fields the proof obligations would double at each level.
     both: [I; 2],
 }
 
-impl<I: Source> Source for MergeIter<I> {
+impl<'a, I: Source<'a>> Source<'a> for MergeIter<'a, I> {
     ghost use Rattle.warm_history.specs.Merges.{merge_iter_left};
 
     ghost left = { merge_iter_left I.left };
 
-    fn first(&self) -> Option<Entry> {
+    fn first(&self) -> Option<Lent<'a>> {
         self.first
     }
 
-    fn take_first(&mut self) -> Option<Entry> {
+    fn take_first(&mut self) -> Option<Lent<'a>> {
         let first = self.first?;
         self.first = take_smaller(&mut self.both);
         Some(first)
@@ -97,8 +97,8 @@ impl<I: Source> Source for MergeIter<I> {
 
 // Takes the first entry of the one source, or that of the other where its page is smaller.
 #[tactic(auto, using(crate::proofs::MergeIterLemmas::takes_other, crate::proofs::MergeIterLemmas::takes_one))]
-fn take_smaller<I: Source>(both: &mut [I; 2]) -> Option<Entry>
-    ensures first { result ≡ first_of (both_left I.left both.old) }
+fn take_smaller<'a, I: Source<'a>>(both: &mut [I; 2]) -> Option<Lent<'a>>
+    ensures first { lent_entry result ≡ first_of (both_left I.left both.old) }
     ensures rest { both_left I.left both.new ≡ rest_of (both_left I.left both.old) }
 {
     if is_later(both[0].first(), both[1].first()) {
@@ -108,8 +108,8 @@ fn take_smaller<I: Source>(both: &mut [I; 2]) -> Option<Entry>
 }
 
 // Whether one is of a greater page than the other, or is not there where the other is.
-fn is_later(one: Option<Entry>, other: Option<Entry>) -> bool
-    ensures { result ≡ is_later one other }
+fn is_later(one: Option<Lent<'_>>, other: Option<Lent<'_>>) -> bool
+    ensures { result ≡ is_later (lent_entry one.entry) (lent_entry other.entry) }
 {
     let Some(there) = other else {
         return false;
@@ -120,7 +120,7 @@ fn is_later(one: Option<Entry>, other: Option<Entry>) -> bool
     there.page < here.page
 }
 
-fn merge_both<I: Source>(one: I, other: I) -> MergeIter<I>
+fn merge_both<'a, I: Source<'a>>(one: I, other: I) -> MergeIter<'a, I>
     ensures { merge_iter_left I.left result ≡ merge (I.left one) (I.left other) }
 {
     let mut both = [one, other];
@@ -128,18 +128,18 @@ fn merge_both<I: Source>(one: I, other: I) -> MergeIter<I>
     MergeIter { first, both }
 }
 
-type TwoBuckets<'a> = MergeIter<BucketIter<'a>>;
+type TwoBuckets<'a> = MergeIter<'a, BucketIter<'a>>;
 
-type Four<'a> = MergeIter<TwoBuckets<'a>>;
+type Four<'a> = MergeIter<'a, TwoBuckets<'a>>;
 
-type Eight<'a> = MergeIter<Four<'a>>;
+type Eight<'a> = MergeIter<'a, Four<'a>>;
 
-type Sixteen<'a> = MergeIter<Eight<'a>>;
+type Sixteen<'a> = MergeIter<'a, Eight<'a>>;
 
-type ThirtyTwo<'a> = MergeIter<Sixteen<'a>>;
+type ThirtyTwo<'a> = MergeIter<'a, Sixteen<'a>>;
 
 // The entries of all buckets.
-pub(crate) type MergedEntries<'a> = MergeIter<ThirtyTwo<'a>>;
+pub(crate) type MergedEntries<'a> = MergeIter<'a, ThirtyTwo<'a>>;
 
 // The entries of the bucket of this number.
 fn bucket_iter(maps: &BucketMaps, number: u8) -> BucketIter<'_>
@@ -148,7 +148,7 @@ fn bucket_iter(maps: &BucketMaps, number: u8) -> BucketIter<'_>
     ensures { bucket_iter_left result ≡ of_buckets number (number + 1) (kept maps.now) }
 {
     let mut later = later_pairs(maps, number, None);
-    let first = later.next_entry();
+    let first = later.next_lent();
     BucketIter { first, later }
 }
 

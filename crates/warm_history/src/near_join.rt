@@ -21,6 +21,7 @@ ghost use Rattle.warm_history.specs.Runs.{with_pairs};
 ghost use Rattle.warm_history.specs.Walks.{AreAbsent, AreParts, HoldsFrom, pairs_ahead};
 
 use crate::bucket_map::{BucketMap, MAX_PAIRS};
+use crate::near_key::NearKey;
 use crate::packed::Packed;
 use crate::walk::{
     Ahead, Parts, add_part, ahead_from, find, map_of, put_all_in, take_out, write_all,
@@ -34,7 +35,7 @@ use warm_stamps::{BUCKETS, Bucket, BucketSet};
 struct PutIn {
     // Whether the map had none before: then they are all that it has, and are not listed.
     was_free: bool,
-    fresh: Vec<(u64, Packed)>,
+    fresh: Vec<(NearKey, Packed)>,
 }
 
 // Merges each map with the pairs of the other list's map that are not older than the horizon, or
@@ -96,9 +97,9 @@ fn with_bucket(buckets: BucketSet, number: u8, changes: usize) -> BucketSet
 // What the pairs of another map that are not older than the horizon change in a map. It only reads.
 fn compare_map(
     alloc: Global,
-    map: &BTreeMap<u64, Packed>,
+    map: &BTreeMap<NearKey, Packed>,
     horizon: u64,
-    more: &BTreeMap<u64, Packed>,
+    more: &BTreeMap<NearKey, Packed>,
 ) -> Result<Parts, AllocError>
     requires rise { KeysAscend map.now.entries }
     requires more { KeysAscend more.now.entries }
@@ -119,7 +120,7 @@ fn compare_map(
 }
 
 // The room that is taken at once for new pairs: where the map has none, all of the other are new.
-fn room_for(map: &BTreeMap<u64, Packed>, more: &BTreeMap<u64, Packed>) -> usize
+fn room_for(map: &BTreeMap<NearKey, Packed>, more: &BTreeMap<NearKey, Packed>) -> usize
     ensures { result ≤ length more.now.entries }
 {
     if map.is_empty() {
@@ -130,11 +131,11 @@ fn room_for(map: &BTreeMap<u64, Packed>, more: &BTreeMap<u64, Packed>) -> usize
 
 // Adds what the horizon left of a pair of the other map, if anything.
 fn add_left<'a>(
-    map: &'a BTreeMap<u64, Packed>,
+    map: &'a BTreeMap<NearKey, Packed>,
     ahead: &mut Ahead<'a>,
-    changed: &mut Vec<(u64, Packed)>,
-    fresh: &mut Vec<(u64, Packed)>,
-    key: u64,
+    changed: &mut Vec<(NearKey, Packed)>,
+    fresh: &mut Vec<(NearKey, Packed)>,
+    key: NearKey,
     left: Option<Packed>,
 ) -> Result<(), AllocError>
     requires rise { KeysAscend map.now.entries }
@@ -156,8 +157,8 @@ fn add_left<'a>(
 // of them at once, and all its nodes are full but the last ones. To put in none allocates nothing.
 fn put_in(
     alloc: Global,
-    map: &mut BTreeMap<u64, Packed>,
-    fresh: Vec<(u64, Packed)>,
+    map: &mut BTreeMap<NearKey, Packed>,
+    fresh: Vec<(NearKey, Packed)>,
 ) -> Result<PutIn, AllocError>
     requires rise { KeysAscend map.old.entries }
     requires run { KeysAscend fresh.items }
@@ -190,7 +191,7 @@ fn put_in(
 }
 
 // Takes out what was put in. Allocation-free.
-fn undo(alloc: Global, map: &mut BTreeMap<u64, Packed>, added: &PutIn)
+fn undo(alloc: Global, map: &mut BTreeMap<NearKey, Packed>, added: &PutIn)
     requires { KeysAscend map.old.entries }
     ensures { (old : MapPairs) → KeysAscend old
         → ArePutIn added.now.was_free added.now.fresh.items old map.old.entries

@@ -2,7 +2,7 @@
 //!
 //! A `PageHist` has 40: its replica numbers have 64 bits each, and it says in a third number
 //! whether it has two stamps.
-ghost use Rattle.std.specs.Prelude.{◌≡◌, ◌↔◌, ◌≢◌, ◌++◌, ◌∷◌, filter, cond, IfSome, IfNone, IsTrue};
+ghost use Rattle.std.specs.Prelude.{◌≡◌, ◌↔◌, ◌≢◌, ◌++◌, ◌∷◌, false, filter, cond, IsTrue};
 ghost use Rattle.std.specs.Prelude.{None, Some};
 ghost use Rattle.std.specs.Ordering.{is_lt};
 ghost use Rattle.warm_stamps.specs.Replicas.{IsReplica};
@@ -202,20 +202,23 @@ fn is_before(time: u64, replica: u32, than_time: u64, than_replica: u32) -> bool
     time < than_time
 }
 
-// Merges more stamps into the history of a page, and returns the old one where it changes.
-pub(crate) fn merge_into(known: &mut Packed, more: Packed) -> Option<Packed>
-    ensures now { Some known.new ≡ latest_of (hist_stamps more ++ hist_stamps known.old) }
-    ensures before { IfSome result (λ h. h ≡ known.old) }
-    ensures differs { IfSome result (λ h. h ≢ known.new) }
-    ensures same { IfNone result (known.new ≡ known.old) }
+// Merges more stamps into the history of a page, puts the old history in their place, and returns
+// whether it changes.
+#[inline]
+pub(crate) fn merge_into(known: &mut Packed, more: &mut Packed) -> bool
+    ensures now { Some known.new ≡ latest_of (hist_stamps more.old ++ hist_stamps known.old) }
+    ensures before { more.new ≡ known.old }
+    ensures differs { IsTrue result → more.new ≢ known.new }
+    ensures same { result ≡ false → known.new ≡ known.old }
 {
     let before = *known;
-    let now = before.joined(more);
+    let now = before.joined(*more);
+    *more = before;
     if now.is_same(before) {
-        return None;
+        return false;
     }
     *known = now;
-    Some(before)
+    true
 }
 
 // Forgets the stamps older than the horizon, and returns whether one is left.

@@ -1,36 +1,36 @@
 //! One of the two maps of a bucket: what is known of pages at keys of one type.
-ghost use Rattle.std.specs.Prelude.{◌≡◌, ◌+◌, ◌<◌, length, IfOk, OnErr};
-ghost use Rattle.warm_history.specs.BucketMaps.{RecordsAt};
+ghost use Rattle.std.specs.BTreeMap.{is_at};
+ghost use Rattle.std.specs.Map.{lookup};
+ghost use Rattle.std.specs.Prelude.{◌≡◌, ◌+◌, ◌<◌, length, IfOk, None, OnErr, OnOk, Some};
+ghost use Rattle.warm_history.specs.BucketMaps.{ChangesAt};
 ghost use Rattle.warm_history.specs.Cuts.{cut_at};
 ghost use Rattle.warm_history.specs.Undo.{put_back_at};
 
-use crate::bucket_map::{MAX_PAIRS, UndoNote};
+use crate::bucket_map::{Change, MAX_PAIRS};
 use crate::packed::{Packed, keep_cut, merge_into, prove_two_latest};
 use std::alloc::AllocError;
 use std::collections::BTreeMap;
-use warm_stamps::PageId;
 
-// Takes in the given stamps of a page with this key, and returns what was known of it where that
-// changes.
+// Takes in the given stamps of a page with this key, and returns how that changes the map. What was
+// known of the page is put in the place of the stamps.
 //
 // Where the page is likely new it inserts first, and otherwise it looks the page up first: each is
 // the faster way for its case.
 pub(crate) fn record_in<K: Ord + Copy>(
     map: &mut BTreeMap<K, Packed>,
     key: K,
-    page: PageId,
-    more: Packed,
+    more: &mut Packed,
     likely_new: bool,
-) -> Result<Option<UndoNote>, AllocError>
+) -> Result<Option<Change>, AllocError>
     ensures ok { IfOk result
-        (λ note. RecordsAt K.cmp map.old.entries page key more note map.new.entries) }
+        (λ change. ChangesAt K.cmp map.old.entries key more.old change more.new map.new.entries) }
     ensures err { OnErr result (map.new.entries ≡ map.old.entries) }
     ensures small { length map.old.entries < MAX_PAIRS → length map.new.entries < MAX_PAIRS }
 {
     if likely_new && map.len() < MAX_PAIRS - 1 {
-        return record_likely_new(map, key, page, more);
+        return record_likely_new(map, key, more);
     }
-    record_likely_known(map, key, page, more)
+    record_likely_known(map, key, more)
 }
 
 // The same for a page that is likely new: it is inserted at once, which costs one descent of the
@@ -38,28 +38,26 @@ pub(crate) fn record_in<K: Ord + Copy>(
 fn record_likely_new<K: Ord + Copy>(
     map: &mut BTreeMap<K, Packed>,
     key: K,
-    page: PageId,
-    more: Packed,
-) -> Result<Option<UndoNote>, AllocError>
+    more: &mut Packed,
+) -> Result<Option<Change>, AllocError>
     requires { length map.old.entries + 1 < MAX_PAIRS }
     ensures ok { IfOk result
-        (λ note. RecordsAt K.cmp map.old.entries page key more note map.new.entries) }
+        (λ change. ChangesAt K.cmp map.old.entries key more.old change more.new map.new.entries) }
     ensures err { OnErr result (map.new.entries ≡ map.old.entries) }
     ensures small { length map.new.entries < MAX_PAIRS }
 {
-    prove_two_latest(&more);
-    let Some(before) = map.insert(key, more)? else {
-        return Ok(Some(UndoNote { page, hist: None }));
+    prove_two_latest(more);
+    let Some(before) = map.insert(key, *more)? else {
+        return Ok(Some(Change::New));
     };
     let Some(known) = map.get_mut(&key) else {
         unreachable!()
     };
     *known = before;
-    let Some(before) = merge_into(known, more) else {
-        return Ok(None);
-    };
-    let hist = Some(before);
-    Ok(Some(UndoNote { page, hist }))
+    if merge_into(known, more) {
+        return Ok(Some(Change::Known));
+    }
+    Ok(None)
 }
 
 // The same for a page that is likely known: it is looked up first, which costs one descent of the
@@ -67,27 +65,42 @@ fn record_likely_new<K: Ord + Copy>(
 fn record_likely_known<K: Ord + Copy>(
     map: &mut BTreeMap<K, Packed>,
     key: K,
-    page: PageId,
-    more: Packed,
-) -> Result<Option<UndoNote>, AllocError>
+    more: &mut Packed,
+) -> Result<Option<Change>, AllocError>
     ensures ok { IfOk result
-        (λ note. RecordsAt K.cmp map.old.entries page key more note map.new.entries) }
+        (λ change. ChangesAt K.cmp map.old.entries key more.old change more.new map.new.entries) }
     ensures err { OnErr result (map.new.entries ≡ map.old.entries) }
     ensures small { length map.old.entries < MAX_PAIRS → length map.new.entries < MAX_PAIRS }
 {
     if let Some(known) = map.get_mut(&key) {
-        let Some(before) = merge_into(known, more) else {
-            return Ok(None);
-        };
-        let hist = Some(before);
-        return Ok(Some(UndoNote { page, hist }));
+        if merge_into(known, more) {
+            return Ok(Some(Change::Known));
+        }
+        return Ok(None);
     }
+    record_new(map, key, more)?;
+    Ok(Some(Change::New))
+}
+
+// The same for a page that is not in the map. A call of its own: a function clears the room of its
+// locals when it is entered, and this one's are large.
+fn record_new<K: Ord + Copy>(
+    map: &mut BTreeMap<K, Packed>,
+    key: K,
+    more: &Packed,
+) -> Result<(), AllocError>
+    requires { lookup (is_at (K.cmp key)) map.old.entries ≡ None }
+    ensures ok { OnOk result
+        (ChangesAt K.cmp map.old.entries key more.now (Some Change.New) more.now map.new.entries) }
+    ensures err { OnErr result (map.new.entries ≡ map.old.entries) }
+    ensures small { length map.old.entries < MAX_PAIRS → length map.new.entries < MAX_PAIRS }
+{
     if map.len() >= MAX_PAIRS - 1 {
         return Err(AllocError);
     }
-    prove_two_latest(&more);
-    map.insert(key, more)?;
-    Ok(Some(UndoNote { page, hist: None }))
+    prove_two_latest(more);
+    map.insert(key, *more)?;
+    Ok(())
 }
 
 // Restores what was known of a page with this key. Allocation-free.

@@ -11,6 +11,7 @@ ghost use Rattle.warm_stamps.specs.declared.TheConstants.{BUCKETS};
 use crate::bucket_maps::BucketMaps;
 use crate::hist::Entry;
 use crate::map_key::{NEAR_DEVICES, first_far_key, first_key, key_of_page, near_key};
+use crate::near_key::NearKey;
 use crate::packed::{Packed, prove_two_latest};
 use std::alloc::{AllocError, Global};
 use warm_stamps::{Bucket, BucketSet, bucket_of};
@@ -82,7 +83,7 @@ fn recent_pairs(
     alloc: Global,
     horizon: u64,
     run: &[Entry],
-) -> Result<Vec<(u64, Packed)>, AllocError>
+) -> Result<Vec<(NearKey, Packed)>, AllocError>
     requires { AreNear run.now }
     ensures { IfOk result (λ pairs. pairs.items ≡ near_run horizon run.now) }
 {
@@ -95,7 +96,7 @@ fn recent_pairs(
 
 // Adds the near pair of an entry, if any of its stamps is left.
 fn push_recent(
-    pairs: &mut Vec<(u64, Packed)>,
+    pairs: &mut Vec<(NearKey, Packed)>,
     horizon: u64,
     entry: &Entry,
 ) -> Result<(), AllocError>

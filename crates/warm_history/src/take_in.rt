@@ -3,7 +3,8 @@
 //!
 //! Each change notes the old value in an undo list. Where an allocation fails the notes are
 //! restored, the last one first, which is allocation-free.
-ghost use Rattle.std.specs.Prelude.{◌≡◌, List, [], ◌∷◌, IfOk, OnOk, OnErr, max};
+ghost use Rattle.std.specs.Prelude.{◌≡◌, ◌<◌, List, [], ◌∷◌, ◌++◌, IfOk, OnOk, OnErr, max};
+ghost use Rattle.std.specs.Prelude.{vec_capacity, vec_len};
 ghost use Rattle.std.specs.Iterator.{IsFinite, Drains};
 ghost use Rattle.warm_history.specs.Changes.{MarksChanged};
 ghost use Rattle.warm_history.specs.MapKeys.{key_of_page, page_of_key};
@@ -19,9 +20,9 @@ ghost use Rattle.warm_history.specs.MapPairs.{
 ghost use Rattle.warm_history.specs.BucketMaps.{found};
 ghost use Rattle.warm_history.specs.Histories.{NoneOlder};
 ghost use Rattle.warm_history.specs.KeptEntries.{kept_entries};
-ghost use Rattle.warm_history.specs.Undo.{undone, LeadsBack};
+ghost use Rattle.warm_history.specs.Undo.{note_of, undone, LeadsBack};
 
-use crate::bucket_map::UndoNote;
+use crate::bucket_map::{Change, UndoNote};
 use crate::bucket_maps::BucketMaps;
 use crate::hist::{Entry, PageHist};
 use crate::packed::Packed;
@@ -91,10 +92,10 @@ fn take_reference(
     ensures whole { AreKept maps.new }
     ensures err { OnErr result (maps.new ≡ maps.old) }
 {
-    let Some(recent) = Packed::once(reference.stamp).cut_before(horizon) else {
+    let Some(mut recent) = Packed::once(reference.stamp).cut_before(horizon) else {
         return Ok(BucketSet::new());
     };
-    let Some(_note) = maps.record(reference.page, recent, false)? else {
+    let Some(_change) = maps.record(reference.page, &mut recent, false)? else {
         return Ok(BucketSet::new());
     };
     Ok(BucketSet::new().with(bucket_of(reference.page)))
@@ -173,18 +174,33 @@ fn take(
     ensures whole { AreKept maps.new }
 {
     undo.reserve(1)?;
-    let Some(note) = maps.record(page, more, likely_new)? else {
+    let mut hist = more;
+    let Some(change) = maps.record(page, &mut hist, likely_new)? else {
         return Ok(Outcome {
             changed: BucketSet::new(),
             is_new: false,
         });
     };
-    let is_new = note.hist.is_none();
-    undo.push_reserved(note);
+    push_note(undo, page, change, &hist);
     Ok(Outcome {
         changed: BucketSet::new().with(bucket_of(page)),
-        is_new,
+        is_new: matches!(change, Change::New),
     })
+}
+
+// Notes a change of a page; where it was known, this was known of it. Each arm writes its note right
+// into the list: a note that is made first is copied twice.
+fn push_note(undo: &mut Vec<UndoNote>, page: PageId, change: Change, before: &Packed)
+    requires { vec_len undo.old < vec_capacity undo.old }
+    ensures { undo.new.items ≡ undo.old.items ++ note_of page change before.now ∷ [] }
+{
+    match change {
+        Change::New => undo.push_reserved(UndoNote { page, hist: None }),
+        Change::Known => undo.push_reserved(UndoNote {
+            page,
+            hist: Some(*before),
+        }),
+    }
 }
 
 // Takes in those of the given stamps of a page that are not older than the horizon.

@@ -28,6 +28,7 @@ ghost use Rattle.warm_history.specs.Walks.{
 };
 
 use crate::bucket_map::MAX_PAIRS;
+use crate::near_key::NearKey;
 use crate::packed::{Packed, merge_into, prove_two_latest};
 use std::alloc::{AllocError, Global};
 use std::collections::BTreeMap;
@@ -40,25 +41,25 @@ const STEPS: usize = 16;
 // The pairs of a map that a walk has ahead: the first, and those after it.
 #[derive(Drop)]
 pub(crate) struct Ahead<'a> {
-    first: Option<(&'a u64, &'a Packed)>,
-    later: Range<'a, u64, Packed>,
+    first: Option<(&'a NearKey, &'a Packed)>,
+    later: Range<'a, NearKey, Packed>,
 }
 
 // What a run changes in a map.
 #[derive(Drop)]
 pub(crate) struct Parts {
     // The values that change.
-    pub(crate) changed: Vec<(u64, Packed)>,
+    pub(crate) changed: Vec<(NearKey, Packed)>,
     // The pairs whose keys are new.
-    pub(crate) fresh: Vec<(u64, Packed)>,
+    pub(crate) fresh: Vec<(NearKey, Packed)>,
 }
 
 // Takes in a run of the map's bucket, and returns whether that changes the map. Where an allocation
 // fails, it changes nothing.
 pub(crate) fn merge_run(
     alloc: Global,
-    map: &mut BTreeMap<u64, Packed>,
-    run: &[(u64, Packed)],
+    map: &mut BTreeMap<NearKey, Packed>,
+    run: &[(NearKey, Packed)],
 ) -> Result<bool, AllocError>
     requires rise { KeysAscend map.old.entries }
     requires run { KeysAscend run.now }
@@ -88,8 +89,8 @@ pub(crate) fn merge_run(
 // last ones.
 fn fill(
     alloc: Global,
-    map: &mut BTreeMap<u64, Packed>,
-    run: &[(u64, Packed)],
+    map: &mut BTreeMap<NearKey, Packed>,
+    run: &[(NearKey, Packed)],
 ) -> Result<bool, AllocError>
     requires free { map.old.entries ≡ [] }
     requires run { KeysAscend run.now }
@@ -111,8 +112,8 @@ fn fill(
 // The map of pairs at rising keys.
 pub(crate) fn map_of(
     alloc: Global,
-    pairs: &[(u64, Packed)],
-) -> Result<BTreeMap<u64, Packed>, AllocError>
+    pairs: &[(NearKey, Packed)],
+) -> Result<BTreeMap<NearKey, Packed>, AllocError>
     requires { KeysAscend pairs.now }
     ensures same { IfOk result (λ map. map.entries ≡ pairs.now) }
     ensures small { IfOk result (λ map. length map.entries < MAX_PAIRS) }
@@ -124,14 +125,17 @@ pub(crate) fn map_of(
     Ok(map)
 }
 
-fn collected(alloc: Global, pairs: &[(u64, Packed)]) -> Result<BTreeMap<u64, Packed>, AllocError>
+fn collected(
+    alloc: Global,
+    pairs: &[(NearKey, Packed)],
+) -> Result<BTreeMap<NearKey, Packed>, AllocError>
     ensures { IfOk result (IsFromIterResult nat_cmp pairs.now) }
 {
     pairs.iter().copied().collect(alloc)
 }
 
 // The pairs of a map from a key on.
-pub(crate) fn ahead_from(map: &BTreeMap<u64, Packed>, key: u64) -> Ahead<'_>
+pub(crate) fn ahead_from(map: &BTreeMap<NearKey, Packed>, key: NearKey) -> Ahead<'_>
     requires { KeysAscend map.now.entries }
     ensures holds { HoldsFrom key (pairs_ahead result) map.now.entries }
     ensures on { AllByRecursion (λ e. key ≤ e.0) (pairs_ahead result) }
@@ -144,9 +148,9 @@ pub(crate) fn ahead_from(map: &BTreeMap<u64, Packed>, key: u64) -> Ahead<'_>
 // The value at a key, where the map has one. The walk goes on from the key: keys are asked for in
 // rising order.
 pub(crate) fn find<'a>(
-    map: &'a BTreeMap<u64, Packed>,
+    map: &'a BTreeMap<NearKey, Packed>,
     ahead: &mut Ahead<'a>,
-    key: u64,
+    key: NearKey,
 ) -> Option<Packed>
     requires rise { KeysAscend map.now.entries }
     requires from { HoldsFrom key (pairs_ahead ahead.old) map.now.entries }
@@ -157,10 +161,10 @@ pub(crate) fn find<'a>(
         let Some((at, hist)) = ahead.first else {
             return None;
         };
-        if key < *at {
+        if key.get() < at.get() {
             return None;
         }
-        if key == *at {
+        if key.get() == at.get() {
             return Some(*hist);
         }
         ahead.first = ahead.later.next();
@@ -171,7 +175,11 @@ pub(crate) fn find<'a>(
 // The same by a look-up from the map's root. As a part of the walk it would have the room of its
 // locals cleared at each step.
 #[inline(never)]
-fn look_up<'a>(map: &'a BTreeMap<u64, Packed>, ahead: &mut Ahead<'a>, key: u64) -> Option<Packed>
+fn look_up<'a>(
+    map: &'a BTreeMap<NearKey, Packed>,
+    ahead: &mut Ahead<'a>,
+    key: NearKey,
+) -> Option<Packed>
     requires { KeysAscend map.now.entries }
     ensures value { result ≡ found key map.now.entries }
     ensures from { HoldsFrom key (pairs_ahead ahead.new) map.now.entries }
@@ -180,7 +188,7 @@ fn look_up<'a>(map: &'a BTreeMap<u64, Packed>, ahead: &mut Ahead<'a>, key: u64) 
     let Some((at, hist)) = ahead.first else {
         return None;
     };
-    if key == *at {
+    if key.get() == at.get() {
         return Some(*hist);
     }
     None
@@ -189,9 +197,9 @@ fn look_up<'a>(map: &'a BTreeMap<u64, Packed>, ahead: &mut Ahead<'a>, key: u64) 
 // Adds a pair of a run to the values that change, where it changes the one known at its key, or to
 // the pairs that are new. What is known often comes again, so that is seen first.
 pub(crate) fn add_part(
-    changed: &mut Vec<(u64, Packed)>,
-    fresh: &mut Vec<(u64, Packed)>,
-    key: u64,
+    changed: &mut Vec<(NearKey, Packed)>,
+    fresh: &mut Vec<(NearKey, Packed)>,
+    key: NearKey,
     more: Packed,
     known: Option<Packed>,
 ) -> Result<(), AllocError>
@@ -221,8 +229,8 @@ fn is_known(more: Packed, before: Packed) -> bool
 // none.
 #[inline(never)]
 fn add_change(
-    changed: &mut Vec<(u64, Packed)>,
-    key: u64,
+    changed: &mut Vec<(NearKey, Packed)>,
+    key: NearKey,
     more: Packed,
     before: Packed,
 ) -> Result<(), AllocError>
@@ -230,16 +238,21 @@ fn add_change(
         → AddsPart (Some before) key more changed.old.items fresh changed.new.items fresh) }
 {
     let mut now = before;
-    let Some(_before) = merge_into(&mut now, more) else {
+    let mut exchanged = more;
+    if !merge_into(&mut now, &mut exchanged) {
         return Ok(());
-    };
+    }
     changed.push((key, now))?;
     Ok(())
 }
 
 // Adds a pair at the end. It is no part of the walk, as `look_up` is none.
 #[inline(never)]
-fn push_pair(pairs: &mut Vec<(u64, Packed)>, key: u64, hist: Packed) -> Result<(), AllocError>
+fn push_pair(
+    pairs: &mut Vec<(NearKey, Packed)>,
+    key: NearKey,
+    hist: Packed,
+) -> Result<(), AllocError>
     ensures { OnOk result (pairs.new.items ≡ pairs.old.items ++ (key, hist) ∷ []) }
 {
     pairs.push((key, hist))?;
@@ -249,8 +262,8 @@ fn push_pair(pairs: &mut Vec<(u64, Packed)>, key: u64, hist: Packed) -> Result<(
 // What a run changes in a map. It only reads.
 fn compare(
     alloc: Global,
-    map: &BTreeMap<u64, Packed>,
-    run: &[(u64, Packed)],
+    map: &BTreeMap<NearKey, Packed>,
+    run: &[(NearKey, Packed)],
 ) -> Result<Parts, AllocError>
     requires rise { KeysAscend map.now.entries }
     requires run { KeysAscend run.now }
@@ -273,8 +286,8 @@ fn compare(
 
 // Puts in pairs whose keys are new or, where an allocation fails, none.
 pub(crate) fn put_all_in(
-    map: &mut BTreeMap<u64, Packed>,
-    fresh: &[(u64, Packed)],
+    map: &mut BTreeMap<NearKey, Packed>,
+    fresh: &[(NearKey, Packed)],
 ) -> Result<(), AllocError>
     requires rise { KeysAscend map.old.entries }
     requires run { KeysAscend fresh.now }
@@ -296,7 +309,10 @@ pub(crate) fn put_all_in(
 }
 
 // Inserts pairs one by one. Where an allocation fails, some may be in.
-fn insert_each(map: &mut BTreeMap<u64, Packed>, pairs: &[(u64, Packed)]) -> Result<(), AllocError>
+fn insert_each(
+    map: &mut BTreeMap<NearKey, Packed>,
+    pairs: &[(NearKey, Packed)],
+) -> Result<(), AllocError>
     requires rise { KeysAscend map.old.entries }
     requires run { KeysAscend pairs.now }
     ensures ok { OnOk result (map.new.entries ≡ with_pairs map.old.entries pairs.now) }
@@ -311,7 +327,7 @@ fn insert_each(map: &mut BTreeMap<u64, Packed>, pairs: &[(u64, Packed)]) -> Resu
 }
 
 // Takes out the values at the keys of these pairs, as far as they are in. Allocation-free.
-pub(crate) fn take_out(map: &mut BTreeMap<u64, Packed>, pairs: &[(u64, Packed)])
+pub(crate) fn take_out(map: &mut BTreeMap<NearKey, Packed>, pairs: &[(NearKey, Packed)])
     requires { KeysAscend map.old.entries }
     ensures { (old : MapPairs) → KeysAscend old → AreAbsent pairs.now old
         → SameElsewhere pairs.now old map.old.entries → map.new.entries ≡ old }
@@ -322,7 +338,7 @@ pub(crate) fn take_out(map: &mut BTreeMap<u64, Packed>, pairs: &[(u64, Packed)])
 }
 
 // Writes values at keys that are there, in the way that is faster. Allocation-free.
-pub(crate) fn write_all(map: &mut BTreeMap<u64, Packed>, pairs: &[(u64, Packed)])
+pub(crate) fn write_all(map: &mut BTreeMap<NearKey, Packed>, pairs: &[(NearKey, Packed)])
     requires rise { KeysAscend map.old.entries }
     requires run { KeysAscend pairs.now }
     requires there { AreThere pairs.now map.old.entries }
@@ -337,7 +353,7 @@ pub(crate) fn write_all(map: &mut BTreeMap<u64, Packed>, pairs: &[(u64, Packed)]
 }
 
 // Writes them in one walk over the map.
-fn write_along(map: &mut BTreeMap<u64, Packed>, pairs: &[(u64, Packed)])
+fn write_along(map: &mut BTreeMap<NearKey, Packed>, pairs: &[(NearKey, Packed)])
     requires rise { KeysAscend map.old.entries }
     requires run { KeysAscend pairs.now }
     requires there { AreThere pairs.now map.old.entries }
@@ -349,7 +365,7 @@ fn write_along(map: &mut BTreeMap<u64, Packed>, pairs: &[(u64, Packed)])
 }
 
 // Writes the first value that is left, where the walk is at its key. The pair of the map stays.
-fn write_next(left: &mut &[(u64, Packed)], key: u64, hist: &mut Packed) -> bool
+fn write_next(left: &mut &[(NearKey, Packed)], key: NearKey, hist: &mut Packed) -> bool
     ensures stays { IsTrue result }
     ensures hist { hist.new ≡ next_value left.old.now key hist.old }
     ensures left { left.new.now ≡ next_left left.old.now key }
@@ -357,7 +373,7 @@ fn write_next(left: &mut &[(u64, Packed)], key: u64, hist: &mut Packed) -> bool
     let Some((first, rest)) = left.split_first() else {
         return true;
     };
-    if first.0 == key {
+    if first.0.get() == key.get() {
         *hist = first.1;
         *left = rest;
     }
@@ -365,7 +381,7 @@ fn write_next(left: &mut &[(u64, Packed)], key: u64, hist: &mut Packed) -> bool
 }
 
 // Looks each of them up.
-fn write_each(map: &mut BTreeMap<u64, Packed>, pairs: &[(u64, Packed)])
+fn write_each(map: &mut BTreeMap<NearKey, Packed>, pairs: &[(NearKey, Packed)])
     requires rise { KeysAscend map.old.entries }
     requires run { KeysAscend pairs.now }
     requires there { AreThere pairs.now map.old.entries }
@@ -378,7 +394,7 @@ fn write_each(map: &mut BTreeMap<u64, Packed>, pairs: &[(u64, Packed)])
     }
 }
 
-fn write(map: &mut BTreeMap<u64, Packed>, key: u64, hist: Packed)
+fn write(map: &mut BTreeMap<NearKey, Packed>, key: NearKey, hist: Packed)
     requires { IsSome (found key map.old.entries) }
     ensures entries { map.new.entries ≡ insert_entry nat_cmp map.old.entries key hist }
     ensures len { length map.new.entries ≡ length map.old.entries }

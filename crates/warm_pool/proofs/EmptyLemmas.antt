@@ -20,7 +20,7 @@ use Rattle.warm_pool.proofs.Loads.{contents_absent}
 use Rattle.warm_pool.proofs.ClosingLemmas.{clean_each, nth_page}
 use Rattle.warm_pool.proofs.SettleLemmas.{down_view}
 use Rattle.warm_pool.specs.declared.selection.Devices.{Devices}
-use Rattle.warm_pool.specs.declared.selection.Devices.TheVariants.{All, One}
+use Rattle.warm_pool.specs.declared.selection.Devices.TheVariants.{All, One, PagesFrom}
 
 -- Fixes
 
@@ -66,6 +66,7 @@ vacate_ranked which f h is = elim (selects which f.page) as (λ t. IsRanked h (c
 vacate_fresh : (which : Devices) → vacate_if which (fresh_frame []) ≡ fresh_frame []
 vacate_fresh All = refl
 vacate_fresh (One dev) = refl
+vacate_fresh (PagesFrom dev first) = refl
 
 pub nth_vacated : (which : Devices) (frames : List FrameState) (i : ℕ)
     → nth_frame (vacated_selected which frames) i ≡ vacate_if which (nth_frame frames i)

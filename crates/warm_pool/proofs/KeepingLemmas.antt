@@ -5,7 +5,6 @@ use Rattle.warm_stamps.specs.declared.PageId.{PageId}
 use Rattle.warm_history.specs.Histories.{HistoryView}
 use Rattle.warm_rank.specs.declared.RankKey.{RankKey}
 use Rattle.warm_pool.specs.declared.slot.Slot.{Slot}
-use Rattle.warm_pool.specs.declared.slot.Placed.{Placed}
 use Rattle.warm_pool.specs.declared.fault.PoolFault.{PoolFault}
 use Rattle.warm_pool.specs.declared.fault.PoolFault.TheVariants.{ReadFault, WriteBack}
 use Rattle.warm_pool.specs.Frames.{FrameState, nth_frame, fresh_frame}
@@ -55,8 +54,8 @@ unknown_leaves h s p hasnt ReadFault refused = absurd (hasnt refused.0)
 unknown_leaves h s p hasnt WriteBack refused = absurd (hasnt refused.0)
 unknown_leaves h s p hasnt why refused = refl
 
-pub full_leaves : (h : HistoryView) (s t : PoolState) (i : ℕ) (p : PageId)
-    (r : Result Placed PoolFault) → IfErr r (λ why. FixRefused s i why t)
+pub full_leaves : (h : HistoryView) (s t : PoolState) (i : ℕ) (p : PageId) {T : Type 0}
+    (r : Result T PoolFault) → IfErr r (λ why. FixRefused s i why t)
     → IfErr r (λ why. LeavesDevices h s p why t)
 full_leaves h s t i p r x = if_err _ _ r x (λ why full. subst (λ y. LeavesDevices h s p y t) (sym full.0) (ap (λ u. u.devices) full.2))
 

@@ -7,7 +7,6 @@ use Rattle.warm_history.specs.Histories.{HistoryView, hist, references_of}
 use Rattle.warm_rank.specs.declared.RankKey.{RankKey}
 use Rattle.warm_rank.specs.Keys.{rank_key}
 use Rattle.warm_pool.specs.declared.slot.Slot.{Slot}
-use Rattle.warm_pool.specs.declared.slot.Placed.{Placed}
 use Rattle.warm_pool.specs.declared.fault.PoolFault.{PoolFault}
 use Rattle.warm_pool.specs.declared.fault.PoolFault.TheVariants.{NoDevice, NoPage, AllFixed, ReadFault, WriteBack, FixesFull}
 use Rattle.warm_pool.specs.Frames.{FrameState, nth_frame, fresh_frame}
@@ -128,17 +127,17 @@ put_stays h old p new why x = absurd x
 
 -- the outcome of a pin, from that of its last step
 module _ (s t : PoolState) (h : HistoryView) (p : PageId) (has : HasPage (view_of s) p) where
-  pub load_put_refused : IsNowhere s.frames p → (r : Result Placed PoolFault)
+  pub load_put_refused : {T : Type 0} → IsNowhere s.frames p → (r : Result T PoolFault)
       → IfErr r (λ why. PutRefused h (view_of s) p why (view_of t))
       → IfErr r (λ why. LoadRefused h (view_of s) p why (view_of t))
   load_put_refused away r x = if_err _ _ r x (load_refused h (view_of s) p (view_of t) has (absent_seen s p away))
 
-  pub pin_put_refused : IsNowhere s.frames p → (r : Result Placed PoolFault)
+  pub pin_put_refused : {T : Type 0} → IsNowhere s.frames p → (r : Result T PoolFault)
       → IfErr r (λ why. PutRefused h (view_of s) p why (view_of t))
       → IfErr r (λ why. PinRefused h (view_of s) p why (view_of t))
   pin_put_refused away r x = if_err _ _ r (load_put_refused away r x) (pin_refused h (view_of s) p (view_of t))
 
-  pub stays_put : (r : Result Placed PoolFault)
+  pub stays_put : {T : Type 0} (r : Result T PoolFault)
       → IfErr r (λ why. PutRefused h (view_of s) p why (view_of t))
       → OnErr r (SameButFailures (view_of s) (view_of t))
   stays_put r x = if_err _ _ r x (put_stays h (view_of s) p (view_of t))
@@ -146,13 +145,13 @@ module _ (s t : PoolState) (h : HistoryView) (p : PageId) (has : HasPage (view_o
 -- a page with the greatest pin count
 pub pin_full : (s t : PoolState) (h : HistoryView) (p : PageId) (i : ℕ) → HasPage (view_of s) p
     → i < length s.frames → (nth_frame s.frames i).page ≡ Some p
-    → (r : Result Placed PoolFault)
+    → {T : Type 0} (r : Result T PoolFault)
     → IfErr r (λ why. (why ≡ FixesFull) × ((nth_frame s.frames i).fixes ≡ 2 ^ 32 - 1) × (t ≡ s))
     → IfErr r (λ why. PinRefused h (view_of s) p why (view_of t))
 pin_full s t h p i has there holds r x = if_err _ _ r x (λ why full. subst (λ y. PinRefused h (view_of s) p y (view_of t)) (sym full.0)
     (inl (has, record { frame = i; there = subst (λ m. i < m) (sym (length-map s.frames frame_view)) there; resident = ap (λ f. f.page) (frame_seen s i) ∙ holds; full = ap (λ f. f.fixes) (frame_seen s i) ∙ full.1 }, ap view_of full.2)))
 
-pub full_stays : (s t : PoolState) (i : ℕ) (r : Result Placed PoolFault)
+pub full_stays : (s t : PoolState) (i : ℕ) {T : Type 0} (r : Result T PoolFault)
     → IfErr r (λ why. (why ≡ FixesFull) × ((nth_frame s.frames i).fixes ≡ 2 ^ 32 - 1) × (t ≡ s))
     → OnErr r (SameButFailures (view_of s) (view_of t))
 full_stays s t i r x = if_err _ _ r x (λ why full. stays_by (view_of s) (view_of t) (view_of s).failures (ap view_of full.2))

@@ -1,6 +1,7 @@
 -- Writing back: the page of one frame, those of the selected frames, and those of all frames.
 use Rattle.std.specs.Prelude.{ℕ, ◌≡◌, ◌≢◌, ◌<◌, ◌≤◌, ◌==◌, Bool, false, IsTrue, List, map, length}
-use Rattle.std.specs.Prelude.{Option, Some, None, if◌then◌else◌, true, ◌++◌, take, drop, set}
+use Rattle.std.specs.Prelude.{Option, Some, None, if◌then◌else◌, true, ◌++◌, take, drop, set, ◌&&◌}
+use Rattle.std.specs.Prelude.{nat_le}
 use Rattle.warm_stamps.specs.declared.PageId.{PageId}
 use Rattle.warm_devices.specs.Device.{DeviceState, SameShape}
 use Rattle.warm_pool.specs.Frames.{FrameState, nth_frame, cleaned}
@@ -8,7 +9,7 @@ use Rattle.warm_pool.specs.State.{PoolState, nth_device, IsNowhere}
 use Rattle.warm_pool.specs.View.{stored, view_of}
 use Rattle.warm_pool.specs.Keeping.{FailsAt}
 use Rattle.warm_pool.specs.declared.selection.Devices.{Devices}
-use Rattle.warm_pool.specs.declared.selection.Devices.TheVariants.{All, One}
+use Rattle.warm_pool.specs.declared.selection.Devices.TheVariants.{All, One, PagesFrom}
 
 -- All pages
 
@@ -67,17 +68,34 @@ pub record CleanFails (old : PoolState) (i : ℕ) (new : PoolState) : Type 0 whe
   pub others : (k : ℕ) → k ≢ page.dev → nth_device new.devices k ≡ nth_device old.devices k
   pub fails : FailsAt (view_of old) page.dev (view_of new)
 
--- The selected frames: those of one device, or all
+-- The selected frames: those of one device, of its last pages, or all
 
 -- the page is of this device
 abbrev pub is_on : ℕ → Option PageId → Bool
 is_on dev None = false
 is_on dev (Some p) = p.dev == dev
 
+-- the page is of this device, and has this number or a higher one
+abbrev pub is_from : ℕ → ℕ → Option PageId → Bool
+is_from dev first None = false
+is_from dev first (Some p) = (p.dev == dev) && nat_le first p.no
+
 -- whether a frame with this page is selected: all frames are, where no device is named
 abbrev pub selects : Devices → Option PageId → Bool
 selects All page = true
 selects (One dev) page = is_on dev page
+selects (PagesFrom dev first) page = is_from dev first page
+
+-- each device is unchanged but that of this page
+abbrev pub KeepsDevicesBut : Option PageId → PoolState → PoolState → Type 0
+KeepsDevicesBut page old new = (k : ℕ) → is_on k page ≡ false
+    → nth_device new.devices k ≡ nth_device old.devices k
+
+-- each device of which no page is selected is unchanged
+abbrev pub KeepsUnselected : Devices → PoolState → PoolState → Type 0
+KeepsUnselected which old new =
+    (k : ℕ) → ((p : PageId) → p.dev ≡ k → selects which (Some p) ≡ false)
+    → nth_device new.devices k ≡ nth_device old.devices k
 
 abbrev pub clean_if : Devices → FrameState → FrameState
 clean_if which f = if selects which f.page then cleaned f else f

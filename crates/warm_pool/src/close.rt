@@ -5,6 +5,8 @@ ghost use Rattle.warm_pool.specs.State.{IsSettled, IsRankedByAll, nth_device};
 ghost use Rattle.warm_pool.specs.View.{IsUnfixed, view_of};
 ghost use Rattle.warm_pool.specs.Keeping.{FailsAt, KeepsRanks};
 ghost use Rattle.warm_pool.specs.WritingBack.{WriteBackFails, WritesBackAll, WritesBackOne};
+ghost use Rattle.warm_pool.specs.WritingBack.{KeepsUnselected};
+ghost use Rattle.warm_pool.specs.WritingSome.{KeepsOtherDevices};
 ghost use Rattle.warm_pool.specs.WritingBack.{SelectedFails, StopsAt, clean_if};
 ghost use Rattle.warm_pool.specs.Retiring.{EmptyRefused, Emptied, RetireRefused, Retired};
 ghost use Rattle.warm_pool.specs.Retiring.{AreUnfixed, AreClean, IsFixedIn, KeepsElsewhere};
@@ -154,7 +156,7 @@ impl<D: PageDevice> Pool<D> {
     }
 
     // Writes back the pages of one device and flushes it.
-    fn settle_device(&mut self, dev: u16) -> Result<(), DeviceFault>
+    pub(crate) fn settle_device(&mut self, dev: u16) -> Result<(), DeviceFault>
         requires there { dev < length self.old.devices }
         ensures down { OnOk result (WritesBackAll (One dev)
             self.old self.new) }
@@ -162,10 +164,11 @@ impl<D: PageDevice> Pool<D> {
             self.new.devices dev).waiting ≡ false) }
         ensures stopped { OnErr result (FailsAt (view_of self.old) dev (view_of self.new)) }
         ensures elsewhere { KeepsElsewhere dev self.old self.new }
+        ensures others { KeepsOtherDevices dev self.old self.new }
         ensures ranked { KeepsRanks self.old self.new }
     {
         self.clean_selected(Devices::One(dev))?;
-        flush_device(&mut self.devices, dev as usize)?;
+        flush_device(&mut self.devices, &mut self.tally, dev as usize)?;
         Ok(())
     }
 
@@ -210,7 +213,7 @@ impl<D: PageDevice> Pool<D> {
         ensures ranked { KeepsRanks self.old self.new }
     {
         self.clean_selected(Devices::All)?;
-        flush_all(&mut self.devices)?;
+        flush_all(&mut self.devices, &mut self.tally)?;
         Ok(())
     }
 
@@ -220,6 +223,7 @@ impl<D: PageDevice> Pool<D> {
             self.old self.new) }
         ensures stopped { OnErr result (StopsAt which
             self.old self.new) }
+        ensures others { KeepsUnselected which self.old self.new }
     {
         for at in 0..self.frames.len() {
             self.clean_if(at, which)?;
@@ -228,22 +232,23 @@ impl<D: PageDevice> Pool<D> {
     }
 
     // Writes back the page of a frame, where it is selected.
-    fn clean_if(&mut self, at: usize, which: Devices) -> Result<(), DeviceFault>
+    pub(crate) fn clean_if(&mut self, at: usize, which: Devices) -> Result<(), DeviceFault>
         requires there { at < length self.old.frames }
         ensures down { OnOk result (WritesBackOne which
             self.old at self.new) }
         ensures failed { OnErr result (SelectedFails which
             self.old at self.new) }
+        ensures others { KeepsUnselected which self.old self.new }
     {
         if !which.selects(self.frames.page(at)) {
             return Ok(());
         }
-        write_back(&mut self.frames, &mut self.devices, at)
+        write_back(&mut self.frames, &mut self.devices, &mut self.tally, at)
     }
 }
 
 // Whether a selected frame has a pinned page.
-fn is_fixed(frames: &Frames, which: Devices) -> bool
+pub(crate) fn is_fixed(frames: &Frames, which: Devices) -> bool
     ensures { MatchBool result (IsFixedIn which frames.now.frames)
         (AreUnfixed which frames.now.frames) }
 {

@@ -1,14 +1,16 @@
-//! Calls of one of a pool's devices, and their effect on the device list.
+//! Calls of one of a pool's devices, and their effect on the device list. Each is told to the tally.
 ghost use Rattle.std.specs.Prelude.{◌≡◌, ◌↔◌, ◌<◌, IsTrue, map, length};
 ghost use Rattle.warm_pool.specs.State.{nth_device};
 ghost use Rattle.warm_pool.specs.DeviceCalls.{AreOfSize, PageRead, PageWrite};
 
+use crate::tally::Tally;
 use warm_devices::{DeviceFault, PageDevice};
 use warm_stamps::PageId;
 
 /// Reads one page of one of the devices.
 pub(crate) fn read_page<D: PageDevice>(
     devices: &mut Vec<D>,
+    tally: &mut Tally,
     page: PageId,
     into: &mut Vec<u8>,
 ) -> Result<(), DeviceFault>
@@ -20,12 +22,15 @@ pub(crate) fn read_page<D: PageDevice>(
         (map D.state devices.new.items) page.dev page.no into.new.items result }
     ensures len { length into.new.items ≡ length into.old.items }
 {
-    devices[page.dev as usize].read(page.no, into)
+    let done = devices[page.dev as usize].read(page.no, into);
+    tally.read(page, done.is_ok());
+    done
 }
 
 /// Writes one page of one of the devices.
 pub(crate) fn write_page<D: PageDevice>(
     devices: &mut Vec<D>,
+    tally: &mut Tally,
     page: PageId,
     bytes: &[u8],
 ) -> Result<(), DeviceFault>
@@ -36,7 +41,9 @@ pub(crate) fn write_page<D: PageDevice>(
     ensures { PageWrite (map D.state devices.old.items)
         (map D.state devices.new.items) page.dev page.no bytes.now result }
 {
-    devices[page.dev as usize].write(page.no, bytes)
+    let done = devices[page.dev as usize].write(page.no, bytes);
+    tally.wrote(page, done.is_ok());
+    done
 }
 
 /// The number of pages of one of the devices.

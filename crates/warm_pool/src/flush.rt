@@ -3,18 +3,22 @@ ghost use Rattle.std.specs.Prelude.{◌≡◌, ℕ, ◌<◌, length, map, set, f
 ghost use Rattle.warm_pool.specs.State.{nth_device};
 ghost use Rattle.warm_pool.specs.Flushes.{DeviceFlush, FlushedTo, FlushStops, NoneWaits};
 
+use crate::tally::Tally;
 use std::mem;
 use warm_devices::{DeviceFault, PageDevice, let_go};
 
 /// Flushes each unflushed device, in rising order, up to the first that fails.
-pub(crate) fn flush_all<D: PageDevice>(devices: &mut Vec<D>) -> Result<(), DeviceFault>
+pub(crate) fn flush_all<D: PageDevice>(
+    devices: &mut Vec<D>,
+    tally: &mut Tally,
+) -> Result<(), DeviceFault>
     ensures flushed { OnOk result (FlushedTo (length devices.old.items)
         (map D.state devices.old.items) (map D.state devices.new.items)) }
     ensures stopped { OnErr result (FlushStops
         (map D.state devices.old.items) (map D.state devices.new.items)) }
 {
     for at in 0..devices.len() {
-        flush_device(devices, at)?;
+        flush_device(devices, tally, at)?;
     }
     Ok(())
 }
@@ -22,6 +26,7 @@ pub(crate) fn flush_all<D: PageDevice>(devices: &mut Vec<D>) -> Result<(), Devic
 /// Flushes one of the devices, where it is unflushed.
 pub(crate) fn flush_device<D: PageDevice>(
     devices: &mut Vec<D>,
+    tally: &mut Tally,
     at: usize,
 ) -> Result<(), DeviceFault>
     requires { at < length devices.old.items }
@@ -31,7 +36,9 @@ pub(crate) fn flush_device<D: PageDevice>(
     if !devices[at].waiting() {
         return Ok(());
     }
-    devices[at].flush()
+    let done = devices[at].flush();
+    tally.flushed(at, done.is_ok());
+    done
 }
 
 /// Drops flushed devices.

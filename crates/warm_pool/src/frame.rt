@@ -1,4 +1,8 @@
 //! The contents of a frame.
+ghost use Rattle.std.specs.Prelude.{◌≡◌, vec_len, ◌<◌};
+ghost use Rattle.std.specs.Borrow.{sem};
+ghost use Rattle.warm_pool.specs.Lending.{LendsBody, LendsBodyOf, nth_body};
+
 use std::marker::Model;
 use warm_rank::RankKey;
 
@@ -28,4 +32,23 @@ impl Model for Frame {
     ghost Value = { FrameBody };
 
     ghost view = { λ f. record { key = f.key; generation = f.generation; bytes = f.bytes.items } };
+}
+
+impl Frame {
+    // Lends the bytes of the frame.
+    fn bytes_mut(&mut self) -> &mut [u8]
+        ensures* writes_back { sem 𝓛 (LendsBody self.entry result) }
+        ensures bytes { result.now ≡ self.old.bytes }
+    {
+        self.bytes.as_mut_slice()
+    }
+}
+
+/// Lends the bytes of one of the frames.
+pub(crate) fn bytes_mut_of(frames: &mut Vec<Frame>, at: usize) -> &mut [u8]
+    requires { at < vec_len frames.old }
+    ensures* writes_back { sem 𝓛 (LendsBodyOf frames.entry at result) }
+    ensures bytes { result.now ≡ (nth_body frames.old.items at).bytes }
+{
+    frames[at].bytes_mut()
 }

@@ -1,6 +1,7 @@
 //! The frames of a pool, without its devices.
 ghost use Rattle.std.specs.Prelude.{◌≡◌, ◌≢◌, None, ◌+◌, ◌-◌, ◌^◌, ◌<◌, ◌≤◌, map, length};
 ghost use Rattle.std.specs.Prelude.{replicate, IfOk};
+ghost use Rattle.std.specs.Borrow.{sem};
 ghost use Rattle.warm_rank.specs.Keys.{key_cmp};
 ghost use Rattle.warm_rank.specs.Slots.{IsLeast};
 ghost use Rattle.warm_pool.specs.Frames.{nth_frame, fresh_body, unused_status, eviction_key};
@@ -9,11 +10,12 @@ ghost use Rattle.warm_pool.specs.FrameSteps.{fresh_frames, fresh_bodies, pages_h
 ghost use Rattle.warm_pool.specs.FrameSteps.{fixed, unfixed, ranked, loaded_frame, filled_body};
 ghost use Rattle.warm_pool.specs.FrameSteps.{written};
 ghost use Rattle.warm_pool.specs.PageBytes.{patched};
+ghost use Rattle.warm_pool.specs.Lending.{LendsFrame};
 ghost use Rattle.warm_pool.specs.PageTable.{IsPlaceOf, IsFirstFree};
 ghost use Rattle.warm_pool.specs.Retiring.{AreClean, vacated_selected};
 
 use crate::competing::Competing;
-use crate::frame::{Frame, Status};
+use crate::frame::{Frame, Status, bytes_mut_of};
 use crate::page_table::PageTable;
 use crate::selection::Devices;
 use std::alloc::{AllocError, Global};
@@ -88,6 +90,13 @@ impl Frames {
         ensures { result ≡ (nth_frame self.now.frames at).page }
     {
         self.page_table.page(at)
+    }
+
+    /// The page of each frame, if any.
+    pub(crate) fn pages(&self) -> &[Option<PageId>]
+        ensures { result.now ≡ pages_held self.now.frames }
+    {
+        self.page_table.pages()
     }
 
     /// The pin count of the page in a frame.
@@ -227,6 +236,17 @@ impl Frames {
     {
         let status = &mut self.statuses[at];
         status.dirty = false;
+    }
+
+    /// Lends the bytes in a frame, whose page becomes dirty.
+    pub(crate) fn bytes_mut(&mut self, at: usize) -> &mut [u8]
+        requires there { at < length self.old.frames }
+        ensures* writes_back { sem 𝓛 (LendsFrame self.entry at result) }
+        ensures bytes { result.now ≡ (nth_frame self.old.frames at).bytes }
+    {
+        let status = &mut self.statuses[at];
+        status.dirty = true;
+        bytes_mut_of(&mut self.frames, at)
     }
 
     /// Writes bytes into a page from `from` on.

@@ -6,32 +6,41 @@
 //! the victim: of the unpinned resident pages, the one of the greatest backward 2-distance (O'Neil,
 //! O'Neil, Weikum, "The LRU-K Page Replacement Algorithm For Database Disk Buffering", SIGMOD
 //! 1993), as a history ranks them. A dirty page is written back to its device before it is evicted.
-//! No call changes a byte of a page but [`Pool::write`], and [`Pool::retire`], which replaces all
-//! pages of a device with those of another. That is proved of each page of an honest device, which
-//! gives back what was written to it, and otherwise of pages that are resident before and after a
-//! call. The pin count of a page is called its fixes, and a pinned page is fixed.
+//! No call changes a byte of a page but [`Pool::write`], [`Pool::bytes_mut`] and
+//! [`Pool::pin_zeroed`], of one page, [`Pool::retire`], which replaces all pages of a device with
+//! those of another, and [`Pool::forget_pages`], which gives up what was not written back. That is
+//! proved of each page of an honest device, which gives back what was written to it, and otherwise
+//! of pages that are resident before and after a call. The pin count of a page is called its fixes,
+//! and a pinned page is fixed.
 //!
 //! Contracts see a pool as plain data, a `PoolState`, and `view_of` gives what a caller sees of it.
 //! They are defined in `specs/State.antt` and `specs/View.antt`, and the effects of the calls in
-//! `Opening.antt`, `Pinning.antt`, `PageBytes.antt`, `Refreshing.antt`, `WritingBack.antt` and
-//! `Retiring.antt` beside them. `IsPool` is the invariant of the type, which each call keeps. The
-//! devices come from the caller, and are of one type; the pool drops a device only where it is
-//! flushed.
+//! `Opening.antt`, `Pinning.antt`, `Zeroing.antt`, `PageBytes.antt`, `Lending.antt`,
+//! `Refreshing.antt`, `WritingBack.antt`, `WritingSome.antt`, `Retiring.antt` and `Forgetting.antt`
+//! beside them. What a pool counts ([`Pool::counts`], [`Pool::last_failure`]) is no part of it.
+//! `IsPool` is the invariant of the type, which each call keeps. The devices come from the caller,
+//! and are of one type; the pool drops a device only where it is flushed.
 #![tactic(auto)]
 
 mod close;
 mod competing;
+mod counting;
 mod device_list;
 mod fault;
 mod flush;
+mod forget;
 mod frame;
 mod frames;
 pub mod laws;
+mod lending;
 mod named;
 mod page_table;
 mod pool;
 mod selection;
 mod slot;
+mod tally;
+mod write_some;
+mod zeroed;
 
 pub use close::CloseError;
 pub use device_list::all_sized;
@@ -39,6 +48,7 @@ pub use fault::{NewPoolError, NewPoolFault, PoolFault, RetireError};
 pub use named::NamesPage;
 pub use pool::Pool;
 pub use slot::{Placed, Slot};
+pub use tally::{FailedCall, PoolCounts};
 
 /// The maximum number of devices of a pool: a page names its device in 16 bits.
 pub const MAX_DEVICES: usize = 65_536;

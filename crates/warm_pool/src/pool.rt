@@ -13,7 +13,7 @@ ghost use Rattle.warm_pool.specs.View.{view_of, HasPage, IsResident, Holds};
 ghost use Rattle.warm_pool.specs.Keeping.{SameButFailures, KeepsRanks, KeepsBytes, KeepsFrames};
 ghost use Rattle.warm_pool.specs.Keeping.{KeepsOthers};
 ghost use Rattle.warm_pool.specs.Opening.{IsUpTo, IsSize, NewPoolRefused};
-ghost use Rattle.warm_pool.specs.WritingBack.{Cleans, CleanFails};
+ghost use Rattle.warm_pool.specs.WritingBack.{Cleans, CleanFails, KeepsDevicesBut};
 ghost use Rattle.warm_pool.specs.Pinning.{Pinned, PinRefused, Loaded, IsPlaced, LoadRefused};
 ghost use Rattle.warm_pool.specs.Pinning.{PutsIn, PutRefused, unpinned, current_slot, IsNextVictim};
 ghost use Rattle.warm_pool.specs.Pinning.{LoadsInto, LoadFails, FixesPage, FixRefused};
@@ -30,6 +30,7 @@ use crate::fault::{NewPoolError, NewPoolFault, PoolFault};
 use crate::frames::Frames;
 use crate::named::NamesPage;
 use crate::slot::{Placed, Slot};
+use crate::tally::Tally;
 use std::alloc::Global;
 use std::marker::Model;
 use warm_devices::{DeviceFault, MAX_PAGE_SIZE, PageDevice};
@@ -52,6 +53,8 @@ pub struct Pool<D: PageDevice> {
     pub(crate) devices: Vec<D>,
     // A page is first read into this buffer, so that a failed read changes no frame.
     pub(crate) spare: Vec<u8>,
+    // Not part of what contracts see.
+    pub(crate) tally: Tally,
 }
 
 // Written by hand, so that an owner makes one call on each exit path (see `History`).
@@ -61,6 +64,7 @@ impl<D: PageDevice> Drop for Pool<D> {
             frames,
             devices,
             spare,
+            tally: _,
         } = self;
         drop(frames);
         drop(devices);
@@ -90,6 +94,7 @@ impl<D: PageDevice> Pool<D> {
             frames,
             devices,
             spare,
+            tally: _,
         } = self;
         drop(frames);
         drop(spare);
@@ -124,6 +129,7 @@ impl<D: PageDevice> Pool<D> {
                 frames,
                 devices,
                 spare,
+                tally: Tally::new(),
             }),
             Err(fault) => Err(NewPoolError { fault, devices }),
         }
@@ -441,7 +447,7 @@ impl<D: PageDevice> Pool<D> {
     }
 
     // Checks that a device has the page; otherwise returns why it can't be loaded.
-    fn check(&self, page: PageId) -> Result<(), PoolFault>
+    pub(crate) fn check(&self, page: PageId) -> Result<(), PoolFault>
         ensures known { OnOk result (HasPage (view_of self.now) page) }
         ensures unknown { OnErr result (HasPage (view_of self.now) page → ⊥) }
         ensures load { IfErr result (λ fault. (h : HistoryView) → LoadRefused h
@@ -460,7 +466,7 @@ impl<D: PageDevice> Pool<D> {
     }
 
     // The slot of a frame's current page.
-    fn slot_at(&self, at: usize) -> Slot
+    pub(crate) fn slot_at(&self, at: usize) -> Slot
         requires { at < length self.now.frames }
         ensures { result ≡ current_slot self.now at }
     {
@@ -472,7 +478,7 @@ impl<D: PageDevice> Pool<D> {
     }
 
     // Adds a pin to a resident page. No page is evicted for it.
-    fn add_fix(&mut self, at: usize) -> Result<Placed, PoolFault>
+    pub(crate) fn add_fix(&mut self, at: usize) -> Result<Placed, PoolFault>
         requires there { at < length self.old.frames }
         requires held { (nth_frame self.old.frames at).page ≢ None }
         ensures ranked { KeepsRanks self.old self.new }
@@ -489,6 +495,7 @@ impl<D: PageDevice> Pool<D> {
         let slot = self.slot_at(at);
         if self.frames.fixes(at) < u32::MAX {
             self.frames.fix(at);
+            self.tally.hit();
             return Ok(Placed {
                 slot,
                 evicted: None,
@@ -498,7 +505,7 @@ impl<D: PageDevice> Pool<D> {
     }
 
     // The frame into which a page is loaded.
-    fn frame_to_load(&mut self) -> Option<usize>
+    pub(crate) fn frame_to_load(&mut self) -> Option<usize>
         ensures same { self.new ≡ self.old }
         ensures to_load { IsNextFrameToLoad self.old result }
         ensures there { IfSome result (λ at. at < length self.old.frames) }
@@ -599,12 +606,13 @@ impl<D: PageDevice> Pool<D> {
         ensures refused { IfErr result (λ fault. LoadFails
             self.old at page fault self.new) }
     {
-        if read_page(&mut self.devices, page, &mut self.spare).is_err() {
+        if read_page(&mut self.devices, &mut self.tally, page, &mut self.spare).is_err() {
             return Err(PoolFault::ReadFault);
         }
-        if write_back(&mut self.frames, &mut self.devices, at).is_err() {
+        if write_back(&mut self.frames, &mut self.devices, &mut self.tally, at).is_err() {
             return Err(PoolFault::WriteBack);
         }
+        self.tally.came_in(fixes, self.frames.page(at));
         self.frames.install(at, page, key, fixes, &mut self.spare);
         Ok(())
     }
@@ -618,6 +626,7 @@ impl<D: PageDevice> Pool<D> {
 pub(crate) fn write_back<D: PageDevice>(
     frames: &mut Frames,
     devices: &mut Vec<D>,
+    tally: &mut Tally,
     at: usize,
 ) -> Result<(), DeviceFault>
     requires fit { IsPool (pool_over D.state frames.old frames.old.page_size devices.old.items) }
@@ -629,6 +638,9 @@ pub(crate) fn write_back<D: PageDevice>(
     ensures failed { OnErr result (CleanFails
         (pool_over D.state frames.old frames.old.page_size devices.old.items) at
         (pool_over D.state frames.new frames.old.page_size devices.new.items)) }
+    ensures others { KeepsDevicesBut (nth_frame frames.old.frames at).page
+        (pool_over D.state frames.old frames.old.page_size devices.old.items)
+        (pool_over D.state frames.new frames.old.page_size devices.new.items) }
 {
     let Some(page) = frames.page(at) else {
         return Ok(());
@@ -636,7 +648,7 @@ pub(crate) fn write_back<D: PageDevice>(
     if !frames.is_dirty(at) {
         return Ok(());
     }
-    write_page(devices, page, frames.bytes(at))?;
+    write_page(devices, tally, page, frames.bytes(at))?;
     frames.clean(at);
     Ok(())
 }
@@ -680,7 +692,7 @@ fn check_shape<D: PageDevice>(
 }
 
 // The rank that the history gives a page.
-fn rank_of(history: &History, page: PageId) -> RankKey
+pub(crate) fn rank_of(history: &History, page: PageId) -> RankKey
     ensures { result ≡ rank_key page (hist (references_of history.now) page) }
 {
     // The rank is over the references that the history holds: their history is this history.

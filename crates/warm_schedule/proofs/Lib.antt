@@ -8,6 +8,7 @@ pub mod Parts
 pub mod OnePass
 pub mod Stream
 pub mod Few
+pub mod Frequent
 mod Tables
 mod Workers
 mod Runs

@@ -15,7 +15,7 @@ step n x d rest h = ap (λ (o : Option ℕ). o >>= λ e. digits_after (10 * n + 
 digit_byte : (d : ℕ) → d < 10 → is_digit (48 + d) ≡ true
 digit_byte d lt = rw (le-leb 48 (48 + d) (omega arith), le-leb (48 + d) 57 (omega (arith, lt))) refl
 
-digit_value : (d : ℕ) → d < 10 → digit_of (48 + d) ≡ Some d
+pub digit_value : (d : ℕ) → d < 10 → digit_of (48 + d) ≡ Some d
 digit_value d lt = let minus : 48 + d - 48 ≡ d = omega arith in rw (digit_byte d lt, minus) refl
 
 pub digits_go_on : (n d : ℕ) (text rest : List ℕ) → d < 10 → text ≡ (48 + d) ∷ rest

@@ -1,6 +1,6 @@
 -- A field read at the head of a text, in one pass over its bytes.
-use Rattle.std.proofs.Common.{◌≡◌, inl, inr, ℕ, ◌<◌, length, List, [], ◌∷◌, Option, Some, None, refl, sym, ap, ◌∙◌, arith}
-use Rattle.std.proofs.lemmas.Bool.{cases_eq, eq-eqb, ne_eqb}
+use Rattle.std.proofs.Common.{◌≡◌, ◌≢◌, ◌+◌, ◌*◌, inl, inr, ℕ, ◌<◌, length, List, [], ◌∷◌, Option, Some, None, refl, sym, ap, ◌∙◌, arith}
+use Rattle.std.proofs.lemmas.Bool.{cases_eq, eq-eqb, ne_eqb, le-leb}
 use Rattle.std.specs.Prelude.{filter}
 use Rattle.warm_stamps.specs.declared.PageId.{PageId}
 use Rattle.warm_pool.specs.declared.slot.Slot.{Slot}
@@ -8,6 +8,7 @@ use Rattle.warm_schedule.specs.Text.{split, words, has_bytes}
 use Rattle.warm_schedule.specs.Fields.{◌>>=◌, number_up_to, page_of_word, page_of_parts, slot_of_word, slot_of_parts, number_field, page_field, after_field, slot_field}
 use Rattle.warm_schedule.specs.Heads.{after_digits, number_at, behind, words_behind, page_at, slot_at}
 use Rattle.warm_schedule.proofs.Words.{first_word, word_then, words_later, number_end}
+use Rattle.warm_schedule.proofs.Numbers.{digit_value}
 use Rattle.warm_schedule.proofs.Parts.{two_of, pair_end}
 
 -- the words of a text that begins with no space
@@ -30,6 +31,15 @@ pub number_read : (limit : ℕ) (text : List ℕ) → behind 32 text ≡ None
 unfolding number_field number_at number_up_to words
 number_read limit [] none = refl
 number_read limit (c ∷ cs) none = ap (number_field limit) (word_first c cs none) ∙ number_end limit (c ∷ cs) (λ n later. Some (n, later))
+
+-- one digit before a space
+pub one_digit_read : (text rest : List ℕ) (d : ℕ) → text ≡ (48 + d) ∷ 32 ∷ rest → d < 10
+    → Some (d, words rest) ≡ number_field 65535 (words text)
+unfolding number_field number_up_to words
+one_digit_read text rest d parts lt =
+    let other : 48 + d ≢ 32 = λ e. omega (arith, e) in
+    let zero : 10 * 0 + d ≡ d = omega arith in
+    rw (parts, ne_eqb (48 + d) 32 other, digit_value d lt, zero, le-leb d 65535 (omega (arith, lt))) refl
 
 -- ---- pages and slots
 

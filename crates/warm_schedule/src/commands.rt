@@ -129,7 +129,8 @@ fn ends_with(rest: &[u8], event: Event) -> Option<ParsedLine<'_>>
 // ---- the readers, each of what follows the first word
 
 #[tactic(auto, unfolding(crate::specs::Grammar::refer_of))]
-fn refer(fields: &[u8]) -> Option<ParsedLine<'_>>
+#[inline(never)]
+pub(crate) fn refer(fields: &[u8]) -> Option<ParsedLine<'_>>
     ensures { option_and_then line_parsed result
         ≡ option_map meant.Event (refer_of (words fields.now)) }
 {
@@ -182,7 +183,8 @@ fn deliver(fields: &[u8]) -> Option<ParsedLine<'_>>
 }
 
 #[tactic(auto, unfolding(crate::specs::Grammar::pin_of))]
-fn pin(fields: &[u8]) -> Option<ParsedLine<'_>>
+#[inline(never)]
+pub(crate) fn pin(fields: &[u8]) -> Option<ParsedLine<'_>>
     ensures { option_and_then line_parsed result
         ≡ option_map meant.Event (pin_of (words fields.now)) }
 {
@@ -192,7 +194,8 @@ fn pin(fields: &[u8]) -> Option<ParsedLine<'_>>
 }
 
 #[tactic(auto, unfolding(crate::specs::Grammar::unpin_of))]
-fn unpin(fields: &[u8]) -> Option<ParsedLine<'_>>
+#[inline(never)]
+pub(crate) fn unpin(fields: &[u8]) -> Option<ParsedLine<'_>>
     ensures { option_and_then line_parsed result
         ≡ option_map meant.Event (unpin_of (words fields.now)) }
 {

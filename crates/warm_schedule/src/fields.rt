@@ -160,11 +160,10 @@ pub(crate) fn parse_bytes(alloc: Global, word: &[u8]) -> Result<ByteList, LineFa
 
 // ---- one field, and what follows it
 
-// A number. Out of line: taken into the reader of a command, each digit would also clear the parts
-// of the reader's `None`.
+// A number.
 #[tactic(auto, using(crate::proofs::OnePass::number_read))]
-#[inline(never)]
-fn read_number(fields: &[u8], limit: u64) -> Option<(u64, &[u8])>
+#[inline(always)]
+fn number_in(fields: &[u8], limit: u64) -> Option<(u64, &[u8])>
     ensures value { option_map (λ x. (x.0, words x.1.now)) result
         ≡ number_field limit (words fields.now) }
     ensures bound { IfSome result (λ x. x.0 ≤ limit) }
@@ -173,10 +172,36 @@ fn read_number(fields: &[u8], limit: u64) -> Option<(u64, &[u8])>
     Some((number, after_word(rest)?))
 }
 
+// The same out of line: taken into a reader more than once, it would make each `None` dearer.
+#[inline(never)]
+fn read_number(fields: &[u8], limit: u64) -> Option<(u64, &[u8])>
+    ensures value { option_map (λ x. (x.0, words x.1.now)) result
+        ≡ number_field limit (words fields.now) }
+    ensures bound { IfSome result (λ x. x.0 ≤ limit) }
+{
+    number_in(fields, limit)
+}
+
+// The digit at the head of a text, before a space, and what follows that space: most numbers of
+// replicas and workers have one digit, and are read without a call.
+#[inline(always)]
+fn one_digit(text: &[u8]) -> Option<(u16, &[u8])>
+    ensures parts { IfSome result (λ x. text.now ≡ (48 + x.0) ∷ 32 ∷ x.1.now) }
+    ensures bound { IfSome result (λ x. x.0 < 10) }
+{
+    let [c, b' ', rest @ ..] = text else {
+        return None;
+    };
+    Some((u16::from(digit(*c)?), rest))
+}
+
 // A replica's number.
 pub(crate) fn read_replica(fields: &[u8]) -> Option<(u16, &[u8])>
     ensures { option_map (λ x. (x.0, words x.1.now)) result ≡ replica_field (words fields.now) }
 {
+    if let Some((replica, rest)) = one_digit(fields) {
+        return Some((replica, rest));
+    }
     let (replica, rest) = read_number(fields, u64::from(u16::MAX))?;
     Some((replica as u16, rest))
 }
@@ -185,6 +210,9 @@ pub(crate) fn read_replica(fields: &[u8]) -> Option<(u16, &[u8])>
 pub(crate) fn read_worker(fields: &[u8]) -> Option<(u16, &[u8])>
     ensures { option_map (λ x. (x.0, words x.1.now)) result ≡ worker_field (words fields.now) }
 {
+    if let Some((worker, rest)) = one_digit(fields) {
+        return Some((worker, rest));
+    }
     let (worker, rest) = read_number(fields, u64::from(u16::MAX))?;
     Some((worker as u16, rest))
 }
@@ -211,8 +239,7 @@ pub(crate) fn read_count(fields: &[u8]) -> Option<(u32, &[u8])>
 pub(crate) fn read_u64(fields: &[u8]) -> Option<(u64, &[u8])>
     ensures { option_map (λ x. (x.0, words x.1.now)) result ≡ u64_field (words fields.now) }
 {
-    let (number, rest) = read_number(fields, u64::MAX)?;
-    Some((number, rest))
+    number_in(fields, u64::MAX)
 }
 
 #[tactic(auto, using(crate::proofs::OnePass::page_read))]

@@ -1,12 +1,12 @@
 //! The lines of a schedule.
-ghost use Rattle.std.specs.Prelude.{◌≡◌, option_and_then};
-ghost use Rattle.warm_schedule.specs.Grammar.{meaning};
+ghost use Rattle.std.specs.Prelude.{◌≡◌, ◌∷◌, IfSome, option_and_then};
+ghost use Rattle.warm_schedule.specs.Grammar.{line_of, meaning};
 ghost use Rattle.warm_schedule.specs.Parsing.{line_parsed};
 ghost use Rattle.warm_schedule.specs.Reading.{Reads, PutsBytes, line_fault_code, line_fault_name};
 
-use crate::commands::{ParsedLine, command_named, read_fields};
+use crate::commands::{ParsedLine, command_named, pin, read_fields, refer, unpin};
 use crate::fields::parse_bytes;
-use crate::text::next_word;
+use crate::text::{after_two, next_word};
 use std::alloc::{AllocError, Global};
 use thiserror::Error;
 use warm_world::Event;
@@ -68,15 +68,13 @@ impl From<AllocError> for LineFault {
 /// begins with.
 pub const MAX_LINE: usize = 262144;
 
-// The meaning of a line, read without allocation: `None` where it is bad. The word that should
-// spell the bytes of a `put` is not read.
-#[tactic(auto, unfolding(crate::specs::Grammar::meaning, crate::specs::Grammar::line_of))]
-pub(crate) fn parsed_in(line: &[u8]) -> Option<ParsedLine<'_>>
-    ensures { meaning line.now ≡ option_and_then line_parsed result }
+// The meaning of a line of any length, read without allocation: `None` where it is bad. The word
+// that should spell the bytes of a `put` is not read.
+#[tactic(auto, unfolding(crate::specs::Grammar::line_of))]
+#[inline(never)]
+fn parsed_any(line: &[u8]) -> Option<ParsedLine<'_>>
+    ensures { line_of line.now ≡ option_and_then line_parsed result }
 {
-    if line.len() > MAX_LINE {
-        return None;
-    }
     let Some((word, fields)) = next_word(line) else {
         return Some(ParsedLine::Nothing);
     };
@@ -84,6 +82,68 @@ pub(crate) fn parsed_in(line: &[u8]) -> Option<ParsedLine<'_>>
         return Some(ParsedLine::Nothing);
     }
     read_fields(command_named(word)?, fields)
+}
+
+// What follows `ref ` at the head of a line.
+#[inline(always)]
+fn after_ref(line: &[u8]) -> Option<&[u8]>
+    ensures { IfSome result (λ fields. line.now ≡ 114 ∷ 101 ∷ 102 ∷ 32 ∷ fields.now) }
+{
+    let rest = after_two(line, b'r', b'e')?;
+    let fields = after_two(rest, b'f', b' ')?;
+    Some(fields)
+}
+
+// What follows `pin ` at the head of a line.
+#[inline(always)]
+fn after_pin(line: &[u8]) -> Option<&[u8]>
+    ensures { IfSome result (λ fields. line.now ≡ 112 ∷ 105 ∷ 110 ∷ 32 ∷ fields.now) }
+{
+    let rest = after_two(line, b'p', b'i')?;
+    let fields = after_two(rest, b'n', b' ')?;
+    Some(fields)
+}
+
+// What follows `unpin ` at the head of a line.
+#[inline(always)]
+fn after_unpin(line: &[u8]) -> Option<&[u8]>
+    ensures { IfSome result (λ fields.
+        line.now ≡ 117 ∷ 110 ∷ 112 ∷ 105 ∷ 110 ∷ 32 ∷ fields.now) }
+{
+    let rest = after_two(line, b'u', b'n')?;
+    let fields = after_pin(rest)?;
+    Some(fields)
+}
+
+// The meaning of a line of any length. The lines that are read most often are known by their first
+// bytes. Taken into its callers, which then copy no meaning.
+#[tactic(auto, using(crate::proofs::Frequent::ref_read, crate::proofs::Frequent::pin_read, crate::proofs::Frequent::unpin_read))]
+#[inline(always)]
+fn parsed_soon(line: &[u8]) -> Option<ParsedLine<'_>>
+    ensures { line_of line.now ≡ option_and_then line_parsed result }
+{
+    if let Some(fields) = after_ref(line) {
+        return refer(fields);
+    }
+    if let Some(fields) = after_pin(line) {
+        return pin(fields);
+    }
+    if let Some(fields) = after_unpin(line) {
+        return unpin(fields);
+    }
+    parsed_any(line)
+}
+
+// The meaning of a line, read without allocation: `None` where it is bad.
+#[tactic(auto, unfolding(crate::specs::Grammar::meaning))]
+#[inline(always)]
+pub(crate) fn parsed_in(line: &[u8]) -> Option<ParsedLine<'_>>
+    ensures { meaning line.now ≡ option_and_then line_parsed result }
+{
+    if line.len() > MAX_LINE {
+        return None;
+    }
+    parsed_soon(line)
 }
 
 /// The meaning of a line, given without its line end.

@@ -8,7 +8,10 @@ ghost use Rattle.warm_play_fault.specs.declared.PlayFault.TheVariants.{WriteFaul
 ghost use Rattle.warm_world.specs.Opening.{AreFew, AreFitting};
 ghost use Rattle.warm_world.specs.Views.{IsAtRest, listed, world_view};
 ghost use Rattle.warm_world.specs.Stands.{StandsFor};
+ghost use Rattle.warm_world.specs.declared.event.WorldFault.TheVariants.{Node};
+ghost use Rattle.warm_gossip.specs.declared.fault.NodeFault.TheVariants as node;
 ghost use Rattle.warm_schedule.specs.Text.{IsLine};
+ghost use Rattle.warm_schedule.specs.Answers.{bad_line, refused_text};
 ghost use Rattle.warm_schedule.specs.Printed.{Played};
 ghost use Rattle.warm_schedule.specs.Refusals.{OpeningRefused, PlayRefused, StopsAnswers};
 ghost use Rattle.warm_schedule.specs.Refusals.{StopsPlay};
@@ -25,8 +28,34 @@ use warm_gossip::NodeFault;
 use warm_play_fault::PlayFault;
 use warm_world::{BadWorld, Setup, World, WorldFault};
 
-// Answers the line of this number. Errors are returned by `?` before an `Ok(())`, here and below:
-// a clause that speaks of `Ok` alone is proved so, and not of a `map_err` as the last expression.
+// Prints that the line of this number is bad. Out of line, as the next one, so that other lines
+// clear nothing for it. Errors are returned by `?` before an `Ok(())`, here and below: a clause that
+// speaks of `Ok` alone is proved so, and not of a `map_err` as the last expression.
+#[cold]
+#[inline(never)]
+fn say_bad<W: Write>(writer: &mut W, number: u64) -> Result<(), PlayFault>
+    ensures said { OnOk result
+        (Appends (W.contents writer.old) (W.contents writer.new) (bad_line number)) }
+    ensures stopped { IfErr result (λ why. why ≡ WriteFault) }
+{
+    print_bad_line(writer, number).map_err(|_| PlayFault::WriteFault)?;
+    Ok(())
+}
+
+// Prints that a line is refused since an allocation for it failed.
+#[cold]
+#[inline(never)]
+fn say_no_memory<W: Write>(writer: &mut W) -> Result<(), PlayFault>
+    ensures said { OnOk result (Appends (W.contents writer.old) (W.contents writer.new)
+        (refused_text (Node node.Memory))) }
+    ensures stopped { IfErr result (λ why. why ≡ WriteFault) }
+{
+    let fault = WorldFault::Node(NodeFault::Memory);
+    print_refusal(writer, fault).map_err(|_| PlayFault::WriteFault)?;
+    Ok(())
+}
+
+// Answers the line of this number.
 fn answer<D: PageDevice, W: Write>(
     alloc: Global,
     world: &mut World<D>,
@@ -41,12 +70,11 @@ fn answer<D: PageDevice, W: Write>(
 {
     match parse_line(alloc, line) {
         Err(LineFault::Bad) => {
-            print_bad_line(writer, number).map_err(|_| PlayFault::WriteFault)?;
+            say_bad(writer, number)?;
             Ok(())
         }
         Err(LineFault::Memory) => {
-            let fault = WorldFault::Node(NodeFault::Memory);
-            print_refusal(writer, fault).map_err(|_| PlayFault::WriteFault)?;
+            say_no_memory(writer)?;
             Ok(())
         }
         Ok(Line::Nothing) => Ok(()),

@@ -1,14 +1,16 @@
 //! Printing the answers of a world. Everything here is allocation-free.
-ghost use Rattle.std.specs.Prelude.{◌≡◌, ◌<◌, ◌≤◌, codes, flat_map, length};
+ghost use Rattle.std.specs.Prelude.{◌≡◌, ◌<◌, ◌≤◌, ◌+◌, ◌++◌, codes, drop, flat_map, length};
 ghost use Rattle.warm_history.specs.Histories.{entries_of};
 ghost use Rattle.warm_schedule.specs.Answers.{Prints, page_text, stamp_text, hist_text, entry_text};
 ghost use Rattle.warm_schedule.specs.Answers.{end_text};
 ghost use Rattle.warm_schedule.specs.Answers.{shown_text, pages_text};
-ghost use Rattle.warm_schedule.specs.Answers.{slot_text, hex_text, byte_text, bytes_text};
+ghost use Rattle.warm_schedule.specs.Answers.{hex_text, byte_text, bytes_text};
 ghost use Rattle.warm_schedule.specs.Answers.{page_if_any, refused_text};
 ghost use Rattle.warm_schedule.specs.Answers.{answer_text, bad_line, end_refused};
+ghost use Rattle.warm_world.specs.declared.event.Answer.TheVariants.{Pinned};
 ghost use Rattle.warm_schedule.specs.declared.printer.TheConstants.{AT_ONCE};
 
+use itoa::write_digits;
 use std::io::{self, Write};
 use warm_history::{Entries, Entry, History, PageHist};
 use warm_pool::Slot;
@@ -99,14 +101,6 @@ fn print_pages<W: Write>(writer: &mut W, pages: &[PageId]) -> io::Result<()>
     Ok(())
 }
 
-// FRAME.GENERATION
-fn print_slot<W: Write>(writer: &mut W, slot: Slot) -> io::Result<()>
-    ensures { Prints result (W.contents writer.old) (W.contents writer.new) (slot_text slot) }
-{
-    let Slot { index, generation } = slot;
-    write!(writer, "{index}.{generation}")
-}
-
 // The hexadecimal digit of a number below 16.
 fn hex_digit(digit: u8) -> u8
     requires { digit < 16 }
@@ -179,6 +173,59 @@ pub fn print_answer<W: Write>(writer: &mut W, answer: &Answer) -> io::Result<()>
     ensures { Prints result (W.contents writer.old) (W.contents writer.new)
         (answer_text answer.now) }
 {
+    if let Answer::Done = answer {
+        return writer.write_all(b"ok\n");
+    }
+    if let Answer::Pinned(slot) = answer {
+        return print_pinned(writer, *slot);
+    }
+    print_any(writer, answer)
+}
+
+// The word `slot` and a space, put before this end; where they begin.
+#[inline(always)]
+fn put_slot_word(line: &mut [u8], end: usize) -> usize
+    requires { (5 ≤ end) × (end ≤ length line.old) }
+    ensures start { result + 5 ≡ end }
+    ensures written { drop result line.new ≡ codes "slot " ++ drop end line.old }
+    ensures same { length line.new ≡ length line.old }
+{
+    let start = end - 5;
+    line[start + 4] = b' ';
+    line[start + 3] = b't';
+    line[start + 2] = b'o';
+    line[start + 1] = b'l';
+    line[start] = b's';
+    start
+}
+
+// The most bytes of the line of a slot: the word, ten digits of a frame, a dot, 20 digits of a
+// generation and the line's end.
+const SLOT_LINE: usize = 37;
+
+// The line of a slot whose page was pinned, FRAME.GENERATION after the word, by one write. It is put
+// together from its end, since a number's last digit is found first.
+#[inline(never)]
+fn print_pinned<W: Write>(writer: &mut W, slot: Slot) -> io::Result<()>
+    ensures { Prints result (W.contents writer.old) (W.contents writer.new)
+        (answer_text (Pinned slot)) }
+{
+    let Slot { index, generation } = slot;
+    let mut line = [b'\n'; SLOT_LINE];
+    let dot = write_digits(generation, &mut line, SLOT_LINE - 1) - 1;
+    line[dot] = b'.';
+    let number = write_digits(u64::from(index), &mut line, dot);
+    let start = put_slot_word(&mut line, number);
+    writer.write_all(&line[start..])
+}
+
+// The text of any answer. It and the line of a slot are out of line, so that an `ok` clears nothing
+// of what they hold.
+#[inline(never)]
+fn print_any<W: Write>(writer: &mut W, answer: &Answer) -> io::Result<()>
+    ensures { Prints result (W.contents writer.old) (W.contents writer.new)
+        (answer_text answer.now) }
+{
     match answer {
         Answer::Done => writer.write_all(b"ok\n"),
         Answer::Shown(shown) => print_history(writer, shown.as_history()),
@@ -189,11 +236,7 @@ pub fn print_answer<W: Write>(writer: &mut W, answer: &Answer) -> io::Result<()>
             }
             writeln!(writer, "took {count} from {first}")
         }
-        Answer::Pinned(slot) => {
-            writer.write_all(b"slot ")?;
-            print_slot(writer, *slot)?;
-            writer.write_all(b"\n")
-        }
+        Answer::Pinned(slot) => print_pinned(writer, *slot),
         Answer::Bytes(bytes) => {
             writer.write_all(b"bytes")?;
             print_bytes(writer, bytes.as_slice())?;

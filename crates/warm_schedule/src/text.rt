@@ -98,3 +98,17 @@ pub(crate) fn after_word(text: &[u8]) -> Option<&[u8]>
         _ => None,
     }
 }
+
+// What follows two bytes at the head of a text. `None` where it begins with others.
+#[inline(always)]
+pub(crate) fn after_two(text: &[u8], first: u8, second: u8) -> Option<&[u8]>
+    ensures { IfSome result (λ rest. text.now ≡ first ∷ second ∷ rest.now) }
+{
+    let [one, two, rest @ ..] = text else {
+        return None;
+    };
+    if *one != first || *two != second {
+        return None;
+    }
+    Some(rest)
+}

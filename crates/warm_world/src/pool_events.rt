@@ -11,7 +11,9 @@ use warm_gossip::{Node, NodeFault};
 /// Makes the node's call of the event, and returns its reply as an answer, or its refusal.
 ///
 /// Each call is made by its method, not as a value: a `Call` and a `Reply` have space for a
-/// message's digests, 2 KB, which each function on the path of a pin would clear.
+/// message's digests, 2 KB, which each function on the path of a pin would clear. It is taken into
+/// its callers, since those that know the event then hold nothing of the others.
+#[inline(always)]
 pub(crate) fn ask<D: PageDevice>(node: &mut Node<D>, event: Event) -> Result<Answer, NodeFault>
     requires calls { IsSome (call_of event) }
     ensures { SomeReply (node_view node.old) (call_of event) (reply_of (answered result))

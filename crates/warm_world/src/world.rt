@@ -22,7 +22,7 @@ use crate::setup::Setup;
 use std::alloc::{AllocError, Global};
 use warm_devices::PageDevice;
 use warm_gossip::NodeFault;
-use warm_pool::all_sized;
+use warm_pool::{Slot, all_sized};
 use warm_stamps::{PageId, ReplicaId};
 
 /// Replicas, their workers' buffers, and every message that was sent.
@@ -209,7 +209,32 @@ impl<D: PageDevice> World<D> {
         Ok(Answer::Done)
     }
 
+    fn pin(&mut self, i: u16, page: PageId) -> Result<Answer, NodeFault>
+        requires named { IsNamed (view_shape (world_view self.old)) (Event.Pin i page) }
+        ensures { Steps (world_view self.old) (Event.Pin i page) (answered result)
+            (world_view self.new) }
+    {
+        ask(
+            &mut self.replicas[index_of_number(i as u64)].node,
+            Event::Pin(i, page),
+        )
+    }
+
+    fn unpin(&mut self, i: u16, slot: Slot) -> Result<Answer, NodeFault>
+        requires named { IsNamed (view_shape (world_view self.old)) (Event.Unpin i slot) }
+        ensures { Steps (world_view self.old) (Event.Unpin i slot) (answered result)
+            (world_view self.new) }
+    {
+        ask(
+            &mut self.replicas[index_of_number(i as u64)].node,
+            Event::Unpin(i, slot),
+        )
+    }
+
     // Answers an event of which everything that it names exists, or returns why a node refuses it.
+    // Out of line: taken into `step`, it would clear there, for each reference and each pin, what
+    // sends, deliveries and other events hold.
+    #[inline(never)]
     fn answer(&mut self, event: Event) -> Result<Answer, NodeFault>
         requires named { IsNamed (view_shape (world_view self.old)) event }
         ensures { Steps (world_view self.old) event (answered result) (world_view self.new) }
@@ -242,7 +267,12 @@ impl<D: PageDevice> World<D> {
         if let Err(fault) = self.check(&event) {
             return Answer::Refused(fault);
         }
-        answer_of(self.answer(event))
+        match event {
+            Event::Refer(i, w, page, time) => answer_of(self.refer(i, w, page, time)),
+            Event::Pin(i, page) => answer_of(self.pin(i, page)),
+            Event::Unpin(i, slot) => answer_of(self.unpin(i, slot)),
+            event => answer_of(self.answer(event)),
+        }
     }
 
     /// Answers a list of events, one after another. For every model state that the world stands

@@ -1,11 +1,11 @@
 //! Why a command failed, and what is said of it.
 
 use crate::text_reader::TextFault;
+use atomic_file::StoreFault;
 use std::alloc::AllocError;
 use std::io::{self, ErrorKind};
-use warm_files::{DumpError, DumpFault};
+use warm_dump::{DumpError, DumpFault};
 use warm_frames::FrameFault;
-use warm_store::StoreFault;
 
 /// Why a command did not reach its end. Each has status 2.
 #[derive(Drop)]

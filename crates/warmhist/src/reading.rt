@@ -8,7 +8,7 @@ use crate::words::DASH;
 use std::alloc::Global;
 use std::fs::File;
 use std::io::{self, ErrorKind, Read};
-use warm_files::{DumpError, DumpFault, read_dump};
+use warm_dump::{DumpError, DumpFault, read_dump};
 use warm_frames::FrameFault;
 use warm_history::History;
 

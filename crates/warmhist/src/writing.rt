@@ -3,13 +3,13 @@
 use crate::failure::Failure;
 use crate::progress::Progress;
 use crate::words::{DASH, Output};
+use atomic_file::Draft;
 use std::io::{self, BufWriter, ErrorKind, Write};
 use std::random::RandomSource;
-use warm_files::{DumpFault, write_dump};
+use warm_dump::{DumpFault, write_dump};
 use warm_frames::FrameFault;
 use warm_history::History;
 use warm_stamps::ReplicaId;
-use warm_store::Draft;
 
 // A writer that notes why it failed, and says on a terminal how far it is.
 struct Noted<'a, 'b, W: Write> {

@@ -9,6 +9,7 @@ use Rattle.warm_history.specs.MapKeys.{key_of_page, page_of_key}
 use Rattle.warm_history.specs.BucketMaps.{SaysNote}
 use Rattle.warm_history.specs.Changes.{MarksChanged}
 use Rattle.warm_history.specs.MapPairs.{kept}
+use Rattle.warm_history.specs.Undo.{noted}
 use Rattle.warm_history.proofs.ChangeLemmas.{marks_at}
 use Rattle.warm_history.proofs.NearKeys.{page_back, page_key}
 use Rattle.warm_history.proofs.RecentLemmas.{takes_none, takes_reference}
@@ -30,7 +31,7 @@ returns-clause-changed c =
     let p = key_of_page page in
     let dev : page.dev < 65536 = omega arith in
     let fits : page.no < 18446744073709551616 = omega arith in
-    let differs = subst (λ note. SaysNote note p old new) c.in-Some-2.is c.in_ok-_note.ensures.tells in
+    let differs = subst (λ change. SaysNote (noted page change c.record.new.more) p old new) c.in-Some-2.is c.in_ok-_change.ensures.tells in
     let set = c.with.ensures ∙ ap (λ (b : ℕ). bit_or c.new-2.result (2 ^ b)) (c.bucket_of.ensures ∙ ap page_bucket (sym (page_back page dev fits))) ∙ ap (λ (s : ℕ). bit_or s (2 ^ page_bucket (page_of_key p))) c.new-2.ensures in
     subst (MarksChanged (kept old) (kept new)) (sym set)
-    (marks_at old new p c.in-Some.recent (page_key page dev fits) c.requires c.record.ensures.whole c.in_ok-_note.ensures.exact differs)
+    (marks_at old new p c.in-Some.recent (page_key page dev fits) c.requires c.record.ensures.whole c.in_ok-_change.ensures.exact differs)

@@ -3,19 +3,19 @@ use Rattle.std.proofs.lemmas.List.{map-set}
 use Rattle.warm_pool.proofs.DeviceSteps.{device_is, page_written}
 use Rattle.warm_pool.proofs.device_list.write_page.Goals as goal
 
-pub write-requires-clause-known : goal.write-requires-clause-known
-write-requires-clause-known g c = subst (λ d. c.args.page.no < d.pages) (sym (device_is _ _ _ _ c.requires.device c.index_mut.ensures.value)) c.requires.known
+pub write-done-requires-clause-known : goal.write-done-requires-clause-known
+write-done-requires-clause-known g c = subst (λ d. c.args.page.no < d.pages) (sym (device_is _ _ _ _ c.requires.device c.index_mut.ensures.value)) c.requires.known
 
-pub write-requires-clause-sized : goal.write-requires-clause-sized
-write-requires-clause-sized g c = c.requires.sized ∙ ap (λ d. d.page_size) (sym (device_is _ _ _ _ c.requires.device c.index_mut.ensures.value))
+pub write-done-requires-clause-sized : goal.write-done-requires-clause-sized
+write-done-requires-clause-sized g c = c.requires.sized ∙ ap (λ d. d.page_size) (sym (device_is _ _ _ _ c.requires.device c.index_mut.ensures.value))
 
 pub returns : goal.returns
 returns g c =
     page_written _ _ _ _ _ _ _ _ (device_is _ _ _ _ c.requires.device c.index_mut.ensures.value) (map-set _ _ _ _) (record {
-      shape = c.write.ensures.shape;
-      faults = c.write.ensures.faults;
-      unfailing = c.write.ensures.unfailing;
-      waiting = c.write.ensures.waiting;
-      others = c.write.ensures.others;
-      written = c.write.ensures.bytes;
+      shape = c.write-done.ensures.shape;
+      faults = c.write-done.ensures.faults;
+      unfailing = c.write-done.ensures.unfailing;
+      waiting = c.write-done.ensures.waiting;
+      others = c.write-done.ensures.others;
+      written = c.write-done.ensures.bytes;
     })

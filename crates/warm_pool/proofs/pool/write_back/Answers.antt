@@ -1,7 +1,16 @@
 use Rattle.std.proofs.Common.{refl, sym, ◌∙◌}
 use Rattle.warm_pool.proofs.FlushLemmas.{on_err}
 use Rattle.warm_pool.proofs.WriteBacks.{already_clean, wrote_back, write_failed, failed_pool, cleaned_to}
+use Rattle.warm_pool.proofs.OtherDevices.{wrote_on}
 use Rattle.warm_pool.proofs.pool.write_back.Goals as goal
+
+pub returns-in_err-write_page-clause-others : goal.returns-in_err-write_page-clause-others
+returns-in_err-write_page-clause-others g c =
+    wrote_on _ _ _ _ _ _ (sym c.page.ensures ∙ c.in-Some.is) c.in_err-write_page.ensures
+
+pub returns-clause-others : goal.returns-clause-others
+returns-clause-others g c =
+    wrote_on _ _ _ _ _ _ (sym c.page.ensures ∙ c.in-Some.is) c.in_ok-write_page.ensures
 
 pub returns-in_err-write_page-clause-fit : goal.returns-in_err-write_page-clause-fit
 returns-in_err-write_page-clause-fit g c =

@@ -9,17 +9,17 @@ use Rattle.warm_random.proofs.Written.{Appends-none}
 use Rattle.warm_schedule.proofs.Stream.{answers_event, answers_bad, answers_no_memory, answers_nothing, done, was_bad, was_line, was_put}
 use Rattle.warm_schedule.proofs.player.answer.Goals as goal
 
-pub returns-in_ok-map_err-in-Err-Bad-clause-answered : goal.returns-in_ok-map_err-in-Err-Bad-clause-answered
-returns-in_ok-map_err-in-Err-Bad-clause-answered g c = (
+pub returns-in_ok-say_bad-in-Err-Bad-clause-answered : goal.returns-in_ok-say_bad-in-Err-Bad-clause-answered
+returns-in_ok-say_bad-in-Err-Bad-clause-answered g c = (
   bad_line c.args.number,
-  done c.print_bad_line.result c.in_ok-map_err-in-Err-Bad.ensures.variant c.print_bad_line.ensures,
+  c.in_ok-say_bad-in-Err-Bad.ensures.said,
   answers_bad _ _ c.args.line.now (was_bad c.args.line.now c.parse_line.result c.parse_line.ensures (c.in-Err-Bad.is ∙ ap (λ (fault : LineFault). Err fault) c.in-Err-Bad.field-0-is)),
 )
 
-pub returns-in_ok-map_err-in-Err-Memory-clause-answered : goal.returns-in_ok-map_err-in-Err-Memory-clause-answered
-returns-in_ok-map_err-in-Err-Memory-clause-answered g c = (
+pub returns-in_ok-say_no_memory-in-Err-Memory-clause-answered : goal.returns-in_ok-say_no_memory-in-Err-Memory-clause-answered
+returns-in_ok-say_no_memory-in-Err-Memory-clause-answered g c = (
   refused_text (Node Memory),
-  done c.print_refusal.result c.in_ok-map_err-in-Err-Memory.ensures.variant c.print_refusal.ensures,
+  c.in_ok-say_no_memory-in-Err-Memory.ensures.said,
   answers_no_memory _ _ c.args.line.now (was_put c.args.line.now c.parse_line.result c.parse_line.ensures (c.in-Err-Memory.is ∙ ap (λ (fault : LineFault). Err fault) c.in-Err-Memory.field-0-is)),
 )
 

@@ -43,6 +43,7 @@ returns c =
     let fits : last.no < 18446744073709551616 = omega arith in
     after_both last (widened b m.near.entries) m.far.entries (widened b c.range-2.result) c.range-3.result
     (ap (λ t. as_entries (widened b t)) (c.range-2.ensures.between tt)
+    ∙ ap (λ k. as_entries (widened b (entries_between nat_cmp (Excluded k) Unbounded m.near.entries))) c.new.ensures
     ∙ range_after (full_key b) (λ k. k < 18446744073709551616) (Excluded 18446744073709551615) last
     (λ k small. always (is_lt (nat_cmp 18446744073709551615 k)) ∙ past_last k small ∙ sym (near_before b last k high small) ∙ ap (λ q. is_lt (page_cmp last q)) (sym (page_near b k small))) m.near.entries c.requires.map.near)
     (ap as_entries (c.range-3.ensures.between tt)

@@ -4,6 +4,7 @@ use Rattle.warm_stamps.specs.Buckets.{page_bucket}
 use Rattle.warm_history.specs.MapKeys.{key_of_page}
 use Rattle.warm_history.specs.MapPairs.{AreKept}
 use Rattle.warm_history.specs.NearPairs.{full, IsMapOf}
+use Rattle.warm_history.specs.Undo.{noted}
 use Rattle.warm_history.proofs.BucketSteps.{ok_then, either_way, records_exact, records_whole, records_undo, records_tell}
 use Rattle.warm_history.proofs.FullMaps.{all_with, length_set, map_of, maps_with, recorded_in_bucket, unchanged}
 use Rattle.warm_history.proofs.NearKeys.{page_key}
@@ -36,8 +37,8 @@ returns-clause-exact c =
     let i = c.get.result in
     let new = c.record.new.self in
     let own : i ≡ page_bucket page = c.get.ensures.value ∙ c.bucket_of.ensures in
-    let ok = recorded_in_bucket c.record.result c.get.result page c.args.more c.index-self-get.result new maps c.args.self.now (omega arith) (omega arith) c.self.invariant.1 c.self.invariant.0 c.get.ensures.below own c.self.view_is c.record.ensures.ok in
-    ok_then c.record.result _ _ (λ note records. records_exact c.args.self.now (all_with maps i new) page (key_of_page page) c.args.more note (page_key page (omega arith) (omega arith)) c.requires records) ok
+    let ok = recorded_in_bucket c.record.result (λ change. noted page change c.record.new.more) c.get.result page c.args.more.now c.index-self-get.result new maps c.args.self.now (omega arith) (omega arith) c.self.invariant.1 c.self.invariant.0 c.get.ensures.below own c.self.view_is c.record.ensures.ok in
+    ok_then c.record.result _ _ (λ change records. records_exact c.args.self.now (all_with maps i new) page (key_of_page page) c.args.more.now (noted page change c.record.new.more) (page_key page (omega arith) (omega arith)) c.requires records) ok
 
 pub returns-clause-whole : goal.returns-clause-whole
 returns-clause-whole c =
@@ -46,13 +47,13 @@ returns-clause-whole c =
     let i = c.get.result in
     let new = c.record.new.self in
     let own : i ≡ page_bucket page = c.get.ensures.value ∙ c.bucket_of.ensures in
-    let ok = recorded_in_bucket c.record.result c.get.result page c.args.more c.index-self-get.result new maps c.args.self.now (omega arith) (omega arith) c.self.invariant.1 c.self.invariant.0 c.get.ensures.below own c.self.view_is c.record.ensures.ok in
+    let ok = recorded_in_bucket c.record.result (λ change. noted page change c.record.new.more) c.get.result page c.args.more.now c.index-self-get.result new maps c.args.self.now (omega arith) (omega arith) c.self.invariant.1 c.self.invariant.0 c.get.ensures.below own c.self.view_is c.record.ensures.ok in
     let d = c.index-self-get.result in
     let there : i < length maps = subst (λ k. i < k) (sym c.self.invariant.0) c.get.ensures.below in
     let same = subst (λ b. OnErr c.record.result (full b new ≡ full b (get_or maps i d))) (sym own) c.record.ensures.err in
     let err = unchanged c.record.result i d new maps c.args.self.now there c.self.view_is same in
     either_way c.record.result _ _ _
-    (λ note records. records_whole c.args.self.now (all_with maps i new) page (key_of_page page) c.args.more note (page_key page (omega arith) (omega arith)) c.requires records)
+    (λ change records. records_whole c.args.self.now (all_with maps i new) page (key_of_page page) c.args.more.now (noted page change c.record.new.more) (page_key page (omega arith) (omega arith)) c.requires records)
     (λ is. subst AreKept (sym is) c.requires) ok err
 
 pub returns-clause-undo : goal.returns-clause-undo
@@ -62,8 +63,8 @@ returns-clause-undo c =
     let i = c.get.result in
     let new = c.record.new.self in
     let own : i ≡ page_bucket page = c.get.ensures.value ∙ c.bucket_of.ensures in
-    let ok = recorded_in_bucket c.record.result c.get.result page c.args.more c.index-self-get.result new maps c.args.self.now (omega arith) (omega arith) c.self.invariant.1 c.self.invariant.0 c.get.ensures.below own c.self.view_is c.record.ensures.ok in
-    IfOk-weaker c.record.result _ _ (λ note records. records_undo c.args.self.now (all_with maps i new) page c.args.more note c.requires records) ok
+    let ok = recorded_in_bucket c.record.result (λ change. noted page change c.record.new.more) c.get.result page c.args.more.now c.index-self-get.result new maps c.args.self.now (omega arith) (omega arith) c.self.invariant.1 c.self.invariant.0 c.get.ensures.below own c.self.view_is c.record.ensures.ok in
+    IfOk-weaker c.record.result _ _ (λ change records. records_undo c.args.self.now (all_with maps i new) page c.args.more.now (noted page change c.record.new.more) c.requires records) ok
 
 pub returns-clause-tells : goal.returns-clause-tells
 returns-clause-tells c =
@@ -72,8 +73,8 @@ returns-clause-tells c =
     let i = c.get.result in
     let new = c.record.new.self in
     let own : i ≡ page_bucket page = c.get.ensures.value ∙ c.bucket_of.ensures in
-    let ok = recorded_in_bucket c.record.result c.get.result page c.args.more c.index-self-get.result new maps c.args.self.now (omega arith) (omega arith) c.self.invariant.1 c.self.invariant.0 c.get.ensures.below own c.self.view_is c.record.ensures.ok in
-    IfOk-weaker c.record.result _ _ (λ note records. records_tell c.args.self.now (all_with maps i new) page (key_of_page page) c.args.more note records) ok
+    let ok = recorded_in_bucket c.record.result (λ change. noted page change c.record.new.more) c.get.result page c.args.more.now c.index-self-get.result new maps c.args.self.now (omega arith) (omega arith) c.self.invariant.1 c.self.invariant.0 c.get.ensures.below own c.self.view_is c.record.ensures.ok in
+    IfOk-weaker c.record.result _ _ (λ change records. records_tell c.args.self.now (all_with maps i new) page (key_of_page page) c.args.more.now (noted page change c.record.new.more) records) ok
 
 pub returns-clause-err : goal.returns-clause-err
 returns-clause-err c =

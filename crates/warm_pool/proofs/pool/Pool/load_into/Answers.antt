@@ -4,6 +4,10 @@ use Rattle.warm_pool.proofs.Loads.{ok_if_no_err, err_if, on_ok, on_err}
 use Rattle.warm_pool.proofs.Arrivals.{fetched_in, fetched_pool, fetch_failed, leave_failed, still_there, still_below, still_size, arrived_pool, loads_into}
 use Rattle.warm_pool.proofs.pool.Pool.load_into.Goals as goal
 
+pub page-requires : goal.page-requires
+page-requires g c =
+    still_there (fetched_in c.args.at c.self.view_is c.self.invariant c.requires.there c.read_page.ensures.len c.requires.device c.requires.known c.requires.absent c.read_page.ensures.call) (ok_if_no_err _ c.if-is_err.ensures.value) c.write_back.new.frames c.write_back.ensures.fit (on_ok _ (ok_if_no_err _ c.if-is_err-2.ensures.value) c.write_back.ensures.done)
+
 pub install-requires-clause-there : goal.install-requires-clause-there
 install-requires-clause-there g c =
     still_there (fetched_in c.args.at c.self.view_is c.self.invariant c.requires.there c.read_page.ensures.len c.requires.device c.requires.known c.requires.absent c.read_page.ensures.call) (ok_if_no_err _ c.if-is_err.ensures.value) c.write_back.new.frames c.write_back.ensures.fit (on_ok _ (ok_if_no_err _ c.if-is_err-2.ensures.value) c.write_back.ensures.done)
@@ -15,6 +19,10 @@ install-requires-clause-below g c =
 pub returns-then-is_err-clause-refused : goal.returns-then-is_err-clause-refused
 returns-then-is_err-clause-refused g c = rw (← c.self.view_is) (
     let x = fetch_failed (fetched_in c.args.at c.self.view_is c.self.invariant c.requires.there c.read_page.ensures.len c.requires.device c.requires.known c.requires.absent c.read_page.ensures.call) (err_if _ c.if-is_err.ensures.value) in record { frames = x.frames; devices = x.devices; fails = x.fails })
+
+pub invariant_of-self : goal.invariant_of-self
+invariant_of-self g c =
+    fetched_pool (fetched_in c.args.at c.self.view_is c.self.invariant c.requires.there c.read_page.ensures.len c.requires.device c.requires.known c.requires.absent c.read_page.ensures.call) _ c.read_page.ensures.len
 
 pub write_back-requires-clause-fit : goal.write_back-requires-clause-fit
 write_back-requires-clause-fit g c =

@@ -1,6 +1,8 @@
-use Rattle.std.proofs.Common.{refl}
+use Rattle.std.proofs.Common.{refl, ap, ◌∙◌}
+use Rattle.warm_pool.specs.State.{nth_device}
 use Rattle.warm_pool.proofs.FlushLemmas.{on_err}
 use Rattle.warm_pool.proofs.Keeps.{devices_keep_pool}
+use Rattle.warm_pool.proofs.OtherDevices.{off_device, flushed_others}
 use Rattle.warm_pool.proofs.SettleLemmas.{ranked_to, seen_down}
 use Rattle.warm_pool.proofs.RetireLemmas.{down_there, flush_one_down, flush_one_fails, one_kept, elsewhere_cleaned}
 use Rattle.warm_pool.specs.declared.selection.Devices.TheVariants.{One}
@@ -43,3 +45,18 @@ returns-in_err-flush_device-clause-elsewhere g c = elsewhere_cleaned c.args.dev 
 
 pub returns-clause-elsewhere : goal.returns-clause-elsewhere
 returns-clause-elsewhere g c = elsewhere_cleaned c.args.dev _ _ _ (seen_down c.self.view_is c.in_ok-clean_selected.ensures.down).becomes
+
+pub returns-in_err-clean_selected-clause-others : goal.returns-in_err-clean_selected-clause-others
+returns-in_err-clean_selected-clause-others g c = λ k apart. c.in_err-clean_selected.ensures.others k (off_device c.args.dev k apart)
+
+pub returns-in_err-flush_device-clause-others : goal.returns-in_err-flush_device-clause-others
+returns-in_err-flush_device-clause-others g c = λ k apart.
+    let call = c.in_err-flush_device.ensures in
+    flushed_others c.args.dev _ _ call.after call.becomes k apart ∙ ap (λ s. nth_device s.devices k) c.self.view_is
+    ∙ c.in_ok-clean_selected.ensures.others k (off_device c.args.dev k apart)
+
+pub returns-clause-others : goal.returns-clause-others
+returns-clause-others g c = λ k apart.
+    let call = c.in_ok-flush_device.ensures in
+    flushed_others c.args.dev _ _ call.after call.becomes k apart ∙ ap (λ s. nth_device s.devices k) c.self.view_is
+    ∙ c.in_ok-clean_selected.ensures.others k (off_device c.args.dev k apart)

@@ -1,0 +1,23 @@
+-- Which steps may fail where.
+use Rattle.std.specs.Prelude.{⊤}
+use Rattle.atomic_file.specs.declared.fault.Step.{Step}
+use Rattle.atomic_file.specs.declared.fault.Step.TheVariants.{Target, Folder, Create, Sync, Rename}
+use Rattle.atomic_file.specs.declared.fault.Step.TheVariants.{SyncFolder}
+
+-- a step of making a draft: the old file is not touched
+abbrev pub IsOfMaking : Step → Type 0
+IsOfMaking Target = ⊤
+IsOfMaking Folder = ⊤
+IsOfMaking Create = ⊤
+IsOfMaking Sync = ⊥
+IsOfMaking Rename = ⊥
+IsOfMaking SyncFolder = ⊥
+
+-- a step of putting it in place
+abbrev pub IsOfPlacing : Step → Type 0
+IsOfPlacing Target = ⊥
+IsOfPlacing Folder = ⊥
+IsOfPlacing Create = ⊥
+IsOfPlacing Sync = ⊤
+IsOfPlacing Rename = ⊤
+IsOfPlacing SyncFolder = ⊤

@@ -1,0 +1,65 @@
+-- What the calls on the devices of a handle do.
+use Rattle.std.specs.Prelude.{ℕ, ◌*◌, ◌^◌, ◌<◌, ◌≡◌, List, length, set, Ok, Err}
+use Rattle.warm_devices.specs.Device.{DeviceState}
+use Rattle.warm_pool.specs.Retiring.{RetireRefused, Retired}
+use Rattle.warm_pool.specs.View.{view_of}
+use Rattle.warm_pool.specs.declared.fault.PoolFault.TheVariants.{NoDevice}
+use Rattle.warm_gossip.specs.declared.fault.NodeFault.TheVariants.{Memory, Pool}
+use Rattle.warm_gossip.specs.Clauses.{SameView}
+use Rattle.warm_c.specs.declared.open_node.OpenNode.{OpenNode}
+use Rattle.warm_c.specs.declared.status.Refusal.{Refusal}
+use Rattle.warm_c.specs.declared.status.Refusal.TheVariants.{Node, SameFile}
+use Rattle.warm_c.specs.declared.values.WarmDevice.{WarmDevice}
+use Rattle.warm_c.specs.FdParts.{fd_opened}
+use Rattle.warm_c.specs.Calls.{Ending, SameBeside}
+use Rattle.warm_c.specs.Handles.{DescriptorsDiffer, HaveOneFile}
+
+-- Replacing a device
+
+-- the devices of the handle, with this one in the place of another
+abbrev pub devices_after : ℕ → WarmDevice → OpenNode → List WarmDevice
+devices_after dev d h = set h.devices dev d
+
+-- the device, as the pool has it then
+abbrev pub made_device : WarmDevice → OpenNode → DeviceState
+made_device d h = fd_opened d.fd d.pages h.node.pool.page_size
+
+-- the handle has a device of this number, and the pages of the new one fit into what a file's
+-- offsets can name
+pub record MayStand (dev : ℕ) (d : WarmDevice) (h : OpenNode) : Type 0 where
+  pub listed : dev < length h.devices
+  pub fits : d.pages * h.node.pool.page_size < 2 ^ 63
+
+-- the history, and all that is held beside the node but the devices, is as it was
+pub record KeepsHistory (old new : OpenNode) : Type 0 where
+  pub id : new.node.id ≡ old.node.id
+  pub history : new.node.history ≡ old.node.history
+  pub answers : new.answers ≡ old.answers
+  pub given : new.given ≡ old.given
+  pub limit : new.limit ≡ old.limit
+
+-- the device is retired for the new one, and no two devices have one descriptor
+pub record Replaced (dev : ℕ) (d : WarmDevice) (old new : OpenNode) : Type 0 where
+  pub may : MayStand dev d old
+  pub apart : DescriptorsDiffer (devices_after dev d old)
+  pub retired : Retired (view_of old.node.pool) dev (made_device d old) (view_of new.node.pool)
+  pub devices : new.devices ≡ devices_after dev d old
+  pub keeps : KeepsHistory old new
+
+-- why it is not replaced; the devices are as they were
+abbrev pub ReplaceRefused : ℕ → WarmDevice → OpenNode → Refusal → OpenNode → Type 0
+ReplaceRefused dev d old (Node Memory) new = new ≡ old
+ReplaceRefused dev d old (Node (Pool NoDevice)) new =
+    (MayStand dev d old → dev < length old.node.pool.devices → ⊥)
+    × SameView old.node new.node × SameBeside old new
+ReplaceRefused dev d old SameFile new = MayStand dev d old
+    × HaveOneFile (devices_after dev d old) × (new ≡ old)
+ReplaceRefused dev d old (Node (Pool why)) new = MayStand dev d old
+    × DescriptorsDiffer (devices_after dev d old)
+    × RetireRefused (view_of old.node.pool) dev (made_device d old) why (view_of new.node.pool)
+    × KeepsHistory old new × (new.devices ≡ old.devices)
+ReplaceRefused dev d old why new = ⊥
+
+abbrev pub Replaces : ℕ → WarmDevice → OpenNode → Ending → OpenNode → Type 0
+Replaces dev d old (Ok given) new = Replaced dev d old new
+Replaces dev d old (Err why) new = ReplaceRefused dev d old why new

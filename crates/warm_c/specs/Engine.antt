@@ -1,0 +1,68 @@
+-- What the calls do by which an engine holds its pages: beside pins, reads and writes.
+use Rattle.std.specs.Prelude.{ℕ, ◌≡◌, Ok, Err}
+use Rattle.warm_pool.specs.declared.fault.PoolFault.TheVariants.{Fault}
+use Rattle.warm_pool.specs.Forgetting.{ForgetRefused, Forgets}
+use Rattle.warm_pool.specs.Keeping.{KeepsFrames, SameButFailures}
+use Rattle.warm_pool.specs.View.{view_of, Holds}
+use Rattle.warm_pool.specs.WritingSome.{FlushRefused, IsSettledOn, SomeFails, WritesBackSome}
+use Rattle.warm_pool.specs.Zeroing.{PinnedZeroed, TakesZeroed, ZeroedRefused}
+use Rattle.warm_gossip.specs.declared.fault.NodeFault.TheVariants.{Pool}
+use Rattle.warm_gossip.specs.Clauses.{SameView}
+use Rattle.warm_c.specs.declared.open_node.OpenNode.{OpenNode}
+use Rattle.warm_c.specs.declared.status.Refusal.TheVariants.{Node}
+use Rattle.warm_c.specs.declared.values.PinnedSlot.{PinnedSlot}
+use Rattle.warm_c.specs.declared.values.WarmPage.{WarmPage}
+use Rattle.warm_c.specs.Calls.{Ending, SameBeside}
+use Rattle.warm_c.specs.Values.{page_of_c, pinned_slot}
+
+-- the history, and what is held beside the node, is as it was
+pub record SameButPool (old new : OpenNode) : Type 0 where
+  pub id : new.node.id ≡ old.node.id
+  pub history : new.node.history ≡ old.node.history
+  pub beside : SameBeside old new
+
+-- Pinning with zeros
+
+-- the page is pinned, has zeros, and is dirty
+pub record PinnedWithZeros (page : WarmPage) (slot : PinnedSlot) (old new : OpenNode) : Type 0 where
+  pub pinned : PinnedZeroed old.node.history (view_of old.node.pool) (page_of_c page)
+      (pinned_slot slot) (view_of new.node.pool)
+  pub holds : Holds (view_of new.node.pool) (pinned_slot slot)
+  pub frame : TakesZeroed old.node.pool (page_of_c page) (pinned_slot slot) new.node.pool
+  pub rest : SameButPool old new
+
+abbrev pub PinsZeroed : WarmPage → PinnedSlot → PinnedSlot → OpenNode → Ending → OpenNode → Type 0
+PinsZeroed page before after old (Ok given) new = PinnedWithZeros page after old new
+PinsZeroed page before after old (Err (Node (Pool why))) new =
+    ZeroedRefused old.node.history (view_of old.node.pool) (page_of_c page) why
+    (view_of new.node.pool)
+    × SameButFailures (view_of old.node.pool) (view_of new.node.pool)
+    × KeepsFrames old.node.pool new.node.pool × SameButPool old new × (after ≡ before)
+PinsZeroed page before after old (Err why) new = ⊥
+
+-- Writing back
+
+-- at most so many pages are written back, and how many are dirty still is given; a refused call
+-- gives nothing
+abbrev pub WritesSome : ℕ → ℕ → ℕ → OpenNode → Ending → OpenNode → Type 0
+WritesSome limit before left old (Ok given) new = SameView old.node new.node
+    × WritesBackSome limit old.node.pool left new.node.pool × SameBeside old new
+WritesSome limit before left old (Err (Node (Pool Fault))) new =
+    SomeFails limit old.node.pool new.node.pool × SameButPool old new × (left ≡ before)
+WritesSome limit before left old (Err why) new = ⊥
+
+abbrev pub FlushesDevice : ℕ → OpenNode → Ending → OpenNode → Type 0
+FlushesDevice dev old (Ok given) new = SameView old.node new.node × IsSettledOn dev new.node.pool
+    × SameBeside old new
+FlushesDevice dev old (Err (Node (Pool why))) new =
+    FlushRefused old.node.pool dev why new.node.pool × SameButPool old new
+FlushesDevice dev old (Err why) new = ⊥
+
+-- Forgetting pages
+
+abbrev pub ForgetsPages : ℕ → ℕ → OpenNode → Ending → OpenNode → Type 0
+ForgetsPages dev from old (Ok given) new = Forgets old.node.pool dev from new.node.pool
+    × SameButPool old new
+ForgetsPages dev from old (Err (Node (Pool why))) new =
+    ForgetRefused old.node.pool dev from why new.node.pool × SameButPool old new
+ForgetsPages dev from old (Err why) new = ⊥

@@ -1,0 +1,56 @@
+//! The calls on the devices of an open handle.
+ghost use Rattle.std.specs.Prelude.{◌≡◌, ◌*◌, ◌^◌, ◌<◌, ◌≤◌, IfNone, IfSome};
+ghost use Rattle.warm_c.specs.Devices.{Replaces};
+ghost use Rattle.warm_c.specs.FdParts.{fd_opened, fd_state};
+
+use crate::fd_device::FdDevice;
+use crate::open_node::OpenNode;
+use crate::opening::{check_apart, devices_with};
+use crate::status::Refusal;
+use crate::values::WarmDevice;
+use std::alloc::Global;
+use warm_gossip::NodeFault;
+use warm_pool::PoolFault;
+use warm_stamps::Items;
+
+// Creates the device over a descriptor. `None` exactly where its pages do not fit into what a file's
+// offsets can name.
+fn device_of(device: &WarmDevice, page_size: usize) -> Option<FdDevice>
+    ensures made { IfSome result (λ made.
+        fd_state made ≡ fd_opened device.now.fd device.now.pages page_size) }
+    ensures fits { IfSome result (λ _. device.now.pages * page_size < 2 ^ 63) }
+    ensures refused { IfNone result (2 ^ 63 ≤ device.now.pages * page_size) }
+{
+    FdDevice::new(device.fd, device.pages, page_size)
+}
+
+impl OpenNode {
+    /// Calls [`warm_gossip::Node::retire`] with a device over another descriptor.
+    ///
+    /// # Errors
+    /// In this order; `Node`, with `Memory`, at any point before the device is retired. The devices
+    /// are unchanged.
+    /// - `Node`, with `NoDevice`: there is no device of this number, or the pages of the new one do
+    ///   not fit into what a file's offsets can name.
+    /// - `SameFile`: two devices would have one descriptor, or one file by what the system says.
+    /// - `Node`: the node's own.
+    pub fn replace(&mut self, alloc: Global, dev: u16, device: &WarmDevice) -> Result<(), Refusal>
+        ensures { Replaces dev device.now self.old result self.new }
+    {
+        if dev as usize >= self.devices.as_slice().len() {
+            return Err(Refusal::Node(NodeFault::Pool(PoolFault::NoDevice)));
+        }
+        let Some(made) = device_of(device, self.node.pool().page_size()) else {
+            return Err(Refusal::Node(NodeFault::Pool(PoolFault::NoDevice)));
+        };
+        let devices = devices_with(alloc, self.devices.as_slice(), dev as usize, *device)?;
+        if let Err(why) = check_apart(alloc, &devices) {
+            return Err(why);
+        }
+        if let Err(unretired) = self.node.retire(dev, made) {
+            return Err(Refusal::Node(NodeFault::Pool(unretired.fault)));
+        }
+        self.devices = Items::of(devices);
+        Ok(())
+    }
+}

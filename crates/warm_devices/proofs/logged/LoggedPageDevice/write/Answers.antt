@@ -1,0 +1,19 @@
+use Rattle.std.proofs.Common.{◌≡◌, true, false, Result, Ok, Err, OnErr, is_err, refl}
+use Rattle.warm_devices.proofs.logged.LoggedPageDevice.write.Goals as goal
+
+-- where it is so anyway, and where there is no error
+anyway : {T E P : Type 0} (r : Result T E) → P → OnErr r P
+anyway (Ok x) holds = tt
+anyway (Err e) holds = holds
+
+no_error : {T E : Type 0} (P : Type 0) (r : Result T E) → false ≡ is_err r → OnErr r P
+no_error P (Ok x) is = tt
+no_error P (Err e) is = absurd (cc)
+
+pub returns-then-is_err-clause-asked : goal.returns-then-is_err-clause-asked
+returns-then-is_err-clause-asked g c =
+    record { answer = c.before_write.result; asked = c.before_write.ensures; held_back = anyway c.before_write.result (refl, refl) }
+
+pub returns-clause-asked : goal.returns-clause-asked
+returns-clause-asked g c =
+    record { answer = c.before_write.result; asked = c.before_write.ensures; held_back = no_error _ c.before_write.result c.if-is_err.ensures.value }

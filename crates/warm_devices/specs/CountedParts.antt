@@ -1,0 +1,30 @@
+-- The counts of a `Counted` device, and what each call adds to them.
+use Rattle.std.specs.Prelude.{if◌then◌else◌}
+use Rattle.warm_devices.specs.Device.{DeviceState, one_more}
+use Rattle.warm_devices.specs.declared.counted.Counted.{Counted}
+use Rattle.warm_devices.specs.declared.counted.DeviceCounts.{DeviceCounts}
+
+-- the device to which calls are forwarded, and the calls made of it so far
+abbrev pub inner_of : {D : Type 0} → Counted D → D
+inner_of c = c.inner
+
+abbrev pub calls_of : {D : Type 0} → Counted D → DeviceCounts
+calls_of c = c.calls
+
+-- no call was made
+abbrev pub no_calls : DeviceCounts
+no_calls = record { reads = 0; writes = 0; flushes = 0 }
+
+-- one call more of a kind, saturating at the greatest `u64`
+abbrev pub one_read : DeviceCounts → DeviceCounts
+one_read n = record n { reads = one_more n.reads }
+
+abbrev pub one_write : DeviceCounts → DeviceCounts
+one_write n = record n { writes = one_more n.writes }
+
+abbrev pub one_flush : DeviceCounts → DeviceCounts
+one_flush n = record n { flushes = one_more n.flushes }
+
+-- the flush of a settled device, which is made where something is unflushed
+abbrev pub flush_if_waiting : DeviceState → DeviceCounts → DeviceCounts
+flush_if_waiting d n = if d.waiting then one_flush n else n

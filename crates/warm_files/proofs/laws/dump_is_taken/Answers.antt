@@ -1,5 +1,0 @@
-use Rattle.warm_files.proofs.LawLemmas.{dump_is_taken}
-use Rattle.warm_files.proofs.laws.dump_is_taken.Goals as goal
-
-pub returns : goal.returns
-returns c = dump_is_taken

@@ -1,5 +1,0 @@
-use Rattle.warm_files.proofs.SavedLemmas.{dump_reads_back}
-use Rattle.warm_files.proofs.laws.dump_reads_back.Goals as goal
-
-pub returns : goal.returns
-returns c = dump_reads_back

@@ -1,0 +1,5 @@
+use Rattle.warm_gossip.proofs.Lents.{lent_bytes}
+use Rattle.warm_gossip.proofs.laws.lent_bytes_are_written.Goals as goal
+
+pub returns : goal.returns
+returns c = lent_bytes

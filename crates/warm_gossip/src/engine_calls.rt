@@ -1,0 +1,130 @@
+//! What an engine that holds a node asks of its pool beside the calls.
+//!
+//! None of these is a [`crate::Call`]. The relation `Step` of calls is over what a caller sees of a
+//! pool, in which no page is dirty, and no device has bytes of its own: it cannot say how many
+//! dirty pages are left, nor what a page contains once it is forgotten. A page with zeros is pinned
+//! by a program that fills it through bytes that it is lent.
+ghost use Rattle.std.specs.Prelude.{◌≡◌, IfErr, IfOk, OnErr, OnOk};
+ghost use Rattle.warm_pool.specs.declared.fault.PoolFault.TheVariants.{Fault};
+ghost use Rattle.warm_pool.specs.Forgetting.{ForgetRefused, Forgets};
+ghost use Rattle.warm_pool.specs.Keeping.{KeepsFrames, KeepsRanks, SameButFailures};
+ghost use Rattle.warm_pool.specs.Pinning.{LeavesDevices};
+ghost use Rattle.warm_pool.specs.Retiring.{KeepsElsewhere};
+ghost use Rattle.warm_pool.specs.View.{view_of, Holds};
+ghost use Rattle.warm_pool.specs.WritingSome.{FlushRefused, IsSettledOn, KeepsOtherDevices};
+ghost use Rattle.warm_pool.specs.WritingSome.{SomeFails, WritesBackSome};
+ghost use Rattle.warm_pool.specs.Zeroing.{PinnedZeroed, TakesZeroed, ZeroedRefused};
+ghost use Rattle.warm_gossip.specs.declared.fault.NodeFault.TheVariants.{Pool};
+ghost use Rattle.warm_gossip.specs.Clauses.{OfPool, SameView};
+
+use crate::fault::NodeFault;
+use crate::node::Node;
+use warm_devices::PageDevice;
+use warm_pool::Slot;
+use warm_stamps::PageId;
+
+impl<D: PageDevice> Node<D> {
+    /// Pins a page as [`Node::pin`] does, and fills it with zeros. The page isn't read from its
+    /// device: so this is for a page that is new, or is to be written anew. It becomes dirty. Where
+    /// it is resident, zeros are written to it as by [`Node::write`]. Allocation-free.
+    ///
+    /// **A pin is not a reference**: a caller that pins a page also absorbs a reference to it.
+    ///
+    /// The next warm-up step begins with the hottest page again, also where no page was evicted:
+    /// it looks up once more the pages of the list that earlier steps had passed.
+    ///
+    /// # Errors
+    /// `Pool`, with the fault and the order of [`warm_pool::Pool::pin_zeroed`], and with the same
+    /// effects: those of a pin but `ReadFault`, which doesn't occur. Pages, pin counts and contents
+    /// are unchanged.
+    pub fn pin_zeroed(&mut self, page: PageId) -> Result<Slot, NodeFault>
+        ensures id { self.new.id ≡ self.old.id }
+        ensures history { self.new.history ≡ self.old.history }
+        ensures pinned { IfOk result (λ slot. PinnedZeroed self.old.history
+            (view_of self.old.pool) page slot (view_of self.new.pool)) }
+        ensures holds { IfOk result (λ slot. Holds (view_of self.new.pool) slot) }
+        ensures frame { IfOk result (λ slot. TakesZeroed self.old.pool page slot self.new.pool) }
+        ensures refused { IfErr result (OfPool (λ fault. ZeroedRefused self.old.history
+            (view_of self.old.pool) page fault (view_of self.new.pool))) }
+        ensures stays { OnErr result (SameButFailures
+            (view_of self.old.pool) (view_of self.new.pool)) }
+        ensures frames { OnErr result (KeepsFrames self.old.pool self.new.pool) }
+        ensures devices { IfErr result (OfPool (λ fault. LeavesDevices self.old.history
+            self.old.pool page fault self.new.pool)) }
+    {
+        let slot = self.pool.pin_zeroed(page, self.history.history())?;
+        self.warm_up.passed = 0;
+        Ok(slot)
+    }
+
+    /// Writes back at most `limit` dirty pages, and returns how many pages are still dirty, as
+    /// [`warm_pool::Pool::write_back_some`] does: a checkpoint goes on in such portions between
+    /// other calls. No device is flushed. [`warm_pool::Pool::dirty`] of [`Node::pool`] gives the
+    /// number of dirty pages without a write. Allocation-free.
+    ///
+    /// # Errors
+    /// `Pool(Fault)`: a write failed. Pages, pin counts and contents are unchanged; the write-backs
+    /// made before it stay, and all other pages are dirty as before.
+    pub fn write_back_some(&mut self, limit: usize) -> Result<usize, NodeFault>
+        ensures id { self.new.id ≡ self.old.id }
+        ensures history { self.new.history ≡ self.old.history }
+        ensures same { OnOk result (SameView self.old self.new) }
+        ensures written { IfOk result (λ left. WritesBackSome limit
+            self.old.pool left self.new.pool) }
+        ensures refused { IfErr result (λ why. (why ≡ Pool Fault)
+            × SomeFails limit self.old.pool self.new.pool) }
+        ensures ranked { KeepsRanks self.old.pool self.new.pool }
+    {
+        let left = self.pool.write_back_some(limit)?;
+        Ok(left)
+    }
+
+    /// Writes back the dirty pages of one device, and flushes it where it is unflushed, as
+    /// [`warm_pool::Pool::flush_device`] does. Other devices, and the frames of their pages, are
+    /// unchanged, whether the call is refused or not. Allocation-free.
+    ///
+    /// # Errors
+    /// In this order; each leaves pages, pin counts and contents unchanged.
+    /// - `Pool(NoDevice)`: there is no device of this number. Nothing is changed.
+    /// - `Pool(Fault)`: a write or the flush of the device failed, and its count of failures has
+    ///   increased. The write-backs made before it stay.
+    pub fn flush_device(&mut self, dev: u16) -> Result<(), NodeFault>
+        ensures id { self.new.id ≡ self.old.id }
+        ensures history { self.new.history ≡ self.old.history }
+        ensures same { OnOk result (SameView self.old self.new) }
+        ensures settled { OnOk result (IsSettledOn dev self.new.pool) }
+        ensures refused { IfErr result (OfPool (λ fault. FlushRefused
+            self.old.pool dev fault self.new.pool)) }
+        ensures elsewhere { KeepsElsewhere dev self.old.pool self.new.pool }
+        ensures others { KeepsOtherDevices dev self.old.pool self.new.pool }
+        ensures ranked { KeepsRanks self.old.pool self.new.pool }
+    {
+        self.pool.flush_device(dev)?;
+        Ok(())
+    }
+
+    /// Evicts the pages of a device with the number `from` and above, and does not write them, as
+    /// [`warm_pool::Pool::forget_pages`] does: what only their frames hold is lost. So a program
+    /// that cuts a file at a page makes the node forget what was beyond. No device is called.
+    /// Allocation-free.
+    ///
+    /// The history is kept, and the device still has as many pages as it says: a later pin or
+    /// warm-up step reads these again. That step begins with the hottest page.
+    ///
+    /// # Errors
+    /// In this order; each changes nothing.
+    /// - `Pool(NoDevice)`: there is no device of this number.
+    /// - `Pool(Fixed)`: one of the pages is pinned.
+    pub fn forget_pages(&mut self, dev: u16, from: u64) -> Result<(), NodeFault>
+        ensures id { self.new.id ≡ self.old.id }
+        ensures history { self.new.history ≡ self.old.history }
+        ensures forgotten { OnOk result (Forgets self.old.pool dev from self.new.pool) }
+        ensures refused { IfErr result (OfPool (λ fault. ForgetRefused
+            self.old.pool dev from fault self.new.pool)) }
+        ensures ranked { KeepsRanks self.old.pool self.new.pool }
+    {
+        self.pool.forget_pages(dev, from)?;
+        self.warm_up.passed = 0;
+        Ok(())
+    }
+}

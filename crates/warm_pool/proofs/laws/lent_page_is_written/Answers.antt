@@ -1,0 +1,5 @@
+use Rattle.warm_pool.proofs.Lents.{lent_page}
+use Rattle.warm_pool.proofs.laws.lent_page_is_written.Goals as goal
+
+pub returns : goal.returns
+returns c = lent_page

@@ -1,0 +1,26 @@
+use Rattle.std.proofs.Common.{length, ap, sym, refl, arith, rules}
+use Rattle.std.proofs.lemmas.List.{length-map}
+use Rattle.warm_pool.proofs.FlushLemmas.{handed_on}
+use Rattle.warm_pool.proofs.PoolSteps.{of_ok, of_err}
+use Rattle.warm_pool.proofs.SettleLemmas.{down_view}
+use Rattle.warm_pool.proofs.SomeLemmas.{settled_on}
+use Rattle.warm_pool.specs.declared.fault.PoolFault.TheVariants.{Fault}
+use Rattle.warm_pool.specs.declared.selection.Devices.TheVariants.{One}
+use Rattle.warm_pool.proofs.pool.Pool.flush_device.Goals as goal
+
+pub returns-clause-same : goal.returns-clause-same
+returns-clause-same g c = down_view (One c.args.dev) _ _ _ (of_ok c.settle_device.result c.in_ok-map_err.ensures.variant c.settle_device.ensures.down)
+
+pub returns-clause-settled : goal.returns-clause-settled
+returns-clause-settled g c = settled_on c.args.dev _ _ (of_ok c.settle_device.result c.in_ok-map_err.ensures.variant c.settle_device.ensures.down)
+    (of_ok c.settle_device.result c.in_ok-map_err.ensures.variant c.settle_device.ensures.flushed)
+
+pub returns-then-dev-len-clause-refused : goal.returns-then-dev-len-clause-refused
+returns-then-dev-len-clause-refused g c = rw (← c.self.view_is) (simp length-map (omega arith), refl)
+
+pub returns-in_err-map_err-clause-refused : goal.returns-in_err-map_err-clause-refused
+returns-in_err-map_err-clause-refused g c = handed_on c.from_residual.result Fault _ (search rules) (
+    let there = ap (λ s. length s.devices) (sym c.self.view_is) in (
+      rw there (rw length-map (omega arith)),
+      of_err c.settle_device.result c.in_err-map_err.ensures.variant c.settle_device.ensures.stopped,
+    ))

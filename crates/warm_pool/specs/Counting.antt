@@ -1,0 +1,14 @@
+-- The number of resident pages.
+use Rattle.std.specs.Prelude.{ℕ, List, Option, Some, None, map}
+use Rattle.warm_stamps.specs.declared.PageId.{PageId}
+use Rattle.warm_rank.specs.Laws.{pages_in}
+use Rattle.warm_pool.specs.View.{PoolView}
+
+-- the resident pages, in the order of their frames; none is twice among them
+abbrev pub resident_pages : PoolView → List PageId
+resident_pages v = pages_in (map (λ f. f.page) v.frames)
+
+-- 1 for a frame with a page, else 0
+abbrev pub one_if_held : Option PageId → ℕ
+one_if_held None = 0
+one_if_held (Some p) = 1

@@ -1,0 +1,73 @@
+-- Writing back some pages, and those of one device.
+use Rattle.std.specs.Prelude.{ℕ, ◌≡◌, ◌≢◌, ◌<◌, ◌≤◌, ◌+◌, ◌-◌, ◌==◌, Bool, true, false, IsTrue, List, [], ◌∷◌}
+use Rattle.std.specs.Prelude.{length, take, Option, Some, None, if◌then◌else◌}
+use Rattle.warm_stamps.specs.declared.PageId.{PageId}
+use Rattle.warm_pool.specs.Frames.{FrameState, nth_frame}
+use Rattle.warm_pool.specs.declared.fault.PoolFault.{PoolFault}
+use Rattle.warm_pool.specs.declared.fault.PoolFault.TheVariants.{NoDevice, Fault}
+use Rattle.warm_pool.specs.State.{PoolState, nth_device}
+use Rattle.warm_pool.specs.View.{view_of}
+use Rattle.warm_pool.specs.Keeping.{FailsAt}
+use Rattle.warm_pool.specs.WritingBack.{WritesBack, cleaned_to, is_on}
+
+-- The dirty pages
+
+abbrev pub one_if : Bool → ℕ
+one_if true = 1
+one_if false = 0
+
+-- how many of these frames are dirty
+abbrev pub dirty_count : List FrameState → ℕ
+dirty_count [] = 0
+dirty_count (f ∷ frames) = one_if f.dirty + dirty_count frames
+
+-- Some of them
+
+-- The pages of the first frames, up to one, were written back, and nothing has changed for a
+-- caller. Of these frames at most `limit` were dirty: exactly so many, unless these are all frames.
+pub record CleansFirst (limit : ℕ) (old new : PoolState) : Type 0 where
+  pub upto : ℕ
+  pub within : upto ≤ length old.frames
+  pub few : dirty_count (take upto old.frames) ≤ limit
+  pub whole : upto < length old.frames → dirty_count (take upto old.frames) ≡ limit
+  pub down : WritesBack (cleaned_to upto old.frames) old new
+
+-- the same, and this many pages are still dirty
+abbrev pub WritesBackSome : ℕ → PoolState → ℕ → PoolState → Type 0
+WritesBackSome limit old left new = CleansFirst limit old new × (left ≡ dirty_count new.frames)
+
+-- The write of the page of a dirty frame failed, after the pages of the frames before it were
+-- written back, fewer than `limit`; the frame and those after it are unchanged.
+pub record SomeFails (limit : ℕ) (old new : PoolState) : Type 0 where
+  pub frame : ℕ
+  pub page : PageId
+  pub there : frame < length old.frames
+  pub holds : (nth_frame old.frames frame).page ≡ Some page
+  pub dirty : IsTrue (nth_frame old.frames frame).dirty
+  pub below : dirty_count (take frame old.frames) < limit
+  pub frames : new.frames ≡ cleaned_to frame old.frames
+  pub fails : FailsAt (view_of old) page.dev (view_of new)
+
+-- how many more dirty pages may be written, after one frame; none where no more may
+abbrev pub room_after : Bool → ℕ → Option ℕ
+room_after dirty room = if dirty then (if room == 0 then None else Some (room - 1)) else Some room
+
+-- Those of one device
+
+-- no page of the device is dirty, and the device is not unflushed
+pub record IsSettledOn (dev : ℕ) (s : PoolState) : Type 0 where
+  pub clean : (i : ℕ) → IsTrue (is_on dev (nth_frame s.frames i).page)
+      → (nth_frame s.frames i).dirty ≡ false
+  pub flushed : (nth_device s.devices dev).waiting ≡ false
+
+-- each other device is unchanged
+abbrev pub KeepsOtherDevices : ℕ → PoolState → PoolState → Type 0
+KeepsOtherDevices dev old new =
+    (k : ℕ) → k ≢ dev → nth_device new.devices k ≡ nth_device old.devices k
+
+-- why a device isn't flushed: there is none of this number, or a call of it failed
+abbrev pub FlushRefused : PoolState → ℕ → PoolFault → PoolState → Type 0
+FlushRefused old dev NoDevice new = (length old.devices ≤ dev) × (new ≡ old)
+FlushRefused old dev Fault new = (dev < length old.devices)
+    × FailsAt (view_of old) dev (view_of new)
+FlushRefused old dev why new = ⊥

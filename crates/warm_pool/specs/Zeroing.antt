@@ -1,0 +1,99 @@
+-- Pinning a page whose content becomes zeros, without reading it.
+use Rattle.std.specs.Prelude.{ℕ, ◌≡◌, ◌≢◌, ◌⊎◌, ◌<◌, ◌+◌, ◌-◌, ◌^◌, true, false, IsTrue, []}
+use Rattle.std.specs.Prelude.{length, replicate, set, Some}
+use Rattle.warm_stamps.specs.declared.PageId.{PageId}
+use Rattle.warm_history.specs.Histories.{HistoryView}
+use Rattle.warm_rank.specs.declared.RankKey.{RankKey}
+use Rattle.warm_pool.specs.declared.slot.Slot.{Slot}
+use Rattle.warm_pool.specs.declared.fault.PoolFault.{PoolFault}
+use Rattle.warm_pool.specs.declared.fault.PoolFault.TheVariants.{ReadFault, WriteBack}
+use Rattle.warm_pool.specs.Frames.{FrameState, nth_frame}
+use Rattle.warm_pool.specs.FrameSteps.{loaded_frame}
+use Rattle.warm_pool.specs.State.{PoolState}
+use Rattle.warm_pool.specs.View.{PoolView, device_at, frame_at, contents_at, view_of, HasPage}
+use Rattle.warm_pool.specs.View.{IsResident, IsAbsent}
+use Rattle.warm_pool.specs.Keeping.{KeepsOthers}
+use Rattle.warm_pool.specs.WritingBack.{CleanFails, WaitsFor}
+use Rattle.warm_pool.specs.PageBytes.{Written}
+use Rattle.warm_pool.specs.Pinning.{AddsFix, IsFrameToLoad, PinRefused}
+
+-- The pages of honest devices, and those resident before and after, have the same bytes as before,
+-- all but one page. A page of another device that isn't resident has no bytes here, and one that is
+-- resident has the size of a page.
+pub record KeepsContentsBut (p : PageId) (old new : PoolView) : Type 0 where
+  pub honest : (q : PageId) → q ≢ p → HasPage old q → IsTrue (device_at old q.dev).honest
+      → contents_at new q ≡ contents_at old q
+  pub resident : (q : PageId) → q ≢ p → IsResident old q → IsResident new q
+      → contents_at new q ≡ contents_at old q
+  pub absent : (q : PageId) → (device_at new q.dev).honest ≡ false → IsAbsent new q
+      → contents_at new q ≡ []
+  pub sized : (q : PageId) → IsResident new q → length (contents_at new q) ≡ new.page_size
+
+-- the page was in no frame; it is in the slot's frame now, with one pin, and all its bytes are zero
+pub record PutsZeros (h : HistoryView) (old : PoolView) (p : PageId) (slot : Slot)
+    (new : PoolView) : Type 0 where
+  pub absent : IsAbsent old p
+  pub to_load : IsFrameToLoad h old (Some slot.index)
+  pub below : (frame_at old slot.index).generation < 2 ^ 64 - 1
+  pub current : slot.generation ≡ (frame_at old slot.index).generation + 1
+  pub becomes : new ≡ record old {
+    frames = set old.frames slot.index
+        (record { page = Some p; generation = slot.generation; fixes = 1 });
+    contents = new.contents;
+  }
+  pub zeros : contents_at new p ≡ replicate old.page_size 0
+  pub others : KeepsContentsBut p old new
+
+-- the page was in the slot's frame, and got one more pin; then zeros were written to all of it
+pub record FixesZeroed (old : PoolView) (p : PageId) (slot : Slot) (new : PoolView) : Type 0 where
+  pub between : PoolView
+  pub adds : AddsFix old p slot between
+  pub written : Written between slot 0 (replicate old.page_size 0) new
+
+abbrev pub PinnedZeroed : HistoryView → PoolView → PageId → Slot → PoolView → Type 0
+PinnedZeroed h old p slot new =
+    HasPage old p × (FixesZeroed old p slot new ⊎ PutsZeros h old p slot new)
+
+-- The slot's frame is dirty, and no other has changed. The devices are unchanged for a page that
+-- was resident, and for another one unless the slot's frame was dirty: then its page was written
+-- back, and its device is unflushed.
+pub record TakesZeroed (old : PoolState) (p : PageId) (slot : Slot) (new : PoolState) : Type 0 where
+  pub dirty : (nth_frame new.frames slot.index).dirty ≡ true
+  pub others : KeepsOthers slot.index old new
+  pub resident : IsResident (view_of old) p → new.devices ≡ old.devices
+  pub devices : (nth_frame old.frames slot.index).dirty ≡ false → new.devices ≡ old.devices
+  pub waits : IsAbsent (view_of old) p → WaitsFor old slot.index new.devices
+
+-- the refusals of a pin, but that of a failed read: no page is read
+abbrev pub ZeroedRefused : HistoryView → PoolView → PageId → PoolFault → PoolView → Type 0
+ZeroedRefused h old p why new = PinRefused h old p why new × (why ≢ ReadFault)
+
+-- The steps
+
+-- a frame with this page, one pin, this rank and so many zeros
+abbrev pub zeroed_frame : PageId → RankKey → ℕ → FrameState → FrameState
+zeroed_frame page key size f = record (loaded_frame page key 1 (replicate size 0) f) { dirty = true }
+
+-- the page is in the frame, with zeros, this rank and one pin
+pub record ZeroesInto (old : PoolState) (i : ℕ) (p : PageId) (key : RankKey)
+    (new : PoolState) : Type 0 where
+  pub frames : new.frames
+      ≡ set old.frames i (zeroed_frame p key old.page_size (nth_frame old.frames i))
+  pub devices : (nth_frame old.frames i).dirty ≡ false → new.devices ≡ old.devices
+  pub waits : WaitsFor old i new.devices
+  pub rest : view_of new
+      ≡ record (view_of old) { frames = (view_of new).frames; contents = (view_of new).contents }
+  pub zeros : contents_at (view_of new) p ≡ replicate old.page_size 0
+  pub others : KeepsContentsBut p (view_of old) (view_of new)
+
+-- the write of the frame's page failed
+abbrev pub ZeroFails : PoolState → ℕ → PoolFault → PoolState → Type 0
+ZeroFails old i why new = (why ≡ WriteBack) × CleanFails old i new
+
+-- the resident page of the frame has one more pin, and zeros; nothing else has changed
+pub record FixesZeros (old : PoolState) (i : ℕ) (slot : Slot) (new : PoolState) : Type 0 where
+  pub zeroed : (p : PageId) → (nth_frame old.frames i).page ≡ Some p
+      → FixesZeroed (view_of old) p slot (view_of new)
+  pub dirty : (nth_frame new.frames slot.index).dirty ≡ true
+  pub others : KeepsOthers slot.index old new
+  pub devices : new.devices ≡ old.devices

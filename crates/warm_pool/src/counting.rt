@@ -1,0 +1,57 @@
+//! What a pool says of itself: its counts, its resident pages, its devices.
+ghost use Rattle.std.specs.Prelude.{◌≡◌, length, map};
+ghost use Rattle.warm_rank.specs.Laws.{pages_in};
+ghost use Rattle.warm_pool.specs.View.{view_of};
+ghost use Rattle.warm_pool.specs.Counting.{one_if_held, resident_pages};
+
+use crate::pool::Pool;
+use crate::tally::{FailedCall, PoolCounts};
+use warm_devices::PageDevice;
+use warm_stamps::PageId;
+
+impl<D: PageDevice> Pool<D> {
+    /// How many hits, misses, evictions and pages written back there were since the pool was made.
+    /// The contract doesn't say how they grow. The calls of a device are counted by a
+    /// [`warm_devices::Counted`].
+    pub fn counts(&self) -> PoolCounts {
+        self.tally.counts()
+    }
+
+    /// The call of a device that failed last; `None` where none has failed since the pool was made.
+    /// The contract doesn't say which.
+    pub fn last_failure(&self) -> Option<FailedCall> {
+        self.tally.last_failure()
+    }
+
+    /// The number of resident pages. The cost is linear in the number of frames.
+    pub fn resident_count(&self) -> usize
+        ensures { result ≡ length (resident_pages (view_of self.now)) }
+    {
+        count_held(self.frames.pages())
+    }
+
+    /// The devices, by their numbers.
+    pub fn devices(&self) -> &[D]
+        ensures { map D.state result.now ≡ self.now.devices }
+    {
+        &self.devices
+    }
+}
+
+// The number of frames that have a page.
+fn count_held(pages: &[Option<PageId>]) -> usize
+    ensures { result ≡ length (pages_in pages.now) }
+{
+    let mut count = 0;
+    for at in 0..pages.len() {
+        count += one_if_held(pages[at]);
+    }
+    count
+}
+
+// 1 where there is a page, else 0.
+fn one_if_held(page: Option<PageId>) -> usize
+    ensures { result ≡ one_if_held page }
+{
+    if page.is_some() { 1 } else { 0 }
+}

@@ -1,0 +1,71 @@
+//! Forgetting the last pages of a device.
+ghost use Rattle.std.specs.Prelude.{◌≡◌, ◌<◌, length, OnOk, IfErr};
+ghost use Rattle.warm_pool.specs.FrameSteps.{changed_at};
+ghost use Rattle.warm_pool.specs.Keeping.{KeepsRanks};
+ghost use Rattle.warm_pool.specs.WritingBack.{clean_if};
+ghost use Rattle.warm_pool.specs.Retiring.{vacated_selected};
+ghost use Rattle.warm_pool.specs.Forgetting.{Forgets, ForgetRefused, selected_cleaned};
+
+use crate::close::is_fixed;
+use crate::fault::PoolFault;
+use crate::frames::Frames;
+use crate::pool::Pool;
+use crate::selection::Devices;
+use warm_devices::PageDevice;
+
+impl<D: PageDevice> Pool<D> {
+    /// Evicts the pages of a device with the number `from` and above, and does not write them: what
+    /// only their frames hold is lost. So a program that cuts a file at a page makes the pool
+    /// forget what was beyond. No device is called. The cost is linear in the number of frames.
+    ///
+    /// Of an honest device each of these pages has the contents that the device has; all other
+    /// pages keep theirs.
+    ///
+    /// # Errors
+    /// In this order; each changes nothing.
+    /// - `NoDevice`: there is no device of this number.
+    /// - `Fixed`: one of the pages is pinned.
+    pub fn forget_pages(&mut self, dev: u16, from: u64) -> Result<(), PoolFault>
+        ensures ranked { KeepsRanks self.old self.new }
+        ensures forgotten { OnOk result (Forgets self.old dev from self.new) }
+        ensures refused { IfErr result (λ fault. ForgetRefused self.old dev from fault self.new) }
+    {
+        if dev as usize >= self.devices.len() {
+            return Err(PoolFault::NoDevice);
+        }
+        if is_fixed(&self.frames, Devices::PagesFrom(dev, from)) {
+            return Err(PoolFault::Fixed);
+        }
+        forget(&mut self.frames, Devices::PagesFrom(dev, from));
+        Ok(())
+    }
+}
+
+// Evicts the pages of the selected frames, dirty or not.
+fn forget(frames: &mut Frames, which: Devices)
+    ensures { frames.new
+        ≡ record frames.old { frames = vacated_selected which frames.old.frames } }
+{
+    clean_selected(frames, which);
+    frames.vacate_selected(which);
+}
+
+// Marks the pages of the selected frames as clean.
+fn clean_selected(frames: &mut Frames, which: Devices)
+    ensures { frames.new ≡ selected_cleaned which frames.old }
+{
+    for at in 0..frames.len() {
+        clean_one(frames, at, which);
+    }
+}
+
+// Marks the page of a frame as clean, where it is selected.
+fn clean_one(frames: &mut Frames, at: usize, which: Devices)
+    requires { at < length frames.old.frames }
+    ensures { frames.new ≡ changed_at frames.old at (clean_if which) }
+{
+    if !which.selects(frames.page(at)) {
+        return;
+    }
+    frames.clean(at);
+}

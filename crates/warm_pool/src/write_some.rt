@@ -1,0 +1,119 @@
+//! Writing back some of a pool's pages, and those of one device.
+ghost use Rattle.std.specs.Prelude.{◌≡◌, ◌<◌, length, OnOk, IfErr, IfOk, OnErr};
+ghost use Rattle.warm_pool.specs.Frames.{nth_frame};
+ghost use Rattle.warm_pool.specs.View.{view_of};
+ghost use Rattle.warm_pool.specs.Keeping.{KeepsRanks};
+ghost use Rattle.warm_pool.specs.Retiring.{KeepsElsewhere};
+ghost use Rattle.warm_pool.specs.WritingSome.{CleansFirst, FlushRefused, IsSettledOn, SomeFails, KeepsOtherDevices};
+ghost use Rattle.warm_pool.specs.WritingSome.{WritesBackSome, dirty_count, one_if, room_after};
+ghost use Rattle.warm_pool.specs.declared.fault.PoolFault.TheVariants.{Fault};
+
+use crate::fault::PoolFault;
+use crate::pool::Pool;
+use crate::selection::Devices;
+use warm_devices::{DeviceFault, PageDevice};
+
+impl<D: PageDevice> Pool<D> {
+    /// Writes back at most `limit` dirty pages, those of the first dirty frames, and returns how
+    /// many pages are still dirty. No device is flushed: what was written is durable only after
+    /// [`Pool::flush_device`] or [`Pool::write_back_all`].
+    ///
+    /// The order is that of frames, from the first one at each call. So pages that are written to
+    /// between the calls may be written back again before others are for the first time: a
+    /// checkpoint that must end takes a `limit` above the number of pages that become dirty
+    /// meanwhile.
+    ///
+    /// # Errors
+    /// `Fault` where a write failed. Pages, pin counts and contents are unchanged; the write-backs
+    /// made before it stay, and all other pages are dirty as before.
+    pub fn write_back_some(&mut self, limit: usize) -> Result<usize, PoolFault>
+        ensures ranked { KeepsRanks self.old self.new }
+        ensures same { OnOk result (view_of self.new ≡ view_of self.old) }
+        ensures written { IfOk result (λ left. WritesBackSome limit self.old left self.new) }
+        ensures refused { IfErr result (λ fault. (fault ≡ Fault)
+            × SomeFails limit self.old self.new) }
+    {
+        self.clean_first(limit).map_err(|_| PoolFault::Fault)?;
+        Ok(self.dirty())
+    }
+
+    /// Writes back the dirty pages of one device, in the order of frames, and flushes it where it
+    /// is unflushed. Other devices, and the frames of their pages, are unchanged, whether the call
+    /// is refused or not.
+    ///
+    /// # Errors
+    /// In this order; each leaves pages, pin counts and contents unchanged.
+    /// - `NoDevice`: there is no device of this number. Nothing is changed.
+    /// - `Fault`: a write or the flush of the device failed, and its count of failures has
+    ///   increased. The write-backs made before it stay.
+    pub fn flush_device(&mut self, dev: u16) -> Result<(), PoolFault>
+        ensures ranked { KeepsRanks self.old self.new }
+        ensures same { OnOk result (view_of self.new ≡ view_of self.old) }
+        ensures settled { OnOk result (IsSettledOn dev self.new) }
+        ensures refused { IfErr result (λ fault. FlushRefused self.old dev fault self.new) }
+        ensures elsewhere { KeepsElsewhere dev self.old self.new }
+        ensures others { KeepsOtherDevices dev self.old self.new }
+    {
+        if dev as usize >= self.devices.len() {
+            return Err(PoolFault::NoDevice);
+        }
+        self.settle_device(dev).map_err(|_| PoolFault::Fault)?;
+        Ok(())
+    }
+
+    /// The number of dirty pages. The cost is linear in the number of frames.
+    pub fn dirty(&self) -> usize
+        ensures { result ≡ dirty_count self.now.frames }
+    {
+        let mut count = 0;
+        for at in 0..self.frames.len() {
+            count += one_if(self.is_dirty(at));
+        }
+        count
+    }
+
+    // Whether the page in a frame is dirty.
+    fn is_dirty(&self, at: usize) -> bool
+        requires { at < length self.now.frames }
+        ensures { result ≡ (nth_frame self.now.frames at).dirty }
+    {
+        self.frames.is_dirty(at)
+    }
+
+    // Writes back the pages of the first dirty frames, at most `limit`.
+    fn clean_first(&mut self, limit: usize) -> Result<(), DeviceFault>
+        ensures ranked { KeepsRanks self.old self.new }
+        ensures down { OnOk result (CleansFirst limit self.old self.new) }
+        ensures stopped { OnErr result (SomeFails limit self.old self.new) }
+    {
+        let mut room = limit;
+        for at in 0..self.frames.len() {
+            let Some(rest) = room_after(self.is_dirty(at), room) else {
+                return Ok(());
+            };
+            self.clean_if(at, Devices::All)?;
+            room = rest;
+        }
+        Ok(())
+    }
+}
+
+// 1 where it holds, else 0.
+fn one_if(holds: bool) -> usize
+    ensures { result ≡ one_if holds }
+{
+    if holds { 1 } else { 0 }
+}
+
+// How many more dirty pages may be written, after a frame.
+fn room_after(dirty: bool, room: usize) -> Option<usize>
+    ensures { result ≡ room_after dirty room }
+{
+    if !dirty {
+        return Some(room);
+    }
+    if room == 0 {
+        return None;
+    }
+    Some(room - 1)
+}

@@ -1,0 +1,10 @@
+use Rattle.std.proofs.Common.{refl}
+use Rattle.warm_world.specs.declared.event.Event.TheVariants.{Unpin}
+use Rattle.warm_world.specs.Replicas.{answered}
+use Rattle.warm_world.proofs.Worlds.{asks}
+use Rattle.warm_world.proofs.world.World.unpin.Goals as goal
+
+pub returns : goal.returns
+returns g c =
+    let at = rw c.index_of_number.ensures at c.index_mut.ensures.value in
+    rw c.index_of_number.ensures (λ m st. asks _ _ _ m (Unpin c.args.i c.args.slot) c.args.i (answered c.ask.result) _ _ refl st c.requires.named at refl c.ask.ensures)

@@ -1,0 +1,540 @@
+/* What an engine does that holds the pool: it reads and writes pages where they lie, makes new ones, asks which are in memory, writes them back
+ * some at a time, cuts and replaces files, sends what is new of its history, and looks at what was counted and what failed. After each refusal what
+ * was there before is still there. */
+#define _GNU_SOURCE /* mkstemp */
+#include <errno.h>
+#include <fcntl.h>
+#include <signal.h>
+#include <sys/resource.h>
+
+#define PROGRAM "engine"
+#include "expect.h"
+
+enum { PAGE_SIZE = 512, MANY = 2500 };
+
+static void open_two(warm *handle, size_t frames, int first, int second) {
+    const warm_device devices[] = {{.pages = 8, .fd = first}, {.pages = 8, .fd = second}};
+    OK(warm_open(handle, 1, frames, PAGE_SIZE, devices, 2));
+}
+
+static warm_slot pinned(warm *handle, warm_page page) {
+    warm_slot slot;
+    OK(warm_pin(handle, page, &slot));
+    return slot;
+}
+
+static void write_to(warm *handle, warm_page page, uint8_t byte) {
+    warm_slot slot = pinned(handle, page);
+    OK(warm_write(handle, slot, 0, &byte, 1));
+    OK(warm_unpin(handle, slot));
+}
+
+static uint8_t read_from(warm *handle, warm_page page) {
+    uint8_t byte;
+    warm_slot slot = pinned(handle, page);
+    OK(warm_read(handle, slot, 0, &byte, 1));
+    OK(warm_unpin(handle, slot));
+    return byte;
+}
+
+static uint8_t byte_at(int fd, off_t at) {
+    uint8_t byte = 0;
+    MUST(pread(fd, &byte, 1, at) == 1);
+    return byte;
+}
+
+/* Whether a page is in a frame; what is asked for was written by nobody. */
+static bool is_resident(warm *handle, warm_page page) {
+    bool resident;
+    uint8_t byte;
+    OK(warm_resident(handle, page, &resident));
+    memcpy(&byte, &resident, 1);
+    MUST(byte <= 1);
+    return resident;
+}
+
+static void resident_pages(void) {
+    int first = temporary(), second = temporary();
+    bool resident = true;
+    warm handle = {0};
+    EXPECT(WARM_CLOSED, warm_resident(&handle, (warm_page){0}, &resident));
+    MUST(resident);
+    open_two(&handle, 1, first, second);
+    MUST(!is_resident(&handle, (warm_page){.no = 3}));
+    MUST(read_from(&handle, (warm_page){.no = 3}) == 0);
+    MUST(is_resident(&handle, (warm_page){.no = 3}) && !is_resident(&handle, (warm_page){.no = 3, .dev = 1}));
+    MUST(read_from(&handle, (warm_page){.no = 4}) == 0);
+    MUST(is_resident(&handle, (warm_page){.no = 4}) && !is_resident(&handle, (warm_page){.no = 3}));
+    MUST(!is_resident(&handle, (warm_page){.no = UINT64_MAX, .dev = 65535}));
+    warm_close(&handle);
+    close(first);
+    close(second);
+}
+
+/* The bytes of a lent page are those of the file, all of them, and stay where they are while other pages come, go and are written. */
+static void lent_pages(void) {
+    static uint8_t whole[PAGE_SIZE], copy[PAGE_SIZE];
+    int first = temporary(), second = temporary();
+    warm handle = {0};
+    warm_reference seen = {.time = 1, .no = 7, .replica = 1};
+    warm_page page;
+    bool found;
+    const uint8_t *bytes = whole, *again;
+    for (int at = 0; at < PAGE_SIZE; at++) whole[at] = (uint8_t)(at * 7 + 1);
+    MUST(pwrite(first, whole, PAGE_SIZE, 2 * PAGE_SIZE) == PAGE_SIZE);
+    EXPECT(WARM_CLOSED, warm_lend(&handle, (warm_slot){0}, &bytes));
+    open_two(&handle, 2, first, second);
+    EXPECT(WARM_STALE_SLOT, warm_lend(&handle, (warm_slot){0}, &bytes));
+    EXPECT(WARM_STALE_SLOT, warm_lend(&handle, (warm_slot){.index = UINT32_MAX, .generation = 1}, &bytes));
+    MUST(bytes == whole); /* it is as it was */
+    warm_slot slot = pinned(&handle, (warm_page){.no = 2});
+    OK(warm_lend(&handle, slot, &bytes));
+    MUST(bytes != whole && memcmp(bytes, whole, PAGE_SIZE) == 0);
+    for (uint64_t no = 0; no < 8; no++) write_to(&handle, (warm_page){.no = no, .dev = 1}, (uint8_t)no);
+    OK(warm_absorb(&handle, &seen, 1));
+    OK(warm_step(&handle, &found, &page));
+    OK(warm_write_back(&handle));
+    OK(warm_lend(&handle, slot, &again));
+    MUST(again == bytes && memcmp(bytes, whole, PAGE_SIZE) == 0);
+    OK(warm_read(&handle, slot, 0, copy, PAGE_SIZE));
+    MUST(memcmp(copy, bytes, PAGE_SIZE) == 0);
+    OK(warm_write(&handle, slot, PAGE_SIZE - 1, (const uint8_t *)"!", 1));
+    MUST(bytes[PAGE_SIZE - 1] == '!'); /* a write is seen */
+    warm_slot other = pinned(&handle, (warm_page){.no = 5});
+    OK(warm_lend(&handle, other, &again));
+    MUST(again >= bytes + PAGE_SIZE || again + PAGE_SIZE <= bytes);
+    OK(warm_unpin(&handle, slot));
+    again = whole;
+    EXPECT(WARM_STALE_SLOT, warm_lend(&handle, slot, &again));
+    MUST(again == whole);
+    warm_close(&handle);
+    close(first);
+    close(second);
+}
+
+/* What is written through the pointer of a lent page reaches the file, and once the page was written back, only after it is lent again. */
+static void pages_written_in_place(void) {
+    int first = temporary(), second = temporary();
+    uint8_t none = 0, *bytes = &none, *again;
+    const uint8_t *same;
+    warm handle = {0};
+    EXPECT(WARM_CLOSED, warm_lend_mut(&handle, (warm_slot){0}, &bytes));
+    open_two(&handle, 1, first, second);
+    EXPECT(WARM_STALE_SLOT, warm_lend_mut(&handle, (warm_slot){.generation = 1}, &bytes));
+    MUST(bytes == &none);
+    warm_slot slot = pinned(&handle, (warm_page){.no = 2});
+    OK(warm_lend_mut(&handle, slot, &bytes));
+    OK(warm_lend(&handle, slot, &same));
+    MUST(same == bytes);
+    memset(bytes, 'p', PAGE_SIZE);
+    OK(warm_write_back(&handle));
+    MUST(byte_at(first, 2 * PAGE_SIZE) == 'p' && byte_at(first, 3 * PAGE_SIZE - 1) == 'p');
+    OK(warm_lend_mut(&handle, slot, &again));
+    MUST(again == bytes && bytes[0] == 'p'); /* lending changes no byte */
+    bytes[PAGE_SIZE - 1] = 'q';
+    OK(warm_unpin(&handle, slot));
+    MUST(read_from(&handle, (warm_page){.no = 3}) == 0); /* page 2 leaves, and is written */
+    MUST(byte_at(first, 2 * PAGE_SIZE) == 'p' && byte_at(first, 3 * PAGE_SIZE - 1) == 'q');
+    EXPECT(WARM_STALE_SLOT, warm_lend_mut(&handle, slot, &bytes));
+    warm_close(&handle);
+    close(first);
+    close(second);
+}
+
+/* A page with zeros is not read: its file may be one that cannot be. It is written as any page that was written to. */
+static void zeroed_pages(void) {
+    int first = temporary(), second = open("/dev/null", O_WRONLY);
+    warm handle = {0};
+    warm_slot slot = {.generation = 9}, other;
+    uint8_t bytes[PAGE_SIZE];
+    MUST(second >= 0 && pwrite(first, "zzz", 3, PAGE_SIZE) == 3);
+    EXPECT(WARM_CLOSED, warm_pin_zeroed(&handle, (warm_page){0}, &slot));
+    open_two(&handle, 2, first, second);
+    EXPECT(WARM_NO_DEVICE, warm_pin_zeroed(&handle, (warm_page){.dev = 2}, &slot));
+    EXPECT(WARM_NO_PAGE, warm_pin_zeroed(&handle, (warm_page){.no = 8}, &slot));
+    MUST(slot.generation == 9);
+    EXPECT(WARM_READ_FAULT, warm_pin(&handle, (warm_page){.no = 1, .dev = 1}, &other));
+    OK(warm_pin_zeroed(&handle, (warm_page){.no = 1, .dev = 1}, &slot));
+    OK(warm_pin_zeroed(&handle, (warm_page){.no = 1}, &other));
+    OK(warm_read(&handle, other, 0, bytes, PAGE_SIZE));
+    for (int at = 0; at < PAGE_SIZE; at++) MUST(bytes[at] == 0);
+    EXPECT(WARM_ALL_FIXED, warm_pin_zeroed(&handle, (warm_page){.no = 2}, &slot));
+    OK(warm_write(&handle, other, 0, (const uint8_t *)"y", 1));
+    OK(warm_pin_zeroed(&handle, (warm_page){.no = 1}, &other)); /* it is in a frame, and has one pin more */
+    OK(warm_read(&handle, other, 0, bytes, 1));
+    MUST(bytes[0] == 0 && byte_at(first, PAGE_SIZE) == 'z');
+    OK(warm_unpin(&handle, other));
+    OK(warm_unpin(&handle, other));
+    OK(warm_unpin(&handle, slot));
+    OK(warm_flush(&handle, 0));
+    MUST(byte_at(first, PAGE_SIZE) == 0 && byte_at(first, PAGE_SIZE + 2) == 0);
+    warm_close(&handle);
+    close(first);
+    close(second);
+}
+
+/* Pages are written back some at a time, those of one device, or not at all. */
+static void portions(void) {
+    int first = temporary(), second = temporary();
+    size_t left = 99;
+    uint8_t byte;
+    warm handle = {0};
+    warm_slot slot;
+    EXPECT(WARM_CLOSED, warm_write_back_some(&handle, 1, &left));
+    EXPECT(WARM_CLOSED, warm_flush(&handle, 0));
+    EXPECT(WARM_CLOSED, warm_forget(&handle, 0, 0));
+    open_two(&handle, 8, first, second);
+    for (uint64_t no = 0; no < 3; no++) write_to(&handle, (warm_page){.no = no}, 'a');
+    for (uint64_t no = 0; no < 3; no++) write_to(&handle, (warm_page){.no = no, .dev = 1}, 'b');
+    OK(warm_write_back_some(&handle, 0, &left));
+    MUST(left == 6 && lseek(first, 0, SEEK_END) == 0);
+    OK(warm_write_back_some(&handle, 2, &left));
+    MUST(left == 4 && lseek(first, 0, SEEK_END) == 2 * PAGE_SIZE && lseek(second, 0, SEEK_END) == 0);
+    OK(warm_flush(&handle, 1));
+    EXPECT(WARM_NO_DEVICE, warm_flush(&handle, 2));
+    MUST(lseek(first, 0, SEEK_END) == 2 * PAGE_SIZE && byte_at(second, 2 * PAGE_SIZE) == 'b');
+    OK(warm_write_back_some(&handle, SIZE_MAX, &left));
+    MUST(left == 0 && byte_at(first, 2 * PAGE_SIZE) == 'a');
+    write_to(&handle, (warm_page){.no = 1}, 'c');
+    write_to(&handle, (warm_page){.no = 0}, 'd');
+    EXPECT(WARM_NO_DEVICE, warm_forget(&handle, 2, 0));
+    OK(warm_pin(&handle, (warm_page){.no = 2}, &slot));
+    EXPECT(WARM_FIXED, warm_forget(&handle, 0, 1));
+    MUST(is_resident(&handle, (warm_page){.no = 1}));
+    OK(warm_unpin(&handle, slot));
+    OK(warm_forget(&handle, 0, 1));
+    MUST(!is_resident(&handle, (warm_page){.no = 1}) && is_resident(&handle, (warm_page){.no = 0}) && is_resident(&handle, (warm_page){.no = 2, .dev = 1}));
+    MUST(read_from(&handle, (warm_page){.no = 1}) == 'a' && read_from(&handle, (warm_page){.no = 0}) == 'd'); /* what was not written is lost */
+    int kept = dup(first), reader = open("/dev/null", O_RDONLY);
+    MUST(reader >= 0 && dup2(reader, first) == first); /* the file takes no byte for a time */
+    left = 99;
+    EXPECT(WARM_FAULT, warm_write_back_some(&handle, 1, &left));
+    EXPECT(WARM_FAULT, warm_flush(&handle, 0));
+    MUST(left == 99 && dup2(kept, first) == first);
+    OK(warm_flush(&handle, 0));
+    MUST(pread(kept, &byte, 1, 0) == 1 && byte == 'd');
+    warm_close(&handle);
+    close(kept);
+    close(reader);
+    close(first);
+    close(second);
+}
+
+/* A file takes the place of another: what was written to the old one is there and synced, and the history is kept. */
+static void replaced_file(void) {
+    const warm_reference seen = {.time = 1, .no = 1, .dev = 1, .replica = 1};
+    int first = temporary(), second = temporary(), third = temporary();
+    const warm_device in_place = {.pages = 4, .fd = third}, none = {.pages = 0, .fd = -2};
+    warm_slot slot;
+    warm_page page;
+    size_t known;
+    bool found;
+    warm handle = {0};
+    EXPECT(WARM_CLOSED, warm_replace(&handle, 1, &in_place));
+    open_two(&handle, 4, first, second);
+    MUST(pwrite(third, "t", 1, PAGE_SIZE) == 1);
+    OK(warm_absorb(&handle, &seen, 1));
+    write_to(&handle, (warm_page){.no = 1, .dev = 0}, 'f');
+    write_to(&handle, (warm_page){.no = 1, .dev = 1}, 's');
+    OK(warm_replace(&handle, 1, &in_place));
+    MUST(byte_at(second, PAGE_SIZE) == 's' && lseek(first, 0, SEEK_END) == 0); /* the other device's page still waits */
+    MUST(!is_resident(&handle, (warm_page){.no = 1, .dev = 1}) && is_resident(&handle, (warm_page){.no = 1, .dev = 0}));
+    OK(warm_history_length(&handle, &known));
+    OK(warm_step(&handle, &found, &page));
+    MUST(known == 1 && found && page.no == 1 && page.dev == 1); /* it is warmed up from the new file */
+    MUST(read_from(&handle, (warm_page){.no = 1, .dev = 1}) == 't' && read_from(&handle, (warm_page){.no = 1, .dev = 0}) == 'f');
+    EXPECT(WARM_NO_PAGE, warm_pin(&handle, (warm_page){.no = 4, .dev = 1}, &slot));
+    write_to(&handle, (warm_page){.no = 1, .dev = 1}, 'u');
+    OK(warm_replace(&handle, 1, &none)); /* no file for now */
+    MUST(byte_at(third, PAGE_SIZE) == 'u');
+    EXPECT(WARM_NO_PAGE, warm_pin(&handle, (warm_page){.no = 1, .dev = 1}, &slot));
+    OK(warm_replace(&handle, 1, &(warm_device){.pages = 8, .fd = second}));
+    MUST(read_from(&handle, (warm_page){.no = 1, .dev = 1}) == 's');
+    OK(warm_replace(&handle, 1, &(warm_device){.pages = 9, .fd = second})); /* the same file, which may have more pages now */
+    OK(warm_replace(&handle, 0, &(warm_device){.pages = 8, .fd = third}));  /* a file that no device has any more */
+    MUST(byte_at(first, PAGE_SIZE) == 'f' && read_from(&handle, (warm_page){.no = 1}) == 'u');
+    OK(warm_write_back(&handle));
+    warm_close(&handle);
+    close(first);
+    close(second);
+    close(third);
+}
+
+/* The device stays, with its pages, where it is not replaced. */
+static void not_replaced(void) {
+    int first = temporary(), second = temporary(), third = temporary(), copy = dup(first);
+    const warm_device in_place = {.pages = 8, .fd = third}, large = {.pages = UINT64_MAX / PAGE_SIZE, .fd = first};
+    warm handle = {0};
+    open_two(&handle, 2, first, second);
+    write_to(&handle, (warm_page){.no = 1, .dev = 1}, 'a');
+    EXPECT(WARM_NO_DEVICE, warm_replace(&handle, 2, &(warm_device){.pages = 8, .fd = first}));
+    EXPECT(WARM_NO_DEVICE, warm_replace(&handle, 65535, &in_place));
+    warm_slot slot = pinned(&handle, (warm_page){.no = 1, .dev = 1});
+    EXPECT(WARM_NO_DEVICE, warm_replace(&handle, 1, &large)); /* it is too large, of the other's file, and a page is pinned */
+    EXPECT(WARM_SAME_FILE, warm_replace(&handle, 1, &(warm_device){.pages = 8, .fd = first}));
+    EXPECT(WARM_SAME_FILE, warm_replace(&handle, 1, &(warm_device){.pages = 8, .fd = copy}));
+    EXPECT(WARM_FIXED, warm_replace(&handle, 1, &in_place));
+    OK(warm_replace(&handle, 0, &(warm_device){.pages = 8, .fd = copy})); /* no page of this one is pinned */
+    OK(warm_unpin(&handle, slot));
+    int kept = dup(second), reader = open("/dev/null", O_RDONLY);
+    MUST(reader >= 0 && dup2(reader, second) == second); /* the file takes no byte for a time */
+    EXPECT(WARM_FAULT, warm_replace(&handle, 1, &in_place));
+    MUST(read_from(&handle, (warm_page){.no = 1, .dev = 1}) == 'a');
+    MUST(dup2(kept, second) == second);
+    OK(warm_replace(&handle, 1, &in_place));
+    MUST(byte_at(kept, PAGE_SIZE) == 'a' && read_from(&handle, (warm_page){.no = 1, .dev = 1}) == 0);
+    warm_close(&handle);
+    close(reader);
+    close(kept);
+    close(copy);
+    close(first);
+    close(second);
+    close(third);
+}
+
+/* Sends what is new of bucket 7 since a time, and counts the entries that come by it. */
+static size_t sent_since(warm *from, uint64_t since, warm *to) {
+    static uint8_t frame[65536];
+    size_t length, before, known;
+    bool more, has_after = false;
+    uint8_t byte;
+    warm_page last = {.no = 99, .dev = 9}, after = {0};
+    OK(warm_history_length(to, &before));
+    do {
+        OK(warm_send_since(from, 7, since, has_after, after, frame, sizeof frame, &length, &more, &last));
+        memcpy(&byte, &more, 1);
+        MUST(byte <= 1);
+        OK(warm_receive(to, frame, length));
+        has_after = true;
+        after = last;
+    } while (more);
+    OK(warm_history_length(to, &known));
+    MUST(known > before || (last.no == 99 && last.dev == 9)); /* a frame without an entry has no last one */
+    return known - before;
+}
+
+static void open_history(warm *handle, uint16_t replica) {
+    const warm_device none = {0};
+    OK(warm_open(handle, replica, 1, 1, &none, 0));
+}
+
+/* More entries than a frame has, of one bucket; those since a time; and none. */
+static void what_is_new(void) {
+    static warm_reference seen[MANY];
+    uint8_t frame[64] = {0}, place = 7;
+    bool more;
+    size_t length = 0;
+    warm_page last = {.no = 99, .dev = 9};
+    warm from = {0}, all = {0}, late = {0};
+    memcpy(&more, &place, 1); /* no bool of C, and a refused call leaves it */
+    EXPECT(WARM_CLOSED, warm_send_since(&from, 7, 0, false, last, frame, sizeof frame, &length, &more, &last));
+    open_history(&from, 1);
+    open_history(&all, 2);
+    open_history(&late, 3);
+    for (uint64_t at = 0; at < MANY; at++) seen[at] = (warm_reference){.time = at, .no = 64 * at + 7, .replica = 1};
+    OK(warm_absorb(&from, seen, MANY));
+    EXPECT(WARM_BAD_BUCKET, warm_send_since(&from, 64, 0, false, last, frame, sizeof frame, &length, &more, &last));
+    MUST(length == 0);
+    EXPECT(WARM_BUFFER_TOO_SMALL, warm_send_since(&from, 7, MANY - 1, false, last, frame, 43, &length, &more, &last));
+    MUST(memcmp(&more, &place, 1) == 0 && last.no == 99 && last.dev == 9 && length == 44 && frame[0] == 0);
+    OK(warm_send_since(&from, 7, MANY - 1, false, last, frame, 44, &length, &more, &last));
+    MUST(!more && last.no == 64 * (MANY - 1) + 7 && last.dev == 0 && length == 44);
+    MUST(sent_since(&from, 0, &all) == MANY);
+    MUST(sent_since(&from, MANY - 1200, &late) == 1200);
+    MUST(sent_since(&from, MANY, &late) == 0);
+    warm_close(&from);
+    warm_close(&all);
+    warm_close(&late);
+}
+
+/* ---- what was counted, and what failed ---- */
+
+static bool has_counted(warm *handle, warm_counters wanted) {
+    warm_counters counters;
+    OK(warm_counts(handle, &counters));
+    return memcmp(&counters, &wanted, sizeof counters) == 0;
+}
+
+static bool device_has_counted(warm *handle, uint16_t dev, warm_device_counters wanted) {
+    warm_device_counters counters;
+    OK(warm_device_counts(handle, dev, &counters));
+    return memcmp(&counters, &wanted, sizeof counters) == 0;
+}
+
+static bool failed_last(warm *handle, warm_failure wanted) {
+    warm_failure failure;
+    bool found;
+    uint8_t byte;
+    OK(warm_last_failure(handle, &found, &failure));
+    memcpy(&byte, &found, 1);
+    MUST(byte == 1);
+    return memcmp(&failure, &wanted, sizeof failure) == 0;
+}
+
+/* Nothing is written by a closed handle, of a device that there is none of, and of a failure before one. */
+static void counts_refused(void) {
+    int first = temporary(), second = temporary();
+    warm_counters counters = {.hits = 9};
+    warm_device_counters of_device = {.reads = 9};
+    warm_failure failure = {.no = 9};
+    uint8_t place = 9;
+    bool found;
+    warm handle = {0};
+    memcpy(&found, &place, 1); /* no bool of C */
+    EXPECT(WARM_CLOSED, warm_counts(&handle, &counters));
+    EXPECT(WARM_CLOSED, warm_device_counts(&handle, 0, &of_device));
+    EXPECT(WARM_CLOSED, warm_last_failure(&handle, &found, &failure));
+    MUST(memcmp(&found, &place, 1) == 0 && counters.hits == 9);
+    open_two(&handle, 1, first, second);
+    EXPECT(WARM_NO_DEVICE, warm_device_counts(&handle, 2, &of_device));
+    EXPECT(WARM_NO_DEVICE, warm_device_counts(&handle, 65535, &of_device));
+    OK(warm_last_failure(&handle, &found, &failure));
+    memcpy(&place, &found, 1);
+    MUST(place == 0 && failure.no == 9 && of_device.reads == 9);
+    warm_close(&handle);
+    close(first);
+    close(second);
+}
+
+/* Each pin, eviction and write of a sequence through one frame is counted, and so is what each device was asked for. */
+static void counted_calls(void) {
+    const warm_reference seen = {.time = 1, .no = 5, .dev = 1, .replica = 1};
+    int first = temporary(), second = temporary();
+    warm handle = {0};
+    warm_slot slot;
+    warm_page page;
+    bool found;
+    open_two(&handle, 1, first, second);
+    MUST(has_counted(&handle, (warm_counters){0}) && device_has_counted(&handle, 1, (warm_device_counters){0}));
+    write_to(&handle, (warm_page){.no = 1}, 'a');
+    MUST(has_counted(&handle, (warm_counters){.misses = 1, .resident = 1, .dirty = 1}));
+    MUST(read_from(&handle, (warm_page){.no = 1}) == 'a');
+    MUST(read_from(&handle, (warm_page){.no = 3, .dev = 1}) == 0); /* 0:1 leaves, and is written */
+    MUST(has_counted(&handle, (warm_counters){.hits = 1, .misses = 2, .evictions = 1, .written_back = 1, .resident = 1}));
+    MUST(device_has_counted(&handle, 0, (warm_device_counters){.reads = 1, .writes = 1}));
+    OK(warm_pin_zeroed(&handle, (warm_page){.no = 2}, &slot)); /* a miss that reads nothing */
+    OK(warm_unpin(&handle, slot));
+    OK(warm_write_back(&handle));
+    MUST(device_has_counted(&handle, 0, (warm_device_counters){.reads = 1, .writes = 2, .flushes = 1}));
+    OK(warm_absorb(&handle, &seen, 1));
+    OK(warm_step(&handle, &found, &page)); /* 1:5 comes in place of 0:2, which is no miss */
+    EXPECT(WARM_NO_PAGE, warm_pin(&handle, (warm_page){.no = 8}, &slot));
+    MUST(found && page.no == 5 && page.dev == 1);
+    MUST(has_counted(&handle, (warm_counters){.hits = 1, .misses = 3, .evictions = 3, .written_back = 2, .resident = 1}));
+    OK(warm_forget(&handle, 1, 0)); /* which is no eviction for another page */
+    MUST(has_counted(&handle, (warm_counters){.hits = 1, .misses = 3, .evictions = 3, .written_back = 2}));
+    MUST(device_has_counted(&handle, 1, (warm_device_counters){.reads = 2}));
+    warm_close(&handle);
+    open_two(&handle, 1, first, second);
+    MUST(has_counted(&handle, (warm_counters){0}) && device_has_counted(&handle, 0, (warm_device_counters){0}));
+    warm_close(&handle);
+    close(first);
+    close(second);
+}
+
+/* Puts /dev/null, opened so, under the number of a descriptor. */
+static void put_null_under(int fd, int flags) {
+    int null = open("/dev/null", flags);
+    MUST(null >= 0 && dup2(null, fd) == fd && close(null) == 0);
+}
+
+/* The status of a flush of device 1 while no file of the process may grow. */
+static int flush_at_limit(warm *handle) {
+    struct rlimit old, none;
+    signal(SIGXFSZ, SIG_IGN);
+    MUST(getrlimit(RLIMIT_FSIZE, &old) == 0);
+    none = (struct rlimit){.rlim_cur = 0, .rlim_max = old.rlim_max};
+    MUST(setrlimit(RLIMIT_FSIZE, &none) == 0);
+    int status = warm_flush(handle, 1);
+    MUST(setrlimit(RLIMIT_FSIZE, &old) == 0); /* before a word is printed: that is a file, too */
+    return status;
+}
+
+/* A read, writes and a flush that fail, each with the errno of its own call. */
+static void failed_calls(void) {
+    int first = temporary(), second = temporary(), kept = dup(first);
+    warm handle = {0};
+    warm_slot slot;
+    open_two(&handle, 1, first, second);
+    put_null_under(first, O_WRONLY);
+    EXPECT(WARM_READ_FAULT, warm_pin(&handle, (warm_page){.no = 5}, &slot));
+    MUST(failed_last(&handle, (warm_failure){.no = 5, .dev = 0, .what = WARM_FAILED_READ, .error = EBADF}));
+    MUST(device_has_counted(&handle, 0, (warm_device_counters){.reads = 1, .failures = 1}) && dup2(kept, first) == first);
+    write_to(&handle, (warm_page){.no = 2, .dev = 1}, 'b');
+    EXPECT(WARM_FAULT, flush_at_limit(&handle));
+    MUST(failed_last(&handle, (warm_failure){.no = 2, .dev = 1, .what = WARM_FAILED_WRITE, .error = EFBIG}));
+    put_null_under(second, O_RDONLY);
+    EXPECT(WARM_WRITE_BACK, warm_pin(&handle, (warm_page){.no = 3}, &slot)); /* 0:3 is read, and 1:2 not written */
+    MUST(failed_last(&handle, (warm_failure){.no = 2, .dev = 1, .what = WARM_FAILED_WRITE, .error = EBADF}));
+    MUST(device_has_counted(&handle, 0, (warm_device_counters){.reads = 2, .failures = 1}));
+    MUST(device_has_counted(&handle, 1, (warm_device_counters){.reads = 1, .writes = 2, .failures = 2}));
+    MUST(has_counted(&handle, (warm_counters){.misses = 1, .resident = 1, .dirty = 1}));
+    put_null_under(second, O_RDWR); /* it takes the page, and cannot be synced */
+    EXPECT(WARM_FAULT, warm_flush(&handle, 1));
+    MUST(failed_last(&handle, (warm_failure){.no = 0, .dev = 1, .what = WARM_FAILED_FLUSH, .error = EINVAL}));
+    put_null_under(second, O_WRONLY);
+    EXPECT(WARM_READ_FAULT, warm_pin(&handle, (warm_page){.no = 6, .dev = 1}, &slot));
+    MUST(failed_last(&handle, (warm_failure){.no = 6, .dev = 1, .what = WARM_FAILED_READ, .error = EBADF}));
+    EXPECT(WARM_FAULT, warm_flush(&handle, 1)); /* since one failed before, with the errno of that one */
+    MUST(failed_last(&handle, (warm_failure){.no = 0, .dev = 1, .what = WARM_FAILED_FLUSH, .error = EINVAL}));
+    MUST(device_has_counted(&handle, 1, (warm_device_counters){.reads = 2, .writes = 3, .flushes = 2, .failures = 5}));
+    MUST(has_counted(&handle, (warm_counters){.misses = 1, .written_back = 1, .resident = 1}));
+    warm_close(&handle);
+    close(kept);
+    close(first);
+    close(second);
+}
+
+static int not_yet(void *context, uint64_t at, const uint8_t *bytes, size_t length) {
+    (void)context;
+    (void)at;
+    (void)bytes;
+    (void)length;
+    return 1;
+}
+
+/* A write that its callback holds back has failed, with EAGAIN. What failed is remembered while all goes well, and its errno until the device
+ * is replaced. */
+static void remembered_failure(void) {
+    int first = temporary(), second = temporary(), third = temporary(), kept = dup(first);
+    warm handle = {0};
+    warm_slot slot;
+    open_two(&handle, 1, first, second);
+    OK(warm_before_write(first, not_yet, NULL));
+    write_to(&handle, (warm_page){.no = 1}, 'c');
+    EXPECT(WARM_FAULT, warm_write_back(&handle));
+    MUST(failed_last(&handle, (warm_failure){.no = 1, .dev = 0, .what = WARM_FAILED_WRITE, .error = EAGAIN}));
+    OK(warm_before_write(first, NULL, NULL));
+    OK(warm_write_back(&handle));
+    MUST(failed_last(&handle, (warm_failure){.no = 1, .dev = 0, .what = WARM_FAILED_WRITE, .error = EAGAIN}));
+    MUST(device_has_counted(&handle, 0, (warm_device_counters){.reads = 1, .writes = 2, .flushes = 1, .failures = 1}));
+    put_null_under(first, O_WRONLY);
+    EXPECT(WARM_READ_FAULT, warm_pin(&handle, (warm_page){.no = 7}, &slot));
+    MUST(dup2(kept, first) == first);
+    OK(warm_replace(&handle, 1, &(warm_device){.pages = 8, .fd = third})); /* another device */
+    MUST(failed_last(&handle, (warm_failure){.no = 7, .dev = 0, .what = WARM_FAILED_READ, .error = EBADF}));
+    OK(warm_replace(&handle, 0, &(warm_device){.pages = 8, .fd = second}));
+    MUST(failed_last(&handle, (warm_failure){.no = 7, .dev = 0, .what = WARM_FAILED_READ, .error = 0}));
+    MUST(device_has_counted(&handle, 0, (warm_device_counters){0}));
+    warm_close(&handle);
+    close(kept);
+    close(first);
+    close(second);
+    close(third);
+}
+
+int main(void) {
+    resident_pages();
+    lent_pages();
+    pages_written_in_place();
+    zeroed_pages();
+    portions();
+    replaced_file();
+    not_replaced();
+    what_is_new();
+    counts_refused();
+    counted_calls();
+    failed_calls();
+    remembered_failure();
+    return end_as_expected();
+}

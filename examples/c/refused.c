@@ -1,0 +1,159 @@
+/* Each allocation of a call fails in turn, until the call succeeds: it returns WARM_MEMORY, and what was there before is still there. What
+ * allocates nothing succeeds while every allocation fails. The check links malloc and realloc to the functions below (ld --wrap). */
+#define _GNU_SOURCE /* mkstemp */
+#define PROGRAM "refused"
+#include "expect.h"
+
+enum { PAGE_SIZE = 512, FRAMES = 4, SEEN = 200, FRAME_ROOM = 40000 };
+
+/* How many more allocations succeed. */
+static size_t granted = SIZE_MAX;
+
+void *__real_malloc(size_t size);
+void *__real_realloc(void *block, size_t size);
+
+static bool is_granted(void) {
+    if (granted == 0) return false;
+    if (granted != SIZE_MAX) granted--;
+    return true;
+}
+
+void *__wrap_malloc(size_t size) { return is_granted() ? __real_malloc(size) : NULL; }
+
+void *__wrap_realloc(void *block, size_t size) { return is_granted() ? __real_realloc(block, size) : NULL; }
+
+/* The call, once with none of its allocations granted, once with one, and so on; and what holds after each refusal. */
+#define EACH_REFUSED(call, unchanged)                                           \
+    do {                                                                        \
+        size_t grants = 0;                                                      \
+        for (int status = WARM_MEMORY; status != WARM_OK; grants++) {           \
+            granted = grants;                                                   \
+            status = (call);                                                    \
+            granted = SIZE_MAX;                                                 \
+            if (status != WARM_OK) expect(WARM_MEMORY, status, #call);          \
+            MUST(status == WARM_OK || (unchanged));                             \
+        }                                                                       \
+        MUST(grants > 1); /* it allocates, and so was refused */                \
+        expected_count++;                                                       \
+    } while (0)
+
+/* The call with no allocation granted. */
+#define UNREFUSED(call)                     \
+    do {                                    \
+        granted = 0;                        \
+        int status = (call);                \
+        granted = SIZE_MAX;                 \
+        expect(WARM_OK, status, #call);     \
+    } while (0)
+
+static size_t known(warm *handle) {
+    size_t length;
+    OK(warm_history_length(handle, &length));
+    return length;
+}
+
+static uint8_t first_byte(warm *handle, warm_page page) {
+    const uint8_t *bytes;
+    warm_slot slot;
+    UNREFUSED(warm_pin(handle, page, &slot));
+    UNREFUSED(warm_lend(handle, slot, &bytes));
+    uint8_t byte = bytes[0];
+    UNREFUSED(warm_unpin(handle, slot));
+    return byte;
+}
+
+static void opened(warm *handle, uint16_t replica, int fd) {
+    warm_device device = {.pages = 16, .fd = fd};
+    EACH_REFUSED(warm_open(handle, replica, FRAMES, PAGE_SIZE, &device, 1), !handle->is_open);
+}
+
+/* Histories: absorbed, sent, received, listed, saved and loaded. */
+static void histories(warm *from, warm *to) {
+    static warm_reference seen[SEEN];
+    static uint8_t frame[FRAME_ROOM];
+    warm_page pages[SEEN], last = {.no = 99, .dev = 9};
+    size_t length = 77, count = 77;
+    bool more = true;
+    for (uint64_t at = 0; at < SEEN; at++) seen[at] = (warm_reference){.time = at + 1, .no = at / 2 * 64 + at % 2, .replica = 1};
+    EACH_REFUSED(warm_absorb(from, seen, SEEN), known(from) == 0);
+    EACH_REFUSED(warm_send_since(from, 0, 5, false, last, frame, sizeof frame, &length, &more, &last),
+        length == 77 && more && last.no == 99 && last.dev == 9);
+    MUST(!more && last.no == (SEEN / 2 - 1) * 64 && last.dev == 0);
+    EACH_REFUSED(warm_receive(to, frame, length), known(to) == 0);
+    MUST(known(to) == SEEN / 2 - 2); /* those at times from 5 on */
+    length = 77;
+    EACH_REFUSED(warm_send(from, 1, false, last, frame, sizeof frame, &length), length == 77);
+    EACH_REFUSED(warm_receive(to, frame, length), known(to) == SEEN / 2 - 2);
+    length = 77;
+    EACH_REFUSED(warm_offer(from, frame, sizeof frame, &length), length == 77);
+    EACH_REFUSED(warm_receive(to, frame, length), known(to) == SEEN - 2);
+    EACH_REFUSED(warm_next_answer(to, frame, sizeof frame, &length), true);
+    EACH_REFUSED(warm_list(from, pages, SEEN, &count), count == 77);
+    MUST(count == SEEN);
+    int dump = temporary();
+    EACH_REFUSED(warm_save(from, dump), known(from) == SEEN);
+    off_t end = lseek(dump, 0, SEEK_END);
+    EACH_REFUSED(warm_load(to, dump, (uint64_t)end), known(to) == SEEN - 2);
+    MUST(known(to) == SEEN);
+    close(dump);
+}
+
+/* A device is replaced, or the old one is still there with all that was written. */
+static void replaced(warm *handle) {
+    int other = temporary();
+    uint8_t byte = 'n';
+    warm_device device = {.pages = 16, .fd = other};
+    warm_slot slot;
+    MUST(pwrite(other, &byte, 1, 0) == 1);
+    UNREFUSED(warm_pin(handle, (warm_page){0}, &slot));
+    byte = 'o';
+    UNREFUSED(warm_write(handle, slot, 0, &byte, 1));
+    UNREFUSED(warm_unpin(handle, slot));
+    EACH_REFUSED(warm_replace(handle, 0, &device), first_byte(handle, (warm_page){0}) == 'o');
+    MUST(first_byte(handle, (warm_page){0}) == 'n');
+}
+
+/* What allocates nothing. */
+static void unrefused(warm *handle) {
+    uint8_t *bytes, read;
+    size_t left;
+    uint64_t horizon;
+    bool found, resident;
+    warm_page page;
+    warm_slot slot;
+    warm_counters counters;
+    warm_device_counters device_counters;
+    warm_failure failure;
+    UNREFUSED(warm_pin_zeroed(handle, (warm_page){.no = 3}, &slot));
+    UNREFUSED(warm_lend_mut(handle, slot, &bytes));
+    bytes[PAGE_SIZE - 1] = 'z';
+    UNREFUSED(warm_read(handle, slot, PAGE_SIZE - 1, &read, 1));
+    MUST(read == 'z');
+    UNREFUSED(warm_resident(handle, (warm_page){.no = 3}, &resident));
+    UNREFUSED(warm_write_back_some(handle, 1, &left));
+    MUST(resident && left == 0);
+    UNREFUSED(warm_flush(handle, 0));
+    UNREFUSED(warm_unpin(handle, slot));
+    UNREFUSED(warm_victim(handle, &found, &page));
+    UNREFUSED(warm_forget(handle, 0, 3));
+    UNREFUSED(warm_counts(handle, &counters));
+    UNREFUSED(warm_device_counts(handle, 0, &device_counters));
+    UNREFUSED(warm_last_failure(handle, &resident, &failure));
+    MUST(found && !resident && counters.dirty == 0 && device_counters.failures == 0);
+    UNREFUSED(warm_limit(handle, UINT64_MAX));
+    UNREFUSED(warm_horizon(handle, 1, &horizon));
+    UNREFUSED(warm_write_back(handle));
+    MUST(known(handle) == SEEN);
+}
+
+int main(void) {
+    warm from = {0}, to = {0};
+    opened(&from, 1, temporary());
+    opened(&to, 2, temporary());
+    histories(&from, &to);
+    replaced(&from);
+    unrefused(&from);
+    warm_close(&from);
+    warm_close(&to);
+    return end_as_expected();
+}
