@@ -216,7 +216,7 @@ int warm_absorb(warm *handle, const warm_reference *references, size_t count);
  * Caller: slot points to one element. */
 int warm_pin(warm *handle, warm_page page, warm_slot *slot);
 
-/* Pins a page as warm_pin does, and fills it with zeros. The page is not read: so this is for a page that is new, or is to be written anew. It
+/* Pins a page as warm_pin does, and fills it with zeros. The page is not read: so this is for a page that is new, or is to be overwritten. It
  * is written to: the zeros reach the device when it leaves its frame, or at warm_write_back. Allocation-free.
  * Refused: what warm_pin is refused with, in its order, but WARM_READ_FAULT.
  * Caller: slot points to one element. */

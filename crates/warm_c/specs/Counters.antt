@@ -6,7 +6,7 @@ use Rattle.warm_pool.specs.declared.tally.PoolCounts.{PoolCounts}
 use Rattle.warm_c.specs.declared.counters.WarmCounters.{WarmCounters}
 use Rattle.warm_c.specs.declared.counters.WarmFailure.{WarmFailure}
 
--- the counts of a pool as C has them, with so many resident and dirty pages
+-- the counts of a pool as C has them, with these numbers of resident and dirty pages
 abbrev pub c_counters : PoolCounts → ℕ → ℕ → WarmCounters
 c_counters counts resident dirty = record {
   hits = counts.hits;

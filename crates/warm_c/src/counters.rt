@@ -52,7 +52,7 @@ pub struct WarmFailure {
 }
 
 impl WarmCounters {
-    /// Returns the counts of a pool as C has them, with so many resident and dirty pages.
+    /// Returns the counts of a pool as C has them, with these numbers of resident and dirty pages.
     pub fn of(counts: PoolCounts, resident: usize, dirty: usize) -> WarmCounters
         ensures { result ≡ c_counters counts resident dirty }
     {

@@ -25,7 +25,7 @@ use warm_stamps::PageId;
 
 impl<D: PageDevice> Node<D> {
     /// Pins a page as [`Node::pin`] does, and fills it with zeros. The page isn't read from its
-    /// device: so this is for a page that is new, or is to be written anew. It becomes dirty. Where
+    /// device: so this is for a page that is new, or is to be overwritten. It becomes dirty. Where
     /// it is resident, zeros are written to it as by [`Node::write`]. Allocation-free.
     ///
     /// **A pin is not a reference**: a caller that pins a page also absorbs a reference to it.

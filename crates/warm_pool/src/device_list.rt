@@ -1,4 +1,4 @@
-//! Calls of one of a pool's devices, and their effect on the device list. Each is told to the tally.
+//! Calls of one of a pool's devices, and their effect on the device list. Each call is counted.
 ghost use Rattle.std.specs.Prelude.{◌≡◌, ◌↔◌, ◌<◌, IsTrue, map, length};
 ghost use Rattle.warm_pool.specs.State.{nth_device};
 ghost use Rattle.warm_pool.specs.DeviceCalls.{AreOfSize, PageRead, PageWrite};

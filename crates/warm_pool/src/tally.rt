@@ -62,7 +62,7 @@ impl Tally {
         self.failed
     }
 
-    // The counts wrap: a hit then costs one instruction, and saturating would cost three.
+    // The counts wrap, since a saturating count costs each hit a compare more.
 
     /// A resident page was pinned.
     pub(crate) fn hit(&mut self) {

@@ -27,7 +27,7 @@ static ZEROS: [u8; MAX_PAGE_SIZE] = [0; MAX_PAGE_SIZE];
 
 impl<D: PageDevice> Pool<D> {
     /// Pins a page as [`Pool::pin`] does, and fills it with zeros. The page isn't read from its
-    /// device: so this is for a page that is new, or is to be written anew. It becomes dirty.
+    /// device: so this is for a page that is new, or is to be overwritten. It becomes dirty.
     ///
     /// Where the page is resident, zeros are written to it as by [`Pool::write`].
     ///

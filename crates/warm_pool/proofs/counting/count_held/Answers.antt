@@ -1,4 +1,4 @@
-use Rattle.std.proofs.Common.{◌≡◌, ◌+◌, length, take, None, ap, subst, ◌∙◌, suc, arith}
+use Rattle.std.proofs.Common.{◌≡◌, ◌+◌, length, take, ap, subst, ◌∙◌, suc, arith}
 use Rattle.std.proofs.Math.Seq.{take-length}
 use Rattle.warm_rank.specs.Laws.{pages_in}
 use Rattle.warm_pool.specs.Chains.{page_in}
