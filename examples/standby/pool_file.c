@@ -279,9 +279,12 @@ int pool_file_lend(pool_file *file, size_t length, uint64_t offset, const uint8_
     return WARM_OK;
 }
 
-void pool_file_take_back(pool_file *file, uint64_t offset) {
+bool pool_file_take_back(pool_file *file, uint64_t offset) {
+    uint32_t frame = residents_frame(&file->residents, offset >> file->page_shift);
+    if (frame == 0 || file->held.pages[frame - 1].users == 0) return false;
+    file->held.pages[frame - 1].users--;
     file->lent--;
-    file->held.pages[residents_frame(&file->residents, offset >> file->page_shift) - 1].users--;
+    return true;
 }
 
 static int write_bytes(pool_file *file, const uint8_t *bytes, size_t length, uint64_t offset) {
