@@ -105,7 +105,10 @@ static ssize_t read_file(int fd, uint8_t *into, size_t length, off_t at) {
     while (done < length) {
         ssize_t got = pread(fd, into + done, length - done, at + (off_t)done);
         if (got < 0 && errno == EINTR) continue;
-        if (got < 0 && errno == EINVAL && done > 0 && is_end(fd, at + (off_t)done)) got = 0;
+        if (got < 0 && errno == EINVAL && done > 0) {
+            if (is_end(fd, at + (off_t)done)) got = 0;
+            errno = EINVAL; /* that of pread, also where fstat failed */
+        }
         if (got < 0) return -1;
         if (got == 0) {
             memset(into + done, 0, length - done);

@@ -139,7 +139,7 @@ enum {
     WARM_MEMORY = 1,        /* an allocation failed */
     WARM_BAD_FRAMES = 2,    /* a pool has 1 to 65,536 frames */
     WARM_SIZE_DIFFERS = 3,  /* a page has 1 to 65,536 bytes */
-    WARM_NO_DEVICE = 4,     /* there is no such device; or, of warm_open, too many; or, of it and of warm_replace, one that is too large */
+    WARM_NO_DEVICE = 4,     /* no such device; of warm_open also: too many devices; of warm_open and warm_replace also: one that is too large */
     WARM_NO_PAGE = 5,       /* the device has no such page */
     WARM_ALL_FIXED = 6,     /* each frame of the pool has a pinned page */
     WARM_READ_FAULT = 7,    /* the page could not be read */

@@ -248,7 +248,8 @@ static void forgotten_pages(void) {
     MUST(is_resident(&handle, (warm_page){.no = 1}));
     OK(warm_unpin(&handle, slot));
     OK(warm_forget(&handle, 0, 1));
-    MUST(!is_resident(&handle, (warm_page){.no = 1}) && is_resident(&handle, (warm_page){.no = 0}) && is_resident(&handle, (warm_page){.no = 2, .dev = 1}));
+    MUST(!is_resident(&handle, (warm_page){.no = 1}) && !is_resident(&handle, (warm_page){.no = 2}));
+    MUST(is_resident(&handle, (warm_page){.no = 0}) && is_resident(&handle, (warm_page){.no = 2, .dev = 1}));
     MUST(read_from(&handle, (warm_page){.no = 1}) == 'a' && read_from(&handle, (warm_page){.no = 0}) == 'd');
     warm_close(&handle);
     close(first);
