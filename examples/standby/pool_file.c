@@ -487,7 +487,7 @@ int pool_file_step(pool_file *file, bool *found) {
     if (status == WARM_OK) status = warm_step(pool_file_handle(file), found, &page);
     if (status != WARM_OK || !*found) return status;
     file->warmed++;
-    /* The page is there: a pin tells its frame. If it did not, the pool could no longer say which pages are in it. */
+    /* The page is there: a pin gives its frame. If it did not, the pool could no longer say which pages are in it. */
     status = warm_pin(pool_file_handle(file), page, &slot);
     if (status == WARM_OK) status = warm_unpin(pool_file_handle(file), slot);
     if (status == WARM_OK) residents_note(&file->residents, slot, page.no);
