@@ -18,20 +18,44 @@
 _Static_assert(sizeof(off_t) == 8, "a place in a file has 64 bits");
 
 /* The layouts that the proved part has (crates/warm_c/src/values.rt, counters.rt and handle.rt). */
+#define SIZE_IS(type, size) _Static_assert(sizeof(type) == (size), #type)
+#define FIELD_IS(type, field, at, width) \
+    _Static_assert(offsetof(type, field) == (at) && sizeof(((type *)0)->field) == (width), #type "." #field)
 _Static_assert(sizeof(size_t) == 8 && sizeof(bool) == 1, "lengths have 64 bits, and a bool is a byte that is 0 or 1");
-_Static_assert(sizeof(warm) == 16 && offsetof(warm, at) == 8, "a handle");
-_Static_assert(sizeof(warm_page) == 16 && offsetof(warm_page, dev) == 8, "a page");
-_Static_assert(sizeof(warm_reference) == 24 && offsetof(warm_reference, dev) == 16, "a reference");
-_Static_assert(offsetof(warm_reference, replica) == 18, "a reference's replica");
-_Static_assert(sizeof(warm_slot) == 16 && offsetof(warm_slot, index) == 8, "a slot");
-_Static_assert(sizeof(warm_device) == 16 && offsetof(warm_device, fd) == 8, "a device");
-_Static_assert(sizeof(warm_counters) == 48 && offsetof(warm_counters, misses) == 8, "the counts of a pool");
-_Static_assert(offsetof(warm_counters, evictions) == 16 && offsetof(warm_counters, written_back) == 24, "the pages that left, and were written");
-_Static_assert(offsetof(warm_counters, resident) == 32 && offsetof(warm_counters, dirty) == 40, "the pages that are there");
-_Static_assert(sizeof(warm_device_counters) == 32 && offsetof(warm_device_counters, writes) == 8, "the counts of a device");
-_Static_assert(offsetof(warm_device_counters, flushes) == 16 && offsetof(warm_device_counters, failures) == 24, "its flushes and failures");
-_Static_assert(sizeof(warm_failure) == 16 && offsetof(warm_failure, dev) == 8, "a call that failed");
-_Static_assert(offsetof(warm_failure, what) == 10 && offsetof(warm_failure, error) == 12, "what was done, and its errno");
+SIZE_IS(warm, 16);
+FIELD_IS(warm, is_open, 0, 1);
+FIELD_IS(warm, at, 8, 8);
+SIZE_IS(warm_page, 16);
+FIELD_IS(warm_page, no, 0, 8);
+FIELD_IS(warm_page, dev, 8, 2);
+SIZE_IS(warm_reference, 24);
+FIELD_IS(warm_reference, time, 0, 8);
+FIELD_IS(warm_reference, no, 8, 8);
+FIELD_IS(warm_reference, dev, 16, 2);
+FIELD_IS(warm_reference, replica, 18, 2);
+SIZE_IS(warm_slot, 16);
+FIELD_IS(warm_slot, generation, 0, 8);
+FIELD_IS(warm_slot, index, 8, 4);
+SIZE_IS(warm_device, 16);
+FIELD_IS(warm_device, pages, 0, 8);
+FIELD_IS(warm_device, fd, 8, 4);
+SIZE_IS(warm_counters, 48);
+FIELD_IS(warm_counters, hits, 0, 8);
+FIELD_IS(warm_counters, misses, 8, 8);
+FIELD_IS(warm_counters, evictions, 16, 8);
+FIELD_IS(warm_counters, written_back, 24, 8);
+FIELD_IS(warm_counters, resident, 32, 8);
+FIELD_IS(warm_counters, dirty, 40, 8);
+SIZE_IS(warm_device_counters, 32);
+FIELD_IS(warm_device_counters, reads, 0, 8);
+FIELD_IS(warm_device_counters, writes, 8, 8);
+FIELD_IS(warm_device_counters, flushes, 16, 8);
+FIELD_IS(warm_device_counters, failures, 24, 8);
+SIZE_IS(warm_failure, 16);
+FIELD_IS(warm_failure, no, 0, 8);
+FIELD_IS(warm_failure, dev, 8, 2);
+FIELD_IS(warm_failure, what, 10, 2);
+FIELD_IS(warm_failure, error, 12, 4);
 /* warm_pin writes the index of a slot and the four bytes after it as one number. */
 _Static_assert(__BYTE_ORDER__ == __ORDER_LITTLE_ENDIAN__, "the lowest byte of a number is first");
 
@@ -81,7 +105,10 @@ static ssize_t read_file(int fd, uint8_t *into, size_t length, off_t at) {
     while (done < length) {
         ssize_t got = pread(fd, into + done, length - done, at + (off_t)done);
         if (got < 0 && errno == EINTR) continue;
-        if (got < 0 && errno == EINVAL && done > 0 && is_end(fd, at + (off_t)done)) got = 0;
+        if (got < 0 && errno == EINVAL && done > 0) {
+            if (is_end(fd, at + (off_t)done)) got = 0;
+            errno = EINVAL; /* that of pread, also where fstat failed */
+        }
         if (got < 0) return -1;
         if (got == 0) {
             memset(into + done, 0, length - done);

@@ -18,11 +18,11 @@
 #include <unistd.h>
 
 /* Where most is not 0, a call moves at most that many bytes, and every other call is interrupted. Where it is to put nothing, it does, and
- * where a sync is to fail, the next one does. Where reads are direct, their places are multiples of 512. Where there is no memory, each
- * allocation fails. */
+ * where a sync is to fail, the next one does. Where fstat is to fail, it does. Where reads are direct, their places are multiples of 512. Where
+ * there is no memory, each allocation fails. */
 static struct {
     size_t most;
-    bool was_interrupted, puts_nothing, fails_sync, is_direct, has_no_memory;
+    bool was_interrupted, puts_nothing, fails_sync, fails_stat, is_direct, has_no_memory;
     int syncs;
 } slow;
 
@@ -59,16 +59,23 @@ static int slow_fsync(int fd) {
     return fsync(fd);
 }
 
+static int slow_fstat(int fd, struct stat *file) {
+    if (slow.fails_stat) errno = EIO;
+    return slow.fails_stat ? -1 : fstat(fd, file);
+}
+
 static void *slow_realloc(void *old, size_t size) { return slow.has_no_memory ? NULL : realloc(old, size); }
 
 #define pread slow_pread
 #define pwrite slow_pwrite
 #define fsync slow_fsync
+#define fstat slow_fstat
 #define realloc slow_realloc
 #include "fd_calls.c"
 #undef pread
 #undef pwrite
 #undef fsync
+#undef fstat
 #undef realloc
 
 enum { SIZE = 65536, NO_FILE = 999 };
@@ -164,6 +171,9 @@ static void test_direct(void) {
     FAILS(read_at(ends[0], 0, 4096), ESPIPE);
     slow.most = 1000;
     FAILS(read_at(fd, 0, 4096), EINVAL);
+    slow.fails_stat = true; /* the errno is that of the read */
+    FAILS(read_at(fd, 0, 4096), EINVAL);
+    slow.fails_stat = false;
     slow.most = 0;
     slow.is_direct = false;
     close(ends[0]);

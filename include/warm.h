@@ -104,16 +104,16 @@ typedef struct warm_device {
  * readings differ by is right. A refused call is neither a hit nor a miss. */
 typedef struct warm_counters {
     uint64_t hits;         /* pins of a page that was in a frame */
-    uint64_t misses;       /* pins of a page that was in none, whether it was read or filled with zeros */
-    uint64_t evictions;    /* pages that left their frame for another one, by a pin or by warm_step */
-    uint64_t written_back; /* pages that were written to their device */
+    uint64_t misses;       /* pins of a page that was in no frame, whether it was read or filled with zeros */
+    uint64_t evictions;    /* pages whose frame was given to another page, by a pin or by warm_step */
+    uint64_t written_back; /* writes of a page to its device that did not fail */
     uint64_t resident;     /* pages that are in frames */
     uint64_t dirty;        /* those of them that were written to and not written back */
 } warm_counters;
 
-/* What was asked of a device since warm_open, or since warm_replace put it in its place: reads and writes of pages, and flushes, whether they
- * failed or not; and how many of all these failed. A flush that is refused since one failed before counts too, as both. A count that
- * reaches 2^64 - 1 stays. */
+/* What was asked of a device since warm_open, or since warm_replace gave it its number: reads and writes of pages, and flushes, whether they
+ * failed or not; and how many of all these failed. A flush that is refused because one failed before is counted too, as a flush and as a
+ * failure. A count that reaches 2^64 - 1 stays there. */
 typedef struct warm_device_counters {
     uint64_t reads;
     uint64_t writes;
@@ -129,7 +129,7 @@ typedef struct warm_failure {
     uint64_t no;   /* the number of the page; 0 of a flush */
     uint16_t dev;  /* the number of the device */
     uint16_t what; /* WARM_FAILED_READ, WARM_FAILED_WRITE or WARM_FAILED_FLUSH */
-    int32_t error; /* the errno of pread, pwrite or fsync; EAGAIN where warm_before_write says "not yet" */
+    int32_t error; /* the errno of pread, pwrite or fsync; EAGAIN where the call of warm_before_write says "not yet"; see warm_last_failure */
 } warm_failure;
 
 /* The statuses. 1 to 13 are those of the pool and the node, 34 to 42 say why bytes are no frame, 64 to 71 are the library's own, and 77 to
@@ -139,7 +139,7 @@ enum {
     WARM_MEMORY = 1,        /* an allocation failed */
     WARM_BAD_FRAMES = 2,    /* a pool has 1 to 65,536 frames */
     WARM_SIZE_DIFFERS = 3,  /* a page has 1 to 65,536 bytes */
-    WARM_NO_DEVICE = 4,     /* there is no such device; of warm_open: there are too many; of it and of warm_replace: one is too large */
+    WARM_NO_DEVICE = 4,     /* no such device; of warm_open also: too many devices; of warm_open and warm_replace also: one that is too large */
     WARM_NO_PAGE = 5,       /* the device has no such page */
     WARM_ALL_FIXED = 6,     /* each frame of the pool has a pinned page */
     WARM_READ_FAULT = 7,    /* the page could not be read */
@@ -361,20 +361,20 @@ int warm_forget(warm *handle, uint16_t dev, uint64_t from);
  * Caller: device points to one element, which is not kept; what warm_open asks holds of its descriptor from here on. */
 int warm_replace(warm *handle, uint16_t dev, const warm_device *device);
 
-/* Writes what the pool has counted since warm_open, and how many pages are in frames and written to now. It looks at each frame.
- * Allocation-free.
+/* Writes what the pool has counted since warm_open, how many pages are in frames now, and how many of these were written to and not written
+ * back. It looks at each frame. Allocation-free.
  * Caller: counters points to one element. */
 int warm_counts(warm *handle, warm_counters *counters);
 
-/* Writes what was counted of a device. Allocation-free.
+/* Writes what was counted of a device. What was counted of the one that it replaced is gone. Allocation-free.
  * Refused: WARM_NO_DEVICE.
  * Caller: counters points to one element. */
 int warm_device_counts(warm *handle, uint16_t dev, warm_device_counters *counters);
 
-/* Writes whether a read, a write or a flush of a device has failed since warm_open, and which did last; failure is as it was where none has.
+/* Writes whether a read, a write or a flush of a device has failed since warm_open, and which failed last; failure is as it was where none has.
  * It is what WARM_READ_FAULT, WARM_WRITE_BACK and WARM_FAULT do not say: the device, the page and the errno. It stays until the next
- * failure, whatever succeeds meanwhile. A flush that is refused since one failed before has the errno of that one. Where the device was
- * replaced since, by warm_replace, the errno is 0. Allocation-free.
+ * failure, whatever succeeds meanwhile. A flush that is refused because one failed before has the errno of that one. The errno is EIO where
+ * pwrite wrote no byte, and 0 where the device was replaced after the failure (warm_replace). A dump's file is no device. Allocation-free.
  * Caller: found and failure point to one element each. */
 int warm_last_failure(warm *handle, bool *found, warm_failure *failure);
 

@@ -43,7 +43,13 @@ static uint8_t byte_at(int fd, off_t at) {
     return byte;
 }
 
-/* Whether a page is in a frame; what is asked for was written by nobody. */
+/* Puts /dev/null, opened so, under the number of a descriptor. */
+static void put_null_under(int fd, int flags) {
+    int null = open("/dev/null", flags);
+    MUST(null >= 0 && dup2(null, fd) == fd && close(null) == 0);
+}
+
+/* Whether a page is in a frame. resident is a byte that nobody wrote before the call. */
 static bool is_resident(warm *handle, warm_page page) {
     bool resident;
     uint8_t byte;
@@ -71,14 +77,28 @@ static void resident_pages(void) {
     close(second);
 }
 
+/* Each call by which other pages than 0:2 come, go and are written; device 1 gets another file. */
+static void move_other_pages(warm *handle, int file) {
+    const warm_reference seen = {.time = 1, .no = 7, .replica = 1};
+    warm_page page;
+    size_t left;
+    bool found;
+    for (uint64_t no = 0; no < 8; no++) write_to(handle, (warm_page){.no = no, .dev = 1}, (uint8_t)no);
+    OK(warm_write_back_some(handle, 1, &left));
+    OK(warm_absorb(handle, &seen, 1));
+    OK(warm_step(handle, &found, &page));
+    MUST(found && page.no == 7 && page.dev == 0);
+    OK(warm_write_back(handle));
+    OK(warm_flush(handle, 0));
+    OK(warm_forget(handle, 0, 3));
+    OK(warm_replace(handle, 1, &(warm_device){.pages = 8, .fd = file}));
+}
+
 /* The bytes of a lent page are those of the file, all of them, and stay where they are while other pages come, go and are written. */
 static void lent_pages(void) {
     static uint8_t whole[PAGE_SIZE], copy[PAGE_SIZE];
-    int first = temporary(), second = temporary();
+    int first = temporary(), second = temporary(), third = temporary();
     warm handle = {0};
-    warm_reference seen = {.time = 1, .no = 7, .replica = 1};
-    warm_page page;
-    bool found;
     const uint8_t *bytes = whole, *again;
     for (int at = 0; at < PAGE_SIZE; at++) whole[at] = (uint8_t)(at * 7 + 1);
     MUST(pwrite(first, whole, PAGE_SIZE, 2 * PAGE_SIZE) == PAGE_SIZE);
@@ -90,10 +110,7 @@ static void lent_pages(void) {
     warm_slot slot = pinned(&handle, (warm_page){.no = 2});
     OK(warm_lend(&handle, slot, &bytes));
     MUST(bytes != whole && memcmp(bytes, whole, PAGE_SIZE) == 0);
-    for (uint64_t no = 0; no < 8; no++) write_to(&handle, (warm_page){.no = no, .dev = 1}, (uint8_t)no);
-    OK(warm_absorb(&handle, &seen, 1));
-    OK(warm_step(&handle, &found, &page));
-    OK(warm_write_back(&handle));
+    move_other_pages(&handle, third);
     OK(warm_lend(&handle, slot, &again));
     MUST(again == bytes && memcmp(bytes, whole, PAGE_SIZE) == 0);
     OK(warm_read(&handle, slot, 0, copy, PAGE_SIZE));
@@ -102,7 +119,7 @@ static void lent_pages(void) {
     MUST(bytes[PAGE_SIZE - 1] == '!'); /* a write is seen */
     warm_slot other = pinned(&handle, (warm_page){.no = 5});
     OK(warm_lend(&handle, other, &again));
-    MUST(again >= bytes + PAGE_SIZE || again + PAGE_SIZE <= bytes);
+    MUST((uintptr_t)again >= (uintptr_t)bytes + PAGE_SIZE || (uintptr_t)again + PAGE_SIZE <= (uintptr_t)bytes);
     OK(warm_unpin(&handle, slot));
     again = whole;
     EXPECT(WARM_STALE_SLOT, warm_lend(&handle, slot, &again));
@@ -110,12 +127,13 @@ static void lent_pages(void) {
     warm_close(&handle);
     close(first);
     close(second);
+    close(third);
 }
 
-/* What is written through the pointer of a lent page reaches the file, and once the page was written back, only after it is lent again. */
+/* What is written through the pointer of a lent page reaches the file; once the page was written back, it is lent again first. */
 static void pages_written_in_place(void) {
     int first = temporary(), second = temporary();
-    uint8_t none = 0, *bytes = &none, *again;
+    uint8_t none = 0, filled[PAGE_SIZE], *bytes = &none, *again;
     const uint8_t *same;
     warm handle = {0};
     EXPECT(WARM_CLOSED, warm_lend_mut(&handle, (warm_slot){0}, &bytes));
@@ -127,10 +145,11 @@ static void pages_written_in_place(void) {
     OK(warm_lend(&handle, slot, &same));
     MUST(same == bytes);
     memset(bytes, 'p', PAGE_SIZE);
+    memset(filled, 'p', PAGE_SIZE);
     OK(warm_write_back(&handle));
     MUST(byte_at(first, 2 * PAGE_SIZE) == 'p' && byte_at(first, 3 * PAGE_SIZE - 1) == 'p');
     OK(warm_lend_mut(&handle, slot, &again));
-    MUST(again == bytes && bytes[0] == 'p'); /* lending changes no byte */
+    MUST(again == bytes && memcmp(bytes, filled, PAGE_SIZE) == 0); /* lending changes no byte */
     bytes[PAGE_SIZE - 1] = 'q';
     OK(warm_unpin(&handle, slot));
     MUST(read_from(&handle, (warm_page){.no = 3}) == 0); /* page 2 leaves, and is written */
@@ -160,9 +179,11 @@ static void zeroed_pages(void) {
     for (int at = 0; at < PAGE_SIZE; at++) MUST(bytes[at] == 0);
     EXPECT(WARM_ALL_FIXED, warm_pin_zeroed(&handle, (warm_page){.no = 2}, &slot));
     OK(warm_write(&handle, other, 0, (const uint8_t *)"y", 1));
+    MUST(byte_at(first, PAGE_SIZE) == 'z');
+    OK(warm_flush(&handle, 0));
     OK(warm_pin_zeroed(&handle, (warm_page){.no = 1}, &other)); /* it is in a frame, and has one pin more */
     OK(warm_read(&handle, other, 0, bytes, 1));
-    MUST(bytes[0] == 0 && byte_at(first, PAGE_SIZE) == 'z');
+    MUST(bytes[0] == 0 && byte_at(first, PAGE_SIZE) == 'y');
     OK(warm_unpin(&handle, other));
     OK(warm_unpin(&handle, other));
     OK(warm_unpin(&handle, slot));
@@ -173,19 +194,22 @@ static void zeroed_pages(void) {
     close(second);
 }
 
+/* Two devices with three pages each, which are all in frames and not written back. */
+static void open_dirty(warm *handle, int first, int second) {
+    open_two(handle, 8, first, second);
+    for (uint64_t no = 0; no < 3; no++) write_to(handle, (warm_page){.no = no}, 'a');
+    for (uint64_t no = 0; no < 3; no++) write_to(handle, (warm_page){.no = no, .dev = 1}, 'b');
+}
+
 /* Pages are written back some at a time, those of one device, or not at all. */
 static void portions(void) {
-    int first = temporary(), second = temporary();
+    int first = temporary(), second = temporary(), kept = dup(first);
     size_t left = 99;
-    uint8_t byte;
     warm handle = {0};
-    warm_slot slot;
     EXPECT(WARM_CLOSED, warm_write_back_some(&handle, 1, &left));
     EXPECT(WARM_CLOSED, warm_flush(&handle, 0));
-    EXPECT(WARM_CLOSED, warm_forget(&handle, 0, 0));
-    open_two(&handle, 8, first, second);
-    for (uint64_t no = 0; no < 3; no++) write_to(&handle, (warm_page){.no = no}, 'a');
-    for (uint64_t no = 0; no < 3; no++) write_to(&handle, (warm_page){.no = no, .dev = 1}, 'b');
+    MUST(left == 99);
+    open_dirty(&handle, first, second);
     OK(warm_write_back_some(&handle, 0, &left));
     MUST(left == 6 && lseek(first, 0, SEEK_END) == 0);
     OK(warm_write_back_some(&handle, 2, &left));
@@ -195,27 +219,39 @@ static void portions(void) {
     MUST(lseek(first, 0, SEEK_END) == 2 * PAGE_SIZE && byte_at(second, 2 * PAGE_SIZE) == 'b');
     OK(warm_write_back_some(&handle, SIZE_MAX, &left));
     MUST(left == 0 && byte_at(first, 2 * PAGE_SIZE) == 'a');
-    write_to(&handle, (warm_page){.no = 1}, 'c');
     write_to(&handle, (warm_page){.no = 0}, 'd');
-    EXPECT(WARM_NO_DEVICE, warm_forget(&handle, 2, 0));
-    OK(warm_pin(&handle, (warm_page){.no = 2}, &slot));
-    EXPECT(WARM_FIXED, warm_forget(&handle, 0, 1));
-    MUST(is_resident(&handle, (warm_page){.no = 1}));
-    OK(warm_unpin(&handle, slot));
-    OK(warm_forget(&handle, 0, 1));
-    MUST(!is_resident(&handle, (warm_page){.no = 1}) && is_resident(&handle, (warm_page){.no = 0}) && is_resident(&handle, (warm_page){.no = 2, .dev = 1}));
-    MUST(read_from(&handle, (warm_page){.no = 1}) == 'a' && read_from(&handle, (warm_page){.no = 0}) == 'd'); /* what was not written is lost */
-    int kept = dup(first), reader = open("/dev/null", O_RDONLY);
-    MUST(reader >= 0 && dup2(reader, first) == first); /* the file takes no byte for a time */
+    put_null_under(first, O_RDONLY); /* the file takes no byte for a time */
     left = 99;
     EXPECT(WARM_FAULT, warm_write_back_some(&handle, 1, &left));
     EXPECT(WARM_FAULT, warm_flush(&handle, 0));
     MUST(left == 99 && dup2(kept, first) == first);
     OK(warm_flush(&handle, 0));
-    MUST(pread(kept, &byte, 1, 0) == 1 && byte == 'd');
+    MUST(byte_at(first, 0) == 'd');
     warm_close(&handle);
     close(kept);
-    close(reader);
+    close(first);
+    close(second);
+}
+
+/* The last pages of a file leave, and what was not written is lost; or all stay, where one of them is pinned. */
+static void forgotten_pages(void) {
+    int first = temporary(), second = temporary();
+    warm handle = {0};
+    EXPECT(WARM_CLOSED, warm_forget(&handle, 0, 0));
+    open_dirty(&handle, first, second);
+    OK(warm_write_back(&handle));
+    write_to(&handle, (warm_page){.no = 1}, 'c');
+    write_to(&handle, (warm_page){.no = 0}, 'd');
+    EXPECT(WARM_NO_DEVICE, warm_forget(&handle, 2, 0));
+    warm_slot slot = pinned(&handle, (warm_page){.no = 2});
+    EXPECT(WARM_FIXED, warm_forget(&handle, 0, 1));
+    MUST(is_resident(&handle, (warm_page){.no = 1}));
+    OK(warm_unpin(&handle, slot));
+    OK(warm_forget(&handle, 0, 1));
+    MUST(!is_resident(&handle, (warm_page){.no = 1}) && !is_resident(&handle, (warm_page){.no = 2}));
+    MUST(is_resident(&handle, (warm_page){.no = 0}) && is_resident(&handle, (warm_page){.no = 2, .dev = 1}));
+    MUST(read_from(&handle, (warm_page){.no = 1}) == 'a' && read_from(&handle, (warm_page){.no = 0}) == 'd');
+    warm_close(&handle);
     close(first);
     close(second);
 }
@@ -276,15 +312,14 @@ static void not_replaced(void) {
     EXPECT(WARM_FIXED, warm_replace(&handle, 1, &in_place));
     OK(warm_replace(&handle, 0, &(warm_device){.pages = 8, .fd = copy})); /* no page of this one is pinned */
     OK(warm_unpin(&handle, slot));
-    int kept = dup(second), reader = open("/dev/null", O_RDONLY);
-    MUST(reader >= 0 && dup2(reader, second) == second); /* the file takes no byte for a time */
+    int kept = dup(second);
+    put_null_under(second, O_RDONLY); /* the file takes no byte for a time */
     EXPECT(WARM_FAULT, warm_replace(&handle, 1, &in_place));
     MUST(read_from(&handle, (warm_page){.no = 1, .dev = 1}) == 'a');
     MUST(dup2(kept, second) == second);
     OK(warm_replace(&handle, 1, &in_place));
     MUST(byte_at(kept, PAGE_SIZE) == 'a' && read_from(&handle, (warm_page){.no = 1, .dev = 1}) == 0);
     warm_close(&handle);
-    close(reader);
     close(kept);
     close(copy);
     close(first);
@@ -292,10 +327,10 @@ static void not_replaced(void) {
     close(third);
 }
 
-/* Sends what is new of bucket 7 since a time, and counts the entries that come by it. */
+/* Sends what is new of bucket 7 since a time to who knows none of it, and counts the entries: each comes once. */
 static size_t sent_since(warm *from, uint64_t since, warm *to) {
     static uint8_t frame[65536];
-    size_t length, before, known;
+    size_t length, before, known, frames = 0, entries = 0;
     bool more, has_after = false;
     uint8_t byte;
     warm_page last = {.no = 99, .dev = 9}, after = {0};
@@ -303,14 +338,16 @@ static size_t sent_since(warm *from, uint64_t since, warm *to) {
     do {
         OK(warm_send_since(from, 7, since, has_after, after, frame, sizeof frame, &length, &more, &last));
         memcpy(&byte, &more, 1);
-        MUST(byte <= 1);
+        MUST(byte <= 1 && ++frames <= MANY);
+        entries += (size_t)frame[21] << 8 | frame[22]; /* a frame has 1000 at most: the lower half of their count */
         OK(warm_receive(to, frame, length));
         has_after = true;
         after = last;
     } while (more);
     OK(warm_history_length(to, &known));
+    MUST(known - before == entries);
     MUST(known > before || (last.no == 99 && last.dev == 9)); /* a frame without an entry has no last one */
-    return known - before;
+    return entries;
 }
 
 static void open_history(warm *handle, uint16_t replica) {
@@ -432,12 +469,6 @@ static void counted_calls(void) {
     close(second);
 }
 
-/* Puts /dev/null, opened so, under the number of a descriptor. */
-static void put_null_under(int fd, int flags) {
-    int null = open("/dev/null", flags);
-    MUST(null >= 0 && dup2(null, fd) == fd && close(null) == 0);
-}
-
 /* The status of a flush of device 1 while no file of the process may grow. */
 static int flush_at_limit(warm *handle) {
     struct rlimit old, none;
@@ -448,6 +479,33 @@ static int flush_at_limit(warm *handle) {
     int status = warm_flush(handle, 1);
     MUST(setrlimit(RLIMIT_FSIZE, &old) == 0); /* before a word is printed: that is a file, too */
     return status;
+}
+
+/* Pages that are written in portions, by a flush or as their device is replaced are counted as written; those that leave by warm_replace or
+ * warm_forget were not evicted. A pin that fills with zeros is a hit where the page is in a frame. */
+static void counted_changes(void) {
+    int first = temporary(), second = temporary(), third = temporary();
+    size_t left;
+    warm handle = {0};
+    warm_slot slot;
+    open_dirty(&handle, first, second);
+    MUST(has_counted(&handle, (warm_counters){.misses = 6, .resident = 6, .dirty = 6}));
+    OK(warm_write_back_some(&handle, 2, &left));
+    MUST(has_counted(&handle, (warm_counters){.misses = 6, .written_back = 2, .resident = 6, .dirty = 4}));
+    MUST(device_has_counted(&handle, 0, (warm_device_counters){.reads = 3, .writes = 2}));
+    OK(warm_flush(&handle, 0));
+    MUST(has_counted(&handle, (warm_counters){.misses = 6, .written_back = 3, .resident = 6, .dirty = 3}));
+    MUST(device_has_counted(&handle, 0, (warm_device_counters){.reads = 3, .writes = 3, .flushes = 1}));
+    OK(warm_replace(&handle, 1, &(warm_device){.pages = 8, .fd = third}));
+    MUST(has_counted(&handle, (warm_counters){.misses = 6, .written_back = 6, .resident = 3}));
+    OK(warm_forget(&handle, 0, 2));
+    OK(warm_pin_zeroed(&handle, (warm_page){.no = 0}, &slot));
+    MUST(has_counted(&handle, (warm_counters){.hits = 1, .misses = 6, .written_back = 6, .resident = 2, .dirty = 1}));
+    MUST(device_has_counted(&handle, 0, (warm_device_counters){.reads = 3, .writes = 3, .flushes = 1}));
+    warm_close(&handle);
+    close(first);
+    close(second);
+    close(third);
 }
 
 /* A read, writes and a flush that fail, each with the errno of its own call. */
@@ -506,6 +564,7 @@ static void remembered_failure(void) {
     MUST(failed_last(&handle, (warm_failure){.no = 1, .dev = 0, .what = WARM_FAILED_WRITE, .error = EAGAIN}));
     OK(warm_before_write(first, NULL, NULL));
     OK(warm_write_back(&handle));
+    EXPECT(WARM_DUMP_NOT_WRITTEN, warm_save(&handle, -1)); /* its file is no device */
     MUST(failed_last(&handle, (warm_failure){.no = 1, .dev = 0, .what = WARM_FAILED_WRITE, .error = EAGAIN}));
     MUST(device_has_counted(&handle, 0, (warm_device_counters){.reads = 1, .writes = 2, .flushes = 1, .failures = 1}));
     put_null_under(first, O_WRONLY);
@@ -529,11 +588,13 @@ int main(void) {
     pages_written_in_place();
     zeroed_pages();
     portions();
+    forgotten_pages();
     replaced_file();
     not_replaced();
     what_is_new();
     counts_refused();
     counted_calls();
+    counted_changes();
     failed_calls();
     remembered_failure();
     return end_as_expected();

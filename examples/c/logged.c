@@ -196,7 +196,7 @@ static void other_handle(void) {
 
 /* ---- kill -9 ---- */
 
-/* What a page begins with, and what its log record is: it was changed for the so many-th time in all. */
+/* What a page begins with, and what its log record is: the number of its last change, where all changes of all pages are counted. */
 typedef struct record {
     uint64_t version, no;
 } record;
@@ -290,7 +290,8 @@ static void killed(void) {
         MUST(child >= 0);
         if (child == 0) change_pages(fd, log, latest, at);
         usleep((1 + at / KILLS) * (1000 + (unsigned)rand() % 15000));
-        MUST(kill(child, SIGKILL) == 0 && waitpid(child, &status, 0) == child && WIFSIGNALED(status));
+        /* no child ended before, by a fault of its own */
+        MUST(kill(child, SIGKILL) == 0 && waitpid(child, &status, 0) == child && WIFSIGNALED(status) && WTERMSIG(status) == SIGKILL);
         MUST(ftruncate(log, size_of(log) / (off_t)sizeof(record) * (off_t)sizeof(record)) == 0);
         latest = check_order(fd, log);
     }

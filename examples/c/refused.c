@@ -4,7 +4,7 @@
 #define PROGRAM "refused"
 #include "expect.h"
 
-enum { PAGE_SIZE = 512, FRAMES = 4, SEEN = 200, FRAME_ROOM = 40000 };
+enum { PAGE_SIZE = 512, FRAMES = 4, SEEN = 200, FRAME_ROOM = 40000, MOST_GRANTS = 100000 };
 
 /* How many more allocations succeed. */
 static size_t granted = SIZE_MAX;
@@ -31,7 +31,7 @@ void *__wrap_realloc(void *block, size_t size) { return is_granted() ? __real_re
             status = (call);                                                    \
             granted = SIZE_MAX;                                                 \
             if (status != WARM_OK) expect(WARM_MEMORY, status, #call);          \
-            MUST(status == WARM_OK || (unchanged));                             \
+            MUST(status == WARM_OK || (grants < MOST_GRANTS && (unchanged)));   \
         }                                                                       \
         MUST(grants > 1); /* it allocates, and so was refused */                \
         expected_count++;                                                       \
@@ -87,7 +87,13 @@ static void histories(warm *from, warm *to) {
     length = 77;
     EACH_REFUSED(warm_offer(from, frame, sizeof frame, &length), length == 77);
     EACH_REFUSED(warm_receive(to, frame, length), known(to) == SEEN - 2);
-    EACH_REFUSED(warm_next_answer(to, frame, sizeof frame, &length), true);
+    length = 77;
+    EACH_REFUSED(warm_next_answer(to, frame, sizeof frame, &length), length == 77);
+    MUST(length == 19 + 4 + 21 * (SEEN / 2 - 2) && frame[4] == 1); /* the first answer: the entries of bucket 0, which differs */
+    EACH_REFUSED(warm_next_answer(to, frame, sizeof frame, &length), length == 19 + 4 + 21 * (SEEN / 2 - 2));
+    MUST(length == 19 + 8 && frame[4] == 3 && frame[length - 1] == 1); /* and the request for those of bucket 0 */
+    OK(warm_next_answer(to, frame, sizeof frame, &length));
+    MUST(length == 0);
     EACH_REFUSED(warm_list(from, pages, SEEN, &count), count == 77);
     MUST(count == SEEN);
     int dump = temporary();
@@ -99,8 +105,7 @@ static void histories(warm *from, warm *to) {
 }
 
 /* A device is replaced, or the old one is still there with all that was written. */
-static void replaced(warm *handle) {
-    int other = temporary();
+static void replaced(warm *handle, int other) {
     uint8_t byte = 'n';
     warm_device device = {.pages = 16, .fd = other};
     warm_slot slot;
@@ -113,12 +118,31 @@ static void replaced(warm *handle) {
     MUST(first_byte(handle, (warm_page){0}) == 'n');
 }
 
+/* More pages than there are frames, each of which is written to: they are read, evicted and written back. */
+static void unrefused_evictions(warm *handle) {
+    warm_slot slot;
+    for (uint64_t no = 0; no < 3 * FRAMES; no++) {
+        uint8_t byte = (uint8_t)(no + 1);
+        UNREFUSED(warm_pin(handle, (warm_page){.no = no}, &slot));
+        UNREFUSED(warm_write(handle, slot, 1, &byte, 1));
+        UNREFUSED(warm_unpin(handle, slot));
+    }
+    for (uint64_t no = 0; no < 3 * FRAMES; no++) {
+        uint8_t byte = 0;
+        UNREFUSED(warm_pin(handle, (warm_page){.no = no}, &slot));
+        UNREFUSED(warm_read(handle, slot, 1, &byte, 1));
+        UNREFUSED(warm_unpin(handle, slot));
+        MUST(byte == no + 1);
+    }
+    UNREFUSED(warm_write_back(handle));
+}
+
 /* What allocates nothing. */
 static void unrefused(warm *handle) {
     uint8_t *bytes, read;
     size_t left;
     uint64_t horizon;
-    bool found, resident;
+    bool found, resident, has_failed;
     warm_page page;
     warm_slot slot;
     warm_counters counters;
@@ -138,8 +162,8 @@ static void unrefused(warm *handle) {
     UNREFUSED(warm_forget(handle, 0, 3));
     UNREFUSED(warm_counts(handle, &counters));
     UNREFUSED(warm_device_counts(handle, 0, &device_counters));
-    UNREFUSED(warm_last_failure(handle, &resident, &failure));
-    MUST(found && !resident && counters.dirty == 0 && device_counters.failures == 0);
+    UNREFUSED(warm_last_failure(handle, &has_failed, &failure));
+    MUST(found && !has_failed && counters.dirty == 0 && device_counters.failures == 0);
     UNREFUSED(warm_limit(handle, UINT64_MAX));
     UNREFUSED(warm_horizon(handle, 1, &horizon));
     UNREFUSED(warm_write_back(handle));
@@ -147,13 +171,19 @@ static void unrefused(warm *handle) {
 }
 
 int main(void) {
+    int fds[] = {temporary(), temporary(), temporary()};
     warm from = {0}, to = {0};
-    opened(&from, 1, temporary());
-    opened(&to, 2, temporary());
+    opened(&from, 1, fds[0]);
+    opened(&to, 2, fds[1]);
     histories(&from, &to);
-    replaced(&from);
+    replaced(&from, fds[2]);
+    unrefused_evictions(&from);
     unrefused(&from);
+    granted = 0;
     warm_close(&from);
     warm_close(&to);
+    granted = SIZE_MAX;
+    MUST(!from.is_open && !to.is_open);
+    for (int at = 0; at < 3; at++) close(fds[at]);
     return end_as_expected();
 }

@@ -1,15 +1,17 @@
-/* One handle, handed round by threads under a lock: each adds to a count in each of a few pages, and one of them closes the handle. */
+/* One handle, handed round by threads under a lock: each adds to a count in each of a few pages, and one of them closes the handle. Without the
+ * lock they read a page that is lent to all of them, and that none writes to. */
 #define _GNU_SOURCE /* mkstemp */
 #include <pthread.h>
 
 #define PROGRAM "threads"
 #include "expect.h"
 
-enum { PAGE_SIZE = 512, PAGES = 6, FRAMES = 3, THREADS = 4, ROUNDS = 200 };
+enum { PAGE_SIZE = 512, PAGES = 6, LENT = PAGES, FRAMES = 3, THREADS = 4, ROUNDS = 200 };
 
 static pthread_mutex_t lock = PTHREAD_MUTEX_INITIALIZER;
 static warm shared;
 static int left = THREADS;
+static const uint8_t *lent; /* the bytes of page LENT, which is pinned until the handle is closed */
 
 /* The first bytes of a page are a count, which is read where it lies. */
 static void add_to(uint64_t no, uint64_t time) {
@@ -26,15 +28,21 @@ static void add_to(uint64_t no, uint64_t time) {
     OK(warm_unpin(&shared, slot));
 }
 
+/* By any thread, while another one may be in a call. */
+static void read_lent(void) {
+    for (int at = 0; at < PAGE_SIZE; at++) MUST(lent[at] == (uint8_t)at);
+}
+
 static void *work(void *number) {
     for (uint64_t round = 0; round < ROUNDS; round++) {
+        read_lent();
         MUST(pthread_mutex_lock(&lock) == 0);
         add_to((round + *(uint64_t *)number) % PAGES, round);
         if (round % 50 == 0) OK(warm_write_back(&shared));
         MUST(pthread_mutex_unlock(&lock) == 0);
     }
     MUST(pthread_mutex_lock(&lock) == 0);
-    if (--left == 0) {
+    if (--left == 0) { /* the others read no more */
         OK(warm_write_back(&shared));
         warm_close(&shared);
     }
@@ -42,24 +50,34 @@ static void *work(void *number) {
     return NULL;
 }
 
+/* By another thread than those that use it. */
+static void open_shared(int fd) {
+    const warm_device device = {.pages = PAGES + 1, .fd = fd};
+    uint8_t bytes[PAGE_SIZE];
+    warm_slot slot;
+    for (int at = 0; at < PAGE_SIZE; at++) bytes[at] = (uint8_t)at;
+    MUST(pwrite(fd, bytes, PAGE_SIZE, LENT * PAGE_SIZE) == PAGE_SIZE);
+    OK(warm_open(&shared, 1, FRAMES, PAGE_SIZE, &device, 1));
+    OK(warm_pin(&shared, (warm_page){.no = LENT}, &slot));
+    OK(warm_lend(&shared, slot, &lent));
+}
+
 int main(void) {
     pthread_t threads[THREADS];
-    uint64_t numbers[THREADS], sum = 0;
+    uint64_t numbers[THREADS], wanted[PAGES] = {0};
     int fd = temporary();
-    const warm_device device = {.pages = PAGES, .fd = fd};
-    OK(warm_open(&shared, 1, FRAMES, PAGE_SIZE, &device, 1)); /* by another thread than those that use it */
+    open_shared(fd);
     for (uint64_t at = 0; at < THREADS; at++) {
         numbers[at] = at;
         MUST(pthread_create(&threads[at], NULL, work, &numbers[at]) == 0);
     }
     for (int at = 0; at < THREADS; at++) MUST(pthread_join(threads[at], NULL) == 0);
     MUST(!shared.is_open);
+    for (int at = 0; at < THREADS * ROUNDS; at++) wanted[(at / ROUNDS + at % ROUNDS) % PAGES]++;
     for (int no = 0; no < PAGES; no++) {
         uint64_t count = 0;
-        MUST(pread(fd, &count, sizeof count, no * PAGE_SIZE) == (ssize_t)sizeof count);
-        sum += count;
+        MUST(pread(fd, &count, sizeof count, no * PAGE_SIZE) == (ssize_t)sizeof count && count == wanted[no]);
     }
-    MUST(sum == THREADS * ROUNDS);
     close(fd);
     return end_as_expected();
 }

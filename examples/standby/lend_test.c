@@ -36,7 +36,7 @@ static void run(sqlite3 *db, const char *sql) {
     exit(1);
 }
 
-/* A database of some pages of this size, alone, over a pool of so many frames. */
+/* A database of some pages of this size, alone, over a pool with this many frames. */
 static sqlite3 *open_with(size_t frames, int page_size, sqlite3_file **file) {
     sqlite3 *db;
     char sql[300];
@@ -70,6 +70,12 @@ static int page_count(sqlite3_file *file) {
     return (int)(size / PAGE);
 }
 
+/* The pages are those of the file, by the system's own call. */
+static void are_in_file(const pool_file *pool, uint8_t pages[][PAGE], int count) {
+    static uint8_t there[PAGE];
+    for (int no = 0; no < count; no++) MUST(pread(pool->fd, there, PAGE, (off_t)no * PAGE) == PAGE && memcmp(there, pages[no], PAGE) == 0);
+}
+
 /* Newer versions of SQLite have an xFetch that leaves 256 bytes behind a page. */
 static void may_be_read(const uint8_t *bytes) {
     static volatile uint8_t seen;
@@ -86,6 +92,7 @@ static void lent_pages(void) {
     int count = page_count(file);
     pool_file *pool = pool_vfs_of(db);
     read_all(file, pages, count);
+    are_in_file(pool, pages, count);
     for (uint64_t no = 0; no < FRAMES / 2; no++) {
         lent[no] = fetch(file, no, PAGE);
         MUST(lent[no] != NULL && memcmp(lent[no], pages[no], PAGE) == 0);
@@ -107,6 +114,26 @@ static void lent_pages(void) {
     unfetch(file, 2, lent[2]);
     unfetch(file, 3, lent[3]);
     MUST(pool->lent == 0 && file->pMethods->xUnfetch(file, 0, NULL) == SQLITE_OK);
+    sqlite3_close(db);
+}
+
+/* What is given back and was not lent, in a frame or in none, in the file or not, is refused, and what is lent stays so. */
+static void not_given_back(void) {
+    static uint8_t pages[MOST_PAGES][PAGE];
+    sqlite3_file *file;
+    sqlite3 *db = open_with(FRAMES, PAGE, &file);
+    int count = page_count(file);
+    read_all(file, pages, count);
+    const uint8_t *lent = fetch(file, 1, PAGE);
+    MUST(lent != NULL);
+    for (sqlite3_int64 no = -1; no <= count; no++) {
+        if (no != 1) MUST(file->pMethods->xUnfetch(file, no * PAGE, pages) == SQLITE_MISUSE);
+    }
+    MUST(file->pMethods->xUnfetch(file, INT64_MAX, pages) == SQLITE_MISUSE && pool_vfs_of(db)->lent == 1);
+    read_all(file, pages, count);
+    MUST(memcmp(lent, pages[1], PAGE) == 0);
+    unfetch(file, 1, lent);
+    MUST(file->pMethods->xUnfetch(file, PAGE, pages) == SQLITE_MISUSE && pool_vfs_of(db)->lent == 0);
     sqlite3_close(db);
 }
 
@@ -144,6 +171,7 @@ static void unreadable(void) {
     static uint8_t pages[MOST_PAGES][PAGE];
     void *bytes = &file;
     read_all(file, pages, page_count(file));
+    are_in_file(pool_vfs_of(db), pages, page_count(file));
     int fd = pool_vfs_of(db)->fd, kept = dup(fd), writer = open(path_of("lent"), O_WRONLY);
     MUST(kept >= 0 && writer >= 0 && dup2(writer, fd) == fd);
     MUST(file->pMethods->xFetch(file, 0, PAGE, &bytes) == SQLITE_IOERR_READ && bytes == NULL && pool_vfs_of(db)->lent == 0);
@@ -174,6 +202,7 @@ static void warmed_up(void) {
     uint64_t before = pool->device_reads;
     const uint8_t *lent = fetch(file, last, PAGE);
     read_all(file, pages, (int)last + 1);
+    are_in_file(pool, pages, (int)last + 1);
     MUST(lent != NULL && memcmp(lent, pages[last], PAGE) == 0 && pool->device_reads >= before + last - 1 && pool->device_reads <= before + last);
     unfetch(file, last, lent);
     sqlite3_close(db);
@@ -297,15 +326,18 @@ static void same_rows(sqlite3 *stock, sqlite3 *pooled) {
     finish(&all);
 }
 
-/* As stock SQLite finds it. */
-static void whole_file(void) {
-    sqlite3 *db;
+/* The pool's file has the rows of the other one, and is sound, as stock SQLite finds both once they are closed. */
+static void same_files(void) {
+    sqlite3 *stock, *pooled;
     sqlite3_stmt *check;
-    MUST(sqlite3_open_v2(path_of("pooled"), &db, SQLITE_OPEN_READWRITE, "unix") == SQLITE_OK);
-    MUST(sqlite3_prepare_v2(db, "PRAGMA integrity_check", -1, &check, NULL) == SQLITE_OK && sqlite3_step(check) == SQLITE_ROW);
+    MUST(sqlite3_open_v2(path_of("stock"), &stock, SQLITE_OPEN_READWRITE, "unix") == SQLITE_OK);
+    MUST(sqlite3_open_v2(path_of("pooled"), &pooled, SQLITE_OPEN_READWRITE, "unix") == SQLITE_OK);
+    same_rows(stock, pooled);
+    MUST(sqlite3_prepare_v2(pooled, "PRAGMA integrity_check", -1, &check, NULL) == SQLITE_OK && sqlite3_step(check) == SQLITE_ROW);
     MUST(strcmp((const char *)sqlite3_column_text(check, 0), "ok") == 0);
     sqlite3_finalize(check);
-    sqlite3_close(db);
+    sqlite3_close(pooled);
+    sqlite3_close(stock);
 }
 
 /* Cursors that stay where they are while the same connection writes, commits and rolls back see what those of stock SQLite see. */
@@ -323,7 +355,7 @@ static void random_cursors(uint64_t seed, size_t frames, bool is_alone) {
     MUST(pool_vfs_of(pooled)->lent == 0);
     same_rows(stock, pooled);
     MUST(sqlite3_close(stock) == SQLITE_OK && sqlite3_close(pooled) == SQLITE_OK);
-    whole_file();
+    same_files();
 }
 
 /* A change by one of two connections, or rows for one of its cursors. Now and then one lets all its cursors and its transaction go, so that the
@@ -356,7 +388,7 @@ static void two_connections(uint64_t seed, size_t frames) {
     }
     for (int who = 0; who < 2; who++) same_rows(stock[who], pooled[who]);
     for (int who = 0; who < 2; who++) MUST(sqlite3_close(stock[who]) == SQLITE_OK && sqlite3_close(pooled[who]) == SQLITE_OK);
-    whole_file();
+    same_files();
 }
 
 int main(int count, char **words) {
@@ -370,6 +402,7 @@ int main(int count, char **words) {
     uint64_t seed = count > 3 ? strtoull(words[3], NULL, 10) : 1;
     pool_vfs_register(1, FRAMES);
     lent_pages();
+    not_given_back();
     not_lent();
     unreadable();
     warmed_up();

@@ -15,7 +15,7 @@ typedef struct options {
     const char *host;        /* of the broker: a numeric address */
     uint64_t port;           /* of the broker; 0: no gossip */
     uint64_t seed, frames, transactions, reads, every, replica, peer;
-    uint64_t checkpoint;     /* a WAL of so many pages is checkpointed */
+    uint64_t checkpoint;     /* a WAL of this many pages is checkpointed */
     bool dies, reads_only, answers, has_wal, evicts;
 } options;
 

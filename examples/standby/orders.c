@@ -83,7 +83,7 @@ static void add_answer(orders *work, sqlite3_stmt *statement) {
     }
 }
 
-/* Runs a statement with so many numbers, and writes the first column of its last row, where wanted. */
+/* Runs a statement with these numbers, and writes the first column of its last row, where wanted. */
 static int step(orders *work, int which, int numbers, const int64_t *values, int64_t *first) {
     sqlite3_stmt *statement = work->statements[which];
     int result = SQLITE_OK;

@@ -279,9 +279,12 @@ int pool_file_lend(pool_file *file, size_t length, uint64_t offset, const uint8_
     return WARM_OK;
 }
 
-void pool_file_take_back(pool_file *file, uint64_t offset) {
+bool pool_file_take_back(pool_file *file, uint64_t offset) {
+    uint32_t frame = residents_frame(&file->residents, offset >> file->page_shift);
+    if (frame == 0 || file->held.pages[frame - 1].users == 0) return false;
+    file->held.pages[frame - 1].users--;
     file->lent--;
-    file->held.pages[residents_frame(&file->residents, offset >> file->page_shift) - 1].users--;
+    return true;
 }
 
 static int write_bytes(pool_file *file, const uint8_t *bytes, size_t length, uint64_t offset) {
@@ -484,7 +487,7 @@ int pool_file_step(pool_file *file, bool *found) {
     if (status == WARM_OK) status = warm_step(pool_file_handle(file), found, &page);
     if (status != WARM_OK || !*found) return status;
     file->warmed++;
-    /* The page is there: a pin tells its frame. If it did not, the pool could no longer say which pages are in it. */
+    /* The page is there: a pin gives its frame. If it did not, the pool could no longer say which pages are in it. */
     status = warm_pin(pool_file_handle(file), page, &slot);
     if (status == WARM_OK) status = warm_unpin(pool_file_handle(file), slot);
     if (status == WARM_OK) residents_note(&file->residents, slot, page.no);

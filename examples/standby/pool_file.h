@@ -37,7 +37,7 @@ typedef struct pool_file {
     bool is_dirty;    /* something was written into the pool since the last sync: it may be in frames or in the file by now */
     bool is_unsynced; /* the file was written or truncated past the pool since the last sync */
     bool has_written; /* either of both, since pool_file_enter */
-    bool is_failed;   /* a sync failed: what the file holds is unknown until SQLite opens it anew and rolls its journal back */
+    bool is_failed;   /* a sync failed: what the file holds is unknown until SQLite opens it again and rolls its journal back */
     uint8_t counter[POOL_COUNTER]; /* the change counter and what follows it, as the file had them when a lock was last held */
     size_t header_page_size;       /* of SQLite's pages, as the header last read or written says */
     batch batch;
@@ -48,7 +48,7 @@ typedef struct pool_file {
     uint64_t page_reads, device_reads, lends, warmed, lost_references, reloads, direct_writes;
 } pool_file;
 
-/* A pool of so many frames over a file that is open for reading and writing. The caller closes the descriptor after pool_file_close. */
+/* A pool of this many frames over a file that is open for reading and writing. The caller closes the descriptor after pool_file_close. */
 int pool_file_open(pool_file *file, int fd, uint16_t replica, size_t frames);
 
 /* Drops what is not synced. */
@@ -64,8 +64,8 @@ int pool_file_read(pool_file *file, uint8_t *into, size_t length, uint64_t offse
  * the bytes are no page of the pool, or one of less than 4,096 bytes, behind which nothing may be read. */
 int pool_file_lend(pool_file *file, size_t length, uint64_t offset, const uint8_t **bytes);
 
-/* A page that was lent at this offset is so once less. */
-void pool_file_take_back(pool_file *file, uint64_t offset);
+/* The page at this offset is lent once less. False where it is not lent: then nothing changes. */
+bool pool_file_take_back(pool_file *file, uint64_t offset);
 
 int pool_file_write(pool_file *file, const uint8_t *bytes, size_t length, uint64_t offset);
 int pool_file_truncate(pool_file *file, uint64_t size);

@@ -1,5 +1,5 @@
-/* The primary: enters orders, and publishes the history of its page references. It runs until SIGTERM or a kill, or for so many
- * transactions. */
+/* The primary: enters orders, and publishes the history of its page references. It runs until SIGTERM or a kill, or until
+ * it has made the transactions that it is to make. */
 #define _GNU_SOURCE
 #include <fcntl.h>
 #include <inttypes.h>

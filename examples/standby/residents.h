@@ -1,4 +1,4 @@
-/* Which pages are in the frames of a pool, as far as its slots have told. */
+/* Which pages are in the frames of a pool, as far as its slots show it. */
 #ifndef RESIDENTS_H
 #define RESIDENTS_H
 
@@ -16,7 +16,7 @@ typedef struct residents {
     uint32_t *next;        /* of each frame: the next of the same hash */
 } residents;
 
-/* Of a pool of so many empty frames. False where there is no memory; residents_close is called in either case. */
+/* Of a pool with this many frames, all empty. False where there is no memory; residents_close is called in either case. */
 bool residents_open(residents *r, size_t frames);
 void residents_close(residents *r);
 

@@ -36,7 +36,7 @@ typedef struct db_file {
     sqlite3_file base;
     pool_file *pool;
     int lock;
-    sqlite3_int64 mmap_size; /* as SQLite was told: it asks for pages by xFetch where it is not 0 */
+    sqlite3_int64 mmap_size; /* as SQLite set it: it asks for pages by xFetch where it is not 0 */
 } db_file;
 
 static sqlite3_vfs *inner_vfs;
@@ -303,8 +303,7 @@ static int db_fetch(sqlite3_file *file, sqlite3_int64 offset, int length, void *
 
 /* Without bytes it says that the file may have changed, which pool_file_enter has seen. No page is lent then. */
 static int db_unfetch(sqlite3_file *file, sqlite3_int64 offset, void *bytes) {
-    if (bytes != NULL) pool_file_take_back(pool_of(file), (uint64_t)offset);
-    return SQLITE_OK;
+    return bytes == NULL || pool_file_take_back(pool_of(file), (uint64_t)offset) ? SQLITE_OK : SQLITE_MISUSE;
 }
 
 static const sqlite3_io_methods db_methods = {

@@ -13,7 +13,7 @@
  * an allocation. Answers an SQLite result. */
 int pool_vfs_configure(void);
 
-/* Registers the VFS "warm", which is not the default one. Each main database that is opened by it has a pool of its own, of so many frames,
+/* Registers the VFS "warm", which is not the default one. Each main database that is opened by it has a pool of its own, of this many frames,
  * and is this replica. Called again it changes these for databases that are opened later. Answers an SQLite result. */
 int pool_vfs_register(uint16_t replica, size_t frames);
 
