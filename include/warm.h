@@ -43,6 +43,7 @@
  *  - No call is made in a signal handler, nor in the forked child of a process with other threads. No signal handler leaves a call by
  *    longjmp, and no thread is cancelled in one.
  *  - malloc, realloc and free are of one allocator, and align a block to each power of two up to 16 that divides its size.
+ *  - The thread of a call has 128 KiB of stack, with what its own functions take.
  * "Caller" at a function says what else it asks, and which elements its pointers have.
  *
  * Latches on pages are the engine's. The library has none, and its calls are made one at a time. An engine whose threads share pages keeps

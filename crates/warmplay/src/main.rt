@@ -24,6 +24,19 @@ use warm_world::Setup;
 // The size of the output buffer for answers, in bytes.
 const OUTPUT_BUFFER_SIZE: usize = 65536;
 
+// The stack that is taken as the program starts, in bytes: half as much again as a play was seen to need.
+const STACK_SIZE: usize = 262_144;
+
+// Uses the stack once, before anything else takes memory. The system gives a program its stack as it
+// is used, and where no address space is left for it ends the program by a signal. A call of its own,
+// so that the program has this room below it afterwards.
+#[inline(never)]
+fn take_stack(rt: &HostRuntime) {
+    let room = [0u8; STACK_SIZE];
+    // A call with a part of it, though of no bytes: an array that nothing uses is left out.
+    let _ = rt.stderr().write(&room[..0]);
+}
+
 // The command of the program's arguments.
 fn parse_command(rt: &HostRuntime) -> Result<Cmd, ProgramFault> {
     let args = match env::args(rt) {
@@ -238,6 +251,7 @@ fn print_help(rt: &HostRuntime, ended: &Result<(), ProgramFault>) -> Result<(), 
 }
 
 fn main(rt: HostRuntime) -> ExitCode {
+    take_stack(&rt);
     let mut ended = run(&rt, &rt);
     if let Err(fault) = print_help(&rt, &ended) {
         ended = Err(ProgramFault::Play(fault));
