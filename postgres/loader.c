@@ -1,0 +1,284 @@
+/*-------------------------------------------------------------------------
+ *
+ * loader.c
+ *		The worker that reads the pages of one database of a standby.
+ *
+ * A loader takes a batch from its slot, and reads it file by file, in short
+ * transactions of some pages each.  Each holds AccessShareLock on the relation,
+ * which keeps the replay of a drop or a truncation from passing it; where the
+ * lock is not free at once, the pages are left for later.  So a loader waits for
+ * no lock but those of catalogs, and replay waits for these few reads at most.
+ *
+ *-------------------------------------------------------------------------
+ */
+#include "postgres.h"
+
+#include "access/relation.h"
+#include "access/xact.h"
+#include "access/xlog.h"
+#include "miscadmin.h"
+#include "pgstat.h"
+#include "postmaster/interrupt.h"
+#include "storage/bufmgr.h"
+#include "storage/ipc.h"
+#include "storage/lmgr.h"
+#include "storage/smgr.h"
+#include "tcop/tcopprot.h"
+#include "utils/memutils.h"
+#include "warm_standby.h"
+
+#define PAGES_A_LOCK	32
+#define IDLE_MS			1000
+#define IDLE_TURNS		10
+
+PGDLLEXPORT void warm_standby_loader_main(Datum main_arg);
+
+static WsLoader *slot;
+static uint64 epoch;
+static bool is_connected = false;
+static WsLoaded done;			/* since it was last added to the shared counts */
+static WsRequest batch[WS_BATCH];
+
+/* By device and file, in any order, and then by block. */
+static int
+by_page(const void *a, const void *b)
+{
+	const WsPage *x = &((const WsRequest *) a)->page;
+	const WsPage *y = &((const WsRequest *) b)->page;
+	int			order = memcmp(x, y, offsetof(WsPage, block));
+
+	return order != 0 ? order : x->block < y->block ? -1 : x->block > y->block;
+}
+
+/* Reads pages of one fork of a relation that is locked. */
+static void
+read_pages(Relation relation, WsRequest *some, int count)
+{
+	ForkNumber	fork = some->page.device.fork;
+	BlockNumber blocks = 0;
+
+	if (smgrexists(RelationGetSmgr(relation), fork))
+		blocks = smgrnblocks(RelationGetSmgr(relation), fork);
+	for (int i = 0; i < count; i++)
+	{
+		if (some[i].page.block >= blocks)
+		{
+			some[i].outcome = WS_NO_BLOCK;
+			continue;
+		}
+		if (some[i].prefetch)
+		{
+			(void) PrefetchBuffer(relation, fork, some[i].page.block);
+			done.pages_prefetched++;
+		}
+		else
+		{
+			ReleaseBuffer(ReadBufferExtended(relation, fork, some[i].page.block, RBM_NORMAL, NULL));
+			done.pages_read++;
+		}
+		some[i].outcome = WS_LOADED;
+		CHECK_FOR_INTERRUPTS();
+	}
+}
+
+/* Reads pages of one file, in a transaction; returns why those fail that were not looked at. */
+static WsOutcome
+read_file(WsRequest *some, int count)
+{
+	Oid			relid = RelidOfFile(some->page.device.space, some->page.file);
+	Relation	relation;
+
+	if (!OidIsValid(relid))
+		return WS_NO_FILE;
+	if (!ConditionalLockRelationOid(relid, AccessShareLock))
+		return WS_BUSY;
+	relation = try_relation_open(relid, NoLock);
+	if (relation == NULL)
+	{
+		UnlockRelationOid(relid, AccessShareLock);
+		return WS_NO_FILE;
+	}
+	/* It may have got another file before it was locked. */
+	if (RelationFile(relation) == some->page.file &&
+		RelationSpace(relation) == some->page.device.space)
+		read_pages(relation, some, count);
+	relation_close(relation, AccessShareLock);
+	return WS_NO_FILE;
+}
+
+/* The same, where an error costs these pages and nothing else. */
+static void
+try_file(WsRequest *some, int count)
+{
+	MemoryContext context = CurrentMemoryContext;
+	volatile WsOutcome rest = WS_FAILED;
+
+	PG_TRY();
+	{
+		SetCurrentStatementStartTimestamp();
+		StartTransactionCommand();
+		rest = read_file(some, count);
+		CommitTransactionCommand();
+	}
+	PG_CATCH();
+	{
+		ErrorData  *error;
+
+		MemoryContextSwitchTo(context);
+		error = CopyErrorData();
+		FlushErrorState();
+		AbortCurrentTransaction();
+		done.read_errors++;
+		ereport(DEBUG1, (errmsg_internal("warm_standby could not read file %u: %s", some->page.file,
+										 error->message)));
+		FreeErrorData(error);
+	}
+	PG_END_TRY();
+	MemoryContextSwitchTo(context);
+	for (int i = 0; i < count; i++)
+		if (some[i].outcome == WS_WAITING)
+			some[i].outcome = rest;
+}
+
+/* Whether the worker that started this loader is there, on a standby. */
+static bool
+is_needed(void)
+{
+	bool		needed;
+
+	LWLockAcquire(ws_shared->lock, LW_SHARED);
+	needed = ws_shared->epoch == epoch;
+	LWLockRelease(ws_shared->lock);
+	return needed && RecoveryInProgress();
+}
+
+static void
+load(uint32 count)
+{
+	uint64		begun = ws_us();
+
+	qsort(batch, count, sizeof(WsRequest), by_page);
+	for (uint32 i = 0, k; i < count; i = k)
+	{
+		for (k = i + 1; k < count && k - i < PAGES_A_LOCK; k++)
+			if (memcmp(&batch[k].page, &batch[i].page, offsetof(WsPage, block)) != 0)
+				break;
+		CHECK_FOR_INTERRUPTS();
+		if (!is_needed())
+			return;
+		try_file(&batch[i], k - i);
+	}
+	done.read_us += ws_us() - begun;
+}
+
+/* Takes the batch of the slot, where there is one. */
+static uint32
+take_batch(void)
+{
+	uint32		count = 0;
+
+	LWLockAcquire(ws_shared->lock, LW_SHARED);
+	if (ws_shared->epoch == epoch && slot->state == WS_SLOT_FULL)
+	{
+		count = slot->count;
+		memcpy(batch, slot->pages, count * sizeof(WsRequest));
+	}
+	LWLockRelease(ws_shared->lock);
+	return count;
+}
+
+static void
+give_outcomes(uint32 count)
+{
+	LWLockAcquire(ws_shared->lock, LW_EXCLUSIVE);
+	if (ws_shared->epoch == epoch)
+	{
+		memcpy(slot->pages, batch, count * sizeof(WsRequest));
+		slot->state = WS_SLOT_DONE;
+	}
+	ws_shared->loaded.pages_read += done.pages_read;
+	ws_shared->loaded.pages_prefetched += done.pages_prefetched;
+	ws_shared->loaded.read_errors += done.read_errors;
+	ws_shared->loaded.read_us += done.read_us;
+	LWLockRelease(ws_shared->lock);
+	memset(&done, 0, sizeof done);
+}
+
+/*
+ * Gives the slot back, with a batch that it may have got meanwhile.  One that
+ * could not connect leaves its batch, by which the worker sees that.
+ */
+static void
+leave(int code, Datum arg)
+{
+	LWLockAcquire(ws_shared->lock, LW_EXCLUSIVE);
+	if (ws_shared->epoch == epoch)
+	{
+		slot->latch = NULL;
+		if (is_connected)
+		{
+			slot->state = WS_SLOT_IDLE;
+			slot->database = InvalidOid;
+		}
+	}
+	LWLockRelease(ws_shared->lock);
+}
+
+/* Takes the slot of that number, and returns its database; InvalidOid where it is not ours. */
+static Oid
+enter(int number)
+{
+	Oid			database = InvalidOid;
+
+	slot = &ws_shared->loaders[number];
+	before_shmem_exit(leave, (Datum) 0);
+	LWLockAcquire(ws_shared->lock, LW_EXCLUSIVE);
+	if (ws_shared->epoch == epoch)
+	{
+		database = slot->database;
+		slot->latch = MyLatch;
+	}
+	LWLockRelease(ws_shared->lock);
+	return database;
+}
+
+void
+warm_standby_loader_main(Datum main_arg)
+{
+	Oid			database;
+	int			idle = 0;
+
+	pqsignal(SIGTERM, die);
+	pqsignal(SIGHUP, SignalHandlerForConfigReload);
+	BackgroundWorkerUnblockSignals();
+	memcpy(&epoch, MyBgworkerEntry->bgw_extra, sizeof epoch);
+	database = enter(DatumGetInt32(main_arg));
+	if (!OidIsValid(database))
+		proc_exit(0);
+	BackgroundWorkerInitializeConnectionByOid(database, InvalidOid, BGWORKER_BYPASS_ALLOWCONN);
+	is_connected = true;
+
+	while (is_needed() && idle < IDLE_TURNS)
+	{
+		uint32		count = take_batch();
+
+		idle++;
+		if (count > 0)
+		{
+			load(count);
+			give_outcomes(count);
+			(void) pgstat_report_stat(false);
+			idle = 0;
+		}
+		(void) WaitLatch(MyLatch, WL_LATCH_SET | WL_TIMEOUT | WL_EXIT_ON_PM_DEATH, IDLE_MS,
+						 PG_WAIT_EXTENSION);
+		ResetLatch(MyLatch);
+		CHECK_FOR_INTERRUPTS();
+		if (ConfigReloadPending)
+		{
+			ConfigReloadPending = false;
+			ProcessConfigFile(PGC_SIGHUP);
+		}
+	}
+	proc_exit(0);
+}

@@ -1,0 +1,112 @@
+/*-------------------------------------------------------------------------
+ *
+ * sample.c
+ *		References, from the buffer descriptors of a primary.
+ *
+ * A page is taken as referenced at the time of a sample where its usage count
+ * rose since the sample before, or where it came in.  So a page has at most
+ * one reference a sample, however often it is pinned between two of them: the
+ * interval is LRU-2's correlated reference period.
+ *
+ * A count that is at its greatest cannot rise.  Where the clock sweep is slow,
+ * or the data fits, the hottest pages would look unused, and the horizon would
+ * forget them: each of these is taken as referenced once a minute.
+ *
+ *-------------------------------------------------------------------------
+ */
+#include "postgres.h"
+
+#include "common/hashfn.h"
+#include "miscadmin.h"
+#include "utils/memutils.h"
+#include "warm_standby.h"
+
+#define SATURATED_US	(60 * US_PER_S)
+#define SEEN_NONE		UINT64CONST(15)
+
+/* For each buffer a hash of its page, with its usage count in the last bits. */
+static uint64 *seen = NULL;
+static bool is_first = true;
+static uint64 saturated_at = 0;
+
+/*
+ * Reads the tag and the state of a valid buffer.  The descriptor is read
+ * without its lock, and with it only where it is locked or changes meanwhile.
+ * A buffer that gets another page and the same state within these few
+ * instructions may give a tag of both: a hint of no page, which does no harm.
+ */
+bool
+ws_look(int buffer, BufferTag *tag, uint32 *state)
+{
+	BufferDesc *descriptor = GetBufferDescriptor(buffer);
+	uint32		before = pg_atomic_read_u32(&descriptor->state);
+
+	if (buffer % 65536 == 0)
+		CHECK_FOR_INTERRUPTS(); /* a walk is long, and a drop of a database waits for us */
+	if ((before & BM_VALID) == 0)
+		return false;
+	pg_read_barrier();
+	*tag = descriptor->tag;
+	pg_read_barrier();
+	*state = pg_atomic_read_u32(&descriptor->state);
+	if (*state != before || (before & BM_LOCKED) != 0)
+	{
+		before = LockBufHdr(descriptor);
+		*tag = descriptor->tag;
+		*state = before;
+		UnlockBufHdr(descriptor, before);
+	}
+	return (*state & (BM_VALID | BM_TAG_VALID)) == (BM_VALID | BM_TAG_VALID);
+}
+
+/* The next sample is the first: it only notes what is there. */
+void
+ws_sample_reset(void)
+{
+	if (seen == NULL)
+		seen = MemoryContextAllocHuge(TopMemoryContext, sizeof(uint64) * (Size) NBuffers);
+	is_first = true;
+	saturated_at = ws_us();
+}
+
+/* Whether the page came in, or its count rose, or has been at its greatest for long. */
+static inline bool
+is_referenced(uint64 before, uint64 now, bool saturated)
+{
+	return (before ^ now) > SEEN_NONE || (before & SEEN_NONE) == SEEN_NONE || now > before ||
+		(saturated && (now & SEEN_NONE) == BM_MAX_USAGE_COUNT);
+}
+
+/* Takes a sample. */
+void
+ws_sample(void)
+{
+	uint64		time = ws_clock();
+	uint64		begun = ws_us();
+	bool		saturated = begun - saturated_at >= SATURATED_US;
+
+	if (saturated)
+		saturated_at = begun;
+	for (int i = 0; i < NBuffers; i++)
+	{
+		BufferTag	tag;
+		uint32		state;
+		uint64		mark = SEEN_NONE;
+		warm_page	page;
+
+		/* Pages of unlogged relations are not on a standby. */
+		if (ws_look(i, &tag, &state) && (state & BM_PERMANENT) != 0)
+		{
+			mark = hash_bytes_extended((const unsigned char *) &tag, sizeof tag, 0);
+			mark = (mark & ~SEEN_NONE) | BUF_STATE_GET_USAGECOUNT(state);
+			if (!is_first && is_referenced(seen[i], mark, saturated) &&
+				ws_page_of(&tag, true, &page))
+				ws_reference(page, time);
+		}
+		seen[i] = mark;
+	}
+	ws_references_end();
+	is_first = false;
+	ws_stats.samples++;
+	ws_stats.sample_us = ws_us() - begun;
+}

@@ -1,0 +1,46 @@
+CREATE EXTENSION warm_standby;
+-- settings: units, ranges, contexts
+SELECT name, setting, unit, context, vartype, min_val, max_val
+FROM pg_settings WHERE name LIKE 'warm\_standby.%'
+AND name NOT IN ('warm_standby.sample_interval', 'warm_standby.publish_interval',
+                 'warm_standby.full_interval', 'warm_standby.load_interval',
+                 'warm_standby.load_rate')
+ORDER BY name COLLATE "C";
+SELECT count(*) AS settings, count(*) FILTER (WHERE context = 'sighup') AS by_sighup,
+       count(*) FILTER (WHERE short_desc = '') AS without_description
+FROM pg_settings WHERE name LIKE 'warm\_standby.%';
+SET warm_standby.fraction = 0.5; -- error: not in a session
+-- the worker is a primary's, and samples
+SELECT role, samples > 0 AS samples, refused, refused_by_name, save_failures
+FROM pg_stat_warm_standby;
+-- a table that is read is among the hottest
+CREATE TABLE warm (i int);
+INSERT INTO warm SELECT generate_series(1, 20000);
+DO $$
+BEGIN
+    FOR n IN 1..50 LOOP
+        PERFORM count(*) FROM warm;
+        PERFORM pg_sleep(0.1);
+        EXIT WHEN EXISTS (SELECT FROM warm_standby_hot_relations() WHERE relation = 'warm'::regclass);
+    END LOOP;
+END
+$$;
+SELECT relation, pages > 0 AS pages FROM warm_standby_hot_relations()
+WHERE relation = 'warm'::regclass;
+SELECT count(*) FROM warm_standby_hottest(3);
+SELECT count(*) FROM warm_standby_hottest(0);
+-- privileges: pg_monitor, and nobody else
+CREATE ROLE regress_warm_nobody;
+CREATE ROLE regress_warm_monitor IN ROLE pg_monitor;
+SET ROLE regress_warm_nobody;
+SELECT count(*) FROM pg_stat_warm_standby; -- error
+SELECT count(*) FROM warm_standby_hottest(); -- error
+SET ROLE regress_warm_monitor;
+SELECT count(*) FROM pg_stat_warm_standby;
+SELECT count(*) > 0 AS some FROM warm_standby_hottest();
+RESET ROLE;
+DROP ROLE regress_warm_nobody, regress_warm_monitor;
+-- what users write is no message of ours
+SELECT pg_logical_emit_message(false, 'warm_standby', 'forged') IS NOT NULL AS written;
+DROP TABLE warm;
+DROP EXTENSION warm_standby;

@@ -1,0 +1,25 @@
+/* postgres/test/emit.c: a function of the tests alone, that writes any bytes as a message */
+#include "postgres.h"
+
+#include "access/xloginsert.h"
+#include "fmgr.h"
+#include "replication/message.h"
+
+PG_MODULE_MAGIC;
+
+PG_FUNCTION_INFO_V1(emit_message);
+
+Datum
+emit_message(PG_FUNCTION_ARGS)
+{
+	bytea	   *bytes = PG_GETARG_BYTEA_PP(0);
+	xl_logical_message record = {.dbId = InvalidOid, .prefix_size = sizeof "warm_standby",
+	.message_size = VARSIZE_ANY_EXHDR(bytes)};
+
+	XLogBeginInsert();
+	XLogRegisterData((char *) &record, SizeOfLogicalMessage);
+	XLogRegisterData((char *) "warm_standby", sizeof "warm_standby");
+	XLogRegisterData(VARDATA_ANY(bytes), VARSIZE_ANY_EXHDR(bytes));
+	XLogInsert(RM_LOGICALMSG_ID, XLOG_LOGICAL_MESSAGE);
+	PG_RETURN_VOID();
+}
