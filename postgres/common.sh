@@ -1,9 +1,12 @@
-# What check and measure share. Sourced, with $here the folder of the extension and $library one that scripts/c-library made.
+# What check and measure share. Sourced, with $here the folder of the extension and $library a path of libwarm_c.a.
 #
 # The servers are of a copy of Debian's PostgreSQL in a folder of its own, into which the extension is installed: programs of
 # PostgreSQL look for their files beside themselves. They listen on a socket in that folder, and on no address.
 
 version=${PG_VERSION:-15}
+folder_of_library=$(dirname "$(dirname "$library")")
+"$here/../scripts/need" "/usr/lib/postgresql/$version/bin/postgres:postgresql-$version" gcc:gcc make:make prlimit:util-linux \
+    "/usr/include/postgresql/$version/server/postgres.h:postgresql-server-dev-$version" runuser:util-linux
 
 fail() {
     echo "postgres: $*" >&2
@@ -53,10 +56,10 @@ clean_up() {
 # Builds the extension, without a warning, and installs it into the copy.
 build() {
     local config=/usr/lib/postgresql/$version/bin/pg_config
-    make -s -C "$work/build" PG_CONFIG="$config" WARM="$library" with_llvm=no PROFILE=-Werror > "$work/build.log" 2>&1 &&
+    make -s -C "$work/build" PG_CONFIG="$config" WARM="$folder_of_library" with_llvm=no PROFILE=-Werror > "$work/build.log" 2>&1 &&
         make -s -C "$work/build/test" PG_CONFIG="$config" with_llvm=no PROFILE=-Werror >> "$work/build.log" 2>&1 ||
         fail "the extension is not built: $(tail -n 20 "$work/build.log")"
-    make -s -C "$work/build" PG_CONFIG="$config" WARM="$library" with_llvm=no DESTDIR="$work" install >> "$work/build.log" 2>&1 ||
+    make -s -C "$work/build" PG_CONFIG="$config" WARM="$folder_of_library" with_llvm=no DESTDIR="$work" install >> "$work/build.log" 2>&1 ||
         fail "the extension is not installed: $(tail -n 20 "$work/build.log")"
 }
 
@@ -92,7 +95,7 @@ make_primary() {
         "max_worker_processes = 16" "max_connections = 40" "log_min_messages = info" "track_io_timing = on" "autovacuum_naptime = 1h" \
         "shared_preload_libraries = 'pg_stat_statements,pg_prewarm,warm_standby'" "pg_prewarm.autoprewarm = off" \
         "pg_stat_statements.save = off" "warm_standby.sample_interval = 200ms" "warm_standby.publish_interval = 1s" \
-        "warm_standby.full_interval = 30s" "warm_standby.load_interval = 500ms" "warm_standby.load_rate = 4000"
+        "warm_standby.full_interval = 10s" "warm_standby.load_interval = 500ms" "warm_standby.load_rate = 4000"
     start "$1"
 }
 
@@ -120,6 +123,13 @@ caught_up() {
     local lsn
     lsn=$(sql "$2" "select pg_current_wal_lsn()")
     until_true 20 "$1" "select pg_last_wal_replay_lsn() >= '$lsn'"
+}
+
+# load SERVER TRANSACTIONS SEED SEED2 [RATE]: by four clients. Rows are drawn by Zipf's law; seed2 says which are hot for a third of them.
+load() {
+    as "$bin/pgbench" -n -h "$work/run" -p "$(port "$1")" -c 4 -j 1 -t $(($2 / 4)) ${5:+-R "$5"} --random-seed="$3" -D rows="$rows" -D zipf="$zipf" \
+        -D seed2="$4" -f "$work/build/test/zipf.sql@65" -f "$work/build/test/drift.sql@30" -f "$work/build/test/update.sql@5" postgres \
+        > "$work/load.log" 2>&1 || fail "the load on $1: $(tail -n 3 "$work/load.log")"
 }
 
 # misses SERVER: pages that the workload read into shared buffers so far.

@@ -37,8 +37,9 @@ uint64		ws_latest = 0;	/* the latest time given or heard of */
 
 static warm history = {0};
 static uint16 replica = 1;		/* of a primary, by its timeline */
-static warm_reference references[REFERENCES];
-static int	reference_count = 0;
+/* References that wait, by bucket: the history takes a run of one bucket in fastest. */
+static warm_reference references[WS_BUCKETS][REFERENCES];
+static int	reference_counts[WS_BUCKETS];
 
 static const char *own_names[] = {"BadMessage", "BadVersion", "BadDirectory", "OtherDirectory",
 "LateMessage"};
@@ -66,7 +67,7 @@ open_history(void)
 		ereport(ERROR,
 				(errcode(ERRCODE_OUT_OF_MEMORY),
 				 errmsg("warm_standby could not open its history: %s", ws_shared->names[status])));
-	reference_count = 0;
+	memset(reference_counts, 0, sizeof reference_counts);
 	ws_changed_buckets = 0;
 }
 
@@ -80,8 +81,8 @@ ws_history_reset(const char *why)
 	(void) unlink(DIRECTORY_FILE);
 	ws_directory_reset();
 	open_history();
-	ws_publish_reset();			/* the numbers are given, saved and sent anew */
 	ws_latest = 0;
+	ws_publish_reset();			/* the numbers are given, saved and sent again */
 	ws_stats.resets++;
 }
 
@@ -120,24 +121,33 @@ note(int status)
 	return status;
 }
 
+static void
+absorb(int bucket)
+{
+	note(warm_absorb(&history, references[bucket], reference_counts[bucket]));
+	reference_counts[bucket] = 0;
+}
+
 /* Hands in what ws_reference has kept. */
 void
 ws_references_end(void)
 {
-	note(warm_absorb(&history, references, reference_count));
-	reference_count = 0;
+	for (int bucket = 0; bucket < WS_BUCKETS; bucket++)
+		absorb(bucket);
 }
 
-/* Hands in one reference, with others. */
+/* Hands in one reference, with others of its bucket. */
 void
 ws_reference(warm_page page, uint64 time)
 {
-	references[reference_count++] = (warm_reference) {.time = time, .no = page.no, .dev = page.dev,
-	.replica = replica};
-	ws_changed_buckets |= UINT64CONST(1) << ((page.dev + page.no) % 64);
+	int			bucket = (page.dev + page.no) % WS_BUCKETS;
+
+	references[bucket][reference_counts[bucket]++] = (warm_reference) {.time = time, .no = page.no,
+	.dev = page.dev, .replica = replica};
+	ws_changed_buckets |= UINT64CONST(1) << bucket;
 	ws_stats.page_references++;
-	if (reference_count == REFERENCES)
-		ws_references_end();
+	if (reference_counts[bucket] == REFERENCES)
+		absorb(bucket);
 }
 
 /*
@@ -153,12 +163,16 @@ ws_history_receive(const uint8 *frame, Size length)
 	return note(warm_receive(&history, frame, length));
 }
 
-/* The next frame of a bucket, of at most WS_FRAME_ROOM bytes; false where it is refused. */
+/*
+ * Writes the frame of a bucket's next entries with a stamp since then, at most
+ * WS_FRAME_ROOM bytes; the page of its last entry; and whether more follow.
+ */
 bool
-ws_history_piece(uint8 bucket, bool has_after, warm_page after, uint8 *frame, Size *length)
+ws_history_piece(uint8 bucket, uint64 since, bool has_after, warm_page *after, uint8 *frame,
+				 Size *length, bool *more)
 {
-	return note(warm_send(&history, bucket, has_after, after, frame, WS_FRAME_ROOM,
-						  length)) == WARM_OK;
+	return note(warm_send_since(&history, bucket, since, has_after, *after, frame, WS_FRAME_ROOM,
+								length, more, after)) == WARM_OK;
 }
 
 /* The hottest pages, hottest first. */

@@ -140,14 +140,14 @@ try_file(WsRequest *some, int count)
 			some[i].outcome = rest;
 }
 
-/* Whether the worker that started this loader is there, on a standby. */
+/* Whether the worker that started this loader is there, on a standby, and wants it. */
 static bool
 is_needed(void)
 {
 	bool		needed;
 
 	LWLockAcquire(ws_shared->lock, LW_SHARED);
-	needed = ws_shared->epoch == epoch;
+	needed = ws_shared->epoch == epoch && !slot->leave;
 	LWLockRelease(ws_shared->lock);
 	return needed && RecoveryInProgress();
 }

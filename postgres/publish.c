@@ -21,31 +21,41 @@
 #include "replication/message.h"
 #include "warm_standby.h"
 
-#define BUCKETS			64
-#define FRAME_HEADER	23		/* of a frame of entries, with its count */
-#define FRAME_ENTRIES	1000
+#define FRAME_HEADER	23		/* a frame without an entry is as long */
 #define DEVICES_A_MESSAGE 1000
 #define MOST_LATE_US	(60 * US_PER_S)
 #define DIRECTORY_US	(10 * US_PER_S)
 
-/* Where the publication is: a bucket, and the page after which it goes on. */
-static bool is_sending, has_after;
-static uint8 bucket;
-static warm_page after;
+/* A walk over a bucket, piece by piece. */
+typedef struct Walk
+{
+	bool		is_on;			/* more pieces follow */
+	bool		has_after;
+	uint8		bucket;
+	warm_page	after;			/* the last page that was sent */
+	uint64		since;			/* of stamps: earlier ones are not sent */
+} Walk;
 
+static Walk changes, in_turn;
+static uint64 sent_until[WS_BUCKETS];	/* stamps of a bucket before this were sent */
 static uint8 next_changed = 0;	/* where the search for a changed bucket begins */
 static uint8 next_in_turn = 0;
 static int	devices_saved, devices_sent;	/* the numbers below these */
 static uint64 directory_at;		/* when all of it was sent last */
 static int64 allowance = 0;		/* bytes that may be sent now */
 static XLogRecPtr last_message = InvalidXLogRecPtr;
-static uint64 paid_at, turn_at; /* turn: when the next bucket in turn is due */
+static uint64 paid_at, turn_at; /* turn: when the last bucket in turn was due */
 
-/* The next publication sends the directory first. */
+/*
+ * The next publication sends the directory first.  What the history has by now
+ * is not new: either it came by the WAL, or it is sent in turn.
+ */
 void
 ws_publish_reset(void)
 {
-	is_sending = false;
+	changes.is_on = in_turn.is_on = false;
+	for (int i = 0; i < WS_BUCKETS; i++)
+		sent_until[i] = ws_latest + 1;
 	devices_saved = devices_sent = 0;
 	allowance = 0;
 	directory_at = paid_at = turn_at = ws_us();
@@ -99,58 +109,63 @@ send_directory(uint64 now)
 	}
 }
 
-/*
- * Sends the next piece of the bucket, and notes whether more of it follows.
- *
- * Until the library has warm_send_since, a bucket whose pages changed is sent
- * whole: the change that brings it sends here the entries alone that are not
- * older than the bucket's last publication, and takes this comment away.
- */
-static void
-send_piece(void)
+/* Sends the next piece of a bucket; where it is refused, it is the next one still. */
+static bool
+send_piece(Walk *walk)
 {
 	uint8		message[WS_HEADER + WS_FRAME_ROOM];
-	const uint8 *at = message + WS_HEADER + FRAME_HEADER;
 	Size		length;
-	uint64		count;
 
-	is_sending = ws_history_piece(bucket, has_after, after, message + WS_HEADER, &length);
-	if (!is_sending)
-		return;
-	count = ws_get(at - 4, 4);
-	for (; at < message + WS_HEADER + length; at += 11 + 10 * at[10])
-	{
-		after.dev = (uint16) ws_get(at, 2);
-		after.no = ws_get(at + 2, 8);
-	}
-	if (count > 0)
+	if (!ws_history_piece(walk->bucket, walk->since, walk->has_after, &walk->after,
+						  message + WS_HEADER, &length, &walk->is_on))
+		return false;
+	walk->has_after = true;
+	if (length > FRAME_HEADER)
 		emit(WS_MESSAGE_FRAME, message, WS_HEADER + length);
-	has_after = true;
-	is_sending = count == FRAME_ENTRIES;
+	return true;
 }
 
-/* Takes the next bucket that changed, or that is due in turn. */
+/* Begins a walk over what is new in the next bucket that changed, where one did. */
 static bool
-next_bucket(uint64 now)
+begin_change(void)
 {
-	if (ws_changed_buckets != 0)
-	{
-		while ((ws_changed_buckets >> next_changed & 1) == 0)
-			next_changed = (next_changed + 1) % BUCKETS;
-		bucket = next_changed;
-		ws_changed_buckets &= ~(UINT64CONST(1) << bucket);
-		next_changed = (bucket + 1) % BUCKETS;	/* those that change often do not shut others out */
-	}
-	else if (now >= turn_at)
-	{
-		bucket = next_in_turn;
-		next_in_turn = (next_in_turn + 1) % BUCKETS;
-		turn_at += ws_full_interval * US_PER_S / BUCKETS;
-	}
-	else
+	if (ws_changed_buckets == 0)
 		return false;
-	has_after = false;
+	while ((ws_changed_buckets >> next_changed & 1) == 0)
+		next_changed = (next_changed + 1) % WS_BUCKETS;
+	changes = (Walk) {.is_on = true, .bucket = next_changed, .since = sent_until[next_changed]};
+	/* The next sample's time is later than the latest. */
+	sent_until[next_changed] = ws_latest + 1;
+	ws_changed_buckets &= ~(UINT64CONST(1) << next_changed);
+	next_changed = (next_changed + 1) % WS_BUCKETS;	/* no bucket shuts others out */
 	return true;
+}
+
+/* Begins a walk over all of the next bucket in turn, where it is due. */
+static bool
+begin_turn(uint64 now)
+{
+	uint64		rest = ws_full_interval * US_PER_S / WS_BUCKETS;
+
+	if (now - turn_at < rest)
+		return false;
+	/* A turn that is late is caught up with, but not one of long ago. */
+	turn_at = Max(turn_at + rest, now - Min(now, rest + MOST_LATE_US));
+	in_turn = (Walk) {.is_on = true, .bucket = next_in_turn};
+	next_in_turn = (next_in_turn + 1) % WS_BUCKETS;
+	return true;
+}
+
+/* The walk that goes on.  Where both have a piece to send they alternate, so neither waits for ever. */
+static Walk *
+next_walk(uint64 now)
+{
+	static bool is_turn = false;
+	bool		has_change = changes.is_on || begin_change();
+	bool		has_turn = in_turn.is_on || begin_turn(now);
+
+	is_turn = has_turn && !(has_change && is_turn);
+	return is_turn ? &in_turn : has_change ? &changes : NULL;
 }
 
 /* Sends what is new, as far as the rate allows; the rest waits. */
@@ -159,16 +174,17 @@ ws_publish(void)
 {
 	uint64		now = ws_us();
 	int64		rate = ws_publish_rate * INT64CONST(1024);
+	Walk	   *walk;
 
 	allowance += (int64) (rate * ((now - paid_at) / 1e6));
 	allowance = Min(allowance, Max(rate, WS_FRAME_ROOM) * 10);
 	paid_at = now;
-	turn_at = Max(turn_at + MOST_LATE_US, now) - MOST_LATE_US;
 	send_directory(now);
-	while (allowance > 0 && !ShutdownRequestPending && (is_sending || next_bucket(now)))
+	while (allowance > 0 && !ShutdownRequestPending && (walk = next_walk(now)) != NULL)
 	{
 		CHECK_FOR_INTERRUPTS();
-		send_piece();
+		if (!send_piece(walk))
+			break;
 	}
 	XLogSetAsyncXactLSN(last_message);	/* so that the WAL writer does not leave it */
 }

@@ -22,6 +22,9 @@
 #define FORGIVE_US		(300 * US_PER_S)
 #define MOST_UNLOADABLE 65536
 
+/* How long a loader works at least, where another database waits for one. */
+#define TERM_US			(5 * US_PER_S)
+
 typedef struct Wanted
 {
 	warm_page	page;			/* the key */
@@ -49,6 +52,9 @@ static HTAB *unloadable = NULL;
 static uint64 unloadable_since;
 static MemoryContext round_context = NULL;
 static BackgroundWorkerHandle *handles[WS_MOST_LOADERS];
+static uint64 started_at[WS_MOST_LOADERS];
+static Oid	next_of[WS_MOST_LOADERS];	/* the database that gets a slot next */
+static Oid	waiting;			/* the one that found no slot, whose page is hottest */
 static uint64 round_at;			/* when the last round began */
 static double load_allowance;	/* pages that may be read now */
 static uint64 complained_at = 0;
@@ -105,15 +111,19 @@ note_unloadable(const WsLoader *loader, bool ended)
 	}
 }
 
-/* Makes a slot empty; with ended, of no database. */
+/* Makes a slot empty; with ended, of the database that waits for it, or of none. */
 static void
-clear_slot(WsLoader *loader, bool ended)
+clear_slot(int slot, bool ended)
 {
+	WsLoader   *loader = &ws_shared->loaders[slot];
+
 	loader->state = WS_SLOT_IDLE;
 	loader->count = 0;
 	if (ended)
 	{
-		loader->database = InvalidOid;
+		loader->database = next_of[slot];
+		next_of[slot] = InvalidOid;
+		loader->leave = false;
 		loader->latch = NULL;
 	}
 }
@@ -122,9 +132,10 @@ clear_slot(WsLoader *loader, bool ended)
 void
 ws_rank_reset(void)
 {
+	memset(next_of, 0, sizeof next_of);
 	LWLockAcquire(ws_shared->lock, LW_EXCLUSIVE);
 	for (int i = 0; i < ws_shared->loader_count; i++)
-		clear_slot(&ws_shared->loaders[i], true);
+		clear_slot(i, true);
 	LWLockRelease(ws_shared->lock);
 	memset(handles, 0, sizeof handles);
 	if (round_context == NULL)
@@ -148,6 +159,7 @@ start_loader(int slot)
 	worker.bgw_main_arg = Int32GetDatum(slot);
 	memcpy(worker.bgw_extra, &ws_shared->epoch, sizeof ws_shared->epoch);
 	started = RegisterDynamicBackgroundWorker(&worker, &handles[slot]);
+	started_at[slot] = round_at;
 	MemoryContextSwitchTo(old);
 	if (!started && round_at - complained_at > FORGIVE_US)
 	{
@@ -181,7 +193,7 @@ reap_loaders(void)
 		LWLockAcquire(ws_shared->lock, LW_EXCLUSIVE);
 		note_unloadable(loader, ended);
 		if (loader->state == WS_SLOT_DONE || ended)
-			clear_slot(loader, ended);
+			clear_slot(i, ended);
 		LWLockRelease(ws_shared->lock);
 	}
 }
@@ -213,6 +225,8 @@ hand_out(warm_page page, bool prefetch)
 	int			slot = named ? slot_of(request.page.device.database) : -1;
 	WsLoader   *loader = &ws_shared->loaders[Max(slot, 0)];
 
+	if (named && slot < 0 && !OidIsValid(waiting) && !prefetch)
+		waiting = request.page.device.database;
 	if (slot < 0 || loader->state != WS_SLOT_IDLE || loader->count == WS_BATCH)
 		return false;
 	if (!OidIsValid(loader->database))
@@ -221,7 +235,25 @@ hand_out(warm_page page, bool prefetch)
 	return true;
 }
 
-/* Lets the loaders have what was kept for them. */
+/* Ends the loader that has worked longest, where another database waits.  Under the lock. */
+static void
+make_room(void)
+{
+	int			oldest = 0;
+
+	for (int i = 1; i < ws_shared->loader_count; i++)
+		if (started_at[i] < started_at[oldest])
+			oldest = i;
+	if (handles[oldest] == NULL || round_at - started_at[oldest] < TERM_US)
+		return;
+	ws_shared->loaders[oldest].leave = true;
+	next_of[oldest] = waiting;
+}
+
+/*
+ * Lets the loaders have what was kept for them.  A slot that waits for a
+ * database which wants nothing any more is free again.
+ */
 static void
 send_batches(void)
 {
@@ -237,9 +269,11 @@ send_batches(void)
 			loader->state = WS_SLOT_FULL;
 		if (has_work && loader->latch != NULL)
 			SetLatch(loader->latch);
+		if (!has_work && handles[i] == NULL)
+			loader->database = InvalidOid;
 		LWLockRelease(ws_shared->lock);
 		if (has_work && handles[i] == NULL && !start_loader(i))
-			clear_slot(loader, true);	/* nobody else knows of it */
+			clear_slot(i, true);	/* nobody else knows of it */
 	}
 }
 
@@ -332,9 +366,12 @@ static void
 load_pages(void)
 {
 	LWLockAcquire(ws_shared->lock, LW_EXCLUSIVE);
+	waiting = InvalidOid;
 	for (Size i = 0; i < wanted_count && load_allowance >= 1; i++)
 		if (!resident[i] && hand_out(pages[i], false))
 			load_allowance--;
+	if (OidIsValid(waiting))
+		make_room();
 	if (round_at - prefetched_since > FORGIVE_US)
 	{
 		prefetched = 0;

@@ -56,6 +56,12 @@ open_segment(XLogSegNo number, TimeLineID timeline)
 	close_segment();
 	XLogFilePath(path, timeline, number, wal_segment_size);
 	segment = BasicOpenFile(path, O_RDONLY | PG_BINARY);
+	if (segment < 0 && errno == ENOENT)
+	{
+		/* A promotion renames the last segment of the timeline before it. */
+		strlcat(path, ".partial", sizeof path);
+		segment = BasicOpenFile(path, O_RDONLY | PG_BINARY);
+	}
 	segment_number = number;
 	segment_timeline = timeline;
 	return segment >= 0;

@@ -40,6 +40,7 @@
 /* Pages handed to a loader at a time, and pages that SQL can list. */
 #define WS_BATCH		4096
 #define WS_LISTED		16384
+#define WS_BUCKETS		64		/* of a history, by which it is sent */
 #define WS_MOST_LOADERS 64		/* that warm_standby.max_loaders can ask for */
 
 /* A device of the history: files of one tablespace, database and fork. */
@@ -87,6 +88,7 @@ typedef struct WsLoader
 {
 	Oid			database;		/* InvalidOid: the slot is free */
 	WsSlotState state;
+	bool		leave;			/* the loader is to end */
 	Latch	   *latch;			/* of the loader, NULL while it starts */
 	uint32		count;
 	WsRequest	pages[WS_BATCH];
@@ -178,8 +180,8 @@ extern uint64 ws_latest;
 extern void ws_reference(warm_page page, uint64 time);
 extern void ws_references_end(void);
 extern int	ws_history_receive(const uint8 *frame, Size length);
-extern bool ws_history_piece(uint8 bucket, bool has_after, warm_page after, uint8 *frame,
-							 Size *length);
+extern bool ws_history_piece(uint8 bucket, uint64 since, bool has_after, warm_page *after,
+							 uint8 *frame, Size *length, bool *more);
 extern Size ws_history_list(warm_page *pages, Size room);
 extern void ws_history_bound(void);
 extern bool ws_directory_save(void);
