@@ -199,17 +199,19 @@ known(void)
 /*
  * Forgets pages that were not referenced for too long; and where there are
  * too many pages, the older references of all, in steps of a quarter of the
- * time that is left.  A standby goes by the primary's clock, since by its own,
- * were it ahead, it would forget all.  The history is walked, so it is done once
- * a minute, or where there are more pages than the bound and an eighth.
+ * time that is left.  A standby has the primary's bound by the horizon of its
+ * frames, and one of its own where that is set; it goes by the primary's clock,
+ * since by its own, were it ahead, it would forget all.  The history is walked, so
+ * it is done once a minute, or where there are an eighth too many pages.
  */
 void
 ws_history_bound(void)
 {
 	static uint64 bound_at = 0;
-	Size		most = ws_history_pages > 0 ? ws_history_pages : (Size) NBuffers * 4;
-	uint64		clock = RecoveryInProgress() ? 0 : (uint64) GetCurrentTimestamp();
-	uint64		now = Max(clock, ws_latest);
+	bool		is_standby = RecoveryInProgress();
+	Size		usual = is_standby ? PG_INT32_MAX : (Size) NBuffers * 4;
+	Size		most = ws_history_pages > 0 ? ws_history_pages : usual;
+	uint64		now = Max(is_standby ? 0 : (uint64) GetCurrentTimestamp(), ws_latest);
 	uint64		age = (uint64) ws_history_age * 60 * US_PER_S;
 	uint64		horizon = 0;
 

@@ -25,6 +25,7 @@
 #define DEVICES_A_MESSAGE 1000
 #define MOST_LATE_US	(60 * US_PER_S)
 #define DIRECTORY_US	(10 * US_PER_S)
+#define BURST_S			10
 
 /* A walk over a bucket, piece by piece. */
 typedef struct Walk
@@ -89,13 +90,14 @@ emit(uint8 kind, uint8 *message, Size length)
  * fails, they wait for the next publication.
  */
 static void
-send_directory(uint64 now)
+send_directory(uint64 now, int64 rate)
 {
 	uint8		message[WS_HEADER + DEVICES_A_MESSAGE * WS_DEVICE_BYTES];
+	uint64		cost_us = (uint64) ws_device_count * WS_DEVICE_BYTES * US_PER_S / rate;
 
 	if (devices_saved != ws_device_count && ws_directory_save())
 		devices_saved = ws_device_count;
-	if (now - directory_at > DIRECTORY_US)
+	if (now - directory_at > Max(DIRECTORY_US, cost_us * 10))
 	{
 		devices_sent = 0;
 		directory_at = now;
@@ -176,10 +178,10 @@ ws_publish(void)
 	int64		rate = ws_publish_rate * INT64CONST(1024);
 	Walk	   *walk;
 
-	allowance += (int64) (rate * ((now - paid_at) / 1e6));
-	allowance = Min(allowance, Max(rate, WS_FRAME_ROOM) * 10);
+	/* What was not used in the last seconds may be; a message may take more, of the next ones. */
+	allowance = Min(allowance + (int64) (rate * ((now - paid_at) / 1e6)), rate * BURST_S);
 	paid_at = now;
-	send_directory(now);
+	send_directory(now, rate);
 	while (allowance > 0 && !ShutdownRequestPending && (walk = next_walk(now)) != NULL)
 	{
 		CHECK_FOR_INTERRUPTS();
