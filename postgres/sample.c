@@ -10,7 +10,8 @@
  *
  * A count that is at its greatest cannot rise.  Where the clock sweep is slow,
  * or the data fits, the hottest pages would look unused, and the horizon would
- * forget them: each of these is taken as referenced once a minute.
+ * forget them: each of these is taken as referenced once more in the sample
+ * after, so that it has two references, and then once a minute.
  *
  *-------------------------------------------------------------------------
  */
@@ -74,7 +75,7 @@ static inline bool
 is_referenced(uint64 before, uint64 now, bool saturated)
 {
 	return (before ^ now) > SEEN_NONE || (before & SEEN_NONE) == SEEN_NONE || now > before ||
-		(saturated && (now & SEEN_NONE) == BM_MAX_USAGE_COUNT);
+		(saturated && (now & SEEN_NONE) >= BM_MAX_USAGE_COUNT);
 }
 
 /* Takes a sample. */
@@ -99,6 +100,8 @@ ws_sample(void)
 		{
 			mark = hash_bytes_extended((const unsigned char *) &tag, sizeof tag, 0);
 			mark = (mark & ~SEEN_NONE) | BUF_STATE_GET_USAGECOUNT(state);
+			if (BUF_STATE_GET_USAGECOUNT(state) == BM_MAX_USAGE_COUNT && seen[i] - mark <= 1)
+				mark++;			/* for the second time at least */
 			if (!is_first && is_referenced(seen[i], mark, saturated) &&
 				ws_page_of(&tag, true, &page))
 				ws_reference(page, time);

@@ -1,6 +1,7 @@
 /* postgres/test/emit.c: a function of the tests alone, that writes any bytes as a message */
 #include "postgres.h"
 
+#include "access/xlog.h"
 #include "access/xloginsert.h"
 #include "fmgr.h"
 #include "replication/message.h"
@@ -20,6 +21,6 @@ emit_message(PG_FUNCTION_ARGS)
 	XLogRegisterData((char *) &record, SizeOfLogicalMessage);
 	XLogRegisterData((char *) "warm_standby", sizeof "warm_standby");
 	XLogRegisterData(VARDATA_ANY(bytes), VARSIZE_ANY_EXHDR(bytes));
-	XLogInsert(RM_LOGICALMSG_ID, XLOG_LOGICAL_MESSAGE);
+	XLogFlush(XLogInsert(RM_LOGICALMSG_ID, XLOG_LOGICAL_MESSAGE));
 	PG_RETURN_VOID();
 }
