@@ -235,19 +235,30 @@ hand_out(warm_page page, bool prefetch)
 	return true;
 }
 
-/* Ends the loader that has worked longest, where another database waits.  Under the lock. */
+/* Ends a loader, where another database waits: an idle one, or that which has worked longest.  Under the lock. */
 static void
 make_room(void)
 {
-	int			oldest = 0;
+	int			least = -1;
+	uint64		since = round_at - TERM_US;
 
-	for (int i = 1; i < ws_shared->loader_count; i++)
-		if (started_at[i] < started_at[oldest])
-			oldest = i;
-	if (handles[oldest] == NULL || round_at - started_at[oldest] < TERM_US)
+	for (int i = 0; i < ws_shared->loader_count; i++)
+	{
+		const WsLoader *loader = &ws_shared->loaders[i];
+		bool		is_idle = loader->state == WS_SLOT_IDLE && loader->count == 0;
+
+		if (handles[i] != NULL && (is_idle ? 0 : started_at[i]) < since)
+		{
+			since = is_idle ? 0 : started_at[i];
+			least = i;
+		}
+	}
+	if (least < 0)
 		return;
-	ws_shared->loaders[oldest].leave = true;
-	next_of[oldest] = waiting;
+	ws_shared->loaders[least].leave = true;
+	if (ws_shared->loaders[least].latch != NULL)
+		SetLatch(ws_shared->loaders[least].latch);
+	next_of[least] = waiting;
 }
 
 /*
