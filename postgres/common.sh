@@ -86,7 +86,7 @@ configure() {
     printf '%s\n' "$@" | as tee -a "$work/$server/postgresql.conf" > /dev/null
 }
 
-# make_primary NAME SHARED_BUFFERS: a primary with the extension, started.
+# make_primary NAME SHARED_BUFFERS [SETTING..]: a primary with the extension, started.
 make_primary() {
     servers+=("$1")
     as "$bin/initdb" -D "$work/$1" -A trust --locale=C -E UTF8 -N > "$work/initdb.log" || fail "initdb: $(tail "$work/initdb.log")"
@@ -95,7 +95,7 @@ make_primary() {
         "max_worker_processes = 16" "max_connections = 40" "log_min_messages = info" "track_io_timing = on" "autovacuum_naptime = 1h" \
         "shared_preload_libraries = 'pg_stat_statements,pg_prewarm,warm_standby'" "pg_prewarm.autoprewarm = off" \
         "pg_stat_statements.save = off" "warm_standby.sample_interval = 200ms" "warm_standby.publish_interval = 1s" \
-        "warm_standby.full_interval = 10s" "warm_standby.load_interval = 500ms" "warm_standby.load_rate = 4000"
+        "warm_standby.full_interval = 10s" "warm_standby.load_interval = 500ms" "warm_standby.load_rate = 4000" "${@:3}"
     start "$1"
 }
 
