@@ -3,11 +3,9 @@
  * directory.c
  *		The numbers of (tablespace, database, fork).
  *
- * The history names a page by a device, a number of 16 bits, and a number of
- * 64 bits: the relation file number and the block.  The primary gives the
- * device numbers, one after the other, and never gives one again, also where
- * its database was dropped.  Standbys take them as they come, so that a
- * standby that is promoted goes on where the primary ended.
+ * The history names a page by a device and a number, which is the relation file
+ * number and the block.  The primary gives device numbers, and none a second time,
+ * also where a database was dropped.  A standby that is promoted goes on with them.
  *
  *-------------------------------------------------------------------------
  */

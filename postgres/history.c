@@ -4,8 +4,7 @@
  *		The handle of libwarm_c, its clock and horizon, and its files.
  *
  * The handle is the worker's alone: it is opened after the fork, and no other
- * process calls the library.  It is a history and nothing else: its pool has
- * one frame of one byte, and no device.
+ * process uses it.  Its pool has one frame of one byte, and no device.
  *
  *-------------------------------------------------------------------------
  */
@@ -44,16 +43,17 @@ static int	reference_counts[WS_BUCKETS];
 static const char *own_names[] = {"BadMessage", "BadVersion", "BadDirectory", "OtherDirectory",
 "LateMessage"};
 
-/* Writes the name of a status, of WS_NAME_ROOM bytes at most. */
-void
-ws_status_name(int status, char *name)
+/* The name of a status, until the next call. */
+const char *
+ws_status_name(int status)
 {
+	static char name[32];
 	Size		length;
 
 	if (status >= WS_BAD_MESSAGE && status <= WS_LATE_MESSAGE)
-		strlcpy(name, own_names[status - WS_BAD_MESSAGE], WS_NAME_ROOM);
-	else
-		warm_status_name(status, (uint8 *) name, WS_NAME_ROOM, &length);
+		return own_names[status - WS_BAD_MESSAGE];
+	warm_status_name(status, (uint8 *) name, sizeof name - 1, &length);
+	return name;
 }
 
 /* Opens an empty history. */
@@ -66,7 +66,7 @@ open_history(void)
 	if (status != WARM_OK)
 		ereport(ERROR,
 				(errcode(ERRCODE_OUT_OF_MEMORY),
-				 errmsg("warm_standby could not open its history: %s", ws_shared->names[status])));
+				 errmsg("warm_standby could not open its history: %s", ws_status_name(status))));
 	memset(reference_counts, 0, sizeof reference_counts);
 	ws_changed_buckets = 0;
 }
@@ -94,10 +94,9 @@ time_limit(void)
 }
 
 /*
- * The time of a primary's sample, in microseconds since 2000, later than all before it,
- * and than those of a former primary.  A clock that was set back by more than
- * is tolerated would have the new references refused by every standby, and
- * older than all others for as long: the history begins anew.
+ * The time of a primary's sample, later than all before it, and than those of a
+ * former primary.  Where the clock was set back by more than is tolerated, each
+ * standby would refuse the new references: then a new history begins.
  */
 uint64
 ws_clock(void)
@@ -152,7 +151,7 @@ ws_reference(warm_page page, uint64 time)
 
 /*
  * Takes in a frame.  Where this server believed later times than it does now,
- * its horizon may be later than all that comes: the history begins anew.
+ * its horizon may be later than all that comes: then a new history begins.
  */
 int
 ws_history_receive(const uint8 *frame, Size length)
@@ -197,12 +196,10 @@ known(void)
 }
 
 /*
- * Forgets pages that were not referenced for too long; and where there are
- * too many pages, the older references of all, in steps of a quarter of the
- * time that is left.  A standby has the primary's bound by the horizon of its
- * frames, and one of its own where that is set; it goes by the primary's clock,
- * since by its own, were it ahead, it would forget all.  The history is walked, so
- * it is done once a minute, or where there are an eighth too many pages.
+ * Forgets pages without a reference for too long; and where there are too many,
+ * the older references of all, in steps of a quarter of the time that is left.
+ * It walks the history, so it is done once a minute, or where there are an eighth
+ * too many pages.  A standby has its primary's horizon, and goes by its clock.
  */
 void
 ws_history_bound(void)
@@ -228,18 +225,24 @@ ws_history_bound(void)
 	ws_stats.known = known();
 }
 
+/* Makes the draft of a file; -1, and a line in the log, where that fails. */
 static int
-open_draft(void)
+open_draft(const char *path)
 {
+	int			fd;
+
 	(void) unlink(DRAFT_FILE);
-	return OpenTransientFile(DRAFT_FILE, O_CREAT | O_EXCL | O_WRONLY | PG_BINARY);
+	fd = OpenTransientFile(DRAFT_FILE, O_CREAT | O_EXCL | O_WRONLY | PG_BINARY);
+	if (fd < 0)
+		ereport(LOG, (errmsg("warm_standby could not write \"%s\": %m", path)));
+	return fd;
 }
 
 /* Puts the draft into a file's place; where there was a fault, says so and drops it. */
 static bool
 end_draft(int fd, const char *path, const char *fault)
 {
-	if (fd >= 0 && CloseTransientFile(fd) != 0 && fault == NULL)
+	if (CloseTransientFile(fd) != 0 && fault == NULL)
 		fault = strerror(errno);
 	if (fault == NULL && durable_rename(DRAFT_FILE, path, LOG) == 0)
 		return true;
@@ -256,12 +259,12 @@ ws_directory_save(void)
 	uint8	   *bytes = palloc(DIRECTORY_HEADER + ws_device_count * WS_DEVICE_BYTES + 4);
 	const char *fault = NULL;
 	int			next = 0;
-	int			fd = open_draft();
+	int			fd = open_draft(DIRECTORY_FILE);
 	Size		length;
 	pg_crc32c	crc;
 
 	if (fd < 0)
-		return end_draft(fd, DIRECTORY_FILE, strerror(errno));
+		return false;
 	ws_put(ws_put(ws_put(bytes, DIRECTORY_MAGIC, 8), GetSystemIdentifier(), 8), ws_latest, 8);
 	length = ws_directory_encode(&next, ws_device_count, INT_MAX, bytes + DIRECTORY_HEADER) - bytes;
 	INIT_CRC32C(crc);
@@ -278,13 +281,13 @@ ws_directory_save(void)
 static bool
 save_history(void)
 {
-	int			fd = open_draft();
+	int			fd = open_draft(HISTORY_FILE);
 	int			status;
 
 	if (fd < 0)
-		return end_draft(fd, HISTORY_FILE, strerror(errno));
+		return false;
 	status = note(warm_save(&history, fd));
-	return end_draft(fd, HISTORY_FILE, status == WARM_OK ? NULL : ws_shared->names[status]);
+	return end_draft(fd, HISTORY_FILE, status == WARM_OK ? NULL : ws_status_name(status));
 }
 
 /*
@@ -365,7 +368,7 @@ ws_history_start(void)
 		CloseTransientFile(fd);
 		if (status != WARM_OK)
 			ereport(LOG, (errmsg("warm_standby does not use \"%s\": %s", HISTORY_FILE,
-								 ws_shared->names[status])));
+								 ws_status_name(status))));
 	}
 	ws_history_bound();
 }

@@ -3,11 +3,9 @@
  * loader.c
  *		The worker that reads the pages of one database of a standby.
  *
- * A loader takes a batch from its slot, and reads it file by file, in short
- * transactions of some pages each.  Each holds AccessShareLock on the relation,
- * which keeps the replay of a drop or a truncation from passing it; where the
- * lock is not free at once, the pages are left for later.  So a loader waits for
- * no lock but those of catalogs, and replay waits for these few reads at most.
+ * A loader reads its batch file by file, in short transactions of some pages
+ * each, under AccessShareLock, which no drop or truncation passes.  It waits for no
+ * lock but those of catalogs, and replay waits for these few reads at most.
  *
  *-------------------------------------------------------------------------
  */
@@ -204,10 +202,7 @@ give_outcomes(uint32 count)
 	memset(&done, 0, sizeof done);
 }
 
-/*
- * Gives the slot back, with a batch that it may have got meanwhile.  One that
- * could not connect leaves its batch, by which the worker sees that.
- */
+/* Gives the slot back.  One that could not connect leaves its batch, by which the worker sees that. */
 static void
 leave(int code, Datum arg)
 {

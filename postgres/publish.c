@@ -3,12 +3,10 @@
  * publish.c
  *		Messages into the WAL of a primary.
  *
- * A message is a logical message of no database, so that logical decoding
- * shows it to nobody, and that no user can write one by SQL.  Replaying it does
- * nothing, also on a standby without this library.
- *
- * What changed is sent at each publication, and everything in turn, slowly, so
- * that a standby that comes late learns all.  Both keep to a rate of bytes.
+ * A message is a logical message of no database: logical decoding shows it to
+ * nobody, no user can write one by SQL, and replaying it does nothing, also
+ * without this library.  What is new is sent at each publication, and everything in
+ * turn, slowly, so that a standby that comes late learns all.
  *
  *-------------------------------------------------------------------------
  */
@@ -84,10 +82,9 @@ emit(uint8 kind, uint8 *message, Size length)
 }
 
 /*
- * Sends the numbers of devices that were not sent; now and then all of them,
- * since no standby uses a page whose device it does not know.  They are saved
- * first, so that a primary that crashed does not give them again; where that
- * fails, they wait for the next publication.
+ * Sends the numbers of devices that were not sent; now and then all of them.
+ * They are saved first, so that a primary that crashed does not give them again;
+ * where that fails, they wait for the next publication.
  */
 static void
 send_directory(uint64 now, int64 rate)

@@ -4,10 +4,8 @@
  *		Which pages a standby wants, has, touches and loads.
  *
  * A round ranks the history, walks the buffer descriptors once, and hands the
- * hottest pages that are wanted and not resident to the loaders.  Those that
- * are resident get a usage count by their rank, so that the clock sweep takes
- * colder ones first.  The count is set below the descriptor's own lock: no
- * page is pinned, and no relation locked, for a touch.
+ * hottest pages that are missing to the loaders.  A touch gives one that is resident
+ * a usage count by its rank, below the descriptor's lock: no page is pinned.
  *
  *-------------------------------------------------------------------------
  */
@@ -44,10 +42,7 @@ typedef struct Wanted
 #define SH_DEFINE
 #include "lib/simplehash.h"
 
-/*
- * Pages; with block InvalidBlockNumber whole files; and with file InvalidOid too
- * whole databases, whose device has nothing else.
- */
+/* Pages; without a block whole files; and without a file too, databases. */
 static HTAB *unloadable = NULL;
 static uint64 unloadable_since;
 static MemoryContext round_context = NULL;
@@ -92,7 +87,7 @@ is_unloadable(const WsPage *page)
 		 hash_search(unloadable, &database, HASH_FIND, NULL) != NULL);
 }
 
-/* Notes what a loader could not read; of one that has ended, its database. */
+/* Notes what a loader could not read; of one that ended and left its batch, its database. */
 static void
 note_unloadable(const WsLoader *loader, bool ended)
 {
@@ -170,11 +165,7 @@ start_loader(int slot)
 	return started;
 }
 
-/*
- * Frees the slots of loaders that have ended, and notes what others answered.
- * One that left a batch could not connect: its database is left alone for a
- * while.
- */
+/* Frees the slots of loaders that have ended, and notes what others answered. */
 static void
 reap_loaders(void)
 {
@@ -261,10 +252,7 @@ make_room(void)
 	next_of[least] = waiting;
 }
 
-/*
- * Lets the loaders have what was kept for them.  A slot that waits for a
- * database which wants nothing any more is free again.
- */
+/* Lets the loaders have what was kept for them.  A slot whose next database wants nothing is free. */
 static void
 send_batches(void)
 {

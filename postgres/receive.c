@@ -4,10 +4,9 @@
  *		Messages out of the WAL of a standby.
  *
  * The worker reads the WAL that was replayed, from pg_wal, by an XLogReader of
- * its own.  Nothing is hooked: the startup process does not know of it, so
- * no message of ours makes replay wait or fail.  Where the worker
- * falls behind until a segment is gone, or a record cannot be read, it goes on
- * at the end of what was replayed, and counts the bytes that it skipped.
+ * its own.  Nothing is hooked, so no message makes replay wait or fail.  Where a
+ * segment is gone, or a record cannot be read, it goes on at the end of what was
+ * replayed, and counts the bytes that it skipped.
  *
  *-------------------------------------------------------------------------
  */

@@ -3,15 +3,11 @@
  * sample.c
  *		References, from the buffer descriptors of a primary.
  *
- * A page is taken as referenced at the time of a sample where its usage count
- * rose since the sample before, or where it came in.  So a page has at most
- * one reference a sample, however often it is pinned between two of them: the
- * interval is LRU-2's correlated reference period.
- *
- * A count that is at its greatest cannot rise.  Where the clock sweep is slow,
- * or the data fits, the hottest pages would look unused, and the horizon would
- * forget them: each of these is taken as referenced once more in the sample
- * after, so that it has two references, and then once a minute.
+ * A page is referenced at the time of a sample where it came in since the sample
+ * before, or its usage count rose: at most once a sample, which is LRU-2's
+ * correlated reference period.  A count at its greatest cannot rise: where it stays,
+ * the page is taken as referenced at the next sample, so that it has two
+ * references, and then once a minute, so that the horizon does not forget it.
  *
  *-------------------------------------------------------------------------
  */
@@ -31,10 +27,9 @@ static bool is_first = true;
 static uint64 saturated_at = 0;
 
 /*
- * Reads the tag and the state of a valid buffer.  The descriptor is read
- * without its lock, and with it only where it is locked or changes meanwhile.
- * A buffer that gets another page and the same state within these few
- * instructions may give a tag of both: a hint of no page, which does no harm.
+ * Reads the tag and the state of a valid buffer, without its lock unless it is
+ * locked or changes meanwhile.  One that gets another page and the same state
+ * within these few instructions may give a tag of both, which does no harm.
  */
 bool
 ws_look(int buffer, BufferTag *tag, uint32 *state)

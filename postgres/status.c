@@ -73,13 +73,11 @@ warm_standby_refused(PG_FUNCTION_ARGS)
 {
 	ReturnSetInfo *result = (ReturnSetInfo *) fcinfo->resultinfo;
 	int64		refused[WS_STATUSES];
-	char		names[WS_STATUSES][WS_NAME_ROOM];
 
 	need_shared();
 	InitMaterializedSRF(fcinfo, 0);
 	LWLockAcquire(ws_shared->lock, LW_SHARED);
 	memcpy(refused, ws_shared->refused, sizeof refused);
-	memcpy(names, ws_shared->names, sizeof names);
 	LWLockRelease(ws_shared->lock);
 	for (int i = 0; i < WS_STATUSES; i++)
 	{
@@ -88,7 +86,7 @@ warm_standby_refused(PG_FUNCTION_ARGS)
 
 		if (refused[i] == 0)
 			continue;
-		values[0] = CStringGetTextDatum(names[i]);
+		values[0] = CStringGetTextDatum(ws_status_name(i));
 		values[1] = Int64GetDatum(refused[i]);
 		tuplestore_putvalues(result->setResult, result->setDesc, values, nulls);
 	}

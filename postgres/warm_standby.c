@@ -16,7 +16,6 @@
 #include "portability/instr_time.h"
 #include "postmaster/interrupt.h"
 #include "storage/ipc.h"
-#include "storage/shmem.h"
 #include "utils/guc.h"
 #include "utils/memutils.h"
 #include "warm_standby.h"
@@ -230,8 +229,6 @@ start(void)
 	ws_shared->latch = MyLatch;
 	ws_shared->is_standby = RecoveryInProgress();
 	ws_shared->epoch++;
-	for (int i = 0; i < WS_STATUSES; i++)
-		ws_status_name(i, ws_shared->names[i]);
 	LWLockRelease(ws_shared->lock);
 	ws_history_start();
 	ws_rank_reset();

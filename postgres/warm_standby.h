@@ -3,25 +3,19 @@
  * warm_standby.h
  *		A streaming standby that takes over warm.
  *
- * One worker owns the history of page references: a handle of libwarm_c, which
- * no other process touches.  On a primary it samples the buffer descriptors
- * (sample.c) and writes frames of the history into the WAL, as logical messages
- * of no database (publish.c).  On a standby it reads them back from the WAL
- * (receive.c), ranks the pages (rank.c), and hands those that are missing to
- * loaders, one for each database (loader.c).
+ * One worker owns the history of page references (history.c).  On a primary it
+ * samples the buffer descriptors (sample.c) and writes frames of the history into
+ * the WAL (publish.c).  On a standby it reads them back (receive.c), ranks the
+ * pages (rank.c), and hands those that are missing to loaders (loader.c).
  *
  *-------------------------------------------------------------------------
  */
 #ifndef WARM_STANDBY_H
 #define WARM_STANDBY_H
 
-#include "access/xlogdefs.h"
 #include "compat.h"
 #include "postmaster/bgworker.h"
-#include "storage/block.h"
 #include "storage/condition_variable.h"
-#include "storage/latch.h"
-#include "storage/lwlock.h"
 #include "utils/timestamp.h"
 #include "warm.h"
 
@@ -30,7 +24,6 @@
 
 /* Statuses of messages: those of warm.h are below 100, these are ours. */
 #define WS_STATUSES		128
-#define WS_NAME_ROOM	32
 #define WS_BAD_MESSAGE	100		/* too short, or of an unknown kind */
 #define WS_BAD_VERSION	101		/* of another version of the message */
 #define WS_BAD_DIRECTORY 102	/* a directory that is damaged */
@@ -138,7 +131,6 @@ typedef struct WsShared
 	WsStats		stats;
 	WsLoaded	loaded;
 	int64		refused[WS_STATUSES];
-	char		names[WS_STATUSES][WS_NAME_ROOM];	/* of the statuses */
 	bool		list_wanted;
 	uint64		list_made;		/* counts the lists */
 	uint32		list_count;
@@ -173,7 +165,7 @@ extern uint8 *ws_directory_encode(int *next, int end, int most, uint8 *to);
 extern int	ws_directory_decode(const uint8 *bytes, Size length);
 
 /* history.c */
-extern void ws_status_name(int status, char *name);
+extern const char *ws_status_name(int status);
 extern void ws_history_reset(const char *why);
 extern uint64 ws_clock(void);
 extern uint64 ws_latest;
