@@ -1,13 +1,10 @@
-/*-------------------------------------------------------------------------
- *
+/*
  * directory.c
  *		The numbers of (tablespace, database, fork).
  *
  * The history names a page by a device and a number, which is the relation file
  * number and the block.  The primary gives device numbers, and none a second time,
  * also where a database was dropped.  A standby that is promoted goes on with them.
- *
- *-------------------------------------------------------------------------
  */
 #include "postgres.h"
 

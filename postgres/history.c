@@ -1,12 +1,9 @@
-/*-------------------------------------------------------------------------
- *
+/*
  * history.c
  *		The handle of libwarm_c, its clock and horizon, and its files.
  *
  * The handle is the worker's alone: it is opened after the fork, and no other
  * process uses it.  Its pool has one frame of one byte, and no device.
- *
- *-------------------------------------------------------------------------
  */
 #include "postgres.h"
 

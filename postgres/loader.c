@@ -1,13 +1,10 @@
-/*-------------------------------------------------------------------------
- *
+/*
  * loader.c
  *		The worker that reads the pages of one database of a standby.
  *
  * A loader reads its batch file by file, in short transactions of some pages
  * each, under AccessShareLock, which no drop or truncation passes.  It waits for no
  * lock but those of catalogs, and replay waits for these few reads at most.
- *
- *-------------------------------------------------------------------------
  */
 #include "postgres.h"
 
@@ -34,7 +31,6 @@ PGDLLEXPORT void warm_standby_loader_main(Datum main_arg);
 static WsLoader *slot;
 static uint64 epoch;
 static bool is_connected = false;
-static WsLoaded done;			/* since it was last added to the shared counts */
 static WsRequest batch[WS_BATCH];
 
 /* By device and file, in any order, and then by block. */
@@ -65,15 +61,9 @@ read_pages(Relation relation, WsRequest *some, int count)
 			continue;
 		}
 		if (some[i].prefetch)
-		{
 			(void) PrefetchBuffer(relation, fork, some[i].page.block);
-			done.pages_prefetched++;
-		}
 		else
-		{
 			ReleaseBuffer(ReadBufferExtended(relation, fork, some[i].page.block, RBM_NORMAL, NULL));
-			done.pages_read++;
-		}
 		some[i].outcome = WS_LOADED;
 		CHECK_FOR_INTERRUPTS();
 	}
@@ -126,7 +116,6 @@ try_file(WsRequest *some, int count)
 		error = CopyErrorData();
 		FlushErrorState();
 		AbortCurrentTransaction();
-		done.read_errors++;
 		ereport(DEBUG1, (errmsg_internal("warm_standby could not read file %u: %s", some->page.file,
 										 error->message)));
 		FreeErrorData(error);
@@ -153,8 +142,6 @@ is_needed(void)
 static void
 load(uint32 count)
 {
-	uint64		begun = ws_us();
-
 	qsort(batch, count, sizeof(WsRequest), by_page);
 	for (uint32 i = 0, k; i < count; i = k)
 	{
@@ -166,7 +153,6 @@ load(uint32 count)
 			return;
 		try_file(&batch[i], k - i);
 	}
-	done.read_us += ws_us() - begun;
 }
 
 /* Takes the batch of the slot, where there is one. */
@@ -186,20 +172,16 @@ take_batch(void)
 }
 
 static void
-give_outcomes(uint32 count)
+give_outcomes(uint32 count, uint64 took_us)
 {
 	LWLockAcquire(ws_shared->lock, LW_EXCLUSIVE);
 	if (ws_shared->epoch == epoch)
 	{
 		memcpy(slot->pages, batch, count * sizeof(WsRequest));
+		slot->took_us = took_us;
 		slot->state = WS_SLOT_DONE;
 	}
-	ws_shared->loaded.pages_read += done.pages_read;
-	ws_shared->loaded.pages_prefetched += done.pages_prefetched;
-	ws_shared->loaded.read_errors += done.read_errors;
-	ws_shared->loaded.read_us += done.read_us;
 	LWLockRelease(ws_shared->lock);
-	memset(&done, 0, sizeof done);
 }
 
 /* Gives the slot back.  One that could not connect leaves its batch, by which the worker sees that. */
@@ -256,12 +238,13 @@ warm_standby_loader_main(Datum main_arg)
 	while (is_needed() && idle < IDLE_TURNS)
 	{
 		uint32		count = take_batch();
+		uint64		begun = ws_us();
 
 		idle++;
 		if (count > 0)
 		{
 			load(count);
-			give_outcomes(count);
+			give_outcomes(count, ws_us() - begun);
 			(void) pgstat_report_stat(false);
 			idle = 0;
 		}

@@ -1,5 +1,4 @@
-/*-------------------------------------------------------------------------
- *
+/*
  * publish.c
  *		Messages into the WAL of a primary.
  *
@@ -7,8 +6,6 @@
  * nobody, no user can write one by SQL, and replaying it does nothing, also
  * without this library.  What is new is sent at each publication, and everything in
  * turn, slowly, so that a standby that comes late learns all.
- *
- *-------------------------------------------------------------------------
  */
 #include "postgres.h"
 

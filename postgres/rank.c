@@ -1,13 +1,10 @@
-/*-------------------------------------------------------------------------
- *
+/*
  * rank.c
  *		Which pages a standby wants, has, touches and loads.
  *
  * A round ranks the history, walks the buffer descriptors once, and hands the
  * hottest pages that are missing to the loaders.  A touch gives one that is resident
  * a usage count by its rank, below the descriptor's lock: no page is pinned.
- *
- *-------------------------------------------------------------------------
  */
 #include "postgres.h"
 
@@ -87,21 +84,26 @@ is_unloadable(const WsPage *page)
 		 hash_search(unloadable, &database, HASH_FIND, NULL) != NULL);
 }
 
-/* Notes what a loader could not read; of one that ended and left its batch, its database. */
+/* Notes what a loader read, and could not; of one that ended and left its batch, its database. */
 static void
-note_unloadable(const WsLoader *loader, bool ended)
+note_outcomes(const WsLoader *loader, bool ended)
 {
 	WsPage		key = {.device.database = loader->database, .block = InvalidBlockNumber};
 
 	if (ended && loader->state == WS_SLOT_FULL)
 		hash_search(unloadable, &key, HASH_ENTER, NULL);
-	for (int i = 0; loader->state == WS_SLOT_DONE && i < loader->count; i++)
+	if (loader->state != WS_SLOT_DONE)
+		return;
+	ws_stats.read_us += loader->took_us;
+	for (const WsRequest *at = loader->pages; at < loader->pages + loader->count; at++)
 	{
-		key = loader->pages[i].page;
-		if (loader->pages[i].outcome == WS_NO_FILE)
+		ws_stats.pages_read += at->outcome == WS_LOADED && !at->prefetch;
+		ws_stats.pages_prefetched += at->outcome == WS_LOADED && at->prefetch;
+		ws_stats.pages_failed += at->outcome == WS_FAILED;
+		key = at->page;
+		if (at->outcome == WS_NO_FILE)
 			key.block = InvalidBlockNumber;
-		if (loader->pages[i].outcome >= WS_NO_FILE &&
-			hash_get_num_entries(unloadable) < MOST_UNLOADABLE)
+		if (at->outcome >= WS_NO_FILE && hash_get_num_entries(unloadable) < MOST_UNLOADABLE)
 			hash_search(unloadable, &key, HASH_ENTER, NULL);
 	}
 }
@@ -182,7 +184,7 @@ reap_loaders(void)
 			ended = true;
 		}
 		LWLockAcquire(ws_shared->lock, LW_EXCLUSIVE);
-		note_unloadable(loader, ended);
+		note_outcomes(loader, ended);
 		if (loader->state == WS_SLOT_DONE || ended)
 			clear_slot(i, ended);
 		LWLockRelease(ws_shared->lock);

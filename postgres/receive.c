@@ -1,5 +1,4 @@
-/*-------------------------------------------------------------------------
- *
+/*
  * receive.c
  *		Messages out of the WAL of a standby.
  *
@@ -7,8 +6,6 @@
  * its own.  Nothing is hooked, so no message makes replay wait or fail.  Where a
  * segment is gone, or a record cannot be read, it goes on at the end of what was
  * replayed, and counts the bytes that it skipped.
- *
- *-------------------------------------------------------------------------
  */
 #include "postgres.h"
 

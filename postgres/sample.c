@@ -1,5 +1,4 @@
-/*-------------------------------------------------------------------------
- *
+/*
  * sample.c
  *		References, from the buffer descriptors of a primary.
  *
@@ -8,8 +7,6 @@
  * correlated reference period.  A count at its greatest cannot rise: where it stays,
  * the page is taken as referenced at the next sample, so that it has two
  * references, and then once a minute, so that the horizon does not forget it.
- *
- *-------------------------------------------------------------------------
  */
 #include "postgres.h"
 
@@ -20,11 +17,14 @@
 
 #define SATURATED_US	(60 * US_PER_S)
 #define SEEN_NONE		UINT64CONST(15)
+#define REFERENCES_A_TURN 300000	/* the history takes some 200 ms for them */
 
 /* For each buffer a hash of its page, with its usage count in the last bits. */
 static uint64 *seen = NULL;
 static bool is_first = true;
 static uint64 saturated_at = 0;
+static int	next_buffer;		/* where the sample goes on */
+static uint64 cost;				/* of it so far */
 
 /*
  * Reads the tag and the state of a valid buffer, without its lock unless it is
@@ -63,6 +63,7 @@ ws_sample_reset(void)
 		seen = MemoryContextAllocHuge(TopMemoryContext, sizeof(uint64) * (Size) NBuffers);
 	is_first = true;
 	saturated_at = ws_us();
+	next_buffer = 0;
 }
 
 /* Whether the page came in, or its count rose, or has been at its greatest for long. */
@@ -73,38 +74,56 @@ is_referenced(uint64 before, uint64 now, bool saturated)
 		(saturated && (now & SEEN_NONE) >= BM_MAX_USAGE_COUNT);
 }
 
-/* Takes a sample. */
-void
+/* Notes a buffer, and its page as referenced where it is. */
+static void
+sample_buffer(int i, uint64 time, bool saturated)
+{
+	BufferTag	tag;
+	uint32		state;
+	uint64		mark = SEEN_NONE;
+	warm_page	page;
+
+	/* Pages of unlogged relations are not on a standby. */
+	if (ws_look(i, &tag, &state) && (state & BM_PERMANENT) != 0)
+	{
+		mark = hash_bytes_extended((const unsigned char *) &tag, sizeof tag, 0);
+		mark = (mark & ~SEEN_NONE) | BUF_STATE_GET_USAGECOUNT(state);
+		if (BUF_STATE_GET_USAGECOUNT(state) == BM_MAX_USAGE_COUNT && seen[i] - mark <= 1)
+			mark++;				/* for the second time at least */
+		if (!is_first && is_referenced(seen[i], mark, saturated) && ws_page_of(&tag, true, &page))
+			ws_reference(page, time);
+	}
+	seen[i] = mark;
+}
+
+/*
+ * Takes a sample; false where much is referenced, and this was a piece of it.
+ * Each piece has a time of its own, as what is new since a time may be published.
+ */
+bool
 ws_sample(void)
 {
+	static bool saturated;
 	uint64		time = ws_clock();
 	uint64		begun = ws_us();
-	bool		saturated = begun - saturated_at >= SATURATED_US;
+	int64		most = ws_stats.page_references + REFERENCES_A_TURN;
 
-	if (saturated)
-		saturated_at = begun;
-	for (int i = 0; i < NBuffers; i++)
+	if (next_buffer == 0)
 	{
-		BufferTag	tag;
-		uint32		state;
-		uint64		mark = SEEN_NONE;
-		warm_page	page;
-
-		/* Pages of unlogged relations are not on a standby. */
-		if (ws_look(i, &tag, &state) && (state & BM_PERMANENT) != 0)
-		{
-			mark = hash_bytes_extended((const unsigned char *) &tag, sizeof tag, 0);
-			mark = (mark & ~SEEN_NONE) | BUF_STATE_GET_USAGECOUNT(state);
-			if (BUF_STATE_GET_USAGECOUNT(state) == BM_MAX_USAGE_COUNT && seen[i] - mark <= 1)
-				mark++;			/* for the second time at least */
-			if (!is_first && is_referenced(seen[i], mark, saturated) &&
-				ws_page_of(&tag, true, &page))
-				ws_reference(page, time);
-		}
-		seen[i] = mark;
+		saturated = begun - saturated_at >= SATURATED_US;
+		if (saturated)
+			saturated_at = begun;
+		cost = 0;
 	}
+	while (next_buffer < NBuffers && ws_stats.page_references < most)
+		sample_buffer(next_buffer++, time, saturated);
 	ws_references_end();
+	cost += ws_us() - begun;
+	if (next_buffer < NBuffers)
+		return false;
+	next_buffer = 0;
 	is_first = false;
 	ws_stats.samples++;
-	ws_stats.sample_us = ws_us() - begun;
+	ws_stats.sample_us = cost;
+	return true;
 }

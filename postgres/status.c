@@ -1,9 +1,6 @@
-/*-------------------------------------------------------------------------
- *
+/*
  * status.c
  *		What SQL sees: pg_stat_warm_standby and its functions.
- *
- *-------------------------------------------------------------------------
  */
 #include "postgres.h"
 
@@ -16,8 +13,7 @@
 #include "warm_standby.h"
 
 #define STATS			(sizeof(WsStats) / sizeof(int64))
-#define LOADED			(sizeof(WsLoaded) / sizeof(int64))
-#define STATUS_COLUMNS	(4 + STATS + LOADED)
+#define STATUS_COLUMNS	(4 + STATS)
 #define LIST_COLUMNS	6
 #define LIST_WAITS		100		/* of 100 ms */
 
@@ -41,7 +37,7 @@ warm_standby_status(PG_FUNCTION_ARGS)
 	TupleDesc	desc;
 	Datum		values[STATUS_COLUMNS];
 	bool		nulls[STATUS_COLUMNS] = {false};
-	int64		counts[STATS + LOADED];
+	int64		counts[STATS];
 	int64		refused = 0;
 	int			loaders = 0;
 
@@ -50,7 +46,6 @@ warm_standby_status(PG_FUNCTION_ARGS)
 		elog(ERROR, "return type must be a row type");
 	LWLockAcquire(ws_shared->lock, LW_SHARED);
 	memcpy(counts, &ws_shared->stats, sizeof(WsStats));
-	memcpy(counts + STATS, &ws_shared->loaded, sizeof(WsLoaded));
 	for (int i = 0; i < WS_STATUSES; i++)
 		refused += ws_shared->refused[i];
 	for (int i = 0; i < ws_shared->loader_count; i++)
@@ -62,7 +57,7 @@ warm_standby_status(PG_FUNCTION_ARGS)
 	LWLockRelease(ws_shared->lock);
 	values[2] = Int64GetDatum(refused);
 	values[3] = Int32GetDatum(loaders);
-	for (int i = 0; i < STATS + LOADED; i++)
+	for (int i = 0; i < STATS; i++)
 		values[4 + i] = Int64GetDatum(counts[i]);
 	PG_RETURN_DATUM(HeapTupleGetDatum(heap_form_tuple(BlessTupleDesc(desc), values, nulls)));
 }

@@ -1,9 +1,6 @@
-/*-------------------------------------------------------------------------
- *
+/*
  * warm_standby.c
  *		Settings, shared memory, and the worker that owns the history.
- *
- *-------------------------------------------------------------------------
  */
 #include "postgres.h"
 
@@ -260,9 +257,10 @@ primary_turn(void)
 
 	if (now >= sample_at)
 	{
-		ws_sample();
+		int			interval = ws_sample() ? ws_sample_interval : 0;
+
 		ws_history_bound();
-		sample_at = next_time(now, ws_sample_interval);
+		sample_at = next_time(now, interval);
 	}
 	now = ws_us();
 	if (now >= publish_at)

@@ -1,5 +1,4 @@
-/*-------------------------------------------------------------------------
- *
+/*
  * warm_standby.h
  *		A streaming standby that takes over warm.
  *
@@ -7,8 +6,6 @@
  * samples the buffer descriptors (sample.c) and writes frames of the history into
  * the WAL (publish.c).  On a standby it reads them back (receive.c), ranks the
  * pages (rank.c), and hands those that are missing to loaders (loader.c).
- *
- *-------------------------------------------------------------------------
  */
 #ifndef WARM_STANDBY_H
 #define WARM_STANDBY_H
@@ -83,6 +80,7 @@ typedef struct WsLoader
 	WsSlotState state;
 	bool		leave;			/* the loader is to end */
 	Latch	   *latch;			/* of the loader, NULL while it starts */
+	uint64		took_us;		/* of a batch that is done */
 	uint32		count;
 	WsRequest	pages[WS_BATCH];
 } WsLoader;
@@ -109,16 +107,11 @@ typedef struct WsStats
 	int64		saves;
 	int64		save_failures;
 	int64		resets;
-} WsStats;
-
-/* What the loaders count, in the same way. */
-typedef struct WsLoaded
-{
-	int64		pages_read;
+	int64		pages_read;		/* by loaders, as all below */
 	int64		read_us;
 	int64		pages_prefetched;
-	int64		read_errors;
-} WsLoaded;
+	int64		pages_failed;
+} WsStats;
 
 /* lock guards all of it, but the batch of a slot that its state gives to one process. */
 typedef struct WsShared
@@ -129,7 +122,6 @@ typedef struct WsShared
 	bool		is_standby;
 	TimestampTz last_frame;		/* when the newest frame was written */
 	WsStats		stats;
-	WsLoaded	loaded;
 	int64		refused[WS_STATUSES];
 	bool		list_wanted;
 	uint64		list_made;		/* counts the lists */
@@ -183,7 +175,7 @@ extern uint64 ws_changed_buckets;
 
 /* sample.c */
 extern void ws_sample_reset(void);
-extern void ws_sample(void);
+extern bool ws_sample(void);
 extern bool ws_look(int buffer, BufferTag *tag, uint32 *state);
 
 /* publish.c */
