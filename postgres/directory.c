@@ -8,8 +8,6 @@
  */
 #include "postgres.h"
 
-#include "common/relpath.h"
-#include "utils/hsearch.h"
 #include "utils/memutils.h"
 #include "warm_standby.h"
 

@@ -7,10 +7,7 @@
  */
 #include "postgres.h"
 
-#include <fcntl.h>
-#include <limits.h>
 #include <sys/stat.h>
-#include <unistd.h>
 
 #include "access/xlog.h"
 #include "miscadmin.h"
@@ -249,6 +246,17 @@ end_draft(int fd, const char *path, const char *fault)
 	return false;
 }
 
+static pg_crc32c
+checksum(const uint8 *bytes, Size length)
+{
+	pg_crc32c	crc;
+
+	INIT_CRC32C(crc);
+	COMP_CRC32C(crc, bytes, length);
+	FIN_CRC32C(crc);
+	return crc;
+}
+
 /* Saves the directory, and the latest time. */
 bool
 ws_directory_save(void)
@@ -258,33 +266,18 @@ ws_directory_save(void)
 	int			next = 0;
 	int			fd = open_draft(DIRECTORY_FILE);
 	Size		length;
-	pg_crc32c	crc;
 
 	if (fd < 0)
 		return false;
 	ws_put(ws_put(ws_put(bytes, DIRECTORY_MAGIC, 8), GetSystemIdentifier(), 8), ws_latest, 8);
-	length = ws_directory_encode(&next, ws_device_count, INT_MAX, bytes + DIRECTORY_HEADER) - bytes;
-	INIT_CRC32C(crc);
-	COMP_CRC32C(crc, bytes, length);
-	FIN_CRC32C(crc);
-	ws_put(bytes + length, crc, 4);
+	length = ws_directory_encode(&next, ws_device_count, ws_device_count,
+								 bytes + DIRECTORY_HEADER) - bytes;
+	ws_put(bytes + length, checksum(bytes, length), 4);
 	length += 4;
 	errno = ENOSPC;				/* a write that is short says nothing */
 	if (write(fd, bytes, length) != (ssize_t) length || pg_fsync(fd) != 0)
 		fault = strerror(errno);
 	return end_draft(fd, DIRECTORY_FILE, fault);
-}
-
-static bool
-save_history(void)
-{
-	int			fd = open_draft(HISTORY_FILE);
-	int			status;
-
-	if (fd < 0)
-		return false;
-	status = note(warm_save(&history, fd));
-	return end_draft(fd, HISTORY_FILE, status == WARM_OK ? NULL : ws_status_name(status));
 }
 
 /*
@@ -294,7 +287,11 @@ save_history(void)
 void
 ws_history_save(void)
 {
-	if (ws_directory_save() && save_history())
+	int			fd = ws_directory_save() ? open_draft(HISTORY_FILE) : -1;
+	int			status = fd >= 0 ? note(warm_save(&history, fd)) : WARM_OK;
+
+	if (fd >= 0 &&
+		end_draft(fd, HISTORY_FILE, status == WARM_OK ? NULL : ws_status_name(status)))
 		ws_stats.saves++;
 	else
 		ws_stats.save_failures++;
@@ -321,7 +318,6 @@ load_directory(void)
 	int			fd = open_saved(DIRECTORY_FILE, &length);
 	uint8	   *bytes;
 	bool		good;
-	pg_crc32c	crc;
 
 	if (fd < 0)
 		return false;
@@ -333,11 +329,8 @@ load_directory(void)
 	if (good)
 	{
 		length -= 4;
-		INIT_CRC32C(crc);
-		COMP_CRC32C(crc, bytes, length);
-		FIN_CRC32C(crc);
 		ws_latest = ws_get(bytes + 16, 8);
-		good = crc == ws_get(bytes + length, 4) &&
+		good = checksum(bytes, length) == ws_get(bytes + length, 4) &&
 			ws_directory_decode(bytes + DIRECTORY_HEADER, length - DIRECTORY_HEADER) == WARM_OK;
 	}
 	if (!good)

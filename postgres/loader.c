@@ -17,7 +17,6 @@
 #include "storage/bufmgr.h"
 #include "storage/ipc.h"
 #include "storage/lmgr.h"
-#include "storage/smgr.h"
 #include "tcop/tcopprot.h"
 #include "utils/memutils.h"
 #include "warm_standby.h"
@@ -184,7 +183,7 @@ give_outcomes(uint32 count, uint64 took_us)
 	LWLockRelease(ws_shared->lock);
 }
 
-/* Gives the slot back.  One that could not connect leaves its batch, by which the worker sees that. */
+/* Gives the slot back.  Where it could not connect its batch stays, by which the worker sees it. */
 static void
 leave(int code, Datum arg)
 {

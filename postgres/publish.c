@@ -152,7 +152,7 @@ begin_turn(uint64 now)
 	return true;
 }
 
-/* The walk that goes on.  Where both have a piece to send they alternate, so neither waits for ever. */
+/* The walk that goes on.  Where both have a piece they alternate: neither waits for ever. */
 static Walk *
 next_walk(uint64 now)
 {

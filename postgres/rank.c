@@ -9,7 +9,6 @@
 #include "postgres.h"
 
 #include "miscadmin.h"
-#include "utils/hsearch.h"
 #include "utils/memutils.h"
 #include "warm_standby.h"
 
@@ -228,33 +227,29 @@ hand_out(warm_page page, bool prefetch)
 	return true;
 }
 
-/* Ends a loader, where another database waits: an idle one, or that which has worked longest.  Under the lock. */
+/* Ends a loader for the database that waits: one that is idle, or has worked for long. */
 static void
 make_room(void)
 {
-	int			least = -1;
-	uint64		since = round_at - TERM_US;
-
 	for (int i = 0; i < ws_shared->loader_count; i++)
 	{
-		const WsLoader *loader = &ws_shared->loaders[i];
+		WsLoader   *loader = &ws_shared->loaders[i];
 		bool		is_idle = loader->state == WS_SLOT_IDLE && loader->count == 0;
 
-		if (handles[i] != NULL && (is_idle ? 0 : started_at[i]) < since)
-		{
-			since = is_idle ? 0 : started_at[i];
-			least = i;
-		}
-	}
-	if (least < 0)
+		if (next_of[i] == waiting)
+			return;
+		if (handles[i] == NULL || loader->leave ||
+			!(is_idle || round_at - started_at[i] >= TERM_US))
+			continue;
+		loader->leave = true;
+		if (loader->latch != NULL)
+			SetLatch(loader->latch);
+		next_of[i] = waiting;
 		return;
-	ws_shared->loaders[least].leave = true;
-	if (ws_shared->loaders[least].latch != NULL)
-		SetLatch(ws_shared->loaders[least].latch);
-	next_of[least] = waiting;
+	}
 }
 
-/* Lets the loaders have what was kept for them.  A slot whose next database wants nothing is free. */
+/* Lets the loaders have their batches.  A slot whose next database wants nothing is free. */
 static void
 send_batches(void)
 {

@@ -9,13 +9,8 @@
  */
 #include "postgres.h"
 
-#include <fcntl.h>
-#include <unistd.h>
-
-#include "access/rmgr.h"
 #include "access/xlog.h"
 #include "access/xlog_internal.h"
-#include "access/xlogreader.h"
 #include "access/xlogrecovery.h"
 #include "access/xlogutils.h"
 #include "miscadmin.h"
@@ -197,9 +192,12 @@ ws_receive(void)
 			ws_stats.wal_skipped += end - position;
 			ws_stats.wal_read -= end - position;
 			close_segment();
+			position = end;
 			/* A record does not begin at a page, but behind its header. */
-			position = end % XLOG_BLCKSZ != 0 ? end : end +
-				(XLogSegmentOffset(end, wal_segment_size) != 0 ? SizeOfXLogShortPHD : SizeOfXLogLongPHD);
+			if (XLogSegmentOffset(end, wal_segment_size) == 0)
+				position += SizeOfXLogLongPHD;
+			else if (end % XLOG_BLCKSZ == 0)
+				position += SizeOfXLogShortPHD;
 			XLogBeginRead(reader, position);
 			break;
 		}

@@ -4,12 +4,10 @@
  */
 #include "postgres.h"
 
-#include "fmgr.h"
 #include "funcapi.h"
 #include "miscadmin.h"
 #include "pgstat.h"
 #include "utils/builtins.h"
-#include "utils/tuplestore.h"
 #include "warm_standby.h"
 
 #define STATS			(sizeof(WsStats) / sizeof(int64))

@@ -4,13 +4,9 @@
  */
 #include "postgres.h"
 
-#include <limits.h>
-
 #include "access/xlog.h"
-#include "fmgr.h"
 #include "miscadmin.h"
 #include "pgstat.h"
-#include "portability/instr_time.h"
 #include "postmaster/interrupt.h"
 #include "storage/ipc.h"
 #include "utils/guc.h"
@@ -65,9 +61,9 @@ static const IntSetting int_settings[] = {
 	"Sets the time in which everything known is published once."},
 	{&ws_publish_rate, "warm_standby.publish_rate", 1024, 1, 1024 * 1024, GUC_UNIT_KB,
 	"Sets how much WAL is written for publications each second."},
-	{&ws_history_age, "warm_standby.history_age", 1440, 0, INT_MAX / 60, GUC_UNIT_MIN,
+	{&ws_history_age, "warm_standby.history_age", 1440, 0, PG_INT32_MAX / 60, GUC_UNIT_MIN,
 	"Sets after which time without a reference a page is forgotten.", "0 means never."},
-	{&ws_history_pages, "warm_standby.history_pages", 0, 0, INT_MAX / 2, 0,
+	{&ws_history_pages, "warm_standby.history_pages", 0, 0, PG_INT32_MAX / 2, 0,
 		"Sets how many pages are known at most.",
 	"0 means four times shared_buffers on a primary, and on a standby what its primary knows."},
 	{&ws_load_interval, "warm_standby.load_interval", 1000, 10, 3600 * 1000, GUC_UNIT_MS,
@@ -75,7 +71,7 @@ static const IntSetting int_settings[] = {
 	{&ws_load_rate, "warm_standby.load_rate", 2000, 0, 1000000, 0,
 		"Sets how many pages a standby reads each second at most.",
 	"A loader takes at most 4096 pages a round."},
-	{&ws_prefetch_pages, "warm_standby.prefetch_pages", 0, 0, INT_MAX / 2, GUC_UNIT_BLOCKS,
+	{&ws_prefetch_pages, "warm_standby.prefetch_pages", 0, 0, PG_INT32_MAX / 2, GUC_UNIT_BLOCKS,
 	"Sets how many further pages are read into the operating system's cache."},
 	{&ws_clock_tolerance, "warm_standby.clock_tolerance", 600, 1, 7 * 86400, GUC_UNIT_S,
 		"Sets how far ahead of this server's clock a time is believed.",
@@ -173,7 +169,7 @@ _PG_init(void)
 }
 
 static bool is_standby;
-static XLogRecPtr saved_redo;
+static XLogRecPtr saved_redo;	/* of the checkpoint at which the history was saved last */
 static uint64 sample_at, publish_at, round_at, save_at; /* when they are due */
 
 /* Microseconds of a clock that nobody sets: what the worker waits by. */

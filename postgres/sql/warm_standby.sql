@@ -44,3 +44,19 @@ DROP ROLE regress_warm_nobody, regress_warm_monitor;
 SELECT pg_logical_emit_message(false, 'warm_standby', 'forged') IS NOT NULL AS written;
 DROP TABLE warm;
 DROP EXTENSION warm_standby;
+-- in a schema whose owner has operators of his own, which fit better
+CREATE SCHEMA regress_warm;
+CREATE FUNCTION regress_warm.trap(numeric, bigint) RETURNS numeric LANGUAGE plpgsql
+AS 'BEGIN RAISE EXCEPTION ''an operator of another schema is called''; END';
+CREATE OPERATOR regress_warm.* (LEFTARG = numeric, RIGHTARG = bigint, FUNCTION = regress_warm.trap);
+CREATE OPERATOR regress_warm./ (LEFTARG = numeric, RIGHTARG = bigint, FUNCTION = regress_warm.trap);
+CREATE FUNCTION regress_warm.count(oid) RETURNS bigint LANGUAGE plpgsql
+AS 'BEGIN RAISE EXCEPTION ''a function of another schema is called''; END';
+CREATE EXTENSION warm_standby SCHEMA regress_warm;
+SET search_path TO regress_warm, pg_catalog;
+SELECT 1.0 * 2::bigint; -- error: so it would be
+SELECT role, percent_warm FROM pg_stat_warm_standby;
+SELECT count(*) > 0 AS some FROM warm_standby_hot_relations();
+RESET search_path;
+DROP EXTENSION warm_standby;
+DROP SCHEMA regress_warm CASCADE;
