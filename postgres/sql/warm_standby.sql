@@ -54,6 +54,7 @@ CREATE FUNCTION regress_warm.count(oid) RETURNS bigint LANGUAGE plpgsql
 AS 'BEGIN RAISE EXCEPTION ''a function of another schema is called''; END';
 CREATE EXTENSION warm_standby SCHEMA regress_warm;
 SET search_path TO regress_warm, pg_catalog;
+\set VERBOSITY terse
 SELECT 1.0 * 2::bigint; -- error: so it would be
 SELECT role, percent_warm FROM pg_stat_warm_standby;
 SELECT count(*) > 0 AS some FROM warm_standby_hot_relations();
