@@ -1,12 +1,15 @@
 # What check and measure share. Sourced, with $here the folder of the extension and $library a path of libwarm_c.a.
 #
-# The servers are of a copy of Debian's PostgreSQL in a folder of its own, into which the extension is installed: programs of
-# PostgreSQL look for their files beside themselves. They listen on a socket in that folder, and on no address.
+# The servers are of a copy of PostgreSQL in a folder of its own, into which the extension is installed: programs of PostgreSQL look for
+# their files beside themselves. They listen on a socket in that folder, and on no address. It is Debian's PostgreSQL 15, or that of PG_CONFIG.
 
-version=${PG_VERSION:-15}
+version=15
 folder_of_library=$(dirname "$(dirname "$library")")
-"$here/../scripts/need" "/usr/lib/postgresql/$version/bin/postgres:postgresql-$version" gcc:gcc make:make prlimit:util-linux \
-    "/usr/include/postgresql/$version/server/postgres.h:postgresql-server-dev-$version" runuser:util-linux
+"$here/../scripts/need" gcc:gcc make:make prlimit:util-linux runuser:util-linux
+[ -n "${PG_CONFIG:-}" ] || "$here/../scripts/need" "/usr/lib/postgresql/$version/bin/postgres:postgresql-$version" \
+    "/usr/include/postgresql/$version/server/postgres.h:postgresql-server-dev-$version"
+config=${PG_CONFIG:-/usr/lib/postgresql/$version/bin/pg_config}
+libraries=$("$config" --pkglibdir)
 
 fail() {
     echo "postgres: $*" >&2
@@ -20,26 +23,31 @@ as() {
 
 make_work() {
     local parent=${TMPDIR:-/tmp}
-    [ -d /dev/shm ] && [ -w /dev/shm ] && [ -z "${TMPDIR:-}" ] && parent=/dev/shm
+    # in memory, where there is room for it
+    if [ -z "${TMPDIR:-}" ] && [ -w /dev/shm ] && [ "$(df --output=avail -k /dev/shm | tail -n 1)" -gt 4000000 ]; then parent=/dev/shm; fi
     work=$(mktemp -d "$parent/warm-postgres-XXXXXX")
-    bin=$work/usr/lib/postgresql/$version/bin
+    bin=$work$("$config" --bindir)
     servers=()
     loads=()
     trap clean_up EXIT
-    mkdir -p "$work/usr/lib/postgresql/$version" "$work/usr/share/postgresql" "$work/run" "$work/build"
-    cp -r "/usr/lib/postgresql/$version/bin" "$work/usr/lib/postgresql/$version/"
-    rsync_lib
-    cp -r "/usr/share/postgresql/$version" "$work/usr/share/postgresql/"
+    mkdir -p "$work/run" "$work/build" "$work$libraries"
+    copy_folder "$("$config" --bindir)"
+    copy_folder "$("$config" --sharedir)"
+    copy_libraries
     cp -r "$here"/*.[ch] "$here"/*.sql "$here"/*.control "$here/Makefile" "$here/test" "$here/sql" "$here/expected" "$work/build/"
     if [ "$(id -u)" = 0 ]; then chown -R postgres "$work"; fi
 }
 
+copy_folder() {
+    mkdir -p "$(dirname "$work$1")"
+    cp -r "$1" "$work$1"
+}
+
 # Of the libraries all but those that only a build needs.
-rsync_lib() {
-    local to=$work/usr/lib/postgresql/$version/lib file
-    mkdir "$to"
-    for file in "/usr/lib/postgresql/$version/lib"/*; do
-        case ${file##*/} in bitcode | pgxs | *.a) ;; *) cp -r "$file" "$to/" ;; esac
+copy_libraries() {
+    local file
+    for file in "$libraries"/*; do
+        case ${file##*/} in bitcode | pgxs | *.a) ;; *) cp -r "$file" "$work$libraries/" ;; esac
     done
 }
 
@@ -55,7 +63,6 @@ clean_up() {
 
 # Builds the extension, without a warning, and installs it into the copy.
 build() {
-    local config=/usr/lib/postgresql/$version/bin/pg_config
     make -s -C "$work/build" PG_CONFIG="$config" WARM="$folder_of_library" with_llvm=no PROFILE=-Werror > "$work/build.log" 2>&1 &&
         make -s -C "$work/build/test" PG_CONFIG="$config" with_llvm=no PROFILE=-Werror >> "$work/build.log" 2>&1 ||
         fail "the extension is not built: $(tail -n 20 "$work/build.log")"
