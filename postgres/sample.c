@@ -66,31 +66,28 @@ ws_sample_reset(void)
 	next_buffer = 0;
 }
 
-/* Whether the page came in, or its count rose, or has been at its greatest for long. */
-static inline bool
-is_referenced(uint64 before, uint64 now, bool saturated)
-{
-	return (before ^ now) > SEEN_NONE || (before & SEEN_NONE) == SEEN_NONE || now > before ||
-		(saturated && (now & SEEN_NONE) >= BM_MAX_USAGE_COUNT);
-}
-
 /* Notes a buffer, and its page as referenced where it is. */
 static void
 sample_buffer(int i, uint64 time, bool saturated)
 {
 	BufferTag	tag;
 	uint32		state;
+	uint64		before = seen[i];
 	uint64		mark = SEEN_NONE;
 	warm_page	page;
+	bool		is_new, is_hotter;
 
 	/* Pages of unlogged relations are not on a standby. */
 	if (ws_look(i, &tag, &state) && (state & BM_PERMANENT) != 0)
 	{
 		mark = hash_bytes_extended((const unsigned char *) &tag, sizeof tag, 0);
 		mark = (mark & ~SEEN_NONE) | BUF_STATE_GET_USAGECOUNT(state);
-		if (BUF_STATE_GET_USAGECOUNT(state) == BM_MAX_USAGE_COUNT && seen[i] - mark <= 1)
+		if (BUF_STATE_GET_USAGECOUNT(state) == BM_MAX_USAGE_COUNT && before - mark <= 1)
 			mark++;				/* for the second time at least */
-		if (!is_first && is_referenced(seen[i], mark, saturated) && ws_page_of(&tag, true, &page))
+		is_new = (before ^ mark) > SEEN_NONE || (before & SEEN_NONE) == SEEN_NONE;
+		is_hotter = mark > before ||
+			(saturated && (mark & SEEN_NONE) >= BM_MAX_USAGE_COUNT);
+		if (!is_first && (is_new || is_hotter) && ws_page_of(&tag, true, &page))
 			ws_reference(page, time);
 	}
 	seen[i] = mark;

@@ -13,6 +13,7 @@
 #include "compat.h"
 #include "postmaster/bgworker.h"
 #include "storage/condition_variable.h"
+#include "storage/latch.h"
 #include "utils/timestamp.h"
 #include "warm.h"
 
@@ -155,7 +156,6 @@ extern bool ws_page_of(const BufferTag *tag, bool give, warm_page *page);
 extern bool ws_names_of(warm_page page, WsPage *names);
 extern uint8 *ws_directory_encode(int *next, int end, int most, uint8 *to);
 extern int	ws_directory_decode(const uint8 *bytes, Size length);
-
 /* history.c */
 extern const char *ws_status_name(int status);
 extern void ws_history_reset(const char *why);
@@ -172,26 +172,21 @@ extern bool ws_directory_save(void);
 extern void ws_history_save(void);
 extern void ws_history_start(void);
 extern uint64 ws_changed_buckets;
-
 /* sample.c */
 extern void ws_sample_reset(void);
 extern bool ws_sample(void);
 extern bool ws_look(int buffer, BufferTag *tag, uint32 *state);
-
 /* publish.c */
 extern void ws_publish_reset(void);
 extern void ws_publish(void);
-
 /* receive.c */
 extern void ws_receive_start(void);
 extern bool ws_receive(void);
 extern void ws_receive_stop(void);
-
 /* rank.c */
 extern void ws_rank_reset(void);
 extern void ws_round(void);
 extern void ws_make_list(void);
-
 /* warm_standby.c */
 extern uint64 ws_us(void);
 extern void ws_describe_worker(BackgroundWorker *worker, const char *function, const char *name);

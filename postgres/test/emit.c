@@ -1,9 +1,10 @@
 /* postgres/test/emit.c: for tests, any bytes as a message of no database */
 #include "postgres.h"
 
+#include "access/htup_details.h"
 #include "access/xlog.h"
+#include "access/xloginsert.h"
 #include "fmgr.h"
-#include "miscadmin.h"
 #include "replication/message.h"
 
 PG_MODULE_MAGIC;
@@ -14,10 +15,13 @@ Datum
 emit_message(PG_FUNCTION_ARGS)
 {
 	bytea	   *bytes = PG_GETARG_BYTEA_PP(0);
-	Oid			database = MyDatabaseId;
+	xl_logical_message record = {.dbId = InvalidOid, .prefix_size = sizeof "warm_standby",
+	.message_size = VARSIZE_ANY_EXHDR(bytes)};
 
-	MyDatabaseId = InvalidOid;
-	XLogFlush(LogLogicalMessage("warm_standby", VARDATA_ANY(bytes), VARSIZE_ANY_EXHDR(bytes), false));
-	MyDatabaseId = database;
+	XLogBeginInsert();
+	XLogRegisterData((char *) &record, SizeOfLogicalMessage);
+	XLogRegisterData((char *) "warm_standby", sizeof "warm_standby");
+	XLogRegisterData(VARDATA_ANY(bytes), VARSIZE_ANY_EXHDR(bytes));
+	XLogFlush(XLogInsert(RM_LOGICALMSG_ID, XLOG_LOGICAL_MESSAGE));
 	PG_RETURN_VOID();
 }
