@@ -93,6 +93,12 @@ configure() {
     printf '%s\n' "$@" | as tee -a "$work/$server/postgresql.conf" > /dev/null
 }
 
+# set_on SERVER 'NAME = VALUE'..: by a reload.
+set_on() {
+    configure "$@"
+    sql "$1" "select pg_reload_conf()" > /dev/null
+}
+
 # make_primary NAME SHARED_BUFFERS [SETTING..]: a primary with the extension, started.
 make_primary() {
     servers+=("$1")
