@@ -19,6 +19,7 @@
 #include "storage/lmgr.h"
 #include "tcop/tcopprot.h"
 #include "utils/memutils.h"
+#include "utils/snapmgr.h"
 #include "warm_standby.h"
 
 #define PAGES_A_LOCK	32
@@ -30,6 +31,7 @@ PGDLLEXPORT void warm_standby_loader_main(Datum main_arg);
 static WsLoader *slot;
 static uint64 epoch;
 static bool is_connected = false;
+static WsRequest *reading;		/* the page that is read, NULL where none is */
 static WsRequest batch[WS_BATCH];
 
 /* By device and file, in any order, and then by block. */
@@ -59,6 +61,7 @@ read_pages(Relation relation, WsRequest *some, int count)
 			some[i].outcome = WS_NO_BLOCK;
 			continue;
 		}
+		reading = &some[i];
 		if (some[i].prefetch)
 			(void) PrefetchBuffer(relation, fork, some[i].page.block);
 		else
@@ -85,6 +88,7 @@ read_file(WsRequest *some, int count)
 		UnlockRelationOid(relid, AccessShareLock);
 		return WS_NO_FILE;
 	}
+	InvalidateCatalogSnapshotConditionally();	/* by which reads would conflict with replay */
 	/* It may have got another file before it was locked. */
 	if (RelationFile(relation) == some->page.file &&
 		RelationSpace(relation) == some->page.device.space)
@@ -100,6 +104,7 @@ try_file(WsRequest *some, int count)
 	MemoryContext context = CurrentMemoryContext;
 	volatile WsOutcome rest = WS_FAILED;
 
+	reading = NULL;
 	PG_TRY();
 	{
 		SetCurrentStatementStartTimestamp();
@@ -115,11 +120,16 @@ try_file(WsRequest *some, int count)
 		error = CopyErrorData();
 		FlushErrorState();
 		AbortCurrentTransaction();
+		if (reading != NULL)
+			reading->outcome = WS_FAILED;
+		if (reading != NULL || ERRCODE_TO_CATEGORY(error->sqlerrcode) == ERRCODE_TRANSACTION_ROLLBACK)
+			rest = WS_BUSY;		/* by another page, or a conflict with replay */
 		ereport(DEBUG1, (errmsg_internal("warm_standby could not read file %u: %s", some->page.file,
 										 error->message)));
 		FreeErrorData(error);
 	}
 	PG_END_TRY();
+	QueryCancelPending = false; /* a late one is of the transaction that has ended */
 	MemoryContextSwitchTo(context);
 	for (int i = 0; i < count; i++)
 		if (some[i].outcome == WS_WAITING)
@@ -189,33 +199,13 @@ leave(int code, Datum arg)
 {
 	LWLockAcquire(ws_shared->lock, LW_EXCLUSIVE);
 	if (ws_shared->epoch == epoch)
-	{
 		slot->latch = NULL;
-		if (is_connected)
-		{
-			slot->state = WS_SLOT_IDLE;
-			slot->database = InvalidOid;
-		}
-	}
-	LWLockRelease(ws_shared->lock);
-}
-
-/* Takes the slot of that number, and returns its database; InvalidOid where it is not ours. */
-static Oid
-enter(int number)
-{
-	Oid			database = InvalidOid;
-
-	slot = &ws_shared->loaders[number];
-	before_shmem_exit(leave, (Datum) 0);
-	LWLockAcquire(ws_shared->lock, LW_EXCLUSIVE);
-	if (ws_shared->epoch == epoch)
+	if (ws_shared->epoch == epoch && is_connected)
 	{
-		database = slot->database;
-		slot->latch = MyLatch;
+		slot->state = WS_SLOT_IDLE;
+		slot->database = InvalidOid;
 	}
 	LWLockRelease(ws_shared->lock);
-	return database;
 }
 
 void
@@ -228,9 +218,15 @@ warm_standby_loader_main(Datum main_arg)
 	pqsignal(SIGHUP, SignalHandlerForConfigReload);
 	BackgroundWorkerUnblockSignals();
 	memcpy(&epoch, MyBgworkerEntry->bgw_extra, sizeof epoch);
-	database = enter(DatumGetInt32(main_arg));
+	slot = &ws_shared->loaders[DatumGetInt32(main_arg)];
+	before_shmem_exit(leave, (Datum) 0);
+	LWLockAcquire(ws_shared->lock, LW_EXCLUSIVE);
+	database = ws_shared->epoch == epoch ? slot->database : InvalidOid;
+	if (OidIsValid(database))
+		slot->latch = MyLatch;
+	LWLockRelease(ws_shared->lock);
 	if (!OidIsValid(database))
-		proc_exit(0);
+		proc_exit(0);			/* the slot is another's by now */
 	BackgroundWorkerInitializeConnectionByOid(database, InvalidOid, BGWORKER_BYPASS_ALLOWCONN);
 	is_connected = true;
 
@@ -247,15 +243,7 @@ warm_standby_loader_main(Datum main_arg)
 			(void) pgstat_report_stat(false);
 			idle = 0;
 		}
-		(void) WaitLatch(MyLatch, WL_LATCH_SET | WL_TIMEOUT | WL_EXIT_ON_PM_DEATH, IDLE_MS,
-						 PG_WAIT_EXTENSION);
-		ResetLatch(MyLatch);
-		CHECK_FOR_INTERRUPTS();
-		if (ConfigReloadPending)
-		{
-			ConfigReloadPending = false;
-			ProcessConfigFile(PGC_SIGHUP);
-		}
+		(void) ws_wait(IDLE_MS);
 	}
 	proc_exit(0);
 }

@@ -12,12 +12,10 @@
 #include "utils/memutils.h"
 #include "warm_standby.h"
 
-/* How long a file or page that could not be loaded is left alone. */
-#define FORGIVE_US		(300 * US_PER_S)
+#define FORGIVE_US		(300 * US_PER_S)	/* for which a page that cannot be read is left alone */
+#define BUSY_US			(10 * US_PER_S) /* and a file that is locked */
 #define MOST_UNLOADABLE 65536
-
-/* How long a loader works at least, where another database waits for one. */
-#define TERM_US			(5 * US_PER_S)
+#define TERM_US			(5 * US_PER_S)	/* a loader's, where another database waits for one */
 
 typedef struct Wanted
 {
@@ -39,8 +37,13 @@ typedef struct Wanted
 #include "lib/simplehash.h"
 
 /* Pages; without a block whole files; and without a file too, databases. */
+typedef struct Unloadable
+{
+	WsPage		page;			/* the key */
+	uint64		until;
+} Unloadable;
+
 static HTAB *unloadable = NULL;
-static uint64 unloadable_since;
 static MemoryContext round_context = NULL;
 static BackgroundWorkerHandle *handles[WS_MOST_LOADERS];
 static uint64 started_at[WS_MOST_LOADERS];
@@ -61,26 +64,33 @@ static bool *resident;
 static void
 forgive(void)
 {
-	HASHCTL		control = {.keysize = sizeof(WsPage), .entrysize = sizeof(WsPage),
+	HASHCTL		control = {.keysize = sizeof(WsPage), .entrysize = sizeof(Unloadable),
 	.hcxt = TopMemoryContext};
 
 	if (unloadable != NULL)
 		hash_destroy(unloadable);
 	unloadable = hash_create("warm_standby unloadable pages", 256, &control,
 							 HASH_ELEM | HASH_BLOBS | HASH_CONTEXT);
-	unloadable_since = ws_us();
+}
+
+static void
+leave_alone(const WsPage *page, uint64 us)
+{
+	if (hash_get_num_entries(unloadable) >= MOST_UNLOADABLE)
+		forgive();
+	((Unloadable *) hash_search(unloadable, page, HASH_ENTER, NULL))->until = round_at + us;
 }
 
 static bool
 is_unloadable(const WsPage *page)
 {
-	WsPage		file = {.device = page->device, .file = page->file, .block = InvalidBlockNumber};
-	WsPage		database = {.device.database = page->device.database, .block = InvalidBlockNumber};
+	WsPage		keys[] = {*page, {page->device, page->file, InvalidBlockNumber},
+	{.device.database = page->device.database, .block = InvalidBlockNumber}};
+	const Unloadable *found = NULL;
 
-	return hash_get_num_entries(unloadable) > 0 &&
-		(hash_search(unloadable, page, HASH_FIND, NULL) != NULL ||
-		 hash_search(unloadable, &file, HASH_FIND, NULL) != NULL ||
-		 hash_search(unloadable, &database, HASH_FIND, NULL) != NULL);
+	for (int i = 0; i < lengthof(keys) && (found == NULL || found->until <= round_at); i++)
+		found = hash_search(unloadable, &keys[i], HASH_FIND, NULL);
+	return found != NULL && found->until > round_at;
 }
 
 /* Notes what a loader read, and could not; of one that ended and left its batch, its database. */
@@ -90,7 +100,7 @@ note_outcomes(const WsLoader *loader, bool ended)
 	WsPage		key = {.device.database = loader->database, .block = InvalidBlockNumber};
 
 	if (ended && loader->state == WS_SLOT_FULL)
-		hash_search(unloadable, &key, HASH_ENTER, NULL);
+		leave_alone(&key, FORGIVE_US);
 	if (loader->state != WS_SLOT_DONE)
 		return;
 	ws_stats.read_us += loader->took_us;
@@ -100,10 +110,10 @@ note_outcomes(const WsLoader *loader, bool ended)
 		ws_stats.pages_prefetched += at->outcome == WS_LOADED && at->prefetch;
 		ws_stats.pages_failed += at->outcome == WS_FAILED;
 		key = at->page;
-		if (at->outcome == WS_NO_FILE)
+		if (at->outcome == WS_NO_FILE || at->outcome == WS_BUSY)
 			key.block = InvalidBlockNumber;
-		if (at->outcome >= WS_NO_FILE && hash_get_num_entries(unloadable) < MOST_UNLOADABLE)
-			hash_search(unloadable, &key, HASH_ENTER, NULL);
+		if (at->outcome >= WS_BUSY)
+			leave_alone(&key, at->outcome == WS_BUSY ? BUSY_US : FORGIVE_US);
 	}
 }
 
@@ -392,8 +402,6 @@ ws_round(void)
 	double		passed = (begun - round_at) / 1e6;
 
 	round_at = begun;
-	if (begun - unloadable_since > FORGIVE_US)
-		forgive();
 	load_allowance = Min(load_allowance + passed * ws_load_rate,
 						 Max(2.0 * ws_load_rate * ws_load_interval / 1000, 1));
 	reap_loaders();

@@ -191,7 +191,6 @@ ws_receive(void)
 											 message != NULL ? message : "it is gone")));
 			ws_stats.wal_skipped += end - position;
 			ws_stats.wal_read -= end - position;
-			close_segment();
 			position = end;
 			/* A record does not begin at a page, but behind its header. */
 			if (XLogSegmentOffset(end, wal_segment_size) == 0)
@@ -204,6 +203,7 @@ ws_receive(void)
 		look_at_record();
 		position = reader->EndRecPtr;
 	}
+	close_segment();			/* one from the archive may take its place */
 	MemoryContextSwitchTo(old);
 	ws_stats.wal_read += position - begun;
 	return position < end;

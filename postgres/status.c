@@ -40,7 +40,7 @@ warm_standby_status(PG_FUNCTION_ARGS)
 	int			loaders = 0;
 
 	need_shared();
-	if (get_call_result_type(fcinfo, NULL, &desc) != TYPEFUNC_COMPOSITE)
+	if (get_call_result_type(fcinfo, NULL, &desc) != TYPEFUNC_COMPOSITE || desc->natts != STATUS_COLUMNS)
 		elog(ERROR, "return type must be a row type");
 	LWLockAcquire(ws_shared->lock, LW_SHARED);
 	memcpy(counts, &ws_shared->stats, sizeof(WsStats));

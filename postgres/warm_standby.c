@@ -150,6 +150,21 @@ ws_describe_worker(BackgroundWorker *worker, const char *function, const char *n
 	strlcpy(worker->bgw_type, name, BGW_MAXLEN);
 }
 
+/* Waits at most so long, and with 0 not at all; true where the settings may be others then. */
+bool
+ws_wait(long milliseconds)
+{
+	(void) WaitLatch(MyLatch, WL_LATCH_SET | WL_TIMEOUT | WL_EXIT_ON_PM_DEATH, milliseconds,
+					 PG_WAIT_EXTENSION);
+	ResetLatch(MyLatch);
+	CHECK_FOR_INTERRUPTS();
+	if (!ConfigReloadPending)
+		return false;
+	ConfigReloadPending = false;
+	ProcessConfigFile(PGC_SIGHUP);
+	return true;
+}
+
 void
 _PG_init(void)
 {
@@ -337,20 +352,9 @@ warm_standby_main(Datum main_arg)
 	start();
 	while (!ShutdownRequestPending)
 	{
-		long		sleep = turn();
-
-		MemoryContextReset(context);
-		if (sleep > 0)
-			(void) WaitLatch(MyLatch, WL_LATCH_SET | WL_TIMEOUT | WL_EXIT_ON_PM_DEATH, sleep,
-							 PG_WAIT_EXTENSION);
-		ResetLatch(MyLatch);
-		CHECK_FOR_INTERRUPTS();
-		if (ConfigReloadPending)
-		{
-			ConfigReloadPending = false;
-			ProcessConfigFile(PGC_SIGHUP);
+		if (ws_wait(turn()))
 			sample_at = publish_at = round_at = 0;	/* the intervals may be others */
-		}
+		MemoryContextReset(context);
 	}
 	ws_history_save();
 	proc_exit(1);				/* so that it starts again, where the server goes on */

@@ -55,7 +55,7 @@ typedef enum WsOutcome
 {
 	WS_WAITING,
 	WS_LOADED,
-	WS_BUSY,					/* its relation is locked: try again */
+	WS_BUSY,					/* its relation is locked: try again later */
 	WS_NO_FILE,					/* no relation has this file */
 	WS_NO_BLOCK,				/* the file is shorter */
 	WS_FAILED					/* the read ended in an error */
@@ -189,6 +189,7 @@ extern void ws_round(void);
 extern void ws_make_list(void);
 /* warm_standby.c */
 extern uint64 ws_us(void);
+extern bool ws_wait(long milliseconds);
 extern void ws_describe_worker(BackgroundWorker *worker, const char *function, const char *name);
 
 /* A message: a header of WS_HEADER bytes, and its content. */
