@@ -88,6 +88,8 @@ is_unloadable(const WsPage *page)
 	{.device.database = page->device.database, .block = InvalidBlockNumber}};
 	const Unloadable *found = NULL;
 
+	if (hash_get_num_entries(unloadable) == 0)
+		return false;
 	for (int i = 0; i < lengthof(keys) && (found == NULL || found->until <= round_at); i++)
 		found = hash_search(unloadable, &keys[i], HASH_FIND, NULL);
 	return found != NULL && found->until > round_at;

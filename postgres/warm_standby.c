@@ -44,17 +44,14 @@ typedef struct IntSetting
 {
 	int		   *value;
 	const char *name;
-	int			usual, least, most;
-	int			unit;
-	const char *what;
-	const char *more;
+	int			usual, least, most, unit;
+	const char *what, *more;
 } IntSetting;
 
 /* All of them by SIGHUP.  The first four are a primary's; ages, pages and clocks of both. */
 static const IntSetting int_settings[] = {
 	{&ws_sample_interval, "warm_standby.sample_interval", 1000, 10, 3600 * 1000, GUC_UNIT_MS,
-		"Sets the time between two samples of a primary's buffers.",
-	"References to a page within one interval count as one."},
+	"Sets the time between two samples of a primary's buffers."},
 	{&ws_publish_interval, "warm_standby.publish_interval", 5000, 100, 3600 * 1000, GUC_UNIT_MS,
 	"Sets the time between two publications of what changed."},
 	{&ws_full_interval, "warm_standby.full_interval", 600, 1, 7 * 86400, GUC_UNIT_S,
@@ -69,13 +66,11 @@ static const IntSetting int_settings[] = {
 	{&ws_load_interval, "warm_standby.load_interval", 1000, 10, 3600 * 1000, GUC_UNIT_MS,
 	"Sets the time between two rounds of loading."},
 	{&ws_load_rate, "warm_standby.load_rate", 2000, 0, 1000000, 0,
-		"Sets how many pages a standby reads each second at most.",
-	"A loader takes at most 4096 pages a round."},
+	"Sets how many pages a standby reads each second at most."},
 	{&ws_prefetch_pages, "warm_standby.prefetch_pages", 0, 0, PG_INT32_MAX / 2, GUC_UNIT_BLOCKS,
 	"Sets how many further pages are read into the operating system's cache."},
 	{&ws_clock_tolerance, "warm_standby.clock_tolerance", 600, 1, 7 * 86400, GUC_UNIT_S,
-		"Sets how far ahead of this server's clock a time is believed.",
-	"A frame with a later time is refused."},
+	"Sets how far ahead of this server's clock a time in a frame is believed."},
 };
 
 static void
