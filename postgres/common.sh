@@ -104,8 +104,9 @@ make_primary() {
     servers+=("$1")
     as "$bin/initdb" -D "$work/$1" -A trust --locale=C -E UTF8 -N > "$work/initdb.log" || fail "initdb: $(tail "$work/initdb.log")"
     configure "$1" "listen_addresses = ''" "unix_socket_directories = '$work/run'" "port = $(port "$1")" "shared_buffers = $2" \
-        "fsync = off" "jit = off" "dynamic_shared_memory_type = mmap" "max_parallel_workers_per_gather = 0" "max_wal_senders = 12" "wal_keep_size = 1GB" "max_wal_size = 4GB" \
-        "max_worker_processes = 16" "max_connections = 40" "log_min_messages = info" "track_io_timing = on" "autovacuum_naptime = 1h" \
+        "fsync = off" "jit = off" "max_parallel_workers_per_gather = 0" "max_wal_senders = 12" "wal_keep_size = 1GB" "max_wal_size = 4GB" \
+        "max_standby_streaming_delay = -1" "max_worker_processes = 16" "max_connections = 40" "log_min_messages = info" \
+        "track_io_timing = on" "autovacuum_naptime = 1h" "dynamic_shared_memory_type = mmap" \
         "shared_preload_libraries = 'pg_stat_statements,pg_prewarm,warm_standby'" "pg_prewarm.autoprewarm = off" \
         "pg_stat_statements.save = off" "warm_standby.sample_interval = 200ms" "warm_standby.publish_interval = 1s" \
         "warm_standby.full_interval = 10s" "warm_standby.load_interval = 500ms" "warm_standby.load_rate = 4000" "${@:3}"
@@ -135,7 +136,7 @@ until_true() {
 caught_up() {
     local lsn
     lsn=$(sql "$2" "select pg_current_wal_lsn()")
-    until_true 20 "$1" "select pg_last_wal_replay_lsn() >= '$lsn'"
+    until_true 60 "$1" "select pg_last_wal_replay_lsn() >= '$lsn'"
 }
 
 # load SERVER TRANSACTIONS SEED SEED2 [RATE]: by four clients. Rows are drawn by Zipf's law; seed2 says which are hot for a third of them.
