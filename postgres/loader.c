@@ -123,7 +123,7 @@ try_file(WsRequest *some, int count)
 		if (reading != NULL)
 			reading->outcome = WS_FAILED;
 		if (reading != NULL || ERRCODE_TO_CATEGORY(error->sqlerrcode) == ERRCODE_TRANSACTION_ROLLBACK)
-			rest = WS_BUSY;		/* by another page, or a conflict with replay */
+			rest = WS_WAITING;	/* they are handed out again */
 		ereport(DEBUG1, (errmsg_internal("warm_standby could not read file %u: %s", some->page.file,
 										 error->message)));
 		FreeErrorData(error);

@@ -232,7 +232,7 @@ hand_out(warm_page page, bool prefetch)
 	if (named && slot < 0 && !OidIsValid(waiting) && !prefetch)
 		waiting = request.page.device.database;
 	if (slot < 0 || loader->state != WS_SLOT_IDLE || loader->count == WS_BATCH)
-		return false;
+		return slot < 0 && prefetch;	/* without a loader it is passed over */
 	if (!OidIsValid(loader->database))
 		loader->database = request.page.device.database;
 	loader->pages[loader->count++] = request;
