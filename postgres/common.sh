@@ -142,7 +142,7 @@ caught_up() {
 # load SERVER TRANSACTIONS SEED SEED2 [RATE]: by four clients. Rows are drawn by Zipf's law; seed2 says which are hot for a third of them.
 load() {
     as "$bin/pgbench" -n -h "$work/run" -p "$(port "$1")" -c 4 -j 1 -t $(($2 / 4)) ${5:+-R "$5"} --random-seed="$3" -D rows="$rows" -D zipf="$zipf" \
-        -D seed2="$4" -f "$work/build/test/zipf.sql@65" -f "$work/build/test/drift.sql@30" -f "$work/build/test/update.sql@5" postgres \
+        -D seed2="$4" -f "$work/build/test/zipf.sql@65" -f "$work/build/test/drift.sql@30" -f "$work/build/test/update.sql@${UPDATES:-5}" postgres \
         > "$work/load.log" 2>&1 || fail "the load on $1: $(tail -n 3 "$work/load.log")"
 }
 
