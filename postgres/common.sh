@@ -132,9 +132,10 @@ until_true() {
     done
 }
 
-# The standby has replayed what the primary has written.
+# The standby has replayed what the primary has written: a commit writes what was only inserted, as the record of a lock.
 caught_up() {
     local lsn
+    sql "$2" "select txid_current()" > /dev/null
     lsn=$(sql "$2" "select pg_current_wal_lsn()")
     until_true 60 "$1" "select pg_last_wal_replay_lsn() >= '$lsn'"
 }
@@ -143,7 +144,7 @@ caught_up() {
 load() {
     as "$bin/pgbench" -n -h "$work/run" -p "$(port "$1")" -c 4 -j 1 -t $(($2 / 4)) ${5:+-R "$5"} --random-seed="$3" -D rows="$rows" -D zipf="$zipf" \
         -D seed2="$4" -f "$work/build/test/zipf.sql@65" -f "$work/build/test/drift.sql@30" -f "$work/build/test/update.sql@${UPDATES:-5}" postgres \
-        > "$work/load.log" 2>&1 || fail "the load on $1: $(tail -n 3 "$work/load.log")"
+        > "$work/load-$1.log" 2>&1 || fail "the load on $1: $(tail -n 3 "$work/load-$1.log")"
 }
 
 # misses SERVER: pages that the workload read into shared buffers so far.
