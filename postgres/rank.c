@@ -44,6 +44,7 @@ typedef struct Unloadable
 } Unloadable;
 
 static HTAB *unloadable = NULL;
+static uint64 unloadable_until; /* the latest of them */
 static MemoryContext round_context = NULL;
 static BackgroundWorkerHandle *handles[WS_MOST_LOADERS];
 static uint64 started_at[WS_MOST_LOADERS];
@@ -79,6 +80,7 @@ leave_alone(const WsPage *page, uint64 us)
 	if (hash_get_num_entries(unloadable) >= MOST_UNLOADABLE)
 		forgive();
 	((Unloadable *) hash_search(unloadable, page, HASH_ENTER, NULL))->until = round_at + us;
+	unloadable_until = Max(unloadable_until, round_at + us);
 }
 
 static bool
@@ -404,6 +406,8 @@ ws_round(void)
 	double		passed = (begun - round_at) / 1e6;
 
 	round_at = begun;
+	if (begun > unloadable_until && hash_get_num_entries(unloadable) > 0)
+		forgive();				/* so that ranking looks for none */
 	load_allowance = Min(load_allowance + passed * ws_load_rate,
 						 Max(2.0 * ws_load_rate * ws_load_interval / 1000, 1));
 	reap_loaders();

@@ -18,7 +18,7 @@ CREATE TABLE warm (i int);
 INSERT INTO warm SELECT generate_series(1, 20000);
 DO $$
 BEGIN
-    FOR n IN 1..50 LOOP
+    FOR n IN 1..600 LOOP
         PERFORM count(*) FROM warm;
         PERFORM pg_sleep(0.1);
         EXIT WHEN EXISTS (SELECT FROM warm_standby_hot_relations() WHERE relation = 'warm'::regclass);
