@@ -1,0 +1,154 @@
+# What check and measure share. Sourced, with $here the folder of the extension and $library a path of libwarm_c.a.
+#
+# The servers are of a copy of PostgreSQL in a folder of its own, into which the extension is installed: programs of PostgreSQL look for
+# their files beside themselves. They listen on a socket in that folder, and on no address. It is Debian's PostgreSQL 15, or that of PG_CONFIG.
+
+version=15
+folder_of_library=$(dirname "$(dirname "$library")")
+"$here/../scripts/need" gcc:gcc make:make prlimit:util-linux runuser:util-linux
+[ -n "${PG_CONFIG:-}" ] || "$here/../scripts/need" "/usr/lib/postgresql/$version/bin/postgres:postgresql-$version" \
+    "/usr/include/postgresql/$version/server/postgres.h:postgresql-server-dev-$version"
+config=${PG_CONFIG:-/usr/lib/postgresql/$version/bin/pg_config}
+libraries=$("$config" --pkglibdir)
+
+fail() {
+    echo "postgres: $*" >&2
+    exit 1
+}
+
+# Servers run as postgres, not as root.
+as() {
+    if [ "$(id -u)" = 0 ]; then runuser -u postgres -- "$@"; else "$@"; fi
+}
+
+make_work() {
+    local parent=${TMPDIR:-/tmp}
+    # in memory, where there is room for it
+    if [ -z "${TMPDIR:-}" ] && [ -w /dev/shm ] && [ "$(df --output=avail -k /dev/shm | tail -n 1)" -gt 4000000 ]; then parent=/dev/shm; fi
+    work=$(mktemp -d "$parent/warm-postgres-XXXXXX")
+    bin=$work$("$config" --bindir)
+    servers=()
+    loads=()
+    trap clean_up EXIT
+    mkdir -p "$work/run" "$work/build" "$work$libraries"
+    copy_folder "$("$config" --bindir)"
+    copy_folder "$("$config" --sharedir)"
+    copy_libraries
+    cp -r "$here"/*.[ch] "$here"/*.sql "$here"/*.control "$here/Makefile" "$here/test" "$here/sql" "$here/expected" "$work/build/"
+    if [ "$(id -u)" = 0 ]; then chown -R postgres "$work"; fi
+}
+
+copy_folder() {
+    mkdir -p "$(dirname "$work$1")"
+    cp -r "$1" "$work$1"
+}
+
+# Of the libraries all but those that only a build needs.
+copy_libraries() {
+    local file
+    for file in "$libraries"/*; do
+        case ${file##*/} in bitcode | pgxs | *.a) ;; *) cp -r "$file" "$work$libraries/" ;; esac
+    done
+}
+
+# Ends the servers that this script started, and no others.
+clean_up() {
+    local process server
+    for process in "${loads[@]}"; do kill "$process" || true; done 2> /dev/null
+    for server in "${servers[@]}"; do
+        [ ! -f "$work/$server/postmaster.pid" ] || as "$bin/pg_ctl" -D "$work/$server" -s -m immediate -w stop || true
+    done > /dev/null 2>&1
+    [ -n "${KEEP:-}" ] || rm -rf "$work"
+}
+
+# Builds the extension, without a warning, and installs it into the copy.
+build() {
+    make -s -C "$work/build" PG_CONFIG="$config" WARM="$folder_of_library" with_llvm=no PROFILE=-Werror > "$work/build.log" 2>&1 &&
+        make -s -C "$work/build/test" PG_CONFIG="$config" with_llvm=no PROFILE=-Werror >> "$work/build.log" 2>&1 ||
+        fail "the extension is not built: $(tail -n 20 "$work/build.log")"
+    make -s -C "$work/build" PG_CONFIG="$config" WARM="$folder_of_library" with_llvm=no DESTDIR="$work" install >> "$work/build.log" 2>&1 ||
+        fail "the extension is not installed: $(tail -n 20 "$work/build.log")"
+}
+
+# sql SERVER STATEMENTS: what they print, or an error.
+sql() { PGOPTIONS='-c client_min_messages=warning' as "$bin/psql" -XqAt -h "$work/run" -p "$(port "$1")" -d "${database:-postgres}" -v ON_ERROR_STOP=1 -c "$2"; }
+
+# A server's port names its socket alone.
+port() {
+    local i
+    for i in "${!servers[@]}"; do
+        [ "${servers[$i]}" != "$1" ] || { echo $((54500 + i)); return; }
+    done
+    fail "there is no server $1"
+}
+
+start() { as "$bin/pg_ctl" -D "$work/$1" -w -s -t 60 -l "$work/$1.log" start > /dev/null 2>&1 || fail "$1 does not start: $(tail -n 20 "$work/$1.log")"; }
+stop() { as "$bin/pg_ctl" -D "$work/$1" -w -s -m "${2:-fast}" stop > /dev/null; }
+promote() { as "$bin/pg_ctl" -D "$work/$1" -w -s promote > /dev/null; }
+
+# set SERVER 'NAME = VALUE'..: appends to its configuration.
+configure() {
+    local server=$1
+    shift
+    printf '%s\n' "$@" | as tee -a "$work/$server/postgresql.conf" > /dev/null
+}
+
+# set_on SERVER 'NAME = VALUE'..: by a reload.
+set_on() {
+    configure "$@"
+    sql "$1" "select pg_reload_conf()" > /dev/null
+}
+
+# make_primary NAME SHARED_BUFFERS [SETTING..]: a primary with the extension, started.
+make_primary() {
+    servers+=("$1")
+    as "$bin/initdb" -D "$work/$1" -A trust --locale=C -E UTF8 -N > "$work/initdb.log" || fail "initdb: $(tail "$work/initdb.log")"
+    configure "$1" "listen_addresses = ''" "unix_socket_directories = '$work/run'" "port = $(port "$1")" "shared_buffers = $2" \
+        "fsync = off" "jit = off" "max_parallel_workers_per_gather = 0" "max_wal_senders = 12" "wal_keep_size = 1GB" "max_wal_size = 4GB" \
+        "max_standby_streaming_delay = -1" "max_worker_processes = 16" "max_connections = 40" "log_min_messages = info" \
+        "track_io_timing = on" "autovacuum_naptime = 1h" "dynamic_shared_memory_type = mmap" \
+        "shared_preload_libraries = 'pg_stat_statements,pg_prewarm,warm_standby'" "pg_prewarm.autoprewarm = off" \
+        "pg_stat_statements.save = off" "warm_standby.sample_interval = 200ms" "warm_standby.publish_interval = 1s" \
+        "warm_standby.full_interval = 10s" "warm_standby.load_interval = 500ms" "warm_standby.load_rate = 4000" "${@:3}"
+    start "$1"
+}
+
+# make_standby NAME OF [SETTING..]: a standby of the server OF, started.
+make_standby() {
+    local name=$1 of=$2
+    shift 2
+    servers+=("$name")
+    as "$bin/pg_basebackup" -h "$work/run" -p "$(port "$of")" -D "$work/$name" -R -X stream -c fast --no-sync || fail "pg_basebackup of $of"
+    configure "$name" "port = $(port "$name")" "$@"
+    start "$name"
+}
+
+# until_true SECONDS SERVER QUERY: waits until it gives t.
+until_true() {
+    local end=$((SECONDS + $1))
+    until [ "$(sql "$2" "$3" 2> /dev/null)" = t ]; do
+        [ $SECONDS -lt $end ] || return 1
+        sleep 0.1
+    done
+}
+
+# The standby has replayed what the primary has written: a commit writes what was only inserted, as the record of a lock.
+caught_up() {
+    local lsn
+    sql "$2" "select txid_current()" > /dev/null
+    lsn=$(sql "$2" "select pg_current_wal_lsn()")
+    until_true 60 "$1" "select pg_last_wal_replay_lsn() >= '$lsn'"
+}
+
+# load SERVER TRANSACTIONS SEED SEED2 [RATE]: by four clients. Rows are drawn by Zipf's law; seed2 says which are hot for a third of them.
+load() {
+    as "$bin/pgbench" -n -h "$work/run" -p "$(port "$1")" -c 4 -j 1 -t $(($2 / 4)) ${5:+-R "$5"} --random-seed="$3" -D rows="$rows" -D zipf="$zipf" \
+        -D seed2="$4" -f "$work/build/test/zipf.sql@65" -f "$work/build/test/drift.sql@30" -f "$work/build/test/update.sql@${UPDATES:-5}" postgres \
+        > "$work/load-$1.log" 2>&1 || fail "the load on $1: $(tail -n 3 "$work/load-$1.log")"
+}
+
+# misses SERVER: pages that the workload read into shared buffers so far.
+misses() {
+    sql "$1" "select coalesce(sum(shared_blks_read), 0) from pg_stat_statements
+              where query like 'SELECT abalance%' or query like 'UPDATE pgbench%'"
+}

@@ -1,0 +1,32 @@
+/*
+ * compat.h
+ *		What differs between the versions of PostgreSQL, 15 to 18.
+ *
+ * All tests of the version are here.  Tried with 15; the names of 16 and
+ * later are as their headers have them.
+ */
+#ifndef WARM_STANDBY_COMPAT_H
+#define WARM_STANDBY_COMPAT_H
+
+#include "storage/buf_internals.h"
+#include "utils/rel.h"
+
+#if PG_VERSION_NUM >= 160000
+#include "utils/relfilenumbermap.h"
+#define TagSpace(tag)			((tag)->spcOid)
+#define TagDatabase(tag)		((tag)->dbOid)
+#define TagFile(tag)			((tag)->relNumber)
+#define RelationSpace(rel)		((rel)->rd_locator.spcOid)
+#define RelationFile(rel)		((rel)->rd_locator.relNumber)
+#define RelidOfFile(space, file) RelidByRelfilenumber(space, file)
+#else
+#include "utils/relfilenodemap.h"
+#define TagSpace(tag)			((tag)->rnode.spcNode)
+#define TagDatabase(tag)		((tag)->rnode.dbNode)
+#define TagFile(tag)			((tag)->rnode.relNode)
+#define RelationSpace(rel)		((rel)->rd_node.spcNode)
+#define RelationFile(rel)		((rel)->rd_node.relNode)
+#define RelidOfFile(space, file) RelidByRelfilenode(space, file)
+#endif
+
+#endif							/* WARM_STANDBY_COMPAT_H */

@@ -1,0 +1,137 @@
+/*
+ * directory.c
+ *		The numbers of (tablespace, database, fork).
+ *
+ * The history names a page by a device and a number, which is the relation file
+ * number and the block.  The primary gives device numbers, and none a second time,
+ * also where a database was dropped.  A standby that is promoted goes on with them.
+ */
+#include "postgres.h"
+
+#include "utils/memutils.h"
+#include "warm_standby.h"
+
+#define MOST_DEVICES 65536
+
+typedef struct Number
+{
+	WsDevice	device;			/* the key */
+	uint16		number;
+} Number;
+
+int			ws_device_count = 0;	/* the greatest number given, plus 1 */
+
+static HTAB *numbers = NULL;
+static WsDevice devices[MOST_DEVICES];	/* by number; fork -1: not given */
+
+/* Forgets all numbers. */
+void
+ws_directory_reset(void)
+{
+	HASHCTL		control = {.keysize = sizeof(WsDevice), .entrysize = sizeof(Number),
+	.hcxt = TopMemoryContext};
+
+	if (numbers != NULL)
+		hash_destroy(numbers);
+	numbers = hash_create("warm_standby devices", 64, &control,
+						  HASH_ELEM | HASH_BLOBS | HASH_CONTEXT);
+	ws_device_count = 0;
+}
+
+/* The device of a number, or NULL. */
+static const WsDevice *
+device_of(int number)
+{
+	return number < ws_device_count && devices[number].fork >= 0 ? &devices[number] : NULL;
+}
+
+/* Notes that a device has a number; false where it has another, or the number another device. */
+static bool
+put(uint16 number, const WsDevice *device)
+{
+	Number	   *entry = hash_search(numbers, device, HASH_FIND, NULL);
+
+	if (entry != NULL || device_of(number) != NULL)
+		return entry != NULL && entry->number == number;
+	while (ws_device_count <= number)
+		devices[ws_device_count++].fork = -1;
+	devices[number] = *device;
+	entry = hash_search(numbers, device, HASH_ENTER, NULL);
+	entry->number = number;
+	return true;
+}
+
+/*
+ * Writes the page of the history that a buffer's tag names; false where its
+ * device has no number.  With give, it is given one, where there are any.
+ */
+bool
+ws_page_of(const BufferTag *tag, bool give, warm_page *page)
+{
+	WsDevice	device = {.space = TagSpace(tag), .database = TagDatabase(tag),
+	.fork = tag->forkNum};
+	Number	   *entry;
+
+	if (tag->forkNum < MAIN_FORKNUM || tag->forkNum > MAX_FORKNUM)
+		return false;
+	page->no = (uint64) TagFile(tag) << 32 | tag->blockNum;
+	entry = hash_search(numbers, &device, HASH_FIND, NULL);
+	if (entry != NULL)
+		page->dev = entry->number;
+	else if (give && ws_device_count < MOST_DEVICES)
+	{
+		page->dev = (uint16) ws_device_count;
+		put(page->dev, &device);
+	}
+	else
+		return false;
+	return true;
+}
+
+/* Writes the names of a page of the history; false where its device is not known. */
+bool
+ws_names_of(warm_page page, WsPage *names)
+{
+	const WsDevice *device = device_of(page.dev);
+
+	if (device != NULL)
+		*names = (WsPage) {.device = *device, .file = (Oid) (page.no >> 32),
+	.block = (BlockNumber) page.no};
+	return device != NULL;
+}
+
+/* Writes the numbers from *next to below end, at most so many; returns the end of the bytes. */
+uint8 *
+ws_directory_encode(int *next, int end, int most, uint8 *to)
+{
+	for (; most > 0 && *next < end; ++*next)
+	{
+		const WsDevice *device = device_of(*next);
+
+		if (device == NULL)
+			continue;
+		to = ws_put(ws_put(to, *next, 2), device->space, 4);
+		to = ws_put(ws_put(to, device->database, 4), device->fork, 1);
+		most--;
+	}
+	return to;
+}
+
+/* Takes numbers in, up to the first that is refused. */
+int
+ws_directory_decode(const uint8 *bytes, Size length)
+{
+	if (length % WS_DEVICE_BYTES != 0)
+		return WS_BAD_DIRECTORY;
+	for (const uint8 *at = bytes; at < bytes + length; at += WS_DEVICE_BYTES)
+	{
+		WsDevice	device = {.space = (Oid) ws_get(at + 2, 4), .database = (Oid) ws_get(at + 6, 4),
+		.fork = at[10]};
+
+		if (device.fork > MAX_FORKNUM || !OidIsValid(device.space))
+			return WS_BAD_DIRECTORY;
+		if (!put((uint16) ws_get(at, 2), &device))
+			return WS_OTHER_DIRECTORY;
+	}
+	return WARM_OK;
+}

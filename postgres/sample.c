@@ -1,0 +1,126 @@
+/*
+ * sample.c
+ *		References, from the buffer descriptors of a primary.
+ *
+ * A page is referenced at the time of a sample where it came in since the sample
+ * before, or its usage count rose: at most once a sample, which is LRU-2's
+ * correlated reference period.  A count at its greatest cannot rise: where it stays,
+ * the page is taken as referenced at the next sample, so that it has two
+ * references, and then once a minute, so that the horizon does not forget it.
+ */
+#include "postgres.h"
+
+#include "common/hashfn.h"
+#include "miscadmin.h"
+#include "utils/memutils.h"
+#include "warm_standby.h"
+
+#define SATURATED_US	(60 * US_PER_S)
+#define SEEN_NONE		UINT64CONST(15)
+#define REFERENCES_A_TURN 300000	/* the history takes some 200 ms for them */
+
+/* For each buffer a hash of its page, with its usage count in the last bits. */
+static uint64 *seen = NULL;
+static bool is_first = true;
+static uint64 saturated_at = 0;
+static int	next_buffer;		/* where the sample goes on */
+static uint64 cost;				/* of it so far */
+
+/*
+ * Reads the tag and the state of a valid buffer, without its lock unless it is
+ * locked or changes meanwhile.  One that gets another page and the same state
+ * within these few instructions may give a tag of both, which does no harm.
+ */
+bool
+ws_look(int buffer, BufferTag *tag, uint32 *state)
+{
+	BufferDesc *descriptor = GetBufferDescriptor(buffer);
+	uint32		before = pg_atomic_read_u32(&descriptor->state);
+
+	if (buffer % 65536 == 0)
+		CHECK_FOR_INTERRUPTS(); /* a walk is long, and a drop of a database waits for us */
+	if ((before & BM_VALID) == 0)
+		return false;
+	pg_read_barrier();
+	*tag = descriptor->tag;
+	pg_read_barrier();
+	*state = pg_atomic_read_u32(&descriptor->state);
+	if (*state != before || (before & BM_LOCKED) != 0)
+	{
+		before = LockBufHdr(descriptor);
+		*tag = descriptor->tag;
+		*state = before;
+		UnlockBufHdr(descriptor, before);
+	}
+	return (*state & (BM_VALID | BM_TAG_VALID)) == (BM_VALID | BM_TAG_VALID);
+}
+
+/* The next sample is the first: it only notes what is there. */
+void
+ws_sample_reset(void)
+{
+	if (seen == NULL)
+		seen = MemoryContextAllocHuge(TopMemoryContext, sizeof(uint64) * (Size) NBuffers);
+	is_first = true;
+	saturated_at = ws_us();
+	next_buffer = 0;
+}
+
+/* Notes a buffer, and its page as referenced where it is. */
+static void
+sample_buffer(int i, uint64 time, bool saturated)
+{
+	BufferTag	tag;
+	uint32		state;
+	uint64		before = seen[i];
+	uint64		mark = SEEN_NONE;
+	warm_page	page;
+	bool		is_new, is_hotter;
+
+	/* Pages of unlogged relations are not on a standby. */
+	if (ws_look(i, &tag, &state) && (state & BM_PERMANENT) != 0)
+	{
+		mark = hash_bytes_extended((const unsigned char *) &tag, sizeof tag, 0);
+		mark = (mark & ~SEEN_NONE) | BUF_STATE_GET_USAGECOUNT(state);
+		if (BUF_STATE_GET_USAGECOUNT(state) == BM_MAX_USAGE_COUNT && before - mark <= 1)
+			mark++;				/* for the second time at least */
+		is_new = (before ^ mark) > SEEN_NONE || (before & SEEN_NONE) == SEEN_NONE;
+		is_hotter = mark > before ||
+			(saturated && (mark & SEEN_NONE) >= BM_MAX_USAGE_COUNT);
+		if (!is_first && (is_new || is_hotter) && ws_page_of(&tag, true, &page))
+			ws_reference(page, time);
+	}
+	seen[i] = mark;
+}
+
+/*
+ * Takes a sample; false where much is referenced, and this was a piece of it.
+ * Each piece has a time of its own, as what is new since a time may be published.
+ */
+bool
+ws_sample(void)
+{
+	static bool saturated;
+	uint64		time = ws_clock();
+	uint64		begun = ws_us();
+	int64		most = ws_stats.page_references + REFERENCES_A_TURN;
+
+	if (next_buffer == 0)
+	{
+		saturated = begun - saturated_at >= SATURATED_US;
+		if (saturated)
+			saturated_at = begun;
+		cost = 0;
+	}
+	while (next_buffer < NBuffers && ws_stats.page_references < most)
+		sample_buffer(next_buffer++, time, saturated);
+	ws_references_end();
+	cost += ws_us() - begun;
+	if (next_buffer < NBuffers)
+		return false;
+	next_buffer = 0;
+	is_first = false;
+	ws_stats.samples++;
+	ws_stats.sample_us = cost;
+	return true;
+}
