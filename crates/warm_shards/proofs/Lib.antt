@@ -1,0 +1,12 @@
+pub mod Lists
+pub mod Pages
+pub mod Knowing
+pub mod Taking
+pub mod Parts
+pub mod Buckets
+pub mod Standing
+pub mod Keeping
+pub mod BucketSets
+pub mod Joined
+pub mod Victims
+pub mod Gathering

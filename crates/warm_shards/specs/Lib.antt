@@ -1,0 +1,4 @@
+pub mod Shards
+pub mod Clauses
+pub mod Digests
+pub mod Laws
