@@ -32,15 +32,13 @@ all_shards number latest ns count some each =
       each = λ i lt. let o = each i lt in record { id = o.id ∙ sym first.id; horizon = o.horizon ∙ sym first.horizon; valid = o.valid; own = o.own }
     }
 
--- a shard that has its id and horizon as before, and its pages alone
+-- a shard changes, and is still that shard
 pub still_shards : (ns : List NodeState) (i : ℕ) (m : NodeState) → AreShards ns → i < length ns
-    → m.id ≡ (shard_at ns i).id → m.history.horizon ≡ (shard_at ns i).history.horizon
-    → IsHistory m.history → HoldsShard (length ns) i m → AreShards (set ns i m)
-still_shards ns i m are lt id horizon valid own =
+    → IsShard (length ns) (shard_at ns 0).id (shard_at ns 0).history.horizon i m
+    → AreShards (set ns i m)
+still_shards ns i m are lt new =
     let number = (shard_at ns 0).id in
     let latest = (shard_at ns 0).history.horizon in
     let long : length (set ns i m) ≡ length ns = length-set ns i m in
-    let old = are.each i lt in
-    let new : IsShard (length ns) number latest i m = record { id = id ∙ old.id; horizon = horizon ∙ old.horizon; valid = valid; own = own } in
     let shard : (k : ℕ) → k < length ns → IsShard (length ns) number latest k (shard_at (set ns i m) k) = at_each (λ k n. k < length ns → IsShard (length ns) number latest k n) ns i m lt (λ less. new) (λ k other less. are.each k less) in
     all_shards number latest (set ns i m) (rw long are.count) (omega arith) (λ k less. subst (λ c. IsShard c number latest k (shard_at (set ns i m) k)) (sym long) (shard k (omega arith)))

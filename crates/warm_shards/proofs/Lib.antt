@@ -10,3 +10,9 @@ pub mod BucketSets
 pub mod Joined
 pub mod Victims
 pub mod Gathering
+pub mod Calls
+pub mod Absorbing
+pub mod Raising
+pub mod Answering
+pub mod LawsHold
+pub mod Examples

@@ -1,10 +1,10 @@
 -- One shard takes references in: so do all together.
-use Rattle.std.proofs.Common.{◌≡◌, ◌⊎◌, inl, inr, ℕ, zero, suc, ◌+◌, ◌<◌, ◌≤◌, Bool, true, false, cond, List, [], ◌∷◌, ◌++◌, length, filter, max, set, get_or, refl, sym, ap, subst, ◌∙◌, arith}
+use Rattle.std.proofs.Common.{◌≡◌, ◌⊎◌, inl, inr, ℕ, zero, suc, ◌+◌, ◌<◌, ◌≤◌, Bool, true, false, cond, List, [], ◌∷◌, ◌++◌, length, filter, max, set, take, get_or, refl, sym, ap, subst, ◌∙◌, arith}
 use Rattle.std.specs.Prelude.{nat_eq, nat_lt}
 use Rattle.warm_stamps.specs.declared.PageId.{PageId}
 use Rattle.warm_stamps.specs.declared.Reference.{Reference}
-use Rattle.warm_history.specs.ReferenceSets.{ReferenceSet, references, ◌∪◌}
-use Rattle.warm_history.specs.Histories.{HistoryView, hist, history, references_of}
+use Rattle.warm_history.specs.ReferenceSets.{ReferenceSet, references, set_of_list, ◌∪◌}
+use Rattle.warm_history.specs.Histories.{HistoryView, hist, history, history_of_entries, join, references_of}
 use Rattle.warm_history.proofs.JoinLemmas.{both_assoc, history_alike, history_first, history_second, history_swap}
 use Rattle.warm_gossip.specs.State.{NodeState}
 use Rattle.warm_shards.specs.Shards.{held, no_shard, of_first_shards, of_shard, shard_at, shard_of, whole}
@@ -44,3 +44,26 @@ pub one_stays : (ns : List NodeState) (i : ℕ) (m : NodeState) → m.history �
 one_stays [] i m is lt = absurd (omega arith)
 one_stays (n ∷ ns) zero m is lt = ap (λ h. references_of h ∪ held ns) is
 one_stays (n ∷ ns) (suc i) m is lt = ap (λ S. references_of n.history ∪ S) (one_stays ns i m is (omega arith))
+
+-- the history of one shard more
+pub whole_more : (ns : List NodeState) (k : ℕ) → k < length ns
+    → whole (take (suc k) ns) ≡ join (whole (take k ns)) (shard_at ns k).history
+whole_more [] k lt = absurd (omega arith)
+whole_more (n ∷ ns) zero lt =
+    let R = references_of n.history in
+    history_swap R (set_of_list []) ∙ sym (history_first (set_of_list []) R)
+whole_more (n ∷ ns) (suc k) lt =
+    let R = references_of n.history in
+    let W = references_of (whole (take k ns)) in
+    let T = references_of (shard_at ns k).history in
+    sym (history_second R (held (take (suc k) ns)))
+    ∙ ap (λ h. history (R ∪ references_of h)) (whole_more ns k (omega arith))
+    ∙ history_second R (W ∪ T)
+    ∙ ap history (sym (both_assoc R W T))
+    ∙ sym (history_first (R ∪ W) T)
+    ∙ ap (λ h. history (references_of h ∪ T)) (history_second R (held (take k ns)))
+
+-- the history of no shard
+pub none_joined : history_of_entries [] ≡ whole []
+unfolding history
+none_joined = refl

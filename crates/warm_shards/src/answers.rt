@@ -1,5 +1,5 @@
 //! What all shards together answer to digests and to a request.
-ghost use Rattle.std.specs.Prelude.{◌≡◌, ℕ, ◌%◌, ◌<◌, ◌≢◌, IfErr, IfOk, length};
+ghost use Rattle.std.specs.Prelude.{◌≡◌, ◌<◌, ◌++◌, ◌∷◌, [], IfErr, IfOk, OnOk};
 ghost use Rattle.warm_stamps.specs.declared.TheConstants.{BUCKETS};
 ghost use Rattle.warm_history.specs.Histories.{IsHistory, entries_of};
 ghost use Rattle.warm_digest.specs.BucketDigests.{digests_of};
@@ -12,7 +12,7 @@ ghost use Rattle.warm_shards.specs.Clauses.{SameShards};
 ghost use Rattle.warm_shards.specs.Digests.{FillsShard};
 ghost use Rattle.warm_shards.specs.Shards.{AreShards, shard_at, whole};
 
-use std::alloc::Global;
+use std::alloc::{AllocError, Global};
 use warm_devices::PageDevice;
 use warm_digest::differing;
 use warm_frames::{DIGEST_SIZE, DigestTable, Message};
@@ -73,6 +73,8 @@ fn bucket_in<D: PageDevice>(node: &mut Node<D>, bucket: Bucket) -> Result<Vec<Me
     ensures same { SameView node.old node.new }
     ensures devices { KeepsBytes node.old.pool node.new.pool }
 {
+    // The bucket's number is below BUCKETS.
+    let _number = bucket.get();
     let request = Message::Want {
         sender: node.id(),
         horizon: 0,
@@ -106,6 +108,13 @@ pub(crate) fn requested<D: PageDevice>(
     Ok(messages)
 }
 
+fn put_last(messages: &mut Vec<Message>, message: Message) -> Result<(), AllocError>
+    ensures { OnOk result (messages.new.items ≡ messages.old.items ++ message ∷ []) }
+{
+    messages.push(message)?;
+    Ok(())
+}
+
 /// The answer to the digests of another replica: the entries of the buckets that differ, and then a
 /// request for these; nothing where none differs.
 ///
@@ -129,10 +138,11 @@ pub(crate) fn answer_to_digests<D: PageDevice>(
         return Ok(Vec::new(alloc));
     }
     let mut messages = requested(alloc, nodes, request)?;
-    messages.push(Message::Want {
+    let want = Message::Want {
         sender: nodes[0].id(),
         horizon: nodes[0].history().horizon(),
         request,
-    })?;
+    };
+    put_last(&mut messages, want)?;
     Ok(messages)
 }

@@ -66,7 +66,8 @@ pub(crate) fn raise_all<D: PageDevice>(nodes: &mut Vec<Node<D>>, time: u64) -> u
     ensures step { Together nodes.old.items (Horizon time) (Kept result) nodes.new.items }
     ensures pools { KeepPools nodes.old.items nodes.new.items }
 {
-    for shard in 0..nodes.len() {
+    let count = nodes.len();
+    for shard in 0..count {
         nodes[shard].raise(time);
     }
     nodes[0].history().horizon()

@@ -1,5 +1,5 @@
 //! The shards of a replica.
-ghost use Rattle.std.specs.Prelude.{◌≡◌, ◌↔◌, ◌<◌, ◌≤◌, length, IfOk, IfErr, IsTrue};
+ghost use Rattle.std.specs.Prelude.{◌≡◌, ◌↔◌, ◌<◌, [], length, IfOk, IsTrue};
 ghost use Rattle.warm_history.specs.Histories.{history_of_entries};
 ghost use Rattle.warm_gossip.specs.declared.fault.NodeFault.TheVariants.{Memory};
 ghost use Rattle.warm_shards.specs.Shards.{AreOpened, IsShardCount, shard_at, shard_of, whole};
@@ -131,7 +131,8 @@ fn joined<D: PageDevice>(alloc: Global, nodes: &Vec<Node<D>>) -> Result<History,
     ensures { IfOk result (λ copy. copy ≡ whole nodes.now.items) }
 {
     let mut all = History::new(alloc);
-    for shard in 0..nodes.len() {
+    let count = nodes.len();
+    for shard in 0..count {
         all.join(nodes[shard].history())?;
     }
     Ok(all)
