@@ -1,8 +1,9 @@
 -- Absorbing a batch, shard by shard.
-use Rattle.std.proofs.Common.{◌≡◌, ℕ, zero, suc, ◌+◌, ◌^◌, ◌<◌, ◌≤◌, List, [], ◌∷◌, filter, length, set, get_or, refl, sym, ap, subst, ◌∙◌, arith}
+use Rattle.std.proofs.Common.{◌≡◌, ℕ, ◌+◌, ◌<◌, ◌≤◌, List, [], ◌∷◌, count_ones, filter, length, set, get_or, refl, sym, ap, subst, ◌∙◌, arith}
 use Rattle.std.specs.Prelude.{nat_eq}
 use Rattle.std.specs.List.{AllByRecursion}
-use Rattle.std.proofs.Math.Pow.{pow-lt}
+use Rattle.std.proofs.lemmas.Bool.{eqb-true}
+use Rattle.std.proofs.lemmas.Nat.{ones_le_self}
 use Rattle.warm_stamps.specs.declared.Reference.{Reference}
 use Rattle.warm_history.specs.ReferenceSets.{set_of_list, ◌∪◌}
 use Rattle.warm_history.specs.Histories.{history, references_of}
@@ -15,7 +16,7 @@ use Rattle.warm_gossip.specs.declared.fault.NodeFault.TheVariants.{Memory}
 use Rattle.warm_gossip.specs.Clauses.{Goes}
 use Rattle.warm_gossip.specs.State.{NodeState, NodeView, node_view}
 use Rattle.warm_shards.specs.Clauses.{KeepPools, TakesInFirst, Together}
-use Rattle.warm_shards.specs.Shards.{AreShards, as_node, of_first_shards, shard_at, shard_of, whole}
+use Rattle.warm_shards.specs.Shards.{AreShards, IsShardCount, as_node, of_first_shards, shard_at, shard_of, whole}
 use Rattle.warm_shards.proofs.Calls.{absorb_refused, absorbed_next, id_stays, keep_none, keep_one, part_is_own, read_at, same_shard}
 use Rattle.warm_shards.proofs.Joined.{taken_more, taken_none, taken_past}
 use Rattle.warm_shards.proofs.Keeping.{still_shards}
@@ -101,12 +102,13 @@ pub absorbed_some : (old ns : List NodeState) (batch : List Reference) (k : ℕ)
     → HaveAbsorbed old batch k ns → TakesInFirst old (set_of_list batch) ns
 absorbed_some old ns batch k lt have = (k, lt, have.taken)
 
+pub some_count : (count : ℕ) → IsShardCount count → 0 < count
+some_count count valid =
+    let one : count_ones count ≡ 1 = eqb-true (count_ones count) 1 valid.0 in
+    omega (arith, ones_le_self count)
+
 pub some_shards : (ns : List NodeState) → AreShards ns → 0 < length ns
-some_shards ns are = some are.count.0 are.count.2
-  where
-    some : (e : ℕ) → length ns ≡ 2 ^ e → 0 < length ns
-    some zero is = let one : length ns ≡ 1 = is in omega arith
-    some (suc e) is = let more : 2 ^ 0 < 2 ^ suc e = pow-lt {i = 0} {j = suc e} (omega arith) in omega arith
+some_shards ns are = some_count (length ns) are.count
 
 below_count : (count : ℕ) (r : Reference) → 0 < count → shard_of count r.page < count
 below_count count r some = omega arith

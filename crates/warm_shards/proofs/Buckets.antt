@@ -77,7 +77,7 @@ sent_whole ns j bucket after limit are lt is =
     ∙ ap (take limit) (sym (later_whole ns j bucket after are lt is))
     ∙ sym (carried_entries (whole ns) bucket after limit (IsHistory-history (held ns)))
 
-since_entries : (h : HistoryView) (bucket since : ℕ) (after : Option PageId) (limit : ℕ)
+pub since_entries : (h : HistoryView) (bucket since : ℕ) (after : Option PageId) (limit : ℕ)
     → IsHistory h
     → entries_of (history (carried_since (references_of h) bucket since after limit))
     ≡ take limit (entries_since bucket since after (entries_of h))

@@ -14,13 +14,13 @@ use Rattle.warm_shards.specs.Shards.{IsShardCount, held, of_first_shards, of_sha
 
 -- one shard, four, and 64
 one : IsShardCount 1
-one = (0, omega arith, refl)
+one = (tt, omega arith)
 
 four : IsShardCount 4
-four = (2, omega arith, refl)
+four = (tt, omega arith)
 
 most : IsShardCount 64
-most = (6, omega arith, refl)
+most = (tt, omega arith)
 
 -- page 70 of device 1 is in bucket 7: in shard 3 of 4, and in shard 0 of one
 abbrev page : ℕ → PageId

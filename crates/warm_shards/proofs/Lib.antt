@@ -14,5 +14,9 @@ pub mod Calls
 pub mod Absorbing
 pub mod Raising
 pub mod Answering
+pub mod Entries
+pub mod Opening
+pub mod Receiving
+pub mod PoolCalls
 pub mod LawsHold
 pub mod Examples

@@ -1,4 +1,5 @@
 pub mod Shards
 pub mod Clauses
 pub mod Digests
+pub mod Dividing
 pub mod Laws

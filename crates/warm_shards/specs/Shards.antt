@@ -1,8 +1,10 @@
 -- Shards: the nodes of one replica, each with the pages of its buckets. Together they are one node.
-use Rattle.std.specs.Prelude.{◌≡◌, ℕ, ◌^◌, ◌%◌, ◌<◌, ◌≤◌, List, [], ◌∷◌, length, Some}
+use Rattle.std.specs.Prelude.{◌≡◌, ℕ, ◌%◌, ◌<◌, ◌≤◌, IsTrue, List, [], ◌∷◌, length, Some}
 use Rattle.std.specs.Prelude.{nat_eq, nat_lt, slice_index_or}
+use Rattle.std.specs.Int.{is_power_of_two}
 use Rattle.std.specs.List.{AllByRecursion}
 use Rattle.warm_stamps.specs.declared.PageId.{PageId}
+use Rattle.warm_stamps.specs.declared.TheConstants.{BUCKETS}
 use Rattle.warm_stamps.specs.Buckets.{page_bucket}
 use Rattle.warm_history.specs.ReferenceSets.{ReferenceSet, set_of_list, filter_references, ◌∪◌}
 use Rattle.warm_history.specs.Histories.{HistoryView, IsHistory, entries_of, history}
@@ -11,9 +13,9 @@ use Rattle.warm_pool.specs.State.{fresh_pool}
 use Rattle.warm_pool.specs.View.{PoolView, frame_at, view_of}
 use Rattle.warm_gossip.specs.State.{NodeState, NodeView, opened_node}
 
--- a valid number of shards: a power of two, up to 64
+-- a valid number of shards: a power of two, up to the number of buckets
 abbrev pub IsShardCount : ℕ → Type 0
-IsShardCount count = (exponent : ℕ) × (exponent ≤ 6) × (count ≡ 2 ^ exponent)
+IsShardCount count = IsTrue (is_power_of_two count) × (count ≤ BUCKETS)
 
 -- the shard of a page: its bucket, modulo the number of shards
 abbrev pub shard_of : ℕ → PageId → ℕ

@@ -15,11 +15,13 @@
 #![tactic(auto)]
 
 mod answers;
+mod fault;
 mod gossip;
 mod history_calls;
 pub mod laws;
 mod pool_calls;
 mod shards;
 
+pub use fault::ShardsFault;
 pub use pool_calls::ShardSlot;
-pub use shards::{Shards, is_shard_count, shard_of};
+pub use shards::{Shards, frames_of_shard, is_shard_count, shard_of};

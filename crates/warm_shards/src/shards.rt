@@ -1,15 +1,17 @@
 //! The shards of a replica.
-ghost use Rattle.std.specs.Prelude.{◌≡◌, ◌↔◌, ◌<◌, [], length, IfOk, IsTrue};
+ghost use Rattle.std.specs.Prelude.{◌≡◌, ◌↔◌, ◌<◌, ◌*◌, [], length, IfErr, IfOk, IsTrue};
 ghost use Rattle.warm_history.specs.Histories.{history_of_entries};
 ghost use Rattle.warm_gossip.specs.declared.fault.NodeFault.TheVariants.{Memory};
+ghost use Rattle.warm_shards.specs.Dividing.{IsDivisionRefused};
 ghost use Rattle.warm_shards.specs.Shards.{AreOpened, IsShardCount, shard_at, shard_of, whole};
 
+use crate::fault::ShardsFault;
 use std::alloc::{AllocError, Global};
 use std::marker::Model;
 use warm_devices::PageDevice;
 use warm_gossip::Node;
 use warm_history::History;
-use warm_stamps::{PageId, ReplicaId, bucket_of};
+use warm_stamps::{BUCKETS, PageId, ReplicaId, bucket_of};
 
 /// The shards of one replica: nodes of one id, as many as a power of two up to 64. Each has the
 /// references to the pages of its buckets, and these pages in its pool.
@@ -45,7 +47,26 @@ impl<D: PageDevice> Model for Shards<D> {
 pub fn is_shard_count(count: usize) -> bool
     ensures { IsTrue result ↔ IsShardCount count }
 {
-    matches!(count, 1 | 2 | 4 | 8 | 16 | 32 | 64)
+    count.is_power_of_two() && count <= usize::from(BUCKETS)
+}
+
+/// How many frames each shard has where this many are divided among so many shards.
+/// Allocation-free.
+///
+/// # Errors
+/// In this order: `BadCount`, where there cannot be so many shards; `Uneven`, where the frames
+/// cannot be divided evenly.
+pub fn frames_of_shard(frames: usize, shards: usize) -> Result<usize, ShardsFault>
+    ensures divided { IfOk result (λ each. IsShardCount shards × (each * shards ≡ frames)) }
+    ensures refused { IfErr result (IsDivisionRefused frames shards) }
+{
+    if !is_shard_count(shards) {
+        return Err(ShardsFault::BadCount);
+    }
+    if frames % shards != 0 {
+        return Err(ShardsFault::Uneven);
+    }
+    Ok(frames / shards)
 }
 
 /// The shard of a page, of this many: its bucket, modulo their number. Allocation-free.

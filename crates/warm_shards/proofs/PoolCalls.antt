@@ -1,0 +1,90 @@
+-- A call on the pool of one shard leaves it the shard that it was.
+use Rattle.std.proofs.Common.{◌≡◌, ℕ, ◌<◌, List, length, set, get_or, Option, Some, None, Result, Ok, Err, inl, inr, refl, sym, ap, subst, ◌∙◌}
+use Rattle.warm_stamps.specs.declared.PageId.{PageId}
+use Rattle.warm_history.specs.Histories.{HistoryView}
+use Rattle.warm_pool.specs.declared.slot.Slot.{Slot}
+use Rattle.warm_pool.specs.View.{FrameView, PoolView, frame_at, unfixed_pages, view_of}
+use Rattle.warm_gossip.specs.declared.call.Call.{Call}
+use Rattle.warm_gossip.specs.declared.call.Call.TheVariants.{Pin, Unpin, WarmStep, Write}
+use Rattle.warm_gossip.specs.declared.call.Reply.TheVariants.{Loaded, Pinned, Refused}
+use Rattle.warm_gossip.specs.declared.fault.NodeFault.{NodeFault}
+use Rattle.warm_gossip.specs.Clauses.{Answered, Goes, done}
+use Rattle.warm_gossip.specs.State.{NodeState, NodeView, node_view}
+use Rattle.warm_gossip.proofs.VictimLemmas.{fixes_change, refused}
+use Rattle.warm_shards.specs.Shards.{AreShards, IsShard, shard_at, shard_of}
+use Rattle.warm_shards.proofs.Calls.{HasOnly, next_is_own, only_kept, only_put, pool_shard, read_at}
+use Rattle.warm_shards.proofs.Keeping.{still_shards}
+
+-- the pool alone has changed, and of its pages this is still true
+pub record OnlyPool (P : PageId → Type 0) (n m : NodeState) : Type 0 where
+  pub alone : node_view m ≡ record (node_view n) { pool = view_of m.pool }
+  pub own : HasOnly P (view_of m.pool)
+
+with_pool : (n m : NodeState) (v : PoolView) → node_view m ≡ record (node_view n) { pool = v }
+    → node_view m ≡ record (node_view n) { pool = view_of m.pool }
+with_pool n m v is =
+    is ∙ ap (λ (p : PoolView). let x : NodeView = record (node_view n) { pool = p } in x) (sym (ap (λ (x : NodeView). x.pool) is))
+
+pub refused_own : (P : PageId → Type 0) (n m : NodeState) (call : Call) (why : NodeFault)
+    → HasOnly P (view_of n.pool) → Goes n call (Refused why) m → OnlyPool P n m
+refused_own P n m call why own goes =
+    let keeps = refused (node_view n) (node_view m) call why goes in
+    record { alone = keeps.0; own = only_kept P (view_of n.pool) (view_of m.pool) keeps.1 own }
+
+pub pinned_own : (P : PageId → Type 0) (n m : NodeState) (p : PageId) (slot : Slot) → P p
+    → HasOnly P (view_of n.pool) → Goes n (Pin p) (Pinned slot) m → OnlyPool P n m
+pinned_own P n m p slot is own goes = record {
+  alone = goes.0;
+  own = elim goes.1.1 [
+    | inl adds ↦ only_kept P (view_of n.pool) (view_of m.pool) (fixes_change (view_of n.pool) (view_of m.pool) slot.index _ adds.there (ap (λ (x : PoolView). x.frames) adds.becomes)) own
+    | inr puts ↦ only_put P n.history (view_of n.pool) (view_of m.pool) p 1 slot puts is own
+  ]
+}
+
+pub unpinned_own : (P : PageId → Type 0) (n m : NodeState) (slot : Slot)
+    (result : Result Unit NodeFault) → HasOnly P (view_of n.pool)
+    → Answered n (Unpin slot) done result m → OnlyPool P n m
+unpinned_own P n m slot (Err why) own goes = refused_own P n m (Unpin slot) why own goes
+unpinned_own P n m slot (Ok given) own goes = record {
+  alone = with_pool n m _ goes.1;
+  own = only_kept P (view_of n.pool) (view_of m.pool) (fixes_change (view_of n.pool) (view_of m.pool) slot.index _ goes.0.there (ap (λ (x : NodeView). x.pool.frames) goes.1)) own
+}
+
+abbrev no_frame : FrameView
+no_frame = record { page = None; generation = 0; fixes = 0 }
+
+pub written_own : (P : PageId → Type 0) (n m : NodeState) (slot : Slot) (at : ℕ) (bytes : List ℕ)
+    (result : Result Unit NodeFault) → HasOnly P (view_of n.pool)
+    → Answered n (Write slot at bytes) done result m → OnlyPool P n m
+written_own P n m slot at bytes (Err why) own goes = refused_own P n m (Write slot at bytes) why own goes
+written_own P n m slot at bytes (Ok given) own goes = record {
+  alone = goes.1.0;
+  own = only_kept P (view_of n.pool) (view_of m.pool) (λ i. ap (λ fs. let f : FrameView = get_or fs i no_frame in f.page) (ap (λ (x : PoolView). x.frames) goes.1.1.becomes)) own
+}
+
+pub loaded_own : (count number latest i : ℕ) (n m : NodeState)
+    (result : Result (Option PageId) NodeFault) → IsShard count number latest i n
+    → Answered n WarmStep (λ p. Loaded p) result m → OnlyPool (λ p. shard_of count p ≡ i) n m
+loaded_own count number latest i n m (Err why) old goes =
+    refused_own (λ p. shard_of count p ≡ i) n m WarmStep why old.own.resident goes
+loaded_own count number latest i n m (Ok None) old goes = record {
+  alone = with_pool n m _ goes.1;
+  own = λ k p at. old.own.resident k p (ap (λ (x : NodeView). (frame_at x.pool k).page) (sym goes.1) ∙ at)
+}
+loaded_own count number latest i n m (Ok (Some p)) old goes = record {
+  alone = goes.1.0;
+  own = only_put (λ q. shard_of count q ≡ i) n.history (view_of n.pool) (view_of m.pool) p 0 goes.1.1.0 goes.1.1.1 (next_is_own count number latest i n p old goes.0) old.own.resident
+}
+
+-- the shards after it
+pub after_call : (ns : List NodeState) (i : ℕ) (n m d : NodeState) → AreShards ns → i < length ns
+    → n ≡ get_or ns i d
+    → (IsShard (length ns) (shard_at ns 0).id (shard_at ns 0).history.horizon i n
+    → OnlyPool (λ p. shard_of (length ns) p ≡ i) n m) → AreShards (set ns i m)
+after_call ns i n m d are lt at gives =
+    let count = length ns in
+    let number = (shard_at ns 0).id in
+    let latest = (shard_at ns 0).history.horizon in
+    let old : IsShard count number latest i n = subst (IsShard count number latest i) (sym (read_at ns i n d lt at)) (are.each i lt) in
+    let new = gives old in
+    still_shards ns i m are lt (pool_shard count number latest i n m old new.alone new.own)
