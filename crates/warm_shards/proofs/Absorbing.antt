@@ -1,22 +1,22 @@
 -- Absorbing a batch, shard by shard.
-use Rattle.std.proofs.Common.{◌≡◌, ℕ, ◌+◌, ◌<◌, ◌≤◌, List, [], ◌∷◌, count_ones, filter, length, set, get_or, refl, sym, ap, subst, ◌∙◌, arith}
+use Rattle.std.proofs.Common.{◌≡◌, inr, ℕ, zero, suc, ◌+◌, ◌<◌, ◌≤◌, Bool, true, false, cond, List, [], ◌∷◌, count_ones, filter, length, set, get_or, refl, sym, ap, subst, ◌∙◌, arith}
 use Rattle.std.specs.Prelude.{nat_eq}
 use Rattle.std.specs.List.{AllByRecursion}
-use Rattle.std.proofs.lemmas.Bool.{eqb-true}
+use Rattle.std.proofs.lemmas.Bool.{eq-eqb, eqb-true}
 use Rattle.std.proofs.lemmas.Nat.{ones_le_self}
 use Rattle.warm_stamps.specs.declared.Reference.{Reference}
 use Rattle.warm_history.specs.ReferenceSets.{set_of_list, ◌∪◌}
 use Rattle.warm_history.specs.Histories.{history, references_of}
 use Rattle.warm_pool.specs.Keeping.{KeepsBytes}
-use Rattle.warm_pool.specs.View.{PoolView, view_of}
+use Rattle.warm_pool.specs.View.{view_of}
 use Rattle.warm_gossip.specs.declared.call.Call.TheVariants.{Absorb}
 use Rattle.warm_gossip.specs.declared.call.Reply.TheVariants.{Done, Refused}
 use Rattle.warm_gossip.specs.declared.fault.NodeFault.{NodeFault}
 use Rattle.warm_gossip.specs.declared.fault.NodeFault.TheVariants.{Memory}
 use Rattle.warm_gossip.specs.Clauses.{Goes}
 use Rattle.warm_gossip.specs.State.{NodeState, NodeView, node_view}
-use Rattle.warm_shards.specs.Clauses.{KeepPools, TakesInFirst, Together}
-use Rattle.warm_shards.specs.Shards.{AreShards, IsShardCount, as_node, of_first_shards, shard_at, shard_of, whole}
+use Rattle.warm_shards.specs.Clauses.{HasPart, KeepPools, TakesInFirst, Together}
+use Rattle.warm_shards.specs.Shards.{AreShards, IsShardCount, of_first_shards, shard_at, shard_of, whole}
 use Rattle.warm_shards.proofs.Calls.{absorb_refused, absorbed_next, id_stays, keep_none, keep_one, part_is_own, read_at, same_shard}
 use Rattle.warm_shards.proofs.Joined.{taken_more, taken_none, taken_past}
 use Rattle.warm_shards.proofs.Keeping.{still_shards}
@@ -98,9 +98,32 @@ absorbed_refused old ns count k batch part n m d why same lt at goes bytes have 
     })
 
 -- that far the batch is absorbed
-pub absorbed_some : (old ns : List NodeState) (batch : List Reference) (k : ℕ) → k < length old
+pub absorbed_some : (old ns : List NodeState) (batch : List Reference) (count k : ℕ)
+    → count ≡ length old → k < count → HasPart count k (set_of_list batch)
     → HaveAbsorbed old batch k ns → TakesInFirst old (set_of_list batch) ns
-absorbed_some old ns batch k lt have = (k, lt, have.taken)
+absorbed_some old ns batch count k same lt part have =
+    (k, omega arith, inr (subst (λ n. HasPart n k (set_of_list batch)) same part), have.taken)
+
+-- a part that is not empty
+pub part_is_there : (count k : ℕ) (batch part : List Reference)
+    → part ≡ filter (λ r. nat_eq (shard_of count r.page) k) batch → (length part ≡ 0 → ⊥)
+    → HasPart count k (set_of_list batch)
+part_is_there count k batch part is some none = some (ap length (is ∙ none))
+
+-- a reference to a page of the shard is in its part
+pub part_has : (count k : ℕ) (batch : List Reference) (i : ℕ) (r : Reference) → i < length batch
+    → r ≡ get_or batch i r → shard_of count r.page ≡ k → HasPart count k (set_of_list batch)
+part_has count k [] i r lt at is none = absurd (omega arith)
+part_has count k (x ∷ xs) zero r lt at is none =
+    let own : nat_eq (shard_of count x.page) k ≡ true = eq-eqb (shard_of count x.page) k (ap (λ (y : Reference). shard_of count y.page) (sym at) ∙ is) in
+    let no : x ∷ filter (λ y. nat_eq (shard_of count y.page) k) xs ≡ [] = rw own at none in
+    absurd (cc)
+part_has count k (x ∷ xs) (suc i) r lt at is none = part_has count k xs i r (omega arith) at is (rest (nat_eq (shard_of count x.page) k) none)
+  where
+    rest : (b : Bool) → cond b (x ∷ filter (λ y. nat_eq (shard_of count y.page) k) xs) (filter (λ y. nat_eq (shard_of count y.page) k) xs) ≡ []
+        → filter (λ (y : Reference). nat_eq (shard_of count y.page) k) xs ≡ []
+    rest true e = absurd (cc)
+    rest false e = e
 
 pub some_count : (count : ℕ) → IsShardCount count → 0 < count
 some_count count valid =

@@ -1,9 +1,8 @@
 -- What all shards together answer and send.
-use Rattle.std.proofs.Common.{◌≡◌, ◌≢◌, ℕ, ◌+◌, ◌<◌, ◌≤◌, ◌%◌, ◌^◌, List, [], ◌∷◌, ◌++◌, flat_map, length, max, set, get_or, Option, Result, Ok, Err, refl, sym, ap, subst, ◌∙◌, arith, append-nil}
+use Rattle.std.proofs.Common.{◌≡◌, ℕ, ◌+◌, ◌<◌, ◌%◌, ◌^◌, List, [], flat_map, length, set, get_or, Option, Result, Ok, Err, refl, sym, ap, subst, ◌∙◌, arith, append-nil}
 use Rattle.std.specs.Prelude.{◌↔◌, bit_or, IsTrue, IfOk}
 use Rattle.warm_stamps.specs.declared.PageId.{PageId}
 use Rattle.warm_stamps.specs.declared.TheConstants.{BUCKETS}
-use Rattle.warm_history.specs.Carried.{bucket_entries}
 use Rattle.warm_history.specs.Histories.{HistoryView, IsHistory, entries_of, history, references_of}
 use Rattle.warm_history.specs.ReferenceSets.{◌∪◌}
 use Rattle.warm_history.specs.Since.{carried_since}
@@ -25,7 +24,7 @@ use Rattle.warm_gossip.specs.Clauses.{Answered, Goes}
 use Rattle.warm_gossip.specs.declared.since.SentPortion.{SentPortion}
 use Rattle.warm_gossip.specs.Since.{BringsHeld, HasMoreSince, sent_since}
 use Rattle.warm_gossip.proofs.SinceLemmas.{brings_held}
-use Rattle.warm_gossip.specs.State.{NodeState, NodeView, node_view}
+use Rattle.warm_gossip.specs.State.{NodeState, node_view}
 use Rattle.warm_shards.specs.Clauses.{SameShards, Together, TogetherAnswered}
 use Rattle.warm_shards.specs.Digests.{FillsShard}
 use Rattle.warm_shards.specs.Shards.{AreShards, as_node, held, shard_at, whole}

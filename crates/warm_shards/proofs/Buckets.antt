@@ -16,7 +16,7 @@ use Rattle.warm_history.proofs.JoinLemmas.{history_of_own_references}
 use Rattle.warm_history.proofs.ListHistoryLemmas.{get, get-history}
 use Rattle.warm_history.proofs.SinceLemmas.{history-since}
 use Rattle.warm_gossip.specs.State.{NodeState}
-use Rattle.warm_shards.specs.Shards.{AreShards, held, shard_at, shard_of, whole}
+use Rattle.warm_shards.specs.Shards.{AreShards, held, shard_at, whole}
 use Rattle.warm_shards.proofs.Knowing.{hist_whole, whole_horizon}
 use Rattle.warm_shards.proofs.Lists.{filter_within}
 

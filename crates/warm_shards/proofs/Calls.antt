@@ -1,5 +1,5 @@
 -- What a call of one node does to the shards.
-use Rattle.std.proofs.Common.{◌≡◌, ◌≢◌, ◌⊎◌, inl, inr, ℕ, zero, suc, ◌+◌, ◌<◌, ◌≤◌, Bool, true, false, List, [], ◌∷◌, ◌++◌, filter, length, max, set, get_or, Option, Some, None, refl, sym, ap, subst, ◌∙◌, arith}
+use Rattle.std.proofs.Common.{◌≡◌, ℕ, zero, suc, ◌<◌, Bool, true, false, List, [], ◌∷◌, filter, length, max, set, get_or, Some, refl, sym, ap, subst, ◌∙◌, arith}
 use Rattle.std.specs.Prelude.{nat_eq}
 use Rattle.std.specs.List.{AllByRecursion}
 use Rattle.std.specs.Ordering.{flip_args}
@@ -9,7 +9,7 @@ use Rattle.std.proofs.lemmas.List.{length-set}
 use Rattle.warm_stamps.specs.declared.PageId.{PageId}
 use Rattle.warm_stamps.specs.declared.Reference.{Reference}
 use Rattle.warm_stamps.specs.Distinct.{distinct}
-use Rattle.warm_stamps.proofs.DistinctLemmas.{Has, all_of_has, all_take, has_from_distinct}
+use Rattle.warm_stamps.proofs.DistinctLemmas.{all_of_has, all_take, has_from_distinct}
 use Rattle.warm_stamps.proofs.StampLemmas.{IsStrictOrder-flip}
 use Rattle.warm_history.specs.ReferenceSets.{ReferenceSet, set_of_list, ◌∪◌}
 use Rattle.warm_history.specs.Histories.{HistoryView, IsHistory, entries_of, history, pages, references_of}
@@ -30,7 +30,7 @@ use Rattle.warm_gossip.specs.Clauses.{Goes}
 use Rattle.warm_gossip.specs.Step.{IsNextWarm, nth_page}
 use Rattle.warm_gossip.proofs.VictimLemmas.{KeepsPages, frames_after}
 use Rattle.warm_shards.specs.Clauses.{KeepPools, SameShards}
-use Rattle.warm_shards.specs.Shards.{AreShards, HoldsShard, IsShard, held, shard_at, shard_of, whole}
+use Rattle.warm_shards.specs.Shards.{AreShards, IsShard, held, shard_at, shard_of, whole}
 use Rattle.warm_shards.proofs.Keeping.{all_shards, at_each, still_shards}
 use Rattle.warm_shards.proofs.Pages.{all_held, all_pages, all_taken, each_has}
 

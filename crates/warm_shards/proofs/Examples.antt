@@ -1,26 +1,36 @@
 -- Worked examples: which shard has a page, and the history of all shards.
-use Rattle.std.proofs.Common.{◌≡◌, ℕ, List, [], ◌∷◌, refl, arith}
+use Rattle.std.proofs.Common.{◌≡◌, ℕ, List, [], ◌∷◌, true, false, refl, arith}
+use Rattle.std.specs.Int.Count.{ones}
 use Rattle.warm_stamps.specs.declared.PageId.{PageId}
 use Rattle.warm_stamps.specs.declared.Stamp.{Stamp}
 use Rattle.warm_stamps.specs.declared.Reference.{Reference}
 use Rattle.warm_history.specs.declared.hist.Entry.{Entry}
-use Rattle.warm_history.specs.declared.hist.PageHist.TheVariants.{Once, Twice}
-use Rattle.warm_history.specs.ListHistories.{list_history}
-use Rattle.warm_history.specs.ReferenceSets.{ReferenceSet, set_of_list}
-use Rattle.warm_history.specs.Histories.{HistoryView, history, history_of_entries_at}
+use Rattle.warm_history.specs.declared.hist.PageHist.TheVariants.{Once}
+use Rattle.warm_history.specs.ReferenceSets.{set_of_list}
+use Rattle.warm_history.specs.Histories.{history, history_of_entries_at}
 use Rattle.warm_pool.specs.State.{fresh_pool}
 use Rattle.warm_gossip.specs.State.{NodeState}
-use Rattle.warm_shards.specs.Shards.{IsShardCount, held, of_first_shards, of_shard, shard_of, whole}
+use Rattle.warm_shards.specs.Shards.{IsShardCount, of_first_shards, of_shard, shard_of, whole}
 
--- one shard, four, and 64
+-- one shard, four, and 64; but not three, and not 128
 one : IsShardCount 1
-one = (tt, omega arith)
+unfolding ones
+one = (refl, omega arith)
 
 four : IsShardCount 4
-four = (tt, omega arith)
+unfolding ones
+four = (refl, omega arith)
 
 most : IsShardCount 64
-most = (tt, omega arith)
+unfolding ones
+most = (refl, omega arith)
+
+not_three : IsShardCount 3 → ⊥
+unfolding ones
+not_three count = let e : false ≡ true = count.0 in absurd (cc)
+
+not_128 : IsShardCount 128 → ⊥
+not_128 count = absurd (omega arith)
 
 -- page 70 of device 1 is in bucket 7: in shard 3 of 4, and in shard 0 of one
 abbrev page : ℕ → PageId

@@ -1,5 +1,5 @@
 -- The digests of all shards together, gathered shard by shard.
-use Rattle.std.proofs.Common.{◌≡◌, ◌≢◌, inl, inr, ℕ, ◌+◌, ◌<◌, ◌≤◌, ◌%◌, List, [], length, refl, sym, ap, ◌∙◌, arith}
+use Rattle.std.proofs.Common.{◌≡◌, inl, inr, ℕ, ◌+◌, ◌<◌, ◌%◌, List, [], length, refl, sym, ◌∙◌, arith}
 use Rattle.std.proofs.lemmas.List.FromFn.{fill_by_all}
 use Rattle.std.proofs.lemmas.Bool.{cases_eq}
 use Rattle.warm_stamps.specs.declared.TheConstants.{BUCKETS}

@@ -1,6 +1,6 @@
 -- How the history of all shards goes, step by step of a loop over them.
-use Rattle.std.proofs.Common.{◌≡◌, ℕ, ◌+◌, ◌<◌, ◌≤◌, List, [], ◌++◌, filter, length, max, set, refl, sym, ap, subst, ◌∙◌, arith}
-use Rattle.std.specs.Prelude.{nat_eq, nat_lt}
+use Rattle.std.proofs.Common.{◌≡◌, ℕ, ◌+◌, ◌<◌, List, [], ◌++◌, filter, length, max, set, sym, ap, ◌∙◌, arith}
+use Rattle.std.specs.Prelude.{nat_eq}
 use Rattle.std.proofs.lemmas.List.{append-nil}
 use Rattle.std.proofs.Math.Nat.{max-zero}
 use Rattle.warm_stamps.specs.declared.Reference.{Reference}
@@ -9,7 +9,7 @@ use Rattle.warm_history.specs.Histories.{HistoryView, IsHistory, history, refere
 use Rattle.warm_history.proofs.HistoryLemmas.{IsHistory-history}
 use Rattle.warm_history.proofs.JoinLemmas.{both_assoc, history_first, raised_to_no_later}
 use Rattle.warm_gossip.specs.State.{NodeState}
-use Rattle.warm_shards.specs.Shards.{held, of_first_shards, of_shard, shard_at, shard_of, whole}
+use Rattle.warm_shards.specs.Shards.{held, of_first_shards, shard_at, shard_of, whole}
 use Rattle.warm_shards.proofs.Parts.{next_part, no_part}
 use Rattle.warm_shards.proofs.Taking.{one_takes}
 

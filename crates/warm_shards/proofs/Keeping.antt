@@ -1,11 +1,10 @@
 -- A shard changes: the shards are still shards.
-use Rattle.std.proofs.Common.{◌≡◌, ◌≢◌, ℕ, ◌<◌, Bool, true, false, List, length, set, get_or, refl, sym, ap, subst, ◌∙◌, arith}
+use Rattle.std.proofs.Common.{◌≡◌, ◌≢◌, ℕ, ◌<◌, Bool, true, false, List, length, set, refl, sym, subst, ◌∙◌, arith}
 use Rattle.std.specs.Prelude.{nat_eq}
 use Rattle.std.proofs.lemmas.Bool.{eq-eqb, eqb-true}
 use Rattle.std.proofs.lemmas.List.{get_or-set_other, get_or-set_same, length-set}
-use Rattle.warm_history.specs.Histories.{IsHistory}
 use Rattle.warm_gossip.specs.State.{NodeState}
-use Rattle.warm_shards.specs.Shards.{AreShards, HoldsShard, IsShard, IsShardCount, no_shard, shard_at}
+use Rattle.warm_shards.specs.Shards.{AreShards, IsShard, IsShardCount, no_shard, shard_at}
 
 -- what is true of the new shard and of the others is true of each
 pub at_each : (P : ℕ → NodeState → Type 0) (ns : List NodeState) (i : ℕ) (m : NodeState)

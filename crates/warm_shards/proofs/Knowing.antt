@@ -1,8 +1,7 @@
 -- What all shards together know of a page: what the shard of the page knows of it.
-use Rattle.std.proofs.Common.{◌≡◌, ◌≢◌, ℕ, zero, suc, ◌<◌, ◌≤◌, Bool, true, false, cond, List, [], ◌∷◌, ◌++◌, length, map, filter, max, get_or, None, refl, sym, ap, subst, ◌∙◌, arith}
+use Rattle.std.proofs.Common.{◌≡◌, ◌≢◌, ℕ, zero, suc, ◌<◌, ◌≤◌, Bool, true, false, List, [], ◌∷◌, ◌++◌, length, map, filter, None, refl, sym, ap, ◌∙◌, arith}
 use Rattle.std.specs.List.{AllByRecursion}
 use Rattle.std.specs.Ordering.{is_eq, flip_args}
-use Rattle.std.specs.Option.{option_map}
 use Rattle.std.proofs.lemmas.List.{append-nil}
 use Rattle.std.proofs.lemmas.List.Elements.{filter-append}
 use Rattle.warm_stamps.specs.declared.Stamp.{Stamp}
@@ -14,12 +13,12 @@ use Rattle.warm_stamps.proofs.DistinctLemmas.{is_equal}
 use Rattle.warm_stamps.proofs.StampLemmas.{page_order}
 use Rattle.warm_history.specs.declared.hist.Entry.{Entry}
 use Rattle.warm_history.specs.ListHistories.{first_two, hist_stamps, list_references_of, references_of_entry}
-use Rattle.warm_history.specs.ReferenceSets.{ReferenceSet, is_kept, references_from}
+use Rattle.warm_history.specs.ReferenceSets.{is_kept, references_from}
 use Rattle.warm_history.specs.Histories.{hist, references_of}
 use Rattle.warm_history.proofs.KeptLemmas.{kept-append}
 use Rattle.warm_history.proofs.HistoryLemmas.{hist_refs-history}
 use Rattle.warm_gossip.specs.State.{NodeState}
-use Rattle.warm_shards.specs.Shards.{AreShards, IsShard, held, no_shard, shard_at, shard_of, whole}
+use Rattle.warm_shards.specs.Shards.{AreShards, held, shard_at, shard_of, whole}
 
 -- the references to a page that are kept
 abbrev pub kept_to : ℕ → PageId → List Reference → List Reference

@@ -1,16 +1,13 @@
 -- The laws of shards.
-use Rattle.std.proofs.Common.{◌≡◌, ◌≢◌, ◌⊎◌, inl, inr, ℕ, ◌<◌, List, [], length, Option, Some, refl, sym, ap, subst, ◌∙◌}
+use Rattle.std.proofs.Common.{◌≡◌, ◌≢◌, ◌⊎◌, inl, inr, length, Some, sym, ap, ◌∙◌}
 use Rattle.warm_stamps.specs.declared.PageId.{PageId}
-use Rattle.warm_history.specs.ReferenceSets.{ReferenceSet, ◌∪◌}
+use Rattle.warm_history.specs.ReferenceSets.{◌∪◌}
 use Rattle.warm_history.specs.Histories.{HistoryView, history, references_of}
 use Rattle.warm_history.proofs.JoinLemmas.{history_first, history_of_own_references}
 use Rattle.warm_rank.specs.Ranking.{IsVictim}
 use Rattle.warm_rank.proofs.VictimLemmas.{victim_is_farthest}
-use Rattle.warm_pool.specs.declared.slot.Slot.{Slot}
-use Rattle.warm_pool.specs.Pinning.{PutsIn}
 use Rattle.warm_pool.specs.View.{PoolView, frame_at, unfixed_pages, view_of}
-use Rattle.warm_gossip.specs.Given.{given_by_call}
-use Rattle.warm_gossip.specs.State.{NodeState, NodeView, empty_node, node_view}
+use Rattle.warm_gossip.specs.State.{empty_node, node_view}
 use Rattle.warm_gossip.specs.Victims.{IsEvicted}
 use Rattle.warm_gossip.proofs.VictimLemmas.{KeepsPages, PutsPage, frames_after, step_leads, victim_left}
 use Rattle.warm_shards.specs.Laws.{FirstAreGiven, ShardVictimsAreFarthest, ShardsStand, WholeIsOfGiven}
@@ -27,7 +24,7 @@ whole_is_of_given S old new call reply stands goes =
 pub first_are_given : FirstAreGiven
 first_are_given S T old new stands takes =
     let part = of_first_shards (length old) takes.0 T in
-    (takes.0, takes.1, takes.2 ∙ ap (λ h. history (references_of h ∪ part)) stands ∙ history_first S part)
+    (takes.0, takes.1, takes.2, takes.3 ∙ ap (λ h. history (references_of h ∪ part)) stands ∙ history_first S part)
 
 pub shards_stand : ShardsStand
 shards_stand S shards i are lt stands = record {

@@ -1,19 +1,17 @@
 -- Which pages a history has, given those of its references.
-use Rattle.std.proofs.Common.{◌≡◌, Bool, List, [], ◌∷◌, ◌++◌, map, filter, Option, Some, None, refl, sym, ap, subst, ◌∙◌, inl, inr}
+use Rattle.std.proofs.Common.{◌≡◌, List, [], ◌∷◌, ◌++◌, map, Option, Some, None, refl, subst, inl, inr}
 use Rattle.std.specs.List.{AllByRecursion}
 use Rattle.warm_stamps.specs.declared.Stamp.{Stamp}
 use Rattle.warm_stamps.specs.declared.PageId.{PageId}
 use Rattle.warm_stamps.specs.declared.Reference.{Reference}
 use Rattle.warm_stamps.specs.Stamps.{page_cmp}
-use Rattle.warm_stamps.specs.Distinct.{distinct}
 use Rattle.warm_stamps.proofs.DistinctLemmas.{Has, all_append, all_filter, all_of_has, has_from_distinct}
 use Rattle.warm_stamps.proofs.StampLemmas.{page_order}
 use Rattle.warm_history.specs.declared.hist.Entry.{Entry}
 use Rattle.warm_history.specs.declared.hist.PageHist.{PageHist}
-use Rattle.warm_history.specs.ListHistories.{hist_stamps, list_history, list_references_of, references_of_entry}
+use Rattle.warm_history.specs.ListHistories.{hist_stamps, list_references_of, references_of_entry}
 use Rattle.warm_history.specs.ReferenceSets.{ReferenceSet, is_kept, references}
 use Rattle.warm_history.specs.Histories.{entries_of, hist, history, pages}
-use Rattle.warm_history.proofs.HistoryLemmas.{entries-history}
 use Rattle.warm_history.proofs.ListHistoryLemmas.{entries}
 
 pub each_has : {A : Type 0} (P : A → Type 0) (xs : List A) (x : A) → AllByRecursion P xs → Has xs x

@@ -1,14 +1,12 @@
 -- The references of the first shards, shard by shard.
-use Rattle.std.proofs.Common.{◌≡◌, ◌⊎◌, inl, inr, ℕ, ◌+◌, ◌<◌, ◌≤◌, Bool, true, false, List, [], ◌∷◌, ◌++◌, filter, max, refl, sym, ap, subst, ◌∙◌, arith}
+use Rattle.std.proofs.Common.{◌≡◌, ◌⊎◌, inl, inr, ℕ, ◌+◌, ◌<◌, Bool, true, false, List, [], ◌∷◌, filter, max, refl, sym, ap, ◌∙◌, arith}
 use Rattle.std.specs.Prelude.{nat_eq, nat_lt}
 use Rattle.std.proofs.lemmas.Bool.{eq-eqb, eqb-true, le-ltb, lt-ltb, ltb-false, ltb-true}
 use Rattle.warm_stamps.specs.declared.Reference.{Reference}
-use Rattle.warm_history.specs.ReferenceSets.{ReferenceSet, is_kept, references, references_from, ◌∪◌}
+use Rattle.warm_history.specs.ReferenceSets.{ReferenceSet, is_kept, references, ◌∪◌}
 use Rattle.warm_history.specs.References.{IsIn, SameReferences}
-use Rattle.warm_history.specs.Histories.{hist, history}
-use Rattle.warm_history.proofs.CarriedLemmas.{references-those}
+use Rattle.warm_history.specs.Histories.{history}
 use Rattle.warm_history.proofs.JoinLemmas.{both_assoc, history_alike}
-use Rattle.warm_history.proofs.HistoryLemmas.{same_hists}
 use Rattle.warm_history.proofs.SetLemmas.{hist_of_set}
 use Rattle.warm_shards.specs.Shards.{of_first_shards, of_shard, shard_of}
 use Rattle.warm_shards.proofs.Lists.{from_filter, in_both, in_filter, in_first, in_second}

@@ -1,9 +1,8 @@
 -- A call on the pool of one shard leaves it the shard that it was.
-use Rattle.std.proofs.Common.{◌≡◌, ℕ, ◌<◌, List, length, set, get_or, Option, Some, None, Result, Ok, Err, inl, inr, refl, sym, ap, subst, ◌∙◌}
+use Rattle.std.proofs.Common.{◌≡◌, ℕ, ◌<◌, List, length, set, get_or, Option, Some, None, Result, Ok, Err, inl, inr, sym, ap, subst, ◌∙◌}
 use Rattle.warm_stamps.specs.declared.PageId.{PageId}
-use Rattle.warm_history.specs.Histories.{HistoryView}
 use Rattle.warm_pool.specs.declared.slot.Slot.{Slot}
-use Rattle.warm_pool.specs.View.{FrameView, PoolView, frame_at, unfixed_pages, view_of}
+use Rattle.warm_pool.specs.View.{FrameView, PoolView, frame_at, view_of}
 use Rattle.warm_gossip.specs.declared.call.Call.{Call}
 use Rattle.warm_gossip.specs.declared.call.Call.TheVariants.{Pin, Unpin, WarmStep, Write}
 use Rattle.warm_gossip.specs.declared.call.Reply.TheVariants.{Loaded, Pinned, Refused}

@@ -1,15 +1,15 @@
 -- Raising the horizon of each shard.
-use Rattle.std.proofs.Common.{◌≡◌, ◌≢◌, inl, inr, ℕ, ◌+◌, ◌<◌, ◌≤◌, List, [], length, max, set, get_or, refl, sym, ap, subst, ◌∙◌, arith}
+use Rattle.std.proofs.Common.{◌≡◌, inl, inr, ℕ, ◌+◌, ◌<◌, ◌≤◌, List, [], length, max, set, get_or, refl, sym, ap, subst, ◌∙◌, arith}
 use Rattle.std.proofs.lemmas.Bool.{cases_eq}
-use Rattle.warm_history.specs.ReferenceSets.{ReferenceSet, with_horizon, ◌∪◌}
-use Rattle.warm_history.specs.Histories.{HistoryView, history, references_of}
+use Rattle.warm_history.specs.ReferenceSets.{with_horizon}
+use Rattle.warm_history.specs.Histories.{history, references_of}
 use Rattle.warm_pool.specs.Keeping.{KeepsBytes}
-use Rattle.warm_pool.specs.View.{PoolView, view_of}
+use Rattle.warm_pool.specs.View.{view_of}
 use Rattle.warm_gossip.specs.declared.call.Call.TheVariants.{Horizon}
 use Rattle.warm_gossip.specs.declared.call.Reply.TheVariants.{Kept}
 use Rattle.warm_gossip.specs.State.{NodeState, NodeView, node_view}
 use Rattle.warm_shards.specs.Clauses.{KeepPools, Together}
-use Rattle.warm_shards.specs.Shards.{AreShards, IsShard, IsShardCount, as_node, shard_at, whole}
+use Rattle.warm_shards.specs.Shards.{AreShards, IsShard, IsShardCount, shard_at, whole}
 use Rattle.warm_shards.proofs.Absorbing.{some_shards}
 use Rattle.warm_shards.proofs.Buckets.{shard_horizon}
 use Rattle.warm_shards.proofs.Calls.{keep_none, keep_one, read_at, takes_shard}

@@ -1,5 +1,5 @@
 -- Receiving a message: its horizon first, and then its references or its answer.
-use Rattle.std.proofs.Common.{◌≡◌, ℕ, ◌<◌, List, [], filter, length, Result, Ok, Err, refl, sym, ap, subst, ◌∙◌, arith}
+use Rattle.std.proofs.Common.{◌≡◌, ◌⊎◌, inl, ℕ, List, [], filter, length, refl, sym, ap, subst, ◌∙◌, arith}
 use Rattle.std.specs.Prelude.{nat_lt}
 use Rattle.warm_stamps.specs.declared.Reference.{Reference}
 use Rattle.warm_history.specs.declared.hist.Entry.{Entry}
@@ -12,9 +12,9 @@ use Rattle.warm_frames.specs.Limits.{horizon_in}
 use Rattle.warm_pool.specs.View.{PoolView}
 use Rattle.warm_gossip.specs.declared.call.Call.TheVariants.{Absorb, Horizon, Receive}
 use Rattle.warm_gossip.specs.declared.call.Reply.TheVariants.{Answers, Done, Kept}
-use Rattle.warm_gossip.specs.Answers.{AnswersDigests, history_after, refs_in, requested_messages}
+use Rattle.warm_gossip.specs.Answers.{AnswersDigests, refs_in, requested_messages}
 use Rattle.warm_gossip.specs.State.{NodeState, NodeView, empty_node}
-use Rattle.warm_shards.specs.Clauses.{SameShards, TakesInFirst, Together}
+use Rattle.warm_shards.specs.Clauses.{HasPart, SameShards, TakesInFirst, Together}
 use Rattle.warm_shards.specs.Shards.{AreShards, as_node, of_first_shards, shard_at, shard_of, whole}
 use Rattle.warm_shards.proofs.Absorbing.{some_shards}
 use Rattle.warm_shards.proofs.Calls.{same_ids, same_whole}
@@ -39,7 +39,7 @@ pub raised_alone : (old mid new : List NodeState) (time kept : ℕ) (message : M
     → TakesInFirst old (refs_in message) new
 raised_alone old mid new time kept message are at goes same =
     let R = references_of (whole old) in
-    (0, some_shards old are, same ∙ raised_whole old mid time kept goes
+    (0, some_shards old are, inl refl, same ∙ raised_whole old mid time kept goes
     ∙ ap (λ (x : ℕ). history (with_horizon x R)) (at ∙ sym (horizon_of message))
     ∙ ap (λ S. history (R ∪ S)) (sym (of_none (length old) (refs_in message))))
   where
@@ -66,9 +66,10 @@ pub entries_refused : (old mid new : List NodeState) (kept sender horizon : ℕ)
     (refs : List Reference) → refs ≡ list_references_of es → length mid ≡ length old
     → Together old (Horizon horizon) (Kept kept) mid → TakesInFirst mid (set_of_list refs) new
     → TakesInFirst old (refs_in (Entries sender horizon es)) new
-entries_refused old mid new kept sender horizon es refs is long raised (k, lt, some) =
+entries_refused old mid new kept sender horizon es refs is long raised (k, lt, part, some) =
     let first : ℕ → List Reference → List Reference = λ count rs. filter (λ r. nat_lt (shard_of count r.page) k) rs in
-    (k, omega (arith, lt, long), some
+    let own : (k ≡ 0) ⊎ HasPart (length mid) k (record { horizon = horizon; given = list_references_of es }) = subst (λ rs. (k ≡ 0) ⊎ HasPart (length mid) k (set_of_list rs)) is part in
+    (k, omega (arith, lt, long), subst (λ (count : ℕ). (k ≡ 0) ⊎ HasPart count k (record { horizon = horizon; given = list_references_of es })) long own, some
     ∙ ap (λ (g : HistoryView). history (references_of g ∪ set_of_list (first (length mid) refs))) (raised_whole old mid horizon kept raised)
     ∙ raised_then_taken (whole old) horizon (first (length mid) refs)
     ∙ ap (λ (count : ℕ). history (references_of (whole old) ∪ record { horizon = horizon; given = first count refs })) long

@@ -1,5 +1,5 @@
 -- What each shard stands for.
-use Rattle.std.proofs.Common.{◌≡◌, ◌≢◌, ℕ, ◌<◌, Bool, true, false, List, [], map, filter, length, Option, None, refl, sym, ap, subst, ◌∙◌, arith}
+use Rattle.std.proofs.Common.{◌≡◌, ◌≢◌, ℕ, ◌<◌, Bool, true, false, List, map, filter, length, Option, None, refl, sym, ap, ◌∙◌, arith}
 use Rattle.std.specs.Prelude.{nat_eq}
 use Rattle.std.specs.Ordering.{is_eq, flip_args}
 use Rattle.std.proofs.lemmas.Bool.{eq-eqb, eqb-true}
@@ -12,7 +12,7 @@ use Rattle.warm_stamps.proofs.StampLemmas.{page_order}
 use Rattle.warm_history.specs.declared.hist.PageHist.{PageHist}
 use Rattle.warm_history.specs.ListHistories.{first_two}
 use Rattle.warm_history.specs.ReferenceSets.{ReferenceSet, references}
-use Rattle.warm_history.specs.Histories.{StandsFor, hist, history, references_of}
+use Rattle.warm_history.specs.Histories.{StandsFor, hist, references_of}
 use Rattle.warm_history.proofs.CarriedLemmas.{references-those}
 use Rattle.warm_history.proofs.HistoryLemmas.{hist_refs-history, horizon-history, same_hists}
 use Rattle.warm_history.proofs.JoinLemmas.{history_of_own_references}

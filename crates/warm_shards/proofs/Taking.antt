@@ -1,13 +1,10 @@
 -- One shard takes references in: so do all together.
-use Rattle.std.proofs.Common.{◌≡◌, ◌⊎◌, inl, inr, ℕ, zero, suc, ◌+◌, ◌<◌, ◌≤◌, Bool, true, false, cond, List, [], ◌∷◌, ◌++◌, length, filter, max, set, take, get_or, refl, sym, ap, subst, ◌∙◌, arith}
-use Rattle.std.specs.Prelude.{nat_eq, nat_lt}
-use Rattle.warm_stamps.specs.declared.PageId.{PageId}
-use Rattle.warm_stamps.specs.declared.Reference.{Reference}
-use Rattle.warm_history.specs.ReferenceSets.{ReferenceSet, references, set_of_list, ◌∪◌}
-use Rattle.warm_history.specs.Histories.{HistoryView, hist, history, history_of_entries, join, references_of}
-use Rattle.warm_history.proofs.JoinLemmas.{both_assoc, history_alike, history_first, history_second, history_swap}
+use Rattle.std.proofs.Common.{◌≡◌, ℕ, zero, suc, ◌<◌, List, [], ◌∷◌, length, set, take, refl, sym, ap, ◌∙◌, arith}
+use Rattle.warm_history.specs.ReferenceSets.{ReferenceSet, set_of_list, ◌∪◌}
+use Rattle.warm_history.specs.Histories.{history, history_of_entries, join, references_of}
+use Rattle.warm_history.proofs.JoinLemmas.{both_assoc, history_first, history_second, history_swap}
 use Rattle.warm_gossip.specs.State.{NodeState}
-use Rattle.warm_shards.specs.Shards.{held, no_shard, of_first_shards, of_shard, shard_at, shard_of, whole}
+use Rattle.warm_shards.specs.Shards.{held, shard_at, whole}
 
 last_two : (R B H : ReferenceSet) → history ((R ∪ B) ∪ H) ≡ history ((R ∪ H) ∪ B)
 last_two R B H =

@@ -1,5 +1,5 @@
 -- Definitions for the contracts of shards: what a call does to all of them together, and to one.
-use Rattle.std.specs.Prelude.{◌≡◌, ℕ, ◌<◌, List, length, Result, Ok, Err, slice_set}
+use Rattle.std.specs.Prelude.{◌≡◌, ◌≢◌, ◌⊎◌, ℕ, ◌<◌, List, [], length, Result, Ok, Err, slice_set}
 use Rattle.warm_history.specs.ReferenceSets.{ReferenceSet, ◌∪◌}
 use Rattle.warm_history.specs.Histories.{history, references_of}
 use Rattle.warm_pool.specs.Keeping.{KeepsBytes}
@@ -11,7 +11,7 @@ use Rattle.warm_gossip.specs.declared.fault.NodeFault.{NodeFault}
 use Rattle.warm_gossip.specs.Clauses.{SameView}
 use Rattle.warm_gossip.specs.State.{NodeState}
 use Rattle.warm_gossip.specs.Step.{Step}
-use Rattle.warm_shards.specs.Shards.{as_node, of_first_shards, shard_at, whole}
+use Rattle.warm_shards.specs.Shards.{as_node, of_first_shards, of_shard, shard_at, whole}
 
 -- Calls of the whole
 
@@ -27,10 +27,15 @@ abbrev pub TogetherAnswered : {T : Type 0} → List NodeState → Call → (T �
 TogetherAnswered old call reply (Ok given) new = Together old call (reply given) new
 TogetherAnswered old call reply (Err why) new = Together old call (Refused why) new
 
--- all shards have the horizon of S, if that is later, and the first of them have taken in the
--- references of S to their pages; the others have not
+-- some reference of S is to a page of this shard
+abbrev pub HasPart : ℕ → ℕ → ReferenceSet → Type 0
+HasPart count i S = (of_shard count i S).given ≢ []
+
+-- All shards have the horizon of S, if that is later. The shards before one have taken in the
+-- references of S to their pages; that one and those after it have not. It is the first shard, or
+-- one to whose pages there are references: so of references to pages of one shard none is taken in.
 abbrev pub TakesInFirst : List NodeState → ReferenceSet → List NodeState → Type 0
-TakesInFirst old S new = (k : ℕ) × (k < length old)
+TakesInFirst old S new = (k : ℕ) × (k < length old) × ((k ≡ 0) ⊎ HasPart (length old) k S)
     × (whole new ≡ history (references_of (whole old) ∪ of_first_shards (length old) k S))
 
 -- of each shard: the pool that a caller sees is unchanged, and so are the devices, and the bytes and

@@ -1,12 +1,11 @@
 -- The laws of shards: what each shard knows, given what all of them together stand for.
-use Rattle.std.specs.Prelude.{◌≡◌, ◌≢◌, ℕ, ◌<◌, ◌%◌, List, length, Option, Some}
+use Rattle.std.specs.Prelude.{◌≡◌, ◌≢◌, ◌⊎◌, ℕ, ◌<◌, ◌%◌, List, length}
 use Rattle.warm_stamps.specs.declared.PageId.{PageId}
 use Rattle.warm_stamps.specs.declared.TheConstants.{BUCKETS}
 use Rattle.warm_history.specs.ReferenceSets.{ReferenceSet, ◌∪◌}
 use Rattle.warm_history.specs.Histories.{StandsFor, entries_of}
 use Rattle.warm_frames.specs.Digests.{digest_at}
 use Rattle.warm_digest.specs.BucketDigests.{digests_of}
-use Rattle.warm_rank.specs.Ranking.{IsVictim}
 use Rattle.warm_rank.specs.Laws.{IsFarthest}
 use Rattle.warm_pool.specs.View.{unfixed_pages, view_of}
 use Rattle.warm_gossip.specs.declared.call.Call.{Call}
@@ -17,7 +16,7 @@ use Rattle.warm_gossip.specs.State.{NodeState, NodeView, node_view}
 use Rattle.warm_gossip.specs.Step.{Step}
 use Rattle.warm_gossip.specs.Victims.{IsEvicted}
 use Rattle.warm_shards.specs.Shards.{AreShards, of_first_shards, of_shard, shard_at, whole}
-use Rattle.warm_shards.specs.Clauses.{TakesInFirst, Together}
+use Rattle.warm_shards.specs.Clauses.{HasPart, TakesInFirst, Together}
 
 -- The headline: whatever all shards together stand for, they then stand for that with what the call
 -- gave, as one node does.
@@ -30,7 +29,7 @@ WholeIsOfGiven = (S : ReferenceSet) (old new : List NodeState) (call : Call) (re
 abbrev pub FirstAreGiven : Type 0
 FirstAreGiven = (S T : ReferenceSet) (old new : List NodeState) → StandsFor (whole old) S
     → TakesInFirst old T new
-    → (k : ℕ) × (k < length old)
+    → (k : ℕ) × (k < length old) × ((k ≡ 0) ⊎ HasPart (length old) k T)
     × StandsFor (whole new) (S ∪ of_first_shards (length old) k T)
 
 -- each shard stands for the references to its pages, and has the digests of its buckets

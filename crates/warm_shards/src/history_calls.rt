@@ -1,10 +1,11 @@
 //! The calls that take references in, and forget them.
-ghost use Rattle.std.specs.Prelude.{◌≡◌, ◌==◌, ◌<◌, filter, length, IfErr, IfOk, OnOk, nat_eq};
+ghost use Rattle.std.specs.Prelude.{◌≡◌, filter, IfErr, IfOk, OnErr, OnOk, nat_eq};
 ghost use Rattle.warm_history.specs.ReferenceSets.{set_of_list};
 ghost use Rattle.warm_gossip.specs.declared.call.Call.TheVariants.{Absorb, Horizon, WarmList};
 ghost use Rattle.warm_gossip.specs.declared.call.Reply.TheVariants.{Done, Kept, Pages};
 ghost use Rattle.warm_gossip.specs.declared.fault.NodeFault.TheVariants.{Memory};
-ghost use Rattle.warm_shards.specs.Clauses.{KeepPools, TakesInFirst, Together, TogetherAnswered};
+ghost use Rattle.warm_shards.specs.Clauses.{HasPart, KeepPools, TakesInFirst, Together};
+ghost use Rattle.warm_shards.specs.Clauses.{TogetherAnswered};
 ghost use Rattle.warm_shards.specs.Shards.{AreShards, IsShardCount, shard_of};
 
 use crate::shards::{Shards, shard_of};
@@ -22,8 +23,9 @@ fn part_of(
     shard: usize,
 ) -> Result<Vec<Reference>, AllocError>
     requires { IsShardCount count }
-    ensures { IfOk result (λ part.
+    ensures part { IfOk result (λ part.
         part.items ≡ filter (λ r. nat_eq (shard_of count r.page) shard) batch.now) }
+    ensures some { OnErr result (HasPart count shard (set_of_list batch.now)) }
 {
     let mut part = Vec::new(alloc);
     for reference in batch {

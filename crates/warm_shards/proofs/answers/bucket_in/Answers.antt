@@ -1,7 +1,6 @@
-use Rattle.std.proofs.Common.{◌≡◌, ℕ, ◌^◌, ◌<◌, sym, ap, subst, ◌∙◌}
+use Rattle.std.proofs.Common.{◌≡◌, ℕ, ◌^◌, ◌<◌, ap, subst, ◌∙◌}
 use Rattle.std.specs.Prelude.{bit_or}
 use Rattle.warm_stamps.specs.declared.TheConstants.{BUCKETS}
-use Rattle.warm_history.specs.Histories.{HistoryView}
 use Rattle.warm_gossip.specs.Answers.{history_after, requested_messages}
 use Rattle.warm_frames.specs.declared.message.Message.TheVariants.{Want}
 use Rattle.warm_shards.proofs.Answering.{one_bucket_messages}

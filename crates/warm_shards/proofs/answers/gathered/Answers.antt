@@ -1,4 +1,4 @@
-use Rattle.std.proofs.Common.{◌≡◌, ℕ, List, refl, sym, ap, ◌∙◌, arith}
+use Rattle.std.proofs.Common.{◌≡◌, refl, sym, ◌∙◌, arith}
 use Rattle.warm_history.specs.Histories.{entries_of}
 use Rattle.warm_digest.specs.BucketDigests.{digests_of}
 use Rattle.warm_shards.specs.Shards.{whole}

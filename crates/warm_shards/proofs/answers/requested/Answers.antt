@@ -1,10 +1,8 @@
-use Rattle.std.proofs.Common.{◌≡◌, ℕ, ◌<◌, ◌%◌, ◌++◌, ◌∷◌, [], List, length, append_assoc, refl, sym, ap, ◌∙◌, arith}
-use Rattle.warm_gossip.specs.declared.fault.NodeFault.TheVariants.{Memory}
+use Rattle.std.proofs.Common.{◌≡◌, ℕ, ◌<◌, ◌%◌, ◌++◌, ◌∷◌, [], append_assoc, sym, ap, ◌∙◌, arith}
 use Rattle.warm_gossip.proofs.AnswerLemmas.{all_requested, one_bucket_more}
 use Rattle.warm_shards.specs.Shards.{shard_at, whole}
 use Rattle.warm_shards.proofs.Absorbing.{some_shards}
 use Rattle.warm_shards.proofs.Answering.{messages_next, same_next, was_valid}
-use Rattle.warm_shards.proofs.Calls.{same_none}
 use Rattle.warm_shards.proofs.answers.requested.Goals as goal
 
 pub bucket_in-requires : goal.bucket_in-requires

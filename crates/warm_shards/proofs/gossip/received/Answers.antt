@@ -1,8 +1,7 @@
-use Rattle.std.proofs.Common.{◌≡◌, ℕ, List, refl, sym, ap, subst, ◌∙◌, arith}
+use Rattle.std.proofs.Common.{ℕ, refl, sym, ap, subst, ◌∙◌}
 use Rattle.std.proofs.lemmas.Result.{err_from_is_err_and}
 use Rattle.warm_frames.specs.Limits.{horizon_in}
 use Rattle.warm_frames.specs.declared.message.Message.{Message}
-use Rattle.warm_frames.specs.declared.message.Message.TheVariants.{Digest, Entries, Want}
 use Rattle.warm_gossip.specs.declared.call.Call.TheVariants.{Horizon, Receive}
 use Rattle.warm_gossip.specs.declared.call.Reply.TheVariants.{Answers, Kept}
 use Rattle.warm_history.specs.ListHistories.{list_references_of}

@@ -1,4 +1,3 @@
-use Rattle.std.proofs.Common.{◌≡◌, refl, sym, ap, ◌∙◌, arith}
 use Rattle.warm_shards.proofs.Entries.{once_more, twice_more}
 use Rattle.warm_shards.proofs.gossip.references_in.Goals.{in-Once+in_ok-push-in-Once, in-Twice+in_ok-push-in-Twice+in_ok-push-in-Twice-2}
 use Rattle.warm_shards.proofs.gossip.references_in.Goals as goal

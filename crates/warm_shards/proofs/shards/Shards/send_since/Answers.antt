@@ -1,8 +1,5 @@
-use Rattle.std.proofs.Common.{◌≡◌, ℕ, ◌<◌, ◌%◌, List, length, Result, sym, ap, subst, ◌∙◌, arith}
+use Rattle.std.proofs.Common.{◌≡◌, ℕ, ◌<◌, ◌%◌, List, length, sym, ap, subst, ◌∙◌, arith}
 use Rattle.warm_gossip.specs.State.{NodeState}
-use Rattle.warm_gossip.specs.declared.fault.NodeFault.{NodeFault}
-use Rattle.warm_gossip.specs.declared.since.SentPortion.{SentPortion}
-use Rattle.warm_shards.specs.Shards.{AreShards, shard_at}
 use Rattle.warm_shards.proofs.Answering.{SentPortionIs, sends_since}
 use Rattle.warm_shards.proofs.Absorbing.{some_shards}
 use Rattle.warm_shards.proofs.Calls.{read_at}

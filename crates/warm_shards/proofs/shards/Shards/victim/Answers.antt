@@ -1,4 +1,4 @@
-use Rattle.std.proofs.Common.{◌≡◌, ℕ, ◌<◌, List, length, sym, ap, subst, ◌∙◌}
+use Rattle.std.proofs.Common.{◌≡◌, ◌<◌, List, length, sym, subst}
 use Rattle.warm_history.specs.Histories.{references_of}
 use Rattle.warm_rank.specs.Ranking.{IsVictim}
 use Rattle.warm_pool.specs.View.{unfixed_pages, view_of}

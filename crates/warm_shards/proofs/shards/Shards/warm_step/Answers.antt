@@ -1,4 +1,4 @@
-use Rattle.std.proofs.Common.{◌≡◌, ◌<◌, List, length, sym, subst}
+use Rattle.std.proofs.Common.{◌<◌, List, length, sym, subst}
 use Rattle.warm_gossip.specs.State.{NodeState}
 use Rattle.warm_shards.specs.Shards.{shard_at}
 use Rattle.warm_shards.proofs.PoolCalls.{after_call, loaded_own}
