@@ -1,13 +1,19 @@
 -- A call on the pool of one shard leaves it the shard that it was.
-use Rattle.std.proofs.Common.{◌≡◌, ℕ, ◌<◌, List, length, set, get_or, Option, Some, None, Result, Ok, Err, inl, inr, sym, ap, subst, ◌∙◌}
+use Rattle.std.proofs.Common.{◌≡◌, ℕ, ◌<◌, List, [], length, set, get_or, Option, Some, None, Result, Ok, Err, inl, inr, refl, sym, ap, subst, ◌∙◌}
+use Rattle.std.specs.Prelude.{IfErr, OnOk}
+use Rattle.std.proofs.Math.Seq.{map-set_same}
 use Rattle.warm_stamps.specs.declared.PageId.{PageId}
 use Rattle.warm_pool.specs.declared.slot.Slot.{Slot}
-use Rattle.warm_pool.specs.View.{FrameView, PoolView, frame_at, view_of}
+use Rattle.warm_pool.specs.Frames.{fresh_frame, nth_frame}
+use Rattle.warm_pool.specs.Lending.{relent, relent_pool}
+use Rattle.warm_pool.specs.State.{PoolState}
+use Rattle.warm_pool.specs.View.{FrameView, PoolView, frame_at, frame_view, view_of}
 use Rattle.warm_gossip.specs.declared.call.Call.{Call}
 use Rattle.warm_gossip.specs.declared.call.Call.TheVariants.{Pin, Unpin, WarmStep, Write}
 use Rattle.warm_gossip.specs.declared.call.Reply.TheVariants.{Loaded, Pinned, Refused}
 use Rattle.warm_gossip.specs.declared.fault.NodeFault.{NodeFault}
-use Rattle.warm_gossip.specs.Clauses.{Answered, Goes, done}
+use Rattle.warm_gossip.specs.Clauses.{Answered, Goes, NodeWriteBackFails, SameView, done}
+use Rattle.warm_gossip.specs.Lending.{relent_node}
 use Rattle.warm_gossip.specs.State.{NodeState, NodeView, node_view}
 use Rattle.warm_gossip.proofs.VictimLemmas.{fixes_change, refused}
 use Rattle.warm_shards.specs.Shards.{AreShards, IsShard, shard_at, shard_of}
@@ -87,3 +93,30 @@ after_call ns i n m d are lt at gives =
     let old : IsShard count number latest i n = subst (IsShard count number latest i) (sym (read_at ns i n d lt at)) (are.each i lt) in
     let new = gives old in
     still_shards ns i m are lt (pool_shard count number latest i n m old new.alone new.own)
+
+-- writing back leaves every page in its frame
+pub settled_own : (P : PageId → Type 0) (n m : NodeState) (result : Result Unit NodeFault)
+    → HasOnly P (view_of n.pool) → OnOk result (SameView n m)
+    → IfErr result (λ why. NodeWriteBackFails n why m) → OnlyPool P n m
+settled_own P n m (Ok given) own same failed = record {
+  alone = with_pool n m _ same;
+  own = λ k p at. own k p (ap (λ (x : NodeView). (frame_at x.pool k).page) (sym same) ∙ at)
+}
+settled_own P n m (Err why) own same (is, (alone, (k, fails))) = record {
+  alone = alone;
+  own = only_kept P (view_of n.pool) (view_of m.pool) (λ i. ap (λ fs. let f : FrameView = get_or fs i no_frame in f.page) (ap (λ (x : PoolView). x.frames) fails.becomes)) own
+}
+
+-- what is lent of a page leaves it in its frame
+relent_page : (s : PoolState) (i : ℕ) (w : List ℕ) (k : ℕ)
+    → (frame_at (view_of (relent_pool s i w)) k).page ≡ (frame_at (view_of s) k).page
+relent_page s i w k =
+    ap (λ fs. let f : FrameView = get_or fs k no_frame in f.page) (map-set_same frame_view s.frames i (relent w (nth_frame s.frames i)) (fresh_frame []) refl)
+
+pub relent_own : (ns : List NodeState) (i frame : ℕ) (w : List ℕ) → AreShards ns → i < length ns
+    → AreShards (set ns i (relent_node (shard_at ns i) frame w))
+relent_own ns i frame w are lt =
+    let n = shard_at ns i in
+    let m = relent_node n frame w in
+    let old = are.each i lt in
+    still_shards ns i m are lt (pool_shard (length ns) (shard_at ns 0).id (shard_at ns 0).history.horizon i n m old refl (λ k p at. old.own.resident k p (sym (relent_page n.pool frame w k) ∙ at)))

@@ -1,6 +1,6 @@
 -- Receiving a message: its horizon first, and then its references or its answer.
-use Rattle.std.proofs.Common.{◌≡◌, ◌⊎◌, inl, ℕ, List, [], filter, length, refl, sym, ap, subst, ◌∙◌, arith}
-use Rattle.std.specs.Prelude.{nat_lt}
+use Rattle.std.proofs.Common.{◌≡◌, ◌⊎◌, inl, ℕ, List, [], filter, length, Result, Ok, Err, refl, sym, ap, subst, ◌∙◌, arith}
+use Rattle.std.specs.Prelude.{nat_lt, IfErr, OnOk}
 use Rattle.warm_stamps.specs.declared.Reference.{Reference}
 use Rattle.warm_history.specs.declared.hist.Entry.{Entry}
 use Rattle.warm_history.specs.ListHistories.{list_references_of}
@@ -12,9 +12,11 @@ use Rattle.warm_frames.specs.Limits.{horizon_in}
 use Rattle.warm_pool.specs.View.{PoolView}
 use Rattle.warm_gossip.specs.declared.call.Call.TheVariants.{Absorb, Horizon, Receive}
 use Rattle.warm_gossip.specs.declared.call.Reply.TheVariants.{Answers, Done, Kept}
+use Rattle.warm_gossip.specs.declared.fault.NodeFault.{NodeFault}
+use Rattle.warm_gossip.specs.declared.fault.NodeFault.TheVariants.{Memory}
 use Rattle.warm_gossip.specs.Answers.{AnswersDigests, refs_in, requested_messages}
 use Rattle.warm_gossip.specs.State.{NodeState, NodeView, empty_node}
-use Rattle.warm_shards.specs.Clauses.{HasPart, SameShards, TakesInFirst, Together}
+use Rattle.warm_shards.specs.Clauses.{HasPart, JoinsAll, SameShards, TakesInFirst, Together}
 use Rattle.warm_shards.specs.Shards.{AreShards, as_node, of_first_shards, shard_at, shard_of, whole}
 use Rattle.warm_shards.proofs.Absorbing.{some_shards}
 use Rattle.warm_shards.proofs.Calls.{same_ids, same_whole}
@@ -33,20 +35,20 @@ raised_id old mid time kept goes = ap (λ (n : NodeView). n.id) (goes empty_node
 of_none : (count : ℕ) (S : ReferenceSet) → of_first_shards count 0 S ≡ record { horizon = S.horizon; given = [] }
 of_none count S = λ i. record { horizon = S.horizon; given = no_part count S.given i }
 
--- the horizon of the message is taken in, and nothing else of it
-pub raised_alone : (old mid new : List NodeState) (time kept : ℕ) (message : Message) → AreShards old
-    → time ≡ horizon_in message → Together old (Horizon time) (Kept kept) mid → whole new ≡ whole mid
-    → TakesInFirst old (refs_in message) new
-raised_alone old mid new time kept message are at goes same =
+pub horizon_of : (m : Message) → (refs_in m).horizon ≡ horizon_in m
+horizon_of (Entries sender horizon entries) = refl
+horizon_of (Digest sender horizon digests) = refl
+horizon_of (Want sender horizon request) = refl
+
+-- the horizon of S is taken in, and nothing else of it
+pub raised_alone : (old mid new : List NodeState) (time kept : ℕ) (S : ReferenceSet) → AreShards old
+    → time ≡ S.horizon → Together old (Horizon time) (Kept kept) mid → whole new ≡ whole mid
+    → TakesInFirst old S new
+raised_alone old mid new time kept S are at goes same =
     let R = references_of (whole old) in
     (0, some_shards old are, inl refl, same ∙ raised_whole old mid time kept goes
-    ∙ ap (λ (x : ℕ). history (with_horizon x R)) (at ∙ sym (horizon_of message))
-    ∙ ap (λ S. history (R ∪ S)) (sym (of_none (length old) (refs_in message))))
-  where
-    horizon_of : (m : Message) → (refs_in m).horizon ≡ horizon_in m
-    horizon_of (Entries sender horizon entries) = refl
-    horizon_of (Digest sender horizon digests) = refl
-    horizon_of (Want sender horizon request) = refl
+    ∙ ap (λ (x : ℕ). history (with_horizon x R)) at
+    ∙ ap (λ T. history (R ∪ T)) (sym (of_none (length old) S)))
 
 -- entries: all are absorbed
 pub entries_received : (old mid new : List NodeState) (kept sender horizon : ℕ) (es : List Entry)
@@ -105,3 +107,23 @@ request_received old mid new kept sender horizon request answers messages is rai
     let h = raised_whole old mid horizon kept raised in
     let all : requested_messages (shard_at mid 0).id (whole mid) request ≡ requested_messages (shard_at old 0).id (history (with_horizon horizon (references_of (whole old)))) request = λ i. requested_messages (id i) (h i) request in
     (is ∙ answered ∙ all, after_raise old mid new horizon kept raised same pool)
+
+-- ---- another history
+
+pub joined_all : (old mid new : List NodeState) (kept : ℕ) (other : HistoryView)
+    (refs : List Reference) (result : Result Unit NodeFault)
+    → refs ≡ list_references_of other.entries → Together old (Horizon other.horizon) (Kept kept) mid
+    → OnOk result (Together mid (Absorb refs) Done new) → OnOk result (JoinsAll old other new)
+joined_all old mid new kept other refs (Err why) is raised absorbed = tt
+joined_all old mid new kept other refs (Ok given) is raised absorbed = λ pool.
+    (entries_received old mid new kept 0 other.horizon other.entries refs [] is refl raised absorbed pool).1
+
+pub joined_some : (old mid new : List NodeState) (kept : ℕ) (other : HistoryView)
+    (refs : List Reference) (result : Result Unit NodeFault)
+    → refs ≡ list_references_of other.entries → length mid ≡ length old
+    → Together old (Horizon other.horizon) (Kept kept) mid
+    → IfErr result (λ why. (why ≡ Memory) × TakesInFirst mid (set_of_list refs) new)
+    → IfErr result (λ why. (why ≡ Memory) × TakesInFirst old (references_of other) new)
+joined_some old mid new kept other refs (Ok given) is long raised refused = tt
+joined_some old mid new kept other refs (Err why) is long raised refused =
+    (refused.0, entries_refused old mid new kept 0 other.horizon other.entries refs is long raised refused.1)

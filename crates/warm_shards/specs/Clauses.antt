@@ -1,7 +1,7 @@
 -- Definitions for the contracts of shards: what a call does to all of them together, and to one.
 use Rattle.std.specs.Prelude.{◌≡◌, ◌≢◌, ◌⊎◌, ℕ, ◌<◌, List, [], length, Result, Ok, Err, slice_set}
 use Rattle.warm_history.specs.ReferenceSets.{ReferenceSet, ◌∪◌}
-use Rattle.warm_history.specs.Histories.{history, references_of}
+use Rattle.warm_history.specs.Histories.{HistoryView, history, join, references_of}
 use Rattle.warm_pool.specs.Keeping.{KeepsBytes}
 use Rattle.warm_pool.specs.View.{PoolView, view_of}
 use Rattle.warm_gossip.specs.declared.call.Call.{Call}
@@ -26,6 +26,12 @@ abbrev pub TogetherAnswered : {T : Type 0} → List NodeState → Call → (T �
     → Result T NodeFault → List NodeState → Type 0
 TogetherAnswered old call reply (Ok given) new = Together old call (reply given) new
 TogetherAnswered old call reply (Err why) new = Together old call (Refused why) new
+
+-- all shards together have taken in all that another history stands for, at the later horizon of
+-- both
+abbrev pub JoinsAll : List NodeState → HistoryView → List NodeState → Type 0
+JoinsAll old other new = (pool : PoolView)
+    → as_node new pool ≡ record (as_node old pool) { history = join (whole old) other }
 
 -- some reference of S is to a page of this shard
 abbrev pub HasPart : ℕ → ℕ → ReferenceSet → Type 0

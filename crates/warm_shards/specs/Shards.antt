@@ -2,13 +2,14 @@
 use Rattle.std.specs.Prelude.{◌≡◌, ℕ, ◌%◌, ◌<◌, ◌≤◌, IsTrue, List, [], ◌∷◌, length, Some}
 use Rattle.std.specs.Prelude.{nat_eq, nat_lt, slice_index_or}
 use Rattle.std.specs.Int.{is_power_of_two}
-use Rattle.std.specs.List.{AllByRecursion}
+use Rattle.std.specs.List.{All, AllByRecursion}
 use Rattle.warm_stamps.specs.declared.PageId.{PageId}
 use Rattle.warm_stamps.specs.declared.TheConstants.{BUCKETS}
 use Rattle.warm_stamps.specs.Buckets.{page_bucket}
 use Rattle.warm_history.specs.ReferenceSets.{ReferenceSet, set_of_list, filter_references, ◌∪◌}
 use Rattle.warm_history.specs.Histories.{HistoryView, IsHistory, entries_of, history}
 use Rattle.warm_history.specs.Histories.{references_of}
+use Rattle.warm_pool.specs.Counting.{resident_pages}
 use Rattle.warm_pool.specs.State.{fresh_pool}
 use Rattle.warm_pool.specs.View.{PoolView, frame_at, view_of}
 use Rattle.warm_gossip.specs.State.{NodeState, NodeView, opened_node}
@@ -76,12 +77,14 @@ pub record AreShards (shards : List NodeState) : Type 0 where
 
 -- Opening
 
--- a node without references and without a resident page
-pub record IsOpened (id : ℕ) (n : NodeState) : Type 0 where
-  pub node : n ≡ opened_node id n.pool
-  pub vacant : (k : ℕ) (p : _) → (frame_at (view_of n.pool) k).page ≡ Some p → ⊥
+-- a node of this id without references and without a resident page
+pub record IsOpened (number : ℕ) (n : NodeState) : Type 0 where
+  pub id : n.id ≡ number
+  pub entries : entries_of n.history ≡ []
+  pub horizon : n.history.horizon ≡ 0
+  pub vacant : resident_pages (view_of n.pool) ≡ []
 
--- as many such nodes as there can be shards, all of one id
-pub record AreOpened (id : ℕ) (nodes : List NodeState) : Type 0 where
+-- as many such nodes as there can be shards
+pub record AreOpened (number : ℕ) (nodes : List NodeState) : Type 0 where
   pub count : IsShardCount (length nodes)
-  pub each : AllByRecursion (IsOpened id) nodes
+  pub each : All (IsOpened number) nodes

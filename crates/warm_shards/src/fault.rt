@@ -1,7 +1,9 @@
-//! Why frames are not divided among shards.
+//! Why there are no shards.
 use thiserror::Error;
+use warm_devices::PageDevice;
+use warm_gossip::Node;
 
-/// Why frames are not divided among shards.
+/// Why nodes are no shards, or frames are not divided among shards.
 #[derive(Clone, Copy, PartialEq, Eq, Debug, Error)]
 pub enum ShardsFault {
     /// The number of shards is no power of two, or it is more than 64.
@@ -10,4 +12,16 @@ pub enum ShardsFault {
     /// The frames cannot be divided evenly.
     #[error("Uneven")]
     Uneven,
+    /// A node has another id, or it has a horizon, an entry or a resident page.
+    #[error("NotOpened")]
+    NotOpened,
+}
+
+/// Nodes that are no shards, and why.
+#[derive(Drop)]
+pub struct ShardsError<D: PageDevice> {
+    /// Why they are no shards.
+    pub fault: ShardsFault,
+    /// The nodes, as they were.
+    pub nodes: Vec<Node<D>>,
 }

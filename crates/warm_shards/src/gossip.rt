@@ -1,12 +1,14 @@
 //! Exchanging histories: what all shards together offer, send, receive and answer.
-ghost use Rattle.std.specs.Prelude.{◌≡◌, ◌↔◌, IfErr, IfOk, IsTrue};
+ghost use Rattle.std.specs.Prelude.{◌≡◌, ◌↔◌, IfErr, IfOk, OnOk, IsTrue};
+ghost use Rattle.warm_history.specs.Histories.{entries_of, references_of};
 ghost use Rattle.warm_history.specs.ListHistories.{list_references_of};
 ghost use Rattle.warm_gossip.specs.Answers.{refs_in};
 ghost use Rattle.warm_gossip.specs.Since.{BringsHeld, HasMoreSince, sent_since};
 ghost use Rattle.warm_gossip.specs.declared.call.Call.TheVariants.{Offer, Receive, Send};
 ghost use Rattle.warm_gossip.specs.declared.call.Reply.TheVariants.{Answers, Sent};
 ghost use Rattle.warm_gossip.specs.declared.fault.NodeFault.TheVariants.{Memory};
-ghost use Rattle.warm_shards.specs.Clauses.{KeepPools, TakesInFirst, Together, TogetherAnswered};
+ghost use Rattle.warm_shards.specs.Clauses.{JoinsAll, KeepPools, TakesInFirst, Together};
+ghost use Rattle.warm_shards.specs.Clauses.{TogetherAnswered};
 ghost use Rattle.warm_shards.specs.Shards.{AreShards, shard_at, whole};
 
 use crate::answers::{answer_to_digests, gathered, requested};
@@ -16,7 +18,7 @@ use std::alloc::{AllocError, Global};
 use warm_devices::PageDevice;
 use warm_frames::{Message, MessageList};
 use warm_gossip::{Node, NodeFault, SentPortion};
-use warm_history::{Entry, PageHist};
+use warm_history::{Entry, History, PageHist};
 use warm_stamps::{Bucket, PageId, Reference};
 
 // The references that entries hold.
@@ -69,6 +71,32 @@ fn received<D: PageDevice>(
             Ok(MessageList::of(messages))
         }
     }
+}
+
+// The entries of a history.
+fn entries_of(alloc: Global, history: &History) -> Result<Vec<Entry>, AllocError>
+    ensures { IfOk result (λ entries. entries.items ≡ entries_of history.now) }
+{
+    history.iter().collect(alloc)
+}
+
+// Raises all shards to the horizon of another history, and takes its references in.
+fn join_all<D: PageDevice>(
+    alloc: Global,
+    nodes: &mut Vec<Node<D>>,
+    other: &History,
+) -> Result<(), NodeFault>
+    requires { AreShards nodes.old.items }
+    ensures shards { AreShards nodes.new.items }
+    ensures joined { OnOk result (JoinsAll nodes.old.items other.now nodes.new.items) }
+    ensures refused { IfErr result (λ why. (why ≡ Memory)
+        × TakesInFirst nodes.old.items (references_of other.now) nodes.new.items) }
+    ensures pools { KeepPools nodes.old.items nodes.new.items }
+{
+    raise_all(nodes, other.horizon());
+    let entries = entries_of(alloc, other)?;
+    let references = references_in(alloc, &entries)?;
+    absorb_parts(alloc, nodes, &references)
 }
 
 impl<D: PageDevice> Shards<D> {
@@ -141,5 +169,22 @@ impl<D: PageDevice> Shards<D> {
         ensures pools { KeepPools self.old self.new }
     {
         received(self.alloc, &mut self.nodes, message)
+    }
+
+    /// Takes in all that another history stands for, as a restored history is brought: of all
+    /// references of both, those are kept that are not before the later horizon. It copies the other
+    /// history's references.
+    ///
+    /// # Errors
+    /// `Memory`: an allocation failed. All shards then have the other horizon, where that is later,
+    /// and the first shards have taken in the references to their pages. To join once more does no
+    /// harm.
+    pub fn join(&mut self, other: &History) -> Result<(), NodeFault>
+        ensures joined { OnOk result (JoinsAll self.old other.now self.new) }
+        ensures refused { IfErr result (λ why. (why ≡ Memory)
+            × TakesInFirst self.old (references_of other.now) self.new) }
+        ensures pools { KeepPools self.old self.new }
+    {
+        join_all(self.alloc, &mut self.nodes, other)
     }
 }

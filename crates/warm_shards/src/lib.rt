@@ -19,9 +19,10 @@ mod fault;
 mod gossip;
 mod history_calls;
 pub mod laws;
+mod lending;
 mod pool_calls;
 mod shards;
 
-pub use fault::ShardsFault;
+pub use fault::{ShardsError, ShardsFault};
 pub use pool_calls::ShardSlot;
 pub use shards::{Shards, frames_of_shard, is_shard_count, shard_of};

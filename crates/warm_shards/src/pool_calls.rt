@@ -1,13 +1,13 @@
 //! The calls on the pool of one shard.
-ghost use Rattle.std.specs.Prelude.{◌≡◌, ◌<◌, length, IfErr, IfOk, OnErr};
-ghost use Rattle.warm_gossip.specs.Clauses.{Answered, DevicesAnswered, Goes, done};
+ghost use Rattle.std.specs.Prelude.{◌≡◌, ◌<◌, length, IfErr, IfOk, OnOk};
+ghost use Rattle.warm_gossip.specs.Clauses.{Answered, DevicesAnswered, Goes, NodeWriteBackFails};
+ghost use Rattle.warm_gossip.specs.Clauses.{ReadIntoFails, SameView, done};
 ghost use Rattle.warm_gossip.specs.declared.call.Call.TheVariants.{Pin, Read, Unpin, Victim};
 ghost use Rattle.warm_gossip.specs.declared.call.Call.TheVariants.{WarmStep, Write};
 ghost use Rattle.warm_gossip.specs.declared.call.Reply.TheVariants.{Bytes, Loaded, Page, Pinned};
-ghost use Rattle.warm_gossip.specs.declared.fault.NodeFault.TheVariants.{StaleSlot};
 ghost use Rattle.warm_history.specs.Histories.{references_of};
-ghost use Rattle.warm_pool.specs.PageBytes.{IsLent};
-ghost use Rattle.warm_pool.specs.View.{Holds, unfixed_pages, view_of};
+ghost use Rattle.warm_pool.specs.State.{IsSettled};
+ghost use Rattle.warm_pool.specs.View.{unfixed_pages, view_of};
 ghost use Rattle.warm_rank.specs.Ranking.{IsVictim};
 ghost use Rattle.warm_shards.specs.Clauses.{KeepsOthers};
 ghost use Rattle.warm_shards.specs.Shards.{shard_at, shard_of, whole};
@@ -83,6 +83,24 @@ impl<D: PageDevice> Shards<D> {
         self.nodes[slot.shard].read(slot.slot, at, len)
     }
 
+    /// Reads bytes of the slot's page, from `at` on, into the whole of `into`: the call `Read` of
+    /// that length of the slot's shard. Allocation-free.
+    ///
+    /// # Errors
+    /// In this order: `StaleSlot`, where there is no such shard, or the slot doesn't hold its page
+    /// there; `Pool(OutOfPage)`, where the bytes reach beyond its end. `into` is then as it was.
+    pub fn read_into(&self, slot: ShardSlot, at: usize, into: &mut [u8]) -> Result<(), NodeFault>
+        ensures read { let shard = shard_at self.now slot.shard in
+            OnOk result (Goes shard (Read slot.slot at (length into.old)) (Bytes into.new) shard) }
+        ensures refused { IfErr result (λ why. ReadIntoFails (shard_at self.now slot.shard)
+            slot.slot at into.old why into.new) }
+    {
+        if slot.shard >= self.nodes.len() {
+            return Err(NodeFault::StaleSlot);
+        }
+        self.nodes[slot.shard].read_into(slot.slot, at, into)
+    }
+
     /// Writes bytes into the slot's page, from `at` on: the call `Write` of the slot's shard.
     /// Allocation-free.
     ///
@@ -102,20 +120,20 @@ impl<D: PageDevice> Shards<D> {
         self.nodes[slot.shard].write(slot.slot, at, bytes)
     }
 
-    /// All bytes of the slot's page. Nothing is copied. Allocation-free.
+    /// Writes back each dirty page of a shard to its device, and flushes the shard's unflushed
+    /// devices. Allocation-free.
     ///
     /// # Errors
-    /// `StaleSlot`: there is no such shard, or the slot doesn't hold its page there.
-    pub fn bytes(&self, slot: ShardSlot) -> Result<&[u8], NodeFault>
-        ensures lent { let pool = view_of (shard_at self.now slot.shard).pool in
-            IfOk result (λ bytes. Holds pool slot.slot × IsLent pool slot.slot bytes.now) }
-        ensures refused { let pool = view_of (shard_at self.now slot.shard).pool in
-            IfErr result (λ why. (why ≡ StaleSlot) × (Holds pool slot.slot → ⊥)) }
+    /// Those of [`warm_gossip::Node::write_back`] of the shard, with the same effects.
+    pub fn write_back(&mut self, shard: usize) -> Result<(), NodeFault>
+        requires there { shard < length self.old }
+        ensures same { OnOk result (SameView (shard_at self.old shard) (shard_at self.new shard)) }
+        ensures settled { OnOk result (IsSettled (shard_at self.new shard).pool) }
+        ensures refused { IfErr result (λ why. NodeWriteBackFails (shard_at self.old shard) why
+            (shard_at self.new shard)) }
+        ensures others { KeepsOthers self.old shard self.new }
     {
-        if slot.shard >= self.nodes.len() {
-            return Err(NodeFault::StaleSlot);
-        }
-        self.nodes[slot.shard].bytes(slot.slot)
+        self.nodes[shard].write_back()
     }
 
     /// The page of a shard that would be evicted next for another page of that shard, where there

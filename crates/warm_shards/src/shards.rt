@@ -2,10 +2,12 @@
 ghost use Rattle.std.specs.Prelude.{◌≡◌, ◌↔◌, ◌<◌, ◌*◌, [], length, IfErr, IfOk, IsTrue};
 ghost use Rattle.warm_history.specs.Histories.{history_of_entries};
 ghost use Rattle.warm_gossip.specs.declared.fault.NodeFault.TheVariants.{Memory};
-ghost use Rattle.warm_shards.specs.Dividing.{IsDivisionRefused};
-ghost use Rattle.warm_shards.specs.Shards.{AreOpened, IsShardCount, shard_at, shard_of, whole};
+ghost use Rattle.warm_shards.specs.Dividing.{IsDivisionRefused, IsOpeningRefused};
+ghost use Rattle.warm_shards.specs.Shards.{AreOpened, IsOpened, IsShardCount, shard_at, shard_of};
+ghost use Rattle.warm_shards.specs.Shards.{whole};
+ghost use Rattle.std.specs.List.{All};
 
-use crate::fault::ShardsFault;
+use crate::fault::{ShardsError, ShardsFault};
 use std::alloc::{AllocError, Global};
 use std::marker::Model;
 use warm_devices::PageDevice;
@@ -79,15 +81,36 @@ pub fn shard_of(count: usize, page: PageId) -> usize
 }
 
 impl<D: PageDevice> Shards<D> {
-    /// The shards over these nodes, that of shard 0 first. Each node has received no reference, and
-    /// no page is in its pool; [`is_shard_count`] tells whether there can be so many.
-    /// Allocation-free.
-    pub fn new(alloc: Global, nodes: Vec<Node<D>>) -> Shards<D>
-        requires opened { AreOpened (shard_at nodes.items 0).id nodes.items }
-        ensures nodes { result ≡ nodes.items }
-        ensures empty { whole result ≡ history_of_entries [] }
+    /// The shards of the replica of this number over these nodes, that of shard 0 first. Each node
+    /// has this number, has received no reference, and no page is in its pool. Allocation-free.
+    ///
+    /// # Errors
+    /// In this order: `BadCount`, where there cannot be so many shards; `NotOpened`, where a node is
+    /// not so. The nodes are given back.
+    pub fn new(
+        alloc: Global,
+        id: ReplicaId,
+        nodes: Vec<Node<D>>,
+    ) -> Result<Shards<D>, ShardsError<D>>
+        ensures nodes { IfOk result (λ shards. shards ≡ nodes.items) }
+        ensures opened { IfOk result (λ shards. AreOpened id shards) }
+        ensures empty { IfOk result (λ shards. whole shards ≡ history_of_entries []) }
+        ensures refused { IfErr result (λ unmade. IsOpeningRefused id nodes.items unmade.fault
+            × (unmade.nodes.items ≡ nodes.items)) }
     {
-        Shards { alloc, nodes }
+        if !is_shard_count(nodes.len()) {
+            return Err(ShardsError {
+                fault: ShardsFault::BadCount,
+                nodes,
+            });
+        }
+        if !are_opened(&nodes, id) {
+            return Err(ShardsError {
+                fault: ShardsFault::NotOpened,
+                nodes,
+            });
+        }
+        Ok(Shards { alloc, nodes })
     }
 
     /// How many shards there are.
@@ -145,6 +168,35 @@ impl<D: PageDevice> Shards<D> {
         let Shards { alloc: _, nodes } = self;
         nodes
     }
+}
+
+// Whether the node of this number has received no reference, and no page is in its pool.
+fn is_opened<D: PageDevice>(node: &Node<D>, id: ReplicaId) -> bool
+    ensures { IsTrue result ↔ IsOpened id node.now }
+{
+    let history = node.history();
+    if node.id().get() != id.get() {
+        return false;
+    }
+    if !history.is_empty() {
+        return false;
+    }
+    if history.horizon() != 0 {
+        return false;
+    }
+    node.pool().resident_count() == 0
+}
+
+// Whether this is so of each node.
+fn are_opened<D: PageDevice>(nodes: &[Node<D>], id: ReplicaId) -> bool
+    ensures { IsTrue result ↔ All (IsOpened id) nodes.now }
+{
+    for node in nodes {
+        if !is_opened(node, id) {
+            return false;
+        }
+    }
+    true
 }
 
 // The join of the histories of all nodes.

@@ -8,14 +8,14 @@ use Rattle.warm_history.specs.ListHistories.{list_references_of}
 use Rattle.warm_gossip.specs.Answers.{refs_in}
 use Rattle.warm_shards.specs.Clauses.{TakesInFirst, Together}
 use Rattle.warm_shards.proofs.Calls.{same_whole}
-use Rattle.warm_shards.proofs.Receiving.{digests_received, entries_received, entries_refused, raised_alone, request_received}
+use Rattle.warm_shards.proofs.Receiving.{digests_received, entries_received, entries_refused, horizon_of, raised_alone, request_received}
 use Rattle.warm_shards.proofs.gossip.received.Goals as goal
 
 pub returns-in_err-references-in-Entries-clause-refused : goal.returns-in_err-references-in-Entries-clause-refused
 returns-in_err-references-in-Entries-clause-refused g c =
     let given = err_from_is_err_and c.from_residual.result c.from_residual.ensures.1 in
     let mid = c.raise_all.new.nodes.items in
-    rw (given.1) (given.2, raised_alone c.args.nodes.now.items mid mid c.horizon.result c.raise_all.result c.args.message c.requires c.horizon.ensures c.raise_all.ensures.step refl)
+    rw (given.1) (given.2, raised_alone c.args.nodes.now.items mid mid c.horizon.result c.raise_all.result (refs_in c.args.message) c.requires (c.horizon.ensures ∙ sym (horizon_of c.args.message)) c.raise_all.ensures.step refl)
 
 pub returns-in_err-absorb_parts-in-Entries-clause-refused : goal.returns-in_err-absorb_parts-in-Entries-clause-refused
 returns-in_err-absorb_parts-in-Entries-clause-refused g c =
@@ -35,7 +35,7 @@ returns-in_err-messages-in-Digest-clause-refused g c =
     let mid = c.raise_all.new.nodes.items in
     let new = c.answer_to_digests.new.nodes.items in
     let refused = c.in_err-messages-in-Digest.ensures in
-    rw (given.1) (given.2 ∙ refused.refused, raised_alone c.args.nodes.now.items mid new c.horizon.result c.raise_all.result c.args.message c.requires c.horizon.ensures c.raise_all.ensures.step (same_whole mid new refused.same))
+    rw (given.1) (given.2 ∙ refused.refused, raised_alone c.args.nodes.now.items mid new c.horizon.result c.raise_all.result (refs_in c.args.message) c.requires (c.horizon.ensures ∙ sym (horizon_of c.args.message)) c.raise_all.ensures.step (same_whole mid new refused.same))
 
 pub returns-in_err-messages-in-Want-clause-refused : goal.returns-in_err-messages-in-Want-clause-refused
 returns-in_err-messages-in-Want-clause-refused g c =
@@ -43,7 +43,7 @@ returns-in_err-messages-in-Want-clause-refused g c =
     let mid = c.raise_all.new.nodes.items in
     let new = c.requested.new.nodes.items in
     let refused = c.in_err-messages-in-Want.ensures in
-    rw (given.1) (given.2 ∙ refused.refused, raised_alone c.args.nodes.now.items mid new c.horizon.result c.raise_all.result c.args.message c.requires c.horizon.ensures c.raise_all.ensures.step (same_whole mid new refused.same))
+    rw (given.1) (given.2 ∙ refused.refused, raised_alone c.args.nodes.now.items mid new c.horizon.result c.raise_all.result (refs_in c.args.message) c.requires (c.horizon.ensures ∙ sym (horizon_of c.args.message)) c.raise_all.ensures.step (same_whole mid new refused.same))
 
 pub returns-in_ok-absorb_parts-in-Entries-clause-received : goal.returns-in_ok-absorb_parts-in-Entries-clause-received
 returns-in_ok-absorb_parts-in-Entries-clause-received g c =
