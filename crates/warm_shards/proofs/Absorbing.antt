@@ -37,7 +37,7 @@ none_absorbed old batch are = record {
   shards = are;
   taken = taken_none (length old) old batch;
   id = refl;
-  pools = keep_none old
+  pools = keep_none old;
 }
 
 is_part : (count long k : ℕ) (batch part : List Reference) → count ≡ long
@@ -58,7 +58,7 @@ absorbed_past old ns count k batch part same is none have = record {
   shards = have.shards;
   taken = taken_past (length old) k (whole ns) (references_of (whole old)) batch (sym (is_part count (length old) k batch part same is) ∙ no_items part none) have.taken;
   id = have.id;
-  pools = have.pools
+  pools = have.pools;
 }
 
 -- the next shard absorbs its part
@@ -77,7 +77,7 @@ absorbed_more old ns count k batch part n m d same lt is at goes bytes have =
       shards = absorbed_next ns k n m part have.shards there here own goes;
       taken = taken_more (length old) k ns m (references_of (whole old)) batch part there part_is (ap (λ (v : NodeView). v.history) goes ∙ ap (λ (x : NodeState). history (references_of x.history ∪ set_of_list part)) here) have.taken;
       id = id_stays old ns k m there (ap (λ (v : NodeView). v.id) goes ∙ ap (λ (x : NodeState). x.id) here) have.id;
-      pools = keep_one old ns k m there have.pools (ap (λ (v : NodeView). v.pool) goes ∙ ap (λ (x : NodeState). view_of x.pool) here) (subst (λ (x : NodeState). KeepsBytes x.pool m.pool) here bytes)
+      pools = keep_one old ns k m there have.pools (ap (λ (v : NodeView). v.pool) goes ∙ ap (λ (x : NodeState). view_of x.pool) here) (subst (λ (x : NodeState). KeepsBytes x.pool m.pool) here bytes);
     }
 
 -- the next shard refuses its part: the others have theirs or not, and it is as it was
@@ -89,13 +89,15 @@ absorbed_refused old ns count k batch part n m d why same lt at goes bytes have 
     let there : k < length ns = omega (arith, have.pools.count) in
     let here : n ≡ shard_at ns k = read_at ns k n d there at in
     let refused = absorb_refused n m part why goes in
-    let seen : node_view m ≡ node_view (shard_at ns k) = refused.1 ∙ ap node_view here in
-    (refused.0, record {
-      shards = still_shards ns k m have.shards there (same_shard (length ns) (shard_at ns 0).id (shard_at ns 0).history.horizon k (shard_at ns k) m (have.shards.each k there) seen);
-      taken = ap history (one_stays ns k m (ap (λ (v : NodeView). v.history) seen) there) ∙ have.taken;
-      id = id_stays old ns k m there (ap (λ (v : NodeView). v.id) seen) have.id;
-      pools = keep_one old ns k m there have.pools (ap (λ (v : NodeView). v.pool) seen) (subst (λ (x : NodeState). KeepsBytes x.pool m.pool) here bytes)
-    })
+    let seen : node_view m ≡ node_view (shard_at ns k) = refused.1 ∙ ap node_view here in (
+      refused.0,
+      record {
+        shards = still_shards ns k m have.shards there (same_shard (length ns) (shard_at ns 0).id (shard_at ns 0).history.horizon k (shard_at ns k) m (have.shards.each k there) seen);
+        taken = ap history (one_stays ns k m (ap (λ (v : NodeView). v.history) seen) there) ∙ have.taken;
+        id = id_stays old ns k m there (ap (λ (v : NodeView). v.id) seen) have.id;
+        pools = keep_one old ns k m there have.pools (ap (λ (v : NodeView). v.pool) seen) (subst (λ (x : NodeState). KeepsBytes x.pool m.pool) here bytes);
+      },
+    )
 
 -- that far the batch is absorbed
 pub absorbed_some : (old ns : List NodeState) (batch : List Reference) (count k : ℕ)

@@ -171,7 +171,7 @@ sends_since ns j bucket since after n (Ok x) are lt is at sent more =
     record {
       sent = message;
       more = subst (λ T. IsTrue x.more ↔ T) (ap (λ (y : NodeState). HasMoreSince y.history bucket since after) at ∙ more_same ns j bucket since after are lt is) more;
-      held = subst (BringsHeld (whole ns)) (sym message) (held_since ns bucket since after (shard_at ns 0).id)
+      held = subst (BringsHeld (whole ns)) (sym message) (held_since ns bucket since after (shard_at ns 0).id);
     }
 
 -- ---- an answer to digests

@@ -40,7 +40,7 @@ bytes_after : (a b c : PoolState) → KeepsBytes a b → KeepsBytes b c → Keep
 bytes_after a b c x y = record {
   devices = y.devices ∙ x.devices;
   bytes = λ k. y.bytes k ∙ x.bytes k;
-  dirty = λ k. y.dirty k ∙ x.dirty k
+  dirty = λ k. y.dirty k ∙ x.dirty k;
 }
 
 pub bytes_same : (a : PoolState) → KeepsBytes a a
@@ -55,14 +55,14 @@ pub keep_one : (old ns : List NodeState) (i : ℕ) (m : NodeState) → i < lengt
 keep_one old ns i m lt kept view bytes = record {
   count = length-set ns i m ∙ kept.count;
   views = at_each (λ k n. view_of n.pool ≡ view_of (shard_at old k).pool) ns i m lt (view ∙ kept.views i) (λ k other. kept.views k);
-  bytes = at_each (λ k n. KeepsBytes (shard_at old k).pool n.pool) ns i m lt (bytes_after (shard_at old i).pool (shard_at ns i).pool m.pool (kept.bytes i) bytes) (λ k other. kept.bytes k)
+  bytes = at_each (λ k n. KeepsBytes (shard_at old k).pool n.pool) ns i m lt (bytes_after (shard_at old i).pool (shard_at ns i).pool m.pool (kept.bytes i) bytes) (λ k other. kept.bytes k);
 }
 
 pub keep_then : (a b c : List NodeState) → KeepPools a b → KeepPools b c → KeepPools a c
 keep_then a b c x y = record {
   count = y.count ∙ x.count;
   views = λ i. y.views i ∙ x.views i;
-  bytes = λ i. bytes_after (shard_at a i).pool (shard_at b i).pool (shard_at c i).pool (x.bytes i) (y.bytes i)
+  bytes = λ i. bytes_after (shard_at a i).pool (shard_at b i).pool (shard_at c i).pool (x.bytes i) (y.bytes i);
 }
 
 -- ---- shards that a caller sees as before
@@ -76,21 +76,21 @@ pub same_one : (old ns : List NodeState) (i : ℕ) (m : NodeState) → i < lengt
 same_one old ns i m lt same view bytes = record {
   count = length-set ns i m ∙ same.count;
   views = at_each (λ k n. node_view n ≡ node_view (shard_at old k)) ns i m lt (view ∙ same.views i) (λ k other. same.views k);
-  bytes = at_each (λ k n. KeepsBytes (shard_at old k).pool n.pool) ns i m lt (bytes_after (shard_at old i).pool (shard_at ns i).pool m.pool (same.bytes i) bytes) (λ k other. same.bytes k)
+  bytes = at_each (λ k n. KeepsBytes (shard_at old k).pool n.pool) ns i m lt (bytes_after (shard_at old i).pool (shard_at ns i).pool m.pool (same.bytes i) bytes) (λ k other. same.bytes k);
 }
 
 pub same_then : (a b c : List NodeState) → SameShards a b → SameShards b c → SameShards a c
 same_then a b c x y = record {
   count = y.count ∙ x.count;
   views = λ i. y.views i ∙ x.views i;
-  bytes = λ i. bytes_after (shard_at a i).pool (shard_at b i).pool (shard_at c i).pool (x.bytes i) (y.bytes i)
+  bytes = λ i. bytes_after (shard_at a i).pool (shard_at b i).pool (shard_at c i).pool (x.bytes i) (y.bytes i);
 }
 
 pub same_keeps : (old new : List NodeState) → SameShards old new → KeepPools old new
 same_keeps old new same = record {
   count = same.count;
   views = λ i. ap (λ (v : NodeView). v.pool) (same.views i);
-  bytes = same.bytes
+  bytes = same.bytes;
 }
 
 held_alike : (old new : List NodeState) → length new ≡ length old
@@ -130,8 +130,8 @@ takes_shard count number latest i n m S old view all =
       valid = subst IsHistory (sym is) (IsHistory-history (references_of n.history ∪ S));
       own = record {
         known = subst (λ h. AllByRecursion (λ e. shard_of count e.page ≡ i) (entries_of h)) (sym is) (all_taken (λ p. shard_of count p ≡ i) (entries_of n.history) S.given (max n.history.horizon S.horizon) old.own.known all);
-        resident = λ k p at. old.own.resident k p (ap (λ v. (frame_at v k).page) (sym pool) ∙ at)
-      }
+        resident = λ k p at. old.own.resident k p (ap (λ v. (frame_at v k).page) (sym pool) ∙ at);
+      };
     }
 
 -- a caller sees what it saw
@@ -146,8 +146,8 @@ same_shard count number latest i n m old view =
       valid = subst IsHistory (sym is) old.valid;
       own = record {
         known = subst (λ h. AllByRecursion (λ e. shard_of count e.page ≡ i) (entries_of h)) (sym is) old.own.known;
-        resident = λ k p at. old.own.resident k p (ap (λ v. (frame_at v k).page) (sym pool) ∙ at)
-      }
+        resident = λ k p at. old.own.resident k p (ap (λ v. (frame_at v k).page) (sym pool) ∙ at);
+      };
     }
 
 -- its pool alone has changed, and has its pages alone
@@ -163,8 +163,8 @@ pool_shard count number latest i n m old view resident =
       valid = subst IsHistory (sym is) old.valid;
       own = record {
         known = subst (λ h. AllByRecursion (λ e. shard_of count e.page ≡ i) (entries_of h)) (sym is) old.own.known;
-        resident = resident
-      }
+        resident = resident;
+      };
     }
 
 pub same_shards : (old new : List NodeState) → SameShards old new → 0 < length old → AreShards old

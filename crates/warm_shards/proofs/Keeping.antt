@@ -28,7 +28,7 @@ all_shards number latest ns count some each =
     let first = each 0 some in
     record {
       count = count;
-      each = λ i lt. let o = each i lt in record { id = o.id ∙ sym first.id; horizon = o.horizon ∙ sym first.horizon; valid = o.valid; own = o.own }
+      each = λ i lt. let o = each i lt in record { id = o.id ∙ sym first.id; horizon = o.horizon ∙ sym first.horizon; valid = o.valid; own = o.own };
     }
 
 -- a shard changes, and is still that shard

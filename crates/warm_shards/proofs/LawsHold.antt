@@ -29,7 +29,7 @@ first_are_given S T old new stands takes =
 pub shards_stand : ShardsStand
 shards_stand S shards i are lt stands = record {
   stands = shard_stands S shards i are lt stands;
-  digests = λ bucket low is. digest_whole shards i bucket are lt low is
+  digests = λ bucket low is. digest_whole shards i bucket are lt low is;
 }
 
 -- a page that leaves was the victim over what the history holds

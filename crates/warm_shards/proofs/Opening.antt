@@ -38,8 +38,8 @@ opened_shard count id i n opened =
       valid = subst IsHistory (sym none) (record { pages_ascend = tt; stamps_descend = tt; none_older = tt });
       own = record {
         known = subst (λ h. AllByRecursion (λ e. shard_of count e.page ≡ i) (entries_of h)) (sym none) tt;
-        resident = λ k p at. absurd (vacant_frames (view_of n.pool).frames opened.vacant k p at)
-      }
+        resident = λ k p at. absurd (vacant_frames (view_of n.pool).frames opened.vacant k p at);
+      };
     }
 
 pub opened_shards : (id : ℕ) (ns : List NodeState) → AreOpened id ns → AreShards ns

@@ -33,27 +33,27 @@ first_and_next count k S =
     let B = filter own S.given in
     record {
       there = λ r here.
-        let from = from_set r (of_first_shards count k S ∪ of_shard count k S) here in
-        let kept : is_kept S.horizon r.stamp ≡ true = ap (λ m. is_kept m r.stamp) (sym (max_same S.horizon)) ∙ from.1 in
-        elim (in_both r A B from.0) [
-          | inl low ↦
-          let had = from_filter first r S.given low in
-          let less : shard_of count r.page < k = ltb-true (shard_of count r.page) k had.1 in
-          in_set r (of_first_shards count (k + 1) S) (in_filter both r S.given had.0 (lt-ltb (shard_of count r.page) (k + 1) (omega arith))) kept
-          | inr same ↦
-          let had = from_filter own r S.given same in
-          let equal : shard_of count r.page ≡ k = eqb-true (shard_of count r.page) k had.1 in
-          in_set r (of_first_shards count (k + 1) S) (in_filter both r S.given had.0 (lt-ltb (shard_of count r.page) (k + 1) (omega arith))) kept
-        ];
+          let from = from_set r (of_first_shards count k S ∪ of_shard count k S) here in
+          let kept : is_kept S.horizon r.stamp ≡ true = ap (λ m. is_kept m r.stamp) (sym (max_same S.horizon)) ∙ from.1 in
+          elim (in_both r A B from.0) [
+            | inl low ↦
+                let had = from_filter first r S.given low in
+                let less : shard_of count r.page < k = ltb-true (shard_of count r.page) k had.1 in
+                in_set r (of_first_shards count (k + 1) S) (in_filter both r S.given had.0 (lt-ltb (shard_of count r.page) (k + 1) (omega arith))) kept
+            | inr same ↦
+                let had = from_filter own r S.given same in
+                let equal : shard_of count r.page ≡ k = eqb-true (shard_of count r.page) k had.1 in
+                in_set r (of_first_shards count (k + 1) S) (in_filter both r S.given had.0 (lt-ltb (shard_of count r.page) (k + 1) (omega arith))) kept
+          ];
       back = λ r here.
-        let from = from_set r (of_first_shards count (k + 1) S) here in
-        let kept : is_kept (max S.horizon S.horizon) r.stamp ≡ true = ap (λ m. is_kept m r.stamp) (max_same S.horizon) ∙ from.1 in
-        let had = from_filter both r S.given from.0 in
-        let less : shard_of count r.page < k + 1 = ltb-true (shard_of count r.page) (k + 1) had.1 in
-        in_set r (of_first_shards count k S ∪ of_shard count k S) (elim (below (shard_of count r.page) k less) [
-          | inl low ↦ in_first r A B (in_filter first r S.given had.0 (lt-ltb (shard_of count r.page) k low))
-          | inr same ↦ in_second r A B (in_filter own r S.given had.0 (eq-eqb (shard_of count r.page) k same))
-        ]) kept
+          let from = from_set r (of_first_shards count (k + 1) S) here in
+          let kept : is_kept (max S.horizon S.horizon) r.stamp ≡ true = ap (λ m. is_kept m r.stamp) (max_same S.horizon) ∙ from.1 in
+          let had = from_filter both r S.given from.0 in
+          let less : shard_of count r.page < k + 1 = ltb-true (shard_of count r.page) (k + 1) had.1 in
+          in_set r (of_first_shards count k S ∪ of_shard count k S) (elim (below (shard_of count r.page) k less) [
+            | inl low ↦ in_first r A B (in_filter first r S.given had.0 (lt-ltb (shard_of count r.page) k low))
+            | inr same ↦ in_second r A B (in_filter own r S.given had.0 (eq-eqb (shard_of count r.page) k same))
+          ]) kept;
     }
   where
     below : (s k : ℕ) → s < k + 1 → (s < k) ⊎ (s ≡ k)
@@ -80,7 +80,7 @@ pub all_parts : (count : ℕ) (R S : ReferenceSet) → ((r : Reference) → shar
 all_parts count R S below =
     history_alike R R (of_first_shards count count S) S refl refl (λ p. refl) (hist_of_set (of_first_shards count count S) S (record {
       there = λ r here. let from = from_set r (of_first_shards count count S) here in in_set r S (from_filter (λ r. nat_lt (shard_of count r.page) count) r S.given from.0).0 from.1;
-      back = λ r here. let from = from_set r S here in in_set r (of_first_shards count count S) (in_filter (λ r. nat_lt (shard_of count r.page) count) r S.given from.0 (lt-ltb (shard_of count r.page) count (below r))) from.1
+      back = λ r here. let from = from_set r S here in in_set r (of_first_shards count count S) (in_filter (λ r. nat_lt (shard_of count r.page) count) r S.given from.0 (lt-ltb (shard_of count r.page) count (below r))) from.1;
     }))
 
 -- no shard takes nothing but the horizon in

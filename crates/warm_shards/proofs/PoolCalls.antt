@@ -43,7 +43,7 @@ pinned_own P n m p slot is own goes = record {
   own = elim goes.1.1 [
     | inl adds ↦ only_kept P (view_of n.pool) (view_of m.pool) (fixes_change (view_of n.pool) (view_of m.pool) slot.index _ adds.there (ap (λ (x : PoolView). x.frames) adds.becomes)) own
     | inr puts ↦ only_put P n.history (view_of n.pool) (view_of m.pool) p 1 slot puts is own
-  ]
+  ];
 }
 
 pub unpinned_own : (P : PageId → Type 0) (n m : NodeState) (slot : Slot)
@@ -52,7 +52,7 @@ pub unpinned_own : (P : PageId → Type 0) (n m : NodeState) (slot : Slot)
 unpinned_own P n m slot (Err why) own goes = refused_own P n m (Unpin slot) why own goes
 unpinned_own P n m slot (Ok given) own goes = record {
   alone = with_pool n m _ goes.1;
-  own = only_kept P (view_of n.pool) (view_of m.pool) (fixes_change (view_of n.pool) (view_of m.pool) slot.index _ goes.0.there (ap (λ (x : NodeView). x.pool.frames) goes.1)) own
+  own = only_kept P (view_of n.pool) (view_of m.pool) (fixes_change (view_of n.pool) (view_of m.pool) slot.index _ goes.0.there (ap (λ (x : NodeView). x.pool.frames) goes.1)) own;
 }
 
 abbrev no_frame : FrameView
@@ -64,7 +64,7 @@ pub written_own : (P : PageId → Type 0) (n m : NodeState) (slot : Slot) (at : 
 written_own P n m slot at bytes (Err why) own goes = refused_own P n m (Write slot at bytes) why own goes
 written_own P n m slot at bytes (Ok given) own goes = record {
   alone = goes.1.0;
-  own = only_kept P (view_of n.pool) (view_of m.pool) (λ i. ap (λ fs. let f : FrameView = get_or fs i no_frame in f.page) (ap (λ (x : PoolView). x.frames) goes.1.1.becomes)) own
+  own = only_kept P (view_of n.pool) (view_of m.pool) (λ i. ap (λ fs. let f : FrameView = get_or fs i no_frame in f.page) (ap (λ (x : PoolView). x.frames) goes.1.1.becomes)) own;
 }
 
 pub loaded_own : (count number latest i : ℕ) (n m : NodeState)
@@ -74,11 +74,11 @@ loaded_own count number latest i n m (Err why) old goes =
     refused_own (λ p. shard_of count p ≡ i) n m WarmStep why old.own.resident goes
 loaded_own count number latest i n m (Ok None) old goes = record {
   alone = with_pool n m _ goes.1;
-  own = λ k p at. old.own.resident k p (ap (λ (x : NodeView). (frame_at x.pool k).page) (sym goes.1) ∙ at)
+  own = λ k p at. old.own.resident k p (ap (λ (x : NodeView). (frame_at x.pool k).page) (sym goes.1) ∙ at);
 }
 loaded_own count number latest i n m (Ok (Some p)) old goes = record {
   alone = goes.1.0;
-  own = only_put (λ q. shard_of count q ≡ i) n.history (view_of n.pool) (view_of m.pool) p 0 goes.1.1.0 goes.1.1.1 (next_is_own count number latest i n p old goes.0) old.own.resident
+  own = only_put (λ q. shard_of count q ≡ i) n.history (view_of n.pool) (view_of m.pool) p 0 goes.1.1.0 goes.1.1.1 (next_is_own count number latest i n p old goes.0) old.own.resident;
 }
 
 -- the shards after it
@@ -100,11 +100,11 @@ pub settled_own : (P : PageId → Type 0) (n m : NodeState) (result : Result Uni
     → IfErr result (λ why. NodeWriteBackFails n why m) → OnlyPool P n m
 settled_own P n m (Ok given) own same failed = record {
   alone = with_pool n m _ same;
-  own = λ k p at. own k p (ap (λ (x : NodeView). (frame_at x.pool k).page) (sym same) ∙ at)
+  own = λ k p at. own k p (ap (λ (x : NodeView). (frame_at x.pool k).page) (sym same) ∙ at);
 }
 settled_own P n m (Err why) own same (is, (alone, (k, fails))) = record {
   alone = alone;
-  own = only_kept P (view_of n.pool) (view_of m.pool) (λ i. ap (λ fs. let f : FrameView = get_or fs i no_frame in f.page) (ap (λ (x : PoolView). x.frames) fails.becomes)) own
+  own = only_kept P (view_of n.pool) (view_of m.pool) (λ i. ap (λ fs. let f : FrameView = get_or fs i no_frame in f.page) (ap (λ (x : PoolView). x.frames) fails.becomes)) own;
 }
 
 -- what is lent of a page leaves it in its frame

@@ -32,7 +32,7 @@ none_risen old time are = record {
   raised = λ lt. absurd (omega arith);
   done = λ i lt. absurd (omega arith);
   left = λ i le lt. are.each i lt;
-  pools = keep_none old
+  pools = keep_none old;
 }
 
 raised_more : (old ns : List NodeState) (time k : ℕ) (m : NodeState) → k < length ns
@@ -42,8 +42,8 @@ raised_more : (old ns : List NodeState) (time k : ℕ) (m : NodeState) → k < l
 raised_more old ns time k m lt is have = elim (cases_eq k 0) [
   | inl zero ↦
       subst (λ x. whole (set ns x m) ≡ history (with_horizon time (references_of (whole old)))) (sym zero)
-          (raised_first time ns m (omega arith) (subst (λ x. m.history ≡ history (with_horizon time (references_of (shard_at ns x).history))) zero is)
-          ∙ ap (λ xs. history (with_horizon time (references_of (whole xs)))) (have.start zero))
+      (raised_first time ns m (omega arith) (subst (λ x. m.history ≡ history (with_horizon time (references_of (shard_at ns x).history))) zero is)
+      ∙ ap (λ xs. history (with_horizon time (references_of (whole xs)))) (have.start zero))
   | inr more ↦ raised_next time k ns m (references_of (whole old)) lt is (have.raised (omega arith))
 ]
 
@@ -63,7 +63,7 @@ risen_more old ns time count k n m d same lt at view bytes have =
       raised = λ some. raised_more old ns time k m there (ap (λ (v : NodeView). v.history) view ∙ ap (λ (x : NodeState). history (with_horizon time (references_of x.history))) here) have;
       done = at_each (λ i x. i < k + 1 → IsShard (length old) number (max latest time) i x) ns k m there (λ less. risen) (λ i other less. have.done i (omega arith));
       left = at_each (λ i x. k + 1 ≤ i → i < length old → IsShard (length old) number latest i x) ns k m there (λ le less. absurd (omega arith)) (λ i other le less. have.left i (omega arith) less);
-      pools = keep_one old ns k m there have.pools (ap (λ (v : NodeView). v.pool) view ∙ ap (λ (x : NodeState). view_of x.pool) here) (subst (λ (x : NodeState). KeepsBytes x.pool m.pool) here bytes)
+      pools = keep_one old ns k m there have.pools (ap (λ (v : NodeView). v.pool) view ∙ ap (λ (x : NodeState). view_of x.pool) here) (subst (λ (x : NodeState). KeepsBytes x.pool m.pool) here bytes);
     }
 
 -- all are raised: they are shards with one horizon

@@ -45,10 +45,14 @@ pub raised_alone : (old mid new : List NodeState) (time kept : ℕ) (S : Referen
     → time ≡ S.horizon → Together old (Horizon time) (Kept kept) mid → whole new ≡ whole mid
     → TakesInFirst old S new
 raised_alone old mid new time kept S are at goes same =
-    let R = references_of (whole old) in
-    (0, some_shards old are, inl refl, same ∙ raised_whole old mid time kept goes
-    ∙ ap (λ (x : ℕ). history (with_horizon x R)) at
-    ∙ ap (λ T. history (R ∪ T)) (sym (of_none (length old) S)))
+    let R = references_of (whole old) in (
+      0,
+      some_shards old are,
+      inl refl,
+      same ∙ raised_whole old mid time kept goes
+          ∙ ap (λ (x : ℕ). history (with_horizon x R)) at
+          ∙ ap (λ T. history (R ∪ T)) (sym (of_none (length old) S)),
+    )
 
 -- entries: all are absorbed
 pub entries_received : (old mid new : List NodeState) (kept sender horizon : ℕ) (es : List Entry)
@@ -70,12 +74,16 @@ pub entries_refused : (old mid new : List NodeState) (kept sender horizon : ℕ)
     → TakesInFirst old (refs_in (Entries sender horizon es)) new
 entries_refused old mid new kept sender horizon es refs is long raised (k, lt, part, some) =
     let first : ℕ → List Reference → List Reference = λ count rs. filter (λ r. nat_lt (shard_of count r.page) k) rs in
-    let own : (k ≡ 0) ⊎ HasPart (length mid) k (record { horizon = horizon; given = list_references_of es }) = subst (λ rs. (k ≡ 0) ⊎ HasPart (length mid) k (set_of_list rs)) is part in
-    (k, omega (arith, lt, long), subst (λ (count : ℕ). (k ≡ 0) ⊎ HasPart count k (record { horizon = horizon; given = list_references_of es })) long own, some
-    ∙ ap (λ (g : HistoryView). history (references_of g ∪ set_of_list (first (length mid) refs))) (raised_whole old mid horizon kept raised)
-    ∙ raised_then_taken (whole old) horizon (first (length mid) refs)
-    ∙ ap (λ (count : ℕ). history (references_of (whole old) ∪ record { horizon = horizon; given = first count refs })) long
-    ∙ ap (λ rs. history (references_of (whole old) ∪ record { horizon = horizon; given = first (length old) rs })) is)
+    let own : (k ≡ 0) ⊎ HasPart (length mid) k (record { horizon = horizon; given = list_references_of es }) = subst (λ rs. (k ≡ 0) ⊎ HasPart (length mid) k (set_of_list rs)) is part in (
+      k,
+      omega (arith, lt, long),
+      subst (λ (count : ℕ). (k ≡ 0) ⊎ HasPart count k (record { horizon = horizon; given = list_references_of es })) long own,
+      some
+          ∙ ap (λ (g : HistoryView). history (references_of g ∪ set_of_list (first (length mid) refs))) (raised_whole old mid horizon kept raised)
+          ∙ raised_then_taken (whole old) horizon (first (length mid) refs)
+          ∙ ap (λ (count : ℕ). history (references_of (whole old) ∪ record { horizon = horizon; given = first count refs })) long
+          ∙ ap (λ rs. history (references_of (whole old) ∪ record { horizon = horizon; given = first (length old) rs })) is,
+    )
 
 after_raise : (old mid new : List NodeState) (time kept : ℕ) → Together old (Horizon time) (Kept kept) mid
     → SameShards mid new → (pool : PoolView)

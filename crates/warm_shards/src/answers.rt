@@ -23,12 +23,7 @@ use warm_stamps::{BUCKETS, Bucket, BucketSet};
 const DIGESTS: usize = BUCKETS as usize;
 
 // Takes the digests of one shard's buckets from its table.
-fn fill(
-    digests: &mut [[u8; DIGEST_SIZE]; DIGESTS],
-    table: &DigestTable,
-    count: usize,
-    shard: usize,
-)
+fn fill(digests: &mut [[u8; DIGEST_SIZE]; DIGESTS], table: &DigestTable, count: usize, shard: usize)
     requires { 0 < count }
     ensures { FillsShard count shard digests.old table.now digests.new }
 {

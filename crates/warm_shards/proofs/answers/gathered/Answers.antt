@@ -13,7 +13,7 @@ loop-shard-init g c = record {
   same = same_none c.args.nodes.now.items;
   size = refl;
   digests = λ bucket low below. absurd (omega arith);
-  count = omega (arith, c.args.nodes.now.ok.0)
+  count = omega (arith, c.args.nodes.now.ok.0);
 }
 
 pub returns-in_err-offered-clause-same : goal.returns-in_err-offered-clause-same
@@ -29,7 +29,7 @@ loop-shard-preserved g c =
       same = same_next _ _ c.len-count.result c.loop-shard.shard n c.offer.new.self n c.loop-shard.invariant.count c.loop-shard-test.true c.index_mut.ensures.value c.in_ok-offered.ensures.step.1 c.in_ok-offered.ensures.devices c.loop-shard.invariant.same;
       size = c.fill.array_long;
       digests = digests_next _ c.loop-shard.nodes.items c.len-count.result c.loop-shard.shard n n c.loop-shard.digests c.in-Digest.table c.fill.new.digests c.requires c.loop-shard.invariant.count c.loop-shard-test.true c.index_mut.ensures.value c.loop-shard.invariant.same table c.fill.ensures c.loop-shard.invariant.digests;
-      count = c.loop-shard.invariant.count
+      count = c.loop-shard.invariant.count;
     }
 
 pub returns-clause-table : goal.returns-clause-table

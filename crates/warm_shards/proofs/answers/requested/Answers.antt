@@ -37,7 +37,7 @@ loop-bucket-preserved g c =
       rest = append_assoc so_far (bucket ∷ []) c.next.new.self ∙ (ap (λ r. so_far ++ r) (sym c.in-Some.ensures.steps) ∙ c.loop-bucket.invariant.rest);
       so_far = rw (c.in_ok-append.ensures.items, c.loop-bucket.invariant.so_far, own) (one_bucket_more (shard_at old 0).id (whole old) so_far bucket);
       same = same_next _ _ c.len-count.result k c.index_mut.result.now c.bucket_in.new.node c.index_mut.result.now c.loop-bucket.invariant.count lt c.index_mut.ensures.value c.in_ok-part.ensures.same c.in_ok-part.ensures.devices c.loop-bucket.invariant.same;
-      count = c.loop-bucket.invariant.count
+      count = c.loop-bucket.invariant.count;
     }
 
 pub returns-clause-messages : goal.returns-clause-messages

@@ -32,5 +32,5 @@ returns g c =
       shards = c.absorb_parts.ensures.shards;
       joined = joined_all old mid new c.raise_all.result c.args.other.now c.deref-2.result.now c.absorb_parts.result refs raised c.absorb_parts.ensures.absorbed;
       refused = joined_some old mid new c.raise_all.result c.args.other.now c.deref-2.result.now c.absorb_parts.result refs c.raise_all.ensures.pools.count raised c.absorb_parts.ensures.refused;
-      pools = keep_then old mid new c.raise_all.ensures.pools c.absorb_parts.ensures.pools
+      pools = keep_then old mid new c.raise_all.ensures.pools c.absorb_parts.ensures.pools;
     }

@@ -8,13 +8,13 @@ use Rattle.warm_shards.proofs.history_calls.raise_all.Goals as goal
 pub loop-shard-init : goal.loop-shard-init
 loop-shard-init g c = record {
   risen = none_risen c.args.nodes.now.items c.args.time c.requires;
-  count = omega (arith, c.args.nodes.now.ok.0)
+  count = omega (arith, c.args.nodes.now.ok.0);
 }
 
 pub loop-shard-preserved : goal.loop-shard-preserved
 loop-shard-preserved g c = record {
   risen = risen_more _ _ c.args.time c.len-count.result c.loop-shard.shard c.index_mut.result.now c.raise.new.self c.index_mut.result.now c.loop-shard.invariant.count c.loop-shard-test.true c.index_mut.ensures.value c.raise.ensures.step.0 c.raise.ensures.devices c.loop-shard.invariant.risen;
-  count = c.loop-shard.invariant.count
+  count = c.loop-shard.invariant.count;
 }
 
 pub returns-clause-shards : goal.returns-clause-shards

@@ -17,6 +17,7 @@ bytes_mut-requires g c =
 pub returns : goal.returns
 returns g c =
     let ns = c.args.nodes.now.items in
-    let is = read_at ns c.args.at.shard c.index_mut.result.now c.index_mut.result.now (omega (arith, c.args.nodes.now.ok.0, c.requires.there)) c.index_mut.ensures.value in
-    ((refl, λ w. ap (λ (n : NodeState). with_item c.args.nodes.now c.args.at.shard (relent_node n c.args.at.slot.index w)) is),
-    record { writes_back = tt; lent = subst (λ (n : NodeState). IsLent (view_of n.pool) c.args.at.slot c.bytes_mut.result.now) is c.bytes_mut.ensures.lent })
+    let is = read_at ns c.args.at.shard c.index_mut.result.now c.index_mut.result.now (omega (arith, c.args.nodes.now.ok.0, c.requires.there)) c.index_mut.ensures.value in (
+      (refl, λ w. ap (λ (n : NodeState). with_item c.args.nodes.now c.args.at.shard (relent_node n c.args.at.slot.index w)) is),
+      record { writes_back = tt; lent = subst (λ (n : NodeState). IsLent (view_of n.pool) c.args.at.slot c.bytes_mut.result.now) is c.bytes_mut.ensures.lent },
+    )

@@ -10,7 +10,7 @@ use Rattle.warm_shards.proofs.shards.joined.Goals as goal
 pub loop-shard-init : goal.loop-shard-init
 loop-shard-init g c = record {
   so_far = c.new-all.ensures.empty ∙ none_joined;
-  count = omega (arith, c.args.nodes.now.ok.0)
+  count = omega (arith, c.args.nodes.now.ok.0);
 }
 
 pub loop-shard-preserved : goal.loop-shard-preserved
@@ -25,7 +25,7 @@ loop-shard-preserved g c =
           ∙ ap (λ (h : HistoryView). join (whole (take k ns)) h) own
           ∙ sym (whole_more ns k (omega (arith, c.loop-shard.invariant.count)))
           ∙ ap (λ (x : ℕ). whole (take x ns)) (sym (add-one k));
-      count = c.loop-shard.invariant.count
+      count = c.loop-shard.invariant.count;
     }
 
 pub returns : goal.returns

@@ -17,7 +17,7 @@ bytes_mut_in-requires g c =
     let lt = subst (λ (xs : List NodeState). c.args.at.shard < length xs) (sym c.self.view_is) c.requires.there in
     record {
       there = omega (arith, c.self.inside.nodes.ok.0, lt);
-      holds = subst (λ (xs : List NodeState). Holds (view_of (shard_at xs c.args.at.shard).pool) c.args.at.slot) (sym c.self.view_is) c.requires.holds
+      holds = subst (λ (xs : List NodeState). Holds (view_of (shard_at xs c.args.at.shard).pool) c.args.at.slot) (sym c.self.view_is) c.requires.holds;
     }
 
 pub returns : goal.returns
@@ -25,6 +25,6 @@ returns g c = (
   (refl, λ w. ap (λ (xs : List NodeState). relent_shards xs c.args.at.shard c.args.at.slot.index w) c.self.view_is),
   record {
     writes_back = tt;
-    lent = subst (λ (xs : List NodeState). IsLent (view_of (shard_at xs c.args.at.shard).pool) c.args.at.slot c.bytes_mut_in.result.now) c.self.view_is c.bytes_mut_in.ensures.lent
-  }
+    lent = subst (λ (xs : List NodeState). IsLent (view_of (shard_at xs c.args.at.shard).pool) c.args.at.slot c.bytes_mut_in.result.now) c.self.view_is c.bytes_mut_in.ensures.lent;
+  },
 )
