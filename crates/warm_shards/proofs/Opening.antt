@@ -2,10 +2,10 @@
 use Rattle.std.proofs.Common.{◌≡◌, ℕ, zero, suc, ◌<◌, List, [], ◌∷◌, map, length, get_or, Option, Some, None, refl, sym, ap, subst, ◌∙◌, arith}
 use Rattle.std.specs.List.{AllByRecursion}
 use Rattle.warm_history.specs.ReferenceSets.{set_of_list, ◌∪◌}
-use Rattle.warm_history.specs.Histories.{HistoryView, IsHistory, entries_of, history, history_of_entries, references_of}
+use Rattle.warm_history.specs.Histories.{IsHistory, entries_of, history, history_of_entries, references_of}
 use Rattle.warm_stamps.specs.declared.PageId.{PageId}
 use Rattle.warm_rank.specs.Laws.{pages_in}
-use Rattle.warm_pool.specs.View.{FrameView, frame_at, view_of}
+use Rattle.warm_pool.specs.View.{FrameView, view_of}
 use Rattle.warm_gossip.specs.State.{NodeState}
 use Rattle.warm_shards.specs.Shards.{AreOpened, AreShards, IsOpened, IsShard, held, no_shard, shard_at, shard_of, whole}
 use Rattle.warm_shards.proofs.Absorbing.{some_count}
@@ -18,13 +18,15 @@ no_frame = record { page = None; generation = 0; fixes = 0 }
 vacant_frames : (fs : List FrameView) → pages_in (map (λ f. f.page) fs) ≡ [] → (k : ℕ) (p : PageId)
     → (get_or fs k no_frame).page ≡ Some p → ⊥
 vacant_frames [] none k p at = cc
-vacant_frames (f ∷ fs) none k p at = cases f.page refl k at
+vacant_frames (f ∷ fs) none k p at = cases f.page refl k at (λ e j. vacant_frames fs e j p)
   where
     cases : (page : Option PageId) → f.page ≡ page → (k : ℕ)
-        → (get_or (f ∷ fs) k no_frame).page ≡ Some p → ⊥
-    cases (Some q) is k at = let no : q ∷ pages_in (map (λ f. f.page) fs) ≡ [] = rw is at none in cc
-    cases None is zero at = cc
-    cases None is (suc k) at = vacant_frames fs (rw is at none) k p at
+        → (get_or (f ∷ fs) k no_frame).page ≡ Some p
+        → (pages_in (map (λ (x : FrameView). x.page) fs) ≡ [] → (j : ℕ) → (get_or fs j no_frame).page ≡ Some p → ⊥)
+        → ⊥
+    cases (Some q) is k at rest = let no : q ∷ pages_in (map (λ (x : FrameView). x.page) fs) ≡ [] = rw is at none in cc
+    cases None is zero at rest = let no : None ≡ Some p = sym is ∙ at in cc
+    cases None is (suc k) at rest = rest (rw is at none) k at
 
 opened_history : (id : ℕ) (n : NodeState) → IsOpened id n → n.history ≡ history_of_entries []
 opened_history id n opened = λ i. record { horizon = opened.horizon i; entries = opened.entries i }

@@ -1,4 +1,4 @@
-use Rattle.std.proofs.Common.{◌≡◌, ℕ, List, Result, refl, sym, ap, subst, ◌∙◌}
+use Rattle.std.proofs.Common.{ℕ, refl, ap, subst, ◌∙◌}
 use Rattle.std.proofs.lemmas.Result.{err_from_is_err_and}
 use Rattle.warm_history.specs.Histories.{references_of}
 use Rattle.warm_history.specs.ListHistories.{list_references_of}

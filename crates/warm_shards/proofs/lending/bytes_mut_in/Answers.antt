@@ -1,10 +1,9 @@
-use Rattle.std.proofs.Common.{◌≡◌, ap, refl, subst, sym, ◌∙◌, arith}
+use Rattle.std.proofs.Common.{ap, refl, subst, sym, arith}
 use Rattle.std.specs.Vec.{with_item}
 use Rattle.warm_pool.specs.View.{Holds, view_of}
 use Rattle.warm_pool.specs.PageBytes.{IsLent}
 use Rattle.warm_gossip.specs.Lending.{relent_node}
 use Rattle.warm_gossip.specs.State.{NodeState}
-use Rattle.warm_shards.specs.Shards.{shard_at}
 use Rattle.warm_shards.proofs.Calls.{read_at}
 use Rattle.warm_shards.proofs.lending.bytes_mut_in.Goals as goal
 

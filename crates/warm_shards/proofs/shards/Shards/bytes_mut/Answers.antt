@@ -1,4 +1,4 @@
-use Rattle.std.proofs.Common.{◌≡◌, ◌<◌, List, length, refl, ap, sym, subst, arith}
+use Rattle.std.proofs.Common.{◌<◌, List, length, refl, ap, sym, subst, arith}
 use Rattle.warm_pool.specs.PageBytes.{IsLent}
 use Rattle.warm_pool.specs.View.{Holds, view_of}
 use Rattle.warm_gossip.specs.State.{NodeState}
