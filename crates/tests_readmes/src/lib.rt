@@ -37,6 +37,8 @@ mod schedule;
 #[cfg(test)]
 mod setup;
 #[cfg(test)]
+mod shards;
+#[cfg(test)]
 mod stamps;
 #[cfg(test)]
 mod threads;

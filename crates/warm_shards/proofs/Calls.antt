@@ -1,0 +1,253 @@
+-- What a call of one node does to the shards.
+use Rattle.std.proofs.Common.{◌≡◌, ℕ, zero, suc, ◌<◌, Bool, true, false, List, [], ◌∷◌, filter, length, max, set, get_or, Some, refl, sym, ap, subst, ◌∙◌, arith}
+use Rattle.std.specs.Prelude.{nat_eq}
+use Rattle.std.specs.List.{AllByRecursion}
+use Rattle.std.specs.Ordering.{flip_args}
+use Rattle.std.proofs.Math.Nat.{max-zero}
+use Rattle.std.proofs.lemmas.Bool.{eqb-true}
+use Rattle.std.proofs.lemmas.List.{length-set}
+use Rattle.warm_stamps.specs.declared.PageId.{PageId}
+use Rattle.warm_stamps.specs.declared.Reference.{Reference}
+use Rattle.warm_stamps.specs.Distinct.{distinct}
+use Rattle.warm_stamps.proofs.DistinctLemmas.{all_of_has, all_take, has_from_distinct}
+use Rattle.warm_stamps.proofs.StampLemmas.{IsStrictOrder-flip}
+use Rattle.warm_history.specs.ReferenceSets.{ReferenceSet, set_of_list, ◌∪◌}
+use Rattle.warm_history.specs.Histories.{HistoryView, IsHistory, entries_of, history, pages, references_of}
+use Rattle.warm_history.proofs.HistoryLemmas.{IsHistory-history, horizon-history}
+use Rattle.warm_rank.specs.Ranking.{eviction_cmp, hottest_pages}
+use Rattle.warm_rank.proofs.EvictionLemmas.{eviction_order}
+use Rattle.warm_pool.specs.declared.slot.Slot.{Slot}
+use Rattle.warm_pool.specs.Keeping.{KeepsBytes}
+use Rattle.warm_pool.specs.Pinning.{PutsIn}
+use Rattle.warm_pool.specs.State.{PoolState}
+use Rattle.warm_pool.specs.View.{PoolView, frame_at, view_of}
+use Rattle.warm_gossip.specs.State.{NodeState, NodeView, node_view}
+use Rattle.warm_gossip.specs.declared.call.Call.TheVariants.{Absorb}
+use Rattle.warm_gossip.specs.declared.call.Reply.TheVariants.{Done, Refused}
+use Rattle.warm_gossip.specs.declared.fault.NodeFault.{NodeFault}
+use Rattle.warm_gossip.specs.declared.fault.NodeFault.TheVariants.{Memory, Pool, StaleSlot}
+use Rattle.warm_gossip.specs.Clauses.{Goes}
+use Rattle.warm_gossip.specs.Step.{IsNextWarm, nth_page}
+use Rattle.warm_gossip.proofs.VictimLemmas.{KeepsPages, frames_after}
+use Rattle.warm_shards.specs.Clauses.{KeepPools, SameShards}
+use Rattle.warm_shards.specs.Shards.{AreShards, IsShard, held, shard_at, shard_of, whole}
+use Rattle.warm_shards.proofs.Keeping.{all_shards, at_each, still_shards}
+use Rattle.warm_shards.proofs.Pages.{all_held, all_pages, all_taken, each_has}
+
+-- ---- pools that stay
+
+bytes_after : (a b c : PoolState) → KeepsBytes a b → KeepsBytes b c → KeepsBytes a c
+bytes_after a b c x y = record {
+  devices = y.devices ∙ x.devices;
+  bytes = λ k. y.bytes k ∙ x.bytes k;
+  dirty = λ k. y.dirty k ∙ x.dirty k;
+}
+
+pub bytes_same : (a : PoolState) → KeepsBytes a a
+bytes_same a = record { devices = refl; bytes = λ k. refl; dirty = λ k. refl }
+
+pub keep_none : (ns : List NodeState) → KeepPools ns ns
+keep_none ns = record { count = refl; views = λ i. refl; bytes = λ i. bytes_same (shard_at ns i).pool }
+
+pub keep_one : (old ns : List NodeState) (i : ℕ) (m : NodeState) → i < length ns
+    → KeepPools old ns → view_of m.pool ≡ view_of (shard_at ns i).pool
+    → KeepsBytes (shard_at ns i).pool m.pool → KeepPools old (set ns i m)
+keep_one old ns i m lt kept view bytes = record {
+  count = length-set ns i m ∙ kept.count;
+  views = at_each (λ k n. view_of n.pool ≡ view_of (shard_at old k).pool) ns i m lt (view ∙ kept.views i) (λ k other. kept.views k);
+  bytes = at_each (λ k n. KeepsBytes (shard_at old k).pool n.pool) ns i m lt (bytes_after (shard_at old i).pool (shard_at ns i).pool m.pool (kept.bytes i) bytes) (λ k other. kept.bytes k);
+}
+
+pub keep_then : (a b c : List NodeState) → KeepPools a b → KeepPools b c → KeepPools a c
+keep_then a b c x y = record {
+  count = y.count ∙ x.count;
+  views = λ i. y.views i ∙ x.views i;
+  bytes = λ i. bytes_after (shard_at a i).pool (shard_at b i).pool (shard_at c i).pool (x.bytes i) (y.bytes i);
+}
+
+-- ---- shards that a caller sees as before
+
+pub same_none : (ns : List NodeState) → SameShards ns ns
+same_none ns = record { count = refl; views = λ i. refl; bytes = λ i. bytes_same (shard_at ns i).pool }
+
+pub same_one : (old ns : List NodeState) (i : ℕ) (m : NodeState) → i < length ns
+    → SameShards old ns → node_view m ≡ node_view (shard_at ns i)
+    → KeepsBytes (shard_at ns i).pool m.pool → SameShards old (set ns i m)
+same_one old ns i m lt same view bytes = record {
+  count = length-set ns i m ∙ same.count;
+  views = at_each (λ k n. node_view n ≡ node_view (shard_at old k)) ns i m lt (view ∙ same.views i) (λ k other. same.views k);
+  bytes = at_each (λ k n. KeepsBytes (shard_at old k).pool n.pool) ns i m lt (bytes_after (shard_at old i).pool (shard_at ns i).pool m.pool (same.bytes i) bytes) (λ k other. same.bytes k);
+}
+
+pub same_then : (a b c : List NodeState) → SameShards a b → SameShards b c → SameShards a c
+same_then a b c x y = record {
+  count = y.count ∙ x.count;
+  views = λ i. y.views i ∙ x.views i;
+  bytes = λ i. bytes_after (shard_at a i).pool (shard_at b i).pool (shard_at c i).pool (x.bytes i) (y.bytes i);
+}
+
+pub same_keeps : (old new : List NodeState) → SameShards old new → KeepPools old new
+same_keeps old new same = record {
+  count = same.count;
+  views = λ i. ap (λ (v : NodeView). v.pool) (same.views i);
+  bytes = same.bytes;
+}
+
+held_alike : (old new : List NodeState) → length new ≡ length old
+    → ((i : ℕ) → (shard_at new i).history ≡ (shard_at old i).history) → held new ≡ held old
+held_alike [] [] long alike = refl
+held_alike [] (m ∷ ms) long alike = absurd (omega arith)
+held_alike (n ∷ ns) [] long alike = absurd (omega arith)
+held_alike (n ∷ ns) (m ∷ ms) long alike =
+    ap (λ h. references_of h ∪ held ms) (alike 0)
+    ∙ ap (λ S. references_of n.history ∪ S) (held_alike ns ms (omega arith) (λ i. alike (suc i)))
+
+pub same_histories : (old new : List NodeState) → SameShards old new → (i : ℕ)
+    → (shard_at new i).history ≡ (shard_at old i).history
+same_histories old new same i = ap (λ (v : NodeView). v.history) (same.views i)
+
+pub same_ids : (old new : List NodeState) → SameShards old new → (i : ℕ)
+    → (shard_at new i).id ≡ (shard_at old i).id
+same_ids old new same i = ap (λ (v : NodeView). v.id) (same.views i)
+
+pub same_whole : (old new : List NodeState) → SameShards old new → whole new ≡ whole old
+same_whole old new same = ap history (held_alike old new same.count (same_histories old new same))
+
+-- ---- one node is still the shard
+
+-- it has taken references to its pages in
+pub takes_shard : (count number latest i : ℕ) (n m : NodeState) (S : ReferenceSet)
+    → IsShard count number latest i n
+    → node_view m ≡ record (node_view n) { history = history (references_of n.history ∪ S) }
+    → AllByRecursion (λ r. shard_of count r.page ≡ i) S.given
+    → IsShard count number (max latest S.horizon) i m
+takes_shard count number latest i n m S old view all =
+    let is : m.history ≡ history (references_of n.history ∪ S) = ap (λ (v : NodeView). v.history) view in
+    let pool : view_of m.pool ≡ view_of n.pool = ap (λ (v : NodeView). v.pool) view in
+    record {
+      id = ap (λ (v : NodeView). v.id) view ∙ old.id;
+      horizon = ap (λ h. h.horizon) is ∙ horizon-history (references_of n.history ∪ S) ∙ ap (λ x. max x S.horizon) old.horizon;
+      valid = subst IsHistory (sym is) (IsHistory-history (references_of n.history ∪ S));
+      own = record {
+        known = subst (λ h. AllByRecursion (λ e. shard_of count e.page ≡ i) (entries_of h)) (sym is) (all_taken (λ p. shard_of count p ≡ i) (entries_of n.history) S.given (max n.history.horizon S.horizon) old.own.known all);
+        resident = λ k p at. old.own.resident k p (ap (λ v. (frame_at v k).page) (sym pool) ∙ at);
+      };
+    }
+
+-- a caller sees what it saw
+pub same_shard : (count number latest i : ℕ) (n m : NodeState) → IsShard count number latest i n
+    → node_view m ≡ node_view n → IsShard count number latest i m
+same_shard count number latest i n m old view =
+    let is : m.history ≡ n.history = ap (λ (v : NodeView). v.history) view in
+    let pool : view_of m.pool ≡ view_of n.pool = ap (λ (v : NodeView). v.pool) view in
+    record {
+      id = ap (λ (v : NodeView). v.id) view ∙ old.id;
+      horizon = ap (λ h. h.horizon) is ∙ old.horizon;
+      valid = subst IsHistory (sym is) old.valid;
+      own = record {
+        known = subst (λ h. AllByRecursion (λ e. shard_of count e.page ≡ i) (entries_of h)) (sym is) old.own.known;
+        resident = λ k p at. old.own.resident k p (ap (λ v. (frame_at v k).page) (sym pool) ∙ at);
+      };
+    }
+
+-- its pool alone has changed, and has its pages alone
+pub pool_shard : (count number latest i : ℕ) (n m : NodeState) → IsShard count number latest i n
+    → node_view m ≡ record (node_view n) { pool = view_of m.pool }
+    → ((k : ℕ) (p : PageId) → (frame_at (view_of m.pool) k).page ≡ Some p → shard_of count p ≡ i)
+    → IsShard count number latest i m
+pool_shard count number latest i n m old view resident =
+    let is : m.history ≡ n.history = ap (λ (v : NodeView). v.history) view in
+    record {
+      id = ap (λ (v : NodeView). v.id) view ∙ old.id;
+      horizon = ap (λ h. h.horizon) is ∙ old.horizon;
+      valid = subst IsHistory (sym is) old.valid;
+      own = record {
+        known = subst (λ h. AllByRecursion (λ e. shard_of count e.page ≡ i) (entries_of h)) (sym is) old.own.known;
+        resident = resident;
+      };
+    }
+
+pub same_shards : (old new : List NodeState) → SameShards old new → 0 < length old → AreShards old
+    → AreShards new
+same_shards old new same some are =
+    let number = (shard_at old 0).id in
+    let latest = (shard_at old 0).history.horizon in
+    all_shards number latest new (rw same.count are.count) (omega (arith, same.count)) (λ i lt.
+    subst (λ c. IsShard c number latest i (shard_at new i)) (sym same.count) (same_shard (length old) number latest i (shard_at old i) (shard_at new i) (are.each i (omega (arith, same.count))) (same.views i)))
+
+-- a part of a batch has pages of its shard alone
+pub part_is_own : (count i : ℕ) (batch : List Reference)
+    → AllByRecursion (λ r. shard_of count r.page ≡ i) (filter (λ r. nat_eq (shard_of count r.page) i) batch)
+part_is_own count i [] = tt
+part_is_own count i (r ∷ rs) = cases (nat_eq (shard_of count r.page) i) refl (part_is_own count i rs)
+  where
+    cases : (b : Bool) → nat_eq (shard_of count r.page) i ≡ b
+        → AllByRecursion (λ (x : Reference). shard_of count x.page ≡ i) (filter (λ x. nat_eq (shard_of count x.page) i) rs)
+        → AllByRecursion (λ (x : Reference). shard_of count x.page ≡ i) (filter (λ x. nat_eq (shard_of count x.page) i) (r ∷ rs))
+    cases true is rest = rw is (eqb-true (shard_of count r.page) i is, rest)
+    cases false is rest = rw is rest
+
+-- ---- the pages in a pool
+
+abbrev pub HasOnly : (PageId → Type 0) → PoolView → Type 0
+HasOnly P v = (k : ℕ) (p : PageId) → (frame_at v k).page ≡ Some p → P p
+
+pub only_kept : (P : PageId → Type 0) (v w : PoolView) → KeepsPages v w → HasOnly P v → HasOnly P w
+only_kept P v w keeps own k p at = own k p (sym (keeps k) ∙ at)
+
+pub only_put : (P : PageId → Type 0) (h : HistoryView) (v w : PoolView) (q : PageId) (fixes : ℕ)
+    (slot : Slot) → PutsIn h v q fixes slot w → P q → HasOnly P v → HasOnly P w
+only_put P h v w q fixes slot puts is own k p at =
+    frames_after puts (λ i f. (x : PageId) → f.page ≡ Some x → P x) (λ x here. let e : q ≡ x = cc in subst P e is) (λ j other x there. own j x there) k p at
+
+each_nth : (P : PageId → Type 0) (ps : List PageId) (i : ℕ) → AllByRecursion P ps → i < length ps
+    → P (nth_page ps i)
+each_nth P [] i all lt = absurd (omega arith)
+each_nth P (p ∷ ps) zero all lt = all.0
+each_nth P (p ∷ ps) (suc i) all lt = each_nth P ps i all.1 (omega arith)
+
+-- the page that a shard loads next is its own
+pub next_is_own : (count number latest i : ℕ) (n : NodeState) (p : PageId)
+    → IsShard count number latest i n → IsNextWarm (node_view n) (Some p) → shard_of count p ≡ i
+next_is_own count number latest i n p old next =
+    let own : PageId → Type 0 = λ q. shard_of count q ≡ i in
+    let R = references_of n.history in
+    let falls = flip_args (eviction_cmp R) in
+    let order = IsStrictOrder-flip (eviction_cmp R) (eviction_order R) in
+    let named : AllByRecursion own (pages R) = all_pages own R (all_held own (entries_of n.history) old.own.known) in
+    let all : AllByRecursion own (distinct falls (pages R)) = all_of_has own (distinct falls (pages R)) (λ q has. each_has own (pages R) q named (has_from_distinct falls order (pages R) q has)) in
+    let hottest = hottest_pages R (length (view_of n.pool).frames) in
+    subst own next.2 (each_nth own hottest next.0 (all_take own (length (view_of n.pool).frames) (distinct falls (pages R)) all) next.1)
+
+-- ---- absorbing, shard by shard
+
+pub absorb_refused : (n m : NodeState) (batch : List Reference) (why : NodeFault)
+    → Goes n (Absorb batch) (Refused why) m → (why ≡ Memory) × (node_view m ≡ node_view n)
+absorb_refused n m batch Memory same = (refl, same)
+absorb_refused n m batch (Pool why) none = absurd none
+absorb_refused n m batch StaleSlot none = absurd none
+
+-- the shard at an index, as the code reads it
+pub read_at : (ns : List NodeState) (i : ℕ) (n d : NodeState) → i < length ns → n ≡ get_or ns i d
+    → n ≡ shard_at ns i
+read_at [] i n d lt is = absurd (omega arith)
+read_at (x ∷ xs) zero n d lt is = is
+read_at (x ∷ xs) (suc i) n d lt is = read_at xs i n d (omega arith) is
+
+-- the next shard has absorbed its part
+pub absorbed_next : (ns : List NodeState) (k : ℕ) (n m : NodeState) (part : List Reference)
+    → AreShards ns → k < length ns → n ≡ shard_at ns k
+    → AllByRecursion (λ r. shard_of (length ns) r.page ≡ k) part
+    → Goes n (Absorb part) Done m → AreShards (set ns k m)
+absorbed_next ns k n m part are lt is own goes =
+    let number = (shard_at ns 0).id in
+    let latest = (shard_at ns 0).history.horizon in
+    let old : IsShard (length ns) number latest k n = subst (IsShard (length ns) number latest k) (sym is) (are.each k lt) in
+    still_shards ns k m are lt (subst (λ h. IsShard (length ns) number h k m) (max-zero latest) (takes_shard (length ns) number latest k n m (set_of_list part) old goes own))
+
+-- the id of all together stays
+pub id_stays : (old ns : List NodeState) (k : ℕ) (m : NodeState) → k < length ns
+    → m.id ≡ (shard_at ns k).id → (shard_at ns 0).id ≡ (shard_at old 0).id
+    → (shard_at (set ns k m) 0).id ≡ (shard_at old 0).id
+id_stays old ns k m lt id so_far =
+    at_each (λ i n. n.id ≡ (shard_at ns i).id) ns k m lt id (λ i other. refl) 0 ∙ so_far

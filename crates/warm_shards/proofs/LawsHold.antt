@@ -1,0 +1,48 @@
+-- The laws of shards.
+use Rattle.std.proofs.Common.{◌≡◌, ◌≢◌, ◌⊎◌, inl, inr, length, Some, sym, ap, ◌∙◌}
+use Rattle.warm_stamps.specs.declared.PageId.{PageId}
+use Rattle.warm_history.specs.ReferenceSets.{◌∪◌}
+use Rattle.warm_history.specs.Histories.{HistoryView, history, references_of}
+use Rattle.warm_history.proofs.JoinLemmas.{history_first, history_of_own_references}
+use Rattle.warm_rank.specs.Ranking.{IsVictim}
+use Rattle.warm_rank.proofs.VictimLemmas.{victim_is_farthest}
+use Rattle.warm_pool.specs.View.{PoolView, frame_at, unfixed_pages, view_of}
+use Rattle.warm_gossip.specs.State.{empty_node, node_view}
+use Rattle.warm_gossip.specs.Victims.{IsEvicted}
+use Rattle.warm_gossip.proofs.VictimLemmas.{KeepsPages, PutsPage, frames_after, step_leads, victim_left}
+use Rattle.warm_shards.specs.Laws.{FirstAreGiven, ShardVictimsAreFarthest, ShardsStand, WholeIsOfGiven}
+use Rattle.warm_shards.specs.Shards.{as_node, of_first_shards, shard_at, whole}
+use Rattle.warm_shards.proofs.Gathering.{digest_whole}
+use Rattle.warm_shards.proofs.Standing.{shard_stands}
+use Rattle.warm_shards.proofs.Victims.{victim_whole}
+
+pub whole_is_of_given : WholeIsOfGiven
+whole_is_of_given S old new call reply stands goes =
+    let pool = empty_node.pool in
+    (step_leads S call reply (as_node old pool) (as_node new pool) stands (goes pool)).0
+
+pub first_are_given : FirstAreGiven
+first_are_given S T old new stands takes =
+    let part = of_first_shards (length old) takes.0 T in
+    (takes.0, takes.1, takes.2, takes.3 ∙ ap (λ h. history (references_of h ∪ part)) stands ∙ history_first S part)
+
+pub shards_stand : ShardsStand
+shards_stand S shards i are lt stands = record {
+  stands = shard_stands S shards i are lt stands;
+  digests = λ bucket low is. digest_whole shards i bucket are lt low is;
+}
+
+-- a page that leaves was the victim over what the history holds
+leaves_as_victim : (h : HistoryView) (v w : PoolView) → KeepsPages v w ⊎ PutsPage h v w
+    → (q : PageId) → IsEvicted v w q → IsVictim (references_of h) (unfixed_pages v) (Some q)
+leaves_as_victim h v w (inl keeps) q (was, gone) = absurd (gone was.frame (keeps was.frame ∙ was.holds))
+leaves_as_victim h v w (inr puts) q (was, gone) =
+    frames_after puts.3 (λ i f. (frame_at v i).page ≡ Some q → f.page ≢ Some q → IsVictim (references_of h) (unfixed_pages v) (Some q))
+    (λ held other. (victim_left puts.3 q held).1) (λ j other held none. absurd (none held)) was.frame was.holds (gone was.frame)
+
+pub victims_are_farthest : ShardVictimsAreFarthest
+victims_are_farthest S shards i new call reply v are lt stands step other gone =
+    let h = (shard_at shards i).history in
+    let pool = view_of (shard_at shards i).pool in
+    let leads = step_leads (references_of h) call reply (node_view (shard_at shards i)) new (sym (history_of_own_references h (are.each i lt).valid)) step in
+    victim_is_farthest (whole shards) S stands (unfixed_pages pool) v (victim_whole shards i (Some v) are lt (leaves_as_victim h pool new.pool (leads.1 other) v gone))

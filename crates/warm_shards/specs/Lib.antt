@@ -1,0 +1,6 @@
+pub mod Shards
+pub mod Clauses
+pub mod Digests
+pub mod Dividing
+pub mod Lending
+pub mod Laws

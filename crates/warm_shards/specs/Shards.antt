@@ -1,0 +1,90 @@
+-- Shards: the nodes of one replica, each with the pages of its buckets. Together they are one node.
+use Rattle.std.specs.Prelude.{◌≡◌, ℕ, ◌%◌, ◌<◌, ◌≤◌, IsTrue, List, [], ◌∷◌, length, Some}
+use Rattle.std.specs.Prelude.{nat_eq, nat_lt, slice_index_or}
+use Rattle.std.specs.Int.{is_power_of_two}
+use Rattle.std.specs.List.{All, AllByRecursion}
+use Rattle.warm_stamps.specs.declared.PageId.{PageId}
+use Rattle.warm_stamps.specs.declared.TheConstants.{BUCKETS}
+use Rattle.warm_stamps.specs.Buckets.{page_bucket}
+use Rattle.warm_history.specs.ReferenceSets.{ReferenceSet, set_of_list, filter_references, ◌∪◌}
+use Rattle.warm_history.specs.Histories.{HistoryView, IsHistory, entries_of, history}
+use Rattle.warm_history.specs.Histories.{references_of}
+use Rattle.warm_pool.specs.Counting.{resident_pages}
+use Rattle.warm_pool.specs.State.{fresh_pool}
+use Rattle.warm_pool.specs.View.{PoolView, frame_at, view_of}
+use Rattle.warm_gossip.specs.State.{NodeState, NodeView, opened_node}
+
+-- a valid number of shards: a power of two, up to the number of buckets
+abbrev pub IsShardCount : ℕ → Type 0
+IsShardCount count = IsTrue (is_power_of_two count) × (count ≤ BUCKETS)
+
+-- the shard of a page: its bucket, modulo the number of shards
+abbrev pub shard_of : ℕ → PageId → ℕ
+shard_of count p = page_bucket p % count
+
+-- a node without a frame: no slot of it holds a page
+abbrev pub no_shard : NodeState
+no_shard = opened_node 0 (fresh_pool 0 0 [])
+
+-- the shard of this number, from 0
+abbrev pub shard_at : List NodeState → ℕ → NodeState
+shard_at shards i = slice_index_or shards i no_shard
+
+-- All shards together
+
+-- the references that the shards hold, at the latest of their horizons
+abbrev pub held : List NodeState → ReferenceSet
+held [] = set_of_list []
+held (n ∷ ns) = references_of n.history ∪ held ns
+
+-- the history of all shards: their entries together, in page order
+abbrev pub whole : List NodeState → HistoryView
+whole shards = history (held shards)
+
+-- the one node with all references of the shards, and with some pool
+abbrev pub as_node : List NodeState → PoolView → NodeView
+as_node shards pool =
+    record { id = (shard_at shards 0).id; history = whole shards; pool = pool }
+
+-- the references to pages of one shard; and to those of the first k shards
+abbrev pub of_shard : ℕ → ℕ → ReferenceSet → ReferenceSet
+of_shard count i S = filter_references (λ r. nat_eq (shard_of count r.page) i) S
+
+abbrev pub of_first_shards : ℕ → ℕ → ReferenceSet → ReferenceSet
+of_first_shards count k S = filter_references (λ r. nat_lt (shard_of count r.page) k) S
+
+-- The invariant
+
+-- the node knows pages of this shard alone, and no other page is in its pool
+pub record HoldsShard (count i : ℕ) (n : NodeState) : Type 0 where
+  pub known : AllByRecursion (λ e. shard_of count e.page ≡ i) (entries_of n.history)
+  pub resident : (k : ℕ) (p : _) → (frame_at (view_of n.pool) k).page ≡ Some p
+      → shard_of count p ≡ i
+
+-- the node is the shard of this number, of a count of shards with this id and this horizon
+pub record IsShard (count number latest i : ℕ) (n : NodeState) : Type 0 where
+  pub id : n.id ≡ number
+  pub horizon : n.history.horizon ≡ latest
+  pub valid : IsHistory n.history
+  pub own : HoldsShard count i n
+
+-- The shards of one replica: all have one id and one horizon, and each holds the pages of its
+-- buckets alone.
+pub record AreShards (shards : List NodeState) : Type 0 where
+  pub count : IsShardCount (length shards)
+  pub each : (i : ℕ) → i < length shards → IsShard (length shards) (shard_at shards 0).id
+      (shard_at shards 0).history.horizon i (shard_at shards i)
+
+-- Opening
+
+-- a node of this id without references and without a resident page
+pub record IsOpened (number : ℕ) (n : NodeState) : Type 0 where
+  pub id : n.id ≡ number
+  pub entries : entries_of n.history ≡ []
+  pub horizon : n.history.horizon ≡ 0
+  pub vacant : resident_pages (view_of n.pool) ≡ []
+
+-- as many such nodes as there can be shards
+pub record AreOpened (number : ℕ) (nodes : List NodeState) : Type 0 where
+  pub count : IsShardCount (length nodes)
+  pub each : All (IsOpened number) nodes

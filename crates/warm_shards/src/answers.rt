@@ -1,0 +1,143 @@
+//! What all shards together answer to digests and to a request.
+ghost use Rattle.std.specs.Prelude.{◌≡◌, ◌<◌, ◌++◌, ◌∷◌, [], IfErr, IfOk, OnOk};
+ghost use Rattle.warm_stamps.specs.declared.TheConstants.{BUCKETS};
+ghost use Rattle.warm_history.specs.Histories.{IsHistory, entries_of};
+ghost use Rattle.warm_digest.specs.BucketDigests.{digests_of};
+ghost use Rattle.warm_frames.specs.Chunks.{bucket_messages};
+ghost use Rattle.warm_pool.specs.Keeping.{KeepsBytes};
+ghost use Rattle.warm_gossip.specs.Answers.{AnswersDigests, requested_messages};
+ghost use Rattle.warm_gossip.specs.Clauses.{SameView};
+ghost use Rattle.warm_gossip.specs.declared.fault.NodeFault.TheVariants.{Memory};
+ghost use Rattle.warm_shards.specs.Clauses.{SameShards};
+ghost use Rattle.warm_shards.specs.Digests.{FillsShard};
+ghost use Rattle.warm_shards.specs.Shards.{AreShards, shard_at, whole};
+
+use std::alloc::{AllocError, Global};
+use warm_devices::PageDevice;
+use warm_digest::differing;
+use warm_frames::{DIGEST_SIZE, DigestTable, Message};
+use warm_gossip::{Node, NodeFault};
+use warm_stamps::{BUCKETS, Bucket, BucketSet};
+
+// How many digests a table has.
+const DIGESTS: usize = BUCKETS as usize;
+
+// Takes the digests of one shard's buckets from its table.
+fn fill(digests: &mut [[u8; DIGEST_SIZE]; DIGESTS], table: &DigestTable, count: usize, shard: usize)
+    requires { 0 < count }
+    ensures { FillsShard count shard digests.old table.now digests.new }
+{
+    for number in 0..BUCKETS {
+        let Some(bucket) = Bucket::new(number) else {
+            unreachable!()
+        };
+        if number as usize % count == shard {
+            digests[number as usize] = table.digest(bucket);
+        }
+    }
+}
+
+/// The digests of all buckets, of each that of its shard.
+///
+/// `Memory` occurs only where an allocation fails.
+pub(crate) fn gathered<D: PageDevice>(nodes: &mut Vec<Node<D>>) -> Result<DigestTable, NodeFault>
+    requires { AreShards nodes.old.items }
+    ensures table { IfOk result (λ table.
+        table ≡ digests_of (entries_of (whole nodes.old.items))) }
+    ensures refused { IfErr result (λ why. why ≡ Memory) }
+    ensures same { SameShards nodes.old.items nodes.new.items }
+{
+    let count = nodes.len();
+    let mut digests = [[0; DIGEST_SIZE]; DIGESTS];
+    for shard in 0..count {
+        let offered = nodes[shard].offer()?;
+        let Message::Digest { digests: table, .. } = offered else {
+            unreachable!()
+        };
+        fill(&mut digests, &table, count, shard);
+    }
+    Ok(DigestTable::of(digests))
+}
+
+// The messages in which a node sends a bucket whole.
+fn bucket_in<D: PageDevice>(node: &mut Node<D>, bucket: Bucket) -> Result<Vec<Message>, NodeFault>
+    requires { IsHistory node.old.history }
+    ensures messages { IfOk result (λ messages. messages.items
+        ≡ bucket_messages node.old.id node.old.history bucket) }
+    ensures refused { IfErr result (λ why. why ≡ Memory) }
+    ensures same { SameView node.old node.new }
+    ensures devices { KeepsBytes node.old.pool node.new.pool }
+{
+    // The bucket's number is below BUCKETS.
+    let _number = bucket.get();
+    let request = Message::Want {
+        sender: node.id(),
+        horizon: 0,
+        request: BucketSet::new().with(bucket),
+    };
+    let answers = node.answers(&request)?;
+    Ok(answers.into_vec())
+}
+
+/// The entries of the requested buckets, bucket by bucket, of each those of its shard.
+///
+/// `Memory` occurs only where an allocation fails.
+pub(crate) fn requested<D: PageDevice>(
+    alloc: Global,
+    nodes: &mut Vec<Node<D>>,
+    request: BucketSet,
+) -> Result<Vec<Message>, NodeFault>
+    requires { AreShards nodes.old.items }
+    ensures messages { IfOk result (λ messages. messages.items
+        ≡ requested_messages (shard_at nodes.old.items 0).id (whole nodes.old.items) request) }
+    ensures refused { IfErr result (λ why. why ≡ Memory) }
+    ensures same { SameShards nodes.old.items nodes.new.items }
+{
+    let count = nodes.len();
+    let mut messages = Vec::new(alloc);
+    for bucket in request.iter() {
+        let shard = usize::from(bucket.get()) % count;
+        let mut part = bucket_in(&mut nodes[shard], bucket)?;
+        messages.append(&mut part)?;
+    }
+    Ok(messages)
+}
+
+fn put_last(messages: &mut Vec<Message>, message: Message) -> Result<(), AllocError>
+    ensures { OnOk result (messages.new.items ≡ messages.old.items ++ message ∷ []) }
+{
+    messages.push(message)?;
+    Ok(())
+}
+
+/// The answer to the digests of another replica: the entries of the buckets that differ, and then a
+/// request for these; nothing where none differs.
+///
+/// `Memory` occurs only where an allocation fails.
+pub(crate) fn answer_to_digests<D: PageDevice>(
+    alloc: Global,
+    nodes: &mut Vec<Node<D>>,
+    digests: &DigestTable,
+) -> Result<Vec<Message>, NodeFault>
+    requires { AreShards nodes.old.items }
+    ensures answer { IfOk result (λ messages. AnswersDigests (shard_at nodes.old.items 0).id
+        (whole nodes.old.items) digests.now messages.items) }
+    ensures refused { IfErr result (λ why. why ≡ Memory) }
+    ensures same { SameShards nodes.old.items nodes.new.items }
+{
+    let own = gathered(nodes)?;
+    let request = differing(digests, &own);
+    // The request is a number of 64 bits.
+    let _bits = request.bits();
+    if request.is_empty() {
+        return Ok(Vec::new(alloc));
+    }
+    let mut messages = requested(alloc, nodes, request)?;
+    let want = Message::Want {
+        sender: nodes[0].id(),
+        horizon: nodes[0].history().horizon(),
+        request,
+    };
+    put_last(&mut messages, want)?;
+    Ok(messages)
+}

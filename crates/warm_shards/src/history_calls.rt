@@ -1,0 +1,116 @@
+//! The calls that take references in, and forget them.
+ghost use Rattle.std.specs.Prelude.{◌≡◌, filter, IfErr, IfOk, OnErr, OnOk, nat_eq};
+ghost use Rattle.warm_history.specs.ReferenceSets.{set_of_list};
+ghost use Rattle.warm_gossip.specs.declared.call.Call.TheVariants.{Absorb, Horizon, WarmList};
+ghost use Rattle.warm_gossip.specs.declared.call.Reply.TheVariants.{Done, Kept, Pages};
+ghost use Rattle.warm_gossip.specs.declared.fault.NodeFault.TheVariants.{Memory};
+ghost use Rattle.warm_shards.specs.Clauses.{HasPart, KeepPools, TakesInFirst, Together};
+ghost use Rattle.warm_shards.specs.Clauses.{TogetherAnswered};
+ghost use Rattle.warm_shards.specs.Shards.{AreShards, IsShardCount, shard_of};
+
+use crate::shards::{Shards, shard_of};
+use std::alloc::{AllocError, Global};
+use warm_devices::PageDevice;
+use warm_gossip::{Node, NodeFault};
+use warm_rank::warm_list;
+use warm_stamps::{PageList, Reference};
+
+// The references of the batch to pages of one shard, in order.
+fn part_of(
+    alloc: Global,
+    batch: &[Reference],
+    count: usize,
+    shard: usize,
+) -> Result<Vec<Reference>, AllocError>
+    requires { IsShardCount count }
+    ensures part { IfOk result (λ part.
+        part.items ≡ filter (λ r. nat_eq (shard_of count r.page) shard) batch.now) }
+    ensures some { OnErr result (HasPart count shard (set_of_list batch.now)) }
+{
+    let mut part = Vec::new(alloc);
+    for reference in batch {
+        if shard_of(count, reference.page) == shard {
+            part.push(*reference)?;
+        }
+    }
+    Ok(part)
+}
+
+// Each node absorbs its part of the batch, shard by shard up to the first that refuses its part.
+pub(crate) fn absorb_parts<D: PageDevice>(
+    alloc: Global,
+    nodes: &mut Vec<Node<D>>,
+    batch: &[Reference],
+) -> Result<(), NodeFault>
+    requires { AreShards nodes.old.items }
+    ensures shards { AreShards nodes.new.items }
+    ensures absorbed { OnOk result (Together nodes.old.items (Absorb batch.now) Done
+        nodes.new.items) }
+    ensures refused { IfErr result (λ why. (why ≡ Memory)
+        × TakesInFirst nodes.old.items (set_of_list batch.now) nodes.new.items) }
+    ensures pools { KeepPools nodes.old.items nodes.new.items }
+{
+    let count = nodes.len();
+    for shard in 0..count {
+        let part = part_of(alloc, batch, count, shard)?;
+        if part.is_empty() {
+            continue;
+        }
+        nodes[shard].absorb(&part)?;
+    }
+    Ok(())
+}
+
+// Raises the horizon of each node.
+pub(crate) fn raise_all<D: PageDevice>(nodes: &mut Vec<Node<D>>, time: u64) -> u64
+    requires { AreShards nodes.old.items }
+    ensures shards { AreShards nodes.new.items }
+    ensures step { Together nodes.old.items (Horizon time) (Kept result) nodes.new.items }
+    ensures pools { KeepPools nodes.old.items nodes.new.items }
+{
+    let count = nodes.len();
+    for shard in 0..count {
+        nodes[shard].raise(time);
+    }
+    nodes[0].history().horizon()
+}
+
+impl<D: PageDevice> Shards<D> {
+    /// Adds references to the history, each in the shard of its page: the call `Absorb` of the
+    /// whole.
+    ///
+    /// # Errors
+    /// `Memory`: an allocation failed. The references to pages of the first shards are then
+    /// absorbed, and the others are not: to absorb the batch once more does no harm. A batch whose
+    /// pages are all of one shard is absorbed, or nothing has changed.
+    pub fn absorb(&mut self, batch: &[Reference]) -> Result<(), NodeFault>
+        ensures absorbed { OnOk result (Together self.old (Absorb batch.now) Done self.new) }
+        ensures refused { IfErr result (λ why. (why ≡ Memory)
+            × TakesInFirst self.old (set_of_list batch.now) self.new) }
+        ensures pools { KeepPools self.old self.new }
+    {
+        absorb_parts(self.alloc, &mut self.nodes, batch)
+    }
+
+    /// Forgets all stamps before this time in each shard, and returns the new horizon: the call
+    /// `Horizon` of the whole. Allocation-free.
+    pub fn raise(&mut self, time: u64) -> u64
+        ensures step { Together self.old (Horizon time) (Kept result) self.new }
+        ensures pools { KeepPools self.old self.new }
+    {
+        raise_all(&mut self.nodes, time)
+    }
+
+    /// The `n` hottest pages of all shards, hottest first, or all where there are fewer: the call
+    /// `WarmList` of the whole. It copies the history.
+    ///
+    /// # Errors
+    /// `Memory`: an allocation failed; nothing has changed.
+    pub fn warm_list(&self, n: usize) -> Result<PageList, NodeFault>
+        ensures { TogetherAnswered self.now (WarmList n) Pages result self.now }
+    {
+        let history = self.history()?;
+        let pages = warm_list(self.alloc, &history, n)?;
+        Ok(PageList::of(pages))
+    }
+}
