@@ -12,6 +12,7 @@ mod frames;
 mod histories;
 mod nodes;
 mod references;
+mod shards;
 mod sizes;
 mod turns;
 
@@ -41,6 +42,7 @@ fn play<R: Threads + Wait + Sync>(met: &mut Met, rt: &R, alloc: Global) -> Resul
     digested::rows(met, alloc)?;
     dumps::rows(met, alloc)?;
     play_nodes(met, alloc)?;
+    shards::rows(met, alloc)?;
     play_turns(met, rt, alloc)
 }
 

@@ -101,7 +101,7 @@ fn write_call(alloc: Global) -> Result<Call, Ended> {
 }
 
 // Digests by replica 2 with this horizon, none of which is that of a bucket.
-fn digest(horizon: u64) -> Result<Message, Ended> {
+pub(crate) fn digest(horizon: u64) -> Result<Message, Ended> {
     let sender = replica(2)?;
     let digests = DigestTable::of([[0; DIGEST_SIZE]; BUCKETS as usize]);
     Ok(Message::Digest {
@@ -112,7 +112,7 @@ fn digest(horizon: u64) -> Result<Message, Ended> {
 }
 
 // A request for buckets 1 and 2, by replica 2 with this horizon.
-fn request(horizon: u64) -> Result<Message, Ended> {
+pub(crate) fn request(horizon: u64) -> Result<Message, Ended> {
     let sender = replica(2)?;
     let request = BucketSet::from_bits(6);
     Ok(Message::Want {
