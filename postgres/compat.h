@@ -2,8 +2,8 @@
  * compat.h
  *		What differs between the versions of PostgreSQL, 15 to 18.
  *
- * All tests of the version are here.  Tried with 15; the names of 16 and
- * later are as their headers have them.
+ * All tests of the version are here.  Tried with 15 and 18; the names of 16
+ * and 17 are as their headers have them.
  */
 #ifndef WARM_STANDBY_COMPAT_H
 #define WARM_STANDBY_COMPAT_H

@@ -122,7 +122,7 @@ try_file(WsRequest *some, int count)
 		AbortCurrentTransaction();
 		if (reading != NULL)
 			reading->outcome = WS_FAILED;
-		if (reading != NULL || ERRCODE_TO_CATEGORY(error->sqlerrcode) == ERRCODE_TRANSACTION_ROLLBACK)
+		if (reading || ERRCODE_TO_CATEGORY(error->sqlerrcode) == ERRCODE_TRANSACTION_ROLLBACK)
 			rest = WS_WAITING;	/* they are handed out again */
 		ereport(DEBUG1, (errmsg_internal("warm_standby could not read file %u: %s", some->page.file,
 										 error->message)));

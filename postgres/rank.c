@@ -90,8 +90,6 @@ is_unloadable(const WsPage *page)
 	{.device.database = page->device.database, .block = InvalidBlockNumber}};
 	const Unloadable *found = NULL;
 
-	if (hash_get_num_entries(unloadable) == 0)
-		return false;
 	for (int i = 0; i < lengthof(keys) && (found == NULL || found->until <= round_at); i++)
 		found = hash_search(unloadable, &keys[i], HASH_FIND, NULL);
 	return found != NULL && found->until > round_at;
@@ -305,7 +303,7 @@ rank_pages(void)
 
 		if (!ws_names_of(pages[i], &names))
 			continue;
-		if (is_unloadable(&names))
+		if (hash_get_num_entries(unloadable) > 0 && is_unloadable(&names))
 			ws_stats.unloadable++;
 		else
 			pages[page_count++] = pages[i];

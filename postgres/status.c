@@ -36,11 +36,11 @@ warm_standby_status(PG_FUNCTION_ARGS)
 	Datum		values[STATUS_COLUMNS];
 	bool		nulls[STATUS_COLUMNS] = {false};
 	int64		counts[STATS];
-	int64		refused = 0;
-	int			loaders = 0;
+	int64		refused = 0, loaders = 0;
 
 	need_shared();
-	if (get_call_result_type(fcinfo, NULL, &desc) != TYPEFUNC_COMPOSITE || desc->natts != STATUS_COLUMNS)
+	if (get_call_result_type(fcinfo, NULL, &desc) != TYPEFUNC_COMPOSITE ||
+		desc->natts != STATUS_COLUMNS)
 		elog(ERROR, "return type must be a row type");
 	LWLockAcquire(ws_shared->lock, LW_SHARED);
 	memcpy(counts, &ws_shared->stats, sizeof(WsStats));
