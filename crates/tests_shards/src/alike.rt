@@ -9,7 +9,7 @@ use warm_gossip::Node;
 use warm_shards::Shards;
 use warm_stamps::{Bucket, BucketSet};
 
-// Pages of many buckets and of two devices, some referenced twice, and one before the horizon.
+// Pages of many buckets and of three devices, some referenced twice, and one before the horizon.
 const FIRST: &[SeenAt] = &[
     (0, 1, 10, 1),
     (0, 65, 12, 1),
@@ -164,9 +164,9 @@ fn eight_shards_and_two_agree_after_a_round(rt: HostRuntime) {
     assert!(rt; last.as_slice().is_empty());
     let one = eight.history().ok().expect(&rt, "a copy of eight");
     let other = two.history().ok().expect(&rt, "a copy of two");
-    assert!(rt; one.len() == 9);
-    assert!(rt; other.len() == 9);
-    for index in 0..9 {
+    assert!(rt; one.len() == 8);
+    assert!(rt; other.len() == 8);
+    for index in 0..8 {
         assert!(rt; one.at(index) == other.at(index));
     }
 }
