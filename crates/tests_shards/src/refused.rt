@@ -2,7 +2,7 @@
 use crate::kit::{batch, node, nodes, shards};
 use std::alloc::Global;
 use std::process::Abort;
-use test_kit::{page, replica};
+use test_kit::{displays, page, replica};
 use warm_gossip::NodeFault;
 use warm_shards::{ShardSlot, Shards, ShardsFault, frames_of_shard};
 
@@ -58,6 +58,14 @@ fn frames_are_divided_evenly_or_not_at_all(rt: HostRuntime) {
     assert!(rt; frames_of_shard(4096, 0) == Err(ShardsFault::BadCount));
     assert!(rt; frames_of_shard(4095, 3) == Err(ShardsFault::BadCount));
     assert!(rt; frames_of_shard(4096, 128) == Err(ShardsFault::BadCount));
+}
+
+#[test]
+fn faults_of_shards_are_shown_by_their_names(rt: HostRuntime) {
+    let alloc = rt.alloc();
+    assert!(rt; displays(alloc, &ShardsFault::BadCount, "BadCount"));
+    assert!(rt; displays(alloc, &ShardsFault::Uneven, "Uneven"));
+    assert!(rt; displays(alloc, &ShardsFault::NotOpened, "NotOpened"));
 }
 
 #[test]
