@@ -102,7 +102,7 @@ ws_names_of(warm_page page, WsPage *names)
 	return device != NULL;
 }
 
-/* Writes the numbers from *next to below end, at most so many; returns the end of the bytes. */
+/* Writes the numbers from *next to below end, at most that many; returns the end of the bytes. */
 uint8 *
 ws_directory_encode(int *next, int end, int most, uint8 *to)
 {
