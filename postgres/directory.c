@@ -22,6 +22,7 @@ typedef struct Number
 int			ws_device_count = 0;	/* the greatest number given, plus 1 */
 
 static HTAB *numbers = NULL;
+static Number *last = NULL;		/* the one that was looked for last, often also the next */
 static WsDevice devices[MOST_DEVICES];	/* by number; fork -1: not given */
 
 /* Forgets all numbers. */
@@ -35,6 +36,7 @@ ws_directory_reset(void)
 		hash_destroy(numbers);
 	numbers = hash_create("warm_standby devices", 64, &control,
 						  HASH_ELEM | HASH_BLOBS | HASH_CONTEXT);
+	last = NULL;
 	ws_device_count = 0;
 }
 
@@ -70,14 +72,14 @@ ws_page_of(const BufferTag *tag, bool give, warm_page *page)
 {
 	WsDevice	device = {.space = TagSpace(tag), .database = TagDatabase(tag),
 	.fork = tag->forkNum};
-	Number	   *entry;
 
 	if (tag->forkNum < MAIN_FORKNUM || tag->forkNum > MAX_FORKNUM)
 		return false;
 	page->no = (uint64) TagFile(tag) << 32 | tag->blockNum;
-	entry = hash_search(numbers, &device, HASH_FIND, NULL);
-	if (entry != NULL)
-		page->dev = entry->number;
+	if (last == NULL || memcmp(&last->device, &device, sizeof device) != 0)
+		last = hash_search(numbers, &device, HASH_FIND, NULL);
+	if (last != NULL)
+		page->dev = last->number;
 	else if (give && ws_device_count < MOST_DEVICES)
 	{
 		page->dev = (uint16) ws_device_count;
@@ -100,7 +102,7 @@ ws_names_of(warm_page page, WsPage *names)
 	return device != NULL;
 }
 
-/* Writes the numbers from *next to below end, at most so many; returns the end of the bytes. */
+/* Writes the numbers from *next to below end, at most that many; returns the end of the bytes. */
 uint8 *
 ws_directory_encode(int *next, int end, int most, uint8 *to)
 {

@@ -9,7 +9,6 @@
  */
 #include "postgres.h"
 
-#include "access/xlog.h"
 #include "access/xloginsert.h"
 #include "miscadmin.h"
 #include "postmaster/interrupt.h"
