@@ -14,7 +14,10 @@ fn one_call(rt: &impl Abort, alloc: Global) -> Result<()> {
     for _shard in 0..2 {
         let mut devices = Vec::with_capacity(alloc, 1)?;
         devices.push_reserved(MemDevice::new(alloc, 64, 16)?);
-        nodes.push(Node::new(alloc, id, Pool::new(alloc, 4, 16, devices)?))?;
+        let node = Node::new(alloc, id, Pool::new(alloc, 4, 16, devices)?);
+        let Ok(()) = nodes.push(node) else {
+            panic!(rt; "memory for two nodes");
+        };
     }
     let Ok(mut shards) = Shards::new(alloc, id, nodes) else {
         panic!(rt; "two nodes are two shards");
