@@ -1,5 +1,6 @@
 //! Printing the answers of a world. Everything here is allocation-free.
-ghost use Rattle.std.specs.Prelude.{◌≡◌, ◌<◌, ◌≤◌, ◌+◌, ◌++◌, codes, drop, flat_map, length};
+ghost use Rattle.std.specs.Prelude.{◌≡◌, ◌<◌, ◌≤◌, ◌+◌, ◌∷◌, ◌++◌};
+ghost use Rattle.std.specs.Prelude.{codes, decimal, drop, flat_map, length};
 ghost use Rattle.warm_history.specs.Histories.{entries_of};
 ghost use Rattle.warm_schedule.specs.Answers.{Prints, page_text, stamp_text, hist_text, entry_text};
 ghost use Rattle.warm_schedule.specs.Answers.{end_text};
@@ -17,21 +18,35 @@ use warm_pool::Slot;
 use warm_stamps::{PageId, Stamp};
 use warm_world::{Answer, WorldFault};
 
+// The most bytes of two numbers with a byte between them.
+const TWO_NUMBERS: usize = 41;
+
+// Two numbers with a byte between them, by one write. They are put together from the end, since a
+// number's last digit is found first.
+#[inline(never)]
+fn print_two<W: Write>(writer: &mut W, first: u64, between: u8, last: u64) -> io::Result<()>
+    ensures { Prints result (W.contents writer.old) (W.contents writer.new)
+        (decimal first ++ between ∷ decimal last) }
+{
+    let mut text = [between; TWO_NUMBERS];
+    let middle = write_digits(last, &mut text, TWO_NUMBERS) - 1;
+    text[middle] = between;
+    let start = write_digits(first, &mut text, middle);
+    writer.write_all(&text[start..])
+}
+
 // DEVICE:NUMBER
 fn print_page<W: Write>(writer: &mut W, page: PageId) -> io::Result<()>
     ensures { Prints result (W.contents writer.old) (W.contents writer.new) (page_text page) }
 {
-    let PageId { dev, no } = page;
-    write!(writer, "{dev}:{no}")
+    print_two(writer, u64::from(page.dev), b':', page.no)
 }
 
 // TIME@REPLICA
 fn print_stamp<W: Write>(writer: &mut W, stamp: Stamp) -> io::Result<()>
     ensures { Prints result (W.contents writer.old) (W.contents writer.new) (stamp_text stamp) }
 {
-    let time = stamp.time;
-    let replica = stamp.replica.get();
-    write!(writer, "{time}@{replica}")
+    print_two(writer, stamp.time, b'@', u64::from(stamp.replica.get()))
 }
 
 fn print_hist<W: Write>(writer: &mut W, hist: PageHist) -> io::Result<()>
