@@ -1,5 +1,5 @@
 /*
- * load.c: plays a load on the pool of a program: PROGRAM KIND hits|misses PAGES SLICES THREADS FILE. First each thread fills the pool. Then
+ * load.c: plays a load on the pool of a program: PROGRAM KIND hits|misses PAGES SLICES THREADS SHARDS FILE. First each thread fills the pool. Then
  * it plays the slices, each of 1,024 calls; all threads begin a slice together. Prints the nanoseconds of a call of each thread in the
  * fastest slice, from the first thread's begin to the last thread's end, and how many reads of the system a call made in all slices. A slice
  * counts only if the last thread began in its first twentieth: on a busy machine there may be none, and that is "inf ns".
@@ -23,7 +23,7 @@ enum { SLICE = 1024, MOST_PAGES = 65536, MOST_THREADS = 64, FILE_BY_POOL = 8, MO
 
 struct player {
     const struct load *load;
-    void *pool;
+    void *pool; /* that this thread joined */
     uint64_t drawn;
     uint64_t start, end; /* of its last slice, in nanoseconds */
     uint32_t pages[SLICE];
@@ -130,24 +130,22 @@ static void fill(struct player *player) {
 static void *play(void *at) {
     struct player *player = at;
     const struct load *load = player->load;
-    if (!is_shared) player->pool = open_pool(load, player->drawn);
     fill(player);
     CALLGRIND_START_INSTRUMENTATION; /* the fill is not counted, and takes much longer if it is looked at */
     meet(load);
     if (player == players) reads = reads_so_far();
     play_slices(player);
     if (player == players) reads = reads_so_far() - reads;
-    if (!is_shared) close_pool(player->pool);
     return NULL;
 }
 
 /* Each thread begins elsewhere in the round of draws: what one draws, no other draws soon. */
 static void play_all(const struct load *load) {
     pthread_t threads[MOST_THREADS];
-    void *pool = is_shared ? open_pool(load, 1) : NULL;
+    void *pool = open_pool(load, 1);
     uint64_t drawn = 1;
     for (uint32_t i = 0; i < load->threads; i++) {
-        players[i] = (struct player){.load = load, .pool = pool, .drawn = drawn};
+        players[i] = (struct player){.load = load, .pool = join_pool(pool), .drawn = drawn};
         for (uint32_t j = 0; j < load->file_pages / load->threads; j++) drawn = next_draw(drawn);
     }
     for (uint32_t i = 1; i < load->threads; i++) {
@@ -155,31 +153,34 @@ static void play_all(const struct load *load) {
     }
     play(players);
     for (uint32_t i = 1; i < load->threads; i++) pthread_join(threads[i], NULL);
-    if (is_shared) close_pool(pool);
+    for (uint32_t i = 0; i < load->threads; i++) leave_pool(pool, players[i].pool);
+    close_pool(pool);
 }
 
 static bool is_load(const struct load *load, const char *what) {
     bool is_kind = strcmp(load->kind, kinds[0]) == 0 || strcmp(load->kind, kinds[1]) == 0;
     bool is_size = load->pages >= SLICE && load->pages <= MOST_PAGES && (load->pages & (load->pages - 1)) == 0;
     bool is_count = load->slices > 0 && load->threads > 0 && load->threads <= MOST_THREADS;
-    return is_kind && is_size && is_count && (load->is_of_misses || strcmp(what, "hits") == 0);
+    bool is_split = load->shards <= 64 && (load->shards & (load->shards - 1)) == 0;
+    return is_kind && is_size && is_count && is_split && (load->is_of_misses || strcmp(what, "hits") == 0);
 }
 
 int main(int count, char **words) {
     struct load load = {0};
-    if (count == 7) {
+    if (count == 8) {
         load = (struct load){
             .kind = words[1],
-            .path = words[6],
+            .path = words[7],
             .is_of_misses = strcmp(words[2], "misses") == 0,
             .pages = (uint32_t)strtoul(words[3], NULL, 10),
             .slices = (uint32_t)strtoul(words[4], NULL, 10),
             .threads = (uint32_t)strtoul(words[5], NULL, 10),
+            .shards = (uint32_t)strtoul(words[6], NULL, 10),
         };
         load.file_pages = load.is_of_misses ? load.pages * FILE_BY_POOL : load.pages;
     }
-    if (count != 7 || !is_load(&load, words[2])) {
-        fprintf(stderr, "usage: %s %s|%s hits|misses PAGES SLICES THREADS FILE\n", program, kinds[0], kinds[1]);
+    if (count != 8 || !is_load(&load, words[2])) {
+        fprintf(stderr, "usage: %s %s|%s hits|misses PAGES SLICES THREADS SHARDS FILE\n", program, kinds[0], kinds[1]);
         return 2;
     }
     load.fd = open(load.path, O_RDONLY);

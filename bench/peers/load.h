@@ -25,6 +25,7 @@ struct load {
     uint32_t file_pages; /* of the file, those that are drawn: a power of two */
     uint32_t slices;
     uint32_t threads;
+    uint32_t shards;     /* that one pool is to have, where its program says how many: a power of two up to 64; 0: as many as it chooses */
 };
 
 /* The draws, a linear congruence. Its low bits go through all pages of the file before one comes again, so that each draw is a miss where
@@ -51,18 +52,19 @@ static inline uint64_t added(uint64_t checksum, uint64_t number) {
 extern const char *const program; /* its name */
 extern const char *const kinds[2]; /* of its pools */
 
-/* Whether all threads use one pool. Else each opens its own. */
-extern const bool is_shared;
-
-/* An empty pool of the load's kind. The draws of the thread that opens it follow this one. */
+/* An empty pool of the load's kind, which all threads use. The draws of the first thread follow this one. */
 void *open_pool(const struct load *load, uint64_t drawn);
 
+/* What a thread calls the pool by. No two threads are in this function, nor in leave_pool, at the same time. */
+void *join_pool(void *pool);
+void leave_pool(void *pool, void *joined);
+
 /* What comes before a slice and is not measured. */
-void before_slice(void *pool, const uint32_t *pages, size_t count);
+void before_slice(void *joined, const uint32_t *pages, size_t count);
 
 /* Of each page in turn: gets it, so that it stays in memory, reads its first eight bytes, and gives it back. Returns the checksum of what
  * was read. */
-uint64_t play_slice(void *pool, const uint32_t *pages, size_t count);
+uint64_t play_slice(void *joined, const uint32_t *pages, size_t count);
 
 void close_pool(void *pool);
 

@@ -31,6 +31,7 @@ SLICES = {"hits": 200, "misses": 100}
 COUNTED_SLICES = 64
 SIZES = [1_024, 65_536]
 THREADS = [1, 4]
+SHARDS = 16  # of four threads; of one thread each program chooses
 HEADS = {"hits": "a hit", "misses": "a miss"}
 
 
@@ -104,7 +105,7 @@ class Bench:
         self.least: dict[tuple[str, Load], float] = {}
 
     def command(self, pool: Pool, load: Load, slices: int) -> list[str | Path]:
-        words = [pool.kind, load.what, str(load.pages), str(slices), str(load.threads)]
+        words = [pool.kind, load.what, str(load.pages), str(slices), str(load.threads), str(SHARDS if load.threads > 1 else 0)]
         return [self.folder / pool.program, *words, self.pages]
 
     def run(self, name: str, load: Load) -> None:

@@ -12,7 +12,6 @@
 
 const char *const program = "mpool";
 const char *const kinds[2] = {"alone", "shared"};
-const bool is_shared = true;
 
 struct pool {
     DB_ENV *environment;
@@ -41,6 +40,12 @@ void *open_pool(const struct load *load, uint64_t drawn) {
     ok(environment->memp_fcreate(environment, &pool->file, 0), "memp_fcreate");
     ok(pool->file->open(pool->file, load->path, DB_RDONLY | DB_NOMMAP, 0, PAGE_SIZE), "open of the file");
     return pool;
+}
+
+void *join_pool(void *pool) { return pool; }
+
+void leave_pool(void *pool, void *joined) {
+    (void)pool, (void)joined;
 }
 
 void before_slice(void *at, const uint32_t *pages, size_t count) {

@@ -1,5 +1,5 @@
 /*
- * rocks.cc: the block caches of RocksDB, LRUCache ("lru") and HyperClockCache ("clock"), with as many shards as each chooses itself. A call
+ * rocks.cc: the block caches of RocksDB, LRUCache ("lru") and HyperClockCache ("clock"), with as many shards as the load says, or as each chooses. A call
  * looks a page up, which pins it, reads its first eight bytes in place, and releases it. A page that is not there is read from the file into
  * a block of its own and inserted, as RocksDB does with the blocks of its files.
  */
@@ -18,7 +18,6 @@ using rocksdb::Slice;
 extern "C" {
 const char *const program = "rocks";
 const char *const kinds[2] = {"lru", "clock"};
-const bool is_shared = true;
 }
 
 namespace {
@@ -69,14 +68,20 @@ uint64_t number_in(pool *pool, uint64_t page) {
 void *open_pool(const struct load *load, uint64_t) {
     size_t bytes = size_t(load->pages) * PAGE_SIZE;
     if (!load->is_of_misses) bytes += bytes / 4;
+    int shard_bits = load->shards == 0 ? -1 : __builtin_ctz(load->shards);
     rocksdb::LRUCacheOptions lru;
+    lru.num_shard_bits = shard_bits;
     lru.capacity = bytes;
     lru.metadata_charge_policy = rocksdb::kDontChargeCacheMetadata;
-    rocksdb::HyperClockCacheOptions clock(bytes, PAGE_SIZE);
+    rocksdb::HyperClockCacheOptions clock(bytes, PAGE_SIZE, shard_bits);
     clock.metadata_charge_policy = rocksdb::kDontChargeCacheMetadata;
     bool is_lru = strcmp(load->kind, kinds[0]) == 0;
     return new pool{is_lru ? rocksdb::NewLRUCache(lru) : clock.MakeSharedCache(), load->fd};
 }
+
+void *join_pool(void *pool) { return pool; }
+
+void leave_pool(void *, void *) {}
 
 void before_slice(void *, const uint32_t *, size_t) {}
 

@@ -1,0 +1,522 @@
+/*
+ * stress.c: threads that share one replica in shards, against a model: stress SHARDS THREADS SECONDS SEED.
+ *
+ * Each thread has a handle of its own, and makes calls that are drawn: pins, reads, writes through the library and in place, references,
+ * checkpoints, horizons, gossip with a second replica of one shard, detaching and attaching again, and calls that must be refused. The model
+ * knows what is in each page, how many pins it has, and the two latest references to it of each thread. What a page holds is compared at
+ * each pin; and at the end, by one thread: that no pin is left (each shard takes as many pages as it has frames), what is in the files, and
+ * the histories of both replicas, whose frames this program reads by itself. Prints how many calls were made.
+ *
+ * Latches on pages are the caller's (warm.h): a page's latch is held while its bytes are read or written, the checkpoint's latch while bytes are
+ * written in place or written back.
+ */
+#define _GNU_SOURCE /* mkstemp, rwlocks */
+#include <pthread.h>
+#include <stdatomic.h>
+#include <stdbool.h>
+#include <stdint.h>
+#include <stdio.h>
+#include <stdlib.h>
+#include <string.h>
+#include <time.h>
+#include <unistd.h>
+
+#include "warm.h"
+
+enum { PAGE_SIZE = 512, WORDS = PAGE_SIZE / 8, DEVICES = 2, PAGES = 512, FRAMES = 256, BUCKETS = 64 };
+enum { MOST_THREADS = 16, MOST_HELD = 3, BATCH = 64, FRAME_ROOM = 32768, FRAME_ENTRIES = 23, PEER = 64, WINDOW = 30000 };
+
+static void fail(const char *what, int line) {
+    fprintf(stderr, "stress: line %d: %s\n", line, what);
+    exit(1);
+}
+#define MUST(what) ((what) ? (void)0 : fail("not so: " #what, __LINE__))
+
+static void is(int wanted, int status, const char *call, int line) {
+    if (status == wanted) return;
+    fprintf(stderr, "stress: line %d: %s: status %d, not %d\n", line, call, status, wanted);
+    exit(1);
+}
+#define IS(wanted, call) is(wanted, call, #call, __LINE__)
+#define OK(call) IS(WARM_OK, call)
+
+/* ---- the model ---- */
+
+/* What a page holds, under its latch; and its pins. */
+static struct page {
+    pthread_rwlock_t latch;
+    uint64_t version; /* 0: zeros */
+    uint64_t writes;  /* how often a version was given */
+    atomic_uint pins;
+} pages[DEVICES][PAGES];
+
+/* The two latest references to a page that a thread made; 0: none. */
+struct latest {
+    uint64_t last, prev;
+};
+
+struct held {
+    warm_page page;
+    warm_slot slot;
+    const uint8_t *bytes;
+};
+
+struct player {
+    pthread_t thread;
+    warm handle;
+    uint16_t number; /* the replica of its references, from 1 on */
+    uint64_t drawn, calls;
+    int held_count;
+    struct held held[MOST_HELD];
+    warm_reference batch[BATCH];
+    struct latest latest[DEVICES][PAGES];
+    uint8_t frame[FRAME_ROOM], answer[FRAME_ROOM];
+};
+
+static struct player players[MOST_THREADS], peer_player; /* those of the peer's own references */
+static warm first, peer;                                 /* of one thread at a time, by these locks */
+static pthread_mutex_t first_lock = PTHREAD_MUTEX_INITIALIZER, peer_lock = PTHREAD_MUTEX_INITIALIZER;
+static pthread_rwlock_t checkpoint = PTHREAD_RWLOCK_INITIALIZER;
+static size_t shards;
+static int files[DEVICES];
+static atomic_uint_fast64_t now = 1, horizon;
+static atomic_bool is_over;
+
+static uint64_t draw(struct player *player) {
+    player->drawn ^= player->drawn << 13;
+    player->drawn ^= player->drawn >> 7;
+    player->drawn ^= player->drawn << 17;
+    return player->drawn * 2685821657736338717u >> 16;
+}
+
+/* Half of all calls are about an eighth of the pages. */
+static warm_page draw_page(struct player *player) {
+    uint64_t drawn = draw(player);
+    return (warm_page){.dev = drawn & 1, .no = drawn & 2 ? drawn / 4 % (PAGES / 8) : drawn / 4 % PAGES};
+}
+
+static struct page *model_of(warm_page page) { return &pages[page.dev][page.no]; }
+
+/* The bytes of a page in a version. */
+static void fill(uint64_t *words, warm_page page, uint64_t version) {
+    uint64_t word = version == 0 ? 0 : (version * PAGES + page.no) * DEVICES + page.dev + 1;
+    for (int at = 0; at < WORDS; at++) words[at] = word * (2 * (uint64_t)at + 1);
+}
+
+/* The caller has the page's latch. */
+static void check_bytes(const uint8_t *bytes, warm_page page) {
+    uint64_t words[WORDS];
+    fill(words, page, model_of(page)->version);
+    MUST(memcmp(bytes, words, PAGE_SIZE) == 0);
+}
+
+static void note(struct latest *latest, uint64_t time) {
+    if (time == latest->last || time == latest->prev) return;
+    if (time > latest->last) *latest = (struct latest){.last = time, .prev = latest->last};
+    else if (time > latest->prev) latest->prev = time;
+}
+
+static void raise_to(atomic_uint_fast64_t *number, uint64_t value) {
+    uint64_t old = atomic_load(number);
+    while (old < value && !atomic_compare_exchange_weak(number, &old, value)) continue;
+}
+
+/* ---- pages ---- */
+
+/* Whether the page could be pinned: each frame of its shard may have a pinned page. */
+static bool pins(struct player *player, warm_page page, warm_slot *slot, const uint8_t **bytes) {
+    int status = warm_pin_lend(&player->handle, page, slot, bytes);
+    if (status == WARM_ALL_FIXED) return false;
+    OK(status);
+    MUST(slot->shard == (page.dev + page.no) % BUCKETS % shards && slot->index < FRAMES / shards);
+    atomic_fetch_add(&model_of(page)->pins, 1);
+    return true;
+}
+
+static void unpin(struct player *player, warm_page page, warm_slot slot) {
+    MUST(atomic_fetch_sub(&model_of(page)->pins, 1) > 0);
+    OK(warm_unpin(&player->handle, slot));
+}
+
+static void hold_or_unpin(struct player *player, struct held held) {
+    if (player->held_count == MOST_HELD || draw(player) % 4 != 0) unpin(player, held.page, held.slot);
+    else player->held[player->held_count++] = held;
+}
+
+static void read_page(struct player *player) {
+    struct held held = {.page = draw_page(player)};
+    pthread_rwlock_rdlock(&model_of(held.page)->latch);
+    if (pins(player, held.page, &held.slot, &held.bytes)) {
+        uint64_t words[WORDS];
+        check_bytes(held.bytes, held.page);
+        size_t at = draw(player) % PAGE_SIZE;
+        OK(warm_read(&player->handle, held.slot, at, (uint8_t *)words, PAGE_SIZE - at));
+        MUST(memcmp(words, held.bytes + at, PAGE_SIZE - at) == 0);
+        hold_or_unpin(player, held);
+    }
+    pthread_rwlock_unlock(&model_of(held.page)->latch);
+}
+
+static void write_in_place(struct player *player, struct held held, uint64_t version) {
+    uint8_t *bytes;
+    uint64_t words[WORDS];
+    fill(words, held.page, version);
+    pthread_rwlock_rdlock(&checkpoint);
+    OK(warm_lend_mut(&player->handle, held.slot, &bytes));
+    MUST(bytes == held.bytes);
+    memcpy(bytes, words, PAGE_SIZE);
+    pthread_rwlock_unlock(&checkpoint);
+}
+
+/* Under the page's latch. */
+static void give_version(struct player *player, struct held held, uint64_t version) {
+    uint64_t words[WORDS];
+    uint64_t kind = draw(player) % 4;
+    fill(words, held.page, version);
+    if (kind == 0) {
+        warm_slot slot;
+        OK(warm_pin_zeroed(&player->handle, held.page, &slot));
+        MUST(memcmp(&slot, &held.slot, sizeof slot) == 0);
+        OK(warm_unpin(&player->handle, slot));
+        version = 0;
+    } else if (kind == 1) {
+        OK(warm_write(&player->handle, held.slot, 0, (uint8_t *)words, PAGE_SIZE / 2));
+        OK(warm_write(&player->handle, held.slot, PAGE_SIZE / 2, (uint8_t *)words + PAGE_SIZE / 2, PAGE_SIZE / 2));
+    } else {
+        write_in_place(player, held, version);
+    }
+    model_of(held.page)->version = version;
+    check_bytes(held.bytes, held.page);
+}
+
+static void write_page(struct player *player) {
+    struct held held = {.page = draw_page(player)};
+    struct page *model = model_of(held.page);
+    pthread_rwlock_wrlock(&model->latch);
+    if (pins(player, held.page, &held.slot, &held.bytes)) {
+        check_bytes(held.bytes, held.page);
+        give_version(player, held, ++model->writes);
+        hold_or_unpin(player, held);
+    }
+    pthread_rwlock_unlock(&model->latch);
+}
+
+/* A page that is pinned is where it was, in memory, whatever other threads did. */
+static void look_at_held(struct player *player) {
+    if (player->held_count == 0) return;
+    struct held held = player->held[draw(player) % (uint64_t)player->held_count];
+    warm_slot slot;
+    const uint8_t *bytes;
+    bool resident = false;
+    pthread_rwlock_rdlock(&model_of(held.page)->latch);
+    MUST(atomic_load(&model_of(held.page)->pins) > 0);
+    check_bytes(held.bytes, held.page);
+    OK(warm_resident(&player->handle, held.page, &resident));
+    MUST(resident && pins(player, held.page, &slot, &bytes));
+    MUST(memcmp(&slot, &held.slot, sizeof slot) == 0 && bytes == held.bytes);
+    unpin(player, held.page, slot);
+    pthread_rwlock_unlock(&model_of(held.page)->latch);
+}
+
+static void release(struct player *player, int left) {
+    while (player->held_count > left) {
+        struct held held = player->held[--player->held_count];
+        unpin(player, held.page, held.slot);
+    }
+}
+
+static void write_back(struct player *player) {
+    size_t left;
+    pthread_rwlock_wrlock(&checkpoint);
+    switch (draw(player) % 4) {
+    case 0: OK(warm_write_back(&player->handle)); break;
+    case 1: OK(warm_flush(&player->handle, draw(player) % DEVICES)); break;
+    default: OK(warm_write_back_some(&player->handle, 8, &left)); MUST(left <= FRAMES);
+    }
+    pthread_rwlock_unlock(&checkpoint);
+}
+
+/* ---- references and gossip ---- */
+
+static void draw_batch(struct player *player, size_t count) {
+    for (size_t at = 0; at < count; at++) {
+        warm_page page = draw_page(player);
+        uint64_t time = atomic_fetch_add(&now, 1);
+        player->batch[at] = (warm_reference){.time = time, .no = page.no, .dev = page.dev, .replica = player->number};
+        note(&player->latest[page.dev][page.no], time);
+    }
+}
+
+/* A batch that is repeated changes nothing. */
+static void absorb(struct player *player) {
+    size_t count = 1 + draw(player) % BATCH;
+    draw_batch(player, count);
+    OK(warm_absorb(&player->handle, player->batch, count));
+    if (draw(player) % 8 == 0) OK(warm_absorb(&player->handle, player->batch, count));
+}
+
+static void forget_old(struct player *player) {
+    uint64_t time = atomic_load(&now), new = 0;
+    if (time <= WINDOW) return;
+    OK(warm_horizon(&player->handle, time - WINDOW, &new));
+    MUST(new >= time - WINDOW);
+    raise_to(&horizon, time - WINDOW);
+}
+
+/* Hands a frame to one handle and its answers to the other, until nobody answers. */
+static void talk(struct player *player, warm *to, warm *from, size_t length) {
+    OK(warm_receive(to, player->frame, length));
+    for (;;) {
+        OK(warm_next_answer(to, player->answer, FRAME_ROOM, &length));
+        if (length == 0) return;
+        OK(warm_receive(from, player->answer, length));
+        for (;;) {
+            OK(warm_next_answer(from, player->frame, FRAME_ROOM, &length));
+            if (length == 0) break;
+            OK(warm_receive(to, player->frame, length));
+        }
+    }
+}
+
+/* The caller has the peer's lock. */
+static void talk_to_peer(struct player *player, warm *handle) {
+    size_t length;
+    OK(warm_offer(handle, player->frame, FRAME_ROOM, &length));
+    talk(player, &peer, handle, length);
+}
+
+static void gossip(struct player *player) {
+    if (pthread_mutex_trylock(&peer_lock) != 0) return;
+    draw_batch(&peer_player, 4);
+    OK(warm_absorb(&peer, peer_player.batch, 4));
+    talk_to_peer(player, &player->handle);
+    pthread_mutex_unlock(&peer_lock);
+}
+
+/* ---- other calls ---- */
+
+static void look(struct player *player) {
+    warm_page page, list[8];
+    warm_counters counters;
+    size_t count;
+    bool found;
+    OK(warm_victim(&player->handle, draw(player) % shards, &found, &page));
+    OK(warm_list(&player->handle, list, 8, &count));
+    MUST(count <= 8);
+    OK(warm_counts(&player->handle, &counters));
+    MUST(counters.resident <= FRAMES && counters.dirty <= counters.resident);
+    int status = warm_step(&player->handle, &found, &page);
+    MUST(status == WARM_OK || status == WARM_ALL_FIXED);
+}
+
+/* What must be refused, and changes nothing. */
+static void misuse(struct player *player) {
+    warm *handle = &player->handle;
+    uint8_t byte;
+    bool found;
+    warm_page page = draw_page(player);
+    warm_slot slot = {.generation = 1, .shard = (uint32_t)shards};
+    IS(WARM_STALE_SLOT, warm_read(handle, slot, 0, &byte, 1));
+    IS(WARM_NO_SHARD, warm_victim(handle, shards, &found, &page));
+    IS(WARM_ALREADY_OPEN, warm_thread(handle, handle));
+    if (player->held_count > 0) {
+        slot = player->held[0].slot;
+        IS(WARM_PINS_LEFT, warm_close(handle));
+        slot.generation++;
+        IS(WARM_STALE_SLOT, warm_read(handle, slot, 0, &byte, 1));
+    } else {
+        IS(WARM_STALE_SLOT, warm_unpin(handle, slot));
+    }
+}
+
+static void attach(struct player *player) {
+    pthread_mutex_lock(&first_lock);
+    OK(warm_thread(&first, &player->handle));
+    IS(WARM_ATTACHED, warm_close(&first));
+    pthread_mutex_unlock(&first_lock);
+}
+
+static void play_once(struct player *player) {
+    uint64_t what = draw(player) % 128;
+    if (what < 48) read_page(player);
+    else if (what < 76) write_page(player);
+    else if (what < 90) absorb(player);
+    else if (what < 104) look_at_held(player);
+    else if (what < 112) release(player, 0);
+    else if (what < 116) write_back(player);
+    else if (what < 119) gossip(player);
+    else if (what < 123) look(player);
+    else if (what < 126) misuse(player);
+    else if (what < 127) forget_old(player);
+    else if (draw(player) % 16 == 0) {
+        release(player, 0);
+        OK(warm_close(&player->handle));
+        attach(player);
+    }
+    player->calls++;
+}
+
+static void *play(void *at) {
+    struct player *player = at;
+    attach(player);
+    while (!atomic_load(&is_over)) play_once(player);
+    release(player, 0);
+    OK(warm_close(&player->handle));
+    return NULL;
+}
+
+/* ---- the end, by one thread ---- */
+
+/* Each shard takes as many pages as it has frames, and no more: no pin was left. */
+static void check_no_pin_is_left(size_t shard) {
+    static warm_slot slots[FRAMES];
+    size_t taken = 0, fit = FRAMES / shards;
+    warm_slot more;
+    for (uint64_t no = 0; no < PAGES; no++) {
+        if (no % BUCKETS % shards != shard) continue;
+        if (taken == fit) {
+            IS(WARM_ALL_FIXED, warm_pin(&first, (warm_page){.no = no}, &more));
+            break;
+        }
+        OK(warm_pin(&first, (warm_page){.no = no}, &slots[taken++]));
+    }
+    while (taken > 0) OK(warm_unpin(&first, slots[--taken]));
+}
+
+static void check_files(void) {
+    uint8_t bytes[PAGE_SIZE];
+    OK(warm_write_back(&first));
+    for (uint16_t dev = 0; dev < DEVICES; dev++) {
+        for (uint64_t no = 0; no < PAGES; no++) {
+            memset(bytes, 0, sizeof bytes); /* past the end of the file are zeros */
+            MUST(pread(files[dev], bytes, PAGE_SIZE, (off_t)(no * PAGE_SIZE)) >= 0);
+            check_bytes(bytes, (warm_page){.dev = dev, .no = no});
+            MUST(atomic_load(&pages[dev][no].pins) == 0);
+        }
+    }
+}
+
+static uint64_t number(const uint8_t *at, int width) {
+    uint64_t value = 0;
+    for (int i = 0; i < width; i++) value = value << 8 | at[i];
+    return value;
+}
+
+/* A stamp of 10 bytes is that of this time; which replica made it is known by whose list has it. */
+static void check_stamp(const uint8_t *at, warm_page page, uint64_t time) {
+    unsigned replica = (unsigned)number(at + 8, 2);
+    MUST(number(at, 8) == time && (replica == PEER || (replica >= 1 && replica <= MOST_THREADS)));
+    struct player *player = replica == PEER ? &peer_player : &players[replica - 1];
+    struct latest latest = player->latest[page.dev][page.no];
+    MUST(latest.last == time || latest.prev == time);
+}
+
+/* The two latest references to a page that are not older than the horizon, over all threads. */
+static struct latest expected(warm_page page) {
+    struct latest all = {0};
+    for (int at = 0; at <= MOST_THREADS; at++) {
+        struct latest *latest = &(at < MOST_THREADS ? &players[at] : &peer_player)->latest[page.dev][page.no];
+        if (latest->last >= atomic_load(&horizon) && latest->last != 0) note(&all, latest->last);
+        if (latest->prev >= atomic_load(&horizon) && latest->prev != 0) note(&all, latest->prev);
+    }
+    return all;
+}
+
+/* Reads the frame of a bucket: its entries are all in it, since a bucket has at most 16 pages. */
+static size_t check_bucket(warm *handle, unsigned bucket, const uint8_t *frame, size_t length) {
+    OK(warm_send(handle, (uint8_t)bucket, false, (warm_page){0}, players[0].frame, FRAME_ROOM, &length));
+    size_t count = (size_t)number(frame + 19, 4);
+    MUST(number(frame + 7, 8) == atomic_load(&horizon));
+    const uint8_t *at = frame + FRAME_ENTRIES;
+    for (size_t i = 0; i < count; i++) {
+        warm_page page = {.dev = (uint16_t)number(at, 2), .no = number(at + 2, 8)};
+        MUST(page.dev < DEVICES && page.no < PAGES && (page.dev + page.no) % BUCKETS == bucket);
+        struct latest wanted = expected(page);
+        MUST(at[10] == (wanted.prev == 0 ? 1 : 2));
+        check_stamp(at + 11, page, wanted.last);
+        if (wanted.prev != 0) check_stamp(at + 21, page, wanted.prev);
+        at += wanted.prev == 0 ? 21 : 31;
+    }
+    MUST(at == frame + length);
+    return count;
+}
+
+static void check_history(warm *handle) {
+    size_t known = 0, wanted = 0, length;
+    for (unsigned bucket = 0; bucket < BUCKETS; bucket++) known += check_bucket(handle, bucket, players[0].frame, 0);
+    for (uint16_t dev = 0; dev < DEVICES; dev++) {
+        for (uint64_t no = 0; no < PAGES; no++) wanted += expected((warm_page){.dev = dev, .no = no}).last != 0;
+    }
+    OK(warm_history_length(handle, &length));
+    MUST(known == wanted && length == wanted);
+}
+
+/* Hottest first: by the second latest reference, later ones first, and then those that have one alone. */
+static void check_list(warm *handle) {
+    static warm_page list[DEVICES * PAGES];
+    size_t count;
+    uint64_t before = UINT64_MAX;
+    OK(warm_list(handle, list, DEVICES * PAGES, &count));
+    for (size_t at = 0; at < count; at++) {
+        uint64_t prev = expected(list[at]).prev;
+        MUST(prev <= before);
+        before = prev;
+    }
+}
+
+static int temporary(void) {
+    char path[] = "/tmp/warm-stress-XXXXXX";
+    int fd = mkstemp(path);
+    MUST(fd >= 0 && unlink(path) == 0);
+    return fd;
+}
+
+static void open_all(void) {
+    warm_device devices[DEVICES];
+    for (int dev = 0; dev < DEVICES; dev++) {
+        files[dev] = temporary();
+        devices[dev] = (warm_device){.pages = PAGES, .fd = files[dev]};
+        for (int no = 0; no < PAGES; no++) MUST(pthread_rwlock_init(&pages[dev][no].latch, NULL) == 0);
+    }
+    OK(warm_open(&first, 1, shards, FRAMES, PAGE_SIZE, devices, DEVICES));
+    OK(warm_open(&peer, 2, 1, 1, 1, devices, 0));
+}
+
+static void check_end(void) {
+    for (size_t shard = 0; shard < shards; shard++) check_no_pin_is_left(shard);
+    check_files();
+    for (int round = 0; round < 2; round++) talk_to_peer(&players[0], &first);
+    check_history(&first);
+    check_history(&peer);
+    check_list(&first);
+    OK(warm_close(&first));
+    OK(warm_close(&peer));
+}
+
+int main(int count, char **words) {
+    if (count != 5) {
+        fprintf(stderr, "usage: stress SHARDS THREADS SECONDS SEED\n");
+        return 2;
+    }
+    shards = strtoul(words[1], NULL, 10);
+    unsigned threads = (unsigned)strtoul(words[2], NULL, 10), seconds = (unsigned)strtoul(words[3], NULL, 10);
+    MUST(threads >= 1 && threads <= MOST_THREADS);
+    open_all();
+    peer_player = (struct player){.number = PEER, .drawn = strtoull(words[4], NULL, 10) + PEER};
+    for (unsigned at = 0; at < threads; at++) {
+        players[at].number = (uint16_t)(at + 1);
+        players[at].drawn = (strtoull(words[4], NULL, 10) + 1) * 2654435761u + at;
+        MUST(pthread_create(&players[at].thread, NULL, play, &players[at]) == 0);
+    }
+    nanosleep(&(struct timespec){.tv_sec = seconds}, NULL);
+    atomic_store(&is_over, true);
+    uint64_t calls = 0;
+    for (unsigned at = 0; at < threads; at++) {
+        MUST(pthread_join(players[at].thread, NULL) == 0);
+        calls += players[at].calls;
+    }
+    check_end();
+    for (int dev = 0; dev < DEVICES; dev++) close(files[dev]);
+    printf("stress: %zu shards, %u threads, %llu calls as expected\n", shards, threads, (unsigned long long)calls);
+    return 0;
+}
