@@ -6,7 +6,7 @@
 //! by a program that fills it through bytes that it is lent.
 ghost use Rattle.std.specs.Prelude.{◌≡◌, IfErr, IfOk, OnErr, OnOk};
 ghost use Rattle.warm_pool.specs.declared.fault.PoolFault.TheVariants.{Fault};
-ghost use Rattle.warm_pool.specs.Forgetting.{ForgetRefused, Forgets};
+ghost use Rattle.warm_pool.specs.Forgetting.{ForgetRefused, Forgets, MayForget};
 ghost use Rattle.warm_pool.specs.Keeping.{KeepsFrames, KeepsRanks, SameButFailures};
 ghost use Rattle.warm_pool.specs.Pinning.{LeavesDevices};
 ghost use Rattle.warm_pool.specs.Retiring.{KeepsElsewhere};
@@ -125,6 +125,20 @@ impl<D: PageDevice> Node<D> {
     {
         self.pool.forget_pages(dev, from)?;
         self.warm_up.passed = 0;
+        Ok(())
+    }
+
+    /// Whether [`Node::forget_pages`] forgets these pages now, as [`warm_pool::Pool::may_forget`]
+    /// says it. Allocation-free.
+    ///
+    /// # Errors
+    /// That of `forget_pages`.
+    pub fn may_forget(&self, dev: u16, from: u64) -> Result<(), NodeFault>
+        ensures may { OnOk result (MayForget self.now.pool dev from) }
+        ensures refused { IfErr result (OfPool (λ fault. ForgetRefused
+            self.now.pool dev from fault self.now.pool)) }
+    {
+        self.pool.may_forget(dev, from)?;
         Ok(())
     }
 }

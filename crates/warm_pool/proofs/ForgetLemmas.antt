@@ -13,7 +13,7 @@ use Rattle.warm_pool.specs.State.{PoolState, IsPool, RankedBy, nth_device}
 use Rattle.warm_pool.specs.View.{stored, view_of, is_page, bytes_in, HasPage}
 use Rattle.warm_pool.specs.WritingBack.{selects, is_from, clean_if, cleaned_selected}
 use Rattle.warm_pool.specs.Retiring.{IsFixedIn, AreUnfixed, vacate_if, vacated_selected}
-use Rattle.warm_pool.specs.Forgetting.{Forgets, IsFixedFrom, selected_cleaned}
+use Rattle.warm_pool.specs.Forgetting.{AreUnfixedFrom, Forgets, IsFixedFrom, selected_cleaned}
 use Rattle.warm_pool.proofs.Bytes.{bytes_nowhere, contents_seen, device_seen, frame_seen, page_found}
 use Rattle.warm_pool.proofs.Keeps.{pool_from}
 use Rattle.warm_pool.proofs.ClosingLemmas.{clean_more}
@@ -138,6 +138,11 @@ isnt_last dev from p which = elim (cases_Bool (is_from dev from (Some p))) [
 
 -- The pool
 
+-- what a caller sees of frames of which none is pinned
+unfixed_seen : (s : PoolState) (dev from : ℕ) → AreUnfixed (PagesFrom dev from) s.frames
+    → AreUnfixedFrom (view_of s) dev from
+unfixed_seen s dev from unfixed i on = ap (λ f. f.fixes) (frame_seen s i) ∙ unfixed i (subst (λ f. IsTrue (is_from dev from f.page)) (frame_seen s i) on)
+
 module _ (s : PoolState) (dev from : ℕ) (there : dev < length s.devices)
     (unfixed : AreUnfixed (PagesFrom dev from) s.frames) where
   abbrev u : PoolState
@@ -153,7 +158,7 @@ module _ (s : PoolState) (dev from : ℕ) (there : dev < length s.devices)
   pub forgets : Forgets s dev from u
   forgets = record {
     there = there;
-    unfixed = λ i on. ap (λ f. f.fixes) (frame_seen s i) ∙ unfixed i (subst (λ f. IsTrue (is_from dev from f.page)) (frame_seen s i) on);
+    unfixed = unfixed_seen s dev from unfixed;
     becomes = refl;
     forgotten = λ p has same beyond.
         let in_it = contents_in p has in
@@ -188,7 +193,12 @@ pool_forgets dev from old new spare devices there unfixed is =
     becomes_empty (λ s. Forgets (pool_from old spare devices) dev from s) (PagesFrom dev from) old new spare devices is
     (forgets (pool_from old spare devices) dev from there unfixed)
 
--- why not
+-- why they may be, or not, of the state of a pool
+pub unfixed_from : (s : PoolState) (dev from : ℕ) → IsPool s
+    → AreUnfixed (PagesFrom dev from) s.frames
+    → AreUnfixedFrom (view_of s) dev from
+unfixed_from s dev from pool unfixed = unfixed_seen s dev from unfixed
+
 pub fixed_from : (s : PoolState) (dev from : ℕ) → IsPool s
     → IsFixedIn (PagesFrom dev from) s.frames
     → IsFixedFrom (view_of s) dev from

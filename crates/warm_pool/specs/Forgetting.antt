@@ -16,6 +16,10 @@ abbrev pub AreUnfixedFrom : PoolView → ℕ → ℕ → Type 0
 AreUnfixedFrom v dev from = (i : ℕ) → IsTrue (is_from dev from (frame_at v i).page)
     → (frame_at v i).fixes ≡ 0
 
+-- there is such a device, and none of these pages is pinned
+abbrev pub MayForget : PoolState → ℕ → ℕ → Type 0
+MayForget s dev from = (dev < length s.devices) × AreUnfixedFrom (view_of s) dev from
+
 -- The pages of the device with this number and above left their frames, and were not written. No
 -- device has changed, so each of these pages has the bytes that its device has, and every other
 -- page those that it had.

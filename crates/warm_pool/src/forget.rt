@@ -4,7 +4,7 @@ ghost use Rattle.warm_pool.specs.FrameSteps.{changed_at};
 ghost use Rattle.warm_pool.specs.Keeping.{KeepsRanks};
 ghost use Rattle.warm_pool.specs.WritingBack.{clean_if};
 ghost use Rattle.warm_pool.specs.Retiring.{vacated_selected};
-ghost use Rattle.warm_pool.specs.Forgetting.{Forgets, ForgetRefused, selected_cleaned};
+ghost use Rattle.warm_pool.specs.Forgetting.{Forgets, ForgetRefused, MayForget, selected_cleaned};
 
 use crate::close::is_fixed;
 use crate::fault::PoolFault;
@@ -37,6 +37,26 @@ impl<D: PageDevice> Pool<D> {
             return Err(PoolFault::Fixed);
         }
         forget(&mut self.frames, Devices::PagesFrom(dev, from));
+        Ok(())
+    }
+
+    /// Whether [`Pool::forget_pages`] forgets these pages now. So several pools forget all or
+    /// nothing together: each is asked before the first of them forgets. The cost is linear in the
+    /// number of frames.
+    ///
+    /// # Errors
+    /// That of `forget_pages`.
+    pub fn may_forget(&self, dev: u16, from: u64) -> Result<(), PoolFault>
+        ensures may { OnOk result (MayForget self.now dev from) }
+        ensures refused { IfErr result (λ fault. ForgetRefused self.now dev from fault self.now) }
+    {
+        if dev as usize >= self.devices.len() {
+            return Err(PoolFault::NoDevice);
+        }
+        let these = Devices::PagesFrom(dev, from);
+        if is_fixed(&self.frames, these) {
+            return Err(PoolFault::Fixed);
+        }
         Ok(())
     }
 }
