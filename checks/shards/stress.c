@@ -465,7 +465,9 @@ static void check_list(warm *handle) {
 }
 
 static int temporary(void) {
-    char path[] = "/tmp/warm-stress-XXXXXX";
+    const char *folder = getenv("TMPDIR");
+    char path[512];
+    snprintf(path, sizeof path, "%s/warm-stress-XXXXXX", folder == NULL ? "/tmp" : folder);
     int fd = mkstemp(path);
     MUST(fd >= 0 && unlink(path) == 0);
     return fd;
