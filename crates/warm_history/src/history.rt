@@ -421,6 +421,7 @@ impl<'a> Iterator for BucketEntries<'a> {
 
     ghost remaining = { item_count (λ entries. entries) };
 
+    #[inline(always)]
     fn next(&mut self) -> Option<Entry> {
         self.left.next_entry()
     }
@@ -452,6 +453,7 @@ impl<'a> Iterator for Unordered<'a> {
 
     ghost remaining = { item_count (λ entries. entries) };
 
+    #[inline(always)]
     fn next(&mut self) -> Option<Entry> {
         self.left.next()
     }
