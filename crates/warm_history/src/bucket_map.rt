@@ -261,10 +261,10 @@ impl<'a> BucketPairs<'a> {
     pub(crate) fn next_entry(&mut self) -> Option<Entry>
         ensures { YieldsFirst (λ (left : _). as_entries left) self.old result self.new }
     {
-        if let Some((key, hist)) = self.near.next() {
+        if let Some((near, known)) = self.near.next() {
             return Some(Entry {
-                page: near_page(self.number, *key),
-                hist: hist.get(),
+                page: near_page(self.number, *near),
+                hist: known.get(),
             });
         }
         entry_of(next_far(&mut self.far))
