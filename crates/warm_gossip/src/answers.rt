@@ -69,7 +69,7 @@ fn listed(
 ) -> Result<Vec<Entry>, AllocError>
     ensures { IfOk result (λ es. es.items ≡ bucket_at_horizon horizon bucket history.now) }
 {
-    history.bucket_at_horizon(bucket, horizon).collect(alloc)
+    history.list_at_horizon(bucket, horizon)
 }
 
 /// The entries of the requested buckets, at the greater of the horizon and the history's own,

@@ -82,6 +82,13 @@ impl BucketMaps {
         &self.maps[number as usize]
     }
 
+    // The number of pages of the bucket of this number.
+    pub(crate) fn count_in(&self, number: u8) -> usize
+        requires { number < BUCKETS }
+    {
+        self.map_of(number).len()
+    }
+
     // All pages, bucket by bucket. Allocation-free.
     pub(crate) fn each_entry(&self) -> EachEntry<'_>
         ensures { result ≡ as_entries self.now }

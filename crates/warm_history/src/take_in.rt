@@ -159,6 +159,7 @@ pub(crate) fn take_pairs(
 }
 
 // Takes in the given stamps of a page, and notes what was known of it.
+#[inline(always)]
 fn take(
     maps: &mut BucketMaps,
     undo: &mut Vec<UndoNote>,
@@ -203,7 +204,9 @@ fn push_note(undo: &mut Vec<UndoNote>, page: PageId, change: Change, before: &Pa
     }
 }
 
-// Takes in those of the given stamps of a page that are not older than the horizon.
+// Takes in those of the given stamps of a page that are not older than the horizon. Both are parts
+// of the loop over a batch: each call of their own would clear the room of its locals.
+#[inline(always)]
 fn take_recent(
     maps: &mut BucketMaps,
     undo: &mut Vec<UndoNote>,
