@@ -1,7 +1,7 @@
 //! The answers of a node to digests and to a request.
 ghost use Rattle.std.specs.Prelude.{◌≡◌, ◌≤◌, ◌++◌, length, IfOk, OnOk};
 ghost use Rattle.warm_history.specs.Histories.{PagesAscend};
-ghost use Rattle.warm_history.specs.Losses.{bucket_at_horizon, raised};
+ghost use Rattle.warm_history.specs.Losses.{raised};
 ghost use Rattle.warm_digest.specs.BucketDigests.{digests_at_horizon};
 ghost use Rattle.warm_frames.specs.Chunks.{entry_messages};
 ghost use Rattle.warm_gossip.specs.Answers.{AnswersDigests, requested_messages};
@@ -10,7 +10,7 @@ use std::alloc::{AllocError, Global};
 use warm_digest::{DigestedHistory, differing};
 use warm_frames::{DigestTable, EntryList, MAX_ENTRIES, Message};
 use warm_history::{Entry, History};
-use warm_stamps::{Bucket, BucketSet, ReplicaId};
+use warm_stamps::{BucketSet, ReplicaId};
 
 // A message of these entries.
 fn message_of(
@@ -60,18 +60,6 @@ fn greater(history: &History, horizon: u64) -> u64
     history.horizon().max(horizon)
 }
 
-// The entries of a bucket after a cut at a horizon.
-fn listed(
-    alloc: Global,
-    history: &History,
-    horizon: u64,
-    bucket: Bucket,
-) -> Result<Vec<Entry>, AllocError>
-    ensures { IfOk result (λ es. es.items ≡ bucket_at_horizon horizon bucket history.now) }
-{
-    history.bucket_at_horizon(bucket, horizon).collect(alloc)
-}
-
 /// The entries of the requested buckets, at the greater of the horizon and the history's own,
 /// bucket by bucket in rising order and each in page order, in messages of up to 1000. It costs a
 /// scan of these buckets: older stamps are skipped as they are read.
@@ -90,7 +78,7 @@ pub(crate) fn requested_messages(
     let kept_from = greater(history, horizon);
     let mut messages = Vec::new(alloc);
     for bucket in request.iter() {
-        let entries = listed(alloc, history, horizon, bucket)?;
+        let entries = history.list_at_horizon(bucket, horizon)?;
         push_messages(alloc, &mut messages, id, kept_from, &entries)?;
     }
     Ok(messages)

@@ -241,7 +241,7 @@ impl<'a> Model for BucketPairs<'a> {
 
 impl<'a> BucketPairs<'a> {
     // Lends the first of the pairs that are left.
-    #[inline]
+    #[inline(always)]
     pub(crate) fn next_lent(&mut self) -> Option<Lent<'a>>
         ensures { YieldsFirst (λ (left : _). as_entries left)
             self.old (lent_entry result) self.new }
@@ -252,19 +252,35 @@ impl<'a> BucketPairs<'a> {
                 hist,
             });
         }
-        let (key, hist) = self.far.next()?;
-        Some(Lent {
-            page: page_of_key(*key),
-            hist,
-        })
+        next_far(&mut self.far)
     }
 
-    // The first of the pairs that are left, as an entry.
+    // The first of the pairs that are left, as an entry. It is not made from what is lent: a page
+    // has padding, and each further move of it would copy it in pieces.
+    #[inline(always)]
     pub(crate) fn next_entry(&mut self) -> Option<Entry>
         ensures { YieldsFirst (λ (left : _). as_entries left) self.old result self.new }
     {
-        entry_of(self.next_lent())
+        if let Some((near, known)) = self.near.next() {
+            return Some(Entry {
+                page: near_page(self.number, *near),
+                hist: known.get(),
+            });
+        }
+        entry_of(next_far(&mut self.far))
     }
+}
+
+// Lends the first of the pairs of other devices. A call of its own: nearly all walks find none.
+#[inline(never)]
+fn next_far<'a>(far: &mut Range<'a, u128, Packed>) -> Option<Lent<'a>>
+    ensures { YieldsFirst (λ (left : _). as_entries left) far.old (lent_entry result) far.new }
+{
+    let (key, hist) = far.next()?;
+    Some(Lent {
+        page: page_of_key(*key),
+        hist,
+    })
 }
 
 // The first `limit` of some pairs, as entries. They are taken map by map, and each is written into

@@ -82,6 +82,13 @@ impl BucketMaps {
         &self.maps[number as usize]
     }
 
+    // The number of pages of the bucket of this number.
+    pub(crate) fn count_in(&self, number: u8) -> usize
+        requires { number < BUCKETS }
+    {
+        self.map_of(number).len()
+    }
+
     // All pages, bucket by bucket. Allocation-free.
     pub(crate) fn each_entry(&self) -> EachEntry<'_>
         ensures { result ≡ as_entries self.now }
@@ -218,13 +225,34 @@ impl<'a> Iterator for EachEntry<'a> {
 
     ghost remaining = { item_count (λ left. left) };
 
+    #[inline(always)]
     fn next(&mut self) -> Option<Entry> {
         next_of_all(&mut self.here, &mut self.next, &mut self.rest)
     }
 }
 
-// The first of the entries that are left; empty buckets are skipped.
+// The first of the entries that are left. Mostly it is of the current bucket.
+#[inline(always)]
 fn next_of_all<'a>(
+    here: &mut BucketPairs<'a>,
+    next: &mut u8,
+    rest: &mut &'a [BucketMap],
+) -> Option<Entry>
+    requires { next.old + length rest.old.now ≤ BUCKETS }
+    ensures first { YieldsFirst (λ left. left)
+        (as_entries (pairs_left here.old next.old rest.old.now)) result
+        (as_entries (pairs_left here.new next.new rest.new.now)) }
+    ensures inside { next.new + length rest.new.now ≤ BUCKETS }
+{
+    if let Some(entry) = here.next_entry() {
+        return Some(entry);
+    }
+    next_of_later(here, next, rest)
+}
+
+// The same where the current bucket may have none left; empty buckets are skipped.
+#[inline(never)]
+fn next_of_later<'a>(
     here: &mut BucketPairs<'a>,
     next: &mut u8,
     rest: &mut &'a [BucketMap],

@@ -1,6 +1,6 @@
 //! What a cut at a horizon leaves of a history: the entries of a bucket, where older stamps are
 //! skipped as they are read, and the buckets that it would change. The history is unchanged.
-ghost use Rattle.std.specs.Prelude.{◌≡◌, ◌↔◌, IsTrue};
+ghost use Rattle.std.specs.Prelude.{◌≡◌, ◌↔◌, IfOk, IsTrue};
 ghost use Rattle.std.specs.Iterator.{YieldsFirst};
 ghost use Rattle.warm_history.specs.Histories.{NoneOlder, entries_of};
 ghost use Rattle.warm_history.specs.KeptEntries.{kept_entries};
@@ -8,6 +8,7 @@ ghost use Rattle.warm_history.specs.Losses.{MarksLosing, raised};
 
 use crate::hist::Entry;
 use crate::history::{BucketEntries, History};
+use std::alloc::{AllocError, Global};
 use std::marker::Model;
 use warm_stamps::{Bucket, BucketSet};
 
@@ -53,6 +54,7 @@ impl<'a> Iterator for CutEntries<'a> {
 
     ghost remaining = { item_count (λ entries. entries) };
 
+    #[inline(always)]
     fn next(&mut self) -> Option<Entry> {
         next_cut(&mut self.ahead, self.horizon)
     }
@@ -60,6 +62,7 @@ impl<'a> Iterator for CutEntries<'a> {
 
 // The first entry that has a stamp not older than the horizon, after the cut; those before it are
 // skipped.
+#[inline(always)]
 fn next_cut(ahead: &mut BucketEntries<'_>, horizon: u64) -> Option<Entry>
     ensures { YieldsFirst (λ (ahead : _). kept_entries horizon ahead) ahead.old result ahead.new }
 {
@@ -72,6 +75,23 @@ fn next_cut(ahead: &mut BucketEntries<'_>, horizon: u64) -> Option<Entry>
             });
         }
     }
+}
+
+// These entries as a list; room for `count` of them is allocated first.
+pub(crate) fn listed(
+    alloc: Global,
+    count: usize,
+    entries: CutEntries<'_>,
+) -> Result<Vec<Entry>, AllocError>
+    ensures { IfOk result (λ es. es.items ≡ entries.entry) }
+{
+    let mut list = Vec::with_capacity(alloc, count)?;
+    for entry in entries {
+        // Taken apart, since the toolchain has no proof of an entry that is moved whole here.
+        let Entry { page, hist } = entry;
+        list.push(Entry { page, hist })?;
+    }
+    Ok(list)
 }
 
 // Whether no stamp of these entries is older than the horizon. It reads up to the first that is.

@@ -14,7 +14,7 @@ ghost use Rattle.warm_history.specs.Since.{AreCarriedSince, entries_since};
 
 use crate::bucket_map::{self, BucketPairs};
 use crate::bucket_maps::{BucketMaps, EachEntry};
-use crate::cut::{CutEntries, losing, none_older};
+use crate::cut::{CutEntries, listed, losing, none_older};
 use crate::hist::{Entry, PageHist};
 use crate::merge_iter::{MergedEntries, Source, later_pairs, merged_entries};
 use crate::since::{Portion, portion_since};
@@ -156,6 +156,17 @@ impl History {
         ensures { result ≡ bucket_at_horizon horizon bucket self.now }
     {
         CutEntries::new(self.bucket(bucket), self.horizon.max(horizon))
+    }
+
+    /// The entries that [`History::bucket_at_horizon`] gives, as a list.
+    ///
+    /// It costs a step for each entry of the bucket. `AllocError` occurs where their allocation
+    /// fails: room for all entries of the bucket is allocated at once.
+    pub fn list_at_horizon(&self, bucket: Bucket, horizon: u64) -> Result<Vec<Entry>, AllocError>
+        ensures { IfOk result (λ es. es.items ≡ bucket_at_horizon horizon bucket self.now) }
+    {
+        let count = self.maps.count_in(bucket.get());
+        listed(self.alloc, count, self.bucket_at_horizon(bucket, horizon))
     }
 
     /// Whether the entries of a bucket would change at a horizon: one of them has an older stamp.
@@ -421,6 +432,7 @@ impl<'a> Iterator for BucketEntries<'a> {
 
     ghost remaining = { item_count (λ entries. entries) };
 
+    #[inline(always)]
     fn next(&mut self) -> Option<Entry> {
         self.left.next_entry()
     }
@@ -452,6 +464,7 @@ impl<'a> Iterator for Unordered<'a> {
 
     ghost remaining = { item_count (λ entries. entries) };
 
+    #[inline(always)]
     fn next(&mut self) -> Option<Entry> {
         self.left.next()
     }

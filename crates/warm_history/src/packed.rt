@@ -93,6 +93,7 @@ impl Packed {
     }
 
     // The history that is lent out.
+    #[inline(always)]
     pub(crate) fn get(self) -> PageHist
         ensures { result ≡ self }
     {

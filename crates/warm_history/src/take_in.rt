@@ -36,7 +36,7 @@ struct Outcome {
     // The bucket of the page, where that changed.
     changed: BucketSet,
     // Whether the page was new. Pages often come in runs that are all new or all known, so the next
-    // page is likely to be as this one was.
+    // page is likely to be as this one was, where it is not the same.
     is_new: bool,
 }
 
@@ -159,6 +159,7 @@ pub(crate) fn take_pairs(
 }
 
 // Takes in the given stamps of a page, and notes what was known of it.
+#[inline(always)]
 fn take(
     maps: &mut BucketMaps,
     undo: &mut Vec<UndoNote>,
@@ -203,7 +204,9 @@ fn push_note(undo: &mut Vec<UndoNote>, page: PageId, change: Change, before: &Pa
     }
 }
 
-// Takes in those of the given stamps of a page that are not older than the horizon.
+// Takes in those of the given stamps of a page that are not older than the horizon. Both are parts
+// of the loop over a batch: each call of their own would clear the room of its locals.
+#[inline(always)]
 fn take_recent(
     maps: &mut BucketMaps,
     undo: &mut Vec<UndoNote>,
@@ -250,11 +253,15 @@ fn take_each<I: Iterator<Item = Entry> + Drop>(
 {
     let mut changed = BucketSet::new();
     let mut is_new = false;
+    let mut last = PageId { dev: 0, no: 0 };
     for entry in more {
+        let again = entry.page == last;
         let stamps = Packed::new(entry.hist);
-        let taken = take_recent(maps, undo, horizon, entry.page, stamps, is_new)?;
+        let taken = take_recent(maps, undo, horizon, entry.page, stamps, is_new && !again)?;
         changed = changed.union(taken.changed);
-        is_new = taken.is_new;
+        // A page that came twice is known the second time, and says nothing of the next one.
+        is_new = taken.is_new || is_new && again;
+        last = entry.page;
     }
     Ok(changed)
 }

@@ -1,5 +1,5 @@
 -- Pages that leave their frames, from the first frame on.
-use Rattle.std.proofs.Common.{◌≡◌, ℕ, zero, suc, ◌<◌, cond, true, false, IsTrue, List, [], ◌∷◌, ◌++◌, map, take, drop, length, set, Option, None, refl, sym, ap, ◌∙◌, subst, arith}
+use Rattle.std.proofs.Common.{◌≡◌, ℕ, zero, suc, ◌<◌, cond, true, false, IsTrue, List, [], ◌∷◌, ◌++◌, map, take, drop, length, replicate, set, Option, None, refl, sym, ap, ◌∙◌, subst, arith}
 use Rattle.std.proofs.Math.Path.{ap₂}
 use Rattle.std.proofs.lemmas.List.{length-map}
 use Rattle.warm_stamps.specs.declared.PageId.{PageId}
@@ -15,6 +15,14 @@ use Rattle.warm_pool.proofs.Lagging.{all_cleared as all_lag}
 use Rattle.warm_pool.proofs.FrameParts.{kept}
 use Rattle.warm_pool.proofs.ClosingLemmas.{nth_page}
 use Rattle.warm_pool.specs.declared.selection.Devices.{Devices}
+use Rattle.warm_pool.specs.declared.selection.Devices.TheVariants.{All}
+
+-- All frames at once
+
+pub none_left : (pages : List (Option PageId))
+    → map (clear_if All) pages ≡ replicate (length pages) None
+none_left [] = refl
+none_left (page ∷ pages) = ap (λ (rest : List (Option PageId)). None ∷ rest) (none_left pages)
 
 -- One frame more
 

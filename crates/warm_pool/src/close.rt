@@ -240,6 +240,10 @@ impl<D: PageDevice> Pool<D> {
             self.old at self.new) }
         ensures others { KeepsUnselected which self.old self.new }
     {
+        // Mostly a page is clean: that is seen first, without its number.
+        if !self.frames.is_dirty(at) {
+            return Ok(());
+        }
         if !which.selects(self.frames.page(at)) {
             return Ok(());
         }

@@ -6,6 +6,7 @@
 //! when the frames are made.
 ghost use Rattle.std.specs.Prelude.{◌≡◌, ℕ, List, ◌+◌, ◌<◌, ◌≤◌, length, map, replicate, set};
 ghost use Rattle.std.specs.Prelude.{slice_index, IfOk, IsTrue, None, Some, ◌↔◌};
+ghost use Rattle.warm_pool.specs.declared.selection.Devices.TheVariants.{All};
 ghost use Rattle.warm_pool.specs.Chains.{AreChains, AreInTurn, AreLinked, IsPredecessor, after};
 ghost use Rattle.warm_pool.specs.Chains.{chain_of, chains_of, hash_of, heads_with_link, link_after};
 ghost use Rattle.warm_pool.specs.Chains.{chains_without, mix_of, next_with_link, page_in};
@@ -99,8 +100,35 @@ impl PageTable {
     pub(crate) fn clear_selected(&mut self, which: Devices)
         ensures { self.new ≡ map (clear_if which) self.old }
     {
+        if let Devices::All = which {
+            clear_all(&mut self.pages, &mut self.heads, &mut self.next);
+            return;
+        }
         clear_pages(&mut self.pages, which);
         link_all(&self.pages, &mut self.heads, &mut self.next);
+    }
+}
+
+// Removes all pages: all frames are then in the last chain, one after the other.
+fn clear_all(pages: &mut Vec<Option<PageId>>, heads: &mut Vec<u32>, next: &mut Vec<u32>)
+    requires { AreLinked pages.old.items heads.old.items next.old.items }
+    ensures pages { pages.new.items ≡ map (clear_if All) pages.old.items }
+    ensures linked { AreLinked pages.new.items heads.new.items next.new.items }
+{
+    let frames = pages.len();
+    pages.fill(None);
+    clear_heads(heads, frames);
+    heads[frames] = 0;
+    link_in_turn(next);
+}
+
+// Links each frame to the next.
+fn link_in_turn(next: &mut Vec<u32>)
+    requires { length next.old.items ≤ MAX_FRAMES }
+    ensures { AreInTurn (length next.old.items) next.new.items }
+{
+    for frame in 0..next.len() {
+        next[frame] = frame as u32 + 1;
     }
 }
 

@@ -2,7 +2,9 @@
 use Rattle.std.proofs.Common.{◌≡◌, ◌≢◌, ℕ, zero, suc, ◌<◌, List, [], ◌∷◌, length, set, sym, ap, refl, ◌∙◌, true, false, Option, Some, None, arith}
 use Rattle.std.specs.Option.{is_some}
 use Rattle.std.proofs.Math.Path.{ap₂}
-use Rattle.warm_rank.specs.Slots.{key_at, key_while, keys_while}
+use Rattle.std.specs.Ordering.{is_gt, nat_cmp, ordering_then}
+use Rattle.std.specs.declared.cmp.Ordering.{Ordering}
+use Rattle.warm_rank.specs.Slots.{key_at, key_while, keys_while, set_first_cmp, slot_cmp}
 
 -- the keys once the first n slots were looked at
 abbrev pub keys_so_far : {T : Type 0} → {K : Type 0} → ℕ → List (Option T) → List (Option K)
@@ -62,3 +64,18 @@ module _ {T : Type 0} {K : Type 0} where
   none_cleared (one ∷ held) (key ∷ keys) none =
       let first : key ≡ None = none 0 (omega arith) in
       ap₂ (λ (x : Option K) (rest : List (Option K)). x ∷ rest) (first ∙ sym (none_while one) ∙ ap (key_while one) (sym first)) (none_cleared held keys (λ slot lt. none (suc slot) (omega arith)))
+
+module _ {K : Type 0} (cmp : K → K → Ordering) (keys : List (Option K)) (a b : ℕ)
+    (none : key_at keys a ≡ None) where
+  -- a slot without a key comes after one with a key
+  pub after_some : is_some (key_at keys b) ≡ true → is_gt (slot_cmp cmp keys a b) ≡ true
+  after_some some = cases (key_at keys b) refl
+    where
+      cases : (k : Option K) → key_at keys b ≡ k → is_gt (slot_cmp cmp keys a b) ≡ true
+      cases None e = let no : true ≡ false = sym some ∙ ap is_some e in absurd (cc)
+      cases (Some k) e = ap is_gt (ap (λ x. ordering_then (set_first_cmp cmp x (key_at keys b)) (nat_cmp a b)) none ∙ ap (λ y. ordering_then (set_first_cmp cmp None y) (nat_cmp a b)) e)
+
+  -- of two slots without a key the lesser comes first
+  pub after_none : is_some (key_at keys b) ≡ false
+      → is_gt (slot_cmp cmp keys a b) ≡ is_gt (nat_cmp a b)
+  after_none unset = ap is_gt (ap (λ x. ordering_then (set_first_cmp cmp x (key_at keys b)) (nat_cmp a b)) none ∙ ap (λ y. ordering_then (set_first_cmp cmp None y) (nat_cmp a b)) (none_there (key_at keys b) unset))

@@ -107,6 +107,7 @@ impl FlatKey {
 
     /// The rank of an entry's page.
     // Made without a `RankKey` between: a warm-up list makes one for each page of a history.
+    #[inline(always)]
     pub(crate) fn of_entry(entry: Entry) -> FlatKey
         ensures { result ≡ entry_key entry }
     {

@@ -131,6 +131,10 @@ impl SlotKeys {
         requires second { b < length self.now }
         ensures { result ≡ is_gt (slot_cmp key_cmp self.now a b) }
     {
+        if !self.is_set[a] {
+            // Where a pool is emptied no slot has a key: the lesser slot comes first.
+            return self.is_set[b] || b < a;
+        }
         if let Some(is_after) = is_after_by_time(&self.is_set, &self.keys, a, b) {
             return is_after;
         }

@@ -1,7 +1,7 @@
 use Rattle.std.proofs.Common.{◌≡◌, ◌+◌, ◌≤◌, length}
 use Rattle.warm_history.specs.BucketMaps.{pairs_left}
 use Rattle.warm_history.specs.MapPairs.{as_entries}
-use Rattle.warm_history.proofs.bucket_maps.next_of_all.Given as goal
+use Rattle.warm_history.proofs.bucket_maps.next_of_later.Given as goal
 
 abbrev pub invariant-loop-entry : goal.invariant-loop-entry
 invariant-loop-entry l = record {
