@@ -1,4 +1,4 @@
--- The devices of `warm_open`: those made so far, and why none are made.
+-- The devices of `node_open`: those made so far, and why none are made.
 use Rattle.std.proofs.Common.{◌≡◌, ◌<◌, ◌+◌, ℕ, ℤ, List, [], ◌∷◌, ◌++◌, Contains, ⊎_elim, add-one, ap, ◌∙◌, get_or, length, map, refl, sym, subst, take, take-suc}
 use Rattle.std.proofs.lemmas.List.Elements.{Contains-push_cases}
 use Rattle.warm_gossip.specs.declared.fault.NodeFault.TheVariants.{Memory, Pool, StaleSlot}

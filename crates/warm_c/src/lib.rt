@@ -5,18 +5,18 @@
 //! received last, a limit of the times in frames, and the devices that it was given. All zeros is a
 //! closed handle. A function returns a status: 0, or the number of why it is refused.
 //!
-//! Most functions, `warm_NAME`, make the node's call `Node::NAME`. The others are:
+//! Most functions, `node_NAME`, make the node's call `Node::NAME`. The others are:
 //!
-//! - [`warm_list`] makes `Node::warm_list`, [`warm_step`] makes `Node::warm_step`, [`warm_read`]
-//!   makes `Node::read_into`, and [`warm_horizon`] makes `Node::raise`.
-//! - [`warm_history_length`] counts the pages of the node's history, [`warm_save`] writes a dump of
-//!   it, and [`warm_load`] joins the history of a dump (`Node::join`).
-//! - [`warm_resident`], [`warm_lend`], [`warm_counts`], [`warm_device_counts`] and
-//!   [`warm_last_failure`] ask the node's pool, [`warm_lend_mut`] makes `Node::bytes_mut`,
-//!   [`warm_replace`] `Node::retire`, [`warm_flush`] `Node::flush_device`, and [`warm_forget`]
+//! - [`node_list`] makes `Node::warm_list`, [`node_step`] makes `Node::warm_step`, [`node_read`]
+//!   makes `Node::read_into`, and [`node_horizon`] makes `Node::raise`.
+//! - [`node_history_length`] counts the pages of the node's history, [`node_save`] writes a dump of
+//!   it, and [`node_load`] joins the history of a dump (`Node::join`).
+//! - [`node_resident`], [`node_lend`], [`node_counts`], [`node_device_counts`] and
+//!   [`node_last_failure`] ask the node's pool, [`node_lend_mut`] makes `Node::bytes_mut`,
+//!   [`node_replace`] `Node::retire`, [`node_flush`] `Node::flush_device`, and [`node_forget`]
 //!   `Node::forget_pages`.
-//! - [`warm_limit`] and [`warm_next_answer`] are of the handle alone.
-//! - [`warm_open`] and [`warm_close`] create and drop the node, and [`warm_status_name`] takes no
+//! - [`node_limit`] and [`node_next_answer`] are of the handle alone.
+//! - [`node_open`] and [`node_close`] create and drop the node, and [`node_status_name`] takes no
 //!   handle. Each of the other functions returns 64 on a closed handle, and changes nothing.
 //!
 //! c/fd_calls.c has what is not proved: the calls of the system on the descriptors, which
@@ -130,7 +130,7 @@ fn on_open<F: FnOnce(&mut OpenNode) -> Result<(), Refusal>>(
 /// - 2: there are too many frames, or none.
 /// - 3: a page has too many bytes, or none.
 #[unsafe(no_mangle)]
-pub extern "C" fn warm_open(
+pub extern "C" fn node_open(
     alloc: Global,
     handle: &mut Handle,
     replica: u16,
@@ -161,7 +161,7 @@ pub extern "C" fn warm_open(
 /// Closes a handle and drops its node; a closed one stays closed. What was written to pages and not
 /// written back is lost.
 #[unsafe(no_mangle)]
-pub extern "C" fn warm_close(alloc: Global, handle: &mut Handle)
+pub extern "C" fn node_close(alloc: Global, handle: &mut Handle)
     ensures { handle.new.held.node ≡ None }
 {
     let _ = handle.take(alloc);
@@ -174,7 +174,7 @@ pub extern "C" fn warm_close(alloc: Global, handle: &mut Handle)
 /// - 67: one of them has a replica's number that is not valid.
 /// - 1: an allocation failed.
 #[unsafe(no_mangle)]
-pub extern "C" fn warm_absorb(
+pub extern "C" fn node_absorb(
     alloc: Global,
     handle: &mut Handle,
     references: &[WarmReference],
@@ -190,7 +190,7 @@ pub extern "C" fn warm_absorb(
 /// 4 to 9, in the order of [`warm_pool::Pool::pin`]. The slot is unchanged, and of the node only
 /// counts of failures have changed.
 #[unsafe(no_mangle)]
-pub extern "C" fn warm_pin(
+pub extern "C" fn node_pin(
     alloc: Global,
     handle: &mut Handle,
     page: WarmPage,
@@ -207,13 +207,13 @@ pub extern "C" fn warm_pin(
     put_back(handle, node, done)
 }
 
-/// Pins a page as [`warm_pin`] does and fills it with zeros, without reading it.
+/// Pins a page as [`node_pin`] does and fills it with zeros, without reading it.
 ///
 /// # Errors
 /// 4 to 6, 8 and 9, in the order of [`warm_pool::Pool::pin_zeroed`]. The slot is unchanged, and of
 /// the node only counts of failures have changed.
 #[unsafe(no_mangle)]
-pub extern "C" fn warm_pin_zeroed(
+pub extern "C" fn node_pin_zeroed(
     alloc: Global,
     handle: &mut Handle,
     page: WarmPage,
@@ -235,7 +235,7 @@ pub extern "C" fn warm_pin_zeroed(
 /// # Errors
 /// 13: the slot does not hold its page. Nothing has changed.
 #[unsafe(no_mangle)]
-pub extern "C" fn warm_unpin(alloc: Global, handle: &mut Handle, slot: WarmSlot) -> i32
+pub extern "C" fn node_unpin(alloc: Global, handle: &mut Handle, slot: WarmSlot) -> i32
     ensures { Called (Unpins slot) handle.old.held.node result handle.new.held.node }
 {
     on_open(alloc, handle, |node| node.unpin(slot))
@@ -248,7 +248,7 @@ pub extern "C" fn warm_unpin(alloc: Global, handle: &mut Handle, slot: WarmSlot)
 /// - 13: the slot does not hold its page.
 /// - 10: the bytes reach beyond the end of the page.
 #[unsafe(no_mangle)]
-pub extern "C" fn warm_read(
+pub extern "C" fn node_read(
     alloc: Global,
     handle: &mut Handle,
     slot: WarmSlot,
@@ -273,7 +273,7 @@ pub extern "C" fn warm_read(
 /// - 13: the slot does not hold its page.
 /// - 10: the bytes reach beyond the end of the page.
 #[unsafe(no_mangle)]
-pub extern "C" fn warm_write(
+pub extern "C" fn node_write(
     alloc: Global,
     handle: &mut Handle,
     slot: WarmSlot,
@@ -291,7 +291,7 @@ pub extern "C" fn warm_write(
 /// # Errors
 /// 13: the slot does not hold its page. The pointer is unchanged.
 #[unsafe(no_mangle)]
-pub extern "C" fn warm_lend(
+pub extern "C" fn node_lend(
     alloc: Global,
     handle: &mut Handle,
     slot: WarmSlot,
@@ -314,7 +314,7 @@ pub extern "C" fn warm_lend(
 /// # Errors
 /// 13: the slot does not hold its page. The pointer is unchanged.
 #[unsafe(no_mangle)]
-pub extern "C" fn warm_lend_mut(
+pub extern "C" fn node_lend_mut(
     alloc: Global,
     handle: &mut Handle,
     slot: WarmSlot,
@@ -333,7 +333,7 @@ pub extern "C" fn warm_lend_mut(
 
 /// Writes whether the page is in a frame, 1 or 0.
 #[unsafe(no_mangle)]
-pub extern "C" fn warm_resident(
+pub extern "C" fn node_resident(
     alloc: Global,
     handle: &mut Handle,
     page: WarmPage,
@@ -353,7 +353,7 @@ pub extern "C" fn warm_resident(
 /// Writes whether there is a page that would be evicted next, 1 or 0, and which. Where there is
 /// none, `page` is unchanged.
 #[unsafe(no_mangle)]
-pub extern "C" fn warm_victim(
+pub extern "C" fn node_victim(
     alloc: Global,
     handle: &mut Handle,
     found: &mut u8,
@@ -376,7 +376,7 @@ pub extern "C" fn warm_victim(
 /// # Errors
 /// 1: an allocation failed. `pages` and `count` are unchanged.
 #[unsafe(no_mangle)]
-pub extern "C" fn warm_list(
+pub extern "C" fn node_list(
     alloc: Global,
     handle: &mut Handle,
     pages: &mut [WarmPage],
@@ -403,7 +403,7 @@ pub extern "C" fn warm_list(
 /// - 1: an allocation failed.
 /// - 6 to 9, in the order of [`warm_pool::Pool::load`].
 #[unsafe(no_mangle)]
-pub extern "C" fn warm_step(
+pub extern "C" fn node_step(
     alloc: Global,
     handle: &mut Handle,
     found: &mut u8,
@@ -432,7 +432,7 @@ pub extern "C" fn warm_step(
 /// - 1: an allocation failed.
 /// - 66: the frame does not fit; its length is written.
 #[unsafe(no_mangle)]
-pub extern "C" fn warm_offer(
+pub extern "C" fn node_offer(
     alloc: Global,
     handle: &mut Handle,
     frame: &mut [u8],
@@ -458,7 +458,7 @@ pub extern "C" fn warm_offer(
 /// - 1: an allocation failed.
 /// - 66: the frame does not fit; its length is written.
 #[unsafe(no_mangle)]
-pub extern "C" fn warm_send(
+pub extern "C" fn node_send(
     alloc: Global,
     handle: &mut Handle,
     bucket: u8,
@@ -490,7 +490,7 @@ pub extern "C" fn warm_send(
 /// - 1: an allocation failed.
 /// - 66: the frame does not fit; its length is written.
 #[unsafe(no_mangle)]
-pub extern "C" fn warm_send_since(
+pub extern "C" fn node_send_since(
     alloc: Global,
     handle: &mut Handle,
     bucket: u8,
@@ -518,11 +518,11 @@ pub extern "C" fn warm_send_since(
     put_back(handle, node, done)
 }
 
-/// Sets the latest time that a received frame may speak of: [`warm_receive`] refuses a frame whose
+/// Sets the latest time that a received frame may speak of: [`node_receive`] refuses a frame whose
 /// horizon or a stamp is later. Of a handle that was just opened it is 2^64 - 1, which refuses
 /// none.
 #[unsafe(no_mangle)]
-pub extern "C" fn warm_limit(alloc: Global, handle: &mut Handle, time: u64) -> i32
+pub extern "C" fn node_limit(alloc: Global, handle: &mut Handle, time: u64) -> i32
     ensures { Called (Surely (Limits time)) handle.old.held.node result handle.new.held.node }
 {
     on_open(alloc, handle, |node| {
@@ -531,7 +531,7 @@ pub extern "C" fn warm_limit(alloc: Global, handle: &mut Handle, time: u64) -> i
     })
 }
 
-/// Receives one whole frame that another replica sent. Its answers wait for [`warm_next_answer`];
+/// Receives one whole frame that another replica sent. Its answers wait for [`node_next_answer`];
 /// those that waited are dropped.
 ///
 /// # Errors
@@ -541,7 +541,7 @@ pub extern "C" fn warm_limit(alloc: Global, handle: &mut Handle, time: u64) -> i
 /// - 70: the horizon is later than the limit.
 /// - 71: a stamp is later than the limit.
 #[unsafe(no_mangle)]
-pub extern "C" fn warm_receive(alloc: Global, handle: &mut Handle, frame: &[u8]) -> i32
+pub extern "C" fn node_receive(alloc: Global, handle: &mut Handle, frame: &[u8]) -> i32
     ensures { Called (Receives frame.now) handle.old.held.node result handle.new.held.node }
 {
     on_open(alloc, handle, |node| node.receive(alloc, frame))
@@ -554,7 +554,7 @@ pub extern "C" fn warm_receive(alloc: Global, handle: &mut Handle, frame: &[u8])
 /// - 1: an allocation failed.
 /// - 66: the frame does not fit; its length is written.
 #[unsafe(no_mangle)]
-pub extern "C" fn warm_next_answer(
+pub extern "C" fn node_next_answer(
     alloc: Global,
     handle: &mut Handle,
     frame: &mut [u8],
@@ -574,7 +574,7 @@ pub extern "C" fn warm_next_answer(
 /// Raises the horizon to this time, unless it is later already: forgets all stamps before it, and
 /// writes the horizon from then on.
 #[unsafe(no_mangle)]
-pub extern "C" fn warm_horizon(
+pub extern "C" fn node_horizon(
     alloc: Global,
     handle: &mut Handle,
     time: u64,
@@ -596,7 +596,7 @@ pub extern "C" fn warm_horizon(
 /// # Errors
 /// 12: a write or a flush failed. Of what a caller sees, only counts of failures have changed.
 #[unsafe(no_mangle)]
-pub extern "C" fn warm_write_back(alloc: Global, handle: &mut Handle) -> i32
+pub extern "C" fn node_write_back(alloc: Global, handle: &mut Handle) -> i32
     ensures { Called WritesBack handle.old.held.node result handle.new.held.node }
 {
     on_open(alloc, handle, |node| node.write_back())
@@ -609,7 +609,7 @@ pub extern "C" fn warm_write_back(alloc: Global, handle: &mut Handle) -> i32
 /// 12: a write failed. Of what a caller sees, only counts of failures have changed; `left` is
 /// unchanged.
 #[unsafe(no_mangle)]
-pub extern "C" fn warm_write_back_some(
+pub extern "C" fn node_write_back_some(
     alloc: Global,
     handle: &mut Handle,
     limit: usize,
@@ -633,7 +633,7 @@ pub extern "C" fn warm_write_back_some(
 /// - 4: there is no device of this number.
 /// - 12: a write or the flush failed.
 #[unsafe(no_mangle)]
-pub extern "C" fn warm_flush(alloc: Global, handle: &mut Handle, dev: u16) -> i32
+pub extern "C" fn node_flush(alloc: Global, handle: &mut Handle, dev: u16) -> i32
     ensures { Called (FlushesDevice dev) handle.old.held.node result handle.new.held.node }
 {
     on_open(alloc, handle, |node| node.flush(dev))
@@ -646,7 +646,7 @@ pub extern "C" fn warm_flush(alloc: Global, handle: &mut Handle, dev: u16) -> i3
 /// - 4: there is no device of this number.
 /// - 11: one of the pages is pinned.
 #[unsafe(no_mangle)]
-pub extern "C" fn warm_forget(alloc: Global, handle: &mut Handle, dev: u16, from: u64) -> i32
+pub extern "C" fn node_forget(alloc: Global, handle: &mut Handle, dev: u16, from: u64) -> i32
     ensures { Called (ForgetsPages dev from) handle.old.held.node result handle.new.held.node }
 {
     on_open(alloc, handle, |node| node.forget(dev, from))
@@ -662,7 +662,7 @@ pub extern "C" fn warm_forget(alloc: Global, handle: &mut Handle, dev: u16, from
 /// - 11: a page of the old device is pinned.
 /// - 12: a write or the flush of the old device failed.
 #[unsafe(no_mangle)]
-pub extern "C" fn warm_replace(
+pub extern "C" fn node_replace(
     alloc: Global,
     handle: &mut Handle,
     dev: u16,
@@ -677,7 +677,7 @@ pub extern "C" fn warm_replace(
 /// Writes what the pool has counted since the handle was opened, and how many pages are resident
 /// and dirty.
 #[unsafe(no_mangle)]
-pub extern "C" fn warm_counts(
+pub extern "C" fn node_counts(
     alloc: Global,
     handle: &mut Handle,
     counters: &mut WarmCounters,
@@ -698,7 +698,7 @@ pub extern "C" fn warm_counts(
 /// # Errors
 /// 4: there is no device of this number. `counters` is unchanged.
 #[unsafe(no_mangle)]
-pub extern "C" fn warm_device_counts(
+pub extern "C" fn node_device_counts(
     alloc: Global,
     handle: &mut Handle,
     dev: u16,
@@ -718,7 +718,7 @@ pub extern "C" fn warm_device_counts(
 /// Writes whether a call of a device has failed, 1 or 0, and which did last; where none has,
 /// `failure` is unchanged.
 #[unsafe(no_mangle)]
-pub extern "C" fn warm_last_failure(
+pub extern "C" fn node_last_failure(
     alloc: Global,
     handle: &mut Handle,
     found: &mut u8,
@@ -738,7 +738,7 @@ pub extern "C" fn warm_last_failure(
 
 /// Writes how many pages the history knows.
 #[unsafe(no_mangle)]
-pub extern "C" fn warm_history_length(alloc: Global, handle: &mut Handle, number: &mut usize) -> i32
+pub extern "C" fn node_history_length(alloc: Global, handle: &mut Handle, number: &mut usize) -> i32
     ensures called { Called (Surely (CountsPages number.new)) handle.old.held.node result
         handle.new.held.node }
     ensures closed { handle.old.held.node ≡ None → number.new ≡ number.old }
@@ -758,7 +758,7 @@ pub extern "C" fn warm_history_length(alloc: Global, handle: &mut Handle, number
 /// - 1: an allocation failed.
 /// - 82: the file was not written or not synced.
 #[unsafe(no_mangle)]
-pub extern "C" fn warm_save(alloc: Global, handle: &mut Handle, fd: i32) -> i32
+pub extern "C" fn node_save(alloc: Global, handle: &mut Handle, fd: i32) -> i32
     ensures { Called Saves handle.old.held.node result handle.new.held.node }
 {
     on_open(alloc, handle, |node| node.save(alloc, Descriptor::new(fd)))
@@ -773,7 +773,7 @@ pub extern "C" fn warm_save(alloc: Global, handle: &mut Handle, fd: i32) -> i32
 /// - 81: the file was not read.
 /// - 1: an allocation failed.
 #[unsafe(no_mangle)]
-pub extern "C" fn warm_load(alloc: Global, handle: &mut Handle, fd: i32, length: u64) -> i32
+pub extern "C" fn node_load(alloc: Global, handle: &mut Handle, fd: i32, length: u64) -> i32
     ensures { Called (Loads None) handle.old.held.node result handle.new.held.node }
 {
     on_open(
@@ -787,7 +787,7 @@ pub extern "C" fn warm_load(alloc: Global, handle: &mut Handle, fd: i32, length:
 /// for, and the length of the name without the zero byte. Returns 0. The name of what is no status
 /// is `Unknown`.
 #[unsafe(no_mangle)]
-pub extern "C" fn warm_status_name(status: i32, name: &mut [u8], len: &mut usize) -> i32
+pub extern "C" fn node_status_name(status: i32, name: &mut [u8], len: &mut usize) -> i32
     ensures text { name.new ≡ with_some (status_name status ++ 0 ∷ []) name.old }
     ensures size { len.new ≡ length (status_name status) }
     ensures answer { result ≡ pos 0 }

@@ -6,7 +6,7 @@ ghost use Rattle.warm_c.specs.Values.{IsBool, IsOptionalPage};
 use warm_pool::Slot;
 use warm_stamps::PageId;
 
-/// A page: its device, numbered from 0 in the order of the devices of `warm_open`, and its number
+/// A page: its device, numbered from 0 in the order of the devices of `node_open`, and its number
 /// on that device, from 0.
 #[repr(C)]
 #[derive(Clone, Copy)]
@@ -41,7 +41,7 @@ pub struct WarmSlot {
     pub index: u32,
 }
 
-/// A slot as `warm_pin` writes it: to C it is a `WarmSlot`, whose index is the lower half of the
+/// A slot as `node_pin` writes it: to C it is a `WarmSlot`, whose index is the lower half of the
 /// index here.
 ///
 /// C passes a slot on by reads of eight bytes. A processor serves such a read at once from one

@@ -2,7 +2,7 @@ use Rattle.std.proofs.Common.{rules, Ok, to_z, of_z, w32}
 use Rattle.warm_c.specs.Calls.{CountsPages}
 use Rattle.warm_c.specs.Handles.{Surely}
 use Rattle.warm_c.proofs.Endings.{called}
-use Rattle.warm_c.proofs.warm_history_length.Goals as goal
+use Rattle.warm_c.proofs.node_history_length.Goals as goal
 
 pub returns-clause-called : goal.returns-clause-called
 returns-clause-called c =

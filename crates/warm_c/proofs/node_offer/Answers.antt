@@ -2,7 +2,7 @@ use Rattle.std.proofs.Common.{rules, to_z, of_z, w32}
 use Rattle.warm_gossip.specs.declared.call.Call.TheVariants.{Offer}
 use Rattle.warm_c.specs.Calls.{Sends}
 use Rattle.warm_c.proofs.Endings.{called}
-use Rattle.warm_c.proofs.warm_offer.Goals as goal
+use Rattle.warm_c.proofs.node_offer.Goals as goal
 
 pub returns-clause-called : goal.returns-clause-called
 returns-clause-called c =

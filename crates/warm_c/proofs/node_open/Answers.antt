@@ -3,7 +3,7 @@ use Rattle.warm_gossip.specs.declared.fault.NodeFault.TheVariants.{Memory}
 use Rattle.warm_c.specs.declared.status.Refusal.TheVariants.{Node}
 use Rattle.warm_c.specs.Handles.{open_request}
 use Rattle.warm_c.proofs.Endings.{open_refused}
-use Rattle.warm_c.proofs.warm_open.Goals as goal
+use Rattle.warm_c.proofs.node_open.Goals as goal
 
 pub returns : goal.returns
 returns c =
