@@ -35,7 +35,7 @@ Surely goes old (Err why) new = ⊥
 
 -- Opening
 
--- what is asked of `warm_open`
+-- what is asked of `node_open`
 pub record OpenRequest : Type 0 where
   pub replica : ℕ
   pub frames : ℕ

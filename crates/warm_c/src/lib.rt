@@ -5,18 +5,18 @@
 //! received last, a limit of the times in frames, and the devices that it was given. All zeros is a
 //! closed handle. A function returns a status: 0, or the number of why it is refused.
 //!
-//! Most functions, `warm_NAME`, make the node's call `Node::NAME`. The others are:
+//! Most functions, `node_NAME`, make the node's call `Node::NAME`. The others are:
 //!
-//! - [`warm_list`] makes `Node::warm_list`, [`warm_step`] makes `Node::warm_step`, [`warm_read`]
-//!   makes `Node::read_into`, and [`warm_horizon`] makes `Node::raise`.
-//! - [`warm_history_length`] counts the pages of the node's history, [`warm_save`] writes a dump of
-//!   it, and [`warm_load`] joins the history of a dump (`Node::join`).
-//! - [`warm_resident`], [`warm_lend`], [`warm_counts`], [`warm_device_counts`] and
-//!   [`warm_last_failure`] ask the node's pool, [`warm_lend_mut`] makes `Node::bytes_mut`,
-//!   [`warm_replace`] `Node::retire`, [`warm_flush`] `Node::flush_device`, and [`warm_forget`]
+//! - [`node_list`] makes `Node::warm_list`, [`node_step`] makes `Node::warm_step`, [`node_read`]
+//!   makes `Node::read_into`, and [`node_horizon`] makes `Node::raise`.
+//! - [`node_history_length`] counts the pages of the node's history, [`node_save`] writes a dump of
+//!   it, and [`node_load`] joins the history of a dump (`Node::join`).
+//! - [`node_resident`], [`node_lend`], [`node_counts`], [`node_device_counts`] and
+//!   [`node_last_failure`] ask the node's pool, [`node_lend_mut`] makes `Node::bytes_mut`,
+//!   [`node_replace`] `Node::retire`, [`node_flush`] `Node::flush_device`, and [`node_forget`]
 //!   `Node::forget_pages`.
-//! - [`warm_limit`] and [`warm_next_answer`] are of the handle alone.
-//! - [`warm_open`] and [`warm_close`] create and drop the node, and [`warm_status_name`] takes no
+//! - [`node_limit`] and [`node_next_answer`] are of the handle alone.
+//! - [`node_open`] and [`node_close`] create and drop the node, and [`node_status_name`] takes no
 //!   handle. Each of the other functions returns 64 on a closed handle, and changes nothing.
 //!
 //! c/fd_calls.c has what is not proved: the calls of the system on the descriptors, which
@@ -28,7 +28,6 @@
 //! ([`laws::handles_cross`]); and pointers to as much as their lengths say, which do not overlap.
 #![tactic(auto)]
 
-ghost use Rattle.std.specs.Fn.{FnOnceReturnsAtMut};
 ghost use Rattle.std.specs.Prelude.{◌≡◌, pos, [], ◌∷◌, ◌++◌, length, None, Some};
 ghost use Rattle.warm_gossip.specs.declared.call.Call.TheVariants.{Offer};
 ghost use Rattle.warm_c.specs.Calls.{Absorbs, CountsPages, GivesNext, Limits, Lists, Loads, Names};
@@ -45,6 +44,7 @@ ghost use Rattle.warm_c.specs.Statuses.{code_of, status_of};
 ghost use Rattle.warm_c.specs.declared.status.Refusal.TheVariants.{Closed};
 ghost use Rattle.warm_c.specs.Values.{page_if, with_some};
 
+mod called;
 mod count_calls;
 pub mod counters;
 pub mod descriptor;
@@ -55,6 +55,7 @@ pub mod dump_file;
 mod engine_calls;
 pub mod fd_device;
 mod frame_calls;
+mod frame_parts;
 pub mod handle;
 pub mod held_pointer;
 mod history_calls;
@@ -62,11 +63,15 @@ pub mod laws;
 mod lending;
 pub mod open_node;
 mod opening;
+mod part_calls;
+pub mod part_exports;
 mod pool_calls;
 pub mod raw_box;
+pub mod shard_parts;
 pub mod status;
 pub mod values;
 
+use crate::called::{closed, on_open, put_back};
 use crate::counters::{WarmCounters, WarmDeviceCounters, WarmFailure};
 use crate::descriptor::Descriptor;
 use crate::handle::Handle;
@@ -78,41 +83,6 @@ use crate::values::{
 };
 use std::alloc::Global;
 use warm_gossip::NodeFault;
-
-// Returns the status of a call on a closed handle.
-fn closed() -> i32
-    ensures { result ≡ pos (code_of Closed) }
-{
-    status_of(Err(Refusal::Closed))
-}
-
-// Ends a call on an open handle: puts the node back, and returns the status.
-fn put_back(handle: &mut Handle, node: Box<OpenNode>, done: Result<(), Refusal>) -> i32
-    ensures held { handle.new.held.node ≡ Some node.value }
-    ensures status { result ≡ status_of done }
-{
-    *handle = Handle::of(node);
-    status_of(done)
-}
-
-// Makes a call of the node of an open handle, and returns its status. A call that writes through a
-// pointer of C takes the node itself: nothing is known of what a closure that was not called has
-// borrowed.
-fn on_open<F: FnOnce(&mut OpenNode) -> Result<(), Refusal>>(
-    alloc: Global,
-    handle: &mut Handle,
-    call: F,
-) -> i32
-    requires { F.IsAlwaysCallable call }
-    ensures { Called (λ old ending new. FnOnceReturnsAtMut F.FnOnce call old ending new)
-        handle.old.held.node result handle.new.held.node }
-{
-    let Some(mut node) = handle.take(alloc) else {
-        return closed();
-    };
-    let done = call(&mut node);
-    put_back(handle, node, done)
-}
 
 /// Opens a closed handle: creates a node of this replica, with a pool of `frames` empty frames over
 /// these devices, and an empty history.
@@ -130,7 +100,7 @@ fn on_open<F: FnOnce(&mut OpenNode) -> Result<(), Refusal>>(
 /// - 2: there are too many frames, or none.
 /// - 3: a page has too many bytes, or none.
 #[unsafe(no_mangle)]
-pub extern "C" fn warm_open(
+pub extern "C" fn node_open(
     alloc: Global,
     handle: &mut Handle,
     replica: u16,
@@ -161,7 +131,7 @@ pub extern "C" fn warm_open(
 /// Closes a handle and drops its node; a closed one stays closed. What was written to pages and not
 /// written back is lost.
 #[unsafe(no_mangle)]
-pub extern "C" fn warm_close(alloc: Global, handle: &mut Handle)
+pub extern "C" fn node_close(alloc: Global, handle: &mut Handle)
     ensures { handle.new.held.node ≡ None }
 {
     let _ = handle.take(alloc);
@@ -174,7 +144,7 @@ pub extern "C" fn warm_close(alloc: Global, handle: &mut Handle)
 /// - 67: one of them has a replica's number that is not valid.
 /// - 1: an allocation failed.
 #[unsafe(no_mangle)]
-pub extern "C" fn warm_absorb(
+pub extern "C" fn node_absorb(
     alloc: Global,
     handle: &mut Handle,
     references: &[WarmReference],
@@ -190,7 +160,7 @@ pub extern "C" fn warm_absorb(
 /// 4 to 9, in the order of [`warm_pool::Pool::pin`]. The slot is unchanged, and of the node only
 /// counts of failures have changed.
 #[unsafe(no_mangle)]
-pub extern "C" fn warm_pin(
+pub extern "C" fn node_pin(
     alloc: Global,
     handle: &mut Handle,
     page: WarmPage,
@@ -207,13 +177,13 @@ pub extern "C" fn warm_pin(
     put_back(handle, node, done)
 }
 
-/// Pins a page as [`warm_pin`] does and fills it with zeros, without reading it.
+/// Pins a page as [`node_pin`] does and fills it with zeros, without reading it.
 ///
 /// # Errors
 /// 4 to 6, 8 and 9, in the order of [`warm_pool::Pool::pin_zeroed`]. The slot is unchanged, and of
 /// the node only counts of failures have changed.
 #[unsafe(no_mangle)]
-pub extern "C" fn warm_pin_zeroed(
+pub extern "C" fn node_pin_zeroed(
     alloc: Global,
     handle: &mut Handle,
     page: WarmPage,
@@ -235,7 +205,7 @@ pub extern "C" fn warm_pin_zeroed(
 /// # Errors
 /// 13: the slot does not hold its page. Nothing has changed.
 #[unsafe(no_mangle)]
-pub extern "C" fn warm_unpin(alloc: Global, handle: &mut Handle, slot: WarmSlot) -> i32
+pub extern "C" fn node_unpin(alloc: Global, handle: &mut Handle, slot: WarmSlot) -> i32
     ensures { Called (Unpins slot) handle.old.held.node result handle.new.held.node }
 {
     on_open(alloc, handle, |node| node.unpin(slot))
@@ -248,7 +218,7 @@ pub extern "C" fn warm_unpin(alloc: Global, handle: &mut Handle, slot: WarmSlot)
 /// - 13: the slot does not hold its page.
 /// - 10: the bytes reach beyond the end of the page.
 #[unsafe(no_mangle)]
-pub extern "C" fn warm_read(
+pub extern "C" fn node_read(
     alloc: Global,
     handle: &mut Handle,
     slot: WarmSlot,
@@ -273,7 +243,7 @@ pub extern "C" fn warm_read(
 /// - 13: the slot does not hold its page.
 /// - 10: the bytes reach beyond the end of the page.
 #[unsafe(no_mangle)]
-pub extern "C" fn warm_write(
+pub extern "C" fn node_write(
     alloc: Global,
     handle: &mut Handle,
     slot: WarmSlot,
@@ -291,7 +261,7 @@ pub extern "C" fn warm_write(
 /// # Errors
 /// 13: the slot does not hold its page. The pointer is unchanged.
 #[unsafe(no_mangle)]
-pub extern "C" fn warm_lend(
+pub extern "C" fn node_lend(
     alloc: Global,
     handle: &mut Handle,
     slot: WarmSlot,
@@ -314,7 +284,7 @@ pub extern "C" fn warm_lend(
 /// # Errors
 /// 13: the slot does not hold its page. The pointer is unchanged.
 #[unsafe(no_mangle)]
-pub extern "C" fn warm_lend_mut(
+pub extern "C" fn node_lend_mut(
     alloc: Global,
     handle: &mut Handle,
     slot: WarmSlot,
@@ -333,7 +303,7 @@ pub extern "C" fn warm_lend_mut(
 
 /// Writes whether the page is in a frame, 1 or 0.
 #[unsafe(no_mangle)]
-pub extern "C" fn warm_resident(
+pub extern "C" fn node_resident(
     alloc: Global,
     handle: &mut Handle,
     page: WarmPage,
@@ -353,7 +323,7 @@ pub extern "C" fn warm_resident(
 /// Writes whether there is a page that would be evicted next, 1 or 0, and which. Where there is
 /// none, `page` is unchanged.
 #[unsafe(no_mangle)]
-pub extern "C" fn warm_victim(
+pub extern "C" fn node_victim(
     alloc: Global,
     handle: &mut Handle,
     found: &mut u8,
@@ -376,7 +346,7 @@ pub extern "C" fn warm_victim(
 /// # Errors
 /// 1: an allocation failed. `pages` and `count` are unchanged.
 #[unsafe(no_mangle)]
-pub extern "C" fn warm_list(
+pub extern "C" fn node_list(
     alloc: Global,
     handle: &mut Handle,
     pages: &mut [WarmPage],
@@ -403,7 +373,7 @@ pub extern "C" fn warm_list(
 /// - 1: an allocation failed.
 /// - 6 to 9, in the order of [`warm_pool::Pool::load`].
 #[unsafe(no_mangle)]
-pub extern "C" fn warm_step(
+pub extern "C" fn node_step(
     alloc: Global,
     handle: &mut Handle,
     found: &mut u8,
@@ -432,7 +402,7 @@ pub extern "C" fn warm_step(
 /// - 1: an allocation failed.
 /// - 66: the frame does not fit; its length is written.
 #[unsafe(no_mangle)]
-pub extern "C" fn warm_offer(
+pub extern "C" fn node_offer(
     alloc: Global,
     handle: &mut Handle,
     frame: &mut [u8],
@@ -458,7 +428,7 @@ pub extern "C" fn warm_offer(
 /// - 1: an allocation failed.
 /// - 66: the frame does not fit; its length is written.
 #[unsafe(no_mangle)]
-pub extern "C" fn warm_send(
+pub extern "C" fn node_send(
     alloc: Global,
     handle: &mut Handle,
     bucket: u8,
@@ -490,7 +460,7 @@ pub extern "C" fn warm_send(
 /// - 1: an allocation failed.
 /// - 66: the frame does not fit; its length is written.
 #[unsafe(no_mangle)]
-pub extern "C" fn warm_send_since(
+pub extern "C" fn node_send_since(
     alloc: Global,
     handle: &mut Handle,
     bucket: u8,
@@ -518,11 +488,11 @@ pub extern "C" fn warm_send_since(
     put_back(handle, node, done)
 }
 
-/// Sets the latest time that a received frame may speak of: [`warm_receive`] refuses a frame whose
+/// Sets the latest time that a received frame may speak of: [`node_receive`] refuses a frame whose
 /// horizon or a stamp is later. Of a handle that was just opened it is 2^64 - 1, which refuses
 /// none.
 #[unsafe(no_mangle)]
-pub extern "C" fn warm_limit(alloc: Global, handle: &mut Handle, time: u64) -> i32
+pub extern "C" fn node_limit(alloc: Global, handle: &mut Handle, time: u64) -> i32
     ensures { Called (Surely (Limits time)) handle.old.held.node result handle.new.held.node }
 {
     on_open(alloc, handle, |node| {
@@ -531,7 +501,7 @@ pub extern "C" fn warm_limit(alloc: Global, handle: &mut Handle, time: u64) -> i
     })
 }
 
-/// Receives one whole frame that another replica sent. Its answers wait for [`warm_next_answer`];
+/// Receives one whole frame that another replica sent. Its answers wait for [`node_next_answer`];
 /// those that waited are dropped.
 ///
 /// # Errors
@@ -541,7 +511,7 @@ pub extern "C" fn warm_limit(alloc: Global, handle: &mut Handle, time: u64) -> i
 /// - 70: the horizon is later than the limit.
 /// - 71: a stamp is later than the limit.
 #[unsafe(no_mangle)]
-pub extern "C" fn warm_receive(alloc: Global, handle: &mut Handle, frame: &[u8]) -> i32
+pub extern "C" fn node_receive(alloc: Global, handle: &mut Handle, frame: &[u8]) -> i32
     ensures { Called (Receives frame.now) handle.old.held.node result handle.new.held.node }
 {
     on_open(alloc, handle, |node| node.receive(alloc, frame))
@@ -554,7 +524,7 @@ pub extern "C" fn warm_receive(alloc: Global, handle: &mut Handle, frame: &[u8])
 /// - 1: an allocation failed.
 /// - 66: the frame does not fit; its length is written.
 #[unsafe(no_mangle)]
-pub extern "C" fn warm_next_answer(
+pub extern "C" fn node_next_answer(
     alloc: Global,
     handle: &mut Handle,
     frame: &mut [u8],
@@ -574,7 +544,7 @@ pub extern "C" fn warm_next_answer(
 /// Raises the horizon to this time, unless it is later already: forgets all stamps before it, and
 /// writes the horizon from then on.
 #[unsafe(no_mangle)]
-pub extern "C" fn warm_horizon(
+pub extern "C" fn node_horizon(
     alloc: Global,
     handle: &mut Handle,
     time: u64,
@@ -596,7 +566,7 @@ pub extern "C" fn warm_horizon(
 /// # Errors
 /// 12: a write or a flush failed. Of what a caller sees, only counts of failures have changed.
 #[unsafe(no_mangle)]
-pub extern "C" fn warm_write_back(alloc: Global, handle: &mut Handle) -> i32
+pub extern "C" fn node_write_back(alloc: Global, handle: &mut Handle) -> i32
     ensures { Called WritesBack handle.old.held.node result handle.new.held.node }
 {
     on_open(alloc, handle, |node| node.write_back())
@@ -609,7 +579,7 @@ pub extern "C" fn warm_write_back(alloc: Global, handle: &mut Handle) -> i32
 /// 12: a write failed. Of what a caller sees, only counts of failures have changed; `left` is
 /// unchanged.
 #[unsafe(no_mangle)]
-pub extern "C" fn warm_write_back_some(
+pub extern "C" fn node_write_back_some(
     alloc: Global,
     handle: &mut Handle,
     limit: usize,
@@ -633,7 +603,7 @@ pub extern "C" fn warm_write_back_some(
 /// - 4: there is no device of this number.
 /// - 12: a write or the flush failed.
 #[unsafe(no_mangle)]
-pub extern "C" fn warm_flush(alloc: Global, handle: &mut Handle, dev: u16) -> i32
+pub extern "C" fn node_flush(alloc: Global, handle: &mut Handle, dev: u16) -> i32
     ensures { Called (FlushesDevice dev) handle.old.held.node result handle.new.held.node }
 {
     on_open(alloc, handle, |node| node.flush(dev))
@@ -646,7 +616,7 @@ pub extern "C" fn warm_flush(alloc: Global, handle: &mut Handle, dev: u16) -> i3
 /// - 4: there is no device of this number.
 /// - 11: one of the pages is pinned.
 #[unsafe(no_mangle)]
-pub extern "C" fn warm_forget(alloc: Global, handle: &mut Handle, dev: u16, from: u64) -> i32
+pub extern "C" fn node_forget(alloc: Global, handle: &mut Handle, dev: u16, from: u64) -> i32
     ensures { Called (ForgetsPages dev from) handle.old.held.node result handle.new.held.node }
 {
     on_open(alloc, handle, |node| node.forget(dev, from))
@@ -662,7 +632,7 @@ pub extern "C" fn warm_forget(alloc: Global, handle: &mut Handle, dev: u16, from
 /// - 11: a page of the old device is pinned.
 /// - 12: a write or the flush of the old device failed.
 #[unsafe(no_mangle)]
-pub extern "C" fn warm_replace(
+pub extern "C" fn node_replace(
     alloc: Global,
     handle: &mut Handle,
     dev: u16,
@@ -677,7 +647,7 @@ pub extern "C" fn warm_replace(
 /// Writes what the pool has counted since the handle was opened, and how many pages are resident
 /// and dirty.
 #[unsafe(no_mangle)]
-pub extern "C" fn warm_counts(
+pub extern "C" fn node_counts(
     alloc: Global,
     handle: &mut Handle,
     counters: &mut WarmCounters,
@@ -698,7 +668,7 @@ pub extern "C" fn warm_counts(
 /// # Errors
 /// 4: there is no device of this number. `counters` is unchanged.
 #[unsafe(no_mangle)]
-pub extern "C" fn warm_device_counts(
+pub extern "C" fn node_device_counts(
     alloc: Global,
     handle: &mut Handle,
     dev: u16,
@@ -718,7 +688,7 @@ pub extern "C" fn warm_device_counts(
 /// Writes whether a call of a device has failed, 1 or 0, and which did last; where none has,
 /// `failure` is unchanged.
 #[unsafe(no_mangle)]
-pub extern "C" fn warm_last_failure(
+pub extern "C" fn node_last_failure(
     alloc: Global,
     handle: &mut Handle,
     found: &mut u8,
@@ -738,7 +708,7 @@ pub extern "C" fn warm_last_failure(
 
 /// Writes how many pages the history knows.
 #[unsafe(no_mangle)]
-pub extern "C" fn warm_history_length(alloc: Global, handle: &mut Handle, number: &mut usize) -> i32
+pub extern "C" fn node_history_length(alloc: Global, handle: &mut Handle, number: &mut usize) -> i32
     ensures called { Called (Surely (CountsPages number.new)) handle.old.held.node result
         handle.new.held.node }
     ensures closed { handle.old.held.node ≡ None → number.new ≡ number.old }
@@ -758,7 +728,7 @@ pub extern "C" fn warm_history_length(alloc: Global, handle: &mut Handle, number
 /// - 1: an allocation failed.
 /// - 82: the file was not written or not synced.
 #[unsafe(no_mangle)]
-pub extern "C" fn warm_save(alloc: Global, handle: &mut Handle, fd: i32) -> i32
+pub extern "C" fn node_save(alloc: Global, handle: &mut Handle, fd: i32) -> i32
     ensures { Called Saves handle.old.held.node result handle.new.held.node }
 {
     on_open(alloc, handle, |node| node.save(alloc, Descriptor::new(fd)))
@@ -773,7 +743,7 @@ pub extern "C" fn warm_save(alloc: Global, handle: &mut Handle, fd: i32) -> i32
 /// - 81: the file was not read.
 /// - 1: an allocation failed.
 #[unsafe(no_mangle)]
-pub extern "C" fn warm_load(alloc: Global, handle: &mut Handle, fd: i32, length: u64) -> i32
+pub extern "C" fn node_load(alloc: Global, handle: &mut Handle, fd: i32, length: u64) -> i32
     ensures { Called (Loads None) handle.old.held.node result handle.new.held.node }
 {
     on_open(
@@ -787,7 +757,7 @@ pub extern "C" fn warm_load(alloc: Global, handle: &mut Handle, fd: i32, length:
 /// for, and the length of the name without the zero byte. Returns 0. The name of what is no status
 /// is `Unknown`.
 #[unsafe(no_mangle)]
-pub extern "C" fn warm_status_name(status: i32, name: &mut [u8], len: &mut usize) -> i32
+pub extern "C" fn node_status_name(status: i32, name: &mut [u8], len: &mut usize) -> i32
     ensures text { name.new ≡ with_some (status_name status ++ 0 ∷ []) name.old }
     ensures size { len.new ≡ length (status_name status) }
     ensures answer { result ≡ pos 0 }

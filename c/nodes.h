@@ -1,0 +1,140 @@
+/*
+ * nodes.h: the proved part of the library, for c/shards.c alone. It is not installed.
+ *
+ * A replica has one node for each shard. Each function below is proved of one node, or of no node at
+ * all; the locks of shards, and which node is asked, are in c/shards.c. A function that include/warm.h
+ * has under the name warm_NAME is node_NAME here, and does of a node what the header says there of a
+ * replica. Those below "Parts" have no such counterpart. What the header says of statuses, of refused
+ * calls and of pointers holds for all of them.
+ *
+ * One call at a time uses a node. The shard of a slot that a function writes is 0; that of a slot that
+ * is passed is not looked at.
+ */
+#ifndef NODES_H
+#define NODES_H
+
+#include "warm.h"
+
+/* A handle of a node. All zeros is a closed one. It does not move while it is open. */
+typedef struct node {
+    bool is_open;
+    void *at;
+} node;
+
+int node_open(node *handle, uint16_t replica, size_t frames, size_t page_size, const warm_device *devices,
+    size_t device_count);
+void node_close(node *handle);
+int node_absorb(node *handle, const warm_reference *references, size_t count);
+int node_pin(node *handle, warm_page page, warm_slot *slot);
+int node_pin_zeroed(node *handle, warm_page page, warm_slot *slot);
+int node_unpin(node *handle, warm_slot slot);
+int node_read(node *handle, warm_slot slot, size_t at, uint8_t *into, size_t length);
+int node_write(node *handle, warm_slot slot, size_t at, const uint8_t *bytes, size_t length);
+int node_lend(node *handle, warm_slot slot, const uint8_t **bytes);
+int node_lend_mut(node *handle, warm_slot slot, uint8_t **bytes);
+int node_resident(node *handle, warm_page page, bool *resident);
+int node_victim(node *handle, bool *found, warm_page *page);
+int node_list(node *handle, warm_page *pages, size_t room, size_t *count);
+int node_step(node *handle, bool *found, warm_page *page);
+int node_offer(node *handle, uint8_t *frame, size_t room, size_t *length);
+int node_send(node *handle, uint8_t bucket, bool has_after, warm_page after, uint8_t *frame, size_t room,
+    size_t *length);
+int node_send_since(node *handle, uint8_t bucket, uint64_t since, bool has_after, warm_page after, uint8_t *frame,
+    size_t room, size_t *length, bool *more, warm_page *last);
+int node_limit(node *handle, uint64_t time);
+int node_receive(node *handle, const uint8_t *frame, size_t length);
+int node_next_answer(node *handle, uint8_t *frame, size_t room, size_t *length);
+int node_horizon(node *handle, uint64_t time, uint64_t *horizon);
+int node_write_back(node *handle);
+int node_write_back_some(node *handle, size_t limit, size_t *left);
+int node_flush(node *handle, uint16_t dev);
+int node_forget(node *handle, uint16_t dev, uint64_t from);
+int node_replace(node *handle, uint16_t dev, const warm_device *device);
+int node_counts(node *handle, warm_counters *counters);
+int node_device_counts(node *handle, uint16_t dev, warm_device_counters *counters);
+int node_last_failure(node *handle, bool *found, warm_failure *failure);
+int node_history_length(node *handle, size_t *length);
+int node_save(node *handle, int fd);
+int node_load(node *handle, int fd, uint64_t length);
+int node_status_name(int status, uint8_t *name, size_t room, size_t *length);
+
+/*
+ * Parts. shards is how many shards there are (1, 2, 4 to 64), and shard one of them, from 0. Where a
+ * function returns a status, it is WARM_BAD_SHARDS first, then WARM_NO_SHARD, where they are not so.
+ */
+
+/* The shard of a page: its bucket, modulo shards. 0 where there cannot be so many shards. */
+uint32_t node_shard_of(size_t shards, warm_page page);
+
+/* Writes how many frames each shard has.
+ * Refused: WARM_BAD_SHARDS, WARM_UNEVEN_FRAMES. */
+int node_divide(size_t frames, size_t shards, size_t *each);
+
+/* Which shards a batch is for: bit i where a reference is to a page of shard i. 0 where there cannot be so many shards. */
+uint64_t node_shards_of(size_t shards, const warm_reference *references, size_t count);
+
+/* Absorbs those references of the batch whose pages are of the shard, all of them or none.
+ * Refused: WARM_BAD_REPLICA where any reference of the whole batch has a bad replica; WARM_MEMORY. */
+int node_absorb_part(node *handle, size_t shards, size_t shard, const warm_reference *references, size_t count);
+
+/* Pins a page as node_pin does, and writes where its bytes lie, as node_lend does.
+ * Refused: what node_pin is refused with; the slot and the pointer are then as they were. */
+int node_pin_lend(node *handle, warm_page page, warm_slot *slot, const uint8_t **bytes);
+
+/* The digests of all buckets, that of bucket 0 first. */
+typedef struct node_table {
+    uint8_t digests[64][32];
+} node_table;
+
+/* What a frame is. */
+enum { NODE_ENTRIES = 1, NODE_DIGESTS = 2, NODE_REQUEST = 3 };
+
+typedef struct node_frame {
+    uint64_t horizon;
+    uint64_t shards;  /* of entries: bit i where an entry is of a page of shard i; else 0 */
+    uint64_t buckets; /* of a request: bit i where bucket i is requested; else 0 */
+    uint8_t kind;     /* NODE_ENTRIES, NODE_DIGESTS or NODE_REQUEST */
+} node_frame;
+
+/* Writes what a frame is, which speaks of no time later than the limit.
+ * Refused: WARM_TRUNCATED to WARM_BAD_ORDER, by the first fault from left to right; WARM_LATE_HORIZON, WARM_LATE_STAMP;
+ * WARM_MEMORY at any point. */
+int node_read_frame(size_t shards, uint64_t limit, const uint8_t *frame, size_t length, node_frame *what);
+
+/* Of a frame of entries: raises the node to its horizon, and takes in the entries whose pages are of the shard. Of any other
+ * frame: raises the node to its horizon. All or nothing.
+ * Refused: WARM_TRUNCATED to WARM_BAD_ORDER; WARM_MEMORY. No limit is looked at: node_read_frame has done so. */
+int node_receive_part(node *handle, size_t shards, size_t shard, const uint8_t *frame, size_t length);
+
+/* Writes the digests of the shard's buckets to their places in the table, and leaves the others; and the later of horizon and
+ * the node's own.
+ * Refused: WARM_MEMORY. */
+int node_digests(node *handle, size_t shards, size_t shard, node_table *table, uint64_t *horizon);
+
+/* Writes the frame of these digests, as a replica of this number and horizon offers it, and its length.
+ * Refused: WARM_BAD_REPLICA; WARM_MEMORY; WARM_BUFFER_TOO_SMALL, where length is the room that it needs. */
+int node_offer_frame(uint16_t replica, uint64_t horizon, const node_table *table, uint8_t *frame, size_t room,
+    size_t *length);
+
+/* Of a frame of digests: bit i where that of bucket i differs from the table's. Of any other frame: 0.
+ * Refused: WARM_TRUNCATED to WARM_BAD_ORDER; WARM_MEMORY. */
+int node_differing(const node_table *table, const uint8_t *frame, size_t length, uint64_t *buckets);
+
+/* Writes the frame by which a replica of this number and horizon requests these buckets (bit i: bucket i), and its length.
+ * Refused: WARM_BAD_REPLICA; WARM_MEMORY; WARM_BUFFER_TOO_SMALL, where length is the room that it needs. */
+int node_want_frame(uint16_t replica, uint64_t horizon, uint64_t buckets, uint8_t *frame, size_t room, size_t *length);
+
+/* Joins the whole history of one node to that of another, at the later horizon of both. The one that it is taken from is as
+ * it was. All or nothing.
+ * Refused: WARM_CLOSED where one of them is closed; WARM_MEMORY. */
+int node_gather(node *into, node *from);
+
+/* Joins those entries of a node's history whose pages are of the shard to the history of another, at the later horizon of both.
+ * Refused: WARM_CLOSED where one of them is closed; WARM_MEMORY. */
+int node_join_part(node *into, size_t shards, size_t shard, node *from);
+
+/* There is no node_may_forget: no public function of the pool says which pages are pinned, and warm_pool is not changed here.
+ * node_forget itself is all or nothing for one node: WARM_NO_DEVICE is the same in all of them, so that only WARM_FIXED may be
+ * returned by one node after others have forgotten. */
+
+#endif
