@@ -180,53 +180,94 @@ int warm_close(warm *handle) {
     return WARM_OK;
 }
 
-/* ---- pages ---- */
+/* ---- pages ----
+ *
+ * What a hit is made of has a function of its own for a shard that must be locked: without a lock there is then little to be saved on the
+ * stack. */
 
-static size_t shard_of(const opened *its, warm_page page) { return its->count == 1 ? 0 : node_shard_of(its->count, page); }
+/* As node_shard_of has it: the number of shards is a power of two that divides that of the buckets. A hit is not to make one call more. */
+static shard *shard_of(const opened *its, warm_page page) { return &its->shards[(page.dev + page.no) & (its->count - 1)]; }
 
-/* By one write of eight bytes, as the caller may pass the slot on by reads of eight. */
+/* By one write of eight bytes, as the caller passes the slot on by reads of eight: of an index that was just read, and may be any, no half of these
+ * is left out. */
 static void name_shard(warm_slot *slot, size_t number) {
-    uint64_t place = slot->index | (uint64_t)number << 32;
+    uint64_t place = *(volatile uint32_t *)&slot->index | (uint64_t)number << 32;
     memcpy((uint8_t *)slot + offsetof(warm_slot, index), &place, sizeof place);
 }
 
-/* Leaves the shard in which a page was to be pinned. */
-static int leave_pinned(opened *its, shard *in, warm_slot *slot, int status) {
-    leave(its, in, status);
-    if (status != WARM_OK) return status;
+/* What comes of a pin, in the handle and in the slot, once its shard was left. */
+static inline int pinned(opened *its, shard *in, warm_slot *slot, int status) {
+    if (status != WARM_OK) return noted(its, in, status);
     its->pins++;
     if (in != its->shards) name_shard(slot, (size_t)(in - its->shards)); /* 0 is there already */
     return WARM_OK;
 }
 
+__attribute__((noinline)) static int locked_pin(opened *its, shard *in, warm_page page, warm_slot *slot) {
+    pthread_mutex_lock(&in->lock);
+    int status = node_pin(&in->node, page, slot);
+    pthread_mutex_unlock(&in->lock);
+    return pinned(its, in, slot, status);
+}
+
 int warm_pin(warm *handle, warm_page page, warm_slot *slot) {
     opened *its = handle->at;
     if (its == NULL) return WARM_CLOSED;
-    shard *in = enter(its, shard_of(its, page));
-    return leave_pinned(its, in, slot, node_pin(&in->node, page, slot));
+    shard *in = shard_of(its, page);
+    if (open_handles(its->of) > 1) return locked_pin(its, in, page, slot);
+    return pinned(its, in, slot, node_pin(&in->node, page, slot));
 }
 
 int warm_pin_zeroed(warm *handle, warm_page page, warm_slot *slot) {
     opened *its = handle->at;
     if (its == NULL) return WARM_CLOSED;
-    shard *in = enter(its, shard_of(its, page));
-    return leave_pinned(its, in, slot, node_pin_zeroed(&in->node, page, slot));
+    shard *in = shard_of(its, page);
+    bool is_locked = enter(its, in);
+    int status = node_pin_zeroed(&in->node, page, slot);
+    leave(in, is_locked);
+    return pinned(its, in, slot, status);
+}
+
+__attribute__((noinline)) static int locked_pin_lend(opened *its, shard *in, warm_page page, warm_slot *slot, const uint8_t **bytes) {
+    pthread_mutex_lock(&in->lock);
+    int status = node_pin_lend(&in->node, page, slot, bytes);
+    pthread_mutex_unlock(&in->lock);
+    return pinned(its, in, slot, status);
 }
 
 int warm_pin_lend(warm *handle, warm_page page, warm_slot *slot, const uint8_t **bytes) {
     opened *its = handle->at;
     if (its == NULL) return WARM_CLOSED;
-    shard *in = enter(its, shard_of(its, page));
-    return leave_pinned(its, in, slot, node_pin_lend(&in->node, page, slot, bytes));
+    shard *in = shard_of(its, page);
+    if (open_handles(its->of) > 1) return locked_pin_lend(its, in, page, slot, bytes);
+    return pinned(its, in, slot, node_pin_lend(&in->node, page, slot, bytes));
+}
+
+static inline int unpinned(opened *its, int status) {
+    if (status == WARM_OK) its->pins--;
+    return status;
+}
+
+__attribute__((noinline)) static int locked_unpin(shard *in, warm_slot slot) {
+    pthread_mutex_lock(&in->lock);
+    int status = node_unpin(&in->node, slot);
+    pthread_mutex_unlock(&in->lock);
+    return status;
 }
 
 int warm_unpin(warm *handle, warm_slot slot) {
     opened *its = handle->at;
     if (its == NULL) return WARM_CLOSED;
     if (its->pins == 0 || slot.shard >= its->count) return WARM_STALE_SLOT;
-    shard *in = enter(its, slot.shard);
-    int status = leave(its, in, node_unpin(&in->node, slot));
-    if (status == WARM_OK) its->pins--;
+    shard *in = &its->shards[slot.shard];
+    if (open_handles(its->of) > 1) return unpinned(its, locked_unpin(in, slot));
+    return unpinned(its, node_unpin(&in->node, slot));
+}
+
+__attribute__((noinline)) static int locked_read(shard *in, warm_slot slot, size_t at, uint8_t *into, size_t length) {
+    pthread_mutex_lock(&in->lock);
+    int status = node_read(&in->node, slot, at, into, length);
+    pthread_mutex_unlock(&in->lock);
     return status;
 }
 
@@ -234,47 +275,63 @@ int warm_read(warm *handle, warm_slot slot, size_t at, uint8_t *into, size_t len
     opened *its = handle->at;
     if (its == NULL) return WARM_CLOSED;
     if (slot.shard >= its->count) return WARM_STALE_SLOT;
-    shard *in = enter(its, slot.shard);
-    return leave(its, in, node_read(&in->node, slot, at, into, length));
+    shard *in = &its->shards[slot.shard];
+    if (open_handles(its->of) > 1) return locked_read(in, slot, at, into, length);
+    return node_read(&in->node, slot, at, into, length);
 }
 
 int warm_write(warm *handle, warm_slot slot, size_t at, const uint8_t *bytes, size_t length) {
     opened *its = handle->at;
     if (its == NULL) return WARM_CLOSED;
     if (slot.shard >= its->count) return WARM_STALE_SLOT;
-    shard *in = enter(its, slot.shard);
-    return leave(its, in, node_write(&in->node, slot, at, bytes, length));
+    shard *in = &its->shards[slot.shard];
+    bool is_locked = enter(its, in);
+    int status = node_write(&in->node, slot, at, bytes, length);
+    leave(in, is_locked);
+    return status;
 }
 
 int warm_lend(warm *handle, warm_slot slot, const uint8_t **bytes) {
     opened *its = handle->at;
     if (its == NULL) return WARM_CLOSED;
     if (slot.shard >= its->count) return WARM_STALE_SLOT;
-    shard *in = enter(its, slot.shard);
-    return leave(its, in, node_lend(&in->node, slot, bytes));
+    shard *in = &its->shards[slot.shard];
+    bool is_locked = enter(its, in);
+    int status = node_lend(&in->node, slot, bytes);
+    leave(in, is_locked);
+    return status;
 }
 
 int warm_lend_mut(warm *handle, warm_slot slot, uint8_t **bytes) {
     opened *its = handle->at;
     if (its == NULL) return WARM_CLOSED;
     if (slot.shard >= its->count) return WARM_STALE_SLOT;
-    shard *in = enter(its, slot.shard);
-    return leave(its, in, node_lend_mut(&in->node, slot, bytes));
+    shard *in = &its->shards[slot.shard];
+    bool is_locked = enter(its, in);
+    int status = node_lend_mut(&in->node, slot, bytes);
+    leave(in, is_locked);
+    return status;
 }
 
 int warm_resident(warm *handle, warm_page page, bool *resident) {
     opened *its = handle->at;
     if (its == NULL) return WARM_CLOSED;
-    shard *in = enter(its, shard_of(its, page));
-    return leave(its, in, node_resident(&in->node, page, resident));
+    shard *in = shard_of(its, page);
+    bool is_locked = enter(its, in);
+    int status = node_resident(&in->node, page, resident);
+    leave(in, is_locked);
+    return status;
 }
 
 int warm_victim(warm *handle, size_t number, bool *found, warm_page *page) {
     opened *its = handle->at;
     if (its == NULL) return WARM_CLOSED;
     if (number >= its->count) return WARM_NO_SHARD;
-    shard *in = enter(its, number);
-    return leave(its, in, node_victim(&in->node, found, page));
+    shard *in = &its->shards[number];
+    bool is_locked = enter(its, in);
+    int status = node_victim(&in->node, found, page);
+    leave(in, is_locked);
+    return status;
 }
 
 /* The shards have turns, also where one is refused: pages of one that cannot be read keep no other from being loaded. */
@@ -283,10 +340,12 @@ int warm_step(warm *handle, bool *found, warm_page *page) {
     bool is_loaded = false;
     if (its == NULL) return WARM_CLOSED;
     for (size_t asked = 0; asked < its->count && !is_loaded; asked++) {
-        shard *in = enter(its, its->turn);
+        shard *in = &its->shards[its->turn];
         its->turn = (its->turn + 1) % its->count;
-        int status = leave(its, in, node_step(&in->node, &is_loaded, page));
-        if (status != WARM_OK) return status;
+        bool is_locked = enter(its, in);
+        int status = node_step(&in->node, &is_loaded, page);
+        leave(in, is_locked);
+        if (status != WARM_OK) return noted(its, in, status);
     }
     *found = is_loaded;
     return WARM_OK;

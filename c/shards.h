@@ -19,7 +19,6 @@ enum { LINE = 64 };
 typedef struct shard {
     _Alignas(LINE) pthread_mutex_t lock;
     node node;
-    bool is_locked; /* whether who is in the shard has its lock */
 } shard;
 
 typedef struct replica {
@@ -55,25 +54,23 @@ typedef struct opened {
     void *block;
 } opened;
 
-/* Whether the status says that a call of a device failed. */
-static inline bool is_failure(int status) { return status == WARM_READ_FAULT || status == WARM_WRITE_BACK || status == WARM_FAULT; }
-
 static inline size_t open_handles(replica *of) { return atomic_load_explicit(&of->handles, memory_order_acquire); }
 
-/* Who finds one handle open is in a call of it, and no other thread can be in another: warm_thread is a call of it, too. The last call of a
- * handle that was closed since has ended before that. */
-static inline shard *enter(opened *its, size_t number) {
-    shard *in = &its->shards[number];
-    bool is_shared = open_handles(its->of) > 1;
-    if (is_shared) pthread_mutex_lock(&in->lock);
-    in->is_locked = is_shared;
-    return in;
+/* Returns whether the shard was locked. Who finds one handle open is in a call of it, and no other thread can be in another: warm_thread is a call
+ * of it, too, and the last call of a handle that was closed since has ended before that. */
+static inline bool enter(opened *its, shard *in) {
+    if (open_handles(its->of) == 1) return false;
+    pthread_mutex_lock(&in->lock);
+    return true;
 }
 
-/* Returns the status of what was done in the shard. */
-static inline int leave(opened *its, shard *in, int status) {
-    if (is_failure(status)) atomic_store(&its->of->failed_in, (size_t)(in - its->shards));
-    if (in->is_locked) pthread_mutex_unlock(&in->lock);
+static inline void leave(shard *in, bool is_locked) {
+    if (is_locked) pthread_mutex_unlock(&in->lock);
+}
+
+/* Notes the shard where a call of a device failed in it, and returns the status. */
+static inline int noted(opened *its, shard *in, int status) {
+    if (status == WARM_READ_FAULT || status == WARM_WRITE_BACK || status == WARM_FAULT) atomic_store(&its->of->failed_in, (size_t)(in - its->shards));
     return status;
 }
 

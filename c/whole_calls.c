@@ -26,9 +26,10 @@ int warm_absorb(warm *handle, const warm_reference *references, size_t count) {
     bool is_of_one = without_lowest(shards) == 0;
     for (; shards != 0 && status == WARM_OK; shards = without_lowest(shards)) {
         size_t number = lowest(shards);
-        shard *in = enter(its, number);
-        status = leave(its, in,
-            is_of_one ? node_absorb(&in->node, references, count) : node_absorb_part(&in->node, its->count, number, references, count));
+        shard *in = &its->shards[number];
+        bool is_locked = enter(its, in);
+        status = is_of_one ? node_absorb(&in->node, references, count) : node_absorb_part(&in->node, its->count, number, references, count);
+        leave(in, is_locked);
     }
     return status;
 }
@@ -38,8 +39,10 @@ static void raise_all(opened *its, uint64_t time, uint64_t *horizon) {
     *horizon = UINT64_MAX;
     for (size_t number = 0; number < its->count; number++) {
         uint64_t kept = time;
-        shard *in = enter(its, number);
-        leave(its, in, node_horizon(&in->node, time, &kept));
+        shard *in = &its->shards[number];
+        bool is_locked = enter(its, in);
+        node_horizon(&in->node, time, &kept);
+        leave(in, is_locked);
         if (kept < *horizon) *horizon = kept;
     }
 }
@@ -57,8 +60,10 @@ int warm_history_length(warm *handle, size_t *length) {
     if (its == NULL) return WARM_CLOSED;
     for (size_t number = 0; number < its->count; number++) {
         size_t part = 0;
-        shard *in = enter(its, number);
-        leave(its, in, node_history_length(&in->node, &part));
+        shard *in = &its->shards[number];
+        bool is_locked = enter(its, in);
+        node_history_length(&in->node, &part);
+        leave(in, is_locked);
         all += part;
     }
     *length = all;
@@ -75,8 +80,10 @@ static int open_alone(opened *its, node *alone) {
 static int gather(opened *its, node *all) {
     int status = open_alone(its, all);
     for (size_t number = 0; number < its->count && status == WARM_OK; number++) {
-        shard *in = enter(its, number);
-        status = leave(its, in, node_gather(all, &in->node));
+        shard *in = &its->shards[number];
+        bool is_locked = enter(its, in);
+        status = node_gather(all, &in->node);
+        leave(in, is_locked);
     }
     if (status != WARM_OK) node_close(all);
     return status;
@@ -87,8 +94,11 @@ int warm_list(warm *handle, warm_page *pages, size_t room, size_t *count) {
     node all = {0};
     if (its == NULL) return WARM_CLOSED;
     if (its->count == 1) {
-        shard *in = enter(its, 0);
-        return leave(its, in, node_list(&in->node, pages, room, count));
+        shard *in = &its->shards[0];
+        bool is_locked = enter(its, in);
+        int status = node_list(&in->node, pages, room, count);
+        leave(in, is_locked);
+        return status;
     }
     int status = gather(its, &all);
     if (status != WARM_OK) return status;
@@ -102,8 +112,11 @@ int warm_save(warm *handle, int fd) {
     node all = {0};
     if (its == NULL) return WARM_CLOSED;
     if (its->count == 1) {
-        shard *in = enter(its, 0);
-        return leave(its, in, node_save(&in->node, fd));
+        shard *in = &its->shards[0];
+        bool is_locked = enter(its, in);
+        int status = node_save(&in->node, fd);
+        leave(in, is_locked);
+        return status;
     }
     int status = gather(its, &all);
     if (status != WARM_OK) return status;
@@ -116,8 +129,10 @@ int warm_save(warm *handle, int fd) {
 static int join_all(opened *its, node *all) {
     int status = WARM_OK;
     for (size_t number = 0; number < its->count && status == WARM_OK; number++) {
-        shard *in = enter(its, number);
-        status = leave(its, in, node_join_part(&in->node, its->count, number, all));
+        shard *in = &its->shards[number];
+        bool is_locked = enter(its, in);
+        status = node_join_part(&in->node, its->count, number, all);
+        leave(in, is_locked);
     }
     return status;
 }
@@ -127,8 +142,11 @@ int warm_load(warm *handle, int fd, uint64_t length) {
     node all = {0};
     if (its == NULL) return WARM_CLOSED;
     if (its->count == 1) {
-        shard *in = enter(its, 0);
-        return leave(its, in, node_load(&in->node, fd, length));
+        shard *in = &its->shards[0];
+        bool is_locked = enter(its, in);
+        int status = node_load(&in->node, fd, length);
+        leave(in, is_locked);
+        return status;
     }
     int status = open_alone(its, &all);
     if (status != WARM_OK) return status;
@@ -145,8 +163,10 @@ static int gather_digests(opened *its, node_table *table, uint64_t *horizon) {
     int status = WARM_OK;
     *horizon = 0;
     for (size_t number = 0; number < its->count && status == WARM_OK; number++) {
-        shard *in = enter(its, number);
-        status = leave(its, in, node_digests(&in->node, its->count, number, table, horizon));
+        shard *in = &its->shards[number];
+        bool is_locked = enter(its, in);
+        status = node_digests(&in->node, its->count, number, table, horizon);
+        leave(in, is_locked);
     }
     return status;
 }
@@ -164,16 +184,22 @@ int warm_offer(warm *handle, uint8_t *frame, size_t room, size_t *length) {
 int warm_send(warm *handle, uint8_t bucket, bool has_after, warm_page after, uint8_t *frame, size_t room, size_t *length) {
     opened *its = handle->at;
     if (its == NULL) return WARM_CLOSED;
-    shard *in = enter(its, bucket % its->count);
-    return leave(its, in, node_send(&in->node, bucket, has_after, after, frame, room, length));
+    shard *in = &its->shards[bucket % its->count];
+    bool is_locked = enter(its, in);
+    int status = node_send(&in->node, bucket, has_after, after, frame, room, length);
+    leave(in, is_locked);
+    return status;
 }
 
 int warm_send_since(warm *handle, uint8_t bucket, uint64_t since, bool has_after, warm_page after, uint8_t *frame, size_t room, size_t *length,
     bool *more, warm_page *last) {
     opened *its = handle->at;
     if (its == NULL) return WARM_CLOSED;
-    shard *in = enter(its, bucket % its->count);
-    return leave(its, in, node_send_since(&in->node, bucket, since, has_after, after, frame, room, length, more, last));
+    shard *in = &its->shards[bucket % its->count];
+    bool is_locked = enter(its, in);
+    int status = node_send_since(&in->node, bucket, since, has_after, after, frame, room, length, more, last);
+    leave(in, is_locked);
+    return status;
 }
 
 int warm_limit(warm *handle, uint64_t time) {
@@ -189,9 +215,10 @@ static int take_entries(opened *its, const node_frame *what, const uint8_t *fram
     for (size_t number = 0; number < its->count && status == WARM_OK; number++) {
         uint64_t horizon;
         bool has_entries = (what->shards >> number & 1) != 0;
-        shard *in = enter(its, number);
-        status = leave(its, in,
-            has_entries ? node_receive_part(&in->node, its->count, number, frame, length) : node_horizon(&in->node, what->horizon, &horizon));
+        shard *in = &its->shards[number];
+        bool is_locked = enter(its, in);
+        status = has_entries ? node_receive_part(&in->node, its->count, number, frame, length) : node_horizon(&in->node, what->horizon, &horizon);
+        leave(in, is_locked);
     }
     return status;
 }
@@ -243,9 +270,10 @@ static int next_entries(opened *its, uint8_t *frame, size_t room, size_t *length
     warm_page last = waiting->after;
     bool more = false;
     memcpy(before, frame, kept);
-    shard *in = enter(its, bucket % its->count);
-    int status = leave(its, in,
-        node_send_since(&in->node, bucket, 0, waiting->has_after, waiting->after, frame, room, &needed, &more, &last));
+    shard *in = &its->shards[bucket % its->count];
+    bool is_locked = enter(its, in);
+    int status = node_send_since(&in->node, bucket, 0, waiting->has_after, waiting->after, frame, room, &needed, &more, &last);
+    leave(in, is_locked);
     if (status != WARM_OK && status != WARM_BUFFER_TOO_SMALL) return status;
     bool is_empty = needed == EMPTY_FRAME;
     if (is_empty) memcpy(frame, before, kept);
@@ -283,11 +311,12 @@ int warm_write_back_some(warm *handle, size_t limit, size_t *left) {
     for (size_t number = 0; number < its->count; number++) {
         size_t before = 0, after = 0;
         bool is_last = number + 1 == its->count; /* how many the last one writes, none has to know */
-        shard *in = enter(its, number);
+        shard *in = &its->shards[number];
+        bool is_locked = enter(its, in);
         int status = is_last ? WARM_OK : node_write_back_some(&in->node, 0, &before);
         if (status == WARM_OK) status = node_write_back_some(&in->node, limit, &after);
-        leave(its, in, status);
-        if (status != WARM_OK) return status;
+        leave(in, is_locked);
+        if (status != WARM_OK) return noted(its, in, status);
         if (!is_last) limit -= before - after;
         all += after;
     }
@@ -295,20 +324,22 @@ int warm_write_back_some(warm *handle, size_t limit, size_t *left) {
     return WARM_OK;
 }
 
-/* All pages are written before the first flush: so a file that all shards have written to is synced once. */
+/* Writes what waits in a shard and flushes its devices, or leaves the flushes for later. */
+static int write_shard(opened *its, shard *in, bool flushes) {
+    size_t left;
+    bool is_locked = enter(its, in);
+    int status = flushes ? node_write_back(&in->node) : node_write_back_some(&in->node, SIZE_MAX, &left);
+    leave(in, is_locked);
+    return noted(its, in, status);
+}
+
+/* All pages are written before the first flush: so a file that all shards have written to is synced once. One shard does both itself. */
 int warm_write_back(warm *handle) {
     opened *its = handle->at;
     int status = WARM_OK;
     if (its == NULL) return WARM_CLOSED;
-    for (size_t number = 0; number < its->count && its->count > 1 && status == WARM_OK; number++) {
-        size_t left;
-        shard *in = enter(its, number);
-        status = leave(its, in, node_write_back_some(&in->node, SIZE_MAX, &left));
-    }
-    for (size_t number = 0; number < its->count && status == WARM_OK; number++) {
-        shard *in = enter(its, number);
-        status = leave(its, in, node_write_back(&in->node));
-    }
+    for (size_t number = 0; number < its->count && its->count > 1 && status == WARM_OK; number++) status = write_shard(its, &its->shards[number], false);
+    for (size_t number = 0; number < its->count && status == WARM_OK; number++) status = write_shard(its, &its->shards[number], true);
     return status;
 }
 
@@ -317,27 +348,33 @@ int warm_flush(warm *handle, uint16_t dev) {
     int status = WARM_OK;
     if (its == NULL) return WARM_CLOSED;
     for (size_t number = 0; number < its->count && status == WARM_OK; number++) {
-        shard *in = enter(its, number);
-        status = leave(its, in, node_flush(&in->node, dev));
+        shard *in = &its->shards[number];
+        bool is_locked = enter(its, in);
+        status = node_flush(&in->node, dev);
+        leave(in, is_locked);
+        noted(its, in, status);
     }
     return status;
 }
 
-static void enter_all(opened *its) {
-    for (size_t number = 0; number < its->count; number++) enter(its, number);
+/* Returns whether the shards were locked, which is decided once for all of them. */
+static bool enter_all(opened *its) {
+    if (open_handles(its->of) == 1) return false;
+    for (size_t number = 0; number < its->count; number++) pthread_mutex_lock(&its->shards[number].lock);
+    return true;
 }
 
-static void leave_all(opened *its) {
-    for (size_t number = its->count; number-- > 0;) leave(its, &its->shards[number], WARM_OK);
+static void leave_all(opened *its, bool are_locked) {
+    for (size_t number = its->count; number-- > 0;) leave(&its->shards[number], are_locked);
 }
 
 int warm_forget(warm *handle, uint16_t dev, uint64_t from) {
     opened *its = handle->at;
     int status = WARM_OK;
     if (its == NULL) return WARM_CLOSED;
-    enter_all(its);
+    bool are_locked = enter_all(its);
     for (size_t number = 0; number < its->count && status == WARM_OK; number++) status = node_forget(&its->shards[number].node, dev, from);
-    leave_all(its);
+    leave_all(its, are_locked);
     return status;
 }
 
@@ -353,10 +390,9 @@ static bool put_back(opened *its, uint16_t dev, size_t count) {
 /* Replaces the device in each shard, or goes back. All shards are entered. */
 static int replace_in_all(opened *its, uint16_t dev, const warm_device *device) {
     for (size_t number = 0; number < its->count; number++) {
-        int status = node_replace(&its->shards[number].node, dev, device);
-        if (status == WARM_OK) continue;
-        if (is_failure(status)) atomic_store(&its->of->failed_in, number);
-        return put_back(its, dev, number) ? status : WARM_MEMORY;
+        shard *in = &its->shards[number];
+        int status = noted(its, in, node_replace(&in->node, dev, device));
+        if (status != WARM_OK) return put_back(its, dev, number) ? status : WARM_MEMORY;
     }
     return WARM_OK;
 }
@@ -366,11 +402,11 @@ int warm_replace(warm *handle, uint16_t dev, const warm_device *device) {
     if (its == NULL) return WARM_CLOSED;
     if (dev >= its->of->device_count) return WARM_NO_DEVICE;
     if (!sync_add(device->fd)) return WARM_MEMORY;
-    enter_all(its);
+    bool are_locked = enter_all(its);
     int status = replace_in_all(its, dev, device);
     int let_go = status == WARM_OK ? its->of->devices[dev].fd : device->fd;
     if (status == WARM_OK) its->of->devices[dev] = *device;
-    leave_all(its);
+    leave_all(its, are_locked);
     sync_drop(let_go);
     return status;
 }
@@ -383,8 +419,10 @@ int warm_counts(warm *handle, warm_counters *counters) {
     if (its == NULL) return WARM_CLOSED;
     for (size_t number = 0; number < its->count; number++) {
         warm_counters part = {0};
-        shard *in = enter(its, number);
-        leave(its, in, node_counts(&in->node, &part));
+        shard *in = &its->shards[number];
+        bool is_locked = enter(its, in);
+        node_counts(&in->node, &part);
+        leave(in, is_locked);
         all.hits += part.hits;
         all.misses += part.misses;
         all.evictions += part.evictions;
@@ -405,8 +443,10 @@ int warm_device_counts(warm *handle, uint16_t dev, warm_device_counters *counter
     if (its == NULL) return WARM_CLOSED;
     for (size_t number = 0; number < its->count; number++) {
         warm_device_counters part = {0};
-        shard *in = enter(its, number);
-        int status = leave(its, in, node_device_counts(&in->node, dev, &part));
+        shard *in = &its->shards[number];
+        bool is_locked = enter(its, in);
+        int status = node_device_counts(&in->node, dev, &part);
+        leave(in, is_locked);
         if (status != WARM_OK) return status;
         add_to(&all.reads, part.reads);
         add_to(&all.writes, part.writes);
@@ -420,8 +460,11 @@ int warm_device_counts(warm *handle, uint16_t dev, warm_device_counters *counter
 int warm_last_failure(warm *handle, bool *found, warm_failure *failure) {
     opened *its = handle->at;
     if (its == NULL) return WARM_CLOSED;
-    shard *in = enter(its, atomic_load(&its->of->failed_in));
-    return leave(its, in, node_last_failure(&in->node, found, failure));
+    shard *in = &its->shards[atomic_load(&its->of->failed_in)];
+    bool is_locked = enter(its, in);
+    int status = node_last_failure(&in->node, found, failure);
+    leave(in, is_locked);
+    return status;
 }
 
 int warm_status_name(int status, uint8_t *name, size_t room, size_t *length) { return node_status_name(status, name, room, length); }

@@ -64,7 +64,7 @@ void *open_pool(const struct load *load, uint64_t drawn) {
     warm_device device = {.pages = load->file_pages, .fd = load->fd};
     pool->refers_to_each = strcmp(load->kind, kinds[1]) == 0;
     pool->is_of_misses = load->is_of_misses;
-    ok(warm_open(&pool->handle, 1, load->pages, PAGE_SIZE, &device, 1), "warm_open");
+    ok(warm_open(&pool->handle, 1, 1, load->pages, PAGE_SIZE, &device, 1), "warm_open");
     know_file(pool, load, drawn);
     return pool;
 }
