@@ -24,7 +24,7 @@ typedef struct counted {
 } counted;
 
 /* The descriptors that are counted, in chains. Who reads or changes them, their users or their writes has the lock. */
-static pthread_mutex_t lock = PTHREAD_MUTEX_INITIALIZER;
+static pthread_mutex_t chains_lock = PTHREAD_MUTEX_INITIALIZER;
 static counted *chains[CHAINS];
 
 /* What points to a descriptor, or to the end of its chain. */
@@ -44,46 +44,46 @@ static counted *new_counted(int fd) {
 }
 
 bool sync_add(int fd) {
-    pthread_mutex_lock(&lock);
+    pthread_mutex_lock(&chains_lock);
     counted **place = place_of(fd);
     if (*place == NULL) *place = new_counted(fd);
     counted *its = *place;
     if (its != NULL) its->users++;
-    pthread_mutex_unlock(&lock);
+    pthread_mutex_unlock(&chains_lock);
     return its != NULL;
 }
 
 void sync_drop(int fd) {
-    pthread_mutex_lock(&lock);
+    pthread_mutex_lock(&chains_lock);
     counted **place = place_of(fd), *its = *place;
     if (its != NULL && --its->users == 0) {
         *place = its->next;
         pthread_mutex_destroy(&its->syncing);
         free(its);
     }
-    pthread_mutex_unlock(&lock);
+    pthread_mutex_unlock(&chains_lock);
 }
 
 void sync_wrote(int fd) {
-    pthread_mutex_lock(&lock);
+    pthread_mutex_lock(&chains_lock);
     counted *its = *place_of(fd);
     if (its != NULL) its->writes++;
-    pthread_mutex_unlock(&lock);
+    pthread_mutex_unlock(&chains_lock);
 }
 
 /* A descriptor that stays counted until sync_drop, or NULL. */
 static counted *use(int fd) {
-    pthread_mutex_lock(&lock);
+    pthread_mutex_lock(&chains_lock);
     counted *its = *place_of(fd);
     if (its != NULL) its->users++;
-    pthread_mutex_unlock(&lock);
+    pthread_mutex_unlock(&chains_lock);
     return its;
 }
 
 static uint64_t writes_of(const counted *its) {
-    pthread_mutex_lock(&lock);
+    pthread_mutex_lock(&chains_lock);
     uint64_t writes = its->writes;
-    pthread_mutex_unlock(&lock);
+    pthread_mutex_unlock(&chains_lock);
     return writes;
 }
 
