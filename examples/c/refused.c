@@ -80,7 +80,7 @@ static void attached(warm *handle) {
 /* Whether this many pages are known; of several shards each has its part or not. */
 static bool knows(warm *handle, size_t before, size_t after) {
     size_t length = known(handle);
-    return length == before || (shards > 1 && length > before && length < after);
+    return length == before || (shards > 1 && length > before && length <= after);
 }
 
 /* Histories: absorbed, sent, received, listed, saved and loaded. */
