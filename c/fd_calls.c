@@ -1,11 +1,12 @@
 /*
- * fd_calls.c: the calls of the system that the library makes, which are pread, pwrite, fsync and fstat. The proved part, crates/warm_c,
- * asks for them as fd_calls.h says (crates/warm_c/src/descriptor.rt). And warm_before_write, since the proved part makes no call of the
- * engine's. Nothing here is proved; c/check tests it.
+ * fd_calls.c: the calls of the system on descriptors that the library makes, which are pread, pwrite and fstat here, and fsync in sync_once.c.
+ * The proved part, crates/warm_c, asks for them as fd_calls.h says (crates/warm_c/src/descriptor.rt). And warm_before_write, since the proved
+ * part makes no call of the engine's. Nothing here is proved; c/check tests it.
  */
 #define _FILE_OFFSET_BITS 64
 #define _POSIX_C_SOURCE 200809L /* pread, pwrite */
 #include "fd_calls.h"
+#include "sync_once.h"
 #include "warm.h"
 
 #include <errno.h>
@@ -16,48 +17,6 @@
 #include <unistd.h>
 
 _Static_assert(sizeof(off_t) == 8, "a place in a file has 64 bits");
-
-/* The layouts that the proved part has (crates/warm_c/src/values.rt, counters.rt and handle.rt). */
-#define SIZE_IS(type, size) _Static_assert(sizeof(type) == (size), #type)
-#define FIELD_IS(type, field, at, width) \
-    _Static_assert(offsetof(type, field) == (at) && sizeof(((type *)0)->field) == (width), #type "." #field)
-_Static_assert(sizeof(size_t) == 8 && sizeof(bool) == 1, "lengths have 64 bits, and a bool is a byte that is 0 or 1");
-SIZE_IS(warm, 16);
-FIELD_IS(warm, is_open, 0, 1);
-FIELD_IS(warm, at, 8, 8);
-SIZE_IS(warm_page, 16);
-FIELD_IS(warm_page, no, 0, 8);
-FIELD_IS(warm_page, dev, 8, 2);
-SIZE_IS(warm_reference, 24);
-FIELD_IS(warm_reference, time, 0, 8);
-FIELD_IS(warm_reference, no, 8, 8);
-FIELD_IS(warm_reference, dev, 16, 2);
-FIELD_IS(warm_reference, replica, 18, 2);
-SIZE_IS(warm_slot, 16);
-FIELD_IS(warm_slot, generation, 0, 8);
-FIELD_IS(warm_slot, index, 8, 4);
-SIZE_IS(warm_device, 16);
-FIELD_IS(warm_device, pages, 0, 8);
-FIELD_IS(warm_device, fd, 8, 4);
-SIZE_IS(warm_counters, 48);
-FIELD_IS(warm_counters, hits, 0, 8);
-FIELD_IS(warm_counters, misses, 8, 8);
-FIELD_IS(warm_counters, evictions, 16, 8);
-FIELD_IS(warm_counters, written_back, 24, 8);
-FIELD_IS(warm_counters, resident, 32, 8);
-FIELD_IS(warm_counters, dirty, 40, 8);
-SIZE_IS(warm_device_counters, 32);
-FIELD_IS(warm_device_counters, reads, 0, 8);
-FIELD_IS(warm_device_counters, writes, 8, 8);
-FIELD_IS(warm_device_counters, flushes, 16, 8);
-FIELD_IS(warm_device_counters, failures, 24, 8);
-SIZE_IS(warm_failure, 16);
-FIELD_IS(warm_failure, no, 0, 8);
-FIELD_IS(warm_failure, dev, 8, 2);
-FIELD_IS(warm_failure, what, 10, 2);
-FIELD_IS(warm_failure, error, 12, 4);
-/* warm_pin writes the index of a slot and the four bytes after it as one number. */
-_Static_assert(__BYTE_ORDER__ == __ORDER_LITTLE_ENDIAN__, "the lowest byte of a number is first");
 
 typedef struct request {
     uint8_t kind; /* 0: there is none */
@@ -207,18 +166,16 @@ static ssize_t write_if_allowed(int fd, const uint8_t *from, size_t length, off_
         errno = EAGAIN;
         return -1;
     }
-    return write_file(fd, from, length, at);
+    ssize_t put = write_file(fd, from, length, at);
+    int why = errno;
+    sync_wrote(fd); /* a part may have been written, also where the write failed */
+    errno = why;
+    return put;
 }
 
 /* ---- requests ---- */
 
-/* fsync fails where a descriptor cannot be synced, as a pipe: then nothing written to it is on a device. */
-static ssize_t flush_file(int fd) {
-    int status;
-    do status = fsync(fd);
-    while (status != 0 && errno == EINTR);
-    return status == 0 ? FD_CALLS_REQUEST : -1;
-}
+static ssize_t flush_file(int fd) { return sync_once(fd) == 0 ? FD_CALLS_REQUEST : -1; }
 
 static void put_number(uint8_t *into, int width, uint64_t number) {
     for (int i = width - 1; i >= 0; i--, number >>= 8) into[i] = (uint8_t)number;

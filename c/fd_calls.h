@@ -6,7 +6,7 @@
  *  - FD_CALLS_READ: the next call is a read of the same descriptor. It fills its buffer from that place on, with zeros past the
  *    end of the file.
  *  - FD_CALLS_WRITE: the next call is a write to the same descriptor. It puts its bytes at that place.
- *  - FD_CALLS_FLUSH: the file is synced while the request is written. Its place is 0.
+ *  - FD_CALLS_FLUSH: the file is synced while the request is written, as sync_once.h says. Its place is 0.
  *  - FD_CALLS_IDENTITY: the next call is a read of the same descriptor, of FD_CALLS_IDENTITY_LENGTH bytes: st_dev and st_ino of fstat, eight
  *    bytes each, highest byte first. All descriptors of one file give the same. Two device nodes of one block device do not. Its place is 0.
  *  - FD_CALLS_FAILURE: the next call is a read of the same descriptor, of FD_CALLS_FAILURE_LENGTH bytes: errno of the last call of this

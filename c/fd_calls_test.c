@@ -1,6 +1,6 @@
 /*
  * Tests fd_calls.c: in place of the proved part this program makes requests, and compares the answers with what the file holds by
- * the system's own calls. It has the code of fd_calls.c in itself, over calls of the system that can be made to do little at a time.
+ * the system's own calls. It has the code of fd_calls.c and sync_once.c in itself, over calls of the system that can be made to do little at a time.
  */
 #define _GNU_SOURCE /* mkstemp, pipe, ftruncate */
 #define _FILE_OFFSET_BITS 64
@@ -71,6 +71,7 @@ static void *slow_realloc(void *old, size_t size) { return slow.has_no_memory ? 
 #define fsync slow_fsync
 #define fstat slow_fstat
 #define realloc slow_realloc
+#include "sync_once.c"
 #include "fd_calls.c"
 #undef pread
 #undef pwrite
@@ -220,6 +221,37 @@ static void test_failed_sync(void) {
     close(fd);
 }
 
+/* errno of the last call of this thread that failed, asked of any descriptor; -1 where it is not answered. */
+static int failure_at(int fd) {
+    uint8_t number[4];
+    if (ask(fd, 5, 0) != 9 || fd_calls_read(fd, number, 4) != 4) return -1;
+    return number[0] << 24 | number[1] << 16 | number[2] << 8 | number[3];
+}
+
+/* Of a descriptor that a replica has as a device, a sync is made where something was written since the last one, also by a write that failed; and one
+ * that failed is not forgotten. */
+static void test_counted_syncs(void) {
+    int fd = new_file();
+    MUST(sync_add(fd));
+    slow.syncs = 0;
+    MUST(ask(fd, 3, 0) == 9 && slow.syncs == 0);
+    MUST(write_at(fd, 0, 512) == 512 && ask(fd, 3, 0) == 9 && slow.syncs == 1);
+    MUST(read_at(fd, 0, 512) == 512 && ask(fd, 3, 0) == 9 && slow.syncs == 1);
+    slow.puts_nothing = true;
+    FAILS(write_at(fd, 0, 512), EIO);
+    slow.puts_nothing = false;
+    MUST(failure_at(fd) == EIO && ask(fd, 3, 0) == 9 && slow.syncs == 2);
+    MUST(write_at(fd, 0, 512) == 512);
+    slow.fails_sync = true;
+    FAILS(ask(fd, 3, 0), EIO);
+    FAILS(read_at(NO_FILE, 0, 512), EBADF);
+    FAILS(ask(fd, 3, 0), EIO);
+    MUST(failure_at(fd) == EIO && slow.syncs == 2);
+    sync_drop(fd);
+    MUST(ask(fd, 3, 0) == 9 && slow.syncs == 3);
+    close(fd);
+}
+
 static void fails_at_each(int fd, int reading, int writing, int flushing) {
     FAILS(read_at(fd, 0, 512), reading);
     FAILS(write_at(fd, 0, 512), writing);
@@ -344,13 +376,6 @@ static void test_threads(void) {
     MUST(pthread_create(&thread, NULL, other_thread, &fd) == 0 && pthread_join(thread, NULL) == 0);
     MUST(fd_calls_write(fd, page, 512) == 512 && holds(fd, 0, page, 512));
     close(fd);
-}
-
-/* errno of the last call of this thread that failed, asked of any descriptor; -1 where it is not answered. */
-static int failure_at(int fd) {
-    uint8_t number[4];
-    if (ask(fd, 5, 0) != 9 || fd_calls_read(fd, number, 4) != 4) return -1;
-    return number[0] << 24 | number[1] << 16 | number[2] << 8 | number[3];
 }
 
 static void *fresh_thread(void *of) {
@@ -548,6 +573,7 @@ int main(void) {
     test_direct();
     test_identities();
     test_failed_sync();
+    test_counted_syncs();
     test_descriptors();
     test_limit();
     test_order();

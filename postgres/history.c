@@ -55,7 +55,7 @@ static void
 open_history(void)
 {
 	warm_device none = {0};
-	int			status = warm_open(&history, 1, 1, 1, &none, 0);
+	int			status = warm_open(&history, 1, 1, 1, 1, &none, 0);
 
 	if (status != WARM_OK)
 		ereport(ERROR,

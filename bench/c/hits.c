@@ -69,7 +69,7 @@ int main(int count, char **words) {
     }
     warm pool = {0};
     warm_device device = {.pages = frames, .fd = fileno(file)};
-    ok(warm_open(&pool, 1, (size_t)frames, PAGE_SIZE, &device, 1), "warm_open");
+    ok(warm_open(&pool, 1, 1, (size_t)frames, PAGE_SIZE, &device, 1), "warm_open");
     for (uint64_t no = 0; no < frames; no++) put_number(&pool, no);
     uint64_t start = now();
     uint64_t checksum = hit_often(&pool, frames - 1, hits);

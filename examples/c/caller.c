@@ -28,7 +28,7 @@ static int open_replica(warm *handle, uint16_t number) {
     int fd = mkstemp(path);
     warm_device device = {.pages = PAGES, .fd = fd};
     if (fd < 0 || unlink(path) != 0) exit(1);
-    DO(warm_open(handle, number, FRAMES, PAGE_SIZE, &device, 1));
+    DO(warm_open(handle, number, 1, FRAMES, PAGE_SIZE, &device, 1));
     return fd;
 }
 
@@ -110,7 +110,7 @@ static void restart(warm *handle) {
     if (folder < 0) exit(1);
     save_history(handle, folder);
     save_history(handle, folder);
-    DO(warm_open(&restarted, 2, FRAMES, PAGE_SIZE, &none, 0));
+    DO(warm_open(&restarted, 2, 1, FRAMES, PAGE_SIZE, &none, 0));
     load_history(&restarted, folder);
     must_be_equal(handle, &restarted);
     DO(warm_history_length(&restarted, &pages));

@@ -8,7 +8,7 @@ use std::ptr;
 
 // As include/warm.h has them.
 #[repr(C)]
-struct Warm { is_open: bool, at: *mut u8 }
+struct Warm { at: *mut u8 }
 #[repr(C)]
 #[derive(Clone, Copy, Default)]
 struct Page { no: u64, dev: u16 }
@@ -16,13 +16,13 @@ struct Page { no: u64, dev: u16 }
 struct Reference { time: u64, no: u64, dev: u16, replica: u16 }
 #[repr(C)]
 #[derive(Clone, Copy, Default)]
-struct Slot { generation: u64, index: u32 }
+struct Slot { generation: u64, index: u32, shard: u32 }
 #[repr(C)]
 struct Device { pages: u64, fd: i32 }
 
 extern "C" {
-    fn warm_open(handle: *mut Warm, replica: u16, frames: usize, page_size: usize, devices: *const Device, count: usize) -> i32;
-    fn warm_close(handle: *mut Warm);
+    fn warm_open(handle: *mut Warm, replica: u16, shards: usize, frames: usize, page_size: usize, devices: *const Device, count: usize) -> i32;
+    fn warm_close(handle: *mut Warm) -> i32;
     fn warm_absorb(handle: *mut Warm, references: *const Reference, count: usize) -> i32;
     fn warm_pin(handle: *mut Warm, page: Page, slot: *mut Slot) -> i32;
     fn warm_unpin(handle: *mut Warm, slot: Slot) -> i32;
@@ -59,8 +59,8 @@ impl Replica {
         let file = OpenOptions::new().read(true).write(true).create_new(true).open(&path).map_err(|e| e.to_string())?;
         std::fs::remove_file(&path).map_err(|e| e.to_string())?;
         let device = Device { pages: 32, fd: file.as_raw_fd() };
-        let mut replica = Replica { handle: Warm { is_open: false, at: ptr::null_mut() }, file };
-        ok(unsafe { warm_open(&mut replica.handle, number, FRAMES, PAGE_SIZE, &device, 1) })?;
+        let mut replica = Replica { handle: Warm { at: ptr::null_mut() }, file };
+        ok(unsafe { warm_open(&mut replica.handle, number, 1, FRAMES, PAGE_SIZE, &device, 1) })?;
         Ok(replica)
     }
 
@@ -108,7 +108,9 @@ impl Replica {
 }
 
 impl Drop for Replica {
-    fn drop(&mut self) { unsafe { warm_close(&mut self.handle) } }
+    fn drop(&mut self) {
+        unsafe { warm_close(&mut self.handle) }; // a handle that no other is attached to is always closed
+    }
 }
 
 /// One round of gossip. Gives how many frames answered the digests: 0 where both know the same.

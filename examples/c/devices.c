@@ -57,7 +57,7 @@ static void two_files(void) {
     warm handle = {0};
     warm_slot slot;
     MUST(pwrite(second, "s", 1, 5 * PAGE_SIZE) == 1);
-    OK(warm_open(&handle, 1, 1, PAGE_SIZE, devices, 2));
+    OK(warm_open(&handle, 1, 1, 1, PAGE_SIZE, devices, 2));
     write_to(&handle, (warm_page){.dev = 0, .no = 0}, 'a');
     write_to(&handle, (warm_page){.dev = 1, .no = 0}, 'b');
     MUST(read_from(&handle, (warm_page){.dev = 0, .no = 0}) == 'a');
@@ -77,8 +77,8 @@ static void two_files(void) {
 static void open_two(int wanted, int first, int second) {
     const warm_device devices[] = {{.pages = 8, .fd = first}, {.pages = 8, .fd = second}};
     warm handle = {0};
-    expect(wanted, warm_open(&handle, 1, 1, PAGE_SIZE, devices, 2), "warm_open of two devices");
-    MUST(handle.is_open == (wanted == WARM_OK));
+    expect(wanted, warm_open(&handle, 1, 1, 1, PAGE_SIZE, devices, 2), "warm_open of two devices");
+    MUST((handle.at != NULL) == (wanted == WARM_OK));
     warm_close(&handle);
 }
 
@@ -97,8 +97,8 @@ static void same_file(void) {
     open_two(WARM_OK, fd, other);
     const warm_device three[] = {{.pages = 1, .fd = fd}, {.pages = 1, .fd = other}, {.pages = 1, .fd = linked}};
     warm handle = {0};
-    EXPECT(WARM_SAME_FILE, warm_open(&handle, 1, 1, PAGE_SIZE, three, 3));
-    OK(warm_open(&handle, 1, 1, PAGE_SIZE, three, 2));
+    EXPECT(WARM_SAME_FILE, warm_open(&handle, 1, 1, 1, PAGE_SIZE, three, 3));
+    OK(warm_open(&handle, 1, 1, 1, PAGE_SIZE, three, 2));
     warm_close(&handle);
     /* A descriptor without a file is the same as itself alone. */
     MUST(close(copy) == 0);
@@ -123,11 +123,11 @@ static void order_of_refusals(void) {
     warm handle = {0};
     const warm_device twice[] = {{.pages = 8, .fd = fd}, {.pages = 8, .fd = fd}};
     const warm_device large[] = {{.pages = 8, .fd = fd}, {.pages = UINT64_MAX, .fd = fd}};
-    EXPECT(WARM_BAD_REPLICA, warm_open(&handle, 0, 0, 0, large, 2));
-    EXPECT(WARM_NO_DEVICE, warm_open(&handle, 1, 0, PAGE_SIZE, large, 2));
-    EXPECT(WARM_SAME_FILE, warm_open(&handle, 1, 0, 0, twice, 2));
-    EXPECT(WARM_BAD_FRAMES, warm_open(&handle, 1, 0, 0, twice, 1));
-    EXPECT(WARM_SIZE_DIFFERS, warm_open(&handle, 1, 1, 0, twice, 1));
+    EXPECT(WARM_BAD_REPLICA, warm_open(&handle, 0, 1, 0, 0, large, 2));
+    EXPECT(WARM_NO_DEVICE, warm_open(&handle, 1, 1, 0, PAGE_SIZE, large, 2));
+    EXPECT(WARM_SAME_FILE, warm_open(&handle, 1, 1, 0, 0, twice, 2));
+    EXPECT(WARM_BAD_FRAMES, warm_open(&handle, 1, 1, 0, 0, twice, 1));
+    EXPECT(WARM_SIZE_DIFFERS, warm_open(&handle, 1, 1, 1, 0, twice, 1));
     close(fd);
 }
 
@@ -136,11 +136,11 @@ static void many_devices(void) {
     static warm_device devices[MANY + 1];
     warm handle = {0};
     for (int at = 0; at <= MANY; at++) devices[at] = (warm_device){.pages = 1, .fd = -1 - at};
-    OK(warm_open(&handle, 1, 1, PAGE_SIZE, devices, MANY));
+    OK(warm_open(&handle, 1, 1, 1, PAGE_SIZE, devices, MANY));
     warm_close(&handle);
     devices[MANY - 1].fd = devices[0].fd;
-    EXPECT(WARM_SAME_FILE, warm_open(&handle, 1, 1, PAGE_SIZE, devices, MANY));
-    EXPECT(WARM_NO_DEVICE, warm_open(&handle, 1, 1, PAGE_SIZE, devices, MANY + 1));
+    EXPECT(WARM_SAME_FILE, warm_open(&handle, 1, 1, 1, PAGE_SIZE, devices, MANY));
+    EXPECT(WARM_NO_DEVICE, warm_open(&handle, 1, 1, 1, PAGE_SIZE, devices, MANY + 1));
 }
 
 /* A sync that fails once: the system may have dropped what was written, so no later flush says that all is well. */
@@ -148,7 +148,7 @@ static void failed_sync(void) {
     int first = temporary(), second = temporary();
     const warm_device devices[] = {{.pages = 8, .fd = first}, {.pages = 8, .fd = second}};
     warm handle = {0};
-    OK(warm_open(&handle, 1, 2, PAGE_SIZE, devices, 2));
+    OK(warm_open(&handle, 1, 1, 2, PAGE_SIZE, devices, 2));
     OK(warm_write_back(&handle)); /* nothing was written, and nothing is synced */
     MUST(syncs.calls == 0);
     write_to(&handle, (warm_page){.no = 1}, 'c');
@@ -162,7 +162,7 @@ static void failed_sync(void) {
     EXPECT(WARM_FAULT, warm_replace(&handle, 0, &(warm_device){.pages = 8, .fd = -1})); /* nor is it got rid of by another file */
     warm_close(&handle);
     MUST(syncs.calls == 1);
-    OK(warm_open(&handle, 1, 2, PAGE_SIZE, devices, 2)); /* it knows nothing of what failed before */
+    OK(warm_open(&handle, 1, 1, 2, PAGE_SIZE, devices, 2)); /* it knows nothing of what failed before */
     write_to(&handle, (warm_page){.no = 1}, 'e');
     OK(warm_write_back(&handle));
     MUST(syncs.calls == 2 && byte_at(first, PAGE_SIZE) == 'e');
@@ -176,14 +176,14 @@ static void close_syncs(void) {
     int first = temporary(), second = temporary();
     const warm_device devices[] = {{.pages = 8, .fd = first}, {.pages = 8, .fd = second}};
     warm handle = {0};
-    OK(warm_open(&handle, 1, 1, PAGE_SIZE, devices, 2));
+    OK(warm_open(&handle, 1, 1, 1, PAGE_SIZE, devices, 2));
     write_to(&handle, (warm_page){.dev = 1, .no = 1}, 'f');
     syncs.calls = 0;
     MUST(read_from(&handle, (warm_page){.dev = 0, .no = 1}) == 0); /* 1:1 leaves */
     MUST(byte_at(second, PAGE_SIZE) == 'f' && syncs.calls == 0);
     warm_close(&handle);
     MUST(syncs.calls == 1 && syncs.last == second);
-    OK(warm_open(&handle, 1, 1, PAGE_SIZE, devices, 2));
+    OK(warm_open(&handle, 1, 1, 1, PAGE_SIZE, devices, 2));
     write_to(&handle, (warm_page){.dev = 1, .no = 1}, 'g');
     OK(warm_write_back(&handle));
     MUST(syncs.calls == 2);
@@ -198,7 +198,7 @@ static void replace_syncs(void) {
     int first = temporary(), second = temporary(), third = temporary();
     const warm_device devices[] = {{.pages = 8, .fd = first}, {.pages = 8, .fd = second}};
     warm handle = {0};
-    OK(warm_open(&handle, 1, 2, PAGE_SIZE, devices, 2));
+    OK(warm_open(&handle, 1, 1, 2, PAGE_SIZE, devices, 2));
     write_to(&handle, (warm_page){.dev = 0, .no = 1}, 'h');
     write_to(&handle, (warm_page){.dev = 1, .no = 1}, 'i');
     syncs.calls = 0;
@@ -241,7 +241,7 @@ static void has_no_pages(warm *handle, warm_page known) {
     OK(warm_step(handle, &found, &page));
     MUST(!found);
     found = true;
-    OK(warm_victim(handle, &found, &page));
+    OK(warm_victim(handle, 0, &found, &page));
     MUST(!found && page.no == 99 && page.dev == 9 && byte == 'h' && slot.generation == 1);
     OK(warm_write_back(handle));
 }
@@ -256,9 +256,9 @@ static void history_alone(void) {
     size_t count = 0;
     uint64_t horizon = 0;
     int fd = temporary();
-    OK(warm_open(&first, 1, 1, 1, &none, 0));
-    OK(warm_open(&second, 2, 1, 1, &none, 0));
-    OK(warm_open(&restarted, 2, 1, 1, &none, 0));
+    OK(warm_open(&first, 1, 1, 1, 1, &none, 0));
+    OK(warm_open(&second, 2, 1, 1, 1, &none, 0));
+    OK(warm_open(&restarted, 2, 1, 1, 1, &none, 0));
     OK(warm_absorb(&first, references, 3));
     tell_all(&first, &second);
     OK(warm_list(&second, listed, 4, &count));

@@ -52,7 +52,7 @@ static void pages_of(size_t page_size) {
     const warm_device device = {.pages = PAGES, .fd = direct};
     const off_t cut = (off_t)(9 * page_size + 1000);
     warm handle = {0};
-    OK(warm_open(&handle, 1, FRAMES, page_size, &device, 1));
+    OK(warm_open(&handle, 1, 1, FRAMES, page_size, &device, 1));
     for (uint8_t no = 0; no < PAGES - 1; no++) put(&handle, no, no, page_size);
     for (uint8_t no = PAGES - 1; no-- > 0;) must_have(&handle, no, no, page_size, page_size);
     must_have(&handle, PAGES - 1, 0, 0, page_size); /* past the end of the file */
@@ -61,7 +61,7 @@ static void pages_of(size_t page_size) {
     warm_close(&handle);
     /* a file that ends within a page, at no place that O_DIRECT takes */
     MUST(ftruncate(plain, cut) == 0);
-    OK(warm_open(&handle, 1, FRAMES, page_size, &device, 1));
+    OK(warm_open(&handle, 1, 1, FRAMES, page_size, &device, 1));
     must_have(&handle, 9, 9, 1000, page_size);
     must_have(&handle, 10, 0, 0, page_size);
     must_have(&handle, 8, 8, page_size, page_size);
@@ -102,11 +102,11 @@ static void memory(void) {
     const warm_device none = {0};
     const double whole = (double)MANY * UNIT;
     warm handle = {0};
-    OK(warm_open(&handle, 1, 1, UNIT, &none, 0));
+    OK(warm_open(&handle, 1, 1, 1, UNIT, &none, 0));
     warm_close(&handle);
     resident();
     double before = resident();
-    OK(warm_open(&handle, 1, MANY, UNIT, &none, 0));
+    OK(warm_open(&handle, 1, 1, MANY, UNIT, &none, 0));
     double with = (resident() - before) / whole;
     warm_close(&handle);
     double after = (resident() - before) / whole;
@@ -124,10 +124,10 @@ static void little_memory(void) {
     half = all;
     half.rlim_cur = (rlim_t)MANY * UNIT / 2;
     MUST(setrlimit(RLIMIT_AS, &half) == 0);
-    EXPECT(WARM_MEMORY, warm_open(&handle, 1, MANY, UNIT, &none, 0));
+    EXPECT(WARM_MEMORY, warm_open(&handle, 1, 1, MANY, UNIT, &none, 0));
     MUST(setrlimit(RLIMIT_AS, &all) == 0);
-    MUST(!handle.is_open && resident() - before < 0.05 * MANY * UNIT);
-    OK(warm_open(&handle, 1, MANY, UNIT, &none, 0));
+    MUST(handle.at == NULL && resident() - before < 0.05 * MANY * UNIT);
+    OK(warm_open(&handle, 1, 1, MANY, UNIT, &none, 0));
     warm_close(&handle);
 }
 

@@ -1,6 +1,6 @@
 /* What an engine does that holds the pool: it reads and writes pages where they lie, makes new ones, asks which are in memory, writes them back
  * some at a time, cuts and replaces files, sends what is new of its history, and looks at what was counted and what failed. After each refusal what
- * was there before is still there. */
+ * was there before is still there. engine SHARDS: all pages are of the last of so many shards. */
 #define _GNU_SOURCE /* mkstemp */
 #include <errno.h>
 #include <fcntl.h>
@@ -10,11 +10,23 @@
 #define PROGRAM "engine"
 #include "expect.h"
 
-enum { PAGE_SIZE = 512, MANY = 2500 };
+enum { PAGE_SIZE = 512, DEVICE_PAGES = 8 * 64, MANY = 2500 };
+
+static size_t shards;
+
+/* The pages of the last bucket, of which a device has eight. */
+static warm_page page_of(uint16_t dev, uint64_t n) { return (warm_page){.no = 64 * n + 63 - dev, .dev = dev}; }
+
+static bool is_page(warm_page page, uint16_t dev, uint64_t n) { return page.dev == dev && page.no == page_of(dev, n).no; }
+
+/* Where such a page is in its file. */
+static off_t place_of(uint16_t dev, uint64_t n) { return (off_t)(page_of(dev, n).no * PAGE_SIZE); }
+
+static warm_device device_of(int fd) { return (warm_device){.pages = DEVICE_PAGES, .fd = fd}; }
 
 static void open_two(warm *handle, size_t frames, int first, int second) {
-    const warm_device devices[] = {{.pages = 8, .fd = first}, {.pages = 8, .fd = second}};
-    OK(warm_open(handle, 1, frames, PAGE_SIZE, devices, 2));
+    const warm_device devices[] = {device_of(first), device_of(second)};
+    OK(warm_open(handle, 1, shards, frames * shards, PAGE_SIZE, devices, 2));
 }
 
 static warm_slot pinned(warm *handle, warm_page page) {
@@ -66,11 +78,11 @@ static void resident_pages(void) {
     EXPECT(WARM_CLOSED, warm_resident(&handle, (warm_page){0}, &resident));
     MUST(resident);
     open_two(&handle, 1, first, second);
-    MUST(!is_resident(&handle, (warm_page){.no = 3}));
-    MUST(read_from(&handle, (warm_page){.no = 3}) == 0);
-    MUST(is_resident(&handle, (warm_page){.no = 3}) && !is_resident(&handle, (warm_page){.no = 3, .dev = 1}));
-    MUST(read_from(&handle, (warm_page){.no = 4}) == 0);
-    MUST(is_resident(&handle, (warm_page){.no = 4}) && !is_resident(&handle, (warm_page){.no = 3}));
+    MUST(!is_resident(&handle, page_of(0, 3)));
+    MUST(read_from(&handle, page_of(0, 3)) == 0);
+    MUST(is_resident(&handle, page_of(0, 3)) && !is_resident(&handle, page_of(1, 3)));
+    MUST(read_from(&handle, page_of(0, 4)) == 0);
+    MUST(is_resident(&handle, page_of(0, 4)) && !is_resident(&handle, page_of(0, 3)));
     MUST(!is_resident(&handle, (warm_page){.no = UINT64_MAX, .dev = 65535}));
     warm_close(&handle);
     close(first);
@@ -79,19 +91,19 @@ static void resident_pages(void) {
 
 /* Each call by which other pages than 0:2 come, go and are written; device 1 gets another file. */
 static void move_other_pages(warm *handle, int file) {
-    const warm_reference seen = {.time = 1, .no = 7, .replica = 1};
+    const warm_reference seen = {.time = 1, .no = page_of(0, 7).no, .replica = 1};
     warm_page page;
     size_t left;
     bool found;
-    for (uint64_t no = 0; no < 8; no++) write_to(handle, (warm_page){.no = no, .dev = 1}, (uint8_t)no);
+    for (uint64_t no = 0; no < 8; no++) write_to(handle, page_of(1, no), (uint8_t)no);
     OK(warm_write_back_some(handle, 1, &left));
     OK(warm_absorb(handle, &seen, 1));
     OK(warm_step(handle, &found, &page));
-    MUST(found && page.no == 7 && page.dev == 0);
+    MUST(found && is_page(page, 0, 7));
     OK(warm_write_back(handle));
     OK(warm_flush(handle, 0));
-    OK(warm_forget(handle, 0, 3));
-    OK(warm_replace(handle, 1, &(warm_device){.pages = 8, .fd = file}));
+    OK(warm_forget(handle, 0, page_of(0, 3).no));
+    OK(warm_replace(handle, 1, &(warm_device){.pages = DEVICE_PAGES, .fd = file}));
 }
 
 /* The bytes of a lent page are those of the file, all of them, and stay where they are while other pages come, go and are written. */
@@ -101,13 +113,13 @@ static void lent_pages(void) {
     warm handle = {0};
     const uint8_t *bytes = whole, *again;
     for (int at = 0; at < PAGE_SIZE; at++) whole[at] = (uint8_t)(at * 7 + 1);
-    MUST(pwrite(first, whole, PAGE_SIZE, 2 * PAGE_SIZE) == PAGE_SIZE);
+    MUST(pwrite(first, whole, PAGE_SIZE, place_of(0, 2)) == PAGE_SIZE);
     EXPECT(WARM_CLOSED, warm_lend(&handle, (warm_slot){0}, &bytes));
     open_two(&handle, 2, first, second);
     EXPECT(WARM_STALE_SLOT, warm_lend(&handle, (warm_slot){0}, &bytes));
     EXPECT(WARM_STALE_SLOT, warm_lend(&handle, (warm_slot){.index = UINT32_MAX, .generation = 1}, &bytes));
     MUST(bytes == whole); /* it is as it was */
-    warm_slot slot = pinned(&handle, (warm_page){.no = 2});
+    warm_slot slot = pinned(&handle, page_of(0, 2));
     OK(warm_lend(&handle, slot, &bytes));
     MUST(bytes != whole && memcmp(bytes, whole, PAGE_SIZE) == 0);
     move_other_pages(&handle, third);
@@ -117,7 +129,7 @@ static void lent_pages(void) {
     MUST(memcmp(copy, bytes, PAGE_SIZE) == 0);
     OK(warm_write(&handle, slot, PAGE_SIZE - 1, (const uint8_t *)"!", 1));
     MUST(bytes[PAGE_SIZE - 1] == '!'); /* a write is seen */
-    warm_slot other = pinned(&handle, (warm_page){.no = 5});
+    warm_slot other = pinned(&handle, page_of(0, 5));
     OK(warm_lend(&handle, other, &again));
     MUST((uintptr_t)again >= (uintptr_t)bytes + PAGE_SIZE || (uintptr_t)again + PAGE_SIZE <= (uintptr_t)bytes);
     OK(warm_unpin(&handle, slot));
@@ -140,20 +152,20 @@ static void pages_written_in_place(void) {
     open_two(&handle, 1, first, second);
     EXPECT(WARM_STALE_SLOT, warm_lend_mut(&handle, (warm_slot){.generation = 1}, &bytes));
     MUST(bytes == &none);
-    warm_slot slot = pinned(&handle, (warm_page){.no = 2});
+    warm_slot slot = pinned(&handle, page_of(0, 2));
     OK(warm_lend_mut(&handle, slot, &bytes));
     OK(warm_lend(&handle, slot, &same));
     MUST(same == bytes);
     memset(bytes, 'p', PAGE_SIZE);
     memset(filled, 'p', PAGE_SIZE);
     OK(warm_write_back(&handle));
-    MUST(byte_at(first, 2 * PAGE_SIZE) == 'p' && byte_at(first, 3 * PAGE_SIZE - 1) == 'p');
+    MUST(byte_at(first, place_of(0, 2)) == 'p' && byte_at(first, place_of(0, 2) + PAGE_SIZE - 1) == 'p');
     OK(warm_lend_mut(&handle, slot, &again));
     MUST(again == bytes && memcmp(bytes, filled, PAGE_SIZE) == 0); /* lending changes no byte */
     bytes[PAGE_SIZE - 1] = 'q';
     OK(warm_unpin(&handle, slot));
-    MUST(read_from(&handle, (warm_page){.no = 3}) == 0); /* page 2 leaves, and is written */
-    MUST(byte_at(first, 2 * PAGE_SIZE) == 'p' && byte_at(first, 3 * PAGE_SIZE - 1) == 'q');
+    MUST(read_from(&handle, page_of(0, 3)) == 0); /* page 2 leaves, and is written */
+    MUST(byte_at(first, place_of(0, 2)) == 'p' && byte_at(first, place_of(0, 2) + PAGE_SIZE - 1) == 'q');
     EXPECT(WARM_STALE_SLOT, warm_lend_mut(&handle, slot, &bytes));
     warm_close(&handle);
     close(first);
@@ -166,29 +178,29 @@ static void zeroed_pages(void) {
     warm handle = {0};
     warm_slot slot = {.generation = 9}, other;
     uint8_t bytes[PAGE_SIZE];
-    MUST(second >= 0 && pwrite(first, "zzz", 3, PAGE_SIZE) == 3);
+    MUST(second >= 0 && pwrite(first, "zzz", 3, place_of(0, 1)) == 3);
     EXPECT(WARM_CLOSED, warm_pin_zeroed(&handle, (warm_page){0}, &slot));
     open_two(&handle, 2, first, second);
     EXPECT(WARM_NO_DEVICE, warm_pin_zeroed(&handle, (warm_page){.dev = 2}, &slot));
-    EXPECT(WARM_NO_PAGE, warm_pin_zeroed(&handle, (warm_page){.no = 8}, &slot));
+    EXPECT(WARM_NO_PAGE, warm_pin_zeroed(&handle, page_of(0, 8), &slot));
     MUST(slot.generation == 9);
-    EXPECT(WARM_READ_FAULT, warm_pin(&handle, (warm_page){.no = 1, .dev = 1}, &other));
-    OK(warm_pin_zeroed(&handle, (warm_page){.no = 1, .dev = 1}, &slot));
-    OK(warm_pin_zeroed(&handle, (warm_page){.no = 1}, &other));
+    EXPECT(WARM_READ_FAULT, warm_pin(&handle, page_of(1, 1), &other));
+    OK(warm_pin_zeroed(&handle, page_of(1, 1), &slot));
+    OK(warm_pin_zeroed(&handle, page_of(0, 1), &other));
     OK(warm_read(&handle, other, 0, bytes, PAGE_SIZE));
     for (int at = 0; at < PAGE_SIZE; at++) MUST(bytes[at] == 0);
-    EXPECT(WARM_ALL_FIXED, warm_pin_zeroed(&handle, (warm_page){.no = 2}, &slot));
+    EXPECT(WARM_ALL_FIXED, warm_pin_zeroed(&handle, page_of(0, 2), &slot));
     OK(warm_write(&handle, other, 0, (const uint8_t *)"y", 1));
-    MUST(byte_at(first, PAGE_SIZE) == 'z');
+    MUST(byte_at(first, place_of(0, 1)) == 'z');
     OK(warm_flush(&handle, 0));
-    OK(warm_pin_zeroed(&handle, (warm_page){.no = 1}, &other)); /* it is in a frame, and has one pin more */
+    OK(warm_pin_zeroed(&handle, page_of(0, 1), &other)); /* it is in a frame, and has one pin more */
     OK(warm_read(&handle, other, 0, bytes, 1));
-    MUST(bytes[0] == 0 && byte_at(first, PAGE_SIZE) == 'y');
+    MUST(bytes[0] == 0 && byte_at(first, place_of(0, 1)) == 'y');
     OK(warm_unpin(&handle, other));
     OK(warm_unpin(&handle, other));
     OK(warm_unpin(&handle, slot));
     OK(warm_flush(&handle, 0));
-    MUST(byte_at(first, PAGE_SIZE) == 0 && byte_at(first, PAGE_SIZE + 2) == 0);
+    MUST(byte_at(first, place_of(0, 1)) == 0 && byte_at(first, place_of(0, 1) + 2) == 0);
     warm_close(&handle);
     close(first);
     close(second);
@@ -197,8 +209,8 @@ static void zeroed_pages(void) {
 /* Two devices with three pages each, which are all in frames and not written back. */
 static void open_dirty(warm *handle, int first, int second) {
     open_two(handle, 8, first, second);
-    for (uint64_t no = 0; no < 3; no++) write_to(handle, (warm_page){.no = no}, 'a');
-    for (uint64_t no = 0; no < 3; no++) write_to(handle, (warm_page){.no = no, .dev = 1}, 'b');
+    for (uint64_t no = 0; no < 3; no++) write_to(handle, page_of(0, no), 'a');
+    for (uint64_t no = 0; no < 3; no++) write_to(handle, page_of(1, no), 'b');
 }
 
 /* Pages are written back some at a time, those of one device, or not at all. */
@@ -213,20 +225,20 @@ static void portions(void) {
     OK(warm_write_back_some(&handle, 0, &left));
     MUST(left == 6 && lseek(first, 0, SEEK_END) == 0);
     OK(warm_write_back_some(&handle, 2, &left));
-    MUST(left == 4 && lseek(first, 0, SEEK_END) == 2 * PAGE_SIZE && lseek(second, 0, SEEK_END) == 0);
+    MUST(left == 4 && lseek(first, 0, SEEK_END) == place_of(0, 1) + PAGE_SIZE && lseek(second, 0, SEEK_END) == 0);
     OK(warm_flush(&handle, 1));
     EXPECT(WARM_NO_DEVICE, warm_flush(&handle, 2));
-    MUST(lseek(first, 0, SEEK_END) == 2 * PAGE_SIZE && byte_at(second, 2 * PAGE_SIZE) == 'b');
+    MUST(lseek(first, 0, SEEK_END) == place_of(0, 1) + PAGE_SIZE && byte_at(second, place_of(1, 2)) == 'b');
     OK(warm_write_back_some(&handle, SIZE_MAX, &left));
-    MUST(left == 0 && byte_at(first, 2 * PAGE_SIZE) == 'a');
-    write_to(&handle, (warm_page){.no = 0}, 'd');
+    MUST(left == 0 && byte_at(first, place_of(0, 2)) == 'a');
+    write_to(&handle, page_of(0, 0), 'd');
     put_null_under(first, O_RDONLY); /* the file takes no byte for a time */
     left = 99;
     EXPECT(WARM_FAULT, warm_write_back_some(&handle, 1, &left));
     EXPECT(WARM_FAULT, warm_flush(&handle, 0));
     MUST(left == 99 && dup2(kept, first) == first);
     OK(warm_flush(&handle, 0));
-    MUST(byte_at(first, 0) == 'd');
+    MUST(byte_at(first, place_of(0, 0)) == 'd');
     warm_close(&handle);
     close(kept);
     close(first);
@@ -240,17 +252,17 @@ static void forgotten_pages(void) {
     EXPECT(WARM_CLOSED, warm_forget(&handle, 0, 0));
     open_dirty(&handle, first, second);
     OK(warm_write_back(&handle));
-    write_to(&handle, (warm_page){.no = 1}, 'c');
-    write_to(&handle, (warm_page){.no = 0}, 'd');
+    write_to(&handle, page_of(0, 1), 'c');
+    write_to(&handle, page_of(0, 0), 'd');
     EXPECT(WARM_NO_DEVICE, warm_forget(&handle, 2, 0));
-    warm_slot slot = pinned(&handle, (warm_page){.no = 2});
-    EXPECT(WARM_FIXED, warm_forget(&handle, 0, 1));
-    MUST(is_resident(&handle, (warm_page){.no = 1}));
+    warm_slot slot = pinned(&handle, page_of(0, 2));
+    EXPECT(WARM_FIXED, warm_forget(&handle, 0, page_of(0, 1).no));
+    MUST(is_resident(&handle, page_of(0, 1)));
     OK(warm_unpin(&handle, slot));
-    OK(warm_forget(&handle, 0, 1));
-    MUST(!is_resident(&handle, (warm_page){.no = 1}) && !is_resident(&handle, (warm_page){.no = 2}));
-    MUST(is_resident(&handle, (warm_page){.no = 0}) && is_resident(&handle, (warm_page){.no = 2, .dev = 1}));
-    MUST(read_from(&handle, (warm_page){.no = 1}) == 'a' && read_from(&handle, (warm_page){.no = 0}) == 'd');
+    OK(warm_forget(&handle, 0, page_of(0, 1).no));
+    MUST(!is_resident(&handle, page_of(0, 1)) && !is_resident(&handle, page_of(0, 2)));
+    MUST(is_resident(&handle, page_of(0, 0)) && is_resident(&handle, page_of(1, 2)));
+    MUST(read_from(&handle, page_of(0, 1)) == 'a' && read_from(&handle, page_of(0, 0)) == 'd');
     warm_close(&handle);
     close(first);
     close(second);
@@ -258,9 +270,9 @@ static void forgotten_pages(void) {
 
 /* A file takes the place of another: what was written to the old one is there and synced, and the history is kept. */
 static void replaced_file(void) {
-    const warm_reference seen = {.time = 1, .no = 1, .dev = 1, .replica = 1};
+    const warm_reference seen = {.time = 1, .no = page_of(1, 1).no, .dev = 1, .replica = 1};
     int first = temporary(), second = temporary(), third = temporary();
-    const warm_device in_place = {.pages = 4, .fd = third}, none = {.pages = 0, .fd = -2};
+    const warm_device in_place = {.pages = DEVICE_PAGES / 2, .fd = third}, none = {.pages = 0, .fd = -2};
     warm_slot slot;
     warm_page page;
     size_t known;
@@ -268,27 +280,27 @@ static void replaced_file(void) {
     warm handle = {0};
     EXPECT(WARM_CLOSED, warm_replace(&handle, 1, &in_place));
     open_two(&handle, 4, first, second);
-    MUST(pwrite(third, "t", 1, PAGE_SIZE) == 1);
+    MUST(pwrite(third, "t", 1, place_of(1, 1)) == 1);
     OK(warm_absorb(&handle, &seen, 1));
-    write_to(&handle, (warm_page){.no = 1, .dev = 0}, 'f');
-    write_to(&handle, (warm_page){.no = 1, .dev = 1}, 's');
+    write_to(&handle, page_of(0, 1), 'f');
+    write_to(&handle, page_of(1, 1), 's');
     OK(warm_replace(&handle, 1, &in_place));
-    MUST(byte_at(second, PAGE_SIZE) == 's' && lseek(first, 0, SEEK_END) == 0); /* the other device's page still waits */
-    MUST(!is_resident(&handle, (warm_page){.no = 1, .dev = 1}) && is_resident(&handle, (warm_page){.no = 1, .dev = 0}));
+    MUST(byte_at(second, place_of(1, 1)) == 's' && lseek(first, 0, SEEK_END) == 0); /* the other device's page still waits */
+    MUST(!is_resident(&handle, page_of(1, 1)) && is_resident(&handle, page_of(0, 1)));
     OK(warm_history_length(&handle, &known));
     OK(warm_step(&handle, &found, &page));
-    MUST(known == 1 && found && page.no == 1 && page.dev == 1); /* it is warmed up from the new file */
-    MUST(read_from(&handle, (warm_page){.no = 1, .dev = 1}) == 't' && read_from(&handle, (warm_page){.no = 1, .dev = 0}) == 'f');
-    EXPECT(WARM_NO_PAGE, warm_pin(&handle, (warm_page){.no = 4, .dev = 1}, &slot));
-    write_to(&handle, (warm_page){.no = 1, .dev = 1}, 'u');
+    MUST(known == 1 && found && is_page(page, 1, 1)); /* it is warmed up from the new file */
+    MUST(read_from(&handle, page_of(1, 1)) == 't' && read_from(&handle, page_of(0, 1)) == 'f');
+    EXPECT(WARM_NO_PAGE, warm_pin(&handle, page_of(1, 4), &slot));
+    write_to(&handle, page_of(1, 1), 'u');
     OK(warm_replace(&handle, 1, &none)); /* no file for now */
-    MUST(byte_at(third, PAGE_SIZE) == 'u');
-    EXPECT(WARM_NO_PAGE, warm_pin(&handle, (warm_page){.no = 1, .dev = 1}, &slot));
-    OK(warm_replace(&handle, 1, &(warm_device){.pages = 8, .fd = second}));
-    MUST(read_from(&handle, (warm_page){.no = 1, .dev = 1}) == 's');
-    OK(warm_replace(&handle, 1, &(warm_device){.pages = 9, .fd = second})); /* the same file, which may have more pages now */
-    OK(warm_replace(&handle, 0, &(warm_device){.pages = 8, .fd = third}));  /* a file that no device has any more */
-    MUST(byte_at(first, PAGE_SIZE) == 'f' && read_from(&handle, (warm_page){.no = 1}) == 'u');
+    MUST(byte_at(third, place_of(1, 1)) == 'u');
+    EXPECT(WARM_NO_PAGE, warm_pin(&handle, page_of(1, 1), &slot));
+    OK(warm_replace(&handle, 1, &(warm_device){.pages = DEVICE_PAGES, .fd = second}));
+    MUST(read_from(&handle, page_of(1, 1)) == 's');
+    OK(warm_replace(&handle, 1, &(warm_device){.pages = DEVICE_PAGES + 1, .fd = second})); /* the same file, which may have more pages now */
+    OK(warm_replace(&handle, 0, &(warm_device){.pages = DEVICE_PAGES, .fd = third}));  /* a file that no device has any more */
+    MUST(byte_at(first, place_of(0, 1)) == 'f' && read_from(&handle, (warm_page){.no = page_of(1, 1).no}) == 'u');
     OK(warm_write_back(&handle));
     warm_close(&handle);
     close(first);
@@ -299,26 +311,26 @@ static void replaced_file(void) {
 /* The device stays, with its pages, where it is not replaced. */
 static void not_replaced(void) {
     int first = temporary(), second = temporary(), third = temporary(), copy = dup(first);
-    const warm_device in_place = {.pages = 8, .fd = third}, large = {.pages = UINT64_MAX / PAGE_SIZE, .fd = first};
+    const warm_device in_place = {.pages = DEVICE_PAGES, .fd = third}, large = {.pages = UINT64_MAX / PAGE_SIZE, .fd = first};
     warm handle = {0};
     open_two(&handle, 2, first, second);
-    write_to(&handle, (warm_page){.no = 1, .dev = 1}, 'a');
-    EXPECT(WARM_NO_DEVICE, warm_replace(&handle, 2, &(warm_device){.pages = 8, .fd = first}));
+    write_to(&handle, page_of(1, 1), 'a');
+    EXPECT(WARM_NO_DEVICE, warm_replace(&handle, 2, &(warm_device){.pages = DEVICE_PAGES, .fd = first}));
     EXPECT(WARM_NO_DEVICE, warm_replace(&handle, 65535, &in_place));
-    warm_slot slot = pinned(&handle, (warm_page){.no = 1, .dev = 1});
+    warm_slot slot = pinned(&handle, page_of(1, 1));
     EXPECT(WARM_NO_DEVICE, warm_replace(&handle, 1, &large)); /* it is too large, of the other's file, and a page is pinned */
-    EXPECT(WARM_SAME_FILE, warm_replace(&handle, 1, &(warm_device){.pages = 8, .fd = first}));
-    EXPECT(WARM_SAME_FILE, warm_replace(&handle, 1, &(warm_device){.pages = 8, .fd = copy}));
+    EXPECT(WARM_SAME_FILE, warm_replace(&handle, 1, &(warm_device){.pages = DEVICE_PAGES, .fd = first}));
+    EXPECT(WARM_SAME_FILE, warm_replace(&handle, 1, &(warm_device){.pages = DEVICE_PAGES, .fd = copy}));
     EXPECT(WARM_FIXED, warm_replace(&handle, 1, &in_place));
-    OK(warm_replace(&handle, 0, &(warm_device){.pages = 8, .fd = copy})); /* no page of this one is pinned */
+    OK(warm_replace(&handle, 0, &(warm_device){.pages = DEVICE_PAGES, .fd = copy})); /* no page of this one is pinned */
     OK(warm_unpin(&handle, slot));
     int kept = dup(second);
     put_null_under(second, O_RDONLY); /* the file takes no byte for a time */
     EXPECT(WARM_FAULT, warm_replace(&handle, 1, &in_place));
-    MUST(read_from(&handle, (warm_page){.no = 1, .dev = 1}) == 'a');
+    MUST(read_from(&handle, page_of(1, 1)) == 'a');
     MUST(dup2(kept, second) == second);
     OK(warm_replace(&handle, 1, &in_place));
-    MUST(byte_at(kept, PAGE_SIZE) == 'a' && read_from(&handle, (warm_page){.no = 1, .dev = 1}) == 0);
+    MUST(byte_at(kept, place_of(1, 1)) == 'a' && read_from(&handle, page_of(1, 1)) == 0);
     warm_close(&handle);
     close(kept);
     close(copy);
@@ -352,7 +364,7 @@ static size_t sent_since(warm *from, uint64_t since, warm *to) {
 
 static void open_history(warm *handle, uint16_t replica) {
     const warm_device none = {0};
-    OK(warm_open(handle, replica, 1, 1, &none, 0));
+    OK(warm_open(handle, replica, shards, shards, 1, &none, 0));
 }
 
 /* More entries than a frame has, of one bucket; those since a time; and none. */
@@ -435,7 +447,7 @@ static void counts_refused(void) {
 
 /* Each pin, eviction and write of a sequence through one frame is counted, and so is what each device was asked for. */
 static void counted_calls(void) {
-    const warm_reference seen = {.time = 1, .no = 5, .dev = 1, .replica = 1};
+    const warm_reference seen = {.time = 1, .no = page_of(1, 5).no, .dev = 1, .replica = 1};
     int first = temporary(), second = temporary();
     warm handle = {0};
     warm_slot slot;
@@ -443,20 +455,20 @@ static void counted_calls(void) {
     bool found;
     open_two(&handle, 1, first, second);
     MUST(has_counted(&handle, (warm_counters){0}) && device_has_counted(&handle, 1, (warm_device_counters){0}));
-    write_to(&handle, (warm_page){.no = 1}, 'a');
+    write_to(&handle, page_of(0, 1), 'a');
     MUST(has_counted(&handle, (warm_counters){.misses = 1, .resident = 1, .dirty = 1}));
-    MUST(read_from(&handle, (warm_page){.no = 1}) == 'a');
-    MUST(read_from(&handle, (warm_page){.no = 3, .dev = 1}) == 0); /* 0:1 leaves, and is written */
+    MUST(read_from(&handle, page_of(0, 1)) == 'a');
+    MUST(read_from(&handle, page_of(1, 3)) == 0); /* 0:1 leaves, and is written */
     MUST(has_counted(&handle, (warm_counters){.hits = 1, .misses = 2, .evictions = 1, .written_back = 1, .resident = 1}));
     MUST(device_has_counted(&handle, 0, (warm_device_counters){.reads = 1, .writes = 1}));
-    OK(warm_pin_zeroed(&handle, (warm_page){.no = 2}, &slot)); /* a miss that reads nothing */
+    OK(warm_pin_zeroed(&handle, page_of(0, 2), &slot)); /* a miss that reads nothing */
     OK(warm_unpin(&handle, slot));
     OK(warm_write_back(&handle));
     MUST(device_has_counted(&handle, 0, (warm_device_counters){.reads = 1, .writes = 2, .flushes = 1}));
     OK(warm_absorb(&handle, &seen, 1));
     OK(warm_step(&handle, &found, &page)); /* 1:5 comes in place of 0:2, which is no miss */
-    EXPECT(WARM_NO_PAGE, warm_pin(&handle, (warm_page){.no = 8}, &slot));
-    MUST(found && page.no == 5 && page.dev == 1);
+    EXPECT(WARM_NO_PAGE, warm_pin(&handle, page_of(0, 8), &slot));
+    MUST(found && is_page(page, 1, 5));
     MUST(has_counted(&handle, (warm_counters){.hits = 1, .misses = 3, .evictions = 3, .written_back = 2, .resident = 1}));
     OK(warm_forget(&handle, 1, 0)); /* which is no eviction for another page */
     MUST(has_counted(&handle, (warm_counters){.hits = 1, .misses = 3, .evictions = 3, .written_back = 2}));
@@ -496,10 +508,10 @@ static void counted_changes(void) {
     OK(warm_flush(&handle, 0));
     MUST(has_counted(&handle, (warm_counters){.misses = 6, .written_back = 3, .resident = 6, .dirty = 3}));
     MUST(device_has_counted(&handle, 0, (warm_device_counters){.reads = 3, .writes = 3, .flushes = 1}));
-    OK(warm_replace(&handle, 1, &(warm_device){.pages = 8, .fd = third}));
+    OK(warm_replace(&handle, 1, &(warm_device){.pages = DEVICE_PAGES, .fd = third}));
     MUST(has_counted(&handle, (warm_counters){.misses = 6, .written_back = 6, .resident = 3}));
-    OK(warm_forget(&handle, 0, 2));
-    OK(warm_pin_zeroed(&handle, (warm_page){.no = 0}, &slot));
+    OK(warm_forget(&handle, 0, page_of(0, 2).no));
+    OK(warm_pin_zeroed(&handle, page_of(0, 0), &slot));
     MUST(has_counted(&handle, (warm_counters){.hits = 1, .misses = 6, .written_back = 6, .resident = 2, .dirty = 1}));
     MUST(device_has_counted(&handle, 0, (warm_device_counters){.reads = 3, .writes = 3, .flushes = 1}));
     warm_close(&handle);
@@ -515,15 +527,15 @@ static void failed_calls(void) {
     warm_slot slot;
     open_two(&handle, 1, first, second);
     put_null_under(first, O_WRONLY);
-    EXPECT(WARM_READ_FAULT, warm_pin(&handle, (warm_page){.no = 5}, &slot));
-    MUST(failed_last(&handle, (warm_failure){.no = 5, .dev = 0, .what = WARM_FAILED_READ, .error = EBADF}));
+    EXPECT(WARM_READ_FAULT, warm_pin(&handle, page_of(0, 5), &slot));
+    MUST(failed_last(&handle, (warm_failure){.no = page_of(0, 5).no, .dev = 0, .what = WARM_FAILED_READ, .error = EBADF}));
     MUST(device_has_counted(&handle, 0, (warm_device_counters){.reads = 1, .failures = 1}) && dup2(kept, first) == first);
-    write_to(&handle, (warm_page){.no = 2, .dev = 1}, 'b');
+    write_to(&handle, page_of(1, 2), 'b');
     EXPECT(WARM_FAULT, flush_at_limit(&handle));
-    MUST(failed_last(&handle, (warm_failure){.no = 2, .dev = 1, .what = WARM_FAILED_WRITE, .error = EFBIG}));
+    MUST(failed_last(&handle, (warm_failure){.no = page_of(1, 2).no, .dev = 1, .what = WARM_FAILED_WRITE, .error = EFBIG}));
     put_null_under(second, O_RDONLY);
-    EXPECT(WARM_WRITE_BACK, warm_pin(&handle, (warm_page){.no = 3}, &slot)); /* 0:3 is read, and 1:2 not written */
-    MUST(failed_last(&handle, (warm_failure){.no = 2, .dev = 1, .what = WARM_FAILED_WRITE, .error = EBADF}));
+    EXPECT(WARM_WRITE_BACK, warm_pin(&handle, page_of(0, 3), &slot)); /* 0:3 is read, and 1:2 not written */
+    MUST(failed_last(&handle, (warm_failure){.no = page_of(1, 2).no, .dev = 1, .what = WARM_FAILED_WRITE, .error = EBADF}));
     MUST(device_has_counted(&handle, 0, (warm_device_counters){.reads = 2, .failures = 1}));
     MUST(device_has_counted(&handle, 1, (warm_device_counters){.reads = 1, .writes = 2, .failures = 2}));
     MUST(has_counted(&handle, (warm_counters){.misses = 1, .resident = 1, .dirty = 1}));
@@ -531,8 +543,8 @@ static void failed_calls(void) {
     EXPECT(WARM_FAULT, warm_flush(&handle, 1));
     MUST(failed_last(&handle, (warm_failure){.no = 0, .dev = 1, .what = WARM_FAILED_FLUSH, .error = EINVAL}));
     put_null_under(second, O_WRONLY);
-    EXPECT(WARM_READ_FAULT, warm_pin(&handle, (warm_page){.no = 6, .dev = 1}, &slot));
-    MUST(failed_last(&handle, (warm_failure){.no = 6, .dev = 1, .what = WARM_FAILED_READ, .error = EBADF}));
+    EXPECT(WARM_READ_FAULT, warm_pin(&handle, page_of(1, 6), &slot));
+    MUST(failed_last(&handle, (warm_failure){.no = page_of(1, 6).no, .dev = 1, .what = WARM_FAILED_READ, .error = EBADF}));
     EXPECT(WARM_FAULT, warm_flush(&handle, 1)); /* since one failed before, with the errno of that one */
     MUST(failed_last(&handle, (warm_failure){.no = 0, .dev = 1, .what = WARM_FAILED_FLUSH, .error = EINVAL}));
     MUST(device_has_counted(&handle, 1, (warm_device_counters){.reads = 2, .writes = 3, .flushes = 2, .failures = 5}));
@@ -559,21 +571,21 @@ static void remembered_failure(void) {
     warm_slot slot;
     open_two(&handle, 1, first, second);
     OK(warm_before_write(first, not_yet, NULL));
-    write_to(&handle, (warm_page){.no = 1}, 'c');
+    write_to(&handle, page_of(0, 1), 'c');
     EXPECT(WARM_FAULT, warm_write_back(&handle));
-    MUST(failed_last(&handle, (warm_failure){.no = 1, .dev = 0, .what = WARM_FAILED_WRITE, .error = EAGAIN}));
+    MUST(failed_last(&handle, (warm_failure){.no = page_of(0, 1).no, .dev = 0, .what = WARM_FAILED_WRITE, .error = EAGAIN}));
     OK(warm_before_write(first, NULL, NULL));
     OK(warm_write_back(&handle));
     EXPECT(WARM_DUMP_NOT_WRITTEN, warm_save(&handle, -1)); /* its file is no device */
-    MUST(failed_last(&handle, (warm_failure){.no = 1, .dev = 0, .what = WARM_FAILED_WRITE, .error = EAGAIN}));
+    MUST(failed_last(&handle, (warm_failure){.no = page_of(0, 1).no, .dev = 0, .what = WARM_FAILED_WRITE, .error = EAGAIN}));
     MUST(device_has_counted(&handle, 0, (warm_device_counters){.reads = 1, .writes = 2, .flushes = 1, .failures = 1}));
     put_null_under(first, O_WRONLY);
-    EXPECT(WARM_READ_FAULT, warm_pin(&handle, (warm_page){.no = 7}, &slot));
+    EXPECT(WARM_READ_FAULT, warm_pin(&handle, page_of(0, 7), &slot));
     MUST(dup2(kept, first) == first);
-    OK(warm_replace(&handle, 1, &(warm_device){.pages = 8, .fd = third})); /* another device */
-    MUST(failed_last(&handle, (warm_failure){.no = 7, .dev = 0, .what = WARM_FAILED_READ, .error = EBADF}));
-    OK(warm_replace(&handle, 0, &(warm_device){.pages = 8, .fd = second}));
-    MUST(failed_last(&handle, (warm_failure){.no = 7, .dev = 0, .what = WARM_FAILED_READ, .error = 0}));
+    OK(warm_replace(&handle, 1, &(warm_device){.pages = DEVICE_PAGES, .fd = third})); /* another device */
+    MUST(failed_last(&handle, (warm_failure){.no = page_of(0, 7).no, .dev = 0, .what = WARM_FAILED_READ, .error = EBADF}));
+    OK(warm_replace(&handle, 0, &(warm_device){.pages = DEVICE_PAGES, .fd = second}));
+    MUST(failed_last(&handle, (warm_failure){.no = page_of(0, 7).no, .dev = 0, .what = WARM_FAILED_READ, .error = 0}));
     MUST(device_has_counted(&handle, 0, (warm_device_counters){0}));
     warm_close(&handle);
     close(kept);
@@ -582,7 +594,9 @@ static void remembered_failure(void) {
     close(third);
 }
 
-int main(void) {
+int main(int count, char **words) {
+    MUST(count == 2);
+    shards = strtoul(words[1], NULL, 10);
     resident_pages();
     lent_pages();
     pages_written_in_place();

@@ -72,7 +72,7 @@ static void never_lets_go(void) {
     warm_page page = {.no = 77};
     bool found = false;
     OK(warm_before_write(fd, ask_gate, &log));
-    OK(warm_open(&handle, 1, 2, PAGE_SIZE, &device, 1));
+    OK(warm_open(&handle, 1, 1, 2, PAGE_SIZE, &device, 1));
     OK(status_of_write(&handle, (warm_page){.no = 0}, 'a'));
     OK(status_of_write(&handle, (warm_page){.no = 1}, 'b'));
     OK(warm_absorb(&handle, &hot, 1));
@@ -102,7 +102,7 @@ static void two_descriptors(void) {
     const warm_device devices[] = {{.pages = PAGES, .fd = fds[0]}, {.pages = PAGES, .fd = fds[1]}};
     gate logs[] = {{.answer = 0}, {.answer = 1}};
     warm handle = {0};
-    OK(warm_open(&handle, 1, 4, PAGE_SIZE, devices, 2));
+    OK(warm_open(&handle, 1, 1, 4, PAGE_SIZE, devices, 2));
     for (int dev = 0; dev < 2; dev++) OK(warm_before_write(fds[dev], ask_gate, &logs[dev]));
     OK(status_of_write(&handle, (warm_page){.no = 3, .dev = 0}, 'e'));
     OK(status_of_write(&handle, (warm_page){.no = 5, .dev = 1}, 'f'));
@@ -129,7 +129,7 @@ static void reused_number(void) {
     int again = temporary();
     const warm_device device = {.pages = PAGES, .fd = again};
     MUST(again == fd);
-    OK(warm_open(&handle, 1, 1, PAGE_SIZE, &device, 1));
+    OK(warm_open(&handle, 1, 1, 1, PAGE_SIZE, &device, 1));
     OK(status_of_write(&handle, (warm_page){.no = 0}, 'g'));
     OK(warm_write_back(&handle));
     MUST(log.calls == 0 && byte_in(again, 0) == 'g');
@@ -144,7 +144,7 @@ static void asked_for_dump(void) {
     const warm_reference reference = {.time = 1, .no = 7, .replica = 1};
     gate log = {.answer = 1};
     warm handle = {0};
-    OK(warm_open(&handle, 1, 1, 1, &none, 0));
+    OK(warm_open(&handle, 1, 1, 1, 1, &none, 0));
     OK(warm_absorb(&handle, &reference, 1));
     OK(warm_before_write(fd, ask_gate, &log));
     EXPECT(WARM_DUMP_NOT_WRITTEN, warm_save(&handle, fd));
@@ -180,8 +180,8 @@ static void other_handle(void) {
     log_pool log = {.fd = temporary(), .data = temporary()};
     const warm_device log_device = {.pages = PAGES, .fd = log.fd}, device = {.pages = PAGES, .fd = log.data};
     warm handle = {0};
-    OK(warm_open(&log.handle, 1, 2, PAGE_SIZE, &log_device, 1));
-    OK(warm_open(&handle, 1, 2, PAGE_SIZE, &device, 1));
+    OK(warm_open(&log.handle, 1, 1, 2, PAGE_SIZE, &log_device, 1));
+    OK(warm_open(&handle, 1, 1, 2, PAGE_SIZE, &device, 1));
     OK(warm_before_write(log.data, log_by_handle, &log));
     for (uint64_t no = 0; no < 10; no++) OK(status_of_write(&handle, (warm_page){.no = no}, (uint8_t)('a' + no)));
     MUST(log.next == 8); /* two are still in frames */
@@ -250,7 +250,7 @@ static void change_pages(int fd, int log, uint64_t version, unsigned seed) {
     alarm(MOST_SECONDS);
     srand(seed);
     OK(warm_before_write(fd, after_log, &it));
-    OK(warm_open(&handle, 1, 4, PAGE_SIZE, &device, 1));
+    OK(warm_open(&handle, 1, 1, 4, PAGE_SIZE, &device, 1));
     for (;;) {
         record change = {.version = ++version, .no = (uint64_t)rand() % PAGES};
         change_page(&it, &handle, change);

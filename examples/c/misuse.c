@@ -1,6 +1,6 @@
 /* What is refused, and by which status: closed handles, stale slots, short buffers, damaged frames and dumps, bad descriptors, full disks. After each
- * refusal what was there before is still there. Prints each refused call with the name of its status. misuse [FOLDER], where FOLDER is one on
- * an empty disk of four blocks of 4,096 bytes. */
+ * refusal what was there before is still there. Prints each refused call with the name of its status. misuse SHARDS [FOLDER]: a replica has so
+ * many shards, and its pages are of the last one; FOLDER is one on an empty disk of four blocks of 4,096 bytes. */
 #define _GNU_SOURCE
 #include <fcntl.h>
 #include <signal.h>
@@ -14,17 +14,27 @@
 #define PROGRAM "misuse"
 #include "expect.h"
 
-enum { PAGE_SIZE = 512 };
+enum { PAGE_SIZE = 512, DEVICE_PAGES = 8 * 64 };
+
+static size_t shards;
+
+/* The number of a page of the last bucket, of which the device has eight. */
+static uint64_t number_of(uint64_t n) { return 64 * n + 63; }
+
+static warm_page page_of(uint64_t n) { return (warm_page){.no = number_of(n)}; }
+
+/* Where such a page is in its file. */
+static off_t place_of(uint64_t n) { return (off_t)(number_of(n) * PAGE_SIZE); }
 
 static void open_over(warm *handle, int fd, size_t frames) {
-    warm_device device = {.pages = 8, .fd = fd};
-    OK(warm_open(handle, 1, frames, PAGE_SIZE, &device, 1));
+    warm_device device = {.pages = DEVICE_PAGES, .fd = fd};
+    OK(warm_open(handle, 1, shards, frames * shards, PAGE_SIZE, &device, 1));
 }
 
 /* Page 1 gets a byte at its start. */
 static void write_one(warm *handle, uint8_t byte) {
     warm_slot slot;
-    OK(warm_pin(handle, (warm_page){.no = 1}, &slot));
+    OK(warm_pin(handle, page_of(1), &slot));
     OK(warm_write(handle, slot, 0, &byte, 1));
     OK(warm_unpin(handle, slot));
 }
@@ -32,18 +42,19 @@ static void write_one(warm *handle, uint8_t byte) {
 static uint8_t read_one(warm *handle) {
     warm_slot slot;
     uint8_t byte;
-    OK(warm_pin(handle, (warm_page){.no = 1}, &slot));
+    OK(warm_pin(handle, page_of(1), &slot));
     OK(warm_read(handle, slot, 0, &byte, 1));
     OK(warm_unpin(handle, slot));
     return byte;
 }
 
 static void closed_handle(void) {
-    warm handle = {0};
+    warm handle = {0}, attached = {0};
     warm_slot slot = {0};
     warm_page page = {0};
     warm_reference reference = {.time = 1, .replica = 1};
     uint8_t byte = 0;
+    const uint8_t *lent = &byte;
     bool found;
     size_t length;
     uint64_t horizon;
@@ -52,7 +63,11 @@ static void closed_handle(void) {
     EXPECT(WARM_CLOSED, warm_unpin(&handle, slot));
     EXPECT(WARM_CLOSED, warm_read(&handle, slot, 0, &byte, 1));
     EXPECT(WARM_CLOSED, warm_write(&handle, slot, 0, &byte, 1));
-    EXPECT(WARM_CLOSED, warm_victim(&handle, &found, &page));
+    EXPECT(WARM_CLOSED, warm_pin_lend(&handle, page, &slot, &lent));
+    EXPECT(WARM_CLOSED, warm_thread(&handle, &attached));
+    EXPECT(WARM_CLOSED, warm_thread(&handle, &handle));
+    MUST(attached.at == NULL && lent == &byte);
+    EXPECT(WARM_CLOSED, warm_victim(&handle, 0, &found, &page));
     EXPECT(WARM_CLOSED, warm_list(&handle, &page, 1, &length));
     EXPECT(WARM_CLOSED, warm_step(&handle, &found, &page));
     EXPECT(WARM_CLOSED, warm_offer(&handle, &byte, 1, &length));
@@ -65,29 +80,36 @@ static void closed_handle(void) {
     EXPECT(WARM_CLOSED, warm_history_length(&handle, &length));
     EXPECT(WARM_CLOSED, warm_save(&handle, STDOUT_FILENO));
     EXPECT(WARM_CLOSED, warm_load(&handle, STDIN_FILENO, 1));
-    warm_close(&handle);
-    warm_close(&handle);
+    OK(warm_close(&handle));
+    OK(warm_close(&handle));
 }
 
 static void opening(void) {
     int fd = temporary();
-    warm_device device = {.pages = 8, .fd = fd}, too_large = {.pages = UINT64_MAX / PAGE_SIZE, .fd = fd};
+    warm_device device = {.pages = DEVICE_PAGES, .fd = fd}, too_large = {.pages = UINT64_MAX / PAGE_SIZE, .fd = fd};
     warm handle = {0};
-    EXPECT(WARM_BAD_REPLICA, warm_open(&handle, 0, 1, PAGE_SIZE, &device, 1));
-    EXPECT(WARM_BAD_REPLICA, warm_open(&handle, 65, 1, PAGE_SIZE, &device, 1));
-    EXPECT(WARM_BAD_FRAMES, warm_open(&handle, 1, 0, PAGE_SIZE, &device, 1));
-    EXPECT(WARM_BAD_FRAMES, warm_open(&handle, 1, 65537, PAGE_SIZE, &device, 1));
-    EXPECT(WARM_SIZE_DIFFERS, warm_open(&handle, 1, 1, 0, &device, 1));
-    EXPECT(WARM_SIZE_DIFFERS, warm_open(&handle, 1, 1, 65537, &device, 1));
-    EXPECT(WARM_NO_DEVICE, warm_open(&handle, 1, 1, PAGE_SIZE, &too_large, 1));
-    MUST(!handle.is_open);
-    OK(warm_open(&handle, 1, 2, PAGE_SIZE, &device, 1));
+    EXPECT(WARM_BAD_SHARDS, warm_open(&handle, 1, 0, 64, PAGE_SIZE, &device, 1));
+    EXPECT(WARM_BAD_SHARDS, warm_open(&handle, 1, 3, 3, PAGE_SIZE, &device, 1));
+    EXPECT(WARM_BAD_SHARDS, warm_open(&handle, 1, 63, 63, PAGE_SIZE, &device, 1));
+    EXPECT(WARM_BAD_SHARDS, warm_open(&handle, 1, 128, 128, PAGE_SIZE, &device, 1));
+    EXPECT(WARM_BAD_SHARDS, warm_open(&handle, 0, SIZE_MAX, 1, 0, &device, 1)); /* which is checked first */
+    EXPECT(WARM_UNEVEN_FRAMES, warm_open(&handle, 0, 2, 3, 0, &device, 1));
+    EXPECT(WARM_UNEVEN_FRAMES, warm_open(&handle, 1, 64, 63, PAGE_SIZE, &device, 1));
+    EXPECT(WARM_BAD_REPLICA, warm_open(&handle, 0, shards, shards, PAGE_SIZE, &device, 1));
+    EXPECT(WARM_BAD_REPLICA, warm_open(&handle, 65, shards, shards, PAGE_SIZE, &device, 1));
+    EXPECT(WARM_BAD_FRAMES, warm_open(&handle, 1, shards, 0, PAGE_SIZE, &device, 1));
+    EXPECT(WARM_BAD_FRAMES, warm_open(&handle, 1, shards, 65537 * shards, PAGE_SIZE, &device, 1));
+    EXPECT(WARM_SIZE_DIFFERS, warm_open(&handle, 1, shards, shards, 0, &device, 1));
+    EXPECT(WARM_SIZE_DIFFERS, warm_open(&handle, 1, shards, shards, 65537, &device, 1));
+    EXPECT(WARM_NO_DEVICE, warm_open(&handle, 1, shards, shards, PAGE_SIZE, &too_large, 1));
+    MUST(handle.at == NULL);
+    OK(warm_open(&handle, 1, shards, 2 * shards, PAGE_SIZE, &device, 1));
     write_one(&handle, 'a');
-    EXPECT(WARM_ALREADY_OPEN, warm_open(&handle, 1, 2, PAGE_SIZE, &device, 1));
+    EXPECT(WARM_ALREADY_OPEN, warm_open(&handle, 1, shards, 2 * shards, PAGE_SIZE, &device, 1));
     MUST(read_one(&handle) == 'a'); /* the second open took nothing from the first */
     warm_close(&handle);
-    MUST(!handle.is_open);
-    OK(warm_open(&handle, 1, 1, PAGE_SIZE, &device, 0)); /* a node without a device: a history alone */
+    MUST(handle.at == NULL);
+    OK(warm_open(&handle, 1, shards, shards, PAGE_SIZE, &device, 0)); /* a node without a device: a history alone */
     warm_slot slot;
     EXPECT(WARM_NO_DEVICE, warm_pin(&handle, (warm_page){0}, &slot));
     OK(warm_write_back(&handle));
@@ -106,37 +128,44 @@ static uint8_t found_by(int call(warm *, bool *, warm_page *), warm *handle, war
     return byte;
 }
 
+static int victim_of_last(warm *handle, bool *found, warm_page *page) { return warm_victim(handle, shards - 1, found, page); }
+
 static void found_pages(void) {
-    static const warm_reference seen[] = {{.time = 20, .no = 5, .replica = 1}, {.time = 10, .no = 3, .replica = 1}};
+    const warm_reference seen[] = {{.time = 20, .no = number_of(5), .replica = 1}, {.time = 10, .no = number_of(3), .replica = 1}};
     int fd = temporary();
     warm handle = {0};
     warm_page page;
     warm_slot slot;
     open_over(&handle, fd, 2);
-    MUST(found_by(warm_victim, &handle, &page) == 0); /* no page is in a frame */
+    MUST(found_by(victim_of_last, &handle, &page) == 0); /* no page is in a frame */
     MUST(found_by(warm_step, &handle, &page) == 0);   /* none is known */
     OK(warm_absorb(&handle, seen, 2));
-    MUST(found_by(warm_step, &handle, &page) == 1 && page.no == 5 && page.dev == 0); /* the hottest first */
-    MUST(found_by(warm_step, &handle, &page) == 1 && page.no == 3 && page.dev == 0);
+    MUST(found_by(warm_step, &handle, &page) == 1 && page.no == number_of(5) && page.dev == 0); /* the hottest first */
+    MUST(found_by(warm_step, &handle, &page) == 1 && page.no == number_of(3) && page.dev == 0);
     MUST(found_by(warm_step, &handle, &page) == 0);
-    MUST(found_by(warm_victim, &handle, &page) == 1 && page.no == 3 && page.dev == 0); /* of two pages that were referenced once, the older */
-    OK(warm_pin(&handle, (warm_page){.no = 3}, &slot));
-    MUST(found_by(warm_victim, &handle, &page) == 1 && page.no == 5);
-    OK(warm_pin(&handle, (warm_page){.no = 5}, &slot));
-    MUST(found_by(warm_victim, &handle, &page) == 0); /* all are pinned */
+    MUST(found_by(victim_of_last, &handle, &page) == 1 && page.no == number_of(3) && page.dev == 0); /* of two pages that were referenced once, the older */
+    OK(warm_pin(&handle, page_of(3), &slot));
+    MUST(found_by(victim_of_last, &handle, &page) == 1 && page.no == number_of(5));
+    OK(warm_pin(&handle, page_of(5), &slot));
+    MUST(found_by(victim_of_last, &handle, &page) == 0); /* all are pinned */
+    bool found = true;
+    EXPECT(WARM_NO_SHARD, warm_victim(&handle, shards, &found, &page));
+    EXPECT(WARM_NO_SHARD, warm_victim(&handle, SIZE_MAX, &found, &page));
+    MUST(found);
     warm_close(&handle);
     close(fd);
 }
 
 /* Slots of a handle that was closed since mean nothing to it once it is open again, nor do slots that no call wrote. */
 static void slots_of_before(void) {
-    static const warm_slot made_up[] = {{0, 0}, {1, 0}, {UINT64_MAX, 0}, {1, 2}, {1, UINT32_MAX}};
+    const uint32_t last = (uint32_t)shards - 1, none = (uint32_t)shards;
+    const warm_slot made_up[] = {{0, 0, last}, {1, 0, last}, {UINT64_MAX, 0, last}, {1, 2, last}, {1, UINT32_MAX, last}, {1, 0, none}, {1, 0, UINT32_MAX}};
     int fd = temporary();
     warm handle = {0};
     warm_slot slot;
     uint8_t byte = 0;
     open_over(&handle, fd, 2);
-    OK(warm_pin(&handle, (warm_page){.no = 1}, &slot));
+    OK(warm_pin(&handle, page_of(1), &slot));
     warm_close(&handle);
     EXPECT(WARM_CLOSED, warm_read(&handle, slot, 0, &byte, 1));
     open_over(&handle, fd, 2);
@@ -152,6 +181,23 @@ static void slots_of_before(void) {
     close(fd);
 }
 
+/* A slot that was given for its own shard means nothing in any other. */
+static void other_shards(warm *handle, warm_slot slot) {
+    const uint32_t own = slot.shard, others[] = {own + 1, own - 1, 0, (uint32_t)shards, UINT32_MAX};
+    const uint8_t *lent = NULL;
+    uint8_t byte = 'u', *lent_mut = NULL;
+    for (size_t at = 0; at < sizeof others / sizeof *others; at++) {
+        slot.shard = others[at];
+        if (slot.shard == own) continue;
+        EXPECT(WARM_STALE_SLOT, warm_read(handle, slot, 0, &byte, 1));
+        EXPECT(WARM_STALE_SLOT, warm_write(handle, slot, 0, &byte, 1));
+        EXPECT(WARM_STALE_SLOT, warm_lend(handle, slot, &lent));
+        EXPECT(WARM_STALE_SLOT, warm_lend_mut(handle, slot, &lent_mut));
+        EXPECT(WARM_STALE_SLOT, warm_unpin(handle, slot));
+    }
+    MUST(byte == 'u' && lent == NULL && lent_mut == NULL);
+}
+
 static void slots(void) {
     int fd = temporary();
     warm handle = {0};
@@ -159,9 +205,11 @@ static void slots(void) {
     uint8_t bytes[PAGE_SIZE + 1] = {0};
     open_over(&handle, fd, 1);
     EXPECT(WARM_NO_DEVICE, warm_pin(&handle, (warm_page){.dev = 1}, &slot));
-    EXPECT(WARM_NO_PAGE, warm_pin(&handle, (warm_page){.no = 8}, &slot));
-    OK(warm_pin(&handle, (warm_page){.no = 1}, &slot));
-    EXPECT(WARM_ALL_FIXED, warm_pin(&handle, (warm_page){.no = 2}, &other));
+    EXPECT(WARM_NO_PAGE, warm_pin(&handle, page_of(8), &slot));
+    OK(warm_pin(&handle, page_of(1), &slot));
+    MUST(slot.shard == shards - 1 && slot.index == 0);
+    other_shards(&handle, slot);
+    EXPECT(WARM_ALL_FIXED, warm_pin(&handle, page_of(2), &other));
     EXPECT(WARM_OUT_OF_PAGE, warm_read(&handle, slot, 0, bytes, PAGE_SIZE + 1));
     EXPECT(WARM_OUT_OF_PAGE, warm_read(&handle, slot, PAGE_SIZE + 1, bytes, 0));
     EXPECT(WARM_OUT_OF_PAGE, warm_write(&handle, slot, PAGE_SIZE, bytes, 1));
@@ -170,10 +218,10 @@ static void slots(void) {
     OK(warm_write(&handle, slot, 0, bytes, 0));
     OK(warm_unpin(&handle, slot));
     EXPECT(WARM_STALE_SLOT, warm_unpin(&handle, slot)); /* its page has no fix */
-    OK(warm_pin(&handle, (warm_page){.no = 2}, &other));
+    OK(warm_pin(&handle, page_of(2), &other));
     EXPECT(WARM_STALE_SLOT, warm_read(&handle, slot, 0, bytes, 1)); /* another page is in the frame */
     EXPECT(WARM_STALE_SLOT, warm_write(&handle, slot, 0, bytes, 1));
-    EXPECT(WARM_STALE_SLOT, warm_write(&handle, (warm_slot){.index = 1, .generation = 1}, 0, bytes, 1)); /* no such frame */
+    EXPECT(WARM_STALE_SLOT, warm_write(&handle, (warm_slot){.index = 1, .generation = 1, .shard = slot.shard}, 0, bytes, 1)); /* no such frame */
     OK(warm_unpin(&handle, other));
     warm_close(&handle);
     close(fd);
@@ -185,7 +233,7 @@ static void answers(warm *handle) {
     warm_device none = {0};
     uint8_t frame[4096];
     size_t length, count;
-    OK(warm_open(&other, 2, 1, PAGE_SIZE, &none, 0));
+    OK(warm_open(&other, 2, shards, shards, PAGE_SIZE, &none, 0));
     OK(warm_offer(&other, frame, sizeof frame, &length));
     OK(warm_receive(handle, frame, length));
     EXPECT(WARM_BUFFER_TOO_SMALL, warm_next_answer(handle, frame, 0, &length));
@@ -214,6 +262,16 @@ static void names(void) {
     MUST(length == 6 && memcmp(name, "Closed", 7) == 0);
     OK(warm_status_name(WARM_DIGESTS_DIFFER, name, sizeof name, &length));
     MUST(length == 13 && memcmp(name, "DigestsDiffer", 14) == 0);
+    OK(warm_status_name(WARM_BAD_SHARDS, name, sizeof name, &length));
+    MUST(length == 9 && memcmp(name, "BadShards", 10) == 0);
+    OK(warm_status_name(WARM_UNEVEN_FRAMES, name, sizeof name, &length));
+    MUST(length == 12 && memcmp(name, "UnevenFrames", 13) == 0);
+    OK(warm_status_name(WARM_ATTACHED, name, sizeof name, &length));
+    MUST(length == 8 && memcmp(name, "Attached", 9) == 0);
+    OK(warm_status_name(WARM_PINS_LEFT, name, sizeof name, &length));
+    MUST(length == 8 && memcmp(name, "PinsLeft", 9) == 0);
+    OK(warm_status_name(WARM_NO_SHARD, name, sizeof name, &length));
+    MUST(length == 7 && memcmp(name, "NoShard", 8) == 0);
     OK(warm_status_name(WARM_DUMP_NOT_WRITTEN + 1, name, sizeof name, &length));
     MUST(length == 7 && memcmp(name, "Unknown", 8) == 0);
     OK(warm_status_name(WARM_BAD_ORDER + 1, name, sizeof name, &length)); /* no status, though a decoder of a stream has such a fault */
@@ -278,7 +336,7 @@ static void damaged_frames(void) {
     size_t count;
     warm_device none = {0};
     warm handle = {0};
-    OK(warm_open(&handle, 2, 1, PAGE_SIZE, &none, 0));
+    OK(warm_open(&handle, 2, shards, shards, PAGE_SIZE, &none, 0));
     EXPECT(WARM_TRUNCATED, warm_receive(&handle, good, 0));
     EXPECT(WARM_TRUNCATED, warm_receive(&handle, good, sizeof good - 1));
     for (size_t at = 0; at < sizeof cases / sizeof *cases; at++) {
@@ -303,7 +361,7 @@ static size_t pages_of(warm *handle) {
 
 static void open_alone(warm *handle, uint16_t replica) {
     warm_device none = {0};
-    OK(warm_open(handle, replica, 1, PAGE_SIZE, &none, 0));
+    OK(warm_open(handle, replica, shards, shards, PAGE_SIZE, &none, 0));
 }
 
 /* A frame of one entry with two stamps has 54 bytes, one of digests 2,067: docs/FORMATS.md says so. */
@@ -522,11 +580,11 @@ static void wrong_descriptors(void) {
     warm handle = {0};
     warm_slot slot;
     open_over(&handle, -1, 1);
-    EXPECT(WARM_READ_FAULT, warm_pin(&handle, (warm_page){.no = 1}, &slot));
+    EXPECT(WARM_READ_FAULT, warm_pin(&handle, page_of(1), &slot));
     warm_close(&handle);
     MUST(pipe(ends) == 0);
     open_over(&handle, ends[0], 1);
-    EXPECT(WARM_READ_FAULT, warm_pin(&handle, (warm_page){.no = 1}, &slot));
+    EXPECT(WARM_READ_FAULT, warm_pin(&handle, page_of(1), &slot));
     warm_close(&handle);
     snprintf(link, sizeof link, "/proc/self/fd/%d", fd);
     int reader = open(link, O_RDONLY);
@@ -534,7 +592,7 @@ static void wrong_descriptors(void) {
     open_over(&handle, reader, 1);
     write_one(&handle, 'r');
     EXPECT(WARM_FAULT, warm_write_back(&handle));
-    EXPECT(WARM_WRITE_BACK, warm_pin(&handle, (warm_page){.no = 2}, &slot));
+    EXPECT(WARM_WRITE_BACK, warm_pin(&handle, page_of(2), &slot));
     MUST(read_one(&handle) == 'r');
     warm_close(&handle);
     close(reader);
@@ -551,12 +609,12 @@ static void descriptor_closed(void) {
     open_over(&handle, fd, 1);
     write_one(&handle, 'b');
     close(fd);
-    EXPECT(WARM_READ_FAULT, warm_pin(&handle, (warm_page){.no = 2}, &slot));
+    EXPECT(WARM_READ_FAULT, warm_pin(&handle, page_of(2), &slot));
     EXPECT(WARM_FAULT, warm_write_back(&handle));
     MUST(read_one(&handle) == 'b'); /* it is still in its frame */
     MUST(dup2(kept, fd) == fd);     /* the same file under the same number */
     OK(warm_write_back(&handle));
-    MUST(pread(kept, &byte, 1, PAGE_SIZE) == 1 && byte == 'b');
+    MUST(pread(kept, &byte, 1, place_of(1)) == 1 && byte == 'b');
     warm_close(&handle);
     close(fd);
     close(kept);
@@ -573,7 +631,7 @@ static void always_full(void) {
     warm_slot slot;
     open_over(&handle, fd, 1);
     write_one(&handle, 'c');
-    EXPECT(WARM_WRITE_BACK, warm_pin(&handle, (warm_page){.no = 2}, &slot)); /* page 1 would leave, and cannot be written */
+    EXPECT(WARM_WRITE_BACK, warm_pin(&handle, page_of(2), &slot)); /* page 1 would leave, and cannot be written */
     EXPECT(WARM_FAULT, warm_write_back(&handle));
     MUST(read_one(&handle) == 'c');
     warm_close(&handle);
@@ -591,15 +649,15 @@ static void full_for_a_time(void) {
     signal(SIGXFSZ, SIG_IGN);
     write_one(&handle, 'd');
     MUST(getrlimit(RLIMIT_FSIZE, &old) == 0);
-    none = (struct rlimit){PAGE_SIZE, old.rlim_max};
+    none = (struct rlimit){(rlim_t)place_of(1), old.rlim_max};
     MUST(setrlimit(RLIMIT_FSIZE, &none) == 0);
-    int pinned = warm_pin(&handle, (warm_page){.no = 2}, &slot), written = warm_write_back(&handle);
+    int pinned = warm_pin(&handle, page_of(2), &slot), written = warm_write_back(&handle);
     MUST(setrlimit(RLIMIT_FSIZE, &old) == 0); /* before a word is printed: that is a file, too */
     expect(WARM_WRITE_BACK, pinned, "warm_pin while the file may not grow");
     expect(WARM_FAULT, written, "warm_write_back while the file may not grow");
     MUST(read_one(&handle) == 'd');
     OK(warm_write_back(&handle));
-    MUST(pread(fd, &byte, 1, PAGE_SIZE) == 1 && byte == 'd');
+    MUST(pread(fd, &byte, 1, place_of(1)) == 1 && byte == 'd');
     warm_close(&handle);
     close(fd);
 }
@@ -634,7 +692,7 @@ static void disk_full(const char *folder) {
     uint8_t byte = 0;
     warm_device device = {.pages = PAGES + 1, .fd = fd};
     MUST(pwrite(other, block, BLOCK, 0) == BLOCK);
-    OK(warm_open(&handle, 1, PAGES, BLOCK, &device, 1));
+    OK(warm_open(&handle, 1, shards, PAGES * shards, BLOCK, &device, 1));
     write_all(&handle, PAGES);
     EXPECT(WARM_FAULT, warm_write_back(&handle));
     EXPECT(WARM_FAULT, warm_write_back(&handle));
@@ -660,6 +718,9 @@ static void disk_full(const char *folder) {
 }
 
 int main(int count, char **words) {
+    MUST(count > 1);
+    shards = strtoul(words[1], NULL, 10);
+    const char *folder = count > 2 ? words[2] : NULL;
     closed_handle();
     opening();
     slots();
@@ -677,7 +738,7 @@ int main(int count, char **words) {
     joined_dumps();
     late_frames();
     dumps_of_wrong_descriptors();
-    dumps_without_room(count > 1 ? words[1] : NULL);
-    if (count > 1) disk_full(words[1]);
+    dumps_without_room(folder);
+    if (folder != NULL) disk_full(folder);
     return end_as_expected();
 }

@@ -1,10 +1,13 @@
 /* Each allocation of a call fails in turn, until the call succeeds: it returns WARM_MEMORY, and what was there before is still there. What
- * allocates nothing succeeds while every allocation fails. The check links malloc and realloc to the functions below (ld --wrap). */
+ * allocates nothing succeeds while every allocation fails. The check links malloc and realloc to the functions below (ld --wrap). refused SHARDS: a
+ * replica has so many. A call on several of them may be refused with a part of it done, and is whole once it succeeds. */
 #define _GNU_SOURCE /* mkstemp */
 #define PROGRAM "refused"
 #include "expect.h"
 
 enum { PAGE_SIZE = 512, FRAMES = 4, SEEN = 200, FRAME_ROOM = 40000, MOST_GRANTS = 100000 };
+
+static size_t shards;
 
 /* How many more allocations succeed. */
 static size_t granted = SIZE_MAX;
@@ -55,7 +58,7 @@ static size_t known(warm *handle) {
 static uint8_t first_byte(warm *handle, warm_page page) {
     const uint8_t *bytes;
     warm_slot slot;
-    UNREFUSED(warm_pin(handle, page, &slot));
+    UNREFUSED(warm_pin_lend(handle, page, &slot, &bytes));
     UNREFUSED(warm_lend(handle, slot, &bytes));
     uint8_t byte = bytes[0];
     UNREFUSED(warm_unpin(handle, slot));
@@ -64,7 +67,20 @@ static uint8_t first_byte(warm *handle, warm_page page) {
 
 static void opened(warm *handle, uint16_t replica, int fd) {
     warm_device device = {.pages = 16, .fd = fd};
-    EACH_REFUSED(warm_open(handle, replica, FRAMES, PAGE_SIZE, &device, 1), !handle->is_open);
+    EACH_REFUSED(warm_open(handle, replica, shards, FRAMES * shards, PAGE_SIZE, &device, 1), handle->at == NULL);
+}
+
+static void attached(warm *handle) {
+    warm other = {0};
+    EACH_REFUSED(warm_thread(handle, &other), other.at == NULL);
+    EXPECT(WARM_ATTACHED, warm_close(handle));
+    UNREFUSED(warm_close(&other));
+}
+
+/* Whether this many pages are known; of several shards each has its part or not. */
+static bool knows(warm *handle, size_t before, size_t after) {
+    size_t length = known(handle);
+    return length == before || (shards > 1 && length > before && length <= after);
 }
 
 /* Histories: absorbed, sent, received, listed, saved and loaded. */
@@ -75,7 +91,8 @@ static void histories(warm *from, warm *to) {
     size_t length = 77, count = 77;
     bool more = true;
     for (uint64_t at = 0; at < SEEN; at++) seen[at] = (warm_reference){.time = at + 1, .no = at / 2 * 64 + at % 2, .replica = 1};
-    EACH_REFUSED(warm_absorb(from, seen, SEEN), known(from) == 0);
+    EACH_REFUSED(warm_absorb(from, seen, SEEN), knows(from, 0, SEEN));
+    MUST(known(from) == SEEN);
     EACH_REFUSED(warm_send_since(from, 0, 5, false, last, frame, sizeof frame, &length, &more, &last),
         length == 77 && more && last.no == 99 && last.dev == 9);
     MUST(!more && last.no == (SEEN / 2 - 1) * 64 && last.dev == 0);
@@ -99,7 +116,7 @@ static void histories(warm *from, warm *to) {
     int dump = temporary();
     EACH_REFUSED(warm_save(from, dump), known(from) == SEEN);
     off_t end = lseek(dump, 0, SEEK_END);
-    EACH_REFUSED(warm_load(to, dump, (uint64_t)end), known(to) == SEEN - 2);
+    EACH_REFUSED(warm_load(to, dump, (uint64_t)end), knows(to, SEEN - 2, SEEN));
     MUST(known(to) == SEEN);
     close(dump);
 }
@@ -114,7 +131,7 @@ static void replaced(warm *handle, int other) {
     byte = 'o';
     UNREFUSED(warm_write(handle, slot, 0, &byte, 1));
     UNREFUSED(warm_unpin(handle, slot));
-    EACH_REFUSED(warm_replace(handle, 0, &device), first_byte(handle, (warm_page){0}) == 'o');
+    EACH_REFUSED(warm_replace(handle, 0, &device), shards > 1 || first_byte(handle, (warm_page){0}) == 'o');
     MUST(first_byte(handle, (warm_page){0}) == 'n');
 }
 
@@ -158,7 +175,7 @@ static void unrefused(warm *handle) {
     MUST(resident && left == 0);
     UNREFUSED(warm_flush(handle, 0));
     UNREFUSED(warm_unpin(handle, slot));
-    UNREFUSED(warm_victim(handle, &found, &page));
+    UNREFUSED(warm_victim(handle, 0, &found, &page));
     UNREFUSED(warm_forget(handle, 0, 3));
     UNREFUSED(warm_counts(handle, &counters));
     UNREFUSED(warm_device_counts(handle, 0, &device_counters));
@@ -170,20 +187,21 @@ static void unrefused(warm *handle) {
     MUST(known(handle) == SEEN);
 }
 
-int main(void) {
+int main(int count, char **words) {
+    MUST(count == 2);
+    shards = strtoul(words[1], NULL, 10);
     int fds[] = {temporary(), temporary(), temporary()};
     warm from = {0}, to = {0};
     opened(&from, 1, fds[0]);
     opened(&to, 2, fds[1]);
+    attached(&from);
     histories(&from, &to);
     replaced(&from, fds[2]);
     unrefused_evictions(&from);
     unrefused(&from);
-    granted = 0;
-    warm_close(&from);
-    warm_close(&to);
-    granted = SIZE_MAX;
-    MUST(!from.is_open && !to.is_open);
+    UNREFUSED(warm_close(&from));
+    UNREFUSED(warm_close(&to));
+    MUST(from.at == NULL && to.at == NULL);
     for (int at = 0; at < 3; at++) close(fds[at]);
     return end_as_expected();
 }

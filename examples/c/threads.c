@@ -57,7 +57,7 @@ static void open_shared(int fd) {
     warm_slot slot;
     for (int at = 0; at < PAGE_SIZE; at++) bytes[at] = (uint8_t)at;
     MUST(pwrite(fd, bytes, PAGE_SIZE, LENT * PAGE_SIZE) == PAGE_SIZE);
-    OK(warm_open(&shared, 1, FRAMES, PAGE_SIZE, &device, 1));
+    OK(warm_open(&shared, 1, 1, FRAMES, PAGE_SIZE, &device, 1));
     OK(warm_pin(&shared, (warm_page){.no = LENT}, &slot));
     OK(warm_lend(&shared, slot, &lent));
 }
@@ -72,7 +72,7 @@ int main(void) {
         MUST(pthread_create(&threads[at], NULL, work, &numbers[at]) == 0);
     }
     for (int at = 0; at < THREADS; at++) MUST(pthread_join(threads[at], NULL) == 0);
-    MUST(!shared.is_open);
+    MUST(shared.at == NULL);
     for (int at = 0; at < THREADS * ROUNDS; at++) wanted[(at / ROUNDS + at % ROUNDS) % PAGES]++;
     for (int no = 0; no < PAGES; no++) {
         uint64_t count = 0;

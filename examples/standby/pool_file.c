@@ -96,7 +96,7 @@ int pool_file_receive(pool_file *file, const uint8_t *frame, size_t length) {
 /* Opens one of the two handles, with frames that are all empty, and makes it the current one. */
 static int open_handle(pool_file *file, int which, size_t page_size) {
     warm_device device = {.pages = MOST_PAGES, .fd = file->fd};
-    int status = warm_open(&file->handles[which], file->replica, file->frames, page_size, &device, 1);
+    int status = warm_open(&file->handles[which], file->replica, 1, file->frames, page_size, &device, 1);
     if (status != WARM_OK) return status;
     file->current = which;
     file->page_size = page_size;
@@ -399,7 +399,7 @@ static int reload(pool_file *file, size_t new_size) {
     int status = open_handle(file, new, page_size);
     if (status == WARM_OK && keeps_history) status = hand_history_over(&file->handles[old], &file->handles[new]);
     /* Without memory for it the history is lost, and the file still right. */
-    if (status != WARM_OK && !file->handles[new].is_open) return status;
+    if (status != WARM_OK && file->handles[new].at == NULL) return status;
     warm_close(&file->handles[old]);
     file->reloads++;
     return WARM_OK;

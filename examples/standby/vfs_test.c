@@ -307,7 +307,7 @@ static void batches(uint64_t seed) {
     static uint8_t one[4096], other[4096];
     size_t length;
     random_state = seed;
-    MUST(warm_open(&each, 1, 1, 512, &none, 0) == WARM_OK && warm_open(&batched, 1, 1, 512, &none, 0) == WARM_OK);
+    MUST(warm_open(&each, 1, 1, 1, 512, &none, 0) == WARM_OK && warm_open(&batched, 1, 1, 1, 512, &none, 0) == WARM_OK);
     for (uint64_t time = 1; time < 3000; time++) {
         warm_reference reference = {.time = time, .no = draw(3) == 0 ? draw(1000) : draw(20), .replica = 1};
         MUST(warm_absorb(&each, &reference, 1) == WARM_OK);

@@ -1,0 +1,436 @@
+/*
+ * fake_nodes.h: the functions of nodes.h in a few lines of C each, for shards_test.c, which has no proved part. A fake node has frames, each
+ * with one byte in place of a page, and in place of a history how many references it took in. It writes to no file: it tells sync_once.h what it
+ * would have written, and asks it for syncs. Each call looks whether another call is in the node.
+ */
+#ifndef FAKE_NODES_H
+#define FAKE_NODES_H
+
+#include "nodes.h"
+#include "sync_once.h"
+
+#include <stdatomic.h>
+#include <stdlib.h>
+#include <string.h>
+
+enum { FAKE_DEVICES = 4, FAKE_FRAMES = 8, FAKE_PAGES = 512, FAKE_EMPTY = 23, FAKE_FULL = 44 };
+
+typedef struct fake_frame {
+    bool is_in, is_dirty;
+    warm_page page;
+    uint64_t generation;
+    unsigned pins;
+    uint8_t byte;
+} fake_frame;
+
+typedef struct fake {
+    atomic_int inside; /* how many calls are in it */
+    size_t frames, device_count, known;
+    warm_device devices[FAKE_DEVICES];
+    bool waits[FAKE_DEVICES], has_failed[FAKE_DEVICES];
+    uint64_t horizon, writes;
+    fake_frame at[FAKE_FRAMES];
+} fake;
+
+static fake *fake_in(node *of) {
+    fake *its = of->at;
+    MUST(of->is_open && atomic_fetch_add(&its->inside, 1) == 0);
+    return its;
+}
+
+static int fake_out(node *of, int status) {
+    MUST(atomic_fetch_sub(&((fake *)of->at)->inside, 1) == 1);
+    return status;
+}
+
+/* Whether there is memory: each fake call that may have to allocate asks so. */
+static bool fake_memory(void) {
+    void *block = malloc(1);
+    free(block);
+    return block != NULL;
+}
+
+uint32_t node_shard_of(size_t shards, warm_page page) { return (uint32_t)((page.no + page.dev) % 64 % shards); }
+
+int node_divide(size_t frames, size_t shards, size_t *each) {
+    if (shards == 0 || shards > 64 || (shards & (shards - 1)) != 0) return WARM_BAD_SHARDS;
+    if (frames % shards != 0) return WARM_UNEVEN_FRAMES;
+    *each = frames / shards;
+    return WARM_OK;
+}
+
+int node_open(node *of, uint16_t replica, size_t frames, size_t page_size, const warm_device *devices, size_t device_count) {
+    MUST(!of->is_open);
+    if (replica == 0 || replica > 64) return WARM_BAD_REPLICA;
+    if (device_count > FAKE_DEVICES) return WARM_NO_DEVICE;
+    if (frames == 0 || frames > FAKE_FRAMES) return WARM_BAD_FRAMES;
+    if (page_size == 0) return WARM_SIZE_DIFFERS;
+    fake *made = malloc(sizeof(fake));
+    if (made == NULL) return WARM_MEMORY;
+    memset(made, 0, sizeof(fake));
+    made->frames = frames;
+    made->device_count = device_count;
+    memcpy(made->devices, devices, device_count * sizeof(warm_device));
+    *of = (node){.is_open = true, .at = made};
+    return WARM_OK;
+}
+
+static bool fake_flush(fake *its, uint16_t dev) {
+    if (its->waits[dev] && (its->has_failed[dev] || sync_once(its->devices[dev].fd) != 0)) {
+        its->has_failed[dev] = true;
+        return false;
+    }
+    its->waits[dev] = false;
+    return true;
+}
+
+void node_close(node *of) {
+    if (!of->is_open) return;
+    fake *its = fake_in(of);
+    for (uint16_t dev = 0; dev < its->device_count; dev++) fake_flush(its, dev);
+    free(its);
+    *of = (node){0};
+}
+
+static void fake_write(fake *its, fake_frame *frame) {
+    its->waits[frame->page.dev] = true;
+    its->writes++;
+    frame->is_dirty = false;
+    sync_wrote(its->devices[frame->page.dev].fd);
+}
+
+/* The frame of a page, or else one for it: an empty one, or one that no page is pinned in. */
+static fake_frame *fake_frame_for(fake *its, warm_page page) {
+    fake_frame *other = NULL;
+    for (size_t at = 0; at < its->frames; at++) {
+        fake_frame *frame = &its->at[at];
+        if (frame->is_in && frame->page.no == page.no && frame->page.dev == page.dev) return frame;
+        if (frame->is_in ? other == NULL && frame->pins == 0 : other == NULL || other->is_in) other = frame;
+    }
+    return other;
+}
+
+static int fake_pin(fake *its, warm_page page, warm_slot *slot) {
+    if (page.dev >= its->device_count) return WARM_NO_DEVICE;
+    if (page.no >= FAKE_PAGES) return page.no == FAKE_PAGES ? WARM_NO_PAGE : WARM_READ_FAULT;
+    fake_frame *frame = fake_frame_for(its, page);
+    if (frame == NULL) return WARM_ALL_FIXED;
+    if (!frame->is_in || frame->page.no != page.no || frame->page.dev != page.dev) {
+        if (frame->is_in && frame->is_dirty) fake_write(its, frame);
+        *frame = (fake_frame){.is_in = true, .page = page, .generation = frame->generation + 1};
+    }
+    frame->pins++;
+    *slot = (warm_slot){.generation = frame->generation, .index = (uint32_t)(frame - its->at)};
+    return WARM_OK;
+}
+
+static fake_frame *fake_pinned(fake *its, warm_slot slot) {
+    if (slot.index >= its->frames) return NULL;
+    fake_frame *frame = &its->at[slot.index];
+    return frame->pins > 0 && frame->generation == slot.generation ? frame : NULL;
+}
+
+int node_pin(node *of, warm_page page, warm_slot *slot) { return fake_out(of, fake_pin(fake_in(of), page, slot)); }
+
+int node_pin_zeroed(node *of, warm_page page, warm_slot *slot) { return node_pin(of, page, slot); }
+
+int node_lend(node *of, warm_slot slot, const uint8_t **bytes) {
+    fake_frame *frame = fake_pinned(fake_in(of), slot);
+    if (frame != NULL) *bytes = &frame->byte;
+    return fake_out(of, frame != NULL ? WARM_OK : WARM_STALE_SLOT);
+}
+
+int node_lend_mut(node *of, warm_slot slot, uint8_t **bytes) {
+    fake_frame *frame = fake_pinned(fake_in(of), slot);
+    if (frame != NULL) *bytes = &frame->byte;
+    if (frame != NULL) frame->is_dirty = true;
+    return fake_out(of, frame != NULL ? WARM_OK : WARM_STALE_SLOT);
+}
+
+int node_pin_lend(node *of, warm_page page, warm_slot *slot, const uint8_t **bytes) {
+    int status = node_pin(of, page, slot);
+    return status == WARM_OK ? node_lend(of, *slot, bytes) : status;
+}
+
+int node_unpin(node *of, warm_slot slot) {
+    fake_frame *frame = fake_pinned(fake_in(of), slot);
+    if (frame != NULL) frame->pins--;
+    return fake_out(of, frame != NULL ? WARM_OK : WARM_STALE_SLOT);
+}
+
+int node_read(node *of, warm_slot slot, size_t at, uint8_t *into, size_t length) {
+    fake_frame *frame = fake_pinned(fake_in(of), slot);
+    int status = frame == NULL ? WARM_STALE_SLOT : at + length > 1 ? WARM_OUT_OF_PAGE : WARM_OK;
+    if (status == WARM_OK && length == 1) *into = frame->byte;
+    return fake_out(of, status);
+}
+
+int node_write(node *of, warm_slot slot, size_t at, const uint8_t *bytes, size_t length) {
+    fake_frame *frame = fake_pinned(fake_in(of), slot);
+    int status = frame == NULL ? WARM_STALE_SLOT : at + length > 1 ? WARM_OUT_OF_PAGE : WARM_OK;
+    if (status == WARM_OK) {
+        frame->byte = *bytes;
+        frame->is_dirty = true;
+    }
+    return fake_out(of, status);
+}
+
+int node_resident(node *of, warm_page page, bool *resident) {
+    fake_frame *frame = fake_frame_for(fake_in(of), page);
+    *resident = frame != NULL && frame->is_in && frame->page.no == page.no && frame->page.dev == page.dev;
+    return fake_out(of, WARM_OK);
+}
+
+int node_victim(node *of, bool *found, warm_page *page) {
+    fake *its = fake_in(of);
+    *found = its->at[0].is_in && its->at[0].pins == 0;
+    if (*found) *page = its->at[0].page;
+    return fake_out(of, WARM_OK);
+}
+
+/* One page for each reference that it knows, which are all read at once. */
+int node_step(node *of, bool *found, warm_page *page) {
+    fake *its = fake_in(of);
+    if (!fake_memory()) return fake_out(of, WARM_MEMORY);
+    *found = its->known > 0;
+    if (*found) page->no = its->known--;
+    return fake_out(of, WARM_OK);
+}
+
+int node_write_back_some(node *of, size_t limit, size_t *left) {
+    fake *its = fake_in(of);
+    *left = 0;
+    for (size_t at = 0; at < its->frames; at++) {
+        if (!its->at[at].is_dirty) continue;
+        if (limit > 0) fake_write(its, &its->at[at]);
+        else ++*left;
+        if (limit > 0) limit--;
+    }
+    return fake_out(of, WARM_OK);
+}
+
+int node_flush(node *of, uint16_t dev) {
+    fake *its = fake_in(of);
+    if (dev >= its->device_count) return fake_out(of, WARM_NO_DEVICE);
+    for (size_t at = 0; at < its->frames; at++)
+        if (its->at[at].is_dirty && its->at[at].page.dev == dev) fake_write(its, &its->at[at]);
+    return fake_out(of, fake_flush(its, dev) ? WARM_OK : WARM_FAULT);
+}
+
+int node_write_back(node *of) {
+    int status = WARM_OK;
+    for (uint16_t dev = 0; status == WARM_OK && dev < ((fake *)of->at)->device_count; dev++) status = node_flush(of, dev);
+    return status;
+}
+
+static bool fake_has_pins(const fake *its, uint16_t dev, uint64_t from) {
+    for (size_t at = 0; at < its->frames; at++)
+        if (its->at[at].pins > 0 && its->at[at].page.dev == dev && its->at[at].page.no >= from) return true;
+    return false;
+}
+
+static void fake_forget(fake *its, uint16_t dev, uint64_t from) {
+    for (size_t at = 0; at < its->frames; at++)
+        if (its->at[at].page.dev == dev && its->at[at].page.no >= from) its->at[at].is_in = its->at[at].is_dirty = false;
+}
+
+int node_forget(node *of, uint16_t dev, uint64_t from) {
+    fake *its = fake_in(of);
+    if (dev >= its->device_count) return fake_out(of, WARM_NO_DEVICE);
+    if (fake_has_pins(its, dev, from)) return fake_out(of, WARM_FIXED);
+    fake_forget(its, dev, from);
+    return fake_out(of, WARM_OK);
+}
+
+int node_replace(node *of, uint16_t dev, const warm_device *device) {
+    fake *its = fake_in(of);
+    bool has_memory = fake_memory(), is_pinned = fake_has_pins(its, dev, 0);
+    fake_out(of, WARM_OK);
+    if (!has_memory) return WARM_MEMORY;
+    if (is_pinned) return WARM_FIXED;
+    int status = node_flush(of, dev);
+    if (status != WARM_OK) return status;
+    fake_forget(its, dev, 0);
+    its->devices[dev] = *device;
+    return WARM_OK;
+}
+
+int node_counts(node *of, warm_counters *counters) {
+    fake *its = fake_in(of);
+    *counters = (warm_counters){.hits = 1, .misses = 2, .evictions = 3, .written_back = its->writes, .resident = 4, .dirty = 5};
+    return fake_out(of, WARM_OK);
+}
+
+/* The last device has counted as far as it goes. */
+int node_device_counts(node *of, uint16_t dev, warm_device_counters *counters) {
+    fake *its = fake_in(of);
+    if (dev >= its->device_count) return fake_out(of, WARM_NO_DEVICE);
+    uint64_t many = dev == FAKE_DEVICES - 1 ? UINT64_MAX - 1 : 1;
+    *counters = (warm_device_counters){.reads = many, .writes = 2, .flushes = 3, .failures = many};
+    return fake_out(of, WARM_OK);
+}
+
+/* The failure has the node's own horizon in it, so that a test knows whose it is. */
+int node_last_failure(node *of, bool *found, warm_failure *failure) {
+    fake *its = fake_in(of);
+    *found = true;
+    *failure = (warm_failure){.no = its->known, .what = WARM_FAILED_READ};
+    return fake_out(of, WARM_OK);
+}
+
+/* ---- histories and frames ---- */
+
+uint64_t node_shards_of(size_t shards, const warm_reference *references, size_t count) {
+    uint64_t set = 0;
+    for (size_t at = 0; at < count; at++) set |= UINT64_C(1) << node_shard_of(shards, (warm_page){.no = references[at].no, .dev = references[at].dev});
+    return set;
+}
+
+int node_absorb_part(node *of, size_t shards, size_t number, const warm_reference *references, size_t count) {
+    fake *its = fake_in(of);
+    for (size_t at = 0; at < count; at++)
+        if (references[at].replica == 0) return fake_out(of, WARM_BAD_REPLICA);
+    if (!fake_memory()) return fake_out(of, WARM_MEMORY);
+    for (size_t at = 0; at < count; at++)
+        its->known += node_shard_of(shards, (warm_page){.no = references[at].no, .dev = references[at].dev}) == number;
+    return fake_out(of, WARM_OK);
+}
+
+int node_absorb(node *of, const warm_reference *references, size_t count) { return node_absorb_part(of, 1, 0, references, count); }
+
+int node_horizon(node *of, uint64_t time, uint64_t *horizon) {
+    fake *its = fake_in(of);
+    if (its->horizon < time) its->horizon = time;
+    *horizon = its->horizon;
+    return fake_out(of, WARM_OK);
+}
+
+int node_history_length(node *of, size_t *length) {
+    *length = fake_in(of)->known;
+    return fake_out(of, WARM_OK);
+}
+
+int node_list(node *of, warm_page *pages, size_t room, size_t *count) {
+    fake *its = fake_in(of);
+    if (!fake_memory()) return fake_out(of, WARM_MEMORY);
+    *count = its->known < room ? its->known : room;
+    memset(pages, 0, *count * sizeof(warm_page));
+    return fake_out(of, WARM_OK);
+}
+
+int node_gather(node *into, node *from) {
+    if (!fake_memory()) return WARM_MEMORY;
+    fake_in(into)->known += fake_in(from)->known;
+    fake_out(from, WARM_OK);
+    return fake_out(into, WARM_OK);
+}
+
+int node_join_part(node *into, size_t shards, size_t number, node *from) {
+    if (!fake_memory()) return WARM_MEMORY;
+    MUST(number < shards);
+    fake_in(into)->known += fake_in(from)->known / shards;
+    fake_out(from, WARM_OK);
+    return fake_out(into, WARM_OK);
+}
+
+/* A descriptor of 0 or more is written. */
+int node_save(node *of, int fd) {
+    fake_in(of);
+    return fake_out(of, !fake_memory() ? WARM_MEMORY : fd < 0 ? WARM_DUMP_NOT_WRITTEN : WARM_OK);
+}
+
+/* A dump has as many references as its length says. */
+int node_load(node *of, int fd, uint64_t length) {
+    fake *its = fake_in(of);
+    int status = !fake_memory() ? WARM_MEMORY : fd < 0 ? WARM_DUMP_NOT_READ : WARM_OK;
+    if (status == WARM_OK) its->known += length;
+    return fake_out(of, status);
+}
+
+int node_digests(node *of, size_t shards, size_t number, node_table *table, uint64_t *horizon) {
+    fake *its = fake_in(of);
+    if (!fake_memory()) return fake_out(of, WARM_MEMORY);
+    for (size_t bucket = number; bucket < 64; bucket += shards) table->digests[bucket][0] = its->known > 0;
+    if (its->horizon > *horizon) *horizon = its->horizon;
+    return fake_out(of, WARM_OK);
+}
+
+static int fake_put(uint8_t first, uint64_t second, size_t needed, uint8_t *frame, size_t room, size_t *length) {
+    if (!fake_memory()) return WARM_MEMORY;
+    *length = needed;
+    if (room < needed) return WARM_BUFFER_TOO_SMALL;
+    memset(frame, 0, needed);
+    frame[0] = first;
+    frame[1] = (uint8_t)second;
+    return WARM_OK;
+}
+
+/* A frame is its kind, its horizon, and of digests one byte for each bucket, of a request one byte for each of buckets 0 to 7. */
+int node_offer_frame(uint16_t replica, uint64_t horizon, const node_table *table, uint8_t *frame, size_t room, size_t *length) {
+    MUST(replica > 0);
+    int status = fake_put(NODE_DIGESTS, horizon, 66, frame, room, length);
+    for (int bucket = 0; status == WARM_OK && bucket < 64; bucket++) frame[2 + bucket] = table->digests[bucket][0];
+    return status;
+}
+
+int node_want_frame(uint16_t replica, uint64_t horizon, uint64_t buckets, uint8_t *frame, size_t room, size_t *length) {
+    MUST(replica > 0);
+    int status = fake_put(NODE_REQUEST, horizon, 10, frame, room, length);
+    for (int bucket = 0; status == WARM_OK && bucket < 8; bucket++) frame[2 + bucket] = (uint8_t)(buckets >> bucket & 1);
+    return status;
+}
+
+int node_read_frame(size_t shards, uint64_t limit, const uint8_t *frame, size_t length, node_frame *what) {
+    if (length < 10) return WARM_TRUNCATED;
+    if (frame[1] > limit) return WARM_LATE_HORIZON;
+    if (!fake_memory()) return WARM_MEMORY;
+    *what = (node_frame){.kind = frame[0], .horizon = frame[1]};
+    if (frame[0] == NODE_ENTRIES) what->shards = shards > 2 ? 5 : 1; /* of shards 0 and 2 */
+    for (int bucket = 0; frame[0] == NODE_REQUEST && bucket < 8; bucket++) what->buckets |= (uint64_t)frame[2 + bucket] << bucket;
+    return WARM_OK;
+}
+
+int node_receive_part(node *of, size_t shards, size_t number, const uint8_t *frame, size_t length) {
+    fake *its = fake_in(of);
+    MUST(number < shards && length >= 10);
+    if (!fake_memory()) return fake_out(of, WARM_MEMORY);
+    if (its->horizon < frame[1]) its->horizon = frame[1];
+    its->known++;
+    return fake_out(of, WARM_OK);
+}
+
+int node_differing(const node_table *table, const uint8_t *frame, size_t length, uint64_t *buckets) {
+    MUST(length == 66);
+    if (!fake_memory()) return WARM_MEMORY;
+    *buckets = 0;
+    for (int bucket = 0; bucket < 64; bucket++) *buckets |= (uint64_t)(table->digests[bucket][0] != frame[2 + bucket]) << bucket;
+    return WARM_OK;
+}
+
+/* Two frames of a bucket of which something is known, the second after page 1; an empty one of any other. */
+int node_send_since(node *of, uint8_t bucket, uint64_t since, bool has_after, warm_page after, uint8_t *frame, size_t room, size_t *length, bool *more,
+    warm_page *last) {
+    fake *its = fake_in(of);
+    if (bucket > 63) return fake_out(of, WARM_BAD_BUCKET);
+    MUST(since == 0 && (!has_after || after.no == 1));
+    int status = fake_put(NODE_ENTRIES, its->horizon, its->known > 0 ? FAKE_FULL : FAKE_EMPTY, frame, room, length);
+    if (status != WARM_OK) return fake_out(of, status);
+    frame[2] = bucket;
+    *more = its->known > 0 && !has_after;
+    if (*more) last->no = 1;
+    return fake_out(of, WARM_OK);
+}
+
+int node_send(node *of, uint8_t bucket, bool has_after, warm_page after, uint8_t *frame, size_t room, size_t *length) {
+    bool more;
+    warm_page last = {0};
+    return node_send_since(of, bucket, 0, has_after, after, frame, room, length, &more, &last);
+}
+
+int node_status_name(int status, uint8_t *name, size_t room, size_t *length) {
+    *length = 1;
+    if (room > 0) *name = status == WARM_OK ? 'O' : 'X';
+    return WARM_OK;
+}
+
+#endif
