@@ -242,6 +242,18 @@ int node_forget(node *of, uint16_t dev, uint64_t from) {
     return fake_out(of, WARM_OK);
 }
 
+int node_may_forget(node *of, uint16_t dev, uint64_t from) {
+    fake *its = fake_in(of);
+    if (dev >= its->device_count) return fake_out(of, WARM_NO_DEVICE);
+    return fake_out(of, fake_has_pins(its, dev, from) ? WARM_FIXED : WARM_OK);
+}
+
+int node_may_replace(node *of, uint16_t dev, const warm_device *device) {
+    (void)dev, (void)device;
+    fake_in(of);
+    return fake_out(of, fake_memory() ? WARM_OK : WARM_MEMORY);
+}
+
 int node_replace(node *of, uint16_t dev, const warm_device *device) {
     fake *its = fake_in(of);
     bool has_memory = fake_memory(), is_pinned = fake_has_pins(its, dev, 0);

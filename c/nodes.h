@@ -133,8 +133,11 @@ int node_gather(node *into, node *from);
  * Refused: WARM_CLOSED where one of them is closed; WARM_MEMORY. */
 int node_join_part(node *into, size_t shards, size_t shard, node *from);
 
-/* There is no node_may_forget: no public function of the pool says which pages are pinned, and warm_pool is not changed here.
- * node_forget itself is all or nothing for one node: WARM_NO_DEVICE is the same in all of them, so that only WARM_FIXED may be
- * returned by one node after others have forgotten. */
+/* Whether node_forget would forget these pages, or what it would be refused with. Nothing changes. */
+int node_may_forget(node *handle, uint16_t dev, uint64_t from);
+
+/* Whether node_replace would be refused for what the new device is: with WARM_NO_DEVICE or WARM_SAME_FILE. Nothing changes.
+ * Refused: these; WARM_MEMORY. */
+int node_may_replace(node *handle, uint16_t dev, const warm_device *device);
 
 #endif

@@ -368,13 +368,33 @@ static void leave_all(opened *its, bool are_locked) {
     for (size_t number = its->count; number-- > 0;) leave(&its->shards[number], are_locked);
 }
 
+/* Whether no shard would be refused to forget these pages, or why one is. All shards are entered. */
+static int may_all_forget(opened *its, uint16_t dev, uint64_t from) {
+    int status = WARM_OK;
+    for (size_t number = 0; number < its->count && status == WARM_OK; number++) status = node_may_forget(&its->shards[number].node, dev, from);
+    return status;
+}
+
+/* All shards are asked before the first one forgets: after that none is refused. */
 int warm_forget(warm *handle, uint16_t dev, uint64_t from) {
     opened *its = handle->at;
-    int status = WARM_OK;
     if (its == NULL) return WARM_CLOSED;
     bool are_locked = enter_all(its);
+    int status = may_all_forget(its, dev, from);
     for (size_t number = 0; number < its->count && status == WARM_OK; number++) status = node_forget(&its->shards[number].node, dev, from);
     leave_all(its, are_locked);
+    return status;
+}
+
+/* What may refuse a shard to replace a device, and is not memory, is met before the first one does: what the new device is, a pinned page, a
+ * write or a flush that fails. All shards are entered. */
+static int settle_in_all(opened *its, uint16_t dev, const warm_device *device) {
+    int status = node_may_replace(&its->shards[0].node, dev, device);
+    if (status == WARM_OK) status = may_all_forget(its, dev, 0);
+    for (size_t number = 0; number < its->count && status == WARM_OK; number++) {
+        shard *in = &its->shards[number];
+        status = noted(its, in, node_flush(&in->node, dev));
+    }
     return status;
 }
 
@@ -389,9 +409,11 @@ static bool put_back(opened *its, uint16_t dev, size_t count) {
 
 /* Replaces the device in each shard, or goes back. All shards are entered. */
 static int replace_in_all(opened *its, uint16_t dev, const warm_device *device) {
+    int status = its->count == 1 ? WARM_OK : settle_in_all(its, dev, device);
+    if (status != WARM_OK) return status;
     for (size_t number = 0; number < its->count; number++) {
         shard *in = &its->shards[number];
-        int status = noted(its, in, node_replace(&in->node, dev, device));
+        status = noted(its, in, node_replace(&in->node, dev, device));
         if (status != WARM_OK) return put_back(its, dev, number) ? status : WARM_MEMORY;
     }
     return WARM_OK;

@@ -420,9 +420,7 @@ int warm_flush(warm *handle, uint16_t dev);
  * is lost. It is for a file that was cut, or is to be: the file is not touched. The history is kept, and the device still has as many pages:
  * a later warm_pin or warm_step reads them again. All shards wait meanwhile, so that no thread finds some of these pages and others not.
  * Allocation-free.
- * Refused: WARM_NO_DEVICE; WARM_FIXED where one of the pages is pinned, by whatever handle. With one shard nothing has then left. With several,
- * the pages of the shards before the first that has such a pinned page have left, and all others have not: call it only where it
- * may come to an end, and again once the page is unpinned. */
+ * Refused: WARM_NO_DEVICE; WARM_FIXED where one of the pages is pinned, by whatever handle. Nothing has then left. */
 int warm_forget(warm *handle, uint16_t dev, uint64_t from);
 
 /* Replaces a device: the pages of the old one that were written to and not written back are written, it is flushed (fsync) where it waits for
@@ -433,11 +431,10 @@ int warm_forget(warm *handle, uint16_t dev, uint64_t from);
  * or none. All shards wait meanwhile, so that no thread finds the new file in one and the old one in another.
  * Refused: WARM_NO_DEVICE where there is no device of this number, or the pages of the new one do not fit into 2^63 - 1 bytes;
  * WARM_SAME_FILE where two devices would be of one file; WARM_FIXED where a page of the old device is pinned, by whatever handle; WARM_FAULT
- * where a write or the flush of the old device fails; WARM_MEMORY at any point. Shard by shard: so WARM_FAULT of one comes before
- * WARM_FIXED of the next. The replica then has the old device. A flush that failed before is remembered: such a device is replaced by none,
- * until the replica is closed and opened again. Where a shard is refused, those before it have gone back to the old device: its pages have
- * left their frames, after they were written, and their counts of it begin again.
- * One refusal with WARM_MEMORY leaves something else, where there are several shards: a shard was refused, and one before it found no memory to
+ * where a write or the flush of the old device fails; WARM_MEMORY at any point. The replica then has the old device. A flush that failed before
+ * is remembered: such a device is replaced by none, until the replica is closed and opened again. With several shards, pages of the old
+ * device may have been written where the call is refused with WARM_FAULT or WARM_MEMORY, and after WARM_MEMORY they may have left their frames.
+ * One refusal with WARM_MEMORY leaves something else, where there are several shards: a shard found no memory, and one before it found none to
  * go back. Some shards then have the new device, and the others the old one. In those that have the new one, no page of the device is in a
  * frame. Before any other call but warm_close, call it again, with either device, until it returns WARM_OK.
  * Caller: device points to one element, which is not kept; what warm_open asks holds of its descriptor from here on. */

@@ -63,3 +63,16 @@ ReplaceRefused dev d old why new = ⊥
 abbrev pub Replaces : ℕ → WarmDevice → OpenNode → Ending → OpenNode → Type 0
 Replaces dev d old (Ok given) new = Replaced dev d old new
 Replaces dev d old (Err why) new = ReplaceRefused dev d old why new
+
+-- Asking before
+
+-- whether the new device could stand in the place of the old one, by what is known before a page of
+-- the old one is looked at
+abbrev pub SaysMayStand : ℕ → WarmDevice → OpenNode → Ending → OpenNode → Type 0
+SaysMayStand dev d h (Ok given) new = MayStand dev d h × DescriptorsDiffer (devices_after dev d h)
+    × (new ≡ h)
+SaysMayStand dev d h (Err (Node Memory)) new = new ≡ h
+SaysMayStand dev d h (Err (Node (Pool NoDevice))) new = (MayStand dev d h → ⊥) × (new ≡ h)
+SaysMayStand dev d h (Err SameFile) new = MayStand dev d h
+    × HaveOneFile (devices_after dev d h) × (new ≡ h)
+SaysMayStand dev d h (Err why) new = ⊥

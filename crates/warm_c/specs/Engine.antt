@@ -1,7 +1,7 @@
 -- What the calls do by which an engine holds its pages: beside pins, reads and writes.
 use Rattle.std.specs.Prelude.{ℕ, ◌≡◌, Ok, Err}
 use Rattle.warm_pool.specs.declared.fault.PoolFault.TheVariants.{Fault}
-use Rattle.warm_pool.specs.Forgetting.{ForgetRefused, Forgets}
+use Rattle.warm_pool.specs.Forgetting.{ForgetRefused, Forgets, MayForget}
 use Rattle.warm_pool.specs.Keeping.{KeepsFrames, SameButFailures}
 use Rattle.warm_pool.specs.View.{view_of, Holds}
 use Rattle.warm_pool.specs.WritingSome.{FlushRefused, IsSettledOn, SomeFails, WritesBackSome}
@@ -66,3 +66,10 @@ ForgetsPages dev from old (Ok given) new = Forgets old.node.pool dev from new.no
 ForgetsPages dev from old (Err (Node (Pool why))) new =
     ForgetRefused old.node.pool dev from why new.node.pool × SameButPool old new
 ForgetsPages dev from old (Err why) new = ⊥
+
+-- whether they would be forgotten
+abbrev pub SaysMayForget : ℕ → ℕ → OpenNode → Ending → OpenNode → Type 0
+SaysMayForget dev from old (Ok given) new = MayForget old.node.pool dev from × (new ≡ old)
+SaysMayForget dev from old (Err (Node (Pool why))) new =
+    ForgetRefused old.node.pool dev from why old.node.pool × (new ≡ old)
+SaysMayForget dev from old (Err why) new = ⊥

@@ -1,6 +1,6 @@
 //! The calls on the devices of an open handle.
 ghost use Rattle.std.specs.Prelude.{◌≡◌, ◌*◌, ◌^◌, ◌<◌, ◌≤◌, IfNone, IfSome};
-ghost use Rattle.warm_c.specs.Devices.{Replaces};
+ghost use Rattle.warm_c.specs.Devices.{Replaces, SaysMayStand};
 ghost use Rattle.warm_c.specs.FdParts.{fd_opened, fd_state};
 
 use crate::fd_device::FdDevice;
@@ -51,6 +51,27 @@ impl OpenNode {
             return Err(Refusal::Node(NodeFault::Pool(unretired.fault)));
         }
         self.devices = Items::of(devices);
+        Ok(())
+    }
+
+    /// Says whether a device over another descriptor could stand in the place of one, before any
+    /// page of that one is looked at.
+    ///
+    /// # Errors
+    /// Those of [`OpenNode::replace`] that are not the node's own, in its order.
+    pub fn may_stand(&self, alloc: Global, dev: u16, device: &WarmDevice) -> Result<(), Refusal>
+        ensures { SaysMayStand dev device.now self.now result self.now }
+    {
+        if dev as usize >= self.devices.as_slice().len() {
+            return Err(Refusal::Node(NodeFault::Pool(PoolFault::NoDevice)));
+        }
+        let Some(_) = device_of(device, self.node.pool().page_size()) else {
+            return Err(Refusal::Node(NodeFault::Pool(PoolFault::NoDevice)));
+        };
+        let devices = devices_with(alloc, self.devices.as_slice(), dev as usize, *device)?;
+        if let Err(why) = check_apart(alloc, &devices) {
+            return Err(why);
+        }
         Ok(())
     }
 }

@@ -1,5 +1,6 @@
 //! The calls on an open handle by which an engine holds its pages, beside pins, reads and writes.
-ghost use Rattle.warm_c.specs.Engine.{FlushesDevice, ForgetsPages, PinsZeroed, WritesSome};
+ghost use Rattle.warm_c.specs.Engine.{FlushesDevice, ForgetsPages, PinsZeroed, SaysMayForget};
+ghost use Rattle.warm_c.specs.Engine.{WritesSome};
 
 use crate::open_node::OpenNode;
 use crate::status::Refusal;
@@ -49,6 +50,17 @@ impl OpenNode {
         ensures { ForgetsPages dev from self.old result self.new }
     {
         self.node.forget_pages(dev, from)?;
+        Ok(())
+    }
+
+    /// Calls [`warm_gossip::Node::may_forget`].
+    ///
+    /// # Errors
+    /// `Node`: the node's own.
+    pub fn may_forget(&self, dev: u16, from: u64) -> Result<(), Refusal>
+        ensures { SaysMayForget dev from self.now result self.now }
+    {
+        self.node.may_forget(dev, from)?;
         Ok(())
     }
 }

@@ -2,6 +2,8 @@
 ghost use Rattle.std.specs.Prelude.{◌≡◌, None};
 ghost use Rattle.warm_frames.specs.declared.message.Message.TheVariants.{Digest, Want};
 ghost use Rattle.warm_shards.specs.Shards.{IsShardCount, shard_of};
+ghost use Rattle.warm_c.specs.Devices.{SaysMayStand};
+ghost use Rattle.warm_c.specs.Engine.{SaysMayForget};
 ghost use Rattle.warm_c.specs.FrameParts.{FindsDiffering, MakesFrame, ReadsFrame};
 ghost use Rattle.warm_c.specs.Handles.{Called};
 ghost use Rattle.warm_c.specs.PartCalls.{AbsorbsPart, CalledWith, Gathers, GivesDigests, JoinsPart};
@@ -16,7 +18,7 @@ use crate::frame_parts::{
 use crate::handle::Handle;
 use crate::shard_parts::{divide, shards_of_batch};
 use crate::status::status_of;
-use crate::values::{PinnedSlot, WarmPage, WarmReference};
+use crate::values::{PinnedSlot, WarmDevice, WarmPage, WarmReference};
 use std::alloc::Global;
 use warm_shards::{is_shard_count, shard_of};
 
@@ -306,4 +308,47 @@ pub extern "C" fn node_join_part(
     let done = node.join_part(alloc, shards, shard, &other);
     *from = Handle::of(other);
     put_back(into, node, done)
+}
+
+/// Returns whether [`crate::node_forget`] would forget these pages: so several nodes forget together
+/// or not at all.
+///
+/// # Errors
+/// Those of `node_forget`. Nothing changes in any case.
+#[unsafe(no_mangle)]
+pub extern "C" fn node_may_forget(
+    alloc: Global,
+    handle: &mut Handle,
+    dev: u16,
+    from: u64,
+) -> i32
+    ensures { Called (SaysMayForget dev from) handle.old.held.node result handle.new.held.node }
+{
+    let Some(node) = handle.take(alloc) else {
+        return closed();
+    };
+    let done = node.may_forget(dev, from);
+    put_back(handle, node, done)
+}
+
+/// Returns whether a device over another descriptor could stand in the place of one, before any page
+/// of that one is looked at: so several nodes replace a device together or not at all.
+///
+/// # Errors
+/// Those of [`crate::node_replace`] that come before 11, in its order. Nothing changes in any case.
+#[unsafe(no_mangle)]
+pub extern "C" fn node_may_replace(
+    alloc: Global,
+    handle: &mut Handle,
+    dev: u16,
+    device: &WarmDevice,
+) -> i32
+    ensures { Called (SaysMayStand dev device.now) handle.old.held.node result
+        handle.new.held.node }
+{
+    let Some(node) = handle.take(alloc) else {
+        return closed();
+    };
+    let done = node.may_stand(alloc, dev, device);
+    put_back(handle, node, done)
 }
