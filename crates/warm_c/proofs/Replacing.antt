@@ -1,11 +1,11 @@
 -- Why a device is not replaced, from why devices clash.
-use Rattle.std.proofs.Common.{ℕ, refl}
+use Rattle.std.proofs.Common.{ℕ, Err, refl}
 use Rattle.warm_gossip.specs.declared.fault.NodeFault.TheVariants.{Memory, Pool, StaleSlot}
 use Rattle.warm_c.specs.declared.open_node.OpenNode.{OpenNode}
 use Rattle.warm_c.specs.declared.status.Refusal.{Refusal}
 use Rattle.warm_c.specs.declared.status.Refusal.TheVariants.{Node, NewPool, Frame, Closed, AlreadyOpen, BufferTooSmall, BadReplica, BadBucket, SameFile, Late, BadShards, UnevenFrames, Attached, PinsLeft, NoShard, Dump}
 use Rattle.warm_c.specs.declared.values.WarmDevice.{WarmDevice}
-use Rattle.warm_c.specs.Devices.{MayStand, ReplaceRefused, devices_after}
+use Rattle.warm_c.specs.Devices.{MayStand, ReplaceRefused, SaysMayStand, devices_after}
 use Rattle.warm_c.specs.Handles.{IsClash}
 
 -- two devices would be of one file
@@ -29,3 +29,25 @@ clash_replaces dev d h Attached may clash = absurd clash
 clash_replaces dev d h PinsLeft may clash = absurd clash
 clash_replaces dev d h NoShard may clash = absurd clash
 clash_replaces dev d h (Dump _) may clash = absurd clash
+
+-- the same, asked before
+pub clash_stands : (dev : ℕ) (d : WarmDevice) (h : OpenNode) (why : Refusal) → MayStand dev d h
+    → IsClash (devices_after dev d h) why → SaysMayStand dev d h (Err why) h
+clash_stands dev d h (Node Memory) may clash = refl
+clash_stands dev d h (Node (Pool _)) may clash = absurd clash
+clash_stands dev d h (Node StaleSlot) may clash = absurd clash
+clash_stands dev d h (NewPool _) may clash = absurd clash
+clash_stands dev d h (Frame _) may clash = absurd clash
+clash_stands dev d h Closed may clash = absurd clash
+clash_stands dev d h AlreadyOpen may clash = absurd clash
+clash_stands dev d h BufferTooSmall may clash = absurd clash
+clash_stands dev d h BadReplica may clash = absurd clash
+clash_stands dev d h BadBucket may clash = absurd clash
+clash_stands dev d h SameFile may clash = (may, clash, refl)
+clash_stands dev d h (Late _) may clash = absurd clash
+clash_stands dev d h BadShards may clash = absurd clash
+clash_stands dev d h UnevenFrames may clash = absurd clash
+clash_stands dev d h Attached may clash = absurd clash
+clash_stands dev d h PinsLeft may clash = absurd clash
+clash_stands dev d h NoShard may clash = absurd clash
+clash_stands dev d h (Dump _) may clash = absurd clash
