@@ -9,7 +9,7 @@ ghost use Rattle.warm_schedule.specs.Answers.{hex_text, byte_text, bytes_text};
 ghost use Rattle.warm_schedule.specs.Answers.{page_if_any, refused_text};
 ghost use Rattle.warm_schedule.specs.Answers.{answer_text, bad_line, end_refused};
 ghost use Rattle.warm_world.specs.declared.event.Answer.TheVariants.{Pinned};
-ghost use Rattle.warm_schedule.specs.declared.printer.TheConstants.{AT_ONCE};
+ghost use Rattle.warm_schedule.specs.declared.printer.TheConstants.{AT_ONCE, TWO_NUMBERS};
 
 use itoa::write_digits;
 use std::io::{self, Write};
@@ -21,17 +21,29 @@ use warm_world::{Answer, WorldFault};
 // The most bytes of two numbers with a byte between them.
 const TWO_NUMBERS: usize = 41;
 
-// Two numbers with a byte between them, by one write. They are put together from the end, since a
-// number's last digit is found first.
+// Two numbers with a byte between them, put before this end; where they begin. A number's last digit
+// is found first, so a text is put together from its end.
+#[inline(always)]
+fn put_two(line: &mut [u8], end: usize, first: u64, between: u8, last: u64) -> usize
+    requires { (TWO_NUMBERS ≤ end) × (end ≤ length line.old) }
+    ensures start { (result ≤ end) × (end ≤ result + TWO_NUMBERS) }
+    ensures written { drop result line.new
+        ≡ decimal first ++ between ∷ (decimal last ++ drop end line.old) }
+    ensures same { length line.new ≡ length line.old }
+{
+    let middle = write_digits(last, line, end) - 1;
+    line[middle] = between;
+    write_digits(first, line, middle)
+}
+
+// Two numbers with a byte between them, by one write.
 #[inline(never)]
 fn print_two<W: Write>(writer: &mut W, first: u64, between: u8, last: u64) -> io::Result<()>
     ensures { Prints result (W.contents writer.old) (W.contents writer.new)
         (decimal first ++ between ∷ decimal last) }
 {
     let mut text = [between; TWO_NUMBERS];
-    let middle = write_digits(last, &mut text, TWO_NUMBERS) - 1;
-    text[middle] = between;
-    let start = write_digits(first, &mut text, middle);
+    let start = put_two(&mut text, TWO_NUMBERS, first, between, last);
     writer.write_all(&text[start..])
 }
 
@@ -42,39 +54,63 @@ fn print_page<W: Write>(writer: &mut W, page: PageId) -> io::Result<()>
     print_two(writer, u64::from(page.dev), b':', page.no)
 }
 
-// TIME@REPLICA
-fn print_stamp<W: Write>(writer: &mut W, stamp: Stamp) -> io::Result<()>
-    ensures { Prints result (W.contents writer.old) (W.contents writer.new) (stamp_text stamp) }
+// A word of six bytes, put before this end; where it begins.
+#[inline(always)]
+fn put_word(line: &mut [u8], end: usize, word: &[u8; 6]) -> usize
+    requires { (6 ≤ end) × (end ≤ length line.old) }
+    ensures start { result + 6 ≡ end }
+    ensures written { drop result line.new ≡ word.now ++ drop end line.old }
+    ensures same { length line.new ≡ length line.old }
 {
-    print_two(writer, stamp.time, b'@', u64::from(stamp.replica.get()))
+    let start = end - 6;
+    line[start..end].copy_from_slice(word);
+    start
 }
 
-fn print_hist<W: Write>(writer: &mut W, hist: PageHist) -> io::Result<()>
-    ensures { Prints result (W.contents writer.old) (W.contents writer.new) (hist_text hist) }
+// TIME@REPLICA behind a word, put before this end; where the word begins.
+#[inline(always)]
+fn put_stamp(line: &mut [u8], end: usize, word: &[u8; 6], stamp: Stamp) -> usize
+    requires { (47 ≤ end) × (end ≤ length line.old) }
+    ensures start { (result ≤ end) × (end ≤ result + 47) }
+    ensures written { drop result line.new ≡ word.now ++ (stamp_text stamp ++ drop end line.old) }
+    ensures same { length line.new ≡ length line.old }
+{
+    let start = put_two(line, end, stamp.time, b'@', u64::from(stamp.replica.get()));
+    put_word(line, start, word)
+}
+
+// The stamps of a page, put before this end; where they begin.
+#[inline(always)]
+fn put_hist(line: &mut [u8], end: usize, hist: PageHist) -> usize
+    requires { (94 ≤ end) × (end ≤ length line.old) }
+    ensures start { (result ≤ end) × (end ≤ result + 94) }
+    ensures written { drop result line.new ≡ hist_text hist ++ drop end line.old }
+    ensures same { length line.new ≡ length line.old }
 {
     match hist {
-        PageHist::Once(last) => {
-            writer.write_all(b" last ")?;
-            print_stamp(writer, last)
-        }
+        PageHist::Once(last) => put_stamp(line, end, b" last ", last),
         PageHist::Twice(two) => {
             let last = two.last();
             let prev = two.prev();
-            writer.write_all(b" last ")?;
-            print_stamp(writer, last)?;
-            writer.write_all(b" prev ")?;
-            print_stamp(writer, prev)
+            let start = put_stamp(line, end, b" prev ", prev);
+            put_stamp(line, start, b" last ", last)
         }
     }
 }
 
-// The line of a page with its latest stamps.
+// The room for the line of a page with its latest stamps: three times two numbers, two words, and
+// the line's end.
+const ENTRY_LINE: usize = 136;
+
+// The line of a page with its latest stamps, by one write.
 fn print_entry<W: Write>(writer: &mut W, entry: Entry) -> io::Result<()>
     ensures { Prints result (W.contents writer.old) (W.contents writer.new) (entry_text entry) }
 {
-    print_page(writer, entry.page)?;
-    print_hist(writer, entry.hist)?;
-    writer.write_all(b"\n")
+    let Entry { page, hist } = entry;
+    let mut row = [b'\n'; ENTRY_LINE];
+    let end = put_hist(&mut row, ENTRY_LINE - 1, hist);
+    let start = put_two(&mut row, end, u64::from(page.dev), b':', page.no);
+    writer.write_all(&row[start..])
 }
 
 // The lines of entries.
