@@ -21,5 +21,7 @@ pub mod Dividing
 pub mod Alone
 pub mod PoolCalls
 pub mod EngineCalls
+pub mod Passing
+pub mod Asked
 pub mod LawsHold
 pub mod Examples

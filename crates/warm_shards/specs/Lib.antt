@@ -5,4 +5,5 @@ pub mod Dividing
 pub mod Faults
 pub mod Lending
 pub mod Parts
+pub mod Through
 pub mod Laws

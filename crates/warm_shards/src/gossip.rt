@@ -3,17 +3,17 @@ ghost use Rattle.std.specs.Prelude.{◌≡◌, ◌↔◌, ◌<◌, ◌≤◌, le
 ghost use Rattle.warm_frames.specs.Limits.{horizon_in};
 ghost use Rattle.warm_history.specs.Histories.{entries_of, references_of};
 ghost use Rattle.warm_history.specs.ListHistories.{list_references_of};
-ghost use Rattle.warm_gossip.specs.Answers.{refs_in};
+ghost use Rattle.warm_gossip.specs.Answers.{IsAnswer, refs_in};
 ghost use Rattle.warm_gossip.specs.Since.{BringsHeld, HasMoreSince, sent_since};
 ghost use Rattle.warm_gossip.specs.declared.call.Call.TheVariants.{Offer, Receive, Send};
 ghost use Rattle.warm_gossip.specs.declared.call.Reply.TheVariants.{Answers, Sent};
 ghost use Rattle.warm_gossip.specs.declared.fault.NodeFault.TheVariants.{Memory};
-ghost use Rattle.warm_shards.specs.Clauses.{JoinsAll, KeepPools, TakesInFirst, Together};
-ghost use Rattle.warm_shards.specs.Clauses.{TogetherAnswered};
+ghost use Rattle.warm_shards.specs.Clauses.{JoinsAll, KeepPools, SameShards, TakesInFirst};
+ghost use Rattle.warm_shards.specs.Clauses.{Together, TogetherAnswered};
 ghost use Rattle.warm_shards.specs.Parts.{IsOfShard};
 ghost use Rattle.warm_shards.specs.Shards.{AreShards, shard_at, whole};
 
-use crate::answers::{answer_to_digests, gathered, requested};
+use crate::answers::{answer_to_digests, answered, gathered, requested};
 use crate::history_calls::{absorb_parts, raise_all};
 use crate::shards::Shards;
 use crate::splitting::receiver;
@@ -192,6 +192,22 @@ impl<D: PageDevice> Shards<D> {
             horizon: self.nodes[0].history().horizon(),
             digests,
         })
+    }
+
+    /// The messages with which all shards together would answer this one, as
+    /// [`warm_gossip::Node::answers`] of the whole. Nothing that a caller sees has changed.
+    ///
+    /// At a horizon later than that of the shards it copies the whole history.
+    ///
+    /// # Errors
+    /// `Memory`: an allocation failed.
+    pub fn answers(&mut self, message: &Message) -> Result<MessageList, NodeFault>
+        ensures answers { IfOk result (IsAnswer (shard_at self.old 0).id (whole self.old)
+            message.now) }
+        ensures refused { IfErr result (λ why. why ≡ Memory) }
+        ensures same { SameShards self.old self.new }
+    {
+        answered(self.alloc, &mut self.nodes, message)
     }
 
     /// Receives a message, and returns the messages that answer it, in order: the call `Receive` of

@@ -24,6 +24,7 @@ mod lending;
 mod pool_calls;
 mod shards;
 mod splitting;
+mod through;
 
 pub use fault::{ShardsError, ShardsFault};
 pub use pool_calls::ShardSlot;
