@@ -17,6 +17,11 @@ pub mod Answering
 pub mod Entries
 pub mod Opening
 pub mod Receiving
+pub mod Dividing
+pub mod Alone
 pub mod PoolCalls
+pub mod EngineCalls
+pub mod Passing
+pub mod Asked
 pub mod LawsHold
 pub mod Examples

@@ -4,4 +4,6 @@ pub mod Digests
 pub mod Dividing
 pub mod Faults
 pub mod Lending
+pub mod Parts
+pub mod Through
 pub mod Laws

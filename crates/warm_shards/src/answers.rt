@@ -1,11 +1,11 @@
 //! What all shards together answer to digests and to a request.
-ghost use Rattle.std.specs.Prelude.{◌≡◌, ◌<◌, ◌++◌, ◌∷◌, [], IfErr, IfOk, OnOk};
+ghost use Rattle.std.specs.Prelude.{◌≡◌, ◌↔◌, ◌<◌, ◌++◌, ◌∷◌, [], IfErr, IfOk, IsTrue, OnOk};
 ghost use Rattle.warm_stamps.specs.declared.TheConstants.{BUCKETS};
 ghost use Rattle.warm_history.specs.Histories.{IsHistory, entries_of};
 ghost use Rattle.warm_digest.specs.BucketDigests.{digests_of};
 ghost use Rattle.warm_frames.specs.Chunks.{bucket_messages};
 ghost use Rattle.warm_pool.specs.Keeping.{KeepsBytes};
-ghost use Rattle.warm_gossip.specs.Answers.{AnswersDigests, requested_messages};
+ghost use Rattle.warm_gossip.specs.Answers.{AnswersDigests, IsAnswer, requested_messages};
 ghost use Rattle.warm_gossip.specs.Clauses.{SameView};
 ghost use Rattle.warm_gossip.specs.declared.fault.NodeFault.TheVariants.{Memory};
 ghost use Rattle.warm_shards.specs.Clauses.{SameShards};
@@ -15,8 +15,9 @@ ghost use Rattle.warm_shards.specs.Shards.{AreShards, shard_at, whole};
 use std::alloc::{AllocError, Global};
 use warm_devices::PageDevice;
 use warm_digest::differing;
-use warm_frames::{DIGEST_SIZE, DigestTable, Message};
+use warm_frames::{DIGEST_SIZE, DigestTable, Message, MessageList};
 use warm_gossip::{Node, NodeFault};
+use warm_pool::Pool;
 use warm_stamps::{BUCKETS, Bucket, BucketSet};
 
 // How many digests a table has.
@@ -140,4 +141,79 @@ pub(crate) fn answer_to_digests<D: PageDevice>(
     };
     put_last(&mut messages, want)?;
     Ok(messages)
+}
+
+// A node of its own that has the history of all shards, and a pool of no use.
+fn one_node<D: PageDevice>(alloc: Global, nodes: &Vec<Node<D>>) -> Result<Node<D>, NodeFault>
+    requires { AreShards nodes.now.items }
+    ensures id { IfOk result (λ one. one.id ≡ (shard_at nodes.now.items 0).id) }
+    ensures history { IfOk result (λ one. one.history ≡ whole nodes.now.items) }
+    ensures refused { IfErr result (λ why. why ≡ Memory) }
+{
+    let Ok(pool) = Pool::new(alloc, 1, 1, Vec::new(alloc)) else {
+        return Err(NodeFault::Memory);
+    };
+    let mut one = Node::new(alloc, nodes[0].id(), pool);
+    let count = nodes.len();
+    for shard in 0..count {
+        one.join(nodes[shard].history())?;
+    }
+    Ok(one)
+}
+
+// The answer to a message at a later horizon: that of a copy, which is raised in place of the shards.
+fn answered_by_copy<D: PageDevice>(
+    alloc: Global,
+    nodes: &Vec<Node<D>>,
+    message: &Message,
+) -> Result<MessageList, NodeFault>
+    requires { AreShards nodes.now.items }
+    ensures answers { IfOk result (IsAnswer (shard_at nodes.now.items 0).id
+        (whole nodes.now.items) message.now) }
+    ensures refused { IfErr result (λ why. why ≡ Memory) }
+{
+    let mut one = one_node(alloc, nodes)?;
+    let answers = one.answers(message)?;
+    Ok(answers)
+}
+
+// Whether a time is later than the horizon of all shards.
+fn is_later<D: PageDevice>(nodes: &Vec<Node<D>>, time: u64) -> bool
+    requires { AreShards nodes.now.items }
+    ensures { IsTrue result ↔ ((whole nodes.now.items).horizon < time) }
+{
+    nodes[0].history().horizon() < time
+}
+
+/// What all shards together would answer to a message.
+///
+/// `Memory` occurs only where an allocation fails.
+pub(crate) fn answered<D: PageDevice>(
+    alloc: Global,
+    nodes: &mut Vec<Node<D>>,
+    message: &Message,
+) -> Result<MessageList, NodeFault>
+    requires { AreShards nodes.old.items }
+    ensures answers { IfOk result (IsAnswer (shard_at nodes.old.items 0).id
+        (whole nodes.old.items) message.now) }
+    ensures refused { IfErr result (λ why. why ≡ Memory) }
+    ensures same { SameShards nodes.old.items nodes.new.items }
+{
+    if let Message::Entries { .. } = message {
+        return Ok(MessageList::of(Vec::new(alloc)));
+    }
+    if is_later(nodes, message.horizon()) {
+        return answered_by_copy(alloc, nodes, message);
+    }
+    match message {
+        Message::Entries { .. } => Ok(MessageList::of(Vec::new(alloc))),
+        Message::Digest { digests, .. } => {
+            let messages = answer_to_digests(alloc, nodes, digests)?;
+            Ok(MessageList::of(messages))
+        }
+        Message::Want { request, .. } => {
+            let messages = requested(alloc, nodes, *request)?;
+            Ok(MessageList::of(messages))
+        }
+    }
 }

@@ -1,43 +1,45 @@
 //! The calls that take references in, and forget them.
-ghost use Rattle.std.specs.Prelude.{◌≡◌, filter, IfErr, IfOk, OnErr, OnOk, nat_eq};
+ghost use Rattle.std.specs.Prelude.{◌≡◌, ◌<◌, length, IfErr, OnOk};
+ghost use Rattle.std.specs.List.{AllByRecursion};
 ghost use Rattle.warm_history.specs.ReferenceSets.{set_of_list};
 ghost use Rattle.warm_gossip.specs.declared.call.Call.TheVariants.{Absorb, Horizon, WarmList};
 ghost use Rattle.warm_gossip.specs.declared.call.Reply.TheVariants.{Done, Kept, Pages};
 ghost use Rattle.warm_gossip.specs.declared.fault.NodeFault.TheVariants.{Memory};
-ghost use Rattle.warm_shards.specs.Clauses.{HasPart, KeepPools, TakesInFirst, Together};
+ghost use Rattle.warm_shards.specs.Clauses.{KeepPools, TakesInFirst, Together};
 ghost use Rattle.warm_shards.specs.Clauses.{TogetherAnswered};
-ghost use Rattle.warm_shards.specs.Shards.{AreShards, IsShardCount, shard_of};
+ghost use Rattle.warm_shards.specs.Shards.{AreShards, shard_of};
 
-use crate::shards::{Shards, shard_of};
-use std::alloc::{AllocError, Global};
+use crate::shards::Shards;
+use crate::splitting::{only_shard, parts_of};
+use std::alloc::Global;
 use warm_devices::PageDevice;
 use warm_gossip::{Node, NodeFault};
 use warm_rank::warm_list;
 use warm_stamps::{PageList, Reference};
 
-// The references of the batch to pages of one shard, in order.
-fn part_of(
-    alloc: Global,
-    batch: &[Reference],
-    count: usize,
+// The node of a shard absorbs a batch whose pages are all of that shard. Nothing is copied.
+fn absorb_alone<D: PageDevice>(
+    nodes: &mut Vec<Node<D>>,
     shard: usize,
-) -> Result<Vec<Reference>, AllocError>
-    requires { IsShardCount count }
-    ensures part { IfOk result (λ part.
-        part.items ≡ filter (λ r. nat_eq (shard_of count r.page) shard) batch.now) }
-    ensures some { OnErr result (HasPart count shard (set_of_list batch.now)) }
+    batch: &[Reference],
+) -> Result<(), NodeFault>
+    requires shards { AreShards nodes.old.items }
+    requires there { shard < length nodes.old.items }
+    requires own { AllByRecursion (λ r. shard_of (length nodes.old.items) r.page ≡ shard)
+        batch.now }
+    ensures shards { AreShards nodes.new.items }
+    ensures absorbed { OnOk result (Together nodes.old.items (Absorb batch.now) Done
+        nodes.new.items) }
+    ensures refused { IfErr result (λ why. (why ≡ Memory)
+        × TakesInFirst nodes.old.items (set_of_list batch.now) nodes.new.items) }
+    ensures pools { KeepPools nodes.old.items nodes.new.items }
 {
-    let mut part = Vec::new(alloc);
-    for reference in batch {
-        if shard_of(count, reference.page) == shard {
-            part.push(*reference)?;
-        }
-    }
-    Ok(part)
+    nodes[shard].absorb(batch)?;
+    Ok(())
 }
 
 // Each node absorbs its part of the batch, shard by shard up to the first that refuses its part.
-pub(crate) fn absorb_parts<D: PageDevice>(
+fn absorb_each<D: PageDevice>(
     alloc: Global,
     nodes: &mut Vec<Node<D>>,
     batch: &[Reference],
@@ -51,14 +53,35 @@ pub(crate) fn absorb_parts<D: PageDevice>(
     ensures pools { KeepPools nodes.old.items nodes.new.items }
 {
     let count = nodes.len();
+    let parts = parts_of(alloc, batch, count)?;
     for shard in 0..count {
-        let part = part_of(alloc, batch, count, shard)?;
+        let part = parts[shard].as_slice();
         if part.is_empty() {
             continue;
         }
-        nodes[shard].absorb(&part)?;
+        nodes[shard].absorb(part)?;
     }
     Ok(())
+}
+
+/// Each node absorbs its part of the batch. It is copied only where it has pages of several shards.
+pub(crate) fn absorb_parts<D: PageDevice>(
+    alloc: Global,
+    nodes: &mut Vec<Node<D>>,
+    batch: &[Reference],
+) -> Result<(), NodeFault>
+    requires { AreShards nodes.old.items }
+    ensures shards { AreShards nodes.new.items }
+    ensures absorbed { OnOk result (Together nodes.old.items (Absorb batch.now) Done
+        nodes.new.items) }
+    ensures refused { IfErr result (λ why. (why ≡ Memory)
+        × TakesInFirst nodes.old.items (set_of_list batch.now) nodes.new.items) }
+    ensures pools { KeepPools nodes.old.items nodes.new.items }
+{
+    if let Some(shard) = only_shard(batch, nodes.len()) {
+        return absorb_alone(nodes, shard, batch);
+    }
+    absorb_each(alloc, nodes, batch)
 }
 
 // Raises the horizon of each node.
@@ -77,7 +100,7 @@ pub(crate) fn raise_all<D: PageDevice>(nodes: &mut Vec<Node<D>>, time: u64) -> u
 
 impl<D: PageDevice> Shards<D> {
     /// Adds references to the history, each in the shard of its page: the call `Absorb` of the
-    /// whole.
+    /// whole. A batch whose pages are all of one shard is not copied.
     ///
     /// # Errors
     /// `Memory`: an allocation failed. The references to pages of the first shards are then

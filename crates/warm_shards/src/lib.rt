@@ -15,6 +15,7 @@
 #![tactic(auto)]
 
 mod answers;
+mod engine_calls;
 mod fault;
 mod gossip;
 mod history_calls;
@@ -22,6 +23,8 @@ pub mod laws;
 mod lending;
 mod pool_calls;
 mod shards;
+mod splitting;
+mod through;
 
 pub use fault::{ShardsError, ShardsFault};
 pub use pool_calls::ShardSlot;

@@ -5,6 +5,7 @@ use Rattle.warm_history.specs.ListHistories.{list_references_of}
 use Rattle.warm_gossip.specs.declared.call.Call.TheVariants.{Horizon}
 use Rattle.warm_gossip.specs.declared.call.Reply.TheVariants.{Kept}
 use Rattle.warm_shards.specs.Clauses.{Together}
+use Rattle.warm_shards.proofs.Alone.{joined_ok, raised_late, refused_ok}
 use Rattle.warm_shards.proofs.Calls.{keep_then}
 use Rattle.warm_shards.proofs.Receiving.{joined_all, joined_some, raised_alone}
 use Rattle.warm_shards.proofs.gossip.join_all.Goals as goal
@@ -34,3 +35,17 @@ returns g c =
       refused = joined_some old mid new c.raise_all.result c.args.other.now c.deref-2.result.now c.absorb_parts.result refs c.raise_all.ensures.pools.count raised c.absorb_parts.ensures.refused;
       pools = keep_then old mid new c.raise_all.ensures.pools c.absorb_parts.ensures.pools;
     }
+
+pub join_alone-requires-clause-raised : goal.join_alone-requires-clause-raised
+join_alone-requires-clause-raised g c =
+    let mid = c.raise_all.new.nodes.items in
+    raised_late c.args.nodes.now.items mid c.args.other.now.horizon c.raise_all.result c.raise_all.ensures.shards (subst (λ (x : ℕ). Together c.args.nodes.now.items (Horizon x) (Kept c.raise_all.result) mid) c.horizon.ensures.value c.raise_all.ensures.step)
+
+pub returns-then-len-eq1-clause-joined : goal.returns-then-len-eq1-clause-joined
+returns-then-len-eq1-clause-joined g c =
+    let mid = c.raise_all.new.nodes.items in
+    joined_ok c.args.nodes.now.items mid c.join_alone.new.nodes.items c.raise_all.result c.args.other.now c.join_alone.result (subst (λ (x : ℕ). Together c.args.nodes.now.items (Horizon x) (Kept c.raise_all.result) mid) c.horizon.ensures.value c.raise_all.ensures.step) c.join_alone.ensures.joined
+
+pub returns-then-len-eq1-clause-refused : goal.returns-then-len-eq1-clause-refused
+returns-then-len-eq1-clause-refused g c =
+    refused_ok c.args.nodes.now.items c.raise_all.new.nodes.items c.join_alone.new.nodes.items c.horizon.result c.raise_all.result (references_of c.args.other.now) c.join_alone.result c.requires c.horizon.ensures.value c.raise_all.ensures.step c.join_alone.ensures.refused

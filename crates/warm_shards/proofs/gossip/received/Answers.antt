@@ -7,6 +7,7 @@ use Rattle.warm_gossip.specs.declared.call.Reply.TheVariants.{Answers, Kept}
 use Rattle.warm_history.specs.ListHistories.{list_references_of}
 use Rattle.warm_gossip.specs.Answers.{refs_in}
 use Rattle.warm_shards.specs.Clauses.{TakesInFirst, Together}
+use Rattle.warm_shards.proofs.Alone.{raised_late, received_ok, refused_ok}
 use Rattle.warm_shards.proofs.Calls.{same_whole}
 use Rattle.warm_shards.proofs.Receiving.{digests_received, entries_received, entries_refused, horizon_of, raised_alone, request_received}
 use Rattle.warm_shards.proofs.gossip.received.Goals as goal
@@ -72,3 +73,17 @@ returns-in_ok-messages-in-Want-clause-received g c =
     let raised = subst (λ (x : ℕ). Together old (Horizon x) (Kept c.raise_all.result) mid) (c.horizon.ensures ∙ ap horizon_in c.in-Want.is) c.raise_all.ensures.step in
     subst (λ (m : Message). Together old (Receive m) (Answers c.of-in-Want.result) new) (sym c.in-Want.is)
     (request_received old mid new c.raise_all.result c.in-Want.sender c.in-Want.horizon c.in-Want.request c.of-in-Want.result c.in_ok-messages-in-Want.messages.items c.of-in-Want.ensures raised c.in_ok-messages-in-Want.ensures.same c.in_ok-messages-in-Want.ensures.messages)
+
+pub receive_alone-requires-clause-raised : goal.receive_alone-requires-clause-raised
+receive_alone-requires-clause-raised g c =
+    let mid = c.raise_all.new.nodes.items in
+    raised_late c.args.nodes.now.items mid (horizon_in c.args.message) c.raise_all.result c.raise_all.ensures.shards (subst (λ (x : ℕ). Together c.args.nodes.now.items (Horizon x) (Kept c.raise_all.result) mid) c.horizon.ensures c.raise_all.ensures.step)
+
+pub returns-in-Some-clause-received : goal.returns-in-Some-clause-received
+returns-in-Some-clause-received g c =
+    let mid = c.raise_all.new.nodes.items in
+    received_ok c.len.result c.in-Some.shard c.args.nodes.now.items mid c.receive_alone.new.nodes.items c.raise_all.result c.args.message c.receive_alone.result c.in-Some.ensures.only (subst (λ (x : ℕ). Together c.args.nodes.now.items (Horizon x) (Kept c.raise_all.result) mid) c.horizon.ensures c.raise_all.ensures.step) c.receive_alone.ensures.received
+
+pub returns-in-Some-clause-refused : goal.returns-in-Some-clause-refused
+returns-in-Some-clause-refused g c =
+    refused_ok c.args.nodes.now.items c.raise_all.new.nodes.items c.receive_alone.new.nodes.items c.horizon.result c.raise_all.result (refs_in c.args.message) c.receive_alone.result c.requires (c.horizon.ensures ∙ sym (horizon_of c.args.message)) c.raise_all.ensures.step c.receive_alone.ensures.refused

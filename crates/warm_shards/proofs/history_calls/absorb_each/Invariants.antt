@@ -1,6 +1,6 @@
 use Rattle.std.proofs.Common.{◌≡◌, length}
 use Rattle.warm_shards.proofs.Absorbing.{HaveAbsorbed}
-use Rattle.warm_shards.proofs.history_calls.absorb_parts.Given as goal
+use Rattle.warm_shards.proofs.history_calls.absorb_each.Given as goal
 
 -- the first shards have absorbed their parts
 abbrev pub invariant-loop-shard : goal.invariant-loop-shard

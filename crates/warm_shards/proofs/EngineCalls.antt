@@ -1,0 +1,176 @@
+-- What an engine asks of a shard beside the calls leaves it the shard that it was.
+use Rattle.std.proofs.Common.{◌≡◌, inl, inr, ℕ, zero, suc, Bool, true, false, List, [], ◌∷◌, map, get_or, Some, None, Result, Ok, Err, sym, ap, subst, ◌∙◌}
+use Rattle.std.specs.Prelude.{IfErr, OnOk, if◌then◌else◌}
+use Rattle.warm_stamps.specs.declared.PageId.{PageId}
+use Rattle.warm_history.specs.Histories.{HistoryView}
+use Rattle.warm_devices.specs.Device.{DeviceState}
+use Rattle.warm_pool.specs.declared.fault.PoolFault.{PoolFault}
+use Rattle.warm_pool.specs.declared.fault.PoolFault.TheVariants.{SizeDiffers, NoDevice, Fixed, Fault}
+use Rattle.warm_pool.specs.declared.slot.Slot.{Slot}
+use Rattle.warm_pool.specs.Forgetting.{ForgetRefused, Forgets}
+use Rattle.warm_pool.specs.Frames.{FrameState, vacated}
+use Rattle.warm_pool.specs.Keeping.{SameButFailures}
+use Rattle.warm_pool.specs.Retiring.{RetireRefused, Retired, emptied}
+use Rattle.warm_pool.specs.State.{PoolState}
+use Rattle.warm_pool.specs.View.{FrameView, PoolView, frame_at, frame_view, view_of}
+use Rattle.warm_pool.specs.WritingBack.{is_from, is_on}
+use Rattle.warm_pool.specs.WritingSome.{FlushRefused, SomeFails}
+use Rattle.warm_pool.specs.Zeroing.{PinnedZeroed, PutsZeros}
+use Rattle.warm_pool.proofs.Slots.{at_set}
+use Rattle.warm_gossip.specs.declared.fault.NodeFault.{NodeFault}
+use Rattle.warm_gossip.specs.declared.fault.NodeFault.TheVariants.{Memory, Pool, StaleSlot}
+use Rattle.warm_gossip.specs.Clauses.{OfPool, SameView}
+use Rattle.warm_gossip.specs.State.{NodeState, NodeView, node_view}
+use Rattle.warm_gossip.proofs.VictimLemmas.{fixes_change}
+use Rattle.warm_shards.specs.Clauses.{KeepsKnown}
+use Rattle.warm_shards.proofs.Calls.{HasOnly, only_kept}
+use Rattle.warm_shards.proofs.PoolCalls.{OnlyPool}
+
+abbrev no_frame : FrameView
+no_frame = record { page = None; generation = 0; fixes = 0 }
+
+-- its pool alone has changed
+pub known_pool : (n m : NodeState) → KeepsKnown n m
+    → node_view m ≡ record (node_view n) { pool = view_of m.pool }
+known_pool n m known = λ i. record { id = known.id i; history = known.history i; pool = view_of m.pool }
+
+-- the frames that a caller sees are unchanged
+pub same_own : (P : PageId → Type 0) (v w : PoolView) → w.frames ≡ v.frames → HasOnly P v
+    → HasOnly P w
+same_own P v w same own =
+    only_kept P v w (λ i. ap (λ fs. let f : FrameView = get_or fs i no_frame in f.page) same) own
+
+pub seen_own : (P : PageId → Type 0) (n m : NodeState) → SameView n m → HasOnly P (view_of n.pool)
+    → HasOnly P (view_of m.pool)
+seen_own P n m same own =
+    same_own P (view_of n.pool) (view_of m.pool) (ap (λ (v : NodeView). v.pool.frames) same) own
+
+-- ---- zeros
+
+put_own : (P : PageId → Type 0) (h : HistoryView) (v w : PoolView) (p : PageId) (slot : Slot)
+    → PutsZeros h v p slot w → P p → HasOnly P v → HasOnly P w
+put_own P h v w p slot puts is own k q at =
+    subst (λ (x : PoolView). (frame_at x k).page ≡ Some q → P q) (sym puts.becomes)
+    (at_set no_frame (λ i f. f.page ≡ Some q → P q) v.frames slot.index _ (elim puts.to_load [ inl free ↦ free.there | inr victim ↦ victim.there ]) (λ here. let e : p ≡ q = cc in subst P e is) (λ j other there. own j q there) k) at
+
+pub zeroed_own : (P : PageId → Type 0) (n m : NodeState) (p : PageId) (slot : Slot) → P p
+    → HasOnly P (view_of n.pool) → KeepsKnown n m
+    → PinnedZeroed n.history (view_of n.pool) p slot (view_of m.pool) → OnlyPool P n m
+zeroed_own P n m p slot is own known pinned = record {
+  alone = known_pool n m known;
+  own = elim pinned.1 [
+    | inl fixes ↦
+        let between : HasOnly P fixes.between = only_kept P (view_of n.pool) fixes.between (fixes_change (view_of n.pool) fixes.between slot.index _ fixes.adds.there (ap (λ (x : PoolView). x.frames) fixes.adds.becomes)) own in
+        same_own P fixes.between (view_of m.pool) (ap (λ (x : PoolView). x.frames) fixes.written.becomes) between
+    | inr puts ↦ put_own P n.history (view_of n.pool) (view_of m.pool) p slot puts is own
+  ];
+}
+
+pub stays_own : (P : PageId → Type 0) (n m : NodeState) → HasOnly P (view_of n.pool)
+    → KeepsKnown n m → SameButFailures (view_of n.pool) (view_of m.pool) → OnlyPool P n m
+stays_own P n m own known stays = record {
+  alone = known_pool n m known;
+  own = same_own P (view_of n.pool) (view_of m.pool) (ap (λ (x : PoolView). x.frames) stays) own;
+}
+
+-- ---- writing back
+
+pub some_own : (P : PageId → Type 0) (n m : NodeState) (limit : ℕ) (result : Result ℕ NodeFault)
+    → HasOnly P (view_of n.pool) → KeepsKnown n m → OnOk result (SameView n m)
+    → IfErr result (λ why. (why ≡ Pool Fault) × SomeFails limit n.pool m.pool) → OnlyPool P n m
+some_own P n m limit (Ok left) own known same refused =
+    record { alone = known_pool n m known; own = seen_own P n m same own }
+some_own P n m limit (Err why) own known same refused = record {
+  alone = known_pool n m known;
+  own = same_own P (view_of n.pool) (view_of m.pool) (ap (λ (x : PoolView). x.frames) refused.1.fails.becomes) own;
+}
+
+flush_refused : (P : PageId → Type 0) (n m : NodeState) (dev : ℕ) (why : PoolFault)
+    → HasOnly P (view_of n.pool) → FlushRefused n.pool dev why m.pool → HasOnly P (view_of m.pool)
+flush_refused P n m dev NoDevice own refused = subst (λ (s : PoolState). HasOnly P (view_of s)) (sym refused.1) own
+flush_refused P n m dev Fault own refused = same_own P (view_of n.pool) (view_of m.pool) (ap (λ (x : PoolView). x.frames) refused.1.becomes) own
+flush_refused P n m dev why own refused = absurd refused
+
+pub flushed_own : (P : PageId → Type 0) (n m : NodeState) (dev : ℕ) (result : Result Unit NodeFault)
+    → HasOnly P (view_of n.pool) → KeepsKnown n m → OnOk result (SameView n m)
+    → IfErr result (OfPool (λ fault. FlushRefused n.pool dev fault m.pool)) → OnlyPool P n m
+flushed_own P n m dev (Ok given) own known same refused =
+    record { alone = known_pool n m known; own = seen_own P n m same own }
+flushed_own P n m dev (Err (Pool why)) own known same refused =
+    record { alone = known_pool n m known; own = flush_refused P n m dev why own refused }
+flushed_own P n m dev (Err Memory) own known same refused = absurd refused
+flushed_own P n m dev (Err StaleSlot) own known same refused = absurd refused
+
+-- ---- pages that leave
+
+-- each frame has its page, or none
+pub fewer_own : (P : PageId → Type 0) (change : FrameView → FrameView) (fs : List FrameView)
+    → ((f : FrameView) (p : PageId) → (change f).page ≡ Some p → f.page ≡ Some p)
+    → ((k : ℕ) (p : PageId) → (get_or fs k no_frame).page ≡ Some p → P p) → (k : ℕ) (p : PageId)
+    → (get_or (map change fs) k no_frame).page ≡ Some p → P p
+fewer_own P change [] keeps own k p at = let no : None ≡ Some p = at in absurd (cc)
+fewer_own P change (f ∷ fs) keeps own zero p at = own 0 p (keeps f p at)
+fewer_own P change (f ∷ fs) keeps own (suc k) p at = fewer_own P change fs keeps (λ j. own (suc j)) k p at
+
+emptied_page : (gone : Bool) (f : FrameView) (p : PageId)
+    → (if gone then emptied f else f).page ≡ Some p → f.page ≡ Some p
+emptied_page true f p at = let no : None ≡ Some p = at in absurd (cc)
+emptied_page false f p at = at
+
+retire_own : (P : PageId → Type 0) (v w : PoolView) (dev : ℕ) (device : DeviceState)
+    → Retired v dev device w → HasOnly P v → HasOnly P w
+retire_own P v w dev device retired own k p at =
+    fewer_own P (λ f. if is_on dev f.page then emptied f else f) v.frames (λ f q. emptied_page (is_on dev f.page) f q) own k p
+    (ap (λ (x : PoolView). (frame_at x k).page) (sym retired.becomes) ∙ at)
+
+retire_refused : (P : PageId → Type 0) (v w : PoolView) (dev : ℕ) (device : DeviceState)
+    (why : PoolFault) → HasOnly P v → RetireRefused v dev device why w → HasOnly P w
+retire_refused P v w dev device NoDevice own refused = subst (HasOnly P) (sym refused.1) own
+retire_refused P v w dev device SizeDiffers own refused = subst (HasOnly P) (sym refused.2) own
+retire_refused P v w dev device Fixed own refused = subst (HasOnly P) (sym refused.3) own
+retire_refused P v w dev device Fault own refused = same_own P v w (ap (λ (x : PoolView). x.frames) refused.1.becomes) own
+retire_refused P v w dev device why own refused = absurd refused
+
+pub retired_own : {E : Type 0} (P : PageId → Type 0) (n m : NodeState) (dev : ℕ)
+    (device : DeviceState) (fault : E → PoolFault) (result : Result Unit E)
+    → HasOnly P (view_of n.pool) → KeepsKnown n m
+    → OnOk result (Retired (view_of n.pool) dev device (view_of m.pool))
+    → IfErr result (λ e. RetireRefused (view_of n.pool) dev device (fault e) (view_of m.pool))
+    → OnlyPool P n m
+retired_own P n m dev device fault (Ok given) own known retired refused =
+    record { alone = known_pool n m known; own = retire_own P (view_of n.pool) (view_of m.pool) dev device retired own }
+retired_own P n m dev device fault (Err e) own known retired refused =
+    record { alone = known_pool n m known; own = retire_refused P (view_of n.pool) (view_of m.pool) dev device (fault e) own refused }
+
+vacated_page : (gone : Bool) (f : FrameState) (p : PageId)
+    → (frame_view (if gone then vacated f else f)).page ≡ Some p → (frame_view f).page ≡ Some p
+vacated_page true f p at = let no : None ≡ Some p = at in absurd (cc)
+vacated_page false f p at = at
+
+vacated_own : (P : PageId → Type 0) (gone : FrameState → Bool) (fs : List FrameState)
+    → ((k : ℕ) (p : PageId) → (get_or (map frame_view fs) k no_frame).page ≡ Some p → P p)
+    → (k : ℕ) (p : PageId)
+    → (get_or (map frame_view (map (λ f. if gone f then vacated f else f) fs)) k no_frame).page ≡ Some p → P p
+vacated_own P gone [] own k p at = let no : None ≡ Some p = at in absurd (cc)
+vacated_own P gone (f ∷ fs) own zero p at = own 0 p (vacated_page (gone f) f p at)
+vacated_own P gone (f ∷ fs) own (suc k) p at = vacated_own P gone fs (λ j. own (suc j)) k p at
+
+pub forgotten_own : (P : PageId → Type 0) (n m : NodeState) (dev from : ℕ)
+    → HasOnly P (view_of n.pool) → KeepsKnown n m → Forgets n.pool dev from m.pool → OnlyPool P n m
+forgotten_own P n m dev from own known forgets = record {
+  alone = known_pool n m known;
+  own = λ k p at. vacated_own P (λ f. is_from dev from f.page) n.pool.frames own k p (ap (λ (s : PoolState). (frame_at (view_of s) k).page) (sym forgets.becomes) ∙ at);
+}
+
+pub unforgotten_own : (P : PageId → Type 0) (n m : NodeState) (dev from : ℕ) (why : NodeFault)
+    → HasOnly P (view_of n.pool) → KeepsKnown n m
+    → OfPool (λ fault. ForgetRefused n.pool dev from fault m.pool) why → OnlyPool P n m
+unforgotten_own P n m dev from Memory own known refused = absurd refused
+unforgotten_own P n m dev from StaleSlot own known refused = absurd refused
+unforgotten_own P n m dev from (Pool why) own known refused =
+    record { alone = known_pool n m known; own = subst (λ (s : PoolState). HasOnly P (view_of s)) (sym (unchanged why refused)) own }
+  where
+    unchanged : (fault : PoolFault) → ForgetRefused n.pool dev from fault m.pool → m.pool ≡ n.pool
+    unchanged NoDevice refused = refused.1
+    unchanged Fixed refused = refused.2
+    unchanged other refused = absurd refused

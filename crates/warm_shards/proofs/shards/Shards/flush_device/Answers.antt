@@ -1,0 +1,14 @@
+use Rattle.std.proofs.Common.{◌≡◌, ◌<◌, List, length, sym, subst}
+use Rattle.warm_gossip.specs.State.{NodeState}
+use Rattle.warm_shards.specs.Shards.{shard_of}
+use Rattle.warm_shards.proofs.PoolCalls.{after_call}
+use Rattle.warm_shards.proofs.EngineCalls.{flushed_own}
+use Rattle.warm_shards.proofs.shards.Shards.flush_device.Goals as goal
+
+pub invariant_of-self : goal.invariant_of-self
+invariant_of-self g c =
+    let ns = c.self.inside.nodes.items in
+    let i = c.args.shard in
+    let lt : i < length ns = subst (λ (xs : List NodeState). i < length xs) (sym c.self.view_is) c.requires.there in
+    after_call ns i c.index_mut.result.now c.flush_device.new.self c.index_mut.result.now c.self.invariant lt c.index_mut.ensures.value (λ old.
+    flushed_own (λ p. shard_of (length ns) p ≡ i) c.index_mut.result.now c.flush_device.new.self c.args.dev c.flush_device.result old.own.resident (record { id = c.flush_device.ensures.id; history = c.flush_device.ensures.history }) c.flush_device.ensures.same c.flush_device.ensures.refused)

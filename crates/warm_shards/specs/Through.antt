@@ -1,0 +1,110 @@
+-- Calls that go through the shards, from the first on, and stop where one refuses.
+use Rattle.std.specs.Prelude.{◌≡◌, ◌⊎◌, ℕ, ◌<◌, ◌≤◌, false, List, [], length}
+use Rattle.warm_history.specs.ReferenceSets.{with_horizon}
+use Rattle.warm_history.specs.Histories.{history, history_of_entries_at, references_of}
+use Rattle.warm_pool.specs.Forgetting.{ForgetRefused, Forgets}
+use Rattle.warm_pool.specs.Frames.{nth_frame}
+use Rattle.warm_pool.specs.Keeping.{KeepsBytes}
+use Rattle.warm_pool.specs.Retiring.{Emptied}
+use Rattle.warm_pool.specs.State.{IsSettled, PoolState}
+use Rattle.warm_pool.specs.View.{view_of}
+use Rattle.warm_pool.specs.WritingSome.{SomeFails}
+use Rattle.warm_pool.specs.declared.fault.PoolFault.TheVariants.{Fault}
+use Rattle.warm_gossip.specs.declared.call.Call.TheVariants.{Restart}
+use Rattle.warm_gossip.specs.declared.call.Reply.TheVariants.{Done, Refused}
+use Rattle.warm_gossip.specs.declared.fault.NodeFault.{NodeFault}
+use Rattle.warm_gossip.specs.declared.fault.NodeFault.TheVariants.{Pool}
+use Rattle.warm_gossip.specs.Clauses.{Goes, OfPool, SameView}
+use Rattle.warm_gossip.specs.State.{NodeState, node_view}
+use Rattle.warm_gossip.specs.Step.{IsFailed, OnPool}
+use Rattle.warm_shards.specs.Clauses.{KeepsKnown}
+use Rattle.warm_shards.specs.Shards.{shard_at, whole}
+
+-- each shard has changed so
+pub record OfEach (change : NodeState → NodeState → Type 0) (old new : List NodeState) : Type 0 where
+  pub count : length new ≡ length old
+  pub each : (i : ℕ) → i < length old → change (shard_at old i) (shard_at new i)
+
+-- the first k shards have changed so, and the others are unchanged
+pub record OfFirst (change : NodeState → NodeState → Type 0) (k : ℕ) (old new : List NodeState) : Type 0 where
+  pub count : length new ≡ length old
+  pub first : (i : ℕ) → i < k → change (shard_at old i) (shard_at new i)
+  pub rest : (i : ℕ) → k ≤ i → shard_at new i ≡ shard_at old i
+
+-- the call stopped at one shard: those before it have changed in the first way, it has in the
+-- second, and those after it have in the third
+pub record StopsAt (done fails left : NodeState → NodeState → Type 0) (old new : List NodeState) : Type 0 where
+  pub count : length new ≡ length old
+  pub shard : ℕ
+  pub there : shard < length old
+  pub before : (i : ℕ) → i < shard → done (shard_at old i) (shard_at new i)
+  pub at : fails (shard_at old shard) (shard_at new shard)
+  pub after : (i : ℕ) → shard < i → i < length old → left (shard_at old i) (shard_at new i)
+
+abbrev pub IsUnchanged : NodeState → NodeState → Type 0
+IsUnchanged old new = new ≡ old
+
+-- Forgetting pages
+
+abbrev pub ForgetsPages : ℕ → ℕ → NodeState → NodeState → Type 0
+ForgetsPages dev from old new = KeepsKnown old new × Forgets old.pool dev from new.pool
+
+abbrev pub ForgetFails : ℕ → ℕ → NodeFault → NodeState → NodeState → Type 0
+ForgetFails dev from why old new = KeepsKnown old new
+    × OfPool (λ fault. ForgetRefused old.pool dev from fault new.pool) why
+
+-- Writing back
+
+-- no frame is dirty
+abbrev pub IsClean : PoolState → Type 0
+IsClean s = (i : ℕ) → (nth_frame s.frames i).dirty ≡ false
+
+-- all dirty pages of the shard were written back; no device was flushed
+abbrev pub IsWritten : NodeState → NodeState → Type 0
+IsWritten old new = SameView old new × IsClean new.pool
+
+-- the write of one page failed, after those of the frames before it; other pages are as they were
+abbrev pub WriteFails : NodeState → NodeState → Type 0
+WriteFails old new = KeepsKnown old new × SomeFails (length old.pool.frames) old.pool new.pool
+
+-- all dirty pages were written back, and the devices were flushed
+abbrev pub Settles : NodeState → NodeState → Type 0
+Settles old new = SameView old new × IsSettled new.pool
+
+-- a call of a device failed: of what a caller sees only its count of failures has changed
+abbrev pub FlushFails : NodeState → NodeState → Type 0
+FlushFails old new = OnPool IsFailed (node_view old) (node_view new)
+
+-- A page of one shard was not written: the shards before it have written theirs, and those after it
+-- are unchanged. Or all shards have written theirs, and a device of one was not flushed: those
+-- before it are settled.
+abbrev pub WriteBackStops : List NodeState → List NodeState → Type 0
+WriteBackStops old new = StopsAt IsWritten WriteFails IsUnchanged old new
+    ⊎ StopsAt Settles FlushFails IsWritten old new
+
+-- Restarting
+
+abbrev pub Restarts : NodeState → NodeState → Type 0
+Restarts old new = Goes old Restart Done new × IsSettled new.pool
+
+abbrev pub RestartFails : NodeFault → NodeState → NodeState → Type 0
+RestartFails why old new = Goes old Restart (Refused why) new
+
+-- the horizon of the shard is this one, if that is later
+abbrev pub Rises : ℕ → NodeState → NodeState → Type 0
+Rises time old new = (node_view new
+    ≡ record (node_view old) { history = history (with_horizon time (references_of old.history)) })
+    × KeepsBytes old.pool new.pool
+
+-- the shard has restarted, but it has this horizon
+pub record HasForgotten (horizon : ℕ) (old new : NodeState) : Type 0 where
+  pub id : new.id ≡ old.id
+  pub history : new.history ≡ history_of_entries_at horizon []
+  pub emptied : Emptied (view_of old.pool) (view_of new.pool)
+  pub settled : IsSettled new.pool
+
+-- Not all pages could be written back, and nothing was forgotten. Or all were, and one shard did not
+-- restart: those before it have forgotten their references, at the horizon of all.
+abbrev pub RestartStops : List NodeState → NodeFault → List NodeState → Type 0
+RestartStops old why new = ((why ≡ Pool Fault) × WriteBackStops old new)
+    ⊎ StopsAt (HasForgotten (whole old).horizon) (RestartFails why) Settles old new

@@ -1,0 +1,122 @@
+//! What an engine asks of the pool of one shard beside the calls.
+ghost use Rattle.std.specs.Prelude.{◌≡◌, ◌<◌, length, IfErr, IfOk, OnErr, OnOk};
+ghost use Rattle.warm_gossip.specs.Clauses.{OfPool, SameView};
+ghost use Rattle.warm_gossip.specs.declared.fault.NodeFault.TheVariants.{Pool};
+ghost use Rattle.warm_pool.specs.Keeping.{KeepsFrames, SameButFailures};
+ghost use Rattle.warm_pool.specs.Pinning.{LeavesDevices};
+ghost use Rattle.warm_pool.specs.Retiring.{KeepsElsewhere, RetireRefused, Retired};
+ghost use Rattle.warm_pool.specs.View.{Holds, view_of};
+ghost use Rattle.warm_pool.specs.WritingSome.{FlushRefused, IsSettledOn, KeepsOtherDevices};
+ghost use Rattle.warm_pool.specs.WritingSome.{SomeFails, WritesBackSome};
+ghost use Rattle.warm_pool.specs.Zeroing.{PinnedZeroed, TakesZeroed, ZeroedRefused};
+ghost use Rattle.warm_pool.specs.declared.fault.PoolFault.TheVariants.{Fault};
+ghost use Rattle.warm_shards.specs.Clauses.{KeepsKnown, KeepsOthers};
+ghost use Rattle.warm_shards.specs.Shards.{shard_at, shard_of};
+
+use crate::pool_calls::ShardSlot;
+use crate::shards::Shards;
+use warm_devices::PageDevice;
+use warm_gossip::NodeFault;
+use warm_pool::RetireError;
+use warm_stamps::PageId;
+
+impl<D: PageDevice> Shards<D> {
+    /// Pins a page in its shard, and fills it with zeros, without a read: as
+    /// [`warm_gossip::Node::pin_zeroed`] of the shard. It becomes dirty. Allocation-free.
+    ///
+    /// **A pin is not a reference**: a caller that pins a page also absorbs a reference to it.
+    ///
+    /// # Errors
+    /// Those of [`warm_gossip::Node::pin_zeroed`] of the shard, with the same effects.
+    pub fn pin_zeroed(&mut self, page: PageId) -> Result<ShardSlot, NodeFault>
+        ensures shard { IfOk result (λ at. at.shard ≡ shard_of (length self.old) page) }
+        ensures known { let i = shard_of (length self.old) page in
+            KeepsKnown (shard_at self.old i) (shard_at self.new i) }
+        ensures pinned { let i = shard_of (length self.old) page in let old = shard_at self.old i in
+            IfOk result (λ at. PinnedZeroed old.history (view_of old.pool) page at.slot
+            (view_of (shard_at self.new i).pool)) }
+        ensures holds { let i = shard_of (length self.old) page in
+            IfOk result (λ at. Holds (view_of (shard_at self.new i).pool) at.slot) }
+        ensures frame { let i = shard_of (length self.old) page in
+            IfOk result (λ at. TakesZeroed (shard_at self.old i).pool page at.slot
+            (shard_at self.new i).pool) }
+        ensures refused { let i = shard_of (length self.old) page in let old = shard_at self.old i in
+            IfErr result (OfPool (λ fault. ZeroedRefused old.history (view_of old.pool) page fault
+            (view_of (shard_at self.new i).pool))) }
+        ensures stays { let i = shard_of (length self.old) page in
+            OnErr result (SameButFailures (view_of (shard_at self.old i).pool)
+            (view_of (shard_at self.new i).pool)) }
+        ensures frames { let i = shard_of (length self.old) page in
+            OnErr result (KeepsFrames (shard_at self.old i).pool (shard_at self.new i).pool) }
+        ensures devices { let i = shard_of (length self.old) page in let old = shard_at self.old i in
+            IfErr result (OfPool (λ fault. LeavesDevices old.history old.pool page fault
+            (shard_at self.new i).pool)) }
+        ensures others { KeepsOthers self.old (shard_of (length self.old) page) self.new }
+    {
+        let shard = self.shard_of(page);
+        let slot = self.nodes[shard].pin_zeroed(page)?;
+        Ok(ShardSlot { shard, slot })
+    }
+
+    /// Writes back at most `limit` dirty pages of a shard, and returns how many of its pages are
+    /// still dirty: as [`warm_gossip::Node::write_back_some`] of the shard. No device is flushed.
+    /// Allocation-free.
+    ///
+    /// # Errors
+    /// Those of [`warm_gossip::Node::write_back_some`] of the shard, with the same effects.
+    pub fn write_back_some(&mut self, shard: usize, limit: usize) -> Result<usize, NodeFault>
+        requires there { shard < length self.old }
+        ensures known { KeepsKnown (shard_at self.old shard) (shard_at self.new shard) }
+        ensures same { OnOk result (SameView (shard_at self.old shard) (shard_at self.new shard)) }
+        ensures written { IfOk result (λ left. WritesBackSome limit (shard_at self.old shard).pool
+            left (shard_at self.new shard).pool) }
+        ensures refused { IfErr result (λ why. (why ≡ Pool Fault)
+            × SomeFails limit (shard_at self.old shard).pool (shard_at self.new shard).pool) }
+        ensures others { KeepsOthers self.old shard self.new }
+    {
+        self.nodes[shard].write_back_some(limit)
+    }
+
+    /// Writes back the dirty pages of one device of a shard, and flushes it: as
+    /// [`warm_gossip::Node::flush_device`] of the shard. Allocation-free.
+    ///
+    /// # Errors
+    /// Those of [`warm_gossip::Node::flush_device`] of the shard, with the same effects.
+    pub fn flush_device(&mut self, shard: usize, dev: u16) -> Result<(), NodeFault>
+        requires there { shard < length self.old }
+        ensures known { KeepsKnown (shard_at self.old shard) (shard_at self.new shard) }
+        ensures same { OnOk result (SameView (shard_at self.old shard) (shard_at self.new shard)) }
+        ensures settled { OnOk result (IsSettledOn dev (shard_at self.new shard).pool) }
+        ensures refused { IfErr result (OfPool (λ fault. FlushRefused (shard_at self.old shard).pool
+            dev fault (shard_at self.new shard).pool)) }
+        ensures elsewhere { KeepsElsewhere dev (shard_at self.old shard).pool
+            (shard_at self.new shard).pool }
+        ensures devices { KeepsOtherDevices dev (shard_at self.old shard).pool
+            (shard_at self.new shard).pool }
+        ensures others { KeepsOthers self.old shard self.new }
+    {
+        self.nodes[shard].flush_device(dev)
+    }
+
+    /// Replaces a device of a shard with another: as [`warm_gossip::Node::retire`] of the shard.
+    /// Each shard has a device of its own of this number.
+    ///
+    /// # Errors
+    /// Those of [`warm_gossip::Node::retire`] of the shard, with the same effects. Each gives the new
+    /// device back.
+    pub fn retire(&mut self, shard: usize, dev: u16, device: D) -> Result<(), RetireError<D>>
+        requires there { shard < length self.old }
+        ensures known { KeepsKnown (shard_at self.old shard) (shard_at self.new shard) }
+        ensures retired { OnOk result (Retired (view_of (shard_at self.old shard).pool) dev
+            (D.state device) (view_of (shard_at self.new shard).pool)) }
+        ensures refused { IfErr result (λ unretired. RetireRefused
+            (view_of (shard_at self.old shard).pool) dev (D.state device) unretired.fault
+            (view_of (shard_at self.new shard).pool)) }
+        ensures given_back { IfErr result (λ unretired. unretired.device ≡ device) }
+        ensures elsewhere { KeepsElsewhere dev (shard_at self.old shard).pool
+            (shard_at self.new shard).pool }
+        ensures others { KeepsOthers self.old shard self.new }
+    {
+        self.nodes[shard].retire(dev, device)
+    }
+}
