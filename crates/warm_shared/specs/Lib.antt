@@ -1,0 +1,4 @@
+pub mod ShardSteps
+pub mod Attached
+pub mod Clauses
+pub mod Faults
