@@ -5,6 +5,7 @@ use Rattle.warm_turn.specs.CallHistories.{Called, marked}
 use Rattle.warm_gossip.specs.State.{NodeView}
 use Rattle.warm_gossip.specs.declared.fault.NodeFault.TheVariants.{StaleSlot}
 use Rattle.warm_shared.specs.declared.call.ShardCall.{ShardCall}
+use Rattle.warm_shared.specs.declared.call.ShardCall.TheVariants.{Absorb, Unpin, Write}
 use Rattle.warm_shared.specs.declared.call.ShardReply.{ShardReply}
 use Rattle.warm_shared.specs.declared.call.ShardReply.TheVariants.{Done, Refused}
 use Rattle.warm_shared.specs.declared.fault.SharedFault.{SharedFault}
@@ -51,3 +52,10 @@ done given = Done
 abbrev pub MayAnswer : ℕ → ℕ → ShardCall → ShardReply → Type 0
 MayAnswer count i call reply = IsOwn count i call
     → (x : NodeView) × (y : NodeView) × NodeStep x (node_call_of call) (node_reply_of reply) y
+
+-- a call of own pages that has no result: a node answers it `Done`, or refuses it
+abbrev pub IsDoneCall : ℕ → ℕ → ShardCall → Type 0
+IsDoneCall count i (Absorb batch) = IsOwn count i (Absorb batch)
+IsDoneCall count i (Unpin slot) = Unit {0}
+IsDoneCall count i (Write slot at bytes) = Unit {0}
+IsDoneCall count i call = ⊥

@@ -3,6 +3,7 @@
 
 mod call;
 mod fault;
+mod pool_calls;
 mod shard;
 mod shared;
 
