@@ -2,3 +2,4 @@ pub mod ShardSteps
 pub mod Attached
 pub mod Clauses
 pub mod Faults
+pub mod Opening
