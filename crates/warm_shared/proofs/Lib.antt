@@ -2,3 +2,4 @@ pub mod Places
 pub mod Steps
 pub mod Passing
 pub mod Numbering
+pub mod Ending
