@@ -3,3 +3,5 @@ pub mod Steps
 pub mod Passing
 pub mod Numbering
 pub mod Ending
+pub mod Firsts
+pub mod Parts

@@ -28,13 +28,17 @@ Answered old i call reply new = Got (known_of old i) call reply (known_of new i)
 abbrev pub Spent : List ShardPass → ℕ → List ShardPass → Type 0
 Spent old i new = (known_of new i ≡ marked (known_of old i)) × KeepsOthers old i new
 
+-- the shard of this number refused the call so, or no ticket was left for it
+abbrev pub CallFails : List ShardPass → ℕ → ShardCall → SharedFault → List ShardPass → Type 0
+CallFails old i call (Node why) new = Answered old i call (Refused why) new
+CallFails old i call TurnsSpent new = Spent old i new
+CallFails old i call why new = ⊥
+
 -- the result of a call corresponds to the reply of the shard, or to its refusal
 abbrev pub CallEnds : {T : Type 0} → List ShardPass → ℕ → ShardCall → (T → ShardReply)
     → Result T SharedFault → List ShardPass → Type 0
 CallEnds old i call reply (Ok given) new = Answered old i call (reply given) new
-CallEnds old i call reply (Err (Node why)) new = Answered old i call (Refused why) new
-CallEnds old i call reply (Err TurnsSpent) new = Spent old i new
-CallEnds old i call reply (Err why) new = ⊥
+CallEnds old i call reply (Err why) new = CallFails old i call why new
 
 -- the same of a call with a slot: where there is no such shard the slot is stale, and no turn was
 -- entered

@@ -3,3 +3,4 @@ pub mod Attached
 pub mod Clauses
 pub mod Faults
 pub mod Opening
+pub mod Whole

@@ -4,6 +4,7 @@
 mod attaching;
 mod call;
 mod fault;
+mod history_calls;
 mod pool_calls;
 mod shard;
 mod shared;
@@ -12,6 +13,7 @@ mod sharing;
 pub use attaching::{NotClosed, NotDetached};
 pub use call::{BoxedMessage, ShardCall, ShardReply};
 pub use fault::SharedFault;
+pub use history_calls::Stopped;
 pub use shard::{Shard, ViewOfShard};
 pub use shared::{Attached, SharedShards};
 pub use sharing::Sharing;
