@@ -1,0 +1,77 @@
+-- Places of lists.
+use Rattle.std.proofs.Common.{◌≡◌, ◌≢◌, ℕ, zero, suc, ◌+◌, ◌<◌, Bool, true, false, List, [], ◌∷◌, ◌++◌, length, set, get_or, take, drop, refl, sym, ap, subst, ◌∙◌, arith, get_or-drop}
+use Rattle.std.specs.Prelude.{nat_eq}
+use Rattle.std.proofs.lemmas.Bool.{eq-eqb, eqb-true}
+use Rattle.std.proofs.lemmas.List.{get_or-set_other, get_or-set_same, set-get_or}
+
+module _ {A : Type 0} where
+  -- an item within the list, whatever stands beyond it
+  pub read_at : (xs : List A) (i : ℕ) (a d e : A) → i < length xs → a ≡ get_or xs i d
+      → a ≡ get_or xs i e
+  read_at [] i a d e lt is = absurd (omega arith)
+  read_at (x ∷ xs) zero a d e lt is = is
+  read_at (x ∷ xs) (suc i) a d e lt is = read_at xs i a d e (omega arith) is
+
+  -- what is true of the new item and of the others is true of each
+  pub at_each : (P : ℕ → A → Type 0) (xs : List A) (i : ℕ) (a d : A) → i < length xs → P i a
+      → ((k : ℕ) → k ≢ i → P k (get_or xs k d)) → (k : ℕ) → P k (get_or (set xs i a) k d)
+  at_each P xs i a d lt new old k = cases (nat_eq k i) refl
+    where
+      cases : (b : Bool) → nat_eq k i ≡ b → P k (get_or (set xs i a) k d)
+      cases true is =
+          let same : k ≡ i = eqb-true k i is in
+          subst (λ x. P x (get_or (set xs i a) x d)) (sym same) (subst (P i) (sym (get_or-set_same xs i a d lt)) new)
+      cases false is =
+          let other : k ≢ i = λ e. let no : true ≡ false = sym (eq-eqb k i e) ∙ is in absurd (cc) in
+          subst (P k) (sym (get_or-set_other xs i k a d other)) (old k other)
+
+module _ {A : Type 0} where
+  get_last : (xs : List A) (a d : A) → get_or (xs ++ a ∷ []) (length xs) d ≡ a
+  get_last [] a d = refl
+  get_last (x ∷ xs) a d = get_last xs a d
+
+  get_front : (xs : List A) (a d : A) (i : ℕ) → i < length xs
+      → get_or (xs ++ a ∷ []) i d ≡ get_or xs i d
+  get_front [] a d i lt = absurd (omega arith)
+  get_front (x ∷ xs) a d zero lt = refl
+  get_front (x ∷ xs) a d (suc i) lt = get_front xs a d i (omega arith)
+
+  -- what is true of the first items and of one more is true of each
+  pub push_each : (P : ℕ → A → Type 0) (xs : List A) (a d : A) (k : ℕ) → length xs ≡ k
+      → ((i : ℕ) → i < k → P i (get_or xs i d)) → P k a → (i : ℕ) → i < k + 1
+      → P i (get_or (xs ++ a ∷ []) i d)
+  push_each P xs a d k long old new i lt = cases (nat_eq i k) refl
+    where
+      cases : (b : Bool) → nat_eq i k ≡ b → P i (get_or (xs ++ a ∷ []) i d)
+      cases true is =
+          let same : i ≡ k = eqb-true i k is in
+          let last : get_or (xs ++ a ∷ []) k d ≡ a = ap (λ j. get_or (xs ++ a ∷ []) j d) (sym long) ∙ get_last xs a d in
+          subst (λ j. P j (get_or (xs ++ a ∷ []) j d)) (sym same) (subst (P k) (sym last) new)
+      cases false is =
+          let other : i ≢ k = λ e. let no : true ≡ false = sym (eq-eqb i k e) ∙ is in absurd (cc) in
+          let less : i < k = omega (arith, lt, other) in
+          subst (P i) (sym (get_front xs a d i (omega (arith, less, long)))) (old i less)
+
+  drop_next : (xs : List A) (j : ℕ) → drop 1 (drop j xs) ≡ drop (suc j) xs
+  drop_next [] zero = refl
+  drop_next [] (suc j) = refl
+  drop_next (x ∷ xs) zero = refl
+  drop_next (x ∷ xs) (suc j) = drop_next xs j
+
+  -- the items left after the first one was removed
+  pub after_remove : (xs rest new : List A) (j : ℕ) → rest ≡ drop j xs
+      → new ≡ take 0 rest ++ drop (0 + 1) rest → new ≡ drop (j + 1) xs
+  after_remove xs rest new j is gone =
+      let next : suc j ≡ j + 1 = omega arith in
+      gone ∙ ap (λ l. drop 1 l) is ∙ drop_next xs j ∙ ap (λ n. drop n xs) next
+
+  -- the first of the items left
+  pub first_left : (xs rest : List A) (j : ℕ) (a d : A) → rest ≡ drop j xs → j < length xs
+      → a ≡ get_or rest 0 a → a ≡ get_or xs j d
+  first_left xs rest j a d is lt first =
+      let same : j + 0 ≡ j = omega arith in
+      read_at xs j a a d lt (first ∙ ap (λ l. get_or l 0 a) is ∙ get_or-drop j xs 0 a ∙ ap (λ n. get_or xs n a) same)
+
+  -- an item that is replaced by itself
+  pub set_same : (xs : List A) (i : ℕ) (a b : A) → b ≡ a → a ≡ get_or xs i a → set xs i b ≡ xs
+  set_same xs i a b is at = ap (set xs i) (is ∙ at) ∙ set-get_or xs i a

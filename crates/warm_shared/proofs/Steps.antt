@@ -1,0 +1,74 @@
+-- What the steps of a shard keep, and which replies a shard gives to calls of its own pages.
+use Rattle.std.proofs.Common.{◌≡◌, ℕ, List, [], ◌∷◌, ◌++◌, Some, refl, sym, ap, subst, ◌∙◌}
+use Rattle.std.proofs.lemmas.Option.{same_Some}
+use Rattle.warm_turn.specs.declared.table.Entry.{Entry}
+use Rattle.warm_turn.specs.CallHistories.{Called, Runs, entry}
+use Rattle.warm_gossip.specs.State.{NodeView}
+use Rattle.warm_shared.specs.declared.call.ShardCall.{ShardCall}
+use Rattle.warm_shared.specs.declared.call.ShardReply.{ShardReply}
+use Rattle.warm_shared.specs.declared.call.ShardReply.TheVariants.{Done, Kept, Pinned, Bytes, Page, Loaded, Sent, Foreign, Refused}
+use Rattle.warm_shared.specs.Attached.{Known}
+use Rattle.warm_shared.specs.Clauses.{MayAnswer}
+use Rattle.warm_shared.specs.ShardSteps.{IsOwn, NodeStep, ShardStep, ShardView, node_call_of, node_reply_of}
+
+-- the shard is the same one
+abbrev pub SameShard : ShardView → ShardView → Type 0
+SameShard x y = (y.count ≡ x.count) × (y.number ≡ x.number)
+
+only_node : (x y : ShardView) → y ≡ record x { node = y.node } → SameShard x y
+only_node x y is = (ap (λ (s : ShardView). s.count) is, ap (λ (s : ShardView). s.number) is)
+
+pub step_keeps : (x y : ShardView) (c : ShardCall) (r : ShardReply) → ShardStep x c r y
+    → SameShard x y
+step_keeps x y c Foreign step = (ap (λ (s : ShardView). s.count) step.1, ap (λ (s : ShardView). s.number) step.1)
+step_keeps x y c Done step = only_node x y step.1
+step_keeps x y c (Kept h) step = only_node x y step.1
+step_keeps x y c (Pinned s) step = only_node x y step.1
+step_keeps x y c (Bytes b) step = only_node x y step.1
+step_keeps x y c (Page p) step = only_node x y step.1
+step_keeps x y c (Loaded p) step = only_node x y step.1
+step_keeps x y c (Sent m) step = only_node x y step.1
+step_keeps x y c (Refused w) step = only_node x y step.1
+
+pub runs_keep : (x z : ShardView) (es : List (Entry ShardCall ShardReply)) → Runs ShardStep x es z
+    → SameShard x z
+runs_keep x z [] runs = (ap (λ (s : ShardView). s.count) (sym runs), ap (λ (s : ShardView). s.number) (sym runs))
+runs_keep x z (e ∷ es) runs =
+    let one = step_keeps x runs.0 e.call e.reply runs.1 in
+    let rest = runs_keep runs.0 z es runs.2 in
+    (rest.0 ∙ one.0, rest.1 ∙ one.1)
+
+-- the last step of a run
+pub last_of : {X C R : Type 0} (goes : X → C → R → X → Type 0) (x z : X) (es : List (Entry C R))
+    (e : Entry C R) → Runs goes x (es ++ e ∷ []) z
+    → (y : X) × Runs goes x es y × goes y e.call e.reply z
+last_of goes x z [] e runs = (x, refl, subst (λ k. goes x e.call e.reply k) runs.2 runs.1)
+last_of goes x z (f ∷ fs) e runs =
+    let rest = last_of goes runs.0 z fs e runs.2 in
+    (rest.0, (runs.0, runs.1, rest.1), rest.2)
+
+-- a call of own pages is answered as a node answers it
+pub own_step : (x y : ShardView) (c : ShardCall) (r : ShardReply) → IsOwn x.count x.number c
+    → ShardStep x c r y → NodeStep x.node (node_call_of c) (node_reply_of r) y.node
+own_step x y c Foreign own step = absurd (step.0 own)
+own_step x y c Done own step = step.2
+own_step x y c (Kept h) own step = step.2
+own_step x y c (Pinned s) own step = step.2
+own_step x y c (Bytes b) own step = step.2
+own_step x y c (Page p) own step = step.2
+own_step x y c (Loaded p) own step = step.2
+own_step x y c (Sent m) own step = step.2
+own_step x y c (Refused w) own step = step.2
+
+pub may_answer : (v w : Known) (c : ShardCall) (r : ShardReply) (o : ShardView)
+    → v.opening ≡ Some o → Called ShardStep v c r w → MayAnswer o.count o.number c r
+may_answer v w c r o opens called own =
+    let legal = called.legal.legal in
+    let same : legal.0 ≡ o = same_Some legal.0 o (sym legal.2 ∙ called.opening ∙ opens) in
+    let runs = subst (λ (es : List (Entry ShardCall ShardReply)). Runs ShardStep legal.0 es legal.1) called.seen legal.3 in
+    let last = last_of ShardStep legal.0 legal.1 (v.seen ++ called.between) (entry v.number c r) runs in
+    let kept = runs_keep legal.0 last.0 (v.seen ++ called.between) last.1 in
+    let count : o.count ≡ last.0.count = sym (kept.0 ∙ ap (λ (s : ShardView). s.count) same) in
+    let number : o.number ≡ last.0.number = sym (kept.1 ∙ ap (λ (s : ShardView). s.number) same) in
+    let own' : IsOwn last.0.count last.0.number c = subst (λ n. IsOwn last.0.count n c) number (subst (λ n. IsOwn n o.number c) count own) in
+    (last.0.node, legal.1.node, own_step last.0 legal.1 c r own' last.2)

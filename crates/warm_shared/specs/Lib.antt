@@ -1,0 +1,6 @@
+pub mod ShardSteps
+pub mod Attached
+pub mod Clauses
+pub mod Faults
+pub mod Opening
+pub mod Whole

@@ -1,0 +1,77 @@
+-- Sharing shards, attaching threads to them, and closing them.
+use Rattle.std.specs.Prelude.{◌≡◌, ◌≢◌, ◌⊎◌, ℕ, suc, ◌+◌, ◌<◌, List, [], ◌∷◌, ◌++◌, length, map}
+use Rattle.std.specs.Prelude.{Result, Ok, Err, slice_index_or}
+use Rattle.warm_turn.specs.declared.fault.Busy.{Busy}
+use Rattle.warm_turn.specs.CallHistories.{IsLast, Joined, calls_by, first_pass, new_pass}
+use Rattle.warm_turn.specs.Rule.{MarkShows}
+use Rattle.warm_gossip.specs.State.{NodeState}
+use Rattle.warm_gossip.specs.declared.fault.NodeFault.TheVariants.{Memory}
+use Rattle.warm_shards.specs.Shards.{IsShardCount}
+use Rattle.warm_shared.specs.declared.fault.SharedFault.{SharedFault}
+use Rattle.warm_shared.specs.declared.fault.SharedFault.TheVariants.{Node, PinsHeld}
+use Rattle.warm_shared.specs.Attached.{IsPassOf, Known, ShardPass, ShardTurn, known_of, shard_pass}
+use Rattle.warm_shared.specs.Attached.{shard_turn}
+use Rattle.warm_shared.specs.ShardSteps.{ShardState, ShardStep, ShardView, no_shard_view, shard_over}
+use Rattle.warm_shared.specs.ShardSteps.{shard_view}
+
+-- the shards over these nodes, numbered from i on, of so many
+abbrev pub shards_from : ℕ → ℕ → List NodeState → List ShardView
+shards_from count i [] = []
+shards_from count i (n ∷ ns) = shard_over count i n ∷ shards_from count (suc i) ns
+
+-- all shards over these nodes
+abbrev pub shards_over : List NodeState → List ShardView
+shards_over nodes = shards_from (length nodes) 0 nodes
+
+-- the shards with which turns opened
+abbrev pub openings : List ShardTurn → List ShardView
+openings turns = map (λ t. t.opening) turns
+
+abbrev pub view_at : List ShardView → ℕ → ShardView
+view_at views i = slice_index_or views i no_shard_view
+
+-- all shards of a replica, each with its number
+pub record AreNumbered (views : List ShardView) : Type 0 where
+  pub count : IsShardCount (length views)
+  pub counts : (i : ℕ) → i < length views → (view_at views i).count ≡ length views
+  pub numbers : (i : ℕ) → i < length views → (view_at views i).number ≡ i
+
+-- the passes are the first ones of their turns: they have seen nothing and called nothing
+pub record AreFirst (turns : List ShardTurn) (passes : List ShardPass) : Type 0 where
+  pub count : length passes ≡ length turns
+  pub tables : (i : ℕ) → i < length turns → (shard_pass passes i).table ≡ (shard_turn turns i).table
+  pub views : (i : ℕ) → i < length turns
+      → known_of passes i ≡ first_pass (shard_turn turns i).opening
+
+-- a pass has seen what this one has, with a number of its own, and made no call
+abbrev pub IsSplit : Known → Known → Type 0
+IsSplit old new = (n : ℕ) × (new ≡ new_pass old n) × (calls_by n old.seen ≡ [])
+
+pub record AreSplit (old new : List ShardPass) : Type 0 where
+  pub count : length new ≡ length old
+  pub each : (i : ℕ) → i < length old → IsSplit (known_of old i) (known_of new i)
+
+-- the passes of another thread were ended into these, shard by shard
+pub record AreJoined (old other new : List ShardPass) : Type 0 where
+  pub count : length new ≡ length old
+  pub each : (i : ℕ) → i < length old
+      → Joined ShardStep (known_of old i) (known_of other i) (known_of new i)
+
+-- the node of a closed shard is in a state that a legal history reaches, which begins with what the
+-- pass has seen. Or a call of the shard was under way, and the node is lost
+abbrev pub ClosesShard : ShardTurn → Known → Result NodeState Busy → Type 0
+ClosesShard turn known (Ok node) = (s : ShardState) × (s.node ≡ node)
+    × IsLast ShardStep turn.opening known (shard_view s)
+ClosesShard turn known (Err busy) = (busy.serving < busy.ticket) × MarkShows known busy
+
+pub record AreClosed (turns : List ShardTurn) (passes : List ShardPass)
+    (nodes : List (Result NodeState Busy)) : Type 0 where
+  pub count : length nodes ≡ length turns
+  pub each : (i : ℕ) (d : Result NodeState Busy) → i < length turns
+      → ClosesShard (shard_turn turns i) (known_of passes i) (slice_index_or nodes i d)
+
+-- why shards are not closed, where the thread holds so many pins
+abbrev pub IsCloseRefused : ℕ → SharedFault → Type 0
+IsCloseRefused pins PinsHeld = pins ≢ 0
+IsCloseRefused pins (Node Memory) = pins ≡ 0
+IsCloseRefused pins why = ⊥

@@ -1,0 +1,97 @@
+-- A shard as a machine: the calls of a node that it answers, and its steps.
+use Rattle.std.specs.Prelude.{◌≡◌, ℕ, Option, Some, None, Result, Ok, Err}
+use Rattle.std.specs.List.{All}
+use Rattle.warm_gossip.specs.declared.call.Call.{Call}
+use Rattle.warm_gossip.specs.declared.call.Call.TheVariants as node_call
+use Rattle.warm_gossip.specs.declared.call.Reply.{Reply}
+use Rattle.warm_gossip.specs.declared.call.Reply.TheVariants as node_reply
+use Rattle.warm_gossip.specs.declared.fault.NodeFault.{NodeFault}
+use Rattle.warm_gossip.specs.State.{NodeState, NodeView, node_view, empty_node}
+use Rattle.warm_gossip.specs.Step.{Step}
+use Rattle.warm_shards.specs.Shards.{shard_of}
+use Rattle.warm_shared.specs.declared.call.ShardCall.{ShardCall}
+use Rattle.warm_shared.specs.declared.call.ShardCall.TheVariants.{Absorb, Raise, Pin, Unpin, Read}
+use Rattle.warm_shared.specs.declared.call.ShardCall.TheVariants.{Write, Victim, WarmStep}
+use Rattle.warm_shared.specs.declared.call.ShardCall.TheVariants.{Offer, Send}
+use Rattle.warm_shared.specs.declared.call.ShardReply.{ShardReply}
+use Rattle.warm_shared.specs.declared.call.ShardReply.TheVariants.{Done, Kept, Pinned, Bytes, Page}
+use Rattle.warm_shared.specs.declared.call.ShardReply.TheVariants.{Loaded, Sent, Foreign, Refused}
+
+-- a shard: how many there are, its number, and its node
+pub record ShardState : Type 0 where
+  pub count : ℕ
+  pub number : ℕ
+  pub node : NodeState
+
+-- the same, with what a caller sees of its node
+pub record ShardView : Type 0 where
+  pub count : ℕ
+  pub number : ℕ
+  pub node : NodeView
+
+abbrev pub shard_view : ShardState → ShardView
+shard_view s = record { count = s.count; number = s.number; node = node_view s.node }
+
+-- the shard of this number over a node
+abbrev pub shard_over : ℕ → ℕ → NodeState → ShardView
+shard_over count number node =
+    record { count = count; number = number; node = node_view node }
+
+abbrev pub no_shard_view : ShardView
+no_shard_view = record { count = 0; number = 0; node = empty_node }
+
+-- Calls and replies
+
+-- the call of a node that this is
+abbrev pub node_call_of : ShardCall → Call
+node_call_of (Absorb batch) = node_call.Absorb batch
+node_call_of (Raise time) = node_call.Horizon time
+node_call_of (Pin page) = node_call.Pin page
+node_call_of (Unpin slot) = node_call.Unpin slot
+node_call_of (Read slot at len) = node_call.Read slot at len
+node_call_of (Write slot at bytes) = node_call.Write slot at bytes
+node_call_of Victim = node_call.Victim
+node_call_of WarmStep = node_call.WarmStep
+node_call_of Offer = node_call.Offer
+node_call_of (Send bucket after) = node_call.Send bucket after
+
+-- the reply of a node that this is, if it is one
+abbrev pub node_reply_of : ShardReply → Option Reply
+node_reply_of Done = Some node_reply.Done
+node_reply_of (Kept horizon) = Some (node_reply.Kept horizon)
+node_reply_of (Pinned slot) = Some (node_reply.Pinned slot)
+node_reply_of (Bytes bytes) = Some (node_reply.Bytes bytes)
+node_reply_of (Page page) = Some (node_reply.Page page)
+node_reply_of (Loaded page) = Some (node_reply.Loaded page)
+node_reply_of (Sent message) = Some (node_reply.Sent message)
+node_reply_of (Refused why) = Some (node_reply.Refused why)
+node_reply_of Foreign = None
+
+-- every page that the call brings is of the shard of this number
+abbrev pub IsOwn : ℕ → ℕ → ShardCall → Type 0
+IsOwn count number (Absorb batch) = All (λ r. shard_of count r.page ≡ number) batch
+IsOwn count number (Pin page) = shard_of count page ≡ number
+IsOwn count number call = Unit {0}
+
+-- Steps
+
+-- the step of a node with this reply, if it is one of a node
+abbrev pub NodeStep : NodeView → Call → Option Reply → NodeView → Type 0
+NodeStep old call (Some reply) new = Step old call reply new
+NodeStep old call None new = ⊥
+
+-- Of a shard's state only the node changes, and it goes as nodes go. A call that brings a page of
+-- another shard is refused with `Foreign`, and nothing changes.
+abbrev pub ShardStep : ShardView → ShardCall → ShardReply → ShardView → Type 0
+ShardStep old call Foreign new = (IsOwn old.count old.number call → ⊥) × (new ≡ old)
+ShardStep old call reply new = IsOwn old.count old.number call
+    × (new ≡ record old { node = new.node })
+    × NodeStep old.node (node_call_of call) (node_reply_of reply) new.node
+
+-- the result of a node that was asked to answer this call: its reply is one of a node, or it
+-- refused
+abbrev pub AnsweredAs : NodeState → ShardCall → Result ShardReply NodeFault → NodeState → Type 0
+AnsweredAs old call (Ok reply) new =
+    NodeStep (node_view old) (node_call_of call) (node_reply_of reply) (node_view new)
+AnsweredAs old call (Err why) new =
+    Step (node_view old) (node_call_of call) (node_reply.Refused why) (node_view new)

@@ -1,0 +1,110 @@
+//! The calls of a shard and its replies. None has space for a message, of 2 KB: a message is in a
+//! box.
+ghost use Rattle.std.specs.Prelude.{◌≡◌, IfOk};
+
+use std::alloc::{AllocError, Global};
+use std::marker::Model;
+use warm_frames::Message;
+use warm_gossip::NodeFault;
+use warm_pool::Slot;
+use warm_stamps::{Bucket, ByteList, PageId, RefList};
+
+/// A call of a shard: a call of its node.
+#[derive(Drop)]
+pub enum ShardCall {
+    /// Add these references to the history. All must be to pages of the shard.
+    Absorb(RefList),
+    /// Forget all stamps before this time.
+    Raise(u64),
+    /// Pin a page of the shard, and load it where it isn't resident.
+    Pin(PageId),
+    /// Remove a pin from the slot's page.
+    Unpin(Slot),
+    /// Give bytes of the slot's page.
+    Read {
+        /// The slot, which must hold its page.
+        slot: Slot,
+        /// The first byte.
+        at: usize,
+        /// How many bytes.
+        len: usize,
+    },
+    /// Write bytes into the slot's page.
+    Write {
+        /// The slot, which must hold its page.
+        slot: Slot,
+        /// The first byte.
+        at: usize,
+        /// The bytes.
+        bytes: ByteList,
+    },
+    /// Name the page that would be evicted next.
+    Victim,
+    /// Load the hottest page of the shard that is not resident.
+    WarmStep,
+    /// Give the digests of all buckets. Those of other shards' buckets are of no entry.
+    Offer,
+    /// Give the first entries of a bucket, of those whose page is greater than `after`.
+    Send {
+        /// The bucket.
+        bucket: Bucket,
+        /// The page after which they begin, or `None` for the first of the bucket.
+        after: Option<PageId>,
+    },
+}
+
+/// A reply of a shard.
+#[derive(Drop)]
+pub enum ShardReply {
+    /// The call succeeded.
+    Done,
+    /// The horizon afterwards.
+    Kept(u64),
+    /// The slot of the pinned page.
+    Pinned(Slot),
+    /// The requested bytes.
+    Bytes(ByteList),
+    /// The page that would be evicted, if there is one.
+    Page(Option<PageId>),
+    /// The page that was loaded, if any.
+    Loaded(Option<PageId>),
+    /// The requested message.
+    Sent(BoxedMessage),
+    /// The call brings a page of another shard. Nothing has changed.
+    Foreign,
+    /// The node refused the call, or no memory was left for a box.
+    Refused(NodeFault),
+}
+
+/// A message in a heap box. Contracts see the message.
+#[derive(Drop)]
+pub struct BoxedMessage {
+    message: Box<Message>,
+}
+
+impl Model for BoxedMessage {
+    ghost use Rattle.warm_frames.specs.declared.message.Message.{Message};
+
+    ghost Value = { Message };
+
+    ghost view = { λ boxed. boxed.message.value };
+}
+
+impl BoxedMessage {
+    /// The message in a box.
+    ///
+    /// `AllocError` occurs only where the allocation fails. The message is then dropped.
+    pub fn new(alloc: Global, message: Message) -> Result<BoxedMessage, AllocError>
+        ensures { IfOk result (λ boxed. boxed ≡ message) }
+    {
+        let message = Box::new(alloc, message)?;
+        Ok(BoxedMessage { message })
+    }
+
+    /// The message. Allocation-free; the box is freed.
+    pub fn into_message(self) -> Message
+        ensures { result ≡ self }
+    {
+        Box::into_inner(self.message)
+    }
+}

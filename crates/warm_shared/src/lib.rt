@@ -1,0 +1,19 @@
+//! One replica in shards that threads share.
+#![tactic(auto)]
+
+mod attaching;
+mod call;
+mod fault;
+mod history_calls;
+mod pool_calls;
+mod shard;
+mod shared;
+mod sharing;
+
+pub use attaching::{NotClosed, NotDetached};
+pub use call::{BoxedMessage, ShardCall, ShardReply};
+pub use fault::SharedFault;
+pub use history_calls::Stopped;
+pub use shard::{Shard, ViewOfShard};
+pub use shared::{Attached, SharedShards};
+pub use sharing::Sharing;

@@ -1,0 +1,217 @@
+//! One shard as a machine that threads share by turns.
+ghost use Rattle.std.specs.Prelude.{◌≡◌, ◌↔◌, IsTrue};
+ghost use Rattle.std.specs.List.{All};
+ghost use Rattle.warm_gossip.specs.declared.call.Call.TheVariants.{Offer, Send};
+ghost use Rattle.warm_gossip.specs.declared.call.Reply.TheVariants.{Sent};
+ghost use Rattle.warm_gossip.specs.Clauses.{Answered};
+ghost use Rattle.warm_shards.specs.Shards.{IsShardCount, shard_of};
+ghost use Rattle.warm_shared.specs.ShardSteps.{AnsweredAs, IsOwn, ShardStep, shard_view};
+
+use crate::call::{BoxedMessage, ShardCall, ShardReply};
+use std::alloc::Global;
+use std::marker::Model;
+use warm_devices::PageDevice;
+use warm_gossip::{Node, NodeFault};
+use warm_shards::shard_of;
+use warm_stamps::{Bucket, PageId, Reference};
+use warm_turn::Machine;
+
+/// One shard of a replica: a node, how many shards there are, and which of them it is.
+///
+/// It answers the calls of its node, and refuses those that bring a page of another shard. Contracts
+/// see the three.
+pub struct Shard<D: PageDevice> {
+    alloc: Global,
+    count: usize,
+    number: usize,
+    node: Node<D>,
+}
+
+// Written by hand, so that an owner makes one call on each exit path.
+impl<D: PageDevice> Drop for Shard<D> {
+    fn drop(self) {
+        let Self {
+            alloc: _,
+            count: _,
+            number: _,
+            node,
+        } = self;
+        drop(node);
+    }
+}
+
+impl<D: PageDevice> Model for Shard<D> {
+    ghost use Rattle.warm_shards.specs.Shards.{IsShardCount};
+    ghost use Rattle.warm_shared.specs.ShardSteps.{ShardState};
+
+    ghost Value = { ShardState };
+
+    ghost view = { λ s. record { count = s.count; number = s.number; node = s.node } };
+
+    ghost invariant = { λ s. IsShardCount s.count };
+}
+
+// Whether a page is of the shard of this number.
+fn is_own_page(count: usize, number: usize, page: PageId) -> bool
+    requires { IsShardCount count }
+    ensures { IsTrue result ↔ (shard_of count page ≡ number) }
+{
+    shard_of(count, page) == number
+}
+
+// Whether all references are to pages of the shard of this number.
+fn are_own(count: usize, number: usize, batch: &[Reference]) -> bool
+    requires { IsShardCount count }
+    ensures { IsTrue result ↔ All (λ r. shard_of count r.page ≡ number) batch.now }
+{
+    for reference in batch {
+        if !is_own_page(count, number, reference.page) {
+            return false;
+        }
+    }
+    true
+}
+
+// Whether each page that the call brings is of the shard of this number.
+fn is_own(count: usize, number: usize, call: &ShardCall) -> bool
+    requires { IsShardCount count }
+    ensures { IsTrue result ↔ IsOwn count number call.now }
+{
+    match call {
+        ShardCall::Absorb(batch) => are_own(count, number, batch.as_slice()),
+        ShardCall::Pin(page) => is_own_page(count, number, *page),
+        _ => true,
+    }
+}
+
+// The digests that a node offers, in a box. It has the room for a message, so it is a function of
+// its own.
+fn offered<D: PageDevice>(alloc: Global, node: &mut Node<D>) -> Result<BoxedMessage, NodeFault>
+    ensures { Answered node.old Offer Sent result node.new }
+{
+    let message = node.offer()?;
+    let boxed = BoxedMessage::new(alloc, message)?;
+    Ok(boxed)
+}
+
+// The entries that a node sends, in a box.
+fn sent<D: PageDevice>(
+    alloc: Global,
+    node: &mut Node<D>,
+    bucket: Bucket,
+    after: Option<PageId>,
+) -> Result<BoxedMessage, NodeFault>
+    ensures { Answered node.old (Send bucket after) Sent result node.new }
+{
+    let message = node.send(bucket, after)?;
+    let boxed = BoxedMessage::new(alloc, message)?;
+    Ok(boxed)
+}
+
+// Has the node answer the call, or returns why it is refused.
+fn answer<D: PageDevice>(
+    alloc: Global,
+    node: &mut Node<D>,
+    call: ShardCall,
+) -> Result<ShardReply, NodeFault>
+    ensures { AnsweredAs node.old call result node.new }
+{
+    match call {
+        ShardCall::Absorb(batch) => {
+            node.absorb(batch.as_slice())?;
+            Ok(ShardReply::Done)
+        }
+        ShardCall::Raise(time) => Ok(ShardReply::Kept(node.raise(time))),
+        ShardCall::Pin(page) => Ok(ShardReply::Pinned(node.pin(page)?)),
+        ShardCall::Unpin(slot) => {
+            node.unpin(slot)?;
+            Ok(ShardReply::Done)
+        }
+        ShardCall::Read { slot, at, len } => Ok(ShardReply::Bytes(node.read(slot, at, len)?)),
+        ShardCall::Write { slot, at, bytes } => {
+            node.write(slot, at, bytes.as_slice())?;
+            Ok(ShardReply::Done)
+        }
+        ShardCall::Victim => Ok(ShardReply::Page(node.victim())),
+        ShardCall::WarmStep => Ok(ShardReply::Loaded(node.warm_step()?)),
+        ShardCall::Offer => Ok(ShardReply::Sent(offered(alloc, node)?)),
+        ShardCall::Send { bucket, after } => {
+            Ok(ShardReply::Sent(sent(alloc, node, bucket, after)?))
+        }
+    }
+}
+
+impl<D: PageDevice> Shard<D> {
+    /// The shard of this number, of so many, over a node. Allocation-free.
+    pub fn new(alloc: Global, count: usize, number: usize, node: Node<D>) -> Shard<D>
+        requires { IsShardCount count }
+        ensures { result ≡ record { count = count; number = number; node = node } }
+    {
+        Shard {
+            alloc,
+            count,
+            number,
+            node,
+        }
+    }
+
+    /// Answers a call: `ShardStep`. A call that brings a page of another shard is answered `Foreign`,
+    /// and nothing has changed.
+    pub fn call(&mut self, call: ShardCall) -> ShardReply
+        ensures step { ShardStep (shard_view self.old) call result (shard_view self.new) }
+    {
+        if !is_own(self.count, self.number, &call) {
+            return ShardReply::Foreign;
+        }
+        match answer(self.alloc, &mut self.node, call) {
+            Ok(reply) => reply,
+            Err(fault) => ShardReply::Refused(fault),
+        }
+    }
+
+    /// Takes the shard apart and returns its node.
+    pub fn into_node(self) -> Node<D>
+        ensures { result ≡ self.node }
+    {
+        let Shard {
+            alloc: _,
+            count: _,
+            number: _,
+            node,
+        } = self;
+        node
+    }
+}
+
+/// The state of a shard that threads share: what a caller sees of it. No value of the type is made;
+/// contracts see it as a `ShardView`.
+pub struct ViewOfShard {
+    _none: (),
+}
+
+impl Model for ViewOfShard {
+    ghost use Rattle.warm_shared.specs.ShardSteps.{ShardView, no_shard_view};
+
+    ghost Value = { ShardView };
+
+    ghost view = { λ _. no_shard_view };
+}
+
+/// Every call is a step, so the replies of a turn are those of one legal history of steps.
+impl<D: PageDevice + Send> Machine for Shard<D> {
+    ghost use Rattle.warm_shared.specs.ShardSteps.{ShardStep, shard_view};
+
+    type Call = ShardCall;
+
+    type Reply = ShardReply;
+
+    type State = ViewOfShard;
+
+    ghost view = { λ s. shard_view s };
+
+    ghost goes = { ShardStep };
+
+    fn call(&mut self, call: ShardCall) -> ShardReply {
+        Shard::call(self, call)
+    }
+}
