@@ -5,7 +5,7 @@ use Rattle.warm_gossip.specs.declared.fault.NodeFault.TheVariants.{Memory, Pool,
 use Rattle.warm_devices.specs.Device.{DeviceState}
 use Rattle.warm_c.specs.declared.fd_device.FdDevice.{FdDevice}
 use Rattle.warm_c.specs.declared.status.Refusal.{Refusal}
-use Rattle.warm_c.specs.declared.status.Refusal.TheVariants.{Node, NewPool, Frame, Closed, AlreadyOpen, BufferTooSmall, BadReplica, BadBucket, SameFile, Late, Dump}
+use Rattle.warm_c.specs.declared.status.Refusal.TheVariants.{Node, NewPool, Frame, Closed, AlreadyOpen, BufferTooSmall, BadReplica, BadBucket, SameFile, Late, BadShards, UnevenFrames, Attached, PinsLeft, NoShard, Dump}
 use Rattle.warm_c.specs.declared.values.WarmDevice.{WarmDevice}
 use Rattle.warm_c.specs.FdParts.{fd_opened, fd_state}
 use Rattle.warm_c.specs.Handles.{AreDevices, IsClash, DevicesRefused, fd_devices}
@@ -25,6 +25,11 @@ clash_refuses page_size devices BadReplica are clash = absurd clash
 clash_refuses page_size devices BadBucket are clash = absurd clash
 clash_refuses page_size devices SameFile are clash = (are, clash)
 clash_refuses page_size devices (Late _) are clash = absurd clash
+clash_refuses page_size devices BadShards are clash = absurd clash
+clash_refuses page_size devices UnevenFrames are clash = absurd clash
+clash_refuses page_size devices Attached are clash = absurd clash
+clash_refuses page_size devices PinsLeft are clash = absurd clash
+clash_refuses page_size devices NoShard are clash = absurd clash
 clash_refuses page_size devices (Dump _) are clash = absurd clash
 
 -- what holds of the first i devices, and of the next one, holds of the first i + 1

@@ -6,7 +6,7 @@ use Rattle.warm_frames.specs.declared.limit.TimeFault.TheVariants as time
 use Rattle.warm_pool.specs.declared.fault.NewPoolFault.TheVariants as new
 use Rattle.warm_pool.specs.declared.fault.PoolFault.TheVariants as pool
 use Rattle.warm_gossip.specs.declared.fault.NodeFault.TheVariants as node
-use Rattle.warm_c.specs.declared.status.Refusal.TheVariants.{Node, NewPool, Frame, Closed, AlreadyOpen, BufferTooSmall, BadReplica, BadBucket, SameFile, Late, Dump}
+use Rattle.warm_c.specs.declared.status.Refusal.TheVariants.{Node, NewPool, Frame, Closed, AlreadyOpen, BufferTooSmall, BadReplica, BadBucket, SameFile, Late, BadShards, UnevenFrames, Attached, PinsLeft, NoShard, Dump}
 use Rattle.warm_c.specs.StatusNames.{NamesRefusals}
 
 pub names_refusals : NamesRefusals
@@ -44,6 +44,11 @@ names_refusals BadBucket is_whole = refl
 names_refusals SameFile is_whole = refl
 names_refusals (Late time.LateHorizon) is_whole = refl
 names_refusals (Late time.LateStamp) is_whole = refl
+names_refusals BadShards is_whole = refl
+names_refusals UnevenFrames is_whole = refl
+names_refusals Attached is_whole = refl
+names_refusals PinsLeft is_whole = refl
+names_refusals NoShard is_whole = refl
 names_refusals (Dump (dump.Frame frame.Memory)) is_whole = refl
 names_refusals (Dump (dump.Frame frame.Truncated)) is_whole = refl
 names_refusals (Dump (dump.Frame frame.BadMagic)) is_whole = refl

@@ -3,7 +3,7 @@ use Rattle.std.proofs.Common.{ℕ, refl}
 use Rattle.warm_gossip.specs.declared.fault.NodeFault.TheVariants.{Memory, Pool, StaleSlot}
 use Rattle.warm_c.specs.declared.open_node.OpenNode.{OpenNode}
 use Rattle.warm_c.specs.declared.status.Refusal.{Refusal}
-use Rattle.warm_c.specs.declared.status.Refusal.TheVariants.{Node, NewPool, Frame, Closed, AlreadyOpen, BufferTooSmall, BadReplica, BadBucket, SameFile, Late, Dump}
+use Rattle.warm_c.specs.declared.status.Refusal.TheVariants.{Node, NewPool, Frame, Closed, AlreadyOpen, BufferTooSmall, BadReplica, BadBucket, SameFile, Late, BadShards, UnevenFrames, Attached, PinsLeft, NoShard, Dump}
 use Rattle.warm_c.specs.declared.values.WarmDevice.{WarmDevice}
 use Rattle.warm_c.specs.Devices.{MayStand, ReplaceRefused, devices_after}
 use Rattle.warm_c.specs.Handles.{IsClash}
@@ -23,4 +23,9 @@ clash_replaces dev d h BadReplica may clash = absurd clash
 clash_replaces dev d h BadBucket may clash = absurd clash
 clash_replaces dev d h SameFile may clash = (may, clash, refl)
 clash_replaces dev d h (Late _) may clash = absurd clash
+clash_replaces dev d h BadShards may clash = absurd clash
+clash_replaces dev d h UnevenFrames may clash = absurd clash
+clash_replaces dev d h Attached may clash = absurd clash
+clash_replaces dev d h PinsLeft may clash = absurd clash
+clash_replaces dev d h NoShard may clash = absurd clash
 clash_replaces dev d h (Dump _) may clash = absurd clash

@@ -4,9 +4,12 @@ pub mod Counting
 pub mod Devices
 pub mod Engine
 pub mod FdParts
+pub mod FrameParts
 pub mod Handles
 pub mod Lending
 pub mod Owning
+pub mod PartCalls
+pub mod Parts
 pub mod Since
 pub mod StatusNames
 pub mod Statuses

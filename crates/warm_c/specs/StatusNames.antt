@@ -10,7 +10,8 @@ use Rattle.warm_c.specs.declared.status.Refusal.{Refusal}
 use Rattle.warm_c.specs.declared.status.Refusal.TheVariants.{Node, NewPool, Frame, Closed}
 use Rattle.warm_c.specs.declared.status.Refusal.TheVariants.{AlreadyOpen, BufferTooSmall}
 use Rattle.warm_c.specs.declared.status.Refusal.TheVariants.{BadReplica, BadBucket, SameFile, Late}
-use Rattle.warm_c.specs.declared.status.Refusal.TheVariants.{Dump}
+use Rattle.warm_c.specs.declared.status.Refusal.TheVariants.{BadShards, UnevenFrames, Attached}
+use Rattle.warm_c.specs.declared.status.Refusal.TheVariants.{PinsLeft, NoShard, Dump}
 use Rattle.warm_c.specs.Statuses.{code_of, name_of}
 
 -- the name of the first of these refusals that has this number
@@ -32,6 +33,7 @@ refusals =
     ∷ Frame frame.BadStamp ∷ Frame frame.BadOrder
     ∷ Closed ∷ AlreadyOpen ∷ BufferTooSmall ∷ BadReplica ∷ BadBucket ∷ SameFile
     ∷ Late time.LateHorizon ∷ Late time.LateStamp
+    ∷ BadShards ∷ UnevenFrames ∷ Attached ∷ PinsLeft ∷ NoShard
     ∷ Dump dump.CutShort ∷ Dump dump.DigestsDiffer ∷ Dump dump.HorizonsDiffer
     ∷ Dump dump.MoreFollows ∷ Dump dump.ReadFault ∷ Dump dump.WriteFault ∷ []
 

@@ -13,7 +13,8 @@ use Rattle.warm_c.specs.declared.status.Refusal.{Refusal}
 use Rattle.warm_c.specs.declared.status.Refusal.TheVariants.{Node, NewPool, Frame, Closed}
 use Rattle.warm_c.specs.declared.status.Refusal.TheVariants.{AlreadyOpen, BufferTooSmall}
 use Rattle.warm_c.specs.declared.status.Refusal.TheVariants.{BadReplica, BadBucket, SameFile, Late}
-use Rattle.warm_c.specs.declared.status.Refusal.TheVariants.{Dump}
+use Rattle.warm_c.specs.declared.status.Refusal.TheVariants.{BadShards, UnevenFrames, Attached}
+use Rattle.warm_c.specs.declared.status.Refusal.TheVariants.{PinsLeft, NoShard, Dump}
 
 -- 1 of an allocation failure, wherever it comes; of another fault of a frame the fault's own number
 -- and 32
@@ -42,6 +43,11 @@ code_of BadReplica = 67
 code_of BadBucket = 68
 code_of SameFile = 69
 code_of (Late fault) = late_code_of fault
+code_of BadShards = 72
+code_of UnevenFrames = 73
+code_of Attached = 74
+code_of PinsLeft = 75
+code_of NoShard = 76
 code_of (Dump fault) = dump_code_of fault
 
 abbrev pub name_of : Refusal → List ℕ
@@ -55,6 +61,11 @@ name_of BadReplica = codes "BadReplica"
 name_of BadBucket = codes "BadBucket"
 name_of SameFile = codes "SameFile"
 name_of (Late fault) = frame_faults.time_fault_name fault
+name_of BadShards = codes "BadShards"
+name_of UnevenFrames = codes "UnevenFrames"
+name_of Attached = codes "Attached"
+name_of PinsLeft = codes "PinsLeft"
+name_of NoShard = codes "NoShard"
 name_of (Dump fault) = dump_faults.dump_fault_name fault
 
 -- 0, or the number of the refusal

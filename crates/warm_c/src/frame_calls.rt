@@ -23,7 +23,7 @@ fn put_bytes(bytes: &[u8], into: &mut [u8])
 
 // Puts the frame of a message at the start of a buffer, and writes its length, also where it does
 // not fit.
-fn put_frame(
+pub(crate) fn put_frame(
     alloc: Global,
     message: &Message,
     frame: &mut [u8],

@@ -9,7 +9,7 @@ use crate::values::WarmSlot;
 use warm_gossip::NodeFault;
 
 // Returns the address of the first of these bytes.
-fn address_of(bytes: &[u8]) -> *const u8
+pub(crate) fn address_of(bytes: &[u8]) -> *const u8
     requires { 0 < length bytes.now }
     ensures { result ≡ as_ptr bytes.entry }
 {

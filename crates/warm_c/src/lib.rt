@@ -28,7 +28,6 @@
 //! ([`laws::handles_cross`]); and pointers to as much as their lengths say, which do not overlap.
 #![tactic(auto)]
 
-ghost use Rattle.std.specs.Fn.{FnOnceReturnsAtMut};
 ghost use Rattle.std.specs.Prelude.{◌≡◌, pos, [], ◌∷◌, ◌++◌, length, None, Some};
 ghost use Rattle.warm_gossip.specs.declared.call.Call.TheVariants.{Offer};
 ghost use Rattle.warm_c.specs.Calls.{Absorbs, CountsPages, GivesNext, Limits, Lists, Loads, Names};
@@ -45,6 +44,7 @@ ghost use Rattle.warm_c.specs.Statuses.{code_of, status_of};
 ghost use Rattle.warm_c.specs.declared.status.Refusal.TheVariants.{Closed};
 ghost use Rattle.warm_c.specs.Values.{page_if, with_some};
 
+mod called;
 mod count_calls;
 pub mod counters;
 pub mod descriptor;
@@ -55,6 +55,7 @@ pub mod dump_file;
 mod engine_calls;
 pub mod fd_device;
 mod frame_calls;
+mod frame_parts;
 pub mod handle;
 pub mod held_pointer;
 mod history_calls;
@@ -62,11 +63,15 @@ pub mod laws;
 mod lending;
 pub mod open_node;
 mod opening;
+mod part_calls;
+pub mod part_exports;
 mod pool_calls;
 pub mod raw_box;
+pub mod shard_parts;
 pub mod status;
 pub mod values;
 
+use crate::called::{closed, on_open, put_back};
 use crate::counters::{WarmCounters, WarmDeviceCounters, WarmFailure};
 use crate::descriptor::Descriptor;
 use crate::handle::Handle;
@@ -78,41 +83,6 @@ use crate::values::{
 };
 use std::alloc::Global;
 use warm_gossip::NodeFault;
-
-// Returns the status of a call on a closed handle.
-fn closed() -> i32
-    ensures { result ≡ pos (code_of Closed) }
-{
-    status_of(Err(Refusal::Closed))
-}
-
-// Ends a call on an open handle: puts the node back, and returns the status.
-fn put_back(handle: &mut Handle, node: Box<OpenNode>, done: Result<(), Refusal>) -> i32
-    ensures held { handle.new.held.node ≡ Some node.value }
-    ensures status { result ≡ status_of done }
-{
-    *handle = Handle::of(node);
-    status_of(done)
-}
-
-// Makes a call of the node of an open handle, and returns its status. A call that writes through a
-// pointer of C takes the node itself: nothing is known of what a closure that was not called has
-// borrowed.
-fn on_open<F: FnOnce(&mut OpenNode) -> Result<(), Refusal>>(
-    alloc: Global,
-    handle: &mut Handle,
-    call: F,
-) -> i32
-    requires { F.IsAlwaysCallable call }
-    ensures { Called (λ old ending new. FnOnceReturnsAtMut F.FnOnce call old ending new)
-        handle.old.held.node result handle.new.held.node }
-{
-    let Some(mut node) = handle.take(alloc) else {
-        return closed();
-    };
-    let done = call(&mut node);
-    put_back(handle, node, done)
-}
 
 /// Opens a closed handle: creates a node of this replica, with a pool of `frames` empty frames over
 /// these devices, and an empty history.

@@ -35,6 +35,16 @@ pub enum Refusal {
     /// 70 or 71: a frame speaks of a time later than the limit; it is the fault's own number and
     /// 69.
     Late(TimeFault),
+    /// 72: the number of shards is no power of two, or it is more than 64.
+    BadShards,
+    /// 73: the frames cannot be divided evenly among the shards.
+    UnevenFrames,
+    /// 74: other handles are attached to the replica.
+    Attached,
+    /// 75: the handle has pins.
+    PinsLeft,
+    /// 76: there is no shard of this number.
+    NoShard,
     /// 1, 35 to 42, or 77 to 82: why a dump is not written or not read. The fault of a frame in it
     /// has the frame's number; others have the fault's own number and 64.
     Dump(DumpFault),
@@ -117,6 +127,11 @@ impl Refusal {
             Refusal::BadBucket => 68,
             Refusal::SameFile => 69,
             Refusal::Late(fault) => late_code(fault),
+            Refusal::BadShards => 72,
+            Refusal::UnevenFrames => 73,
+            Refusal::Attached => 74,
+            Refusal::PinsLeft => 75,
+            Refusal::NoShard => 76,
             Refusal::Dump(fault) => dump_code(fault),
         }
     }
@@ -137,6 +152,11 @@ impl Refusal {
             Refusal::BadBucket => "BadBucket",
             Refusal::SameFile => "SameFile",
             Refusal::Late(fault) => fault.name(),
+            Refusal::BadShards => "BadShards",
+            Refusal::UnevenFrames => "UnevenFrames",
+            Refusal::Attached => "Attached",
+            Refusal::PinsLeft => "PinsLeft",
+            Refusal::NoShard => "NoShard",
             Refusal::Dump(fault) => fault.name(),
         }
     }
@@ -180,7 +200,7 @@ pub fn status_of(done: Result<(), Refusal>) -> i32
 }
 
 // One refusal of each number, for the name of a number.
-static REFUSALS: [Refusal; 36] = [
+static REFUSALS: [Refusal; 41] = [
     Refusal::Node(NodeFault::Memory),
     Refusal::NewPool(NewPoolFault::BadFrames),
     Refusal::NewPool(NewPoolFault::SizeDiffers),
@@ -211,6 +231,11 @@ static REFUSALS: [Refusal; 36] = [
     Refusal::SameFile,
     Refusal::Late(TimeFault::LateHorizon),
     Refusal::Late(TimeFault::LateStamp),
+    Refusal::BadShards,
+    Refusal::UnevenFrames,
+    Refusal::Attached,
+    Refusal::PinsLeft,
+    Refusal::NoShard,
     Refusal::Dump(DumpFault::CutShort),
     Refusal::Dump(DumpFault::DigestsDiffer),
     Refusal::Dump(DumpFault::HorizonsDiffer),

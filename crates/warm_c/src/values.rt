@@ -1,6 +1,6 @@
 //! What crosses to C, beside numbers, bytes and a handle.
 ghost use Rattle.std.specs.Prelude.{◌≡◌, IsTrue};
-ghost use Rattle.warm_c.specs.Values.{c_page, c_slot, page_if, page_of_c, slot_of_c};
+ghost use Rattle.warm_c.specs.Values.{c_page, c_slot, page_if, page_of_c, reference_of, slot_of_c};
 ghost use Rattle.warm_c.specs.Values.{IsBool, IsOptionalPage};
 
 use warm_pool::Slot;
@@ -39,10 +39,12 @@ pub struct WarmSlot {
     pub generation: u64,
     /// The frame's number, from 0.
     pub index: u32,
+    /// The number of the shard, which no call of a node looks at.
+    pub shard: u32,
 }
 
 /// A slot as `node_pin` writes it: to C it is a `WarmSlot`, whose index is the lower half of the
-/// index here.
+/// index here, and whose shard the upper half.
 ///
 /// C passes a slot on by reads of eight bytes. A processor serves such a read at once from one
 /// write of eight, and not from two of four.
@@ -51,7 +53,7 @@ pub struct WarmSlot {
 pub struct PinnedSlot {
     /// The frame's generation.
     pub generation: u64,
-    /// The frame's number, from 0, in four bytes; and four zeros.
+    /// The frame's number, from 0, in four bytes; and shard 0, in four.
     pub index: u64,
 }
 
@@ -80,6 +82,18 @@ impl WarmPage {
     /// Returns the page as the node has it.
     pub fn page(self) -> PageId
         ensures { result ≡ page_of_c self }
+    {
+        PageId {
+            dev: self.dev,
+            no: self.no,
+        }
+    }
+}
+
+impl WarmReference {
+    /// Returns the page as the node has it.
+    pub fn page(self) -> PageId
+        ensures { result ≡ (reference_of self).page }
     {
         PageId {
             dev: self.dev,

@@ -1,0 +1,122 @@
+-- What a call of one shard does to what its open handle holds, and what it writes.
+use Rattle.std.specs.Prelude.{◌≡◌, ◌⊎◌, ℕ, ℤ, pos, max, List, [], map, Option, Some, None, Ok, Err}
+use denote.RawPtr.{Ptr}
+use Rattle.warm_history.specs.Histories.{HistoryView, entries_of}
+use Rattle.warm_digest.specs.BucketDigests.{digests_of}
+use Rattle.warm_frames.specs.declared.message.Message.{Message}
+use Rattle.warm_frames.specs.Encoding.{Encodes}
+use Rattle.warm_frames.specs.Reading.{GivesReading, read_frame, reserved_by}
+use Rattle.warm_gossip.specs.declared.call.Call.TheVariants.{Absorb, Receive}
+use Rattle.warm_gossip.specs.declared.call.Reply.TheVariants.{Answers, Done, Refused}
+use Rattle.warm_gossip.specs.declared.fault.NodeFault.TheVariants.{Memory}
+use Rattle.warm_gossip.specs.Clauses.{Joins, SameView}
+use Rattle.warm_shards.specs.Digests.{FillsShard}
+use Rattle.warm_c.specs.declared.open_node.OpenNode.{OpenNode}
+use Rattle.warm_c.specs.declared.status.Refusal.TheVariants.{BadReplica, Closed, Frame, Node}
+use Rattle.warm_c.specs.declared.values.PinnedSlot.{PinnedSlot}
+use Rattle.warm_c.specs.declared.values.WarmPage.{WarmPage}
+use Rattle.warm_c.specs.declared.values.WarmReference.{WarmReference}
+use Rattle.warm_c.specs.Calls.{Ending, HasBadReplica, Pins, RefusedByNode, Replies, SameBeside}
+use Rattle.warm_c.specs.Parts.{OfPart, part_of_batch, part_of_history, part_of_message}
+use Rattle.warm_c.specs.Statuses.{code_of, status_of}
+
+-- the node has absorbed the references of the batch to pages of the shard, and no others
+abbrev pub AbsorbsThose : ℕ → ℕ → List WarmReference → OpenNode → Ending → OpenNode → Type 0
+AbsorbsThose shards shard batch old (Ok given) new =
+    Replies (Absorb (part_of_batch shards shard batch)) old Done new
+AbsorbsThose shards shard batch old (Err BadReplica) new = HasBadReplica batch × (new ≡ old)
+AbsorbsThose shards shard batch old (Err why) new =
+    RefusedByNode (Absorb (part_of_batch shards shard batch)) old why new
+
+abbrev pub AbsorbsPart : ℕ → ℕ → List WarmReference → OpenNode → Ending → OpenNode → Type 0
+AbsorbsPart shards shard batch old ending new =
+    OfPart shards shard ending (new ≡ old) (AbsorbsThose shards shard batch old ending new)
+
+-- The page is pinned as by a pin, and an address is written. That it is that of the page's bytes is
+-- nothing that a clause can say. A refused call writes none.
+abbrev pub PinsAndLends : WarmPage → PinnedSlot → PinnedSlot → Ptr → Ptr → OpenNode → Ending
+    → OpenNode → Type 0
+PinsAndLends page before after at at' old (Ok given) new = Pins page before after old (Ok given) new
+PinsAndLends page before after at at' old (Err why) new =
+    Pins page before after old (Err why) new × (at' ≡ at)
+
+-- Of a frame of a message, the node has received what that brings to the shard: its horizon, and the
+-- entries of pages of the shard; nothing is answered. Or it refuses that; or the bytes are no frame,
+-- and nothing has changed.
+abbrev pub ReceivesThose : ℕ → ℕ → List ℕ → OpenNode → Ending → OpenNode → Type 0
+ReceivesThose shards shard bytes old (Ok given) new = (message : Message) × Encodes bytes message
+    × Replies (Receive (part_of_message shards shard message)) old (Answers []) new
+ReceivesThose shards shard bytes old (Err (Node why)) new =
+    (message : Message) × Encodes bytes message
+    × Replies (Receive (part_of_message shards shard message)) old (Refused why) new
+ReceivesThose shards shard bytes old (Err (Frame fault)) new =
+    GivesReading (Err fault) (read_frame bytes) (reserved_by bytes) × (new ≡ old)
+ReceivesThose shards shard bytes old (Err why) new = ⊥
+
+abbrev pub ReceivesPart : ℕ → ℕ → List ℕ → OpenNode → Ending → OpenNode → Type 0
+ReceivesPart shards shard bytes old ending new =
+    OfPart shards shard ending (new ≡ old) (ReceivesThose shards shard bytes old ending new)
+
+-- Digests
+
+-- the digests of all buckets, and a horizon, as they stand behind the pointers
+pub record Gathered : Type 0 where
+  pub digests : List (List ℕ)
+  pub horizon : ℕ
+
+abbrev pub gathered : List (List ℕ) → ℕ → Gathered
+gathered digests horizon = record { digests = digests; horizon = horizon }
+
+-- the digests of the shard's buckets are the node's, and the horizon is the later one of both; the
+-- other digests are as they were
+pub record TakesDigests (shards shard : ℕ) (before after : Gathered) (h : HistoryView) : Type 0 where
+  pub digests : FillsShard shards shard before.digests (digests_of (entries_of h)) after.digests
+  pub horizon : after.horizon ≡ max before.horizon h.horizon
+
+-- the node is as it was, as a caller sees it, and so is what is beside it
+abbrev pub SameOpen : OpenNode → OpenNode → Type 0
+SameOpen old new = SameView old.node new.node × SameBeside old new
+
+abbrev pub GivesThose : ℕ → ℕ → Gathered → Gathered → OpenNode → Ending → OpenNode → Type 0
+GivesThose shards shard before after old (Ok given) new =
+    TakesDigests shards shard before after old.node.history × SameOpen old new
+GivesThose shards shard before after old (Err (Node Memory)) new =
+    (after ≡ before) × SameOpen old new
+GivesThose shards shard before after old (Err why) new = ⊥
+
+abbrev pub GivesDigests : ℕ → ℕ → Gathered → Gathered → OpenNode → Ending → OpenNode → Type 0
+GivesDigests shards shard before after old ending new =
+    OfPart shards shard ending ((after ≡ before) × (new ≡ old))
+    (GivesThose shards shard before after old ending new)
+
+-- Joining what another node holds
+
+-- the node has joined this history; or an allocation failed, and nothing has changed that a caller
+-- sees
+abbrev pub JoinsIn : HistoryView → OpenNode → Ending → OpenNode → Type 0
+JoinsIn h old (Ok given) new = Joins old.node h new.node × SameBeside old new
+JoinsIn h old (Err (Node Memory)) new = SameOpen old new
+JoinsIn h old (Err why) new = ⊥
+
+-- the history of the other node
+abbrev pub Gathers : OpenNode → OpenNode → Ending → OpenNode → Type 0
+Gathers other old ending new = JoinsIn other.node.history old ending new
+
+-- what that says of the pages of the shard
+abbrev pub JoinsPart : ℕ → ℕ → OpenNode → OpenNode → Ending → OpenNode → Type 0
+JoinsPart shards shard other old ending new =
+    OfPart shards shard ending (new ≡ old)
+    (JoinsIn (part_of_history shards shard other.node.history) old ending new)
+
+-- A call on two handles. Where one of them is closed, it says so, and both are as they were. Else the
+-- first stays open, and its node goes so beside what the second holds, which is as it was.
+abbrev pub CalledWith : (OpenNode → OpenNode → Ending → OpenNode → Type 0) → Option OpenNode
+    → Option OpenNode → ℤ → Option OpenNode → Option OpenNode → Type 0
+CalledWith goes None from status into' from' =
+    (status ≡ pos (code_of Closed)) × (into' ≡ None) × (from' ≡ from)
+CalledWith goes (Some old) None status into' from' =
+    (status ≡ pos (code_of Closed)) × (into' ≡ Some old) × (from' ≡ None)
+CalledWith goes (Some old) (Some other) status None from' = ⊥
+CalledWith goes (Some old) (Some other) status (Some new) from' =
+    (ending : Ending) × goes other old ending new × (status ≡ status_of ending)
+    × (from' ≡ Some other)

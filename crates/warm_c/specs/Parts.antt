@@ -1,0 +1,98 @@
+-- What concerns one shard of many: of a page, of a batch, of a message and of a history.
+use Rattle.std.specs.Prelude.{◌≡◌, ◌≢◌, ◌↔◌, ◌⊎◌, ℕ, ℤ, ◌*◌, ◌%◌, ◌<◌, ◌≤◌, List, map, filter, nat_eq}
+use Rattle.std.specs.Prelude.{Ok, Err, Contains}
+use Rattle.std.specs.Int.{bit_at}
+use Rattle.warm_stamps.specs.declared.PageId.{PageId}
+use Rattle.warm_stamps.specs.declared.Reference.{Reference}
+use Rattle.warm_stamps.specs.declared.TheConstants.{BUCKETS}
+use Rattle.warm_history.specs.declared.hist.Entry.{Entry}
+use Rattle.warm_history.specs.Histories.{HistoryView, entries_of, history_of_entries_at}
+use Rattle.warm_frames.specs.declared.message.Message.{Message}
+use Rattle.warm_frames.specs.declared.message.Message.TheVariants.{Entries, Digest, Want}
+use Rattle.warm_frames.specs.Limits.{entries_in, horizon_in}
+use Rattle.warm_shards.specs.Shards.{IsShardCount, shard_of}
+use Rattle.warm_c.specs.declared.status.Refusal.{Refusal}
+use Rattle.warm_c.specs.declared.status.Refusal.TheVariants.{BadShards, NoShard, UnevenFrames}
+use Rattle.warm_c.specs.declared.values.WarmReference.{WarmReference}
+use Rattle.warm_c.specs.Calls.{Ending}
+use Rattle.warm_c.specs.Statuses.{status_of}
+use Rattle.warm_c.specs.Values.{reference_of}
+
+-- a call without a handle: it ends so, and the status is that of the ending
+abbrev pub Ends : (Ending → Type 0) → ℤ → Type 0
+Ends goes status = (ending : Ending) × goes ending × (status ≡ status_of ending)
+
+-- One shard of many
+
+-- there can be this many shards, and this is the number of one of them
+pub record IsPart (shards shard : ℕ) : Type 0 where
+  pub count : IsShardCount shards
+  pub below : shard < shards
+
+-- why it is not
+abbrev pub IsNoPart : ℕ → ℕ → Refusal → Type 0
+IsNoPart shards shard why = ((why ≡ BadShards) × (IsShardCount shards → ⊥))
+    ⊎ ((why ≡ NoShard) × IsShardCount shards × (shards ≤ shard))
+
+-- A call for one shard. Where there cannot be this many shards, or this is none of them, it is refused,
+-- and all is the same; else it goes so.
+abbrev pub OfPart : ℕ → ℕ → Ending → Type 0 → Type 0 → Type 0
+OfPart shards shard ending same goes =
+    ((why : Refusal) × (ending ≡ Err why) × IsNoPart shards shard why × same)
+    ⊎ (IsPart shards shard × goes)
+
+-- Frames of the pool
+
+-- so many frames are divided evenly among the shards, and how many each has is written; a refused
+-- call writes nothing
+abbrev pub Divides : ℕ → ℕ → ℕ → ℕ → Ending → Type 0
+Divides frames shards before each (Ok given) = IsShardCount shards × (each * shards ≡ frames)
+Divides frames shards before each (Err BadShards) = (IsShardCount shards → ⊥) × (each ≡ before)
+Divides frames shards before each (Err UnevenFrames) = IsShardCount shards
+    × (frames % shards ≢ 0) × (each ≡ before)
+Divides frames shards before each (Err why) = ⊥
+
+-- Batches
+
+-- the references to pages of the shard, in order
+abbrev pub part_of_batch : ℕ → ℕ → List WarmReference → List Reference
+part_of_batch shards shard batch =
+    filter (λ r. nat_eq (shard_of shards r.page) shard) (map reference_of batch)
+
+-- the shards of pages
+abbrev pub shards_of : ℕ → List PageId → List ℕ
+shards_of shards pages = map (shard_of shards) pages
+
+-- bit i of the number is 1 exactly where i is one of these
+abbrev pub HasBits : List ℕ → ℕ → Type 0
+HasBits numbers bits = (i : ℕ) → (bit_at bits i ≡ 1) ↔ Contains numbers i
+
+-- the pages of references, and of entries
+abbrev pub batch_pages : List WarmReference → List PageId
+batch_pages batch = map (λ r. (reference_of r).page) batch
+
+abbrev pub entry_pages : List Entry → List PageId
+entry_pages es = map (λ e. e.page) es
+
+-- Messages and histories
+
+-- the entries of pages of the shard, in order
+abbrev pub part_of_entries : ℕ → ℕ → List Entry → List Entry
+part_of_entries shards shard es = filter (λ e. nat_eq (shard_of shards e.page) shard) es
+
+-- the replica that sent the message
+abbrev pub sender_in : Message → ℕ
+sender_in (Entries sender horizon entries) = sender
+sender_in (Digest sender horizon digests) = sender
+sender_in (Want sender horizon request) = sender
+
+-- what a message brings to the shard: its horizon, and the entries of pages of the shard
+abbrev pub part_of_message : ℕ → ℕ → Message → Message
+part_of_message shards shard message =
+    Entries (sender_in message) (horizon_in message)
+    (part_of_entries shards shard (entries_in message))
+
+-- what a history says of the pages of the shard
+abbrev pub part_of_history : ℕ → ℕ → HistoryView → HistoryView
+part_of_history shards shard h =
+    history_of_entries_at h.horizon (part_of_entries shards shard (entries_of h))

@@ -1,0 +1,244 @@
+//! The calls on an open handle that concern one shard of many, or join what another handle holds.
+ghost use Rattle.std.specs.Prelude.{◌≡◌, ◌<◌, IfErr, IfOk};
+ghost use Rattle.warm_frames.specs.Entries.{FitsInFrame};
+ghost use Rattle.warm_frames.specs.Limits.{entries_in, horizon_in};
+ghost use Rattle.warm_shards.specs.Digests.{FillsShard};
+ghost use Rattle.warm_shards.specs.Shards.{IsShardCount};
+ghost use Rattle.warm_c.specs.PartCalls.{AbsorbsPart, Gathers, GivesDigests, JoinsPart};
+ghost use Rattle.warm_c.specs.PartCalls.{PinsAndLends, ReceivesPart, gathered};
+ghost use Rattle.warm_c.specs.Parts.{part_of_entries, part_of_history, part_of_message, sender_in};
+
+use crate::frame_parts::NodeTable;
+use crate::lending::address_of;
+use crate::open_node::OpenNode;
+use crate::shard_parts::{check_part, part_of_batch, part_of_entries};
+use crate::status::Refusal;
+use crate::values::{PinnedSlot, WarmPage, WarmReference};
+use std::alloc::{AllocError, Global};
+use warm_frames::{DIGEST_SIZE, DigestTable, EntryList, Message, decode};
+use warm_history::{Entry, History};
+use warm_shards::shard_of;
+use warm_stamps::{BUCKETS, Bucket, ReplicaId};
+
+// Takes the digests of one shard's buckets from its table.
+fn fill(
+    digests: &mut [[u8; DIGEST_SIZE]; BUCKETS as usize],
+    table: &DigestTable,
+    shards: usize,
+    shard: usize,
+)
+    requires { 0 < shards }
+    ensures { FillsShard shards shard digests.old table.now digests.new }
+{
+    for number in 0..BUCKETS {
+        let Some(bucket) = Bucket::new(number) else {
+            unreachable!()
+        };
+        if number as usize % shards == shard {
+            digests[number as usize] = table.digest(bucket);
+        }
+    }
+}
+
+// The replica that sent a message.
+fn sender_of(message: &Message) -> ReplicaId
+    ensures { result ≡ sender_in message.now }
+{
+    match message {
+        Message::Entries { sender, .. } => *sender,
+        Message::Digest { sender, .. } => *sender,
+        Message::Want { sender, .. } => *sender,
+    }
+}
+
+// The entries that a message brings to the shard.
+fn entries_for(
+    alloc: Global,
+    message: &Message,
+    shards: usize,
+    shard: usize,
+) -> Result<Vec<Entry>, AllocError>
+    requires { IsShardCount shards }
+    ensures part { IfOk result (λ part. part.items
+        ≡ part_of_entries shards shard (entries_in message.now)) }
+    ensures fits { IfOk result (λ part. FitsInFrame part.items) }
+{
+    let Message::Entries { entries, .. } = message else {
+        return Ok(Vec::new(alloc));
+    };
+    let part = part_of_entries(alloc, entries.as_slice(), shards, shard)?;
+    Ok(part)
+}
+
+// What a message brings to the shard, as a message.
+fn part_of_message(
+    alloc: Global,
+    message: &Message,
+    shards: usize,
+    shard: usize,
+) -> Result<Message, AllocError>
+    requires { IsShardCount shards }
+    ensures { IfOk result (λ part. part ≡ part_of_message shards shard message.now) }
+{
+    let part = entries_for(alloc, message, shards, shard)?;
+    Ok(Message::Entries {
+        sender: sender_of(message),
+        horizon: message.horizon(),
+        entries: EntryList::holding(part),
+    })
+}
+
+// What a history says of the pages of the shard, as a history.
+fn part_of_history(
+    alloc: Global,
+    history: &History,
+    shards: usize,
+    shard: usize,
+) -> Result<History, AllocError>
+    requires { IsShardCount shards }
+    ensures { IfOk result (λ part. part ≡ part_of_history shards shard history.now) }
+{
+    let mut entries = Vec::new(alloc);
+    for entry in history {
+        if shard_of(shards, entry.page) == shard {
+            entries.push(entry)?;
+        }
+    }
+    let mut part = History::new(alloc);
+    part.join_entries(history.horizon(), &entries)?;
+    Ok(part)
+}
+
+impl OpenNode {
+    /// Calls [`warm_gossip::Node::absorb`] with the references to pages of the shard.
+    ///
+    /// # Errors
+    /// In this order. Nothing has changed.
+    /// - `BadShards`, `NoShard`: there cannot be this many shards, or there is none of this number.
+    /// - `BadReplica`: one of all references has a replica's number that is not valid.
+    /// - `Node`: the node's own.
+    pub fn absorb_part(
+        &mut self,
+        alloc: Global,
+        shards: usize,
+        shard: usize,
+        batch: &[WarmReference],
+    ) -> Result<(), Refusal>
+        ensures { AbsorbsPart shards shard batch.now self.old result self.new }
+    {
+        check_part(shards, shard)?;
+        let part = part_of_batch(alloc, batch, shards, shard)?;
+        self.node.absorb(&part)?;
+        Ok(())
+    }
+
+    /// Calls [`warm_gossip::Node::pin`], and writes the slot and the address of the page's bytes, which
+    /// stay there as [`OpenNode::lend`] says.
+    ///
+    /// # Errors
+    /// `Node`: the node's own. The slot and the pointer are unchanged.
+    pub fn pin_lend(
+        &mut self,
+        page: WarmPage,
+        slot: &mut PinnedSlot,
+        bytes: &mut *const u8,
+    ) -> Result<(), Refusal>
+        ensures { PinsAndLends page slot.old slot.new bytes.old bytes.new self.old result self.new }
+    {
+        let given = self.node.pin(page.page())?;
+        let pool = self.node.pool();
+        pool.prove_is_pool();
+        *bytes = address_of(pool.bytes(given));
+        *slot = PinnedSlot::of(given);
+        Ok(())
+    }
+
+    /// Calls [`warm_gossip::Node::receive`] with what a frame brings to the shard: its horizon, and
+    /// the entries of pages of the shard. Nothing waits to be answered.
+    ///
+    /// # Errors
+    /// In this order. Nothing has changed that a caller sees.
+    /// - `BadShards`, `NoShard`: there cannot be this many shards, or there is none of this number.
+    /// - `Frame`: the bytes are no frame.
+    /// - `Node`, with `Memory`: an allocation failed.
+    pub fn receive_part(
+        &mut self,
+        alloc: Global,
+        shards: usize,
+        shard: usize,
+        frame: &[u8],
+    ) -> Result<(), Refusal>
+        ensures { ReceivesPart shards shard frame.now self.old result self.new }
+    {
+        check_part(shards, shard)?;
+        let message = decode(alloc, frame)?;
+        let part = part_of_message(alloc, &message, shards, shard)?;
+        let _none = self.node.receive(part)?;
+        Ok(())
+    }
+
+    /// Calls [`warm_gossip::Node::offer`], and writes the digests of the shard's buckets, and the
+    /// later one of the horizon and the node's.
+    ///
+    /// # Errors
+    /// In this order. Nothing is written, and nothing has changed that a caller sees.
+    /// - `BadShards`, `NoShard`: there cannot be this many shards, or there is none of this number.
+    /// - `Node`, with `Memory`: an allocation failed.
+    pub fn digests(
+        &mut self,
+        shards: usize,
+        shard: usize,
+        table: &mut NodeTable,
+        horizon: &mut u64,
+    ) -> Result<(), Refusal>
+        ensures { GivesDigests shards shard (gathered table.old.digests horizon.old)
+            (gathered table.new.digests horizon.new) self.old result self.new }
+    {
+        check_part(shards, shard)?;
+        let offered = self.node.offer()?;
+        let Message::Digest {
+            digests,
+            horizon: own,
+            ..
+        } = offered
+        else {
+            unreachable!()
+        };
+        fill(&mut table.digests, &digests, shards, shard);
+        *horizon = own.max(*horizon);
+        Ok(())
+    }
+
+    /// Calls [`warm_gossip::Node::join`] with the history of another node.
+    ///
+    /// # Errors
+    /// `Node`, with `Memory`: an allocation failed; nothing has changed that a caller sees.
+    pub fn gather(&mut self, other: &OpenNode) -> Result<(), Refusal>
+        ensures { Gathers other.now self.old result self.new }
+    {
+        self.node.join(other.node.history())?;
+        Ok(())
+    }
+
+    /// Calls [`warm_gossip::Node::join`] with what the history of another node says of the pages of
+    /// the shard.
+    ///
+    /// # Errors
+    /// In this order. Nothing has changed that a caller sees.
+    /// - `BadShards`, `NoShard`: there cannot be this many shards, or there is none of this number.
+    /// - `Node`, with `Memory`: an allocation failed.
+    pub fn join_part(
+        &mut self,
+        alloc: Global,
+        shards: usize,
+        shard: usize,
+        other: &OpenNode,
+    ) -> Result<(), Refusal>
+        ensures { JoinsPart shards shard other.now self.old result self.new }
+    {
+        check_part(shards, shard)?;
+        let part = part_of_history(alloc, other.node.history(), shards, shard)?;
+        self.node.join(&part)?;
+        Ok(())
+    }
+}

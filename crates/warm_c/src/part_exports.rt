@@ -1,0 +1,309 @@
+//! The functions that C calls for one shard of many. `c/nodes.h` has their prototypes.
+ghost use Rattle.std.specs.Prelude.{◌≡◌, None};
+ghost use Rattle.warm_frames.specs.declared.message.Message.TheVariants.{Digest, Want};
+ghost use Rattle.warm_shards.specs.Shards.{IsShardCount, shard_of};
+ghost use Rattle.warm_c.specs.FrameParts.{FindsDiffering, MakesFrame, ReadsFrame};
+ghost use Rattle.warm_c.specs.Handles.{Called};
+ghost use Rattle.warm_c.specs.PartCalls.{AbsorbsPart, CalledWith, Gathers, GivesDigests, JoinsPart};
+ghost use Rattle.warm_c.specs.PartCalls.{PinsAndLends, ReceivesPart, gathered};
+ghost use Rattle.warm_c.specs.Parts.{Divides, Ends, HasBits, batch_pages, shards_of};
+ghost use Rattle.warm_c.specs.Values.{page_of_c};
+
+use crate::called::{closed, put_back};
+use crate::frame_parts::{
+    NodeFrame, NodeTable, find_differing, offer_frame, read_frame, want_frame,
+};
+use crate::handle::Handle;
+use crate::shard_parts::{divide, shards_of_batch};
+use crate::status::status_of;
+use crate::values::{PinnedSlot, WarmPage, WarmReference};
+use std::alloc::Global;
+use warm_shards::{is_shard_count, shard_of};
+
+/// Returns the shard of a page, of this many; 0 where there cannot be so many.
+#[unsafe(no_mangle)]
+pub extern "C" fn node_shard_of(shards: usize, page: WarmPage) -> u32
+    ensures value { IsShardCount shards → result ≡ shard_of shards (page_of_c page) }
+    ensures none { (IsShardCount shards → ⊥) → result ≡ 0 }
+{
+    if !is_shard_count(shards) {
+        return 0;
+    }
+    shard_of(shards, page.page()) as u32
+}
+
+/// Divides frames evenly among shards, and writes how many each has.
+///
+/// # Errors
+/// In this order; `each` is unchanged.
+/// - 72: there cannot be this many shards.
+/// - 73: the frames cannot be divided evenly.
+#[unsafe(no_mangle)]
+pub extern "C" fn node_divide(frames: usize, shards: usize, each: &mut usize) -> i32
+    ensures { Ends (Divides frames shards each.old each.new) result }
+{
+    status_of(divide(frames, shards, each))
+}
+
+/// Returns which shards have a page to which there is a reference in the batch, bit i for shard i; 0
+/// where there cannot be so many shards.
+#[unsafe(no_mangle)]
+pub extern "C" fn node_shards_of(shards: usize, references: &[WarmReference]) -> u64
+    ensures bits { IsShardCount shards
+        → HasBits (shards_of shards (batch_pages references.now)) result }
+    ensures none { (IsShardCount shards → ⊥) → result ≡ 0 }
+{
+    if !is_shard_count(shards) {
+        return 0;
+    }
+    shards_of_batch(shards, references)
+}
+
+/// Adds those references to the history that are to pages of the shard, all or none.
+///
+/// # Errors
+/// In this order; nothing has changed.
+/// - 72: there cannot be this many shards.
+/// - 76: there is no shard of this number.
+/// - 67: one of all references has a replica's number that is not valid.
+/// - 1: an allocation failed.
+#[unsafe(no_mangle)]
+pub extern "C" fn node_absorb_part(
+    alloc: Global,
+    handle: &mut Handle,
+    shards: usize,
+    shard: usize,
+    references: &[WarmReference],
+) -> i32
+    ensures { Called (AbsorbsPart shards shard references.now) handle.old.held.node result
+        handle.new.held.node }
+{
+    let Some(mut node) = handle.take(alloc) else {
+        return closed();
+    };
+    let done = node.absorb_part(alloc, shards, shard, references);
+    put_back(handle, node, done)
+}
+
+/// Pins a page as [`crate::node_pin`] does, and writes the address of its bytes, to be read.
+///
+/// # Errors
+/// 4 to 9, in the order of [`warm_pool::Pool::pin`]. The slot and the pointer are unchanged, and of the
+/// node only counts of failures have changed.
+#[unsafe(no_mangle)]
+pub extern "C" fn node_pin_lend(
+    alloc: Global,
+    handle: &mut Handle,
+    page: WarmPage,
+    slot: &mut PinnedSlot,
+    bytes: &mut *const u8,
+) -> i32
+    ensures called { Called (PinsAndLends page slot.old slot.new bytes.old bytes.new)
+        handle.old.held.node result handle.new.held.node }
+    ensures closed { handle.old.held.node ≡ None
+        → (slot.new ≡ slot.old) × (bytes.new ≡ bytes.old) }
+{
+    let Some(mut node) = handle.take(alloc) else {
+        return closed();
+    };
+    let done = node.pin_lend(page, slot, bytes);
+    put_back(handle, node, done)
+}
+
+/// Writes what a frame is: its kind, its horizon, of which shards it has entries, and which buckets it
+/// requests.
+///
+/// # Errors
+/// In this order, and 1 at any point where an allocation failed; `what` is unchanged.
+/// - 72: there cannot be this many shards.
+/// - 34 to 42: the bytes are no frame, by the first fault from left to right.
+/// - 70: the horizon is later than the limit.
+/// - 71: a stamp is later than the limit.
+#[unsafe(no_mangle)]
+pub extern "C" fn node_read_frame(
+    alloc: Global,
+    shards: usize,
+    limit: u64,
+    frame: &[u8],
+    what: &mut NodeFrame,
+) -> i32
+    ensures { Ends (ReadsFrame shards limit frame.now what.old what.new) result }
+{
+    status_of(read_frame(alloc, shards, limit, frame, what))
+}
+
+/// Receives what a frame brings to the shard: its horizon, and the entries of pages of the shard.
+/// Nothing waits to be answered.
+///
+/// # Errors
+/// In this order, and 1 at any point where an allocation failed. Nothing has changed that a caller
+/// sees.
+/// - 72: there cannot be this many shards.
+/// - 76: there is no shard of this number.
+/// - 34 to 42: the bytes are no frame, by the first fault from left to right.
+#[unsafe(no_mangle)]
+pub extern "C" fn node_receive_part(
+    alloc: Global,
+    handle: &mut Handle,
+    shards: usize,
+    shard: usize,
+    frame: &[u8],
+) -> i32
+    ensures { Called (ReceivesPart shards shard frame.now) handle.old.held.node result
+        handle.new.held.node }
+{
+    let Some(mut node) = handle.take(alloc) else {
+        return closed();
+    };
+    let done = node.receive_part(alloc, shards, shard, frame);
+    put_back(handle, node, done)
+}
+
+/// Writes the digests of the shard's buckets into the table, and the later one of the horizon and the
+/// node's. The digests of other buckets are unchanged.
+///
+/// # Errors
+/// In this order; the table and the horizon are unchanged.
+/// - 72: there cannot be this many shards.
+/// - 76: there is no shard of this number.
+/// - 1: an allocation failed.
+#[unsafe(no_mangle)]
+pub extern "C" fn node_digests(
+    alloc: Global,
+    handle: &mut Handle,
+    shards: usize,
+    shard: usize,
+    table: &mut NodeTable,
+    horizon: &mut u64,
+) -> i32
+    ensures called { Called (GivesDigests shards shard (gathered table.old.digests horizon.old)
+        (gathered table.new.digests horizon.new)) handle.old.held.node result
+        handle.new.held.node }
+    ensures closed { handle.old.held.node ≡ None
+        → gathered table.new.digests horizon.new ≡ gathered table.old.digests horizon.old }
+{
+    let Some(mut node) = handle.take(alloc) else {
+        return closed();
+    };
+    let done = node.digests(shards, shard, table, horizon);
+    put_back(handle, node, done)
+}
+
+/// Writes the frame of digests, from a replica of this number and horizon, and its length.
+///
+/// # Errors
+/// In this order; the buffer is unchanged.
+/// - 67: the replica's number is not valid.
+/// - 1: an allocation failed.
+/// - 66: the frame does not fit; its length is written.
+#[unsafe(no_mangle)]
+pub extern "C" fn node_offer_frame(
+    alloc: Global,
+    replica: u16,
+    horizon: u64,
+    table: &NodeTable,
+    frame: &mut [u8],
+    len: &mut usize,
+) -> i32
+    ensures { Ends (MakesFrame replica (Digest replica horizon table.now.digests)
+        frame.old len.old frame.new len.new) result }
+{
+    status_of(offer_frame(alloc, replica, horizon, table, frame, len))
+}
+
+/// Writes which buckets have other digests in a frame of digests than in the table, bit i for bucket
+/// i; 0 of a frame of another kind.
+///
+/// # Errors
+/// 1 where an allocation failed. `buckets` is unchanged.
+/// - 34 to 42: the bytes are no frame, by the first fault from left to right.
+#[unsafe(no_mangle)]
+pub extern "C" fn node_differing(
+    alloc: Global,
+    table: &NodeTable,
+    frame: &[u8],
+    buckets: &mut u64,
+) -> i32
+    ensures { Ends (FindsDiffering table.now.digests frame.now buckets.old buckets.new) result }
+{
+    status_of(find_differing(alloc, table, frame, buckets))
+}
+
+/// Writes the frame of a request for buckets, bit i for bucket i, from a replica of this number and
+/// horizon, and its length.
+///
+/// # Errors
+/// In this order; the buffer is unchanged.
+/// - 67: the replica's number is not valid.
+/// - 1: an allocation failed.
+/// - 66: the frame does not fit; its length is written.
+#[unsafe(no_mangle)]
+pub extern "C" fn node_want_frame(
+    alloc: Global,
+    replica: u16,
+    horizon: u64,
+    buckets: u64,
+    frame: &mut [u8],
+    len: &mut usize,
+) -> i32
+    ensures { Ends (MakesFrame replica (Want replica horizon buckets) frame.old len.old frame.new
+        len.new) result }
+{
+    status_of(want_frame(alloc, replica, horizon, buckets, frame, len))
+}
+
+/// Joins the history of the second handle's node to that of the first's, all or nothing. The second
+/// handle is unchanged.
+///
+/// # Errors
+/// Nothing has changed that a caller sees.
+/// - 64: one of the handles is closed.
+/// - 1: an allocation failed.
+#[unsafe(no_mangle)]
+pub extern "C" fn node_gather(alloc: Global, into: &mut Handle, from: &mut Handle) -> i32
+    ensures { CalledWith Gathers into.old.held.node from.old.held.node result into.new.held.node
+        from.new.held.node }
+{
+    let Some(mut node) = into.take(alloc) else {
+        return closed();
+    };
+    let Some(other) = from.take(alloc) else {
+        *into = Handle::of(node);
+        return closed();
+    };
+    let done = node.gather(&other);
+    *from = Handle::of(other);
+    put_back(into, node, done)
+}
+
+/// Joins what the history of the second handle's node says of the pages of the shard to the history
+/// of the first's, all or nothing. The second handle is unchanged.
+///
+/// # Errors
+/// In this order; nothing has changed that a caller sees.
+/// - 64: one of the handles is closed.
+/// - 72: there cannot be this many shards.
+/// - 76: there is no shard of this number.
+/// - 1: an allocation failed.
+#[unsafe(no_mangle)]
+pub extern "C" fn node_join_part(
+    alloc: Global,
+    into: &mut Handle,
+    shards: usize,
+    shard: usize,
+    from: &mut Handle,
+) -> i32
+    ensures { CalledWith (JoinsPart shards shard) into.old.held.node from.old.held.node result
+        into.new.held.node from.new.held.node }
+{
+    let Some(mut node) = into.take(alloc) else {
+        return closed();
+    };
+    let Some(other) = from.take(alloc) else {
+        *into = Handle::of(node);
+        return closed();
+    };
+    let done = node.join_part(alloc, shards, shard, &other);
+    *from = Handle::of(other);
+    put_back(into, node, done)
+}
