@@ -6,6 +6,7 @@ pub mod Engine
 pub mod FdParts
 pub mod FrameParts
 pub mod Handles
+pub mod Laws
 pub mod Lending
 pub mod Owning
 pub mod PartCalls
