@@ -28,8 +28,8 @@ static size_t granted = SIZE_MAX;
 static int blocks, locks_there, syncs, interruptions;
 static int sync_errors[100]; /* of each descriptor: the errno of its next sync; 0: it succeeds */
 
-/* The locks that this thread has, and the most that it has had at once. Those of sync_once.c are left out. */
-static _Thread_local int held, most_held;
+/* The locks that this thread has, the most that it has had at once, and how many it has taken. Those of sync_once.c are left out. */
+static _Thread_local int held, most_held, taken;
 
 static bool is_granted(void) {
     if (granted == 0) return false;
@@ -60,6 +60,7 @@ static int test_destroy(pthread_mutex_t *lock) {
 }
 
 static int test_lock(pthread_mutex_t *lock) {
+    taken++;
     if (++held > most_held) most_held = held;
     return pthread_mutex_lock(lock);
 }
@@ -174,7 +175,8 @@ static void test_attaching(void) {
     MUST(slot.shard == 2 && slot.index == 0 && slot.generation == 1);
     MUST(warm_unpin(&third, slot) == WARM_STALE_SLOT && warm_unpin(&first, slot) == WARM_STALE_SLOT);
     MUST(warm_close(&second) == WARM_PINS_LEFT);
-    OK(warm_pin_zeroed(&second, (warm_page){.no = 7}, &other));
+    OK(warm_pin_zeroed(&second, (warm_page){.no = 6, .dev = 3}, &other));
+    MUST(other.shard == 1);
     OK(warm_unpin(&second, slot));
     MUST(warm_unpin(&second, slot) == WARM_STALE_SLOT && warm_close(&second) == WARM_PINS_LEFT);
     slot = other;
@@ -193,10 +195,17 @@ static void test_attaching(void) {
 
 /* ---- locks ---- */
 
-enum { LOCKS_NONE, LOCKS_ONE, LOCKS_ALL };
+/* A call that succeeds, and takes this many locks; or none where one handle is open. */
+#define TAKES(locks, call)                                            \
+    do {                                                              \
+        int before = taken;                                           \
+        OK(call);                                                     \
+        MUST(taken - before == (is_shared ? (int)(locks) : 0));       \
+    } while (0)
 
-/* Calls each function of a handle whose shards are all locked one at a time, or not at all. */
-static void call_each(warm *handle, size_t count) {
+/* Calls each function that takes one lock at a time. Batches and frames are of shards 0 to 2 alone. */
+static void call_each(warm *handle, size_t count, bool is_shared) {
+    const size_t of_batch = count > 2 ? 2 : count, all = count;
     const warm_reference seen[] = {{.time = 1, .no = 1, .replica = 1}, {.time = 1, .no = 2, .replica = 1}};
     const uint8_t entries[10] = {NODE_ENTRIES, 1}, request[10] = {NODE_REQUEST, 1, 1, 1};
     uint8_t frame[66], byte = 'a', *bytes;
@@ -209,46 +218,46 @@ static void call_each(warm *handle, size_t count) {
     warm_counters counters;
     warm_device_counters of_device;
     warm_failure failure;
-    OK(warm_pin(handle, page, &slot));
-    OK(warm_write(handle, slot, 0, &byte, 1));
+    TAKES(1, warm_pin(handle, page, &slot));
+    TAKES(1, warm_write(handle, slot, 0, &byte, 1));
     byte = 0;
-    OK(warm_read(handle, slot, 0, &byte, 1));
-    OK(warm_lend(handle, slot, &lent));
-    OK(warm_lend_mut(handle, slot, &bytes));
+    TAKES(1, warm_read(handle, slot, 0, &byte, 1));
+    TAKES(1, warm_lend(handle, slot, &lent));
+    TAKES(1, warm_lend_mut(handle, slot, &bytes));
     MUST(byte == 'a' && *lent == 'a' && bytes == lent);
-    OK(warm_unpin(handle, slot));
-    OK(warm_pin_lend(handle, page, &slot, &lent));
-    OK(warm_unpin(handle, slot));
-    OK(warm_resident(handle, page, &flag));
+    TAKES(1, warm_unpin(handle, slot));
+    TAKES(1, warm_pin_lend(handle, page, &slot, &lent));
+    TAKES(1, warm_unpin(handle, slot));
+    TAKES(1, warm_resident(handle, page, &flag));
     MUST(flag);
-    OK(warm_victim(handle, 3 % count, &flag, &page));
+    TAKES(1, warm_victim(handle, 3 % count, &flag, &page));
     MUST(flag && page.no == 3 && warm_victim(handle, count, &flag, &page) == WARM_NO_SHARD);
-    OK(warm_absorb(handle, seen, 0));
-    OK(warm_absorb(handle, seen, 2));
-    OK(warm_history_length(handle, &number));
+    TAKES(count == 1, warm_absorb(handle, seen, 0));
+    TAKES(of_batch, warm_absorb(handle, seen, 2));
+    TAKES(all, warm_history_length(handle, &number));
     MUST(number == 2);
-    OK(warm_list(handle, &page, 1, &number));
+    TAKES(all, warm_list(handle, &page, 1, &number));
     MUST(number == 1);
-    OK(warm_save(handle, 1));
-    OK(warm_load(handle, 1, 2 * count));
-    OK(warm_history_length(handle, &number));
+    TAKES(all, warm_save(handle, 1));
+    TAKES(all, warm_load(handle, 1, 2 * count));
+    TAKES(all, warm_history_length(handle, &number));
     MUST(number == 2 + 2 * count);
     OK(warm_step(handle, &flag, &page));
-    OK(warm_receive(handle, entries, sizeof entries));
-    OK(warm_receive(handle, request, sizeof request));
+    TAKES(all, warm_receive(handle, entries, sizeof entries));
+    TAKES(all, warm_receive(handle, request, sizeof request));
     OK(warm_next_answer(handle, frame, sizeof frame, &number));
-    OK(warm_offer(handle, frame, sizeof frame, &number));
-    OK(warm_receive(handle, frame, number));
-    OK(warm_send(handle, 5, false, page, frame, sizeof frame, &number));
-    OK(warm_send_since(handle, 5, 0, false, page, frame, sizeof frame, &number, &flag, &last));
-    OK(warm_limit(handle, 9));
-    OK(warm_horizon(handle, 1, &horizon));
-    OK(warm_write_back_some(handle, 1, &number));
-    OK(warm_flush(handle, 0));
-    OK(warm_write_back(handle));
-    OK(warm_counts(handle, &counters));
-    OK(warm_device_counts(handle, 0, &of_device));
-    OK(warm_last_failure(handle, &flag, &failure));
+    TAKES(all, warm_offer(handle, frame, sizeof frame, &number));
+    TAKES(2 * all, warm_receive(handle, frame, number));
+    TAKES(1, warm_send(handle, 5, false, page, frame, sizeof frame, &number));
+    TAKES(1, warm_send_since(handle, 5, 0, false, page, frame, sizeof frame, &number, &flag, &last));
+    TAKES(0, warm_limit(handle, 9));
+    TAKES(all, warm_horizon(handle, 1, &horizon));
+    TAKES(all, warm_write_back_some(handle, 1, &number));
+    TAKES(all, warm_flush(handle, 0));
+    TAKES(count == 1 ? 1 : 2 * all, warm_write_back(handle));
+    TAKES(all, warm_counts(handle, &counters));
+    TAKES(all, warm_device_counts(handle, 0, &of_device));
+    TAKES(1, warm_last_failure(handle, &flag, &failure));
 }
 
 static void call_all_locked(warm *handle) {
@@ -261,21 +270,22 @@ static void test_locks(void) {
     for (size_t count = 1; count <= 64; count *= 8) {
         warm first = {0}, second = {0};
         open_shards(&first, count);
-        most_held = 0;
-        call_each(&first, count);
+        call_each(&first, count, false);
+        taken = 0;
         call_all_locked(&first);
-        MUST(most_held == LOCKS_NONE);
+        MUST(taken == 0);
         OK(warm_close(&first));
         open_shards(&first, count);
         OK(warm_thread(&first, &second));
-        call_each(&second, count);
-        MUST(most_held == LOCKS_ONE && held == 0);
+        most_held = 0;
+        call_each(&second, count, true);
+        MUST(most_held == 1 && held == 0);
         call_all_locked(&first);
         MUST(most_held == (int)count && held == 0);
         OK(warm_close(&second));
-        most_held = 0;
+        taken = 0;
         call_all_locked(&first);
-        MUST(most_held == LOCKS_NONE);
+        MUST(taken == 0);
         OK(warm_close(&first));
         nothing_left();
     }
@@ -358,6 +368,9 @@ static void test_answers(void) {
     MUST(warm_next_answer(&handle, frame, 9, &length) == WARM_BUFFER_TOO_SMALL && length == 10 && frame[0] == 'x');
     OK(warm_next_answer(&handle, frame, 10, &length));
     MUST(length == 10 && frame[0] == NODE_REQUEST && frame[1] == 3 && frame[2] == 1 && frame[9] == 1);
+    size_t none;
+    OK(warm_next_answer(&handle, frame + 10, 10, &none));
+    MUST(none == 0);
     OK(warm_receive(&handle, frame, length)); /* a request for buckets 0 to 7 */
     for (int part = 0; part < 8; part++) {
         OK(warm_next_answer(&handle, frame, sizeof frame, &length));
@@ -642,9 +655,9 @@ static void test_threads(void) {
     }
     for (int at = 0; at < THREADS; at++) MUST(pthread_join(threads[at], NULL) == 0);
     MUST(known(&first) == 2 * THREADS * ROUNDS);
-    most_held = 0;
+    taken = 0;
     write_each(&first, 0, 4); /* alone again, without a lock */
-    MUST(most_held == LOCKS_NONE);
+    MUST(taken == 0);
     OK(warm_close(&first));
     nothing_left();
 }

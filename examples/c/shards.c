@@ -147,10 +147,9 @@ static void same_all(pair *its) {
 /* Both receive a frame, and both answer it with the same frames, which the other gets. Returns how many. The room for each answer is tried
  * from none on. */
 static int same_answers(pair *its, const uint8_t *frame, size_t length, pair *other) {
-    uint8_t copy[FRAME_ROOM];
-    memcpy(copy, frame, length);
-    OK(warm_receive(&its->one, copy, length));
-    OK(warm_receive(&its->several, copy, length));
+    static uint8_t request[FRAME_ROOM]; /* the last of its answers: what the other one answers is not carried on */
+    OK(warm_receive(&its->one, frame, length));
+    OK(warm_receive(&its->several, frame, length));
     for (int count = 0;; count++) {
         size_t needed = 0;
         OK(warm_next_answer(&its->one, frames[0], FRAME_ROOM, &lengths[0]));
@@ -165,7 +164,6 @@ static int same_answers(pair *its, const uint8_t *frame, size_t length, pair *ot
         must_equal("an answer");
         if (lengths[0] == 0) return count;
         if (other != NULL) {
-            uint8_t request[FRAME_ROOM];
             size_t size = lengths[0];
             memcpy(request, frames[0], size);
             same_answers(other, request, size, NULL);
@@ -175,7 +173,7 @@ static int same_answers(pair *its, const uint8_t *frame, size_t length, pair *ot
 
 /* The first offers, the second answers what differs, and so on, until both know the same. */
 static void gossip(pair *first, pair *second) {
-    uint8_t offer[FRAME_ROOM];
+    static uint8_t offer[FRAME_ROOM];
     size_t length;
     OK(warm_offer(&first->several, offer, FRAME_ROOM, &length));
     int answers = same_answers(second, offer, length, first);
@@ -299,7 +297,7 @@ static void attached_handles(void) {
 static void answers_of_handles(void) {
     const warm_reference seen = {.time = 10, .no = 3, .replica = 1};
     const warm_device none = {0};
-    uint8_t frame[FRAME_ROOM];
+    static uint8_t frame[FRAME_ROOM];
     size_t length;
     warm first = {0}, second = {0}, other = {0};
     OK(warm_open(&first, 1, shards, shards, 1, &none, 0));
