@@ -13,8 +13,8 @@
  *    thread that failed, of whatever descriptor, highest byte first, and 0 where none has. No system is asked. Its place is 0.
  *
  * Before the bytes of a write are put into the file the callback of warm_before_write, if the descriptor has one, is asked: once for the
- * whole write, by this thread, and without a lock. Where it says not yet the call fails with EAGAIN, and the file is as it was. A callback
- * may use other handles, and so make requests of its own: the request of the call that it is in is taken by then.
+ * whole write, by this thread, and without a lock of fd_calls.c. Where it says not yet the call fails with EAGAIN, and the file is as it
+ * was. A callback may use handles of other replicas, and so make requests of its own: the request of the call that it is in is taken by then.
  *
  * A call does all that is asked of it and returns its length, or returns -1 with errno. A call that is no request, and that does not
  * belong to the one before it, fails with EINVAL. Each call ends the request before it, also a call that fails. Each thread has

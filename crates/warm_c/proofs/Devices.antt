@@ -32,12 +32,12 @@ clash_refuses page_size devices PinsLeft are clash = absurd clash
 clash_refuses page_size devices NoShard are clash = absurd clash
 clash_refuses page_size devices (Dump _) are clash = absurd clash
 
--- what holds of the first i devices, and of the next one, holds of the first i + 1
-pub contains_next : (ds : List WarmDevice) (i : ℕ) (x : WarmDevice) (P : WarmDevice → Type 0)
-    → i < length ds → ((d : WarmDevice) → Contains (take i ds) d → P d)
-    → P (get_or ds i x) → (d : WarmDevice) → Contains (take (i + 1) ds) d → P d
-contains_next ds i x P below so next d has =
-    ⊎_elim (so d) (λ is. subst P is next) (Contains-push_cases (take i ds) (get_or ds i x) d (subst (λ (l : List WarmDevice). Contains l d) (rw add-one (take-suc ds i x below)) has))
+-- what holds of the first i items, and of the next one, holds of the first i + 1
+pub contains_next : {A : Type 0} (xs : List A) (i : ℕ) (x : A) (P : A → Type 0) → i < length xs
+    → ((y : A) → Contains (take i xs) y → P y) → P (get_or xs i x) → (y : A)
+    → Contains (take (i + 1) xs) y → P y
+contains_next {A} xs i x P below so next y has =
+    ⊎_elim (so y) (λ is. subst P is next) (Contains-push_cases (take i xs) (get_or xs i x) y (subst (λ (l : List A). Contains l y) (rw add-one (take-suc xs i x below)) has))
 
 map_push : {A B : Type 0} (f : A → B) (xs : List A) (x : A)
     → map f (xs ++ x ∷ []) ≡ map f xs ++ f x ∷ []

@@ -17,13 +17,14 @@ use Rattle.warm_c.specs.declared.values.PinnedSlot.{PinnedSlot}
 use Rattle.warm_c.specs.declared.values.WarmPage.{WarmPage}
 use Rattle.warm_c.specs.declared.values.WarmReference.{WarmReference}
 use Rattle.warm_c.specs.Calls.{Ending, HasBadReplica, Pins, RefusedByNode, Replies, SameBeside}
-use Rattle.warm_c.specs.Parts.{OfPart, part_of_batch, part_of_history, part_of_message}
+use Rattle.warm_c.specs.Parts.{AreReplicas, OfPart, part_of_batch, part_of_history, part_of_message}
 use Rattle.warm_c.specs.Statuses.{code_of, status_of}
 
--- the node has absorbed the references of the batch to pages of the shard, and no others
+-- the node has absorbed the references of the batch to pages of the shard, and no others; no reference
+-- of the whole batch has a number that is no replica's
 abbrev pub AbsorbsThose : ℕ → ℕ → List WarmReference → OpenNode → Ending → OpenNode → Type 0
-AbsorbsThose shards shard batch old (Ok given) new =
-    Replies (Absorb (part_of_batch shards shard batch)) old Done new
+AbsorbsThose shards shard batch old (Ok given) new = AreReplicas batch
+    × Replies (Absorb (part_of_batch shards shard batch)) old Done new
 AbsorbsThose shards shard batch old (Err BadReplica) new = HasBadReplica batch × (new ≡ old)
 AbsorbsThose shards shard batch old (Err why) new =
     RefusedByNode (Absorb (part_of_batch shards shard batch)) old why new

@@ -2,6 +2,7 @@
 use Rattle.std.specs.Prelude.{◌≡◌, ◌≢◌, ◌↔◌, ◌⊎◌, ℕ, ℤ, ◌*◌, ◌%◌, ◌<◌, ◌≤◌, List, map, filter, nat_eq}
 use Rattle.std.specs.Prelude.{Ok, Err, Contains}
 use Rattle.std.specs.Int.{bit_at}
+use Rattle.warm_stamps.specs.Replicas.{IsReplica}
 use Rattle.warm_stamps.specs.declared.PageId.{PageId}
 use Rattle.warm_stamps.specs.declared.Reference.{Reference}
 use Rattle.warm_stamps.specs.declared.TheConstants.{BUCKETS}
@@ -53,6 +54,10 @@ Divides frames shards before each (Err UnevenFrames) = IsShardCount shards
 Divides frames shards before each (Err why) = ⊥
 
 -- Batches
+
+-- each reference has a number that is a replica's
+abbrev pub AreReplicas : List WarmReference → Type 0
+AreReplicas batch = (r : WarmReference) → Contains batch r → IsReplica r.replica
 
 -- the references to pages of the shard, in order
 abbrev pub part_of_batch : ℕ → ℕ → List WarmReference → List Reference

@@ -2,7 +2,7 @@
 ghost use Rattle.std.specs.Prelude.{◌≡◌, ◌^◌, ◌∷◌, ◌++◌, [], bit_or, IfErr, IfOk, OnOk};
 ghost use Rattle.warm_shards.specs.Shards.{IsShardCount, shard_of};
 ghost use Rattle.warm_c.specs.Calls.{BatchRefused};
-ghost use Rattle.warm_c.specs.Parts.{Divides, HasBits, IsNoPart, IsPart, batch_pages, entry_pages};
+ghost use Rattle.warm_c.specs.Parts.{AreReplicas, Divides, HasBits, IsNoPart, IsPart, batch_pages, entry_pages};
 ghost use Rattle.warm_c.specs.Parts.{part_of_batch, part_of_entries, shards_of};
 
 use crate::status::Refusal;
@@ -101,6 +101,7 @@ pub fn part_of_batch(
 ) -> Result<Vec<Reference>, Refusal>
     requires { IsShardCount shards }
     ensures part { IfOk result (λ part. part.items ≡ part_of_batch shards shard batch.now) }
+    ensures replicas { OnOk result (AreReplicas batch.now) }
     ensures refused { IfErr result (BatchRefused batch.now) }
 {
     let mut part = Vec::new(alloc);
@@ -109,13 +110,14 @@ pub fn part_of_batch(
             return Err(Refusal::BadReplica);
         };
         let page = reference.page();
-        if shard_of(shards, page) == shard {
-            let stamp = Stamp {
-                time: reference.time,
-                replica,
-            };
-            put_last(&mut part, Reference { page, stamp })?;
+        if shard_of(shards, page) != shard {
+            continue;
         }
+        let stamp = Stamp {
+            time: reference.time,
+            replica,
+        };
+        put_last(&mut part, Reference { page, stamp })?;
     }
     Ok(part)
 }
