@@ -140,6 +140,12 @@ static opened *new_opened(replica *of) {
     return made;
 }
 
+/* Only the handle that opened the replica can be the only one. */
+static void look_who_is_there(opened *its) {
+    bool is_alone = its->count == 1 && open_handles(its->of) == 1;
+    its->alone = is_alone ? &its->shards[0].node : NULL;
+}
+
 int warm_open(warm *handle, uint16_t number, size_t shards, size_t frames, size_t page_size, const warm_device *devices, size_t device_count) {
     size_t each;
     if (handle->at != NULL) return WARM_ALREADY_OPEN;
@@ -154,6 +160,7 @@ int warm_open(warm *handle, uint16_t number, size_t shards, size_t frames, size_
         return status != WARM_OK ? status : WARM_MEMORY;
     }
     its->is_first = true;
+    look_who_is_there(its);
     handle->at = its;
     return WARM_OK;
 }
@@ -165,6 +172,7 @@ int warm_thread(warm *handle, warm *attached) {
     attached->at = new_opened(its->of);
     if (attached->at == NULL) return WARM_MEMORY;
     atomic_fetch_add_explicit(&its->of->handles, 1, memory_order_acq_rel);
+    its->alone = NULL;
     return WARM_OK;
 }
 
@@ -213,8 +221,10 @@ __attribute__((noinline)) static int locked_pin(opened *its, shard *in, warm_pag
 int warm_pin(warm *handle, warm_page page, warm_slot *slot) {
     opened *its = handle->at;
     if (its == NULL) return WARM_CLOSED;
+    if (its->alone != NULL) return node_pin(its->alone, page, slot);
     shard *in = shard_of(its, page);
     if (open_handles(its->of) > 1) return locked_pin(its, in, page, slot);
+    look_who_is_there(its);
     return pinned(its, in, slot, node_pin(&in->node, page, slot));
 }
 
@@ -238,8 +248,10 @@ __attribute__((noinline)) static int locked_pin_lend(opened *its, shard *in, war
 int warm_pin_lend(warm *handle, warm_page page, warm_slot *slot, const uint8_t **bytes) {
     opened *its = handle->at;
     if (its == NULL) return WARM_CLOSED;
+    if (its->alone != NULL) return node_pin_lend(its->alone, page, slot, bytes);
     shard *in = shard_of(its, page);
     if (open_handles(its->of) > 1) return locked_pin_lend(its, in, page, slot, bytes);
+    look_who_is_there(its);
     return pinned(its, in, slot, node_pin_lend(&in->node, page, slot, bytes));
 }
 
@@ -258,7 +270,8 @@ __attribute__((noinline)) static int locked_unpin(shard *in, warm_slot slot) {
 int warm_unpin(warm *handle, warm_slot slot) {
     opened *its = handle->at;
     if (its == NULL) return WARM_CLOSED;
-    if (its->pins == 0 || slot.shard >= its->count) return WARM_STALE_SLOT;
+    if (its->alone != NULL && slot.shard == 0) return node_unpin(its->alone, slot);
+    if ((its->pins == 0 && !its->is_first) || slot.shard >= its->count) return WARM_STALE_SLOT;
     shard *in = &its->shards[slot.shard];
     if (open_handles(its->of) > 1) return unpinned(its, locked_unpin(in, slot));
     return unpinned(its, node_unpin(&in->node, slot));
@@ -274,6 +287,7 @@ __attribute__((noinline)) static int locked_read(shard *in, warm_slot slot, size
 int warm_read(warm *handle, warm_slot slot, size_t at, uint8_t *into, size_t length) {
     opened *its = handle->at;
     if (its == NULL) return WARM_CLOSED;
+    if (its->alone != NULL && slot.shard == 0) return node_read(its->alone, slot, at, into, length);
     if (slot.shard >= its->count) return WARM_STALE_SLOT;
     shard *in = &its->shards[slot.shard];
     if (open_handles(its->of) > 1) return locked_read(in, slot, at, into, length);

@@ -44,10 +44,13 @@ typedef struct answers {
 
 /* What an open handle points to. */
 typedef struct opened {
-    _Alignas(LINE) replica *of;
+    /* The node of a replica of one shard, while no other handle is open: calls on a page then go to it at once. The calls of this handle alone
+     * read and change it. In any other handle it is NULL. */
+    _Alignas(LINE) node *alone;
+    replica *of;
     shard *shards; /* those of the replica, and how many they are: a pin finds them sooner here */
     size_t count;
-    uint64_t pins;
+    uint64_t pins; /* means something in an attached handle alone */
     size_t turn; /* the shard with which the next warm_step begins */
     bool is_first; /* whether it opened the replica */
     answers waiting;

@@ -171,7 +171,7 @@ enum {
     WARM_OUT_OF_PAGE = 10,  /* the bytes reach beyond the end of the page */
     WARM_FIXED = 11,        /* a page that is to leave its frame is pinned */
     WARM_FAULT = 12,        /* a page could not be written, or a device not flushed */
-    WARM_STALE_SLOT = 13,   /* the slot holds no pinned page, or another than it was given for; of warm_unpin also: the handle has no pin left */
+    WARM_STALE_SLOT = 13,   /* the slot holds no pinned page, or another than it was given for; of warm_unpin also: the attached handle has no pin left */
     WARM_TRUNCATED = 34,    /* of a frame: its bytes end too early */
     WARM_BAD_MAGIC = 35,    /* its first bytes are no frame's */
     WARM_BAD_KIND = 36,     /* it is of no kind of message */
@@ -252,8 +252,8 @@ int warm_close(warm *handle);
 int warm_absorb(warm *handle, const warm_reference *references, size_t count);
 
 /* Pins a page: reads it into a frame of its shard where it is in none, and writes its slot. A page may be pinned more than once, also by
- * different handles; while it is pinned it stays in its frame. The handle counts one pin more. A pin is no reference: whoever pins a page also
- * absorbs a reference to it. Allocation-free.
+ * different handles; while it is pinned it stays in its frame. An attached handle counts one pin more. A pin is no reference: whoever pins a page
+ * also absorbs a reference to it. Allocation-free.
  * Refused: WARM_NO_DEVICE, WARM_NO_PAGE; of a page that is in a frame, WARM_FIXES_FULL; else WARM_ALL_FIXED, WARM_FIXES_FULL,
  * WARM_READ_FAULT, WARM_WRITE_BACK.
  * Caller: slot points to one element. */
@@ -271,9 +271,9 @@ int warm_pin_zeroed(warm *handle, warm_page page, warm_slot *slot);
  * Caller: slot and bytes point to one element each, and what warm_lend asks of the pointer that is written to bytes. */
 int warm_pin_lend(warm *handle, warm_page page, warm_slot *slot, const uint8_t **bytes);
 
-/* Takes one pin from the slot's page, and one from those that the handle counts. Allocation-free.
- * Refused: WARM_STALE_SLOT: the handle has no pin left, the replica has no such shard, or the slot holds no pinned page, or another than it was
- * given for.
+/* Takes one pin from the slot's page, and one from those that an attached handle counts. Allocation-free.
+ * Refused: WARM_STALE_SLOT: the attached handle has no pin left, the replica has no such shard, or the slot holds no pinned page, or another
+ * than it was given for.
  * Caller: unpins a page as often as it pinned it, by the handle that pinned it. A slot whose page another part of the program still pins is not
  * stale. */
 int warm_unpin(warm *handle, warm_slot slot);
