@@ -182,6 +182,25 @@ fn entries(met: &mut Met, alloc: Global) -> Result<(), Ended> {
     met.holds(found.len() == 2, "the bucket has 0:1 and 0:65")
 }
 
+// The bucket before any horizon: room for both of its entries is taken at once.
+fn list_at_horizon(met: &mut Met, alloc: Global) -> Result<(), Ended> {
+    let history = history_of_pages(alloc, 0, PAGES, FIRST)?;
+    let Some(bucket) = Bucket::new(1) else {
+        return Err(met.broken("1 is a bucket"));
+    };
+    let found = match history.list_at_horizon(bucket, 0) {
+        Ok(found) => found,
+        Err(_) => {
+            met.refuse(is_unchanged(&history)?, "a refused list changes nothing")?;
+            let Ok(found) = history.list_at_horizon(bucket, 0) else {
+                return Err(met.broken("a list is refused again"));
+            };
+            found
+        }
+    };
+    met.holds(found.len() == 2, "the list has 0:1 and 0:65")
+}
+
 // Of the pages of bucket 1, each referenced at the time of the last, one comes at a time.
 fn entries_since(met: &mut Met, alloc: Global) -> Result<(), Ended> {
     let history = history_of_pages(alloc, 0, PAGES, FIRST)?;
@@ -210,5 +229,6 @@ pub(crate) fn rows(met: &mut Met, alloc: Global) -> Result<(), Ended> {
     join_entries_raised(met, alloc)?;
     copy(met, alloc)?;
     entries(met, alloc)?;
+    list_at_horizon(met, alloc)?;
     entries_since(met, alloc)
 }
