@@ -23,7 +23,7 @@ struct Seen {
     known: usize,
 }
 
-fn seen<D: PageDevice>(shards: &Shards<D>, shard: usize) -> Seen {
+fn seen_of<D: PageDevice>(shards: &Shards<D>, shard: usize) -> Seen {
     if shard >= shards.count() {
         return Seen {
             dirty: 0,
@@ -46,7 +46,7 @@ fn is_seen<D: PageDevice>(shards: &Shards<D>, shard: usize, counts: [usize; 3]) 
         resident,
         known,
     };
-    seen(shards, shard) == wanted
+    seen_of(shards, shard) == wanted
 }
 
 // Two shards over devices of which the `n`-th call of the first and of the second fails.
