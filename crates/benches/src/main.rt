@@ -1,5 +1,5 @@
 //! The measurements of `docs/PERFORMANCE.md`, run by the scripts in `bench/`: turn, history, pool,
-//! frames, files, gossip, replica and hits.
+//! frames, files, gossip, replica, hits and shards.
 //!
 //! `benches NAME WORDS..` runs the bench of that name with these arguments, and prints nanoseconds;
 //! its module documents the arguments. `benches NAME` does a little of all that the bench measures,
@@ -14,6 +14,7 @@ mod hits;
 mod parts;
 mod pool;
 mod replica;
+mod shards;
 mod strides;
 mod turn;
 
@@ -35,10 +36,11 @@ enum Bench {
     Gossip,
     Replica,
     Hits,
+    Shards,
 }
 
 // In the order in which they run.
-const BENCHES: [Bench; 8] = [
+const BENCHES: [Bench; 9] = [
     Bench::Turn,
     Bench::History,
     Bench::Pool,
@@ -47,6 +49,7 @@ const BENCHES: [Bench; 8] = [
     Bench::Gossip,
     Bench::Replica,
     Bench::Hits,
+    Bench::Shards,
 ];
 
 impl Bench {
@@ -60,8 +63,9 @@ impl Bench {
             "gossip" => Ok(Bench::Gossip),
             "replica" => Ok(Bench::Replica),
             "hits" => Ok(Bench::Hits),
+            "shards" => Ok(Bench::Shards),
             _ => bail!(
-                "what is measured: turn, history, pool, frames, files, gossip, replica or hits"
+                "what is measured: turn, history, pool, frames, files, gossip, replica, hits or shards"
             ),
         }
     }
@@ -76,6 +80,7 @@ impl Bench {
             Bench::Gossip => "gossip",
             Bench::Replica => "replica",
             Bench::Hits => "hits",
+            Bench::Shards => "shards",
         }
     }
 }
@@ -96,6 +101,7 @@ fn play<T: Threads + Wait + Clock + Print + AllocGlobal + Sync>(
         Bench::Gossip => gossip::play(rt, words),
         Bench::Replica => replica::play(threads, words),
         Bench::Hits => hits::play(rt, words),
+        Bench::Shards => shards::play(rt, words),
     }
 }
 

@@ -11,11 +11,13 @@ mod dumps;
 mod frames;
 mod kept;
 mod lines;
+mod shards;
 mod sizes;
 mod worlds;
 
 use crate::calls::Made;
 use crate::kept::Kept;
+use crate::shards::Sharded;
 use refused_rows::{Ended, Met, is_done, report};
 use std::alloc::Global;
 use std::io::Print;
@@ -34,8 +36,10 @@ fn play<P: Print>(rt: &P, met: &mut Met, alloc: Global) -> Result<(), Ended> {
     let made = Made::new(alloc)?;
     let contest = Contest::new(alloc, 2)?;
     let world = worlds::changed(met, alloc)?;
+    let sharded = Sharded::new(alloc)?;
     // from here on nothing is allocated
     calls::rows(rt, met, &mut node, ByteList::of(bytes))?;
+    sharded.rows(rt, met)?;
     made.rows(rt, met)?;
     calls::contested(rt, met, contest)?;
     worlds::rows(rt, met, world)?;

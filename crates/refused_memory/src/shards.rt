@@ -5,6 +5,7 @@ use crate::references::{references, replica};
 use refused_rows::{Ended, Met};
 use std::alloc::Global;
 use warm_devices::MemDevice;
+use warm_frames::Message;
 use warm_gossip::NodeFault;
 use warm_shards::Shards;
 use warm_stamps::Bucket;
@@ -144,6 +145,17 @@ fn receive(met: &mut Met, shards: &mut TwoShards) -> Result<(), Ended> {
     )
 }
 
+// What would be answered to a message, also at a later horizon, for which the history is copied.
+fn answer(met: &mut Met, shards: &mut TwoShards, message: &Message) -> Result<(), Ended> {
+    let before = known_of(shards);
+    if let Err(fault) = shards.answers(message) {
+        refuse(met, shards, before, fault == NodeFault::Memory)?;
+        let again = shards.answers(message).is_ok();
+        met.holds(again, "answers of shards are refused again")?;
+    }
+    met.holds(known_of(shards) == before, "an answer changes nothing")
+}
+
 // A history of pages 0 to 3 at 20 with the horizon 15, which drops what was known. A refused join
 // has raised the horizon of both shards, or of none, and the first may have its two pages.
 fn join(met: &mut Met, alloc: Global, shards: &mut TwoShards) -> Result<(), Ended> {
@@ -173,6 +185,9 @@ pub(crate) fn rows(met: &mut Met, alloc: Global) -> Result<(), Ended> {
     absorb(met, alloc, &mut shards)?;
     offer(met, &mut shards)?;
     ask(met, &shards)?;
+    answer(met, &mut shards, &digest(0)?)?;
+    answer(met, &mut shards, &digest(11)?)?;
+    answer(met, &mut shards, &request(11)?)?;
     receive(met, &mut shards)?;
     join(met, alloc, &mut shards)
 }

@@ -2,9 +2,9 @@
 use crate::kit::{batch, bytes_of, node, shards};
 use std::alloc::Global;
 use std::process::Abort;
-use test_kit::{SeenAt, page, replica};
+use test_kit::{SeenAt, entry, once, page, replica, twice};
 use warm_devices::MemDevice;
-use warm_frames::{Message, MessageList, decode};
+use warm_frames::{EntryList, Message, MessageList, decode};
 use warm_gossip::Node;
 use warm_shards::Shards;
 use warm_stamps::{Bucket, BucketSet};
@@ -75,6 +75,53 @@ fn receive_alike(
     assert!(rt; same_answers(rt, alloc, &one, &all));
 }
 
+// Both would answer the message alike, and neither changes.
+fn answer_alike(
+    rt: &impl Abort,
+    alloc: Global,
+    node: &mut Node<MemDevice>,
+    shards: &mut Shards<MemDevice>,
+    message: &Message,
+) {
+    let horizon = shards.horizon();
+    let one = node.answers(message).ok().expect(rt, "the node answers");
+    let all = shards.answers(message).ok().expect(rt, "the shards answer");
+    assert!(rt; same_answers(rt, alloc, &one, &all));
+    assert!(rt; shards.horizon() == horizon);
+}
+
+// A request for all buckets at a horizon.
+fn want(horizon: u64) -> Message {
+    Message::Want {
+        sender: replica(2),
+        horizon,
+        request: BucketSet::all(),
+    }
+}
+
+// Digests of no entry, at a horizon.
+fn digests(rt: &impl Abort, alloc: Global, horizon: u64) -> Message {
+    let mut empty = node(rt, alloc, 2);
+    empty.raise(horizon);
+    empty.offer().ok().expect(rt, "an empty node offers")
+}
+
+// Entries of pages of several buckets in one message.
+fn mixed(rt: &impl Abort, alloc: Global) -> Message {
+    let mut entries = Vec::with_capacity(alloc, 3).expect(rt, "memory for entries");
+    entries.push_reserved(entry(page(1), once(50, 2)));
+    entries.push_reserved(entry(page(2), twice((51, 2), (20, 2))));
+    entries.push_reserved(entry(page(7), once(52, 2)));
+    match EntryList::of(entries) {
+        Ok(entries) => Message::Entries {
+            sender: replica(2),
+            horizon: 9,
+            entries,
+        },
+        Err(_) => panic!(rt; "the pages ascend"),
+    }
+}
+
 fn beside_a_node(rt: &impl Abort, alloc: Global, count: usize) {
     let mut one = node(rt, alloc, 1);
     let mut all = shards(rt, alloc, 1, count);
@@ -93,19 +140,23 @@ fn beside_a_node(rt: &impl Abort, alloc: Global, count: usize) {
     let second = batch(rt, alloc, SECOND);
     other.absorb(&second).ok().expect(rt, "the other absorbs");
     let offered = other.offer().ok().expect(rt, "the other offers");
+    answer_alike(rt, alloc, &mut one, &mut all, &offered);
     receive_alike(rt, alloc, &mut one, &mut all, &offered);
-    let want = Message::Want {
-        sender: replica(2),
-        horizon: 8,
-        request: BucketSet::all(),
-    };
-    receive_alike(rt, alloc, &mut one, &mut all, &want);
+    answer_alike(rt, alloc, &mut one, &mut all, &want(0));
+    answer_alike(rt, alloc, &mut one, &mut all, &want(26));
+    answer_alike(rt, alloc, &mut one, &mut all, &digests(rt, alloc, 26));
+    gives_the_same(rt, alloc, &mut one, &mut all);
+    receive_alike(rt, alloc, &mut one, &mut all, &want(8));
     for bucket in Bucket::all() {
         let sent = other.send(bucket, None).ok().expect(rt, "the other sends");
         receive_alike(rt, alloc, &mut one, &mut all, &sent);
     }
     gives_the_same(rt, alloc, &mut one, &mut all);
     assert!(rt; all.horizon() == 8);
+    answer_alike(rt, alloc, &mut one, &mut all, &mixed(rt, alloc));
+    receive_alike(rt, alloc, &mut one, &mut all, &mixed(rt, alloc));
+    gives_the_same(rt, alloc, &mut one, &mut all);
+    assert!(rt; all.horizon() == 9);
 }
 
 #[test]
@@ -182,6 +233,12 @@ fn a_history_is_joined(rt: HostRuntime) {
     let mut to = shards(&rt, alloc, 1, 4);
     to.join(from.history()).ok().expect(&rt, "the shards join");
     gives_the_same(&rt, alloc, &mut from, &mut to);
+    let mut alone = shards(&rt, alloc, 1, 1);
+    alone
+        .join(from.history())
+        .ok()
+        .expect(&rt, "one shard joins");
+    gives_the_same(&rt, alloc, &mut from, &mut alone);
     assert!(rt; to.shard_of(page(63)) == 3);
     assert!(rt; to.id() == replica(1));
 }
