@@ -1,26 +1,24 @@
 -- The laws of shared shards.
-use Rattle.std.proofs.Common.{◌≡◌, ◌⊎◌, inl, inr, ℕ, zero, suc, ◌<◌, ◌≤◌, List, [], ◌∷◌, ◌++◌, length, Option, Some, None, refl, sym, ap, subst, ◌∙◌, arith, append-nil}
+use Rattle.std.proofs.Common.{◌≡◌, ◌⊎◌, inl, inr, ℕ, zero, suc, ◌<◌, ◌≤◌, List, [], ◌∷◌, length, refl, sym, ap, subst, ◌∙◌, arith, append-nil}
 use mathlib.Core.List.{IsPrefix}
-use Rattle.warm_history.specs.ReferenceSets.{ReferenceSet, set_of_list, ◌∪◌}
-use Rattle.warm_history.specs.Histories.{HistoryView, StandsFor, history, references_of}
+use Rattle.warm_history.specs.ReferenceSets.{◌∪◌}
+use Rattle.warm_history.specs.Histories.{history, references_of}
 use Rattle.warm_history.proofs.JoinLemmas.{history_first, history_second}
 use Rattle.warm_turn.specs.declared.table.Entry.{Entry}
-use Rattle.warm_turn.specs.CallHistories.{Called, Joined, Runs}
+use Rattle.warm_turn.specs.CallHistories.{Runs}
 use Rattle.warm_turn.proofs.Passes.{Extended-called, Widened-joined}
 use Rattle.warm_gossip.specs.Step.{Step}
 use Rattle.warm_gossip.proofs.Given.{told_is_history}
 use Rattle.warm_stamps.specs.declared.Reference.{Reference}
-use Rattle.warm_shards.specs.Shards.{shard_of}
 use Rattle.warm_shared.specs.declared.call.ShardCall.{ShardCall}
 use Rattle.warm_shared.specs.declared.call.ShardCall.TheVariants.{Absorb}
 use Rattle.warm_shared.specs.declared.call.ShardReply.{ShardReply}
 use Rattle.warm_shared.specs.declared.call.ShardReply.TheVariants.{Done, Kept, Pinned, Bytes, Page, Loaded, Sent, Foreign, Refused}
 use Rattle.warm_shared.specs.Attached.{Known, ShardPass, known_of, no_pass, shard_pass}
 use Rattle.warm_shared.specs.Clauses.{Answered, Got}
-use Rattle.warm_shared.specs.Laws.{CallsAreANodes, OnlySeesMore, SeesMore, ShardIsOfGiven, StandForEach, TogetherAreOfGiven, all_of, held_by, node_calls}
-use Rattle.warm_shared.specs.Opening.{AreJoined}
+use Rattle.warm_shared.specs.Laws.{CallsAreANodes, OnlySeesMore, SeesMore, ShardIsOfGiven, TogetherAreOfGiven, all_of, held_by, node_calls}
 use Rattle.warm_shared.specs.ShardSteps.{ShardStep, ShardView}
-use Rattle.warm_shared.specs.Whole.{AbsorbsFirst, AbsorbsPart, First, Raises, RaisesFirst, part_of}
+use Rattle.warm_shared.specs.Whole.{AbsorbsPart, First, Raises, part_of}
 use Rattle.warm_shared.proofs.Places.{at_each}
 
 next : (o y z : ShardView) (e : Entry ShardCall ShardReply) (es : List (Entry ShardCall ShardReply))
