@@ -1,12 +1,12 @@
 -- Passes that are split off, ended and closed, shard by shard.
-use Rattle.std.proofs.Common.{◌≡◌, ◌≢◌, ℕ, ◌+◌, ◌<◌, ◌≤◌, List, [], length, set, Some, Result, refl, sym, ap, subst, ◌∙◌, arith}
+use Rattle.std.proofs.Common.{◌≡◌, ℕ, ◌+◌, ◌<◌, ◌≤◌, List, [], length, set, Result, ap, subst, ◌∙◌, arith}
 use Rattle.warm_turn.specs.CallHistories.{Joined, calls_by, new_pass}
 use Rattle.warm_turn.specs.declared.fault.Busy.{Busy}
 use Rattle.warm_gossip.specs.State.{NodeState}
 use Rattle.warm_shared.specs.Attached.{AreOf, IsPassOf, Known, ShardPass, ShardTurn, known_of, no_pass, shard_pass, shard_turn}
 use Rattle.warm_shared.specs.Opening.{ClosesShard, IsSplit}
 use Rattle.warm_shared.specs.ShardSteps.{ShardStep}
-use Rattle.warm_shared.proofs.Passing.{of_turn, still_of}
+use Rattle.warm_shared.proofs.Passing.{still_of}
 use Rattle.warm_shared.proofs.Places.{at_each}
 
 -- a new pass is of the turn, as the one that it was split off

@@ -1,13 +1,8 @@
 -- Calls of the whole, shard by shard.
-use Rattle.std.proofs.Common.{◌≡◌, ◌≢◌, ℕ, zero, suc, ◌+◌, ◌<◌, ◌≤◌, Bool, true, false, List, [], ◌∷◌, ◌++◌, length, set, take, get_or, filter, refl, sym, ap, subst, ◌∙◌, arith, Ok}
+use Rattle.std.proofs.Common.{◌≡◌, ◌≢◌, ℕ, ◌+◌, ◌<◌, ◌≤◌, Bool, true, false, List, length, set, get_or, refl, sym, ap, subst, ◌∙◌, arith}
 use Rattle.std.specs.Prelude.{nat_eq}
-use Rattle.std.specs.Global.{Vec}
 use Rattle.std.proofs.lemmas.Bool.{eq-eqb, eqb-true}
-use Rattle.std.proofs.lemmas.List.{length-set, get_or-set_same, get_or-set_other}
-use Rattle.warm_stamps.specs.declared.Reference.{Reference}
-use Rattle.warm_shards.specs.Shards.{shard_of}
-use Rattle.warm_shared.specs.declared.call.ShardCall.{ShardCall}
-use Rattle.warm_shared.specs.declared.call.ShardReply.{ShardReply}
+use Rattle.std.proofs.lemmas.List.{length-set}
 use Rattle.warm_shared.specs.Attached.{KeepsOthers, ShardPass, no_pass, shard_pass}
 use Rattle.warm_shared.specs.Whole.{First}
 use Rattle.warm_shared.proofs.Places.{at_each}

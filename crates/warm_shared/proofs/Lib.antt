@@ -5,3 +5,5 @@ pub mod Numbering
 pub mod Ending
 pub mod Firsts
 pub mod Parts
+pub mod LawsHold
+pub mod Sent

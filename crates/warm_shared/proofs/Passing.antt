@@ -1,5 +1,5 @@
 -- A call of one shard leaves the passes of the turns.
-use Rattle.std.proofs.Common.{◌≡◌, ◌≢◌, ℕ, ◌<◌, List, length, set, Some, refl, sym, ap, subst, ◌∙◌, arith}
+use Rattle.std.proofs.Common.{◌≡◌, ℕ, ◌<◌, List, length, set, Some, sym, ap, subst, ◌∙◌, arith}
 use Rattle.std.proofs.lemmas.List.{get_or-set_same, length-set}
 use Rattle.warm_turn.specs.CallHistories.{Called, marked}
 use Rattle.warm_shared.specs.declared.call.ShardCall.{ShardCall}

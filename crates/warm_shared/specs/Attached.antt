@@ -1,5 +1,5 @@
 -- What contracts see of shards that threads share, and of what a thread has of them.
-use Rattle.std.specs.Prelude.{◌≡◌, ◌≢◌, ℕ, ◌<◌, List, [], length, Some, slice_index_or, slice_set}
+use Rattle.std.specs.Prelude.{◌≡◌, ℕ, ◌<◌, List, [], length, Some, slice_index_or, slice_set}
 use Rattle.atomic_table.specs.Seated.{TableId}
 use Rattle.warm_turn.specs.CallHistories.{PassView, TurnView, nobody, turn_at}
 use Rattle.warm_turn.specs.declared.table.View.{View}

@@ -4,3 +4,4 @@ pub mod Clauses
 pub mod Faults
 pub mod Opening
 pub mod Whole
+pub mod Laws

@@ -1,5 +1,5 @@
 -- Sharing shards, attaching threads to them, and closing them.
-use Rattle.std.specs.Prelude.{◌≡◌, ◌≢◌, ◌⊎◌, ℕ, suc, ◌+◌, ◌<◌, List, [], ◌∷◌, ◌++◌, length, map}
+use Rattle.std.specs.Prelude.{◌≡◌, ◌≢◌, ℕ, suc, ◌<◌, List, [], ◌∷◌, length, map}
 use Rattle.std.specs.Prelude.{Result, Ok, Err, slice_index_or}
 use Rattle.warm_turn.specs.declared.fault.Busy.{Busy}
 use Rattle.warm_turn.specs.CallHistories.{IsLast, Joined, calls_by, first_pass, new_pass}
@@ -9,7 +9,7 @@ use Rattle.warm_gossip.specs.declared.fault.NodeFault.TheVariants.{Memory}
 use Rattle.warm_shards.specs.Shards.{IsShardCount}
 use Rattle.warm_shared.specs.declared.fault.SharedFault.{SharedFault}
 use Rattle.warm_shared.specs.declared.fault.SharedFault.TheVariants.{Node, PinsHeld}
-use Rattle.warm_shared.specs.Attached.{IsPassOf, Known, ShardPass, ShardTurn, known_of, shard_pass}
+use Rattle.warm_shared.specs.Attached.{Known, ShardPass, ShardTurn, known_of, shard_pass}
 use Rattle.warm_shared.specs.Attached.{shard_turn}
 use Rattle.warm_shared.specs.ShardSteps.{ShardState, ShardStep, ShardView, no_shard_view, shard_over}
 use Rattle.warm_shared.specs.ShardSteps.{shard_view}

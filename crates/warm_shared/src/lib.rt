@@ -5,6 +5,7 @@ mod attaching;
 mod call;
 mod fault;
 mod history_calls;
+pub mod laws;
 mod pool_calls;
 mod shard;
 mod shared;

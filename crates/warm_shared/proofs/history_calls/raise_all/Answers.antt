@@ -1,4 +1,4 @@
-use Rattle.std.proofs.Common.{◌≡◌, ◌<◌, length, arith}
+use Rattle.std.proofs.Common.{◌<◌, length, arith}
 use Rattle.warm_shared.specs.Whole.{Raises}
 use Rattle.warm_shared.proofs.Firsts.{one_first}
 use Rattle.warm_shared.proofs.history_calls.raise_all.Goals as goal

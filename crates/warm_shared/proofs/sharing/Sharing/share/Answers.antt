@@ -1,4 +1,4 @@
-use Rattle.std.proofs.Common.{◌≡◌, ◌++◌, map, sym, ap, subst, ◌∙◌}
+use Rattle.std.proofs.Common.{◌++◌, map, sym, ap, subst, ◌∙◌}
 use Rattle.warm_shared.specs.Opening.{AreNumbered, openings}
 use Rattle.warm_shared.specs.ShardSteps.{shard_view}
 use Rattle.warm_shared.proofs.Numbering.{turns_numbered}

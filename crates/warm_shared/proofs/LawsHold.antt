@@ -1,0 +1,104 @@
+-- The laws of shared shards.
+use Rattle.std.proofs.Common.{◌≡◌, ◌⊎◌, inl, inr, ℕ, zero, suc, ◌<◌, ◌≤◌, List, [], ◌∷◌, length, refl, sym, ap, subst, ◌∙◌, arith, append-nil}
+use mathlib.Core.List.{IsPrefix}
+use Rattle.warm_history.specs.ReferenceSets.{◌∪◌}
+use Rattle.warm_history.specs.Histories.{history, references_of}
+use Rattle.warm_history.proofs.JoinLemmas.{history_first, history_second}
+use Rattle.warm_turn.specs.declared.table.Entry.{Entry}
+use Rattle.warm_turn.specs.CallHistories.{Runs}
+use Rattle.warm_turn.proofs.Passes.{Extended-called, Widened-joined}
+use Rattle.warm_gossip.specs.Step.{Step}
+use Rattle.warm_gossip.proofs.Given.{told_is_history}
+use Rattle.warm_stamps.specs.declared.Reference.{Reference}
+use Rattle.warm_shared.specs.declared.call.ShardCall.{ShardCall}
+use Rattle.warm_shared.specs.declared.call.ShardCall.TheVariants.{Absorb}
+use Rattle.warm_shared.specs.declared.call.ShardReply.{ShardReply}
+use Rattle.warm_shared.specs.declared.call.ShardReply.TheVariants.{Done, Kept, Pinned, Bytes, Page, Loaded, Sent, Foreign, Refused}
+use Rattle.warm_shared.specs.Attached.{Known, ShardPass, known_of, no_pass, shard_pass}
+use Rattle.warm_shared.specs.Clauses.{Answered, Got}
+use Rattle.warm_shared.specs.Laws.{CallsAreANodes, OnlySeesMore, SeesMore, ShardIsOfGiven, TogetherAreOfGiven, all_of, held_by, node_calls}
+use Rattle.warm_shared.specs.ShardSteps.{ShardStep, ShardView}
+use Rattle.warm_shared.specs.Whole.{AbsorbsPart, First, Raises, part_of}
+use Rattle.warm_shared.proofs.Places.{at_each}
+
+next : (o y z : ShardView) (e : Entry ShardCall ShardReply) (es : List (Entry ShardCall ShardReply))
+    → ShardStep o e.call e.reply y → Runs Step y.node (node_calls es) z.node
+    → (r : ShardReply) → e.reply ≡ r → Runs Step o.node (node_calls (e ∷ es)) z.node
+next o y z e es step rest Foreign is =
+    let same : y ≡ o = (subst (λ r. ShardStep o e.call r y) is step).1 in
+    rw is (subst (λ (x : ShardView). Runs Step x.node (node_calls es) z.node) same rest)
+next o y z e es step rest Done is = rw is (y.node, (subst (λ r. ShardStep o e.call r y) is step).2, rest)
+next o y z e es step rest (Kept h) is = rw is (y.node, (subst (λ r. ShardStep o e.call r y) is step).2, rest)
+next o y z e es step rest (Pinned s) is = rw is (y.node, (subst (λ r. ShardStep o e.call r y) is step).2, rest)
+next o y z e es step rest (Bytes b) is = rw is (y.node, (subst (λ r. ShardStep o e.call r y) is step).2, rest)
+next o y z e es step rest (Page p) is = rw is (y.node, (subst (λ r. ShardStep o e.call r y) is step).2, rest)
+next o y z e es step rest (Loaded p) is = rw is (y.node, (subst (λ r. ShardStep o e.call r y) is step).2, rest)
+next o y z e es step rest (Sent m) is = rw is (y.node, (subst (λ r. ShardStep o e.call r y) is step).2, rest)
+next o y z e es step rest (Refused w) is = rw is (y.node, (subst (λ r. ShardStep o e.call r y) is step).2, rest)
+
+pub calls_are_a_nodes : CallsAreANodes
+calls_are_a_nodes o z [] runs = ap (λ (s : ShardView). s.node) runs
+calls_are_a_nodes o z (e ∷ es) runs = next o runs.0 z e es runs.1 (calls_are_a_nodes runs.0 z es runs.2) e.reply refl
+
+pub shard_is_of_given : ShardIsOfGiven
+shard_is_of_given S o z calls stands runs =
+    told_is_history S o.node z.node (node_calls calls) stands (calls_are_a_nodes o z calls runs)
+
+pub together_are_of_given : TogetherAreOfGiven
+together_are_of_given [] [] stand = refl
+together_are_of_given [] (S ∷ Ss) stand = absurd stand
+together_are_of_given (h ∷ hs) [] stand = absurd stand
+together_are_of_given (h ∷ hs) (S ∷ Ss) stand =
+    ap (λ k. history (references_of k ∪ held_by hs)) stand.0
+    ∙ history_first S (held_by hs)
+    ∙ sym (history_second S (held_by hs))
+    ∙ ap (λ k. history (S ∪ references_of k)) (together_are_of_given hs Ss stand.1)
+    ∙ history_second S (all_of Ss)
+
+-- ---- what a thread has seen
+
+prefix_self : {A : Type 0} (xs : List A) → IsPrefix xs xs
+prefix_self xs = ([], append-nil xs)
+
+got_more : (v w : Known) (c : ShardCall) (r : ShardReply) → Got v c r w → IsPrefix v.seen w.seen
+got_more v w c r got = (Extended-called ShardStep v w c r got).seen
+
+same_seen : (old new : ShardPass) → new ≡ old → IsPrefix old.view.seen new.view.seen
+same_seen old new is = subst (λ (p : ShardPass). IsPrefix old.view.seen p.view.seen) (sym is) (prefix_self old.view.seen)
+
+called_more : (old new : List ShardPass) (i : ℕ) (call : ShardCall) (reply : ShardReply)
+    → i < length old → Answered old i call reply new → SeesMore old new
+called_more old new i call reply lt (got, others) j less =
+    subst (λ (ps : List ShardPass). IsPrefix (known_of old j).seen (known_of ps j).seen) (sym others)
+    (at_each (λ k q. IsPrefix (known_of old k).seen q.view.seen) old i (shard_pass new i) no_pass lt (got_more (known_of old i) (known_of new i) call reply got) (λ k apart. prefix_self (known_of old k).seen) j)
+
+below : (a b : ℕ) → (a < b) ⊎ (b ≤ a)
+below zero zero = inr (omega arith)
+below zero (suc b) = inl (omega arith)
+below (suc a) zero = inr (omega arith)
+below (suc a) (suc b) = elim (below a b) [ inl lt ↦ inl (omega (arith, lt)) | inr le ↦ inr (omega (arith, le)) ]
+
+firsts_more : (So : ℕ → ShardPass → ShardPass → Type 0)
+    → ((i : ℕ) (old new : ShardPass) → So i old new → IsPrefix old.view.seen new.view.seen) → (k : ℕ)
+    → (old new : List ShardPass) → First So k old new → SeesMore old new
+firsts_more So more k old new so j less = elim (below j k) [
+  | inl lt ↦ more j (shard_pass old j) (shard_pass new j) (so.first j lt)
+  | inr le ↦ same_seen (shard_pass old j) (shard_pass new j) (so.others j le)
+]
+
+part_more : (count : ℕ) (batch : List Reference) (i : ℕ) (old new : ShardPass)
+    → AbsorbsPart count batch i old new → IsPrefix old.view.seen new.view.seen
+part_more count batch i old new so = cases (part_of count i batch) refl
+  where
+    cases : (part : List Reference) → part_of count i batch ≡ part
+        → IsPrefix old.view.seen new.view.seen
+    cases [] is = same_seen old new (so.0 is)
+    cases (r ∷ rs) is = got_more old.view new.view (Absorb (part_of count i batch)) Done (so.1 (λ none. let no : r ∷ rs ≡ [] = sym is ∙ none in absurd (cc)))
+
+pub only_sees_more : OnlySeesMore
+only_sees_more = record {
+  called = called_more;
+  absorbed = λ old new k batch so. firsts_more (AbsorbsPart (length old) batch) (part_more (length old) batch) k old new so;
+  raised = λ old new k time so. firsts_more (Raises time) (λ i p q r. got_more p.view q.view _ (Kept r.0) r.1) k old new so;
+  joined = λ old other new so i lt. (Widened-joined ShardStep (known_of old i) (known_of other i) (known_of new i) (so.each i lt)).seen;
+}

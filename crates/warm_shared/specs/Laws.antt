@@ -1,0 +1,87 @@
+-- The laws of shared shards.
+use Rattle.std.specs.Prelude.{ℕ, ◌<◌, List, [], ◌∷◌, ◌++◌, length, Option, Some, None}
+use mathlib.Core.List.{IsPrefix}
+use Rattle.warm_history.specs.ReferenceSets.{ReferenceSet, set_of_list, ◌∪◌}
+use Rattle.warm_history.specs.Histories.{HistoryView, StandsFor, references_of, history}
+use Rattle.warm_turn.specs.declared.table.Entry.{Entry}
+use Rattle.warm_turn.specs.CallHistories.{Runs, entry}
+use Rattle.warm_gossip.specs.declared.call.Call.{Call}
+use Rattle.warm_gossip.specs.declared.call.Reply.{Reply}
+use Rattle.warm_gossip.specs.Given.{given_by_calls}
+use Rattle.warm_gossip.specs.Step.{Step}
+use Rattle.warm_stamps.specs.declared.Reference.{Reference}
+use Rattle.warm_shared.specs.declared.call.ShardCall.{ShardCall}
+use Rattle.warm_shared.specs.declared.call.ShardReply.{ShardReply}
+use Rattle.warm_shared.specs.Attached.{ShardPass, known_of}
+use Rattle.warm_shared.specs.Clauses.{Answered}
+use Rattle.warm_shared.specs.Opening.{AreJoined}
+use Rattle.warm_shared.specs.ShardSteps.{ShardStep, ShardView, node_call_of, node_reply_of}
+use Rattle.warm_shared.specs.Whole.{AbsorbsFirst, RaisesFirst}
+
+-- One shard
+
+-- the call of a node with its reply, where the reply is one of a node
+abbrev pub node_entries : ℕ → Call → Option Reply → List (Entry Call Reply)
+node_entries by call None = []
+node_entries by call (Some reply) = entry by call reply ∷ []
+
+-- the calls of the node, in their order: all but those that brought pages of another shard
+abbrev pub node_calls : List (Entry ShardCall ShardReply) → List (Entry Call Reply)
+node_calls [] = []
+node_calls (e ∷ es) = node_entries e.by (node_call_of e.call) (node_reply_of e.reply)
+    ++ node_calls es
+
+-- a legal list of calls of a shard is one of its node
+abbrev pub CallsAreANodes : Type 0
+CallsAreANodes = (opening last : ShardView) (calls : List (Entry ShardCall ShardReply))
+    → Runs ShardStep opening calls last → Runs Step opening.node (node_calls calls) last.node
+
+-- the references that a shard was given by these calls, from these on
+abbrev pub given_to_shard : ReferenceSet → List (Entry ShardCall ShardReply) → ReferenceSet
+given_to_shard S calls = given_by_calls S (node_calls calls)
+
+-- a shard in a state that a legal list of its calls reaches has the history of the references that
+-- it was given
+abbrev pub ShardIsOfGiven : Type 0
+ShardIsOfGiven = (S : ReferenceSet) (opening last : ShardView)
+    (calls : List (Entry ShardCall ShardReply)) → StandsFor opening.node.history S
+    → Runs ShardStep opening calls last → StandsFor last.node.history (given_to_shard S calls)
+
+-- All shards
+
+-- the references that histories hold, together; and all these references
+abbrev pub held_by : List HistoryView → ReferenceSet
+held_by [] = set_of_list []
+held_by (h ∷ hs) = references_of h ∪ held_by hs
+
+abbrev pub all_of : List ReferenceSet → ReferenceSet
+all_of [] = set_of_list []
+all_of (S ∷ Ss) = S ∪ all_of Ss
+
+-- each history stands for the references at its place
+abbrev pub StandForEach : List HistoryView → List ReferenceSet → Type 0
+StandForEach [] [] = Unit {0}
+StandForEach (h ∷ hs) (S ∷ Ss) = StandsFor h S × StandForEach hs Ss
+StandForEach _ _ = ⊥
+
+-- where each shard has the history of the references that it was given, all together have that of
+-- all the references that all were given
+abbrev pub TogetherAreOfGiven : Type 0
+TogetherAreOfGiven = (hs : List HistoryView) (Ss : List ReferenceSet) → StandForEach hs Ss
+    → StandsFor (history (held_by hs)) (all_of Ss)
+
+-- What a thread has seen
+
+-- of each shard all that was seen is still seen, in its order
+abbrev pub SeesMore : List ShardPass → List ShardPass → Type 0
+SeesMore old new = (i : ℕ) → i < length old → IsPrefix (known_of old i).seen (known_of new i).seen
+
+-- whatever a thread calls, it has then seen of each shard what it had seen, and maybe more
+pub record OnlySeesMore : Type 0 where
+  pub called : (old new : List ShardPass) (i : ℕ) (call : ShardCall) (reply : ShardReply)
+      → i < length old → Answered old i call reply new → SeesMore old new
+  pub absorbed : (old new : List ShardPass) (k : ℕ) (batch : List Reference)
+      → AbsorbsFirst batch k old new → SeesMore old new
+  pub raised : (old new : List ShardPass) (k time : ℕ) → RaisesFirst time k old new
+      → SeesMore old new
+  pub joined : (old other new : List ShardPass) → AreJoined old other new → SeesMore old new
