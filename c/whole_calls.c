@@ -6,10 +6,11 @@
 #include "shards.h"
 #include "sync_once.h"
 
+#include <stdlib.h>
 #include <string.h>
 
-/* The length of a frame of entries that has none (docs/FORMATS.md). */
-enum { EMPTY_FRAME = 23 };
+/* The length of a frame of entries that has none, and at least that of any frame; how many buckets there are (docs/FORMATS.md). */
+enum { EMPTY_FRAME = 23, FRAME_ROOM = 32768, BUCKETS = 64 };
 
 static unsigned lowest(uint64_t set) { return (unsigned)__builtin_ctzll(set); }
 
@@ -125,15 +126,44 @@ int warm_save(warm *handle, int fd) {
     return status;
 }
 
+/* Sends a bucket of one history to another, in frames, and the horizon with it. */
+static int send_bucket(node *from, uint8_t bucket, node *to, uint8_t *frame) {
+    int status = WARM_OK;
+    bool more = true, has_after = false;
+    warm_page after = {0}, last = {0};
+    while (more && status == WARM_OK) {
+        size_t length;
+        status = node_send_since(from, bucket, 0, has_after, after, frame, FRAME_ROOM, &length, &more, &last);
+        if (status == WARM_OK) status = node_receive_part(to, 1, 0, frame, length);
+        has_after = true;
+        after = last;
+    }
+    return status;
+}
+
+/* Joins what a history has of a shard's buckets to the shard, by way of a history of these alone, so that the shard gets all of them or none.
+ * node_join_part would do so in one call, and takes more stack than a call may. */
+static int join_shard(opened *its, size_t number, node *all, uint8_t *frame) {
+    node part = {0};
+    shard *in = &its->shards[number];
+    int status = open_alone(its, &part);
+    for (size_t bucket = number; bucket < BUCKETS && status == WARM_OK; bucket += its->count) status = send_bucket(all, (uint8_t)bucket, &part, frame);
+    if (status == WARM_OK) {
+        bool is_locked = enter(its, in);
+        status = node_gather(&in->node, &part);
+        leave(in, is_locked);
+    }
+    node_close(&part);
+    return status;
+}
+
 /* Joins a history to those of all shards. */
 static int join_all(opened *its, node *all) {
     int status = WARM_OK;
-    for (size_t number = 0; number < its->count && status == WARM_OK; number++) {
-        shard *in = &its->shards[number];
-        bool is_locked = enter(its, in);
-        status = node_join_part(&in->node, its->count, number, all);
-        leave(in, is_locked);
-    }
+    uint8_t *frame = malloc(FRAME_ROOM);
+    if (frame == NULL) return WARM_MEMORY;
+    for (size_t number = 0; number < its->count && status == WARM_OK; number++) status = join_shard(its, number, all, frame);
+    free(frame);
     return status;
 }
 

@@ -394,10 +394,10 @@ int warm_horizon(warm *handle, uint64_t time, uint64_t *horizon);
  * all shards are written before the first flush, so that a file is synced once for all of them: a shard whose flush comes after a sync of the
  * same descriptor, to which nothing was written since that sync began, asks for no other. Allocation-free.
  * Refused: WARM_FAULT at the first write or flush that fails. A page that was not written is still in the pool, and may be written by
- * another call. A flush that failed is remembered, for all shards: each later flush of that device fails, so that each later call is
- * refused, until the replica is closed. Do not trust the file then: the system may have dropped what was written to it, though its next fsync
- * would succeed. Of each shard, the devices behind it, in the order of warm_open, are then flushed by warm_close alone: whoever needs them
- * synced calls fsync.
+ * another call. A flush that failed is remembered, for all shards, and for other replicas that have the descriptor: each later flush of that
+ * device fails, so that each later call is refused, until all of these replicas are closed. Do not trust the file then: the system may have
+ * dropped what was written to it, though its next fsync would succeed. Of each shard, the devices behind it, in the order of warm_open, are
+ * then flushed by warm_close alone: whoever needs them synced calls fsync.
  * What other threads write to pages meanwhile may be written back, or not.
  * Caller: nothing more. */
 int warm_write_back(warm *handle);
