@@ -62,13 +62,14 @@ impl OpenNode {
     pub fn may_stand(&self, alloc: Global, dev: u16, device: &WarmDevice) -> Result<(), Refusal>
         ensures { SaysMayStand dev device.now self.now result self.now }
     {
-        if dev as usize >= self.devices.as_slice().len() {
+        let place = dev as usize;
+        if place >= self.devices.as_slice().len() {
             return Err(Refusal::Node(NodeFault::Pool(PoolFault::NoDevice)));
         }
         let Some(_) = device_of(device, self.node.pool().page_size()) else {
             return Err(Refusal::Node(NodeFault::Pool(PoolFault::NoDevice)));
         };
-        let devices = devices_with(alloc, self.devices.as_slice(), dev as usize, *device)?;
+        let devices = devices_with(alloc, self.devices.as_slice(), place, *device)?;
         if let Err(why) = check_apart(alloc, &devices) {
             return Err(why);
         }
