@@ -10,3 +10,5 @@ mod kit;
 mod pages;
 #[cfg(test)]
 mod refused;
+#[cfg(test)]
+mod shared;
