@@ -14,4 +14,6 @@ mod pages;
 #[cfg(test)]
 mod refused;
 #[cfg(test)]
+mod shared;
+#[cfg(test)]
 mod whole;

@@ -11,7 +11,7 @@ pub const DASH: &str = "-";
 
 // What `--version` prints behind the name. The number is the first two of WARM_VERSION in
 // include/warm.h, and stands here once; CHANGELOG's table has the formats of each version.
-const VERSION: &str = "1.1
+const VERSION: &str = "2.0
 reads frames L2G2 and L2G1
 writes frames L2G2";
 
