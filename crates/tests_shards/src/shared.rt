@@ -48,7 +48,9 @@ fn joined(
         let Ok(shard) = one else {
             panic!(rt; "no call is under way")
         };
-        all.join(shard.history()).ok().expect(rt, "memory for entries");
+        all.join(shard.history())
+            .ok()
+            .expect(rt, "memory for entries");
     }
     all
 }
@@ -187,7 +189,10 @@ fn a_thread_with_pins_stays(rt: HostRuntime) {
     let at = shared.pin(&rt, &mut more, page(1));
     let at = at.ok().expect(&rt, "page 1 is pinned");
     assert!(rt; at.shard == 1 && more.pins() == 1);
-    let beyond = ShardSlot { shard: 2, slot: at.slot };
+    let beyond = ShardSlot {
+        shard: 2,
+        slot: at.slot,
+    };
     let stale = Err(SharedFault::Node(NodeFault::StaleSlot));
     assert!(rt; shared.unpin(&rt, &mut more, beyond) == stale);
     assert!(rt; shared.unpin(&rt, &mut first, at) == Err(SharedFault::NoPins));
