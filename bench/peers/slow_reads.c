@@ -34,8 +34,8 @@ static uint64_t now(void) {
     return (uint64_t)time.tv_sec * 1000000000u + (uint64_t)time.tv_nsec;
 }
 
-/* The library's reads come here. */
-ssize_t pread(int fd, void *into, size_t length, off_t at) {
+/* The library's reads come here: it is compiled for places of 64 bits in files. */
+ssize_t pread64(int fd, void *into, size_t length, off_t at) {
     unsigned together = atomic_fetch_add(&under_way, 1) + 1, before = atomic_load(&most);
     while (before < together && !atomic_compare_exchange_weak(&most, &before, together)) continue;
     atomic_fetch_add(&sum, together);
