@@ -272,12 +272,12 @@ static void attached_handles(void) {
     EXPECT(WARM_PINS_LEFT, warm_close(&second));
     EXPECT(WARM_ATTACHED, warm_close(&first));
     OK(warm_unpin(&first, slot));
-    EXPECT(WARM_STALE_SLOT, warm_unpin(&first, slot));
     EXPECT(WARM_PINS_LEFT, warm_close(&second)); /* it stayed open */
     OK(warm_pin_zeroed(&second, (warm_page){.no = 5 + shards}, &other));
     OK(warm_unpin(&second, same));
     EXPECT(WARM_PINS_LEFT, warm_close(&second));
     OK(warm_unpin(&second, other));
+    EXPECT(WARM_STALE_SLOT, warm_unpin(&first, slot)); /* no handle pins the page */
     EXPECT(WARM_NO_PAGE, warm_pin_lend(&second, (warm_page){.no = PAGES}, &other, &bytes)); /* which is no pin */
     OK(warm_close(&second));
     MUST(second.at == NULL);
