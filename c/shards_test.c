@@ -193,6 +193,20 @@ static void test_attaching(void) {
     nothing_left();
 }
 
+/* ---- pages ---- */
+
+static void write_to(warm *handle, warm_page page, uint8_t byte) {
+    warm_slot slot;
+    OK(warm_pin(handle, page, &slot));
+    OK(warm_write(handle, slot, 0, &byte, 1));
+    OK(warm_unpin(handle, slot));
+}
+
+/* A page of each shard, of one device. */
+static void write_each(warm *handle, uint16_t dev, uint64_t count) {
+    for (uint64_t no = 0; no < count; no++) write_to(handle, (warm_page){.no = no, .dev = dev}, 'a');
+}
+
 /* ---- locks ---- */
 
 /* A call that succeeds, and takes this many locks; or none where one handle is open. */
@@ -265,29 +279,43 @@ static void call_all_locked(warm *handle) {
     OK(warm_replace(handle, 1, &devices[1]));
 }
 
+static void locks_of_one(size_t count) {
+    warm first = {0};
+    open_shards(&first, count);
+    taken = 0;
+    call_each(&first, count, false);
+    call_all_locked(&first);
+    MUST(taken == 0);
+    OK(warm_close(&first));
+}
+
+/* By the handle that opened the replica, too, which took no lock before. */
+static void locks_of_two(size_t count, bool by_first) {
+    warm first = {0}, second = {0};
+    warm *by = by_first ? &first : &second;
+    open_shards(&first, count);
+    write_each(&first, 0, count);
+    OK(warm_forget(&first, 0, 0));
+    OK(warm_thread(&first, &second));
+    most_held = 0;
+    call_each(by, count, true);
+    MUST(most_held == 1 && held == 0);
+    call_all_locked(by);
+    MUST(most_held == (int)count && held == 0);
+    OK(warm_close(&second));
+    taken = 0;
+    call_all_locked(&first);
+    MUST(taken == 0);
+    OK(warm_close(&first));
+    nothing_left();
+}
+
 /* As long as one handle is open no lock is taken. Then each call takes one at a time, and two calls take all. */
 static void test_locks(void) {
     for (size_t count = 1; count <= 64; count *= 8) {
-        warm first = {0}, second = {0};
-        open_shards(&first, count);
-        call_each(&first, count, false);
-        taken = 0;
-        call_all_locked(&first);
-        MUST(taken == 0);
-        OK(warm_close(&first));
-        open_shards(&first, count);
-        OK(warm_thread(&first, &second));
-        most_held = 0;
-        call_each(&second, count, true);
-        MUST(most_held == 1 && held == 0);
-        call_all_locked(&first);
-        MUST(most_held == (int)count && held == 0);
-        OK(warm_close(&second));
-        taken = 0;
-        call_all_locked(&first);
-        MUST(taken == 0);
-        OK(warm_close(&first));
-        nothing_left();
+        locks_of_one(count);
+        locks_of_two(count, false);
+        locks_of_two(count, true);
     }
 }
 
@@ -445,24 +473,12 @@ static void test_counts(void) {
 
 /* ---- devices ---- */
 
-static void write_to(warm *handle, warm_page page, uint8_t byte) {
-    warm_slot slot;
-    OK(warm_pin(handle, page, &slot));
-    OK(warm_write(handle, slot, 0, &byte, 1));
-    OK(warm_unpin(handle, slot));
-}
-
 static uint8_t read_from(warm *handle, warm_page page) {
     const uint8_t *byte;
     warm_slot slot;
     OK(warm_pin_lend(handle, page, &slot, &byte));
     OK(warm_unpin(handle, slot));
     return *byte;
-}
-
-/* A page of each shard, of one device. */
-static void write_each(warm *handle, uint16_t dev, uint64_t count) {
-    for (uint64_t no = 0; no < count; no++) write_to(handle, (warm_page){.no = no, .dev = dev}, 'a');
 }
 
 static void test_syncs(void) {
