@@ -23,8 +23,9 @@ static void must(bool holds, const char *what, int line) {
 #define MUST(holds) must(holds, #holds, __LINE__)
 #define OK(call) MUST((call) == WARM_OK)
 
-/* How many more allocations and new locks succeed, how many there are, and what a sync does. */
+/* How many more allocations and new locks succeed, whether those after the one that fails do, how many there are, and what a sync does. */
 static size_t granted = SIZE_MAX;
+static bool fails_once;
 static int blocks, locks_there, syncs, interruptions;
 static int sync_errors[100]; /* of each descriptor: the errno of its next sync; 0: it succeeds */
 
@@ -32,7 +33,10 @@ static int sync_errors[100]; /* of each descriptor: the errno of its next sync; 
 static _Thread_local int held, most_held, taken;
 
 static bool is_granted(void) {
-    if (granted == 0) return false;
+    if (granted == 0) {
+        if (fails_once) granted = SIZE_MAX;
+        return false;
+    }
     if (granted != SIZE_MAX) granted--;
     return true;
 }
@@ -550,7 +554,12 @@ static void test_portions(void) {
     OK(warm_close(&handle));
 }
 
-/* A shard that refuses: those before it have the old device again. */
+static void each_has(warm *handle, uint16_t dev, int fd) {
+    opened *its = handle->at;
+    for (size_t number = 0; number < its->count; number++) MUST(((fake *)its->shards[number].node.at)->devices[dev].fd == fd);
+}
+
+/* A device is replaced in all shards or in none. */
 static void test_replacing(void) {
     const warm_device in_place = {.pages = FAKE_PAGES, .fd = 20};
     warm handle = {0};
@@ -560,11 +569,11 @@ static void test_replacing(void) {
     MUST(warm_replace(&handle, FAKE_DEVICES, &in_place) == WARM_NO_DEVICE);
     OK(warm_pin(&handle, (warm_page){.no = 1, .dev = 1}, &slot)); /* in shard 2 */
     MUST(warm_replace(&handle, 1, &in_place) == WARM_FIXED);
-    for (size_t number = 0; number < 4; number++) MUST(((fake *)((opened *)handle.at)->shards[number].node.at)->devices[1].fd == 11);
+    each_has(&handle, 1, 11);
     MUST(*place_of(20) == NULL && (*place_of(11))->users == 1);
     OK(warm_unpin(&handle, slot));
     EACH_REFUSED(warm_replace(&handle, 1, &in_place), *place_of(20) == NULL && (*place_of(11))->users == 1);
-    for (size_t number = 0; number < 4; number++) MUST(((fake *)((opened *)handle.at)->shards[number].node.at)->devices[1].fd == 20);
+    each_has(&handle, 1, 20);
     MUST(*place_of(11) == NULL && (*place_of(20))->users == 1);
     OK(warm_replace(&handle, 1, &in_place)); /* by itself */
     MUST((*place_of(20))->users == 1);
@@ -572,6 +581,25 @@ static void test_replacing(void) {
     write_each(&handle, 1, 4);
     OK(warm_write_back(&handle));
     MUST(syncs == 1);
+    OK(warm_close(&handle));
+    nothing_left();
+}
+
+/* One shard alone finds no memory: all have the old device. */
+static void test_going_back(void) {
+    const warm_device in_place = {.pages = FAKE_PAGES, .fd = 21};
+    warm handle = {0};
+    int status = WARM_MEMORY;
+    open_shards(&handle, 8);
+    fails_once = true;
+    for (size_t grants = 0; status != WARM_OK; grants++) {
+        granted = grants;
+        status = warm_replace(&handle, 2, &in_place);
+        granted = SIZE_MAX;
+        MUST(status == WARM_OK || (status == WARM_MEMORY && grants < 100));
+        each_has(&handle, 2, status == WARM_OK ? 21 : 12);
+    }
+    fails_once = false;
     OK(warm_close(&handle));
     nothing_left();
 }
@@ -691,6 +719,7 @@ int main(void) {
     test_failed_syncs();
     test_portions();
     test_replacing();
+    test_going_back();
     test_forgetting();
     test_descriptors();
     test_threads();
