@@ -449,7 +449,6 @@ static void test_counts(void) {
     warm_failure failure;
     warm_slot slot;
     bool found;
-    uint64_t horizon;
     open_shards(&handle, 4);
     OK(warm_counts(&handle, &counters));
     MUST(counters.hits == 4 && counters.misses == 8 && counters.evictions == 12 && counters.resident == 16 && counters.dirty == 20);
@@ -468,10 +467,29 @@ static void test_counts(void) {
     MUST(warm_pin(&handle, (warm_page){.no = 4 * FAKE_PAGES + 1}, &slot) == WARM_READ_FAULT);
     OK(warm_last_failure(&handle, &found, &failure));
     MUST(failure.no == 0);
+    OK(warm_close(&handle));
+}
+
+/* One shard has a later horizon than the others: what is offered has it, and what is forgotten in all is older. */
+static void test_horizons(void) {
+    const uint8_t request[10] = {NODE_REQUEST, 8};
+    uint8_t frame[66];
+    warm handle = {0};
+    uint64_t horizon;
+    size_t length;
+    open_shards(&handle, 4);
     OK(warm_horizon(&handle, 7, &horizon));
     MUST(horizon == 7);
     OK(warm_horizon(&handle, 3, &horizon));
     MUST(horizon == 7);
+    OK(node_horizon(&((opened *)handle.at)->shards[1].node, 9, &horizon));
+    OK(warm_horizon(&handle, 3, &horizon));
+    MUST(horizon == 7);
+    OK(warm_offer(&handle, frame, sizeof frame, &length));
+    MUST(frame[1] == 9);
+    OK(warm_receive(&handle, request, sizeof request)); /* it raises the others */
+    OK(warm_horizon(&handle, 0, &horizon));
+    MUST(horizon == 8);
     OK(warm_close(&handle));
 }
 
@@ -715,6 +733,7 @@ int main(void) {
     test_answers();
     test_turns();
     test_counts();
+    test_horizons();
     test_syncs();
     test_failed_syncs();
     test_portions();
