@@ -6,6 +6,7 @@
 #define _GNU_SOURCE
 #include <errno.h>
 #include <pthread.h>
+#include <sched.h>
 #include <stdbool.h>
 #include <stdint.h>
 #include <stdio.h>
@@ -13,6 +14,7 @@
 #include <string.h>
 #include <unistd.h>
 
+#include "sync_once.h"
 #include "warm.h"
 
 static void must(bool holds, const char *what, int line) {
@@ -28,6 +30,8 @@ static size_t granted = SIZE_MAX;
 static bool fails_once;
 static int blocks, locks_there, syncs, interruptions;
 static int sync_errors[100]; /* of each descriptor: the errno of its next sync; 0: it succeeds */
+static int in_sync[100];     /* how many threads sync it */
+static bool is_dropped;      /* while the next sync goes on, the last device of its descriptor is let go */
 
 /* The locks that this thread has, the most that it has had at once, and how many it has taken. Those of sync_once.c are left out. */
 static _Thread_local int held, most_held, taken;
@@ -81,7 +85,13 @@ static int test_fsync(int fd) {
         return -1;
     }
     __atomic_add_fetch(&syncs, 1, __ATOMIC_RELAXED);
-    if (fd < 0 || sync_errors[fd] == 0) return 0;
+    if (fd < 0) return 0;
+    MUST(__atomic_fetch_add(&in_sync[fd], 1, __ATOMIC_RELAXED) == 0);
+    sched_yield();
+    if (is_dropped) sync_drop(fd);
+    is_dropped = false;
+    __atomic_fetch_sub(&in_sync[fd], 1, __ATOMIC_RELAXED);
+    if (sync_errors[fd] == 0) return 0;
     errno = sync_errors[fd];
     sync_errors[fd] = 0;
     return -1;
@@ -378,6 +388,17 @@ static void test_memory(void) {
     nothing_left();
 }
 
+/* Frames that are refused, at once or by each allocation. The answers that wait still do. */
+static void refuse_frames(warm *handle) {
+    const uint8_t digests[66] = {NODE_DIGESTS, 3};
+    MUST(warm_receive(handle, digests, 9) == WARM_TRUNCATED);
+    for (size_t grants = 0; grants < 4; grants++) {
+        granted = grants;
+        MUST(warm_receive(handle, digests, sizeof digests) == WARM_MEMORY);
+        granted = SIZE_MAX;
+    }
+}
+
 /* Bucket by bucket, of each that has something both frames, and then the request. A bucket that has nothing has no frame, and leaves no trace. */
 static void test_answers(void) {
     const warm_reference seen = {.no = 1, .replica = 1};
@@ -405,6 +426,7 @@ static void test_answers(void) {
     MUST(none == 0);
     OK(warm_receive(&handle, frame, length)); /* a request for buckets 0 to 7 */
     for (int part = 0; part < 8; part++) {
+        refuse_frames(&handle);
         OK(warm_next_answer(&handle, frame, sizeof frame, &length));
         MUST(length == FAKE_FULL && frame[2] == 1 + part / 2 * 2);
     }
@@ -663,6 +685,10 @@ static void test_descriptors(void) {
     MUST(sync_once(30) == -1 && syncs == 2);
     sync_drop(30);
     MUST(sync_add(30) && sync_once(30) == 0 && syncs == 2);
+    sync_wrote(30);
+    is_dropped = true;
+    MUST(sync_once(30) == 0 && syncs == 3 && *place_of(30) == NULL);
+    MUST(sync_add(30));
     sync_drop(30);
     sync_drop(30); /* which is there no more */
     sync_drop(30 + CHAINS);
@@ -690,7 +716,10 @@ static void *work(void *of) {
         warm_slot slot;
         int status = warm_pin(handle, (warm_page){.no = (own + round) % FAKE_PAGES}, &slot);
         MUST(status == WARM_OK || status == WARM_ALL_FIXED);
-        if (status == WARM_OK) OK(warm_unpin(handle, slot));
+        if (status == WARM_OK) {
+            OK(warm_write(handle, slot, 0, (const uint8_t *)"w", 1));
+            OK(warm_unpin(handle, slot));
+        }
         OK(warm_absorb(handle, seen, 2));
         OK(warm_receive(handle, frame, sizeof frame));
         OK(warm_next_answer(handle, frame, sizeof frame, &length));
