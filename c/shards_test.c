@@ -433,6 +433,10 @@ static void test_answers(void) {
     memset(frame, 'x', sizeof frame);
     OK(warm_next_answer(&handle, frame, sizeof frame, &length)); /* no request follows an answer to one */
     MUST(length == 0 && frame[0] == 'x' && frame[22] == 'x');
+    OK(warm_receive(&handle, (uint8_t[10]){NODE_REQUEST, 3, 1, 1}, 10));
+    OK(warm_receive(&handle, (uint8_t[10]){NODE_ENTRIES, 3}, 10)); /* which is not answered */
+    OK(warm_next_answer(&handle, frame, sizeof frame, &length));
+    MUST(length == 0);
     OK(warm_limit(&handle, 2));
     frame[0] = NODE_REQUEST;
     frame[1] = 3;
