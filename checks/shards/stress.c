@@ -26,7 +26,7 @@
 enum { PAGE_SIZE = 512, WORDS = PAGE_SIZE / 8, DEVICES = 2, PAGES = 512, FRAMES = 256, BUCKETS = 64 };
 enum { MOST_THREADS = 16, MOST_HELD = 3, BATCH = 64, FRAME_ROOM = 32768, FRAME_ENTRIES = 23, PEER = 64, WINDOW = 30000 };
 
-static void fail(const char *what, int line) {
+_Noreturn static void fail(const char *what, int line) {
     fprintf(stderr, "stress: line %d: %s\n", line, what);
     exit(1);
 }
