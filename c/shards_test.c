@@ -648,6 +648,23 @@ static void test_going_back(void) {
     nothing_left();
 }
 
+/* The sync of a later shard fails: no page of the first has left its frame. */
+static void test_settling(void) {
+    const warm_device in_place = {.pages = FAKE_PAGES, .fd = 22};
+    warm handle = {0};
+    bool resident = false;
+    open_shards(&handle, 4);
+    MUST(read_from(&handle, (warm_page){.no = 0}) == 0);
+    write_to(&handle, (warm_page){.no = 2}, 'a');
+    sync_errors[10] = EIO;
+    MUST(warm_replace(&handle, 0, &in_place) == WARM_FAULT);
+    OK(warm_resident(&handle, (warm_page){.no = 0}, &resident));
+    MUST(resident);
+    each_has(&handle, 0, 10);
+    OK(warm_close(&handle));
+    nothing_left();
+}
+
 /* A page that is pinned in one shard keeps those of all. */
 static void test_forgetting(void) {
     warm handle = {0};
@@ -772,6 +789,7 @@ int main(void) {
     test_portions();
     test_replacing();
     test_going_back();
+    test_settling();
     test_forgetting();
     test_descriptors();
     test_threads();
