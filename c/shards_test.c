@@ -757,6 +757,30 @@ static void *work(void *of) {
     return NULL;
 }
 
+static void *write_and_close(void *of) {
+    write_to(of, (warm_page){.no = 1}, 'c');
+    OK(warm_close(of));
+    return NULL;
+}
+
+/* The last attached handle is closed by its thread. What that did is seen by the thread that is alone then, which takes no lock, and may close the
+ * replica at once. */
+static void test_leaving(void) {
+    for (size_t count = 1; count <= 4; count *= 4) {
+        warm first = {0}, attached = {0};
+        pthread_t thread;
+        open_shards(&first, count);
+        OK(warm_thread(&first, &attached));
+        MUST(pthread_create(&thread, NULL, write_and_close, &attached) == 0);
+        while (open_handles(((opened *)first.at)->of) > 1) sched_yield();
+        taken = 0;
+        MUST(read_from(&first, (warm_page){.no = 1}) == 'c' && taken == 0);
+        OK(warm_close(&first));
+        MUST(pthread_join(thread, NULL) == 0);
+        nothing_left();
+    }
+}
+
 static void test_threads(void) {
     warm first = {0}, attached[THREADS] = {{0}};
     pthread_t threads[THREADS];
@@ -792,6 +816,7 @@ int main(void) {
     test_settling();
     test_forgetting();
     test_descriptors();
+    test_leaving();
     test_threads();
     puts("shards_test: as expected");
     return 0;
