@@ -3,7 +3,6 @@
  * the system itself (pread), in place of the C library's, and waits. Prints how many reads were under way at a time, in the mean and at most,
  * and how many were made in a second.
  */
-#define _FILE_OFFSET_BITS 64 /* pread has then the name that the library calls, as pread64 */
 #define _GNU_SOURCE /* memfd_create */
 #include <pthread.h>
 #include <stdatomic.h>
@@ -35,8 +34,8 @@ static uint64_t now(void) {
     return (uint64_t)time.tv_sec * 1000000000u + (uint64_t)time.tv_nsec;
 }
 
-/* The library's reads come here. */
-ssize_t pread(int fd, void *into, size_t length, off_t at) {
+/* The library's reads come here: it is compiled for places of 64 bits in files. */
+ssize_t pread64(int fd, void *into, size_t length, off_t at) {
     unsigned together = atomic_fetch_add(&under_way, 1) + 1, before = atomic_load(&most);
     while (before < together && !atomic_compare_exchange_weak(&most, &before, together)) continue;
     atomic_fetch_add(&sum, together);
@@ -86,7 +85,6 @@ int main(int count, char **words) {
     }
     double spent = (double)(now() - start) / 1e9;
     ok(warm_close(&first), "warm_close");
-    if (made == 0) ok(WARM_READ_FAULT, "the library calls another pread: it");
     printf("%.2f under way in the mean, %u at most, %.0f reads a second\n", (double)sum / (double)made, most, (double)made / spent);
     return 0;
 }
