@@ -32,14 +32,15 @@ typedef struct fake {
     fake_frame at[FAKE_FRAMES];
 } fake;
 
+/* The count orders nothing between threads, so that a thread sanitizer sees what no lock does. */
 static fake *fake_in(node *of) {
     fake *its = of->at;
-    MUST(of->is_open && atomic_fetch_add(&its->inside, 1) == 0);
+    MUST(of->is_open && atomic_fetch_add_explicit(&its->inside, 1, memory_order_relaxed) == 0);
     return its;
 }
 
 static int fake_out(node *of, int status) {
-    MUST(atomic_fetch_sub(&((fake *)of->at)->inside, 1) == 1);
+    MUST(atomic_fetch_sub_explicit(&((fake *)of->at)->inside, 1, memory_order_relaxed) == 1);
     return status;
 }
 

@@ -17,12 +17,14 @@
 #include <sys/stat.h>
 #include <unistd.h>
 
+#include "sync_once.h"
 /* Where most is not 0, a call moves at most that many bytes, and every other call is interrupted. Where it is to put nothing, it does, and
  * where a sync is to fail, the next one does. Where fstat is to fail, it does. Where reads are direct, their places are multiples of 512. Where
- * there is no memory, each allocation fails. */
+ * there is no memory, each allocation fails. Where they are to meet, another thread's sync goes on while the next write does, and another
+ * thread's write returns while the next sync does. */
 static struct {
     size_t most;
-    bool was_interrupted, puts_nothing, fails_sync, fails_stat, is_direct, has_no_memory;
+    bool was_interrupted, puts_nothing, fails_sync, fails_stat, is_direct, has_no_memory, meets_sync, meets_write;
     int syncs;
 } slow;
 
@@ -45,6 +47,10 @@ static ssize_t slow_pread(int fd, void *into, size_t length, off_t at) {
 
 static ssize_t slow_pwrite(int fd, const void *from, size_t length, off_t at) {
     if (slow.puts_nothing) return 0;
+    if (slow.meets_sync) {
+        slow.meets_sync = false;
+        sync_once(fd);
+    }
     return interrupts() ? -1 : pwrite(fd, from, part(length), at);
 }
 
@@ -55,6 +61,8 @@ static int slow_fsync(int fd) {
         errno = EIO;
         return -1;
     }
+    if (slow.meets_write) sync_wrote(fd);
+    slow.meets_write = false;
     slow.syncs++;
     return fsync(fd);
 }
@@ -249,6 +257,24 @@ static void test_counted_syncs(void) {
     MUST(failure_at(fd) == EIO && slow.syncs == 2);
     sync_drop(fd);
     MUST(ask(fd, 3, 0) == 9 && slow.syncs == 3);
+    close(fd);
+}
+
+/* A sync is for the writes that returned before it began, and for no other. */
+static void test_met_syncs(void) {
+    int fd = new_file();
+    MUST(sync_add(fd));
+    slow.syncs = 0;
+    MUST(write_at(fd, 0, 512) == 512);
+    slow.meets_sync = true;
+    MUST(write_at(fd, 0, 512) == 512 && slow.syncs == 1);
+    MUST(ask(fd, 3, 0) == 9 && slow.syncs == 2);
+    MUST(write_at(fd, 0, 512) == 512);
+    slow.meets_write = true;
+    MUST(ask(fd, 3, 0) == 9 && slow.syncs == 3);
+    MUST(ask(fd, 3, 0) == 9 && slow.syncs == 4);
+    MUST(ask(fd, 3, 0) == 9 && slow.syncs == 4);
+    sync_drop(fd);
     close(fd);
 }
 
@@ -574,6 +600,7 @@ int main(void) {
     test_identities();
     test_failed_sync();
     test_counted_syncs();
+    test_met_syncs();
     test_descriptors();
     test_limit();
     test_order();

@@ -6,6 +6,7 @@
 #define _GNU_SOURCE
 #include <errno.h>
 #include <pthread.h>
+#include <sched.h>
 #include <stdbool.h>
 #include <stdint.h>
 #include <stdio.h>
@@ -23,66 +24,7 @@ static void must(bool holds, const char *what, int line) {
 #define MUST(holds) must(holds, #holds, __LINE__)
 #define OK(call) MUST((call) == WARM_OK)
 
-/* How many more allocations and new locks succeed, how many there are, and what a sync does. */
-static size_t granted = SIZE_MAX;
-static int blocks, locks_there, syncs, interruptions;
-static int sync_errors[100]; /* of each descriptor: the errno of its next sync; 0: it succeeds */
-
-/* The locks that this thread has, the most that it has had at once, and how many it has taken. Those of sync_once.c are left out. */
-static _Thread_local int held, most_held, taken;
-
-static bool is_granted(void) {
-    if (granted == 0) return false;
-    if (granted != SIZE_MAX) granted--;
-    return true;
-}
-
-static void *test_malloc(size_t size) {
-    if (!is_granted()) return NULL;
-    __atomic_add_fetch(&blocks, 1, __ATOMIC_RELAXED);
-    return malloc(size);
-}
-
-static void test_free(void *block) {
-    if (block != NULL) __atomic_sub_fetch(&blocks, 1, __ATOMIC_RELAXED);
-    free(block);
-}
-
-static int test_init(pthread_mutex_t *lock, const pthread_mutexattr_t *kind) {
-    if (!is_granted()) return EAGAIN;
-    locks_there++;
-    return pthread_mutex_init(lock, kind);
-}
-
-static int test_destroy(pthread_mutex_t *lock) {
-    locks_there--;
-    return pthread_mutex_destroy(lock);
-}
-
-static int test_lock(pthread_mutex_t *lock) {
-    taken++;
-    if (++held > most_held) most_held = held;
-    return pthread_mutex_lock(lock);
-}
-
-static int test_unlock(pthread_mutex_t *lock) {
-    held--;
-    return pthread_mutex_unlock(lock);
-}
-
-static int test_fsync(int fd) {
-    if (interruptions > 0) {
-        interruptions--;
-        errno = EINTR;
-        return -1;
-    }
-    __atomic_add_fetch(&syncs, 1, __ATOMIC_RELAXED);
-    if (fd < 0 || sync_errors[fd] == 0) return 0;
-    errno = sync_errors[fd];
-    sync_errors[fd] = 0;
-    return -1;
-}
-
+#include "fake_system.h"
 #define malloc test_malloc
 #define free test_free
 #define pthread_mutex_init test_init
@@ -193,6 +135,20 @@ static void test_attaching(void) {
     nothing_left();
 }
 
+/* ---- pages ---- */
+
+static void write_to(warm *handle, warm_page page, uint8_t byte) {
+    warm_slot slot;
+    OK(warm_pin(handle, page, &slot));
+    OK(warm_write(handle, slot, 0, &byte, 1));
+    OK(warm_unpin(handle, slot));
+}
+
+/* A page of each shard, of one device. */
+static void write_each(warm *handle, uint16_t dev, uint64_t count) {
+    for (uint64_t no = 0; no < count; no++) write_to(handle, (warm_page){.no = no, .dev = dev}, 'a');
+}
+
 /* ---- locks ---- */
 
 /* A call that succeeds, and takes this many locks; or none where one handle is open. */
@@ -265,29 +221,43 @@ static void call_all_locked(warm *handle) {
     OK(warm_replace(handle, 1, &devices[1]));
 }
 
+static void locks_of_one(size_t count) {
+    warm first = {0};
+    open_shards(&first, count);
+    taken = 0;
+    call_each(&first, count, false);
+    call_all_locked(&first);
+    MUST(taken == 0);
+    OK(warm_close(&first));
+}
+
+/* By the handle that opened the replica, too, which took no lock before. */
+static void locks_of_two(size_t count, bool by_first) {
+    warm first = {0}, second = {0};
+    warm *by = by_first ? &first : &second;
+    open_shards(&first, count);
+    write_each(&first, 0, count);
+    OK(warm_forget(&first, 0, 0));
+    OK(warm_thread(&first, &second));
+    most_held = 0;
+    call_each(by, count, true);
+    MUST(most_held == 1 && held == 0);
+    call_all_locked(by);
+    MUST(most_held == (int)count && held == 0);
+    OK(warm_close(&second));
+    taken = 0;
+    call_all_locked(&first);
+    MUST(taken == 0);
+    OK(warm_close(&first));
+    nothing_left();
+}
+
 /* As long as one handle is open no lock is taken. Then each call takes one at a time, and two calls take all. */
 static void test_locks(void) {
     for (size_t count = 1; count <= 64; count *= 8) {
-        warm first = {0}, second = {0};
-        open_shards(&first, count);
-        call_each(&first, count, false);
-        taken = 0;
-        call_all_locked(&first);
-        MUST(taken == 0);
-        OK(warm_close(&first));
-        open_shards(&first, count);
-        OK(warm_thread(&first, &second));
-        most_held = 0;
-        call_each(&second, count, true);
-        MUST(most_held == 1 && held == 0);
-        call_all_locked(&first);
-        MUST(most_held == (int)count && held == 0);
-        OK(warm_close(&second));
-        taken = 0;
-        call_all_locked(&first);
-        MUST(taken == 0);
-        OK(warm_close(&first));
-        nothing_left();
+        locks_of_one(count);
+        locks_of_two(count, false);
+        locks_of_two(count, true);
     }
 }
 
@@ -346,6 +316,17 @@ static void test_memory(void) {
     nothing_left();
 }
 
+/* Frames that are refused, at once or by each allocation. The answers that wait still do. */
+static void refuse_frames(warm *handle) {
+    const uint8_t digests[66] = {NODE_DIGESTS, 3};
+    MUST(warm_receive(handle, digests, 9) == WARM_TRUNCATED);
+    for (size_t grants = 0; grants < 4; grants++) {
+        granted = grants;
+        MUST(warm_receive(handle, digests, sizeof digests) == WARM_MEMORY);
+        granted = SIZE_MAX;
+    }
+}
+
 /* Bucket by bucket, of each that has something both frames, and then the request. A bucket that has nothing has no frame, and leaves no trace. */
 static void test_answers(void) {
     const warm_reference seen = {.no = 1, .replica = 1};
@@ -373,12 +354,17 @@ static void test_answers(void) {
     MUST(none == 0);
     OK(warm_receive(&handle, frame, length)); /* a request for buckets 0 to 7 */
     for (int part = 0; part < 8; part++) {
+        refuse_frames(&handle);
         OK(warm_next_answer(&handle, frame, sizeof frame, &length));
         MUST(length == FAKE_FULL && frame[2] == 1 + part / 2 * 2);
     }
     memset(frame, 'x', sizeof frame);
     OK(warm_next_answer(&handle, frame, sizeof frame, &length)); /* no request follows an answer to one */
     MUST(length == 0 && frame[0] == 'x' && frame[22] == 'x');
+    OK(warm_receive(&handle, (uint8_t[10]){NODE_REQUEST, 3, 1, 1}, 10));
+    OK(warm_receive(&handle, (uint8_t[10]){NODE_ENTRIES, 3}, 10)); /* which is not answered */
+    OK(warm_next_answer(&handle, frame, sizeof frame, &length));
+    MUST(length == 0);
     OK(warm_limit(&handle, 2));
     frame[0] = NODE_REQUEST;
     frame[1] = 3;
@@ -417,7 +403,6 @@ static void test_counts(void) {
     warm_failure failure;
     warm_slot slot;
     bool found;
-    uint64_t horizon;
     open_shards(&handle, 4);
     OK(warm_counts(&handle, &counters));
     MUST(counters.hits == 4 && counters.misses == 8 && counters.evictions == 12 && counters.resident == 16 && counters.dirty == 20);
@@ -436,21 +421,33 @@ static void test_counts(void) {
     MUST(warm_pin(&handle, (warm_page){.no = 4 * FAKE_PAGES + 1}, &slot) == WARM_READ_FAULT);
     OK(warm_last_failure(&handle, &found, &failure));
     MUST(failure.no == 0);
+    OK(warm_close(&handle));
+}
+
+/* One shard has a later horizon than the others: what is offered has it, and what is forgotten in all is older. */
+static void test_horizons(void) {
+    const uint8_t request[10] = {NODE_REQUEST, 8};
+    uint8_t frame[66];
+    warm handle = {0};
+    uint64_t horizon;
+    size_t length;
+    open_shards(&handle, 4);
     OK(warm_horizon(&handle, 7, &horizon));
     MUST(horizon == 7);
     OK(warm_horizon(&handle, 3, &horizon));
     MUST(horizon == 7);
+    OK(node_horizon(&((opened *)handle.at)->shards[1].node, 9, &horizon));
+    OK(warm_horizon(&handle, 3, &horizon));
+    MUST(horizon == 7);
+    OK(warm_offer(&handle, frame, sizeof frame, &length));
+    MUST(frame[1] == 9);
+    OK(warm_receive(&handle, request, sizeof request)); /* it raises the others */
+    OK(warm_horizon(&handle, 0, &horizon));
+    MUST(horizon == 8);
     OK(warm_close(&handle));
 }
 
 /* ---- devices ---- */
-
-static void write_to(warm *handle, warm_page page, uint8_t byte) {
-    warm_slot slot;
-    OK(warm_pin(handle, page, &slot));
-    OK(warm_write(handle, slot, 0, &byte, 1));
-    OK(warm_unpin(handle, slot));
-}
 
 static uint8_t read_from(warm *handle, warm_page page) {
     const uint8_t *byte;
@@ -458,11 +455,6 @@ static uint8_t read_from(warm *handle, warm_page page) {
     OK(warm_pin_lend(handle, page, &slot, &byte));
     OK(warm_unpin(handle, slot));
     return *byte;
-}
-
-/* A page of each shard, of one device. */
-static void write_each(warm *handle, uint16_t dev, uint64_t count) {
-    for (uint64_t no = 0; no < count; no++) write_to(handle, (warm_page){.no = no, .dev = dev}, 'a');
 }
 
 static void test_syncs(void) {
@@ -534,7 +526,12 @@ static void test_portions(void) {
     OK(warm_close(&handle));
 }
 
-/* A shard that refuses: those before it have the old device again. */
+static void each_has(warm *handle, uint16_t dev, int fd) {
+    opened *its = handle->at;
+    for (size_t number = 0; number < its->count; number++) MUST(((fake *)its->shards[number].node.at)->devices[dev].fd == fd);
+}
+
+/* A device is replaced in all shards or in none. */
 static void test_replacing(void) {
     const warm_device in_place = {.pages = FAKE_PAGES, .fd = 20};
     warm handle = {0};
@@ -544,11 +541,11 @@ static void test_replacing(void) {
     MUST(warm_replace(&handle, FAKE_DEVICES, &in_place) == WARM_NO_DEVICE);
     OK(warm_pin(&handle, (warm_page){.no = 1, .dev = 1}, &slot)); /* in shard 2 */
     MUST(warm_replace(&handle, 1, &in_place) == WARM_FIXED);
-    for (size_t number = 0; number < 4; number++) MUST(((fake *)((opened *)handle.at)->shards[number].node.at)->devices[1].fd == 11);
+    each_has(&handle, 1, 11);
     MUST(*place_of(20) == NULL && (*place_of(11))->users == 1);
     OK(warm_unpin(&handle, slot));
     EACH_REFUSED(warm_replace(&handle, 1, &in_place), *place_of(20) == NULL && (*place_of(11))->users == 1);
-    for (size_t number = 0; number < 4; number++) MUST(((fake *)((opened *)handle.at)->shards[number].node.at)->devices[1].fd == 20);
+    each_has(&handle, 1, 20);
     MUST(*place_of(11) == NULL && (*place_of(20))->users == 1);
     OK(warm_replace(&handle, 1, &in_place)); /* by itself */
     MUST((*place_of(20))->users == 1);
@@ -556,6 +553,42 @@ static void test_replacing(void) {
     write_each(&handle, 1, 4);
     OK(warm_write_back(&handle));
     MUST(syncs == 1);
+    OK(warm_close(&handle));
+    nothing_left();
+}
+
+/* One shard alone finds no memory: all have the old device. */
+static void test_going_back(void) {
+    const warm_device in_place = {.pages = FAKE_PAGES, .fd = 21};
+    warm handle = {0};
+    int status = WARM_MEMORY;
+    open_shards(&handle, 8);
+    fails_once = true;
+    for (size_t grants = 0; status != WARM_OK; grants++) {
+        granted = grants;
+        status = warm_replace(&handle, 2, &in_place);
+        granted = SIZE_MAX;
+        MUST(status == WARM_OK || (status == WARM_MEMORY && grants < 100));
+        each_has(&handle, 2, status == WARM_OK ? 21 : 12);
+    }
+    fails_once = false;
+    OK(warm_close(&handle));
+    nothing_left();
+}
+
+/* The sync of a later shard fails: no page of the first has left its frame. */
+static void test_settling(void) {
+    const warm_device in_place = {.pages = FAKE_PAGES, .fd = 22};
+    warm handle = {0};
+    bool resident = false;
+    open_shards(&handle, 4);
+    MUST(read_from(&handle, (warm_page){.no = 0}) == 0);
+    write_to(&handle, (warm_page){.no = 2}, 'a');
+    sync_errors[10] = EIO;
+    MUST(warm_replace(&handle, 0, &in_place) == WARM_FAULT);
+    OK(warm_resident(&handle, (warm_page){.no = 0}, &resident));
+    MUST(resident);
+    each_has(&handle, 0, 10);
     OK(warm_close(&handle));
     nothing_left();
 }
@@ -601,6 +634,10 @@ static void test_descriptors(void) {
     MUST(sync_once(30) == -1 && syncs == 2);
     sync_drop(30);
     MUST(sync_add(30) && sync_once(30) == 0 && syncs == 2);
+    sync_wrote(30);
+    is_dropped = true;
+    MUST(sync_once(30) == 0 && syncs == 3 && *place_of(30) == NULL);
+    MUST(sync_add(30));
     sync_drop(30);
     sync_drop(30); /* which is there no more */
     sync_drop(30 + CHAINS);
@@ -628,7 +665,10 @@ static void *work(void *of) {
         warm_slot slot;
         int status = warm_pin(handle, (warm_page){.no = (own + round) % FAKE_PAGES}, &slot);
         MUST(status == WARM_OK || status == WARM_ALL_FIXED);
-        if (status == WARM_OK) OK(warm_unpin(handle, slot));
+        if (status == WARM_OK) {
+            OK(warm_write(handle, slot, 0, (const uint8_t *)"w", 1));
+            OK(warm_unpin(handle, slot));
+        }
         OK(warm_absorb(handle, seen, 2));
         OK(warm_receive(handle, frame, sizeof frame));
         OK(warm_next_answer(handle, frame, sizeof frame, &length));
@@ -643,6 +683,30 @@ static void *work(void *of) {
     }
     OK(warm_close(handle));
     return NULL;
+}
+
+static void *write_and_close(void *of) {
+    write_to(of, (warm_page){.no = 1}, 'c');
+    OK(warm_close(of));
+    return NULL;
+}
+
+/* The last attached handle is closed by its thread. What that did is seen by the thread that is alone then, which takes no lock, and may close the
+ * replica at once. */
+static void test_leaving(void) {
+    for (size_t count = 1; count <= 4; count *= 4) {
+        warm first = {0}, attached = {0};
+        pthread_t thread;
+        open_shards(&first, count);
+        OK(warm_thread(&first, &attached));
+        MUST(pthread_create(&thread, NULL, write_and_close, &attached) == 0);
+        while (open_handles(((opened *)first.at)->of) > 1) sched_yield();
+        taken = 0;
+        MUST(read_from(&first, (warm_page){.no = 1}) == 'c' && taken == 0);
+        OK(warm_close(&first));
+        MUST(pthread_join(thread, NULL) == 0);
+        nothing_left();
+    }
 }
 
 static void test_threads(void) {
@@ -671,12 +735,16 @@ int main(void) {
     test_answers();
     test_turns();
     test_counts();
+    test_horizons();
     test_syncs();
     test_failed_syncs();
     test_portions();
     test_replacing();
+    test_going_back();
+    test_settling();
     test_forgetting();
     test_descriptors();
+    test_leaving();
     test_threads();
     puts("shards_test: as expected");
     return 0;

@@ -37,11 +37,14 @@
  * each function may be called with each of these handles, while other threads call any function with theirs. A call on a page, a
  * slot or a bucket has its shard to itself while it runs, also while it reads or writes a device: a call on the same shard waits for it, and calls
  * on other shards do not. A call on the whole replica goes from shard to shard, in their order, and has one of them to itself at a time;
- * warm_forget and warm_replace alone have all of them at once. As long as one handle is open there is nobody to wait for, and no lock is taken.
+ * warm_forget and warm_replace alone have all of them at once. As long as one handle is open there is nobody to wait for, and no shard is locked.
+ * Two syncs of one descriptor, of whatever replicas, come one after the other.
  *
  * What threads see of each other. For each shard, all calls of all threads have one order, in which each is one step, or several. A call on several
  * shards is none for the whole: while one thread absorbs references to pages of several shards, another may find those of one shard in a
- * list, and not yet those of the next. Of each shard a thread sees nothing older than what it saw of it before.
+ * list, and not yet those of the next. Of each shard a thread sees nothing older than what it saw of it before. Where some shards have a later
+ * horizon than others, since a thread is about to raise them all, or was refused with WARM_MEMORY in the middle, then what is made of all
+ * of them (an offer, a list, a dump) has the latest one.
  *
  * The library needs the C library alone, starts no thread, handles no signal and ends no process: a program that is out of memory gets
  * WARM_MEMORY.
@@ -505,8 +508,10 @@ typedef int warm_before_write_call(void *context, uint64_t at, const uint8_t *by
  * shards: the longer it takes, the longer do other threads. It may read, write and sync files of its own, call warm_before_write, and use
  * handles of other replicas. Where calls of two threads write to one descriptor, both may be in it at the same time.
  * Refused: WARM_MEMORY, and what was asked before still is.
- * Caller: call and context may be null. call makes no call of a handle of the replica that is writing: it would wait for itself. It returns
- * (no longjmp, no exception, no end of its thread), changes nothing in bytes, and keeps no pointer to them. A call that another thread is in may
+ * Caller: call and context may be null. call makes no call of a handle of the replica that is writing: it would wait for itself. Nor does it wait
+ * for a thread that makes one: a lock that it takes, as that of a log, is held by nobody who calls this replica meanwhile, and of two
+ * replicas only one has calls that use the other. It returns (no longjmp, no exception, no end of its thread), changes nothing in bytes, and keeps
+ * no pointer to them. A call that another thread is in may
  * still ask what was set before, so context is good until that is over. The descriptor is known by its number alone: call is taken away before
  * it is closed, or the next file that has the number is asked for. A copy of a descriptor (dup) is another one. */
 int warm_before_write(int fd, warm_before_write_call *call, void *context);

@@ -89,8 +89,9 @@ void *join_pool(void *at) {
     joined->handle = pool->is_alone ? &pool->handle : &joined->attached;
     if (!pool->is_alone) ok(warm_thread(&pool->handle, &joined->attached), "warm_thread");
     joined->pool = pool;
-    joined->replica = (uint16_t)(1 + atomic_fetch_add(&pool->threads, 1) % 64);
-    joined->time = joined->replica == 1 ? 0 : UINT32_MAX;
+    uint64_t before = atomic_fetch_add(&pool->threads, 1); /* know_file is the first */
+    joined->replica = (uint16_t)(1 + before % 64);
+    joined->time = before == 0 ? 0 : UINT32_MAX;
     return joined;
 }
 

@@ -26,7 +26,7 @@
 enum { PAGE_SIZE = 512, WORDS = PAGE_SIZE / 8, DEVICES = 2, PAGES = 512, FRAMES = 256, BUCKETS = 64 };
 enum { MOST_THREADS = 16, MOST_HELD = 3, BATCH = 64, FRAME_ROOM = 32768, FRAME_ENTRIES = 23, PEER = 64, WINDOW = 30000 };
 
-static void fail(const char *what, int line) {
+_Noreturn static void fail(const char *what, int line) {
     fprintf(stderr, "stress: line %d: %s\n", line, what);
     exit(1);
 }
@@ -78,7 +78,7 @@ static warm first, peer;                                 /* of one thread at a t
 static pthread_mutex_t first_lock = PTHREAD_MUTEX_INITIALIZER, peer_lock = PTHREAD_MUTEX_INITIALIZER;
 static pthread_rwlock_t checkpoint = PTHREAD_RWLOCK_INITIALIZER;
 static size_t shards;
-static int files[DEVICES];
+static int files[DEVICES], dump; /* that of the peer's lock */
 static atomic_uint_fast64_t now = 1, horizon;
 static atomic_bool is_over;
 
@@ -125,9 +125,11 @@ static void raise_to(atomic_uint_fast64_t *number, uint64_t value) {
 
 /* Whether the page could be pinned: each frame of its shard may have a pinned page. */
 static bool pins(struct player *player, warm_page page, warm_slot *slot, const uint8_t **bytes) {
-    int status = warm_pin_lend(&player->handle, page, slot, bytes);
+    bool is_one_call = draw(player) % 2 == 0;
+    int status = is_one_call ? warm_pin_lend(&player->handle, page, slot, bytes) : warm_pin(&player->handle, page, slot);
     if (status == WARM_ALL_FIXED) return false;
     OK(status);
+    if (!is_one_call) OK(warm_lend(&player->handle, *slot, bytes));
     MUST(slot->shard == (page.dev + page.no) % BUCKETS % shards && slot->index < FRAMES / shards);
     atomic_fetch_add(&model_of(page)->pins, 1);
     return true;
@@ -236,6 +238,14 @@ static void write_back(struct player *player) {
     pthread_rwlock_unlock(&checkpoint);
 }
 
+/* The file of a device in place of itself: where no page of it is pinned, all of them leave their frames, and are written. */
+static void replace(struct player *player) {
+    uint16_t dev = draw(player) % DEVICES;
+    int status = warm_replace(&player->handle, dev, &(warm_device){.pages = PAGES, .fd = files[dev]});
+    MUST(status == WARM_OK || status == WARM_FIXED);
+    OK(warm_forget(&player->handle, dev, PAGES)); /* a device has no such page */
+}
+
 /* ---- references and gossip ---- */
 
 static void draw_batch(struct player *player, size_t count) {
@@ -285,11 +295,22 @@ static void talk_to_peer(struct player *player, warm *handle) {
     talk(player, &peer, handle, length);
 }
 
+/* A dump of one replica for the other. */
+static void pass_dump(warm *from, warm *to) {
+    MUST(ftruncate(dump, 0) == 0);
+    OK(warm_save(from, dump));
+    OK(warm_load(to, dump, (uint64_t)lseek(dump, 0, SEEK_END)));
+}
+
 static void gossip(struct player *player) {
     if (pthread_mutex_trylock(&peer_lock) != 0) return;
     draw_batch(&peer_player, 4);
     OK(warm_absorb(&peer, peer_player.batch, 4));
-    talk_to_peer(player, &player->handle);
+    switch (draw(player) % 8) {
+    case 0: pass_dump(&player->handle, &peer); break;
+    case 1: pass_dump(&peer, &player->handle); break;
+    default: talk_to_peer(player, &player->handle);
+    }
     pthread_mutex_unlock(&peer_lock);
 }
 
@@ -348,7 +369,8 @@ static void play_once(struct player *player) {
     else if (what < 123) look(player);
     else if (what < 126) misuse(player);
     else if (what < 127) forget_old(player);
-    else if (draw(player) % 16 == 0) {
+    else if (draw(player) % 16 != 0) replace(player);
+    else {
         release(player, 0);
         OK(warm_close(&player->handle));
         attach(player);
@@ -367,8 +389,8 @@ static void *play(void *at) {
 
 /* ---- the end, by one thread ---- */
 
-/* Each shard takes as many pages as it has frames, and no more: no pin was left. */
-static void check_no_pin_is_left(size_t shard) {
+/* Each shard takes as many pages as it has frames, and no more. */
+static void check_frames(size_t shard) {
     static warm_slot slots[FRAMES];
     size_t taken = 0, fit = FRAMES / shards;
     warm_slot more;
@@ -383,10 +405,12 @@ static void check_no_pin_is_left(size_t shard) {
     while (taken > 0) OK(warm_unpin(&first, slots[--taken]));
 }
 
+/* What is in the files once all was written back; and that no pin is left, as all pages may leave their frames. */
 static void check_files(void) {
     uint8_t bytes[PAGE_SIZE];
     OK(warm_write_back(&first));
     for (uint16_t dev = 0; dev < DEVICES; dev++) {
+        OK(warm_forget(&first, dev, 0));
         for (uint64_t no = 0; no < PAGES; no++) {
             memset(bytes, 0, sizeof bytes); /* past the end of the file are zeros */
             MUST(pread(files[dev], bytes, PAGE_SIZE, (off_t)(no * PAGE_SIZE)) >= 0);
@@ -441,6 +465,16 @@ static size_t check_bucket(warm *handle, unsigned bucket, const uint8_t *frame, 
     return count;
 }
 
+/* What was forgotten was forgotten in all shards: gossip would hide that one was left out. */
+static void check_horizons(void) {
+    uint8_t *frame = players[0].frame;
+    size_t length;
+    for (unsigned bucket = 0; bucket < BUCKETS; bucket++) {
+        OK(warm_send(&first, (uint8_t)bucket, false, (warm_page){0}, frame, FRAME_ROOM, &length));
+        MUST(number(frame + 7, 8) == atomic_load(&horizon));
+    }
+}
+
 static void check_history(warm *handle) {
     size_t known = 0, wanted = 0, length;
     for (unsigned bucket = 0; bucket < BUCKETS; bucket++) known += check_bucket(handle, bucket, players[0].frame, 0);
@@ -451,14 +485,19 @@ static void check_history(warm *handle) {
     MUST(known == wanted && length == wanted);
 }
 
-/* Hottest first: by the second latest reference, later ones first, and then those that have one alone. */
+/* Each page that is known, once, and hottest first: by the second latest reference, later ones first, and then those that have one alone. */
 static void check_list(warm *handle) {
     static warm_page list[DEVICES * PAGES];
-    size_t count;
+    static bool is_listed[DEVICES][PAGES];
+    size_t count, length;
     uint64_t before = UINT64_MAX;
     OK(warm_list(handle, list, DEVICES * PAGES, &count));
+    OK(warm_history_length(handle, &length));
+    MUST(count == length);
     for (size_t at = 0; at < count; at++) {
         uint64_t prev = expected(list[at]).prev;
+        MUST(!is_listed[list[at].dev][list[at].no]);
+        is_listed[list[at].dev][list[at].no] = true;
         MUST(prev <= before);
         before = prev;
     }
@@ -480,13 +519,15 @@ static void open_all(void) {
         devices[dev] = (warm_device){.pages = PAGES, .fd = files[dev]};
         for (int no = 0; no < PAGES; no++) MUST(pthread_rwlock_init(&pages[dev][no].latch, NULL) == 0);
     }
+    dump = temporary();
     OK(warm_open(&first, 1, shards, FRAMES, PAGE_SIZE, devices, DEVICES));
     OK(warm_open(&peer, 2, 1, 1, 1, devices, 0));
 }
 
 static void check_end(void) {
-    for (size_t shard = 0; shard < shards; shard++) check_no_pin_is_left(shard);
+    for (size_t shard = 0; shard < shards; shard++) check_frames(shard);
     check_files();
+    check_horizons();
     for (int round = 0; round < 2; round++) talk_to_peer(&players[0], &first);
     check_history(&first);
     check_history(&peer);
@@ -519,6 +560,7 @@ int main(int count, char **words) {
     }
     check_end();
     for (int dev = 0; dev < DEVICES; dev++) close(files[dev]);
+    close(dump);
     printf("stress: %zu shards, %u threads, %llu calls as expected\n", shards, threads, (unsigned long long)calls);
     return 0;
 }

@@ -272,12 +272,12 @@ static void attached_handles(void) {
     EXPECT(WARM_PINS_LEFT, warm_close(&second));
     EXPECT(WARM_ATTACHED, warm_close(&first));
     OK(warm_unpin(&first, slot));
-    EXPECT(WARM_STALE_SLOT, warm_unpin(&first, slot));
     EXPECT(WARM_PINS_LEFT, warm_close(&second)); /* it stayed open */
     OK(warm_pin_zeroed(&second, (warm_page){.no = 5 + shards}, &other));
     OK(warm_unpin(&second, same));
     EXPECT(WARM_PINS_LEFT, warm_close(&second));
     OK(warm_unpin(&second, other));
+    EXPECT(WARM_STALE_SLOT, warm_unpin(&first, slot)); /* no handle pins the page */
     EXPECT(WARM_NO_PAGE, warm_pin_lend(&second, (warm_page){.no = PAGES}, &other, &bytes)); /* which is no pin */
     OK(warm_close(&second));
     MUST(second.at == NULL);
@@ -393,6 +393,56 @@ static void failed_sync(void) {
     OK(warm_close(&handle));
     close(fds[0]);
     close(fds[1]);
+}
+
+/* The call of the device that failed is the last failure; then no page is in a frame. */
+static void must_have_failed(warm *handle, uint64_t no, uint16_t what) {
+    warm_failure failure;
+    bool found;
+    OK(warm_last_failure(handle, &found, &failure));
+    MUST(found && failure.no == no && failure.dev == 0 && failure.what == what && failure.error == EBADF);
+    OK(warm_forget(handle, 0, 0));
+}
+
+static void make_dirty(warm *handle, uint64_t no) {
+    warm_slot slot;
+    OK(warm_pin_zeroed(handle, (warm_page){.no = no}, &slot));
+    OK(warm_unpin(handle, slot));
+}
+
+/* The last failure is found by whichever call it was and in whichever shard, and no call looks into the shard of the one before. */
+static void last_failures(void) {
+    const warm_device none = {.pages = PAGES, .fd = -1}, other = {.pages = PAGES, .fd = -2};
+    const warm_reference seen = {.time = 1, .no = 2, .replica = 1};
+    const uint8_t *bytes;
+    warm handle = {0};
+    warm_page page;
+    warm_slot slot;
+    size_t left;
+    bool found;
+    OK(warm_open(&handle, 1, shards, shards, PAGE_SIZE, &none, 1));
+    EXPECT(WARM_READ_FAULT, warm_pin(&handle, (warm_page){.no = 1}, &slot));
+    must_have_failed(&handle, 1, WARM_FAILED_READ);
+    OK(warm_absorb(&handle, &seen, 1));
+    EXPECT(WARM_READ_FAULT, warm_step(&handle, &found, &page));
+    must_have_failed(&handle, 2, WARM_FAILED_READ);
+    EXPECT(WARM_READ_FAULT, warm_pin_lend(&handle, (warm_page){.no = 3}, &slot, &bytes));
+    must_have_failed(&handle, 3, WARM_FAILED_READ);
+    make_dirty(&handle, 1);
+    EXPECT(WARM_WRITE_BACK, warm_pin_zeroed(&handle, (warm_page){.no = 1 + shards}, &slot));
+    must_have_failed(&handle, 1, WARM_FAILED_WRITE);
+    make_dirty(&handle, 2);
+    EXPECT(WARM_FAULT, warm_write_back_some(&handle, 1, &left));
+    must_have_failed(&handle, 2, WARM_FAILED_WRITE);
+    make_dirty(&handle, 1);
+    EXPECT(WARM_FAULT, warm_flush(&handle, 0));
+    must_have_failed(&handle, 1, WARM_FAILED_WRITE);
+    make_dirty(&handle, 3);
+    EXPECT(WARM_FAULT, warm_write_back(&handle));
+    must_have_failed(&handle, 3, WARM_FAILED_WRITE);
+    EXPECT(WARM_FAULT, warm_replace(&handle, 0, &other));
+    must_have_failed(&handle, 0, WARM_FAILED_FLUSH); /* of the shard of page 1: a write that failed may have written a part */
+    OK(warm_close(&handle));
 }
 
 /* A checkpoint in portions counts the pages of all shards. */
@@ -522,6 +572,7 @@ int main(int count, char **words) {
     answers_of_handles();
     synced_once();
     failed_sync();
+    last_failures();
     portions();
     warmed_up();
     replaced_in_all();
