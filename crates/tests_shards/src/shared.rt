@@ -48,7 +48,9 @@ fn joined(
         let Ok(shard) = one else {
             panic!(rt; "no call is under way")
         };
-        all.join(shard.history()).ok().expect(rt, "memory for entries");
+        all.join(shard.history())
+            .ok()
+            .expect(rt, "memory for entries");
     }
     all
 }
@@ -187,7 +189,10 @@ fn a_thread_with_pins_stays(rt: HostRuntime) {
     let at = shared.pin(&rt, &mut more, page(1));
     let at = at.ok().expect(&rt, "page 1 is pinned");
     assert!(rt; at.shard == 1 && more.pins() == 1);
-    let beyond = ShardSlot { shard: 2, slot: at.slot };
+    let beyond = ShardSlot {
+        shard: 2,
+        slot: at.slot,
+    };
     let stale = Err(SharedFault::Node(NodeFault::StaleSlot));
     assert!(rt; shared.unpin(&rt, &mut more, beyond) == stale);
     assert!(rt; shared.unpin(&rt, &mut first, at) == Err(SharedFault::NoPins));
@@ -197,4 +202,72 @@ fn a_thread_with_pins_stays(rt: HostRuntime) {
     let mut more = held.attached;
     assert!(rt; shared.unpin(&rt, &mut more, at).is_ok());
     assert!(rt; shared.detach(&mut first, more).is_ok());
+}
+
+// Absorbs a reference to a page, and writes a byte into it.
+fn is_written<R: Wait + Abort>(
+    rt: &R,
+    alloc: Global,
+    shared: &SharedShards<MemDevice>,
+    attached: &mut Attached<MemDevice>,
+    number: u64,
+) -> bool
+    requires { AreOf shared.now attached.old.passes }
+    ensures { AreOf shared.now attached.new.passes }
+{
+    let touched = [seen(page(number), 1, 1)];
+    if shared.absorb(rt, alloc, attached, &touched).is_err() {
+        return false;
+    }
+    let Ok(at) = shared.pin(rt, attached, page(number)) else {
+        return false;
+    };
+    let bytes = vec![in alloc; 7; 1].expect(rt, "memory for a byte");
+    let written = shared.write(rt, attached, at, 0, ByteList::of(bytes));
+    let unpinned = shared.unpin(rt, attached, at);
+    written.is_ok() && unpinned.is_ok()
+}
+
+// How many pages of the closed shards are dirty.
+fn dirty(
+    rt: &impl Abort,
+    alloc: Global,
+    shared: SharedShards<MemDevice>,
+    attached: Attached<MemDevice>,
+) -> usize
+    requires { AreOf shared attached.passes }
+{
+    let Ok(closed) = shared.close(alloc, attached) else {
+        panic!(rt; "no pin is held")
+    };
+    let mut count = 0usize;
+    for one in closed {
+        let Ok(shard) = one else {
+            panic!(rt; "no call is under way")
+        };
+        count = count.wrapping_add(shard.pool().dirty());
+    }
+    count
+}
+
+#[test]
+fn pages_of_all_shards_are_written_back(rt: HostRuntime) {
+    let alloc = rt.alloc();
+    let (shared, mut first) = shared_by(&rt, alloc, 4);
+    assert!(rt; is_written(&rt, alloc, &shared, &mut first, 1));
+    assert!(rt; is_written(&rt, alloc, &shared, &mut first, 2));
+    assert!(rt; is_written(&rt, alloc, &shared, &mut first, 5));
+    assert!(rt; shared.write_back(&rt, &mut first).is_ok());
+    assert!(rt; dirty(&rt, alloc, shared, first) == 0);
+}
+
+#[test]
+fn pages_stay_dirty_until_they_are_written_back(rt: HostRuntime) {
+    let alloc = rt.alloc();
+    let (shared, mut first) = shared_by(&rt, alloc, 4);
+    assert!(rt; is_written(&rt, alloc, &shared, &mut first, 1));
+    assert!(rt; shared.write_back(&rt, &mut first).is_ok());
+    assert!(rt; is_written(&rt, alloc, &shared, &mut first, 2));
+    assert!(rt; is_written(&rt, alloc, &shared, &mut first, 5));
+    assert!(rt; dirty(&rt, alloc, shared, first) == 2);
 }

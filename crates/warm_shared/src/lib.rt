@@ -10,6 +10,7 @@ mod pool_calls;
 mod shard;
 mod shared;
 mod sharing;
+mod writing;
 
 pub use attaching::{NotClosed, NotDetached};
 pub use call::{BoxedMessage, ShardCall, ShardReply};
@@ -18,3 +19,4 @@ pub use history_calls::Stopped;
 pub use shard::{Shard, ViewOfShard};
 pub use shared::{Attached, SharedShards};
 pub use sharing::Sharing;
+pub use writing::NotWritten;
