@@ -7,12 +7,13 @@ use std::alloc::Global;
 use std::process::Abort;
 use std::sync::Wait;
 use std::thread::{Threads, join};
-use test_kit::{page, seen};
+use test_kit::{SeenAt, page, seen};
 use warm_devices::MemDevice;
+use warm_frames::Message;
 use warm_gossip::{Node, NodeFault};
 use warm_shards::ShardSlot;
 use warm_shared::{Attached, SharedFault, SharedShards, Sharing};
-use warm_stamps::{ByteList, PageId};
+use warm_stamps::{Bucket, ByteList, PageId};
 
 // Shared shards, as many, and what the first thread has of them.
 fn shared_by(
@@ -202,4 +203,149 @@ fn a_thread_with_pins_stays(rt: HostRuntime) {
     let mut more = held.attached;
     assert!(rt; shared.unpin(&rt, &mut more, at).is_ok());
     assert!(rt; shared.detach(&mut first, more).is_ok());
+}
+
+// Absorbs a reference to a page, and writes a byte into it.
+fn is_written<R: Wait + Abort>(
+    rt: &R,
+    alloc: Global,
+    shared: &SharedShards<MemDevice>,
+    attached: &mut Attached<MemDevice>,
+    number: u64,
+) -> bool
+    requires { AreOf shared.now attached.old.passes }
+    ensures { AreOf shared.now attached.new.passes }
+{
+    let touched = [seen(page(number), 1, 1)];
+    if shared.absorb(rt, alloc, attached, &touched).is_err() {
+        return false;
+    }
+    let Ok(at) = shared.pin(rt, attached, page(number)) else {
+        return false;
+    };
+    let bytes = vec![in alloc; 7; 1].expect(rt, "memory for a byte");
+    let written = shared.write(rt, attached, at, 0, ByteList::of(bytes));
+    let unpinned = shared.unpin(rt, attached, at);
+    written.is_ok() && unpinned.is_ok()
+}
+
+// How many pages of the closed shards are dirty.
+fn dirty(
+    rt: &impl Abort,
+    alloc: Global,
+    shared: SharedShards<MemDevice>,
+    attached: Attached<MemDevice>,
+) -> usize
+    requires { AreOf shared attached.passes }
+{
+    let Ok(closed) = shared.close(alloc, attached) else {
+        panic!(rt; "no pin is held")
+    };
+    let mut count = 0usize;
+    for one in closed {
+        let Ok(shard) = one else {
+            panic!(rt; "no call is under way")
+        };
+        count = count.wrapping_add(shard.pool().dirty());
+    }
+    count
+}
+
+#[test]
+fn pages_of_all_shards_are_written_back(rt: HostRuntime) {
+    let alloc = rt.alloc();
+    let (shared, mut first) = shared_by(&rt, alloc, 4);
+    assert!(rt; is_written(&rt, alloc, &shared, &mut first, 1));
+    assert!(rt; is_written(&rt, alloc, &shared, &mut first, 2));
+    assert!(rt; is_written(&rt, alloc, &shared, &mut first, 5));
+    assert!(rt; shared.write_back(&rt, &mut first).is_ok());
+    assert!(rt; dirty(&rt, alloc, shared, first) == 0);
+}
+
+#[test]
+fn pages_stay_dirty_until_they_are_written_back(rt: HostRuntime) {
+    let alloc = rt.alloc();
+    let (shared, mut first) = shared_by(&rt, alloc, 4);
+    assert!(rt; is_written(&rt, alloc, &shared, &mut first, 1));
+    assert!(rt; shared.write_back(&rt, &mut first).is_ok());
+    assert!(rt; is_written(&rt, alloc, &shared, &mut first, 2));
+    assert!(rt; is_written(&rt, alloc, &shared, &mut first, 5));
+    assert!(rt; dirty(&rt, alloc, shared, first) == 2);
+}
+
+// References of many buckets and of two devices, some twice, and one that a later horizon forgets.
+const GIVEN: &[SeenAt] = &[
+    (0, 1, 10, 1),
+    (0, 65, 12, 1),
+    (0, 2, 20, 2),
+    (1, 3, 30, 1),
+    (0, 2, 25, 1),
+    (0, 63, 31, 3),
+    (1, 0, 5, 1),
+];
+
+// Sends a bucket, and has others take the entries in. Whether both were answered.
+fn is_passed_on<R: Wait + Abort>(
+    rt: &R,
+    alloc: Global,
+    shared: &SharedShards<MemDevice>,
+    attached: &mut Attached<MemDevice>,
+    others: &SharedShards<MemDevice>,
+    attached_there: &mut Attached<MemDevice>,
+    bucket: Bucket,
+) -> bool
+    requires { (AreOf shared.now attached.old.passes) × (AreOf others.now attached_there.old.passes) }
+    ensures { (AreOf shared.now attached.new.passes) × (AreOf others.now attached_there.new.passes) }
+{
+    let Ok(message) = shared.send(rt, attached, bucket, None) else {
+        return false;
+    };
+    let Message::Entries {
+        horizon,
+        entries,
+        ..
+    } = message
+    else {
+        return false;
+    };
+    let taken = others.receive_entries(rt, alloc, attached_there, horizon, entries.as_slice());
+    taken.is_ok()
+}
+
+#[test]
+fn what_is_sent_brings_the_history(rt: HostRuntime) {
+    let alloc = rt.alloc();
+    let given = batch(&rt, alloc, GIVEN);
+    let (shared, mut first) = shared_by(&rt, alloc, 4);
+    let (others, mut there) = shared_by(&rt, alloc, 2);
+    assert!(rt; shared.absorb(&rt, alloc, &mut first, &given).is_ok());
+    assert!(rt; shared.raise(&rt, &mut first, 6).is_ok());
+    for bucket in Bucket::all() {
+        assert!(rt; is_passed_on(&rt, alloc, &shared, &mut first, &others, &mut there, bucket));
+    }
+    let mut model = node(&rt, alloc, 1);
+    model.absorb(&given).ok().expect(&rt, "memory for pages");
+    let _horizon = model.raise(6);
+    let mut all = joined(&rt, alloc, others, there);
+    assert!(rt;
+        digests(&rt, alloc, &mut all).as_slice() == digests(&rt, alloc, &mut model).as_slice()
+    );
+}
+
+#[test]
+fn a_bucket_is_sent_as_a_node_sends_it(rt: HostRuntime) {
+    let alloc = rt.alloc();
+    let given = batch(&rt, alloc, GIVEN);
+    let (shared, mut first) = shared_by(&rt, alloc, 4);
+    let mut model = node(&rt, alloc, 1);
+    assert!(rt; shared.absorb(&rt, alloc, &mut first, &given).is_ok());
+    model.absorb(&given).ok().expect(&rt, "memory for pages");
+    for bucket in Bucket::all() {
+        let one = model.send(bucket, None).ok().expect(&rt, "the node sends");
+        let all = shared
+            .send(&rt, &mut first, bucket, None)
+            .ok()
+            .expect(&rt, "the shard sends");
+        assert!(rt; bytes_of(&rt, alloc, &one) == bytes_of(&rt, alloc, &all));
+    }
 }

@@ -1,13 +1,19 @@
 -- The laws of shared shards.
-use Rattle.std.proofs.Common.{◌≡◌, ◌⊎◌, inl, inr, ℕ, zero, suc, ◌<◌, ◌≤◌, List, [], ◌∷◌, length, refl, sym, ap, subst, ◌∙◌, arith, append-nil}
+use Rattle.std.proofs.Common.{◌≡◌, ◌⊎◌, inl, inr, ℕ, zero, suc, ◌<◌, ◌≤◌, List, [], ◌∷◌, ◌++◌, length, Option, Some, None, refl, sym, ap, subst, ◌∙◌, arith, append-nil}
 use mathlib.Core.List.{IsPrefix}
-use Rattle.warm_history.specs.ReferenceSets.{◌∪◌}
+use Rattle.warm_history.specs.ReferenceSets.{ReferenceSet, ◌∪◌}
 use Rattle.warm_history.specs.Histories.{history, references_of}
 use Rattle.warm_history.proofs.JoinLemmas.{history_first, history_second}
 use Rattle.warm_turn.specs.declared.table.Entry.{Entry}
-use Rattle.warm_turn.specs.CallHistories.{Runs}
+use Rattle.warm_turn.specs.CallHistories.{Runs, entry}
 use Rattle.warm_turn.proofs.Passes.{Extended-called, Widened-joined}
-use Rattle.warm_gossip.specs.Step.{Step}
+use Rattle.warm_gossip.specs.Given.{given_by_call, given_by_calls}
+use Rattle.warm_gossip.specs.State.{NodeView}
+use Rattle.warm_gossip.specs.declared.call.Call.{Call}
+use Rattle.warm_gossip.specs.declared.call.Reply.{Reply}
+use Rattle.warm_gossip.specs.declared.call.Reply.TheVariants as node_reply
+use Rattle.warm_gossip.specs.declared.fault.NodeFault.TheVariants as node_fault
+use Rattle.warm_pool.specs.declared.fault.PoolFault.TheVariants as pool_fault
 use Rattle.warm_gossip.proofs.Given.{told_is_history}
 use Rattle.warm_stamps.specs.declared.Reference.{Reference}
 use Rattle.warm_shared.specs.declared.call.ShardCall.{ShardCall}
@@ -16,17 +22,17 @@ use Rattle.warm_shared.specs.declared.call.ShardReply.{ShardReply}
 use Rattle.warm_shared.specs.declared.call.ShardReply.TheVariants.{Done, Kept, Pinned, Bytes, Page, Loaded, Sent, Foreign, Refused}
 use Rattle.warm_shared.specs.Attached.{Known, ShardPass, known_of, no_pass, shard_pass}
 use Rattle.warm_shared.specs.Clauses.{Answered, Got}
-use Rattle.warm_shared.specs.Laws.{CallsAreANodes, OnlySeesMore, SeesMore, ShardIsOfGiven, TogetherAreOfGiven, all_of, held_by, node_calls}
-use Rattle.warm_shared.specs.ShardSteps.{ShardStep, ShardView}
-use Rattle.warm_shared.specs.Whole.{AbsorbsPart, First, Raises, part_of}
+use Rattle.warm_shared.specs.Laws.{CallsAreANodes, OnlySeesMore, SeesMore, ShardIsOfGiven, StepOrWriteBack, TogetherAreOfGiven, all_of, held_by, node_calls, node_entries, node_steps}
+use Rattle.warm_shared.specs.ShardSteps.{NodeStep, ShardStep, ShardView, node_call_of, node_reply_of}
+use Rattle.warm_shared.specs.Whole.{AbsorbsPart, Does, First, Raises, part_of}
 use Rattle.warm_shared.proofs.Places.{at_each}
 
 next : (o y z : ShardView) (e : Entry ShardCall ShardReply) (es : List (Entry ShardCall ShardReply))
-    → ShardStep o e.call e.reply y → Runs Step y.node (node_calls es) z.node
-    → (r : ShardReply) → e.reply ≡ r → Runs Step o.node (node_calls (e ∷ es)) z.node
+    → ShardStep o e.call e.reply y → Runs StepOrWriteBack y.node (node_steps es) z.node
+    → (r : ShardReply) → e.reply ≡ r → Runs StepOrWriteBack o.node (node_steps (e ∷ es)) z.node
 next o y z e es step rest Foreign is =
     let same : y ≡ o = (subst (λ r. ShardStep o e.call r y) is step).1 in
-    rw is (subst (λ (x : ShardView). Runs Step x.node (node_calls es) z.node) same rest)
+    rw is (subst (λ (x : ShardView). Runs StepOrWriteBack x.node (node_steps es) z.node) same rest)
 next o y z e es step rest Done is = rw is (y.node, (subst (λ r. ShardStep o e.call r y) is step).2, rest)
 next o y z e es step rest (Kept h) is = rw is (y.node, (subst (λ r. ShardStep o e.call r y) is step).2, rest)
 next o y z e es step rest (Pinned s) is = rw is (y.node, (subst (λ r. ShardStep o e.call r y) is step).2, rest)
@@ -40,9 +46,39 @@ pub calls_are_a_nodes : CallsAreANodes
 calls_are_a_nodes o z [] runs = ap (λ (s : ShardView). s.node) runs
 calls_are_a_nodes o z (e ∷ es) runs = next o runs.0 z e es runs.1 (calls_are_a_nodes runs.0 z es runs.2) e.reply refl
 
+given_after : (S : ReferenceSet) (xs ys : List (Entry Call Reply))
+    → given_by_calls (given_by_calls S xs) ys ≡ given_by_calls S (xs ++ ys)
+given_after S [] ys = refl
+given_after S (e ∷ xs) ys = given_after (given_by_call S e.call e.reply) xs ys
+
+-- after one call, or one write-back, a node has the history of what it was given
+one_given : (S : ReferenceSet) (o y : NodeView) (by : ℕ) (c : Option Call) (r : Reply)
+    → o.history ≡ history S → NodeStep o c (Some r) y
+    → y.history ≡ history (given_by_calls S (node_entries by c (Some r)))
+one_given S o y by (Some c) r stands step = told_is_history S o y (entry by c r ∷ []) stands (y, step, refl)
+one_given S o y by None node_reply.Done stands step = ap (λ (n : NodeView). n.history) step ∙ stands
+one_given S o y by None (node_reply.Refused (node_fault.Pool pool_fault.Fault)) stands step = ap (λ (n : NodeView). n.history) step.0 ∙ stands
+one_given S o y by None r stands step = absurd step
+
+call_given : (S : ReferenceSet) (o y : ShardView) (by : ℕ) (c : ShardCall) (r : ShardReply)
+    → o.node.history ≡ history S → ShardStep o c r y
+    → y.node.history ≡ history (given_by_calls S (node_entries by (node_call_of c) (node_reply_of r)))
+call_given S o y by c Foreign stands step = ap (λ (s : ShardView). s.node.history) step.1 ∙ stands
+call_given S o y by c Done stands step = one_given S o.node y.node by (node_call_of c) node_reply.Done stands step.2
+call_given S o y by c (Kept h) stands step = one_given S o.node y.node by (node_call_of c) (node_reply.Kept h) stands step.2
+call_given S o y by c (Pinned s) stands step = one_given S o.node y.node by (node_call_of c) (node_reply.Pinned s) stands step.2
+call_given S o y by c (Bytes b) stands step = one_given S o.node y.node by (node_call_of c) (node_reply.Bytes b) stands step.2
+call_given S o y by c (Page p) stands step = one_given S o.node y.node by (node_call_of c) (node_reply.Page p) stands step.2
+call_given S o y by c (Loaded p) stands step = one_given S o.node y.node by (node_call_of c) (node_reply.Loaded p) stands step.2
+call_given S o y by c (Sent m) stands step = one_given S o.node y.node by (node_call_of c) (node_reply.Sent m) stands step.2
+call_given S o y by c (Refused w) stands step = one_given S o.node y.node by (node_call_of c) (node_reply.Refused w) stands step.2
+
 pub shard_is_of_given : ShardIsOfGiven
-shard_is_of_given S o z calls stands runs =
-    told_is_history S o.node z.node (node_calls calls) stands (calls_are_a_nodes o z calls runs)
+shard_is_of_given S o z [] stands runs = ap (λ (s : ShardView). s.node.history) (sym runs) ∙ stands
+shard_is_of_given S o z (e ∷ es) stands runs =
+    let one = node_entries e.by (node_call_of e.call) (node_reply_of e.reply) in
+    shard_is_of_given (given_by_calls S one) runs.0 z es (call_given S o runs.0 e.by e.call e.reply stands runs.1) runs.2
+    ∙ ap history (given_after S one (node_calls es))
 
 pub together_are_of_given : TogetherAreOfGiven
 together_are_of_given [] [] stand = refl
@@ -100,5 +136,6 @@ only_sees_more = record {
   called = called_more;
   absorbed = λ old new k batch so. firsts_more (AbsorbsPart (length old) batch) (part_more (length old) batch) k old new so;
   raised = λ old new k time so. firsts_more (Raises time) (λ i p q r. got_more p.view q.view _ (Kept r.0) r.1) k old new so;
+  done = λ old new k call so. firsts_more (Does call) (λ i p q r. got_more p.view q.view call Done r) k old new so;
   joined = λ old other new so i lt. (Widened-joined ShardStep (known_of old i) (known_of other i) (known_of new i) (so.each i lt)).seen;
 }

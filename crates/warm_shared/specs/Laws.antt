@@ -8,33 +8,51 @@ use Rattle.warm_turn.specs.CallHistories.{Runs, entry}
 use Rattle.warm_gossip.specs.declared.call.Call.{Call}
 use Rattle.warm_gossip.specs.declared.call.Reply.{Reply}
 use Rattle.warm_gossip.specs.Given.{given_by_calls}
-use Rattle.warm_gossip.specs.Step.{Step}
+use Rattle.warm_gossip.specs.State.{NodeView}
 use Rattle.warm_stamps.specs.declared.Reference.{Reference}
 use Rattle.warm_shared.specs.declared.call.ShardCall.{ShardCall}
 use Rattle.warm_shared.specs.declared.call.ShardReply.{ShardReply}
 use Rattle.warm_shared.specs.Attached.{ShardPass, known_of}
 use Rattle.warm_shared.specs.Clauses.{Answered}
 use Rattle.warm_shared.specs.Opening.{AreJoined}
-use Rattle.warm_shared.specs.ShardSteps.{ShardStep, ShardView, node_call_of, node_reply_of}
-use Rattle.warm_shared.specs.Whole.{AbsorbsFirst, RaisesFirst}
+use Rattle.warm_shared.specs.ShardSteps.{NodeStep, ShardStep, ShardView, node_call_of}
+use Rattle.warm_shared.specs.ShardSteps.{node_reply_of}
+use Rattle.warm_shared.specs.Whole.{AbsorbsFirst, DoneFirst, RaisesFirst}
 
 -- One shard
 
--- the call of a node with its reply, where the reply is one of a node
-abbrev pub node_entries : ℕ → Call → Option Reply → List (Entry Call Reply)
-node_entries by call None = []
-node_entries by call (Some reply) = entry by call reply ∷ []
+-- a call with its reply, where the reply is one of a node; without a call, a write-back
+abbrev pub step_entries : ℕ → Option Call → Option Reply → List (Entry (Option Call) Reply)
+step_entries by call None = []
+step_entries by call (Some reply) = entry by call reply ∷ []
 
--- the calls of the node, in their order: all but those that brought pages of another shard
+-- the calls of the node and the write-backs, in their order: all but the calls that brought pages of
+-- another shard
+abbrev pub node_steps : List (Entry ShardCall ShardReply) → List (Entry (Option Call) Reply)
+node_steps [] = []
+node_steps (e ∷ es) = step_entries e.by (node_call_of e.call) (node_reply_of e.reply)
+    ++ node_steps es
+
+-- a step of the node, or a write-back
+abbrev pub StepOrWriteBack : NodeView → Option Call → Reply → NodeView → Type 0
+StepOrWriteBack old call reply new = NodeStep old call (Some reply) new
+
+-- the call of a node with its reply, where both are of a node
+abbrev pub node_entries : ℕ → Option Call → Option Reply → List (Entry Call Reply)
+node_entries by call None = []
+node_entries by (Some call) (Some reply) = entry by call reply ∷ []
+node_entries by None (Some reply) = []
+
+-- the calls of the node, in their order
 abbrev pub node_calls : List (Entry ShardCall ShardReply) → List (Entry Call Reply)
 node_calls [] = []
 node_calls (e ∷ es) = node_entries e.by (node_call_of e.call) (node_reply_of e.reply)
     ++ node_calls es
 
--- a legal list of calls of a shard is one of its node
+-- a legal list of calls of a shard is one of its node, with the write-backs between
 abbrev pub CallsAreANodes : Type 0
 CallsAreANodes = (opening last : ShardView) (calls : List (Entry ShardCall ShardReply))
-    → Runs ShardStep opening calls last → Runs Step opening.node (node_calls calls) last.node
+    → Runs ShardStep opening calls last → Runs StepOrWriteBack opening.node (node_steps calls) last.node
 
 -- the references that a shard was given by these calls, from these on
 abbrev pub given_to_shard : ReferenceSet → List (Entry ShardCall ShardReply) → ReferenceSet
@@ -83,5 +101,7 @@ pub record OnlySeesMore : Type 0 where
   pub absorbed : (old new : List ShardPass) (k : ℕ) (batch : List Reference)
       → AbsorbsFirst batch k old new → SeesMore old new
   pub raised : (old new : List ShardPass) (k time : ℕ) → RaisesFirst time k old new
+      → SeesMore old new
+  pub done : (old new : List ShardPass) (k : ℕ) (call : ShardCall) → DoneFirst call k old new
       → SeesMore old new
   pub joined : (old other new : List ShardPass) → AreJoined old other new → SeesMore old new

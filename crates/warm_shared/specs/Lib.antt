@@ -5,3 +5,4 @@ pub mod Faults
 pub mod Opening
 pub mod Whole
 pub mod Laws
+pub mod Gossip

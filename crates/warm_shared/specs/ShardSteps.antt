@@ -1,18 +1,22 @@
 -- A shard as a machine: the calls of a node that it answers, and its steps.
-use Rattle.std.specs.Prelude.{◌≡◌, ℕ, Option, Some, None, Result, Ok, Err}
+use Rattle.std.specs.Prelude.{◌≡◌, ℕ, length, Option, Some, None, Result, Ok, Err}
 use Rattle.std.specs.List.{All}
 use Rattle.warm_gossip.specs.declared.call.Call.{Call}
 use Rattle.warm_gossip.specs.declared.call.Call.TheVariants as node_call
 use Rattle.warm_gossip.specs.declared.call.Reply.{Reply}
 use Rattle.warm_gossip.specs.declared.call.Reply.TheVariants as node_reply
 use Rattle.warm_gossip.specs.declared.fault.NodeFault.{NodeFault}
+use Rattle.warm_gossip.specs.declared.fault.NodeFault.TheVariants.{Pool}
+use Rattle.warm_pool.specs.declared.fault.PoolFault.TheVariants.{Fault}
+use Rattle.warm_pool.specs.State.{IsSettled}
+use Rattle.warm_pool.specs.WritingSome.{CleansFirst, SomeFails}
 use Rattle.warm_gossip.specs.State.{NodeState, NodeView, node_view, empty_node}
-use Rattle.warm_gossip.specs.Step.{Step}
+use Rattle.warm_gossip.specs.Step.{IsFailed, OnPool, Step}
 use Rattle.warm_shards.specs.Shards.{shard_of}
 use Rattle.warm_shared.specs.declared.call.ShardCall.{ShardCall}
 use Rattle.warm_shared.specs.declared.call.ShardCall.TheVariants.{Absorb, Raise, Pin, Unpin, Read}
 use Rattle.warm_shared.specs.declared.call.ShardCall.TheVariants.{Write, Victim, WarmStep}
-use Rattle.warm_shared.specs.declared.call.ShardCall.TheVariants.{Offer, Send}
+use Rattle.warm_shared.specs.declared.call.ShardCall.TheVariants.{Offer, Send, WritePages, WriteBack}
 use Rattle.warm_shared.specs.declared.call.ShardReply.{ShardReply}
 use Rattle.warm_shared.specs.declared.call.ShardReply.TheVariants.{Done, Kept, Pinned, Bytes, Page}
 use Rattle.warm_shared.specs.declared.call.ShardReply.TheVariants.{Loaded, Sent, Foreign, Refused}
@@ -42,18 +46,20 @@ no_shard_view = record { count = 0; number = 0; node = empty_node }
 
 -- Calls and replies
 
--- the call of a node that this is
-abbrev pub node_call_of : ShardCall → Call
-node_call_of (Absorb batch) = node_call.Absorb batch
-node_call_of (Raise time) = node_call.Horizon time
-node_call_of (Pin page) = node_call.Pin page
-node_call_of (Unpin slot) = node_call.Unpin slot
-node_call_of (Read slot at len) = node_call.Read slot at len
-node_call_of (Write slot at bytes) = node_call.Write slot at bytes
-node_call_of Victim = node_call.Victim
-node_call_of WarmStep = node_call.WarmStep
-node_call_of Offer = node_call.Offer
-node_call_of (Send bucket after) = node_call.Send bucket after
+-- the call of a node that this is, unless it is one that writes back
+abbrev pub node_call_of : ShardCall → Option Call
+node_call_of (Absorb batch) = Some (node_call.Absorb batch)
+node_call_of (Raise time) = Some (node_call.Horizon time)
+node_call_of (Pin page) = Some (node_call.Pin page)
+node_call_of (Unpin slot) = Some (node_call.Unpin slot)
+node_call_of (Read slot at len) = Some (node_call.Read slot at len)
+node_call_of (Write slot at bytes) = Some (node_call.Write slot at bytes)
+node_call_of Victim = Some node_call.Victim
+node_call_of WarmStep = Some node_call.WarmStep
+node_call_of Offer = Some node_call.Offer
+node_call_of (Send bucket after) = Some (node_call.Send bucket after)
+node_call_of WritePages = None
+node_call_of WriteBack = None
 
 -- the reply of a node that this is, if it is one
 abbrev pub node_reply_of : ShardReply → Option Reply
@@ -75,10 +81,18 @@ IsOwn count number call = Unit {0}
 
 -- Steps
 
--- the step of a node with this reply, if it is one of a node
-abbrev pub NodeStep : NodeView → Call → Option Reply → NodeView → Type 0
-NodeStep old call (Some reply) new = Step old call reply new
+-- a call that writes back: a caller sees no change; or a device failed, and its count of failures
+-- has changed
+abbrev pub WritesBack : NodeView → Reply → NodeView → Type 0
+WritesBack old node_reply.Done new = new ≡ old
+WritesBack old (node_reply.Refused (Pool Fault)) new = OnPool IsFailed old new
+WritesBack old reply new = ⊥
+
+-- the step of a node with this reply, if it is one of a node; without a call, it writes back
+abbrev pub NodeStep : NodeView → Option Call → Option Reply → NodeView → Type 0
 NodeStep old call None new = ⊥
+NodeStep old (Some call) (Some reply) new = Step old call reply new
+NodeStep old None (Some reply) new = WritesBack old reply new
 
 -- Of a shard's state only the node changes, and it goes as nodes go. A call that brings a page of
 -- another shard is refused with `Foreign`, and nothing changes.
@@ -94,4 +108,19 @@ abbrev pub AnsweredAs : NodeState → ShardCall → Result ShardReply NodeFault 
 AnsweredAs old call (Ok reply) new =
     NodeStep (node_view old) (node_call_of call) (node_reply_of reply) (node_view new)
 AnsweredAs old call (Err why) new =
-    Step (node_view old) (node_call_of call) (node_reply.Refused why) (node_view new)
+    NodeStep (node_view old) (node_call_of call) (Some (node_reply.Refused why)) (node_view new)
+
+-- What a caller does not see of a shard that writes back: all its dirty pages were written, since no
+-- more are dirty than there are frames; or those before the one whose write failed. After `WriteBack`
+-- no page is dirty and no device is unflushed.
+abbrev pub LeavesWritten : NodeState → ShardCall → ShardReply → NodeState → Type 0
+LeavesWritten old WritePages Done new = CleansFirst (length old.pool.frames) old.pool new.pool
+LeavesWritten old WritePages (Refused why) new =
+    SomeFails (length old.pool.frames) old.pool new.pool
+LeavesWritten old WriteBack Done new = IsSettled new.pool
+LeavesWritten old call reply new = Unit {0}
+
+-- the same of a node that was asked to answer the call
+abbrev pub WrittenAs : NodeState → ShardCall → Result ShardReply NodeFault → NodeState → Type 0
+WrittenAs old call (Ok reply) new = LeavesWritten old call reply new
+WrittenAs old call (Err why) new = LeavesWritten old call (Refused why) new

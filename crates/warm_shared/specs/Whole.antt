@@ -6,8 +6,12 @@ use Rattle.warm_stamps.specs.declared.Reference.{Reference}
 use Rattle.warm_gossip.specs.declared.fault.NodeFault.TheVariants.{Memory}
 use Rattle.warm_shards.specs.Shards.{shard_of}
 use Rattle.warm_shared.specs.declared.call.ShardCall.TheVariants.{Absorb, Raise}
+use Rattle.warm_shared.specs.declared.call.ShardCall.TheVariants.{WritePages, WriteBack}
+use Rattle.warm_shared.specs.declared.call.ShardCall.{ShardCall}
 use Rattle.warm_shared.specs.declared.call.ShardReply.TheVariants.{Done, Kept}
 use Rattle.warm_shared.specs.declared.fault.SharedFault.{SharedFault}
+use Rattle.warm_shared.specs.declared.writing.NotWritten.{NotWritten}
+use Rattle.warm_shared.specs.declared.writing.NotWritten.TheVariants.{Pages, Devices}
 use Rattle.warm_shared.specs.declared.fault.SharedFault.TheVariants.{Node}
 use Rattle.warm_shared.specs.Attached.{ShardPass, shard_pass}
 use Rattle.warm_shared.specs.Clauses.{CallFails, Got}
@@ -58,3 +62,28 @@ pub record ArePartsOf (shards : ℕ) (batch : List Reference) (parts : List (Vec
   pub count : length parts ≡ shards
   pub each : (i : ℕ) (d : Vec Reference) → i < shards
       → (slice_index_or parts i d).items ≡ part_of shards i batch
+
+-- Writing back
+
+-- a shard made this call, which has no result, in one turn
+abbrev pub Does : ShardCall → ℕ → ShardPass → ShardPass → Type 0
+Does call i old new = Got old.view call Done new.view
+
+abbrev pub DoneFirst : ShardCall → ℕ → List ShardPass → List ShardPass → Type 0
+DoneFirst call k old new = First (Does call) k old new
+
+-- the shards below k made this call, and the shard k refused it or found no ticket
+abbrev pub DoneFails : ShardCall → ℕ → SharedFault → List ShardPass → List ShardPass → Type 0
+DoneFails call k why old new = (mid : List ShardPass) × (k < length old)
+    × DoneFirst call k old mid × CallFails mid k call why new
+
+-- each shard wrote its pages in one turn, and then each wrote back in one more
+abbrev pub WritesBackAll : List ShardPass → List ShardPass → Type 0
+WritesBackAll old new = (mid : List ShardPass) × DoneFirst WritePages (length old) old mid
+    × DoneFirst WriteBack (length old) mid new
+
+-- a page of one shard was not written; or all were, and a device of one was not flushed
+abbrev pub WriteBackStops : NotWritten → List ShardPass → List ShardPass → Type 0
+WriteBackStops (Pages at) old new = DoneFails WritePages at.shard at.fault old new
+WriteBackStops (Devices at) old new = (mid : List ShardPass)
+    × DoneFirst WritePages (length old) old mid × DoneFails WriteBack at.shard at.fault mid new

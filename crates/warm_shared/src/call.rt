@@ -9,7 +9,7 @@ use warm_gossip::NodeFault;
 use warm_pool::Slot;
 use warm_stamps::{Bucket, ByteList, PageId, RefList};
 
-/// A call of a shard: a call of its node.
+/// A call of a shard: a call of its node, or one that writes back.
 #[derive(Drop)]
 pub enum ShardCall {
     /// Add these references to the history. All must be to pages of the shard.
@@ -51,6 +51,10 @@ pub enum ShardCall {
         /// The page after which they begin, or `None` for the first of the bucket.
         after: Option<PageId>,
     },
+    /// Write back all dirty pages of the shard. No device is flushed.
+    WritePages,
+    /// Write back the dirty pages of the shard, and flush its unflushed devices.
+    WriteBack,
 }
 
 /// A reply of a shard.

@@ -91,6 +91,32 @@ fn absorb_parts<D: PageDevice + Send, R: Wait>(
     Ok(())
 }
 
+// Splits a batch, and has each shard that has a part absorb it.
+pub(crate) fn absorb_all<D: PageDevice + Send, R: Wait>(
+    rt: &R,
+    alloc: Global,
+    turns: &Vec<Turn<Shard<D>>>,
+    passes: &mut Vec<Pass<Shard<D>>>,
+    batch: &[Reference],
+) -> Result<(), Stopped>
+    requires turns { AreTurns turns.now.items }
+    requires passes { AreOf turns.now.items passes.old.items }
+    ensures passes { AreOf turns.now.items passes.new.items }
+    ensures absorbed { OnOk result (AbsorbsFirst batch.now (length turns.now.items)
+        passes.old.items passes.new.items) }
+    ensures stopped { IfErr result (λ at. AbsorbFails batch.now at.shard at.fault passes.old.items
+        passes.new.items) }
+{
+    let Ok(parts) = parts_of(alloc, batch, turns.len()) else {
+        return Err(Stopped {
+            fault: SharedFault::Node(NodeFault::Memory),
+            shard: 0,
+        });
+    };
+    absorb_parts(rt, turns, passes, batch, parts)?;
+    Ok(())
+}
+
 // Raises the horizon of one shard.
 fn raise_in<D: PageDevice + Send, R: Wait>(
     rt: &R,
@@ -161,13 +187,7 @@ impl<D: PageDevice + Send> SharedShards<D> {
             attached.old.passes attached.new.passes) }
         ensures pins { attached.new.pins ≡ attached.old.pins }
     {
-        let Ok(parts) = parts_of(alloc, batch, self.turns.len()) else {
-            return Err(Stopped {
-                fault: SharedFault::Node(NodeFault::Memory),
-                shard: 0,
-            });
-        };
-        absorb_parts(rt, &self.turns, &mut attached.passes, batch, parts)?;
+        absorb_all(rt, alloc, &self.turns, &mut attached.passes, batch)?;
         Ok(())
     }
 

@@ -4,17 +4,21 @@
 mod attaching;
 mod call;
 mod fault;
+mod gossip;
 mod history_calls;
 pub mod laws;
 mod pool_calls;
 mod shard;
 mod shared;
 mod sharing;
+mod writing;
 
 pub use attaching::{NotClosed, NotDetached};
 pub use call::{BoxedMessage, ShardCall, ShardReply};
 pub use fault::SharedFault;
+pub use gossip::NotReceived;
 pub use history_calls::Stopped;
 pub use shard::{Shard, ViewOfShard};
 pub use shared::{Attached, SharedShards};
 pub use sharing::Sharing;
+pub use writing::NotWritten;

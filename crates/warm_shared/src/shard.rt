@@ -1,11 +1,13 @@
 //! One shard as a machine that threads share by turns.
-ghost use Rattle.std.specs.Prelude.{◌≡◌, ◌↔◌, IsTrue};
+ghost use Rattle.std.specs.Prelude.{◌≡◌, ◌↔◌, IfErr, IsTrue, OnErr, OnOk, length};
+ghost use Rattle.warm_pool.specs.WritingSome.{CleansFirst, SomeFails};
 ghost use Rattle.std.specs.List.{All};
 ghost use Rattle.warm_gossip.specs.declared.call.Call.TheVariants.{Offer, Send};
 ghost use Rattle.warm_gossip.specs.declared.call.Reply.TheVariants.{Sent};
-ghost use Rattle.warm_gossip.specs.Clauses.{Answered};
+ghost use Rattle.warm_gossip.specs.Clauses.{Answered, NodeWriteBackFails, SameView};
 ghost use Rattle.warm_shards.specs.Shards.{IsShardCount, shard_of};
-ghost use Rattle.warm_shared.specs.ShardSteps.{AnsweredAs, IsOwn, ShardStep, shard_view};
+ghost use Rattle.warm_shared.specs.ShardSteps.{AnsweredAs, IsOwn, LeavesWritten, ShardStep};
+ghost use Rattle.warm_shared.specs.ShardSteps.{WrittenAs, shard_view};
 
 use crate::call::{BoxedMessage, ShardCall, ShardReply};
 use std::alloc::Global;
@@ -108,13 +110,29 @@ fn sent<D: PageDevice>(
     Ok(boxed)
 }
 
+// Writes back all dirty pages of a node. No device is flushed.
+fn write_pages<D: PageDevice>(node: &mut Node<D>) -> Result<(), NodeFault>
+    ensures same { OnOk result (SameView node.old node.new) }
+    ensures written { OnOk result (CleansFirst (length node.old.pool.frames) node.old.pool
+        node.new.pool) }
+    ensures refused { IfErr result (λ why. NodeWriteBackFails node.old why node.new) }
+    ensures failed { OnErr result (SomeFails (length node.old.pool.frames) node.old.pool
+        node.new.pool) }
+{
+    // No more pages are dirty than there are frames.
+    let frames = node.pool().frames();
+    node.write_back_some(frames)?;
+    Ok(())
+}
+
 // Has the node answer the call, or returns why it is refused.
 fn answer<D: PageDevice>(
     alloc: Global,
     node: &mut Node<D>,
     call: ShardCall,
 ) -> Result<ShardReply, NodeFault>
-    ensures { AnsweredAs node.old call result node.new }
+    ensures answered { AnsweredAs node.old call result node.new }
+    ensures written { WrittenAs node.old call result node.new }
 {
     match call {
         ShardCall::Absorb(batch) => {
@@ -138,6 +156,14 @@ fn answer<D: PageDevice>(
         ShardCall::Send { bucket, after } => {
             Ok(ShardReply::Sent(sent(alloc, node, bucket, after)?))
         }
+        ShardCall::WritePages => {
+            write_pages(node)?;
+            Ok(ShardReply::Done)
+        }
+        ShardCall::WriteBack => {
+            node.write_back()?;
+            Ok(ShardReply::Done)
+        }
     }
 }
 
@@ -156,9 +182,11 @@ impl<D: PageDevice> Shard<D> {
     }
 
     /// Answers a call: `ShardStep`. A call that brings a page of another shard is answered `Foreign`,
-    /// and nothing has changed.
+    /// and nothing has changed. What `WritePages` and `WriteBack` leave of dirty pages and unflushed
+    /// devices, no caller of the shard sees: `LeavesWritten`.
     pub fn call(&mut self, call: ShardCall) -> ShardReply
         ensures step { ShardStep (shard_view self.old) call result (shard_view self.new) }
+        ensures written { LeavesWritten self.old.node call result self.new.node }
     {
         if !is_own(self.count, self.number, &call) {
             return ShardReply::Foreign;
