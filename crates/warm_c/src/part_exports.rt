@@ -316,12 +316,7 @@ pub extern "C" fn node_join_part(
 /// # Errors
 /// Those of `node_forget`. Nothing changes in any case.
 #[unsafe(no_mangle)]
-pub extern "C" fn node_may_forget(
-    alloc: Global,
-    handle: &mut Handle,
-    dev: u16,
-    from: u64,
-) -> i32
+pub extern "C" fn node_may_forget(alloc: Global, handle: &mut Handle, dev: u16, from: u64) -> i32
     ensures { Called (SaysMayForget dev from) handle.old.held.node result handle.new.held.node }
 {
     let Some(node) = handle.take(alloc) else {
