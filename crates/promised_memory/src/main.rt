@@ -39,7 +39,7 @@ fn play<P: Print>(rt: &P, met: &mut Met, alloc: Global) -> Result<(), Ended> {
     let sharded = Sharded::new(alloc)?;
     // from here on nothing is allocated
     calls::rows(rt, met, &mut node, ByteList::of(bytes))?;
-    sharded.rows(rt, met)?;
+    sharded.rows(rt, met, alloc)?;
     made.rows(rt, met)?;
     calls::contested(rt, met, contest)?;
     worlds::rows(rt, met, world)?;

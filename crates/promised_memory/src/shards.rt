@@ -48,13 +48,19 @@ impl Sharded {
         Ok(Sharded { shards, device })
     }
 
-    pub(crate) fn rows<P: Print>(self, rt: &P, met: &mut Met) -> Result<(), Ended> {
+    pub(crate) fn rows<P: Print>(
+        self,
+        rt: &P,
+        met: &mut Met,
+        alloc: Global,
+    ) -> Result<(), Ended> {
         let Sharded { mut shards, device } = self;
         let at = pinned(rt, met, &mut shards)?;
         written(rt, met, &mut shards, at)?;
         one_shard(rt, met, &mut shards)?;
         retired(rt, met, &mut shards, device)?;
-        all_shards(rt, met, &mut shards)
+        all_shards(rt, met, &mut shards)?;
+        formed(rt, met, alloc, shards)
     }
 }
 
@@ -142,4 +148,16 @@ fn all_shards<P: Print>(rt: &P, met: &mut Met, shards: &mut TwoShards) -> Result
     met.holds(shards.raise(2) == 2, "a raise of shards is refused")?;
     takes_none(rt, "restart of shards")?;
     met.holds(shards.restart().is_ok(), "shards do not restart")
+}
+
+fn formed<P: Print>(
+    rt: &P,
+    met: &mut Met,
+    alloc: Global,
+    shards: TwoShards,
+) -> Result<(), Ended> {
+    let id = shards.id();
+    takes_none(rt, "from_nodes of shards")?;
+    let formed = Shards::from_nodes(alloc, id, shards.into_nodes());
+    met.holds(formed.is_ok(), "nodes of shards are no shards")
 }

@@ -66,6 +66,7 @@ fn faults_of_shards_are_shown_by_their_names(rt: HostRuntime) {
     assert!(rt; displays(alloc, &ShardsFault::BadCount, "BadCount"));
     assert!(rt; displays(alloc, &ShardsFault::Uneven, "Uneven"));
     assert!(rt; displays(alloc, &ShardsFault::NotOpened, "NotOpened"));
+    assert!(rt; displays(alloc, &ShardsFault::NotShards, "NotShards"));
 }
 
 #[test]

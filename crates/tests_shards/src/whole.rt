@@ -121,7 +121,7 @@ fn shards_restart(rt: HostRuntime) {
 }
 
 #[test]
-fn a_pinned_page_stops_a_restart_at_its_shard(rt: HostRuntime) {
+fn no_shard_restarts_where_a_page_is_pinned(rt: HostRuntime) {
     let alloc = rt.alloc();
     let mut two = two_over(&rt, alloc, 0, 0);
     let given = batch(&rt, alloc, &[(0, 1, 5, 1), (0, 2, 6, 1), (0, 4, 7, 1)]);
@@ -131,14 +131,13 @@ fn a_pinned_page_stops_a_restart_at_its_shard(rt: HostRuntime) {
     let at = write(&rt, &mut two, 1);
     assert!(rt; at.shard == 1);
     assert!(rt; two.restart() == FIXED);
-    // All was written back. The first shard has forgotten its two pages, and has the horizon of all.
-    assert!(rt; is_seen(&two, 0, [0, 0, 0]) && is_seen(&two, 1, [0, 1, 1]));
+    // Nothing was written back, and nothing was forgotten.
+    assert!(rt; is_seen(&two, 0, [1, 1, 2]) && is_seen(&two, 1, [1, 1, 1]));
     assert!(rt; two.horizon() == 3);
-    assert!(rt; two.absorb(&batch(&rt, alloc, &[(0, 2, 2, 1)])).is_ok());
-    assert!(rt; is_seen(&two, 0, [0, 0, 0]));
     assert!(rt; two.unpin(at).is_ok());
     assert!(rt; two.restart() == Ok(()));
-    assert!(rt; is_seen(&two, 1, [0, 0, 0]) && two.horizon() == 0);
+    assert!(rt; is_seen(&two, 0, [0, 0, 0]) && is_seen(&two, 1, [0, 0, 0]));
+    assert!(rt; two.horizon() == 0);
 }
 
 #[test]
@@ -167,13 +166,13 @@ fn pages_are_forgotten_in_each_shard(rt: HostRuntime) {
 }
 
 #[test]
-fn a_pinned_page_stops_forgetting_at_its_shard(rt: HostRuntime) {
+fn no_shard_forgets_where_a_page_is_pinned(rt: HostRuntime) {
     let mut two = two_over(&rt, rt.alloc(), 0, 0);
     change(&rt, &mut two, 2);
     let at = write(&rt, &mut two, 1);
     assert!(rt; two.forget_pages(0, 0) == FIXED);
-    assert!(rt; is_seen(&two, 0, [0, 0, 0]) && is_seen(&two, 1, [1, 1, 0]));
+    assert!(rt; is_seen(&two, 0, [1, 1, 0]) && is_seen(&two, 1, [1, 1, 0]));
     assert!(rt; two.unpin(at).is_ok());
     assert!(rt; two.forget_pages(0, 0) == Ok(()));
-    assert!(rt; is_seen(&two, 1, [0, 0, 0]));
+    assert!(rt; is_seen(&two, 0, [0, 0, 0]) && is_seen(&two, 1, [0, 0, 0]));
 }
