@@ -44,7 +44,7 @@ OfPart shards shard ending same goes =
 
 -- Frames of the pool
 
--- so many frames are divided evenly among the shards, and how many each has is written; a refused
+-- this many frames are divided evenly among the shards, and how many each has is written; a refused
 -- call writes nothing
 abbrev pub Divides : ℕ → ℕ → ℕ → ℕ → Ending → Type 0
 Divides frames shards before each (Ok given) = IsShardCount shards × (each * shards ≡ frames)
