@@ -1,5 +1,5 @@
 -- What is for one shard: the bits of shards, and parts of entries.
-use Rattle.std.proofs.Common.{◌≡◌, inl, inr, ℕ, ◌+◌, ◌<◌, ◌^◌, Bool, List, [], ◌∷◌, ◌++◌, map, length, take, get_or, Contains, refl, sym, ap, subst, ◌∙◌, arith, nat_eq, not}
+use Rattle.std.proofs.Common.{inl, inr, ℕ, ◌+◌, ◌<◌, ◌^◌, Bool, List, [], ◌∷◌, ◌++◌, map, length, take, get_or, Contains, refl, sym, ap, subst, ◌∙◌, arith, nat_eq, not}
 use Rattle.std.specs.Prelude.{bit_or}
 use Rattle.std.specs.Int.{bit_at}
 use Rattle.std.specs.Ordering.{on}

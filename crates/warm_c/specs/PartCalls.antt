@@ -1,5 +1,5 @@
 -- What a call of one shard does to what its open handle holds, and what it writes.
-use Rattle.std.specs.Prelude.{◌≡◌, ◌⊎◌, ℕ, ℤ, pos, max, List, [], map, Option, Some, None, Ok, Err}
+use Rattle.std.specs.Prelude.{◌≡◌, ℕ, ℤ, pos, max, List, [], Option, Some, None, Ok, Err}
 use denote.RawPtr.{Ptr}
 use Rattle.warm_history.specs.Histories.{HistoryView, entries_of}
 use Rattle.warm_digest.specs.BucketDigests.{digests_of}
