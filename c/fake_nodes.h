@@ -338,14 +338,6 @@ int node_gather(node *into, node *from) {
     return fake_out(into, WARM_OK);
 }
 
-int node_join_part(node *into, size_t shards, size_t number, node *from) {
-    if (!fake_memory()) return WARM_MEMORY;
-    MUST(number < shards);
-    fake_in(into)->known += fake_in(from)->known / shards;
-    fake_out(from, WARM_OK);
-    return fake_out(into, WARM_OK);
-}
-
 /* A descriptor of 0 or more is written. */
 int node_save(node *of, int fd) {
     fake_in(of);

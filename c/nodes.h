@@ -63,14 +63,14 @@ int node_status_name(int status, uint8_t *name, size_t room, size_t *length);
  * function returns a status, it is WARM_BAD_SHARDS first, then WARM_NO_SHARD, where they are not so.
  */
 
-/* The shard of a page: its bucket, modulo shards. 0 where there cannot be so many shards. */
+/* The shard of a page: its bucket, modulo shards. 0 where there cannot be this many shards. */
 uint32_t node_shard_of(size_t shards, warm_page page);
 
 /* Writes how many frames each shard has.
  * Refused: WARM_BAD_SHARDS, WARM_UNEVEN_FRAMES. */
 int node_divide(size_t frames, size_t shards, size_t *each);
 
-/* Which shards a batch is for: bit i where a reference is to a page of shard i. 0 where there cannot be so many shards. */
+/* Which shards a batch is for: bit i where a reference is to a page of shard i. 0 where there cannot be this many shards. */
 uint64_t node_shards_of(size_t shards, const warm_reference *references, size_t count);
 
 /* Absorbs those references of the batch whose pages are of the shard, all of them or none.
@@ -128,10 +128,6 @@ int node_want_frame(uint16_t replica, uint64_t horizon, uint64_t buckets, uint8_
  * it was. All or nothing.
  * Refused: WARM_CLOSED where one of them is closed; WARM_MEMORY. */
 int node_gather(node *into, node *from);
-
-/* Joins those entries of a node's history whose pages are of the shard to the history of another, at the later horizon of both.
- * Refused: WARM_CLOSED where one of them is closed; WARM_MEMORY. */
-int node_join_part(node *into, size_t shards, size_t shard, node *from);
 
 /* Whether node_forget would forget these pages, or what it would be refused with. Nothing changes. */
 int node_may_forget(node *handle, uint16_t dev, uint64_t from);

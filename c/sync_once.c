@@ -95,8 +95,8 @@ static int sync_file(int fd) {
     return status;
 }
 
-/* Syncs what was not synced before, and notes what came of it. Only one thread is in here for a descriptor: another one that was told of a success
- * could have lost pages by a failure that the system tells once. */
+/* Syncs what was not synced before, and notes what came of it. Only one thread is in here for a descriptor: another one that learned of a success
+ * could have lost pages by a failure that the system reports once. */
 static void sync_rest(counted *its) {
     uint64_t writes = writes_of(its);
     if (its->error != 0 || writes == its->synced) return;

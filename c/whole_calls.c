@@ -141,8 +141,7 @@ static int send_bucket(node *from, uint8_t bucket, node *to, uint8_t *frame) {
     return status;
 }
 
-/* Joins what a history has of a shard's buckets to the shard, by way of a history of these alone, so that the shard gets all of them or none.
- * node_join_part would do so in one call, and takes more stack than a call may. */
+/* Joins what a history has of a shard's buckets to the shard, by way of a history of these alone, so that the shard gets all of them or none. */
 static int join_shard(opened *its, size_t number, node *all, uint8_t *frame) {
     node part = {0};
     shard *in = &its->shards[number];

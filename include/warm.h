@@ -205,7 +205,7 @@ enum {
     WARM_DUMP_NOT_WRITTEN = 82  /* its file could not be written or synced; the name of this status is WriteFault */
 };
 
-/* Opens a closed handle: this replica (1 to 64), of so many shards (1, 2, 4, 8, 16, 32 or 64), with a pool of empty frames for pages of page_size
+/* Opens a closed handle: this replica (1 to 64), of this many shards (1, 2, 4, 8, 16, 32 or 64), with a pool of empty frames for pages of page_size
  * bytes (1 to 65,536) over these devices, and an empty history. frames are those of all shards together, of which each gets as many: 1 to
  * 65,536. All memory of the pool is allocated here, frames * page_size bytes and more.
  * A replica has at most 65,536 devices, and the pages of each fit into 2^63 - 1 bytes. The descriptors are not closed later, and all that is

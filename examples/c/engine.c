@@ -1,6 +1,6 @@
 /* What an engine does that holds the pool: it reads and writes pages where they lie, makes new ones, asks which are in memory, writes them back
  * some at a time, cuts and replaces files, sends what is new of its history, and looks at what was counted and what failed. After each refusal what
- * was there before is still there. engine SHARDS: all pages are of the last of so many shards. */
+ * was there before is still there. engine SHARDS: all pages are of the last of this many shards. */
 #define _GNU_SOURCE /* mkstemp */
 #include <errno.h>
 #include <fcntl.h>

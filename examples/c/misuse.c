@@ -1,6 +1,6 @@
 /* What is refused, and by which status: closed handles, stale slots, short buffers, damaged frames and dumps, bad descriptors, full disks. After each
- * refusal what was there before is still there. Prints each refused call with the name of its status. misuse SHARDS [FOLDER]: a replica has so
- * many shards, and its pages are of the last one; FOLDER is one on an empty disk of four blocks of 4,096 bytes. */
+ * refusal what was there before is still there. Prints each refused call with the name of its status. misuse SHARDS [FOLDER]: a replica has
+ * this many shards, and its pages are of the last one; FOLDER is one on an empty disk of four blocks of 4,096 bytes. */
 #define _GNU_SOURCE
 #include <fcntl.h>
 #include <signal.h>

@@ -1,6 +1,6 @@
 /* Each allocation of a call fails in turn, until the call succeeds: it returns WARM_MEMORY, and what was there before is still there. What
  * allocates nothing succeeds while every allocation fails. The check links malloc and realloc to the functions below (ld --wrap). refused SHARDS: a
- * replica has so many. A call on several of them may be refused with a part of it done, and is whole once it succeeds. */
+ * replica has this many. A call on several of them may be refused with a part of it done, and is whole once it succeeds. */
 #define _GNU_SOURCE /* mkstemp */
 #define PROGRAM "refused"
 #include "expect.h"

@@ -1,6 +1,6 @@
 /* Replicas of several shards. What one sends, lists and saves has the bytes of one with a single shard. Handles are attached and closed, and
  * refused where pins or other handles are left. A write-back of all shards syncs each file once, and a sync that failed is remembered
- * for all of them. A device is replaced in all shards or in none. And a pool of more frames than one shard has. shards SHARDS: so many. The program
+ * for all of them. A device is replaced in all shards or in none. And a pool of more frames than one shard has. shards SHARDS: this many. The program
  * has an fsync of its own, which counts. */
 #define _GNU_SOURCE /* mkstemp, syscall */
 #include <errno.h>

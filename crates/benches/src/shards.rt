@@ -118,7 +118,7 @@ fn hit_often<M: Measured>(on: &mut M, mask: u64, hits: u64) -> Result<u64, NodeF
     Ok(checksum)
 }
 
-// Absorbs batches of references at rising times, in a buffer that is filled anew for each.
+// Absorbs batches of references at rising times, in one buffer that each of them fills.
 fn take_often<M: Measured>(
     on: &mut M,
     id: ReplicaId,
@@ -192,11 +192,11 @@ fn shards_over(alloc: Global, id: ReplicaId, count: u64, frames: u64) -> Result<
     }
     match Shards::new(alloc, id, nodes) {
         Ok(shards) => Ok(shards),
-        Err(_) => bail!("so many nodes are no shards"),
+        Err(_) => bail!("these nodes cannot be shards"),
     }
 }
 
-// The run of so many shards, or of a plain node where there is none.
+// The run of this many shards, or of a plain node where the count is 0.
 fn run_of<T: Clock + AllocGlobal>(rt: &T, count: u64, load: Load) -> Result<Run> {
     let id = replica(1)?;
     if count == 0 {

@@ -1,11 +1,9 @@
 -- The devices of `node_open`: those made so far, and why none are made.
-use Rattle.std.proofs.Common.{◌≡◌, ◌<◌, ◌+◌, ℕ, ℤ, List, [], ◌∷◌, ◌++◌, Contains, ⊎_elim, add-one, ap, ◌∙◌, get_or, length, map, refl, sym, subst, take, take-suc}
+use Rattle.std.proofs.Common.{◌≡◌, inl, inr, ◌<◌, ◌+◌, ℕ, ℤ, List, [], ◌∷◌, ◌++◌, Contains, ⊎_elim, add-one, ap, ◌∙◌, get_or, length, map, refl, sym, subst, take, take-suc}
 use Rattle.std.proofs.lemmas.List.Elements.{Contains-push_cases}
-use Rattle.warm_gossip.specs.declared.fault.NodeFault.TheVariants.{Memory, Pool, StaleSlot}
 use Rattle.warm_devices.specs.Device.{DeviceState}
 use Rattle.warm_c.specs.declared.fd_device.FdDevice.{FdDevice}
 use Rattle.warm_c.specs.declared.status.Refusal.{Refusal}
-use Rattle.warm_c.specs.declared.status.Refusal.TheVariants.{Node, NewPool, Frame, Closed, AlreadyOpen, BufferTooSmall, BadReplica, BadBucket, SameFile, Late, BadShards, UnevenFrames, Attached, PinsLeft, NoShard, Dump}
 use Rattle.warm_c.specs.declared.values.WarmDevice.{WarmDevice}
 use Rattle.warm_c.specs.FdParts.{fd_opened, fd_state}
 use Rattle.warm_c.specs.Handles.{AreDevices, IsClash, DevicesRefused, fd_devices}
@@ -13,24 +11,8 @@ use Rattle.warm_c.specs.Handles.{AreDevices, IsClash, DevicesRefused, fd_devices
 -- devices that may be opened, each by itself, but not together
 pub clash_refuses : (page_size : ℕ) (devices : List WarmDevice) (why : Refusal)
     → AreDevices page_size devices → IsClash devices why → DevicesRefused page_size devices why
-clash_refuses page_size devices (Node Memory) are clash = tt
-clash_refuses page_size devices (Node (Pool _)) are clash = absurd clash
-clash_refuses page_size devices (Node StaleSlot) are clash = absurd clash
-clash_refuses page_size devices (NewPool _) are clash = absurd clash
-clash_refuses page_size devices (Frame _) are clash = absurd clash
-clash_refuses page_size devices Closed are clash = absurd clash
-clash_refuses page_size devices AlreadyOpen are clash = absurd clash
-clash_refuses page_size devices BufferTooSmall are clash = absurd clash
-clash_refuses page_size devices BadReplica are clash = absurd clash
-clash_refuses page_size devices BadBucket are clash = absurd clash
-clash_refuses page_size devices SameFile are clash = (are, clash)
-clash_refuses page_size devices (Late _) are clash = absurd clash
-clash_refuses page_size devices BadShards are clash = absurd clash
-clash_refuses page_size devices UnevenFrames are clash = absurd clash
-clash_refuses page_size devices Attached are clash = absurd clash
-clash_refuses page_size devices PinsLeft are clash = absurd clash
-clash_refuses page_size devices NoShard are clash = absurd clash
-clash_refuses page_size devices (Dump _) are clash = absurd clash
+clash_refuses page_size devices why are (inl memory) = subst (DevicesRefused page_size devices) (sym memory) tt
+clash_refuses page_size devices why are (inr clash) = subst (DevicesRefused page_size devices) (sym clash.0) (are, clash.1)
 
 -- what holds of the first i items, and of the next one, holds of the first i + 1
 pub contains_next : {A : Type 0} (xs : List A) (i : ℕ) (x : A) (P : A → Type 0) → i < length xs

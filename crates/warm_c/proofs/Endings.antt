@@ -7,7 +7,6 @@ use Rattle.warm_c.specs.Statuses.{code_of, status_of}
 use Rattle.warm_c.specs.Calls.{Ending}
 use Rattle.warm_c.specs.Values.{IsBool}
 use Rattle.warm_c.specs.Handles.{OpenRequest, Called, OpenRefused, Opens}
-use Rattle.warm_c.specs.PartCalls.{CalledWith}
 
 -- an open handle, which holds something before and after
 pub called : (goes : OpenNode → Ending → OpenNode → Type 0) (before after : Option OpenNode)
@@ -16,17 +15,6 @@ pub called : (goes : OpenNode → Ending → OpenNode → Type 0) (before after 
     → Called goes before status after
 called goes before after status old new ending was is went said =
     subst (λ (o : Option OpenNode). Called goes o status after) (sym was) (subst (λ (o : Option OpenNode). Called goes (Some old) status o) (sym is) (ending, went, said))
-
--- two open handles
-pub called_with : (goes : OpenNode → OpenNode → Ending → OpenNode → Type 0)
-    (into from into' from' : Option OpenNode) (status : ℤ) (old other new : OpenNode)
-    (ending : Ending) → into ≡ Some old → from ≡ Some other → into' ≡ Some new
-    → from' ≡ Some other → goes other old ending new → status ≡ status_of ending
-    → CalledWith goes into from status into' from'
-called_with goes into from into' from' status old other new ending was beside is same went said =
-    subst (λ (o : Option OpenNode). CalledWith goes o from status into' from') (sym was)
-    (subst (λ (o : Option OpenNode). CalledWith goes (Some old) o status into' from') (sym beside)
-    (subst (λ (o : Option OpenNode). CalledWith goes (Some old) (Some other) status o from') (sym is) (ending, went, said, same)))
 
 -- a closed one of which none was made
 pub open_refused : (a : OpenRequest) (before after : Option OpenNode) (status : ℤ) (why : Refusal)

@@ -1,5 +1,5 @@
 -- Where each shard has had its part, all together have had the whole.
-use Rattle.std.proofs.Common.{◌≡◌, ◌≢◌, inl, inr, ℕ, zero, suc, ◌+◌, ◌<◌, ◌≤◌, Bool, true, false, cond, List, [], ◌∷◌, ◌++◌, map, filter, length, set, take, max, nat_eq, refl, sym, ap, subst, ◌∙◌, arith, add-one, take_all}
+use Rattle.std.proofs.Common.{◌≡◌, inl, inr, ℕ, zero, suc, ◌+◌, ◌<◌, ◌≤◌, Bool, true, false, cond, List, [], ◌∷◌, ◌++◌, map, filter, length, set, take, max, nat_eq, refl, sym, ap, subst, ◌∙◌, arith, add-one, take_all}
 use Rattle.std.proofs.lemmas.Bool.{cases_eq}
 use Rattle.std.proofs.lemmas.List.{append-nil, ext_get_or, get_or-set_other, get_or-set_same, length-set}
 use Rattle.std.proofs.lemmas.List.Elements.{filter-append}
@@ -13,7 +13,6 @@ use Rattle.warm_history.specs.Histories.{HistoryView, entries_of, history, join,
 use Rattle.warm_history.proofs.JoinLemmas.{history_first}
 use Rattle.warm_frames.specs.declared.message.Message.{Message}
 use Rattle.warm_frames.specs.declared.message.Message.TheVariants.{Digest, Entries, Want}
-use Rattle.warm_frames.specs.Limits.{entries_in, horizon_in}
 use Rattle.warm_digest.specs.BucketDigests.{digests_of}
 use Rattle.warm_gossip.specs.Answers.{refs_in}
 use Rattle.warm_gossip.specs.State.{NodeState, NodeView}
@@ -23,7 +22,7 @@ use Rattle.warm_shards.proofs.Absorbing.{some_count, some_shards}
 use Rattle.warm_shards.proofs.Gathering.{AreGathered, all_gathered, digest_whole, gathered_more}
 use Rattle.warm_shards.proofs.Parts.{all_parts, next_part, no_part}
 use Rattle.warm_shards.proofs.Taking.{none_joined, one_takes, whole_more}
-use Rattle.warm_c.specs.Laws.{BatchIsOfParts, DigestsAreGathered, EachGoes, GatheredIsWhole, HistoryIsOfParts, MessageIsOfParts, OneTakesIn}
+use Rattle.warm_c.specs.Laws.{BatchIsOfParts, DigestsAreGathered, GatheredIsWhole, HistoryIsOfParts, MessageIsOfParts, OneTakesIn}
 use Rattle.warm_c.specs.Parts.{part_of_entries, part_of_message}
 use Rattle.warm_c.specs.Values.{reference_of}
 

@@ -1,5 +1,5 @@
 -- What the calls on the devices of a handle do.
-use Rattle.std.specs.Prelude.{ℕ, ◌*◌, ◌^◌, ◌<◌, ◌≡◌, List, length, set, Ok, Err}
+use Rattle.std.specs.Prelude.{ℕ, ◌*◌, ◌^◌, ◌<◌, ◌≡◌, ◌⊎◌, List, length, set, Ok, Err}
 use Rattle.warm_devices.specs.Device.{DeviceState}
 use Rattle.warm_pool.specs.Retiring.{RetireRefused, Retired}
 use Rattle.warm_pool.specs.View.{view_of}
@@ -66,13 +66,15 @@ Replaces dev d old (Err why) new = ReplaceRefused dev d old why new
 
 -- Asking before
 
--- whether the new device could stand in the place of the old one, by what is known before a page of
+-- why the new device could not stand in the place of the old one, by what is known before a page of
 -- the old one is looked at
+abbrev pub MayNotStand : ℕ → WarmDevice → OpenNode → Refusal → Type 0
+MayNotStand dev d h why = (why ≡ Node Memory)
+    ⊎ ((why ≡ Node (Pool NoDevice)) × (MayStand dev d h → ⊥))
+    ⊎ ((why ≡ SameFile) × MayStand dev d h × HaveOneFile (devices_after dev d h))
+
+-- whether it could
 abbrev pub SaysMayStand : ℕ → WarmDevice → OpenNode → Ending → OpenNode → Type 0
 SaysMayStand dev d h (Ok given) new = MayStand dev d h × DescriptorsDiffer (devices_after dev d h)
     × (new ≡ h)
-SaysMayStand dev d h (Err (Node Memory)) new = new ≡ h
-SaysMayStand dev d h (Err (Node (Pool NoDevice))) new = (MayStand dev d h → ⊥) × (new ≡ h)
-SaysMayStand dev d h (Err SameFile) new = MayStand dev d h
-    × HaveOneFile (devices_after dev d h) × (new ≡ h)
-SaysMayStand dev d h (Err why) new = ⊥
+SaysMayStand dev d h (Err why) new = MayNotStand dev d h why × (new ≡ h)

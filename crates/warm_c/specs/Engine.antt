@@ -42,7 +42,7 @@ PinsZeroed page before after old (Err why) new = ⊥
 
 -- Writing back
 
--- at most so many pages are written back, and how many are dirty still is given; a refused call
+-- at most this many pages are written back, and how many are still dirty is given; a refused call
 -- gives nothing
 abbrev pub WritesSome : ℕ → ℕ → ℕ → OpenNode → Ending → OpenNode → Type 0
 WritesSome limit before left old (Ok given) new = SameView old.node new.node

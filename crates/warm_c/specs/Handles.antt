@@ -72,9 +72,7 @@ HaveOneFile devices = (DescriptorsDiffer devices → ⊥)
 
 -- why devices are not checked to be of different files
 abbrev pub IsClash : List WarmDevice → Refusal → Type 0
-IsClash devices (Node Memory) = Unit {0}
-IsClash devices SameFile = HaveOneFile devices
-IsClash devices why = ⊥
+IsClash devices why = (why ≡ Node Memory) ⊎ ((why ≡ SameFile) × HaveOneFile devices)
 
 -- a request that may be granted: the replica's number is one, and the devices may be opened
 pub record MayOpen (a : OpenRequest) : Type 0 where

@@ -1,5 +1,5 @@
 -- What a call of one shard does to what its open handle holds, and what it writes.
-use Rattle.std.specs.Prelude.{◌≡◌, ◌⊎◌, ℕ, ℤ, pos, max, List, [], map, Option, Some, None, Ok, Err}
+use Rattle.std.specs.Prelude.{◌≡◌, ℕ, ℤ, pos, max, List, [], Option, Some, None, Ok, Err}
 use denote.RawPtr.{Ptr}
 use Rattle.warm_history.specs.Histories.{HistoryView, entries_of}
 use Rattle.warm_digest.specs.BucketDigests.{digests_of}
@@ -17,7 +17,7 @@ use Rattle.warm_c.specs.declared.values.PinnedSlot.{PinnedSlot}
 use Rattle.warm_c.specs.declared.values.WarmPage.{WarmPage}
 use Rattle.warm_c.specs.declared.values.WarmReference.{WarmReference}
 use Rattle.warm_c.specs.Calls.{Ending, HasBadReplica, Pins, RefusedByNode, Replies, SameBeside}
-use Rattle.warm_c.specs.Parts.{AreReplicas, OfPart, part_of_batch, part_of_history, part_of_message}
+use Rattle.warm_c.specs.Parts.{AreReplicas, OfPart, part_of_batch, part_of_message}
 use Rattle.warm_c.specs.Statuses.{code_of, status_of}
 
 -- the node has absorbed the references of the batch to pages of the shard, and no others; no reference
@@ -92,22 +92,13 @@ GivesDigests shards shard before after old ending new =
 
 -- Joining what another node holds
 
--- the node has joined this history; or an allocation failed, and nothing has changed that a caller
--- sees
-abbrev pub JoinsIn : HistoryView → OpenNode → Ending → OpenNode → Type 0
-JoinsIn h old (Ok given) new = Joins old.node h new.node × SameBeside old new
-JoinsIn h old (Err (Node Memory)) new = SameOpen old new
-JoinsIn h old (Err why) new = ⊥
-
--- the history of the other node
+-- the node has joined the history of the other node; or an allocation failed, and nothing has changed
+-- that a caller sees
 abbrev pub Gathers : OpenNode → OpenNode → Ending → OpenNode → Type 0
-Gathers other old ending new = JoinsIn other.node.history old ending new
-
--- what that says of the pages of the shard
-abbrev pub JoinsPart : ℕ → ℕ → OpenNode → OpenNode → Ending → OpenNode → Type 0
-JoinsPart shards shard other old ending new =
-    OfPart shards shard ending (new ≡ old)
-    (JoinsIn (part_of_history shards shard other.node.history) old ending new)
+Gathers other old (Ok given) new =
+    Joins old.node other.node.history new.node × SameBeside old new
+Gathers other old (Err (Node Memory)) new = SameOpen old new
+Gathers other old (Err why) new = ⊥
 
 -- A call on two handles. Where one of them is closed, it says so, and both are as they were. Else the
 -- first stays open, and its node goes so beside what the second holds, which is as it was.

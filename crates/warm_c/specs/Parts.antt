@@ -5,7 +5,6 @@ use Rattle.std.specs.Int.{bit_at}
 use Rattle.warm_stamps.specs.Replicas.{IsReplica}
 use Rattle.warm_stamps.specs.declared.PageId.{PageId}
 use Rattle.warm_stamps.specs.declared.Reference.{Reference}
-use Rattle.warm_stamps.specs.declared.TheConstants.{BUCKETS}
 use Rattle.warm_history.specs.declared.hist.Entry.{Entry}
 use Rattle.warm_history.specs.Histories.{HistoryView, entries_of, history_of_entries_at}
 use Rattle.warm_frames.specs.declared.message.Message.{Message}
@@ -44,7 +43,7 @@ OfPart shards shard ending same goes =
 
 -- Frames of the pool
 
--- so many frames are divided evenly among the shards, and how many each has is written; a refused
+-- this many frames are divided evenly among the shards, and how many each has is written; a refused
 -- call writes nothing
 abbrev pub Divides : ℕ → ℕ → ℕ → ℕ → Ending → Type 0
 Divides frames shards before each (Ok given) = IsShardCount shards × (each * shards ≡ frames)

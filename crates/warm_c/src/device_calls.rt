@@ -1,7 +1,9 @@
 //! The calls on the devices of an open handle.
-ghost use Rattle.std.specs.Prelude.{◌≡◌, ◌*◌, ◌^◌, ◌<◌, ◌≤◌, IfNone, IfSome};
-ghost use Rattle.warm_c.specs.Devices.{Replaces, SaysMayStand};
+ghost use Rattle.std.specs.Prelude.{◌≡◌, ◌*◌, ◌^◌, ◌<◌, ◌≤◌, IfErr, IfNone, IfOk, IfSome, OnOk};
+ghost use Rattle.warm_c.specs.Devices.{MayNotStand, MayStand, Replaces, SaysMayStand};
+ghost use Rattle.warm_c.specs.Devices.{devices_after, made_device};
 ghost use Rattle.warm_c.specs.FdParts.{fd_opened, fd_state};
+ghost use Rattle.warm_c.specs.Handles.{DescriptorsDiffer};
 
 use crate::fd_device::FdDevice;
 use crate::open_node::OpenNode;
@@ -24,7 +26,42 @@ fn device_of(device: &WarmDevice, page_size: usize) -> Option<FdDevice>
     FdDevice::new(device.fd, device.pages, page_size)
 }
 
+// A device to stand in the place of another, and the devices of the handle as they would be.
+#[derive(Drop)]
+struct Replacement {
+    made: FdDevice,
+    devices: Vec<WarmDevice>,
+}
+
 impl OpenNode {
+    // Creates the device that could stand in the place of one, before any page of that one is looked
+    // at. Its errors are those of `replace` that are not the node's own, in its order.
+    fn replacement(
+        &self,
+        alloc: Global,
+        dev: u16,
+        device: &WarmDevice,
+    ) -> Result<Replacement, Refusal>
+        ensures may { OnOk result (MayStand dev device.now self.now) }
+        ensures apart { OnOk result (DescriptorsDiffer (devices_after dev device.now self.now)) }
+        ensures made { IfOk result (λ it. fd_state it.made ≡ made_device device.now self.now) }
+        ensures devices { IfOk result (λ it.
+            it.devices.items ≡ devices_after dev device.now self.now) }
+        ensures refused { IfErr result (MayNotStand dev device.now self.now) }
+    {
+        if dev as usize >= self.devices.as_slice().len() {
+            return Err(Refusal::Node(NodeFault::Pool(PoolFault::NoDevice)));
+        }
+        let Some(made) = device_of(device, self.node.pool().page_size()) else {
+            return Err(Refusal::Node(NodeFault::Pool(PoolFault::NoDevice)));
+        };
+        let devices = devices_with(alloc, self.devices.as_slice(), dev as usize, *device)?;
+        if let Err(why) = check_apart(alloc, &devices) {
+            return Err(why);
+        }
+        Ok(Replacement { made, devices })
+    }
+
     /// Calls [`warm_gossip::Node::retire`] with a device over another descriptor.
     ///
     /// # Errors
@@ -37,16 +74,7 @@ impl OpenNode {
     pub fn replace(&mut self, alloc: Global, dev: u16, device: &WarmDevice) -> Result<(), Refusal>
         ensures { Replaces dev device.now self.old result self.new }
     {
-        if dev as usize >= self.devices.as_slice().len() {
-            return Err(Refusal::Node(NodeFault::Pool(PoolFault::NoDevice)));
-        }
-        let Some(made) = device_of(device, self.node.pool().page_size()) else {
-            return Err(Refusal::Node(NodeFault::Pool(PoolFault::NoDevice)));
-        };
-        let devices = devices_with(alloc, self.devices.as_slice(), dev as usize, *device)?;
-        if let Err(why) = check_apart(alloc, &devices) {
-            return Err(why);
-        }
+        let Replacement { made, devices } = self.replacement(alloc, dev, device)?;
         if let Err(unretired) = self.node.retire(dev, made) {
             return Err(Refusal::Node(NodeFault::Pool(unretired.fault)));
         }
@@ -62,17 +90,7 @@ impl OpenNode {
     pub fn may_stand(&self, alloc: Global, dev: u16, device: &WarmDevice) -> Result<(), Refusal>
         ensures { SaysMayStand dev device.now self.now result self.now }
     {
-        let place = dev as usize;
-        if place >= self.devices.as_slice().len() {
-            return Err(Refusal::Node(NodeFault::Pool(PoolFault::NoDevice)));
-        }
-        let Some(_) = device_of(device, self.node.pool().page_size()) else {
-            return Err(Refusal::Node(NodeFault::Pool(PoolFault::NoDevice)));
-        };
-        let devices = devices_with(alloc, self.devices.as_slice(), place, *device)?;
-        if let Err(why) = check_apart(alloc, &devices) {
-            return Err(why);
-        }
+        let _replacement = self.replacement(alloc, dev, device)?;
         Ok(())
     }
 }

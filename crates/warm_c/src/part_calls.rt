@@ -4,9 +4,9 @@ ghost use Rattle.warm_frames.specs.Entries.{FitsInFrame};
 ghost use Rattle.warm_frames.specs.Limits.{entries_in, horizon_in};
 ghost use Rattle.warm_shards.specs.Digests.{FillsShard};
 ghost use Rattle.warm_shards.specs.Shards.{IsShardCount};
-ghost use Rattle.warm_c.specs.PartCalls.{AbsorbsPart, Gathers, GivesDigests, JoinsPart};
+ghost use Rattle.warm_c.specs.PartCalls.{AbsorbsPart, Gathers, GivesDigests};
 ghost use Rattle.warm_c.specs.PartCalls.{PinsAndLends, ReceivesPart, gathered};
-ghost use Rattle.warm_c.specs.Parts.{part_of_entries, part_of_history, part_of_message, sender_in};
+ghost use Rattle.warm_c.specs.Parts.{part_of_entries, part_of_message, sender_in};
 
 use crate::frame_parts::NodeTable;
 use crate::lending::address_of;
@@ -16,8 +16,7 @@ use crate::status::Refusal;
 use crate::values::{PinnedSlot, WarmPage, WarmReference};
 use std::alloc::{AllocError, Global};
 use warm_frames::{DIGEST_SIZE, DigestTable, EntryList, Message, decode};
-use warm_history::{Entry, History};
-use warm_shards::shard_of;
+use warm_history::Entry;
 use warm_stamps::{BUCKETS, Bucket, ReplicaId};
 
 // Takes the digests of one shard's buckets from its table.
@@ -86,27 +85,6 @@ fn part_of_message(
         horizon: message.horizon(),
         entries: EntryList::holding(part),
     })
-}
-
-// What a history says of the pages of the shard, as a history.
-fn part_of_history(
-    alloc: Global,
-    history: &History,
-    shards: usize,
-    shard: usize,
-) -> Result<History, AllocError>
-    requires { IsShardCount shards }
-    ensures { IfOk result (λ part. part ≡ part_of_history shards shard history.now) }
-{
-    let mut entries = Vec::new(alloc);
-    for entry in history {
-        if shard_of(shards, entry.page) == shard {
-            entries.push(entry)?;
-        }
-    }
-    let mut part = History::new(alloc);
-    part.join_entries(history.horizon(), &entries)?;
-    Ok(part)
 }
 
 impl OpenNode {
@@ -217,28 +195,6 @@ impl OpenNode {
         ensures { Gathers other.now self.old result self.new }
     {
         self.node.join(other.node.history())?;
-        Ok(())
-    }
-
-    /// Calls [`warm_gossip::Node::join`] with what the history of another node says of the pages of
-    /// the shard.
-    ///
-    /// # Errors
-    /// In this order. Nothing has changed that a caller sees.
-    /// - `BadShards`, `NoShard`: there cannot be this many shards, or there is none of this number.
-    /// - `Node`, with `Memory`: an allocation failed.
-    pub fn join_part(
-        &mut self,
-        alloc: Global,
-        shards: usize,
-        shard: usize,
-        other: &OpenNode,
-    ) -> Result<(), Refusal>
-        ensures { JoinsPart shards shard other.now self.old result self.new }
-    {
-        check_part(shards, shard)?;
-        let part = part_of_history(alloc, other.node.history(), shards, shard)?;
-        self.node.join(&part)?;
         Ok(())
     }
 }

@@ -6,7 +6,7 @@ ghost use Rattle.warm_c.specs.Devices.{SaysMayStand};
 ghost use Rattle.warm_c.specs.Engine.{SaysMayForget};
 ghost use Rattle.warm_c.specs.FrameParts.{FindsDiffering, MakesFrame, ReadsFrame};
 ghost use Rattle.warm_c.specs.Handles.{Called};
-ghost use Rattle.warm_c.specs.PartCalls.{AbsorbsPart, CalledWith, Gathers, GivesDigests, JoinsPart};
+ghost use Rattle.warm_c.specs.PartCalls.{AbsorbsPart, CalledWith, Gathers, GivesDigests};
 ghost use Rattle.warm_c.specs.PartCalls.{PinsAndLends, ReceivesPart, gathered};
 ghost use Rattle.warm_c.specs.Parts.{Divides, Ends, HasBits, batch_pages, shards_of};
 ghost use Rattle.warm_c.specs.Values.{page_of_c};
@@ -22,7 +22,7 @@ use crate::values::{PinnedSlot, WarmDevice, WarmPage, WarmReference};
 use std::alloc::Global;
 use warm_shards::{is_shard_count, shard_of};
 
-/// Returns the shard of a page, of this many; 0 where there cannot be so many.
+/// Returns the shard of a page, of this many; 0 where there cannot be this many.
 #[unsafe(no_mangle)]
 pub extern "C" fn node_shard_of(shards: usize, page: WarmPage) -> u32
     ensures value { IsShardCount shards → result ≡ shard_of shards (page_of_c page) }
@@ -48,7 +48,7 @@ pub extern "C" fn node_divide(frames: usize, shards: usize, each: &mut usize) ->
 }
 
 /// Returns which shards have a page to which there is a reference in the batch, bit i for shard i; 0
-/// where there cannot be so many shards.
+/// where there cannot be this many shards.
 #[unsafe(no_mangle)]
 pub extern "C" fn node_shards_of(shards: usize, references: &[WarmReference]) -> u64
     ensures bits { IsShardCount shards
@@ -274,38 +274,6 @@ pub extern "C" fn node_gather(alloc: Global, into: &mut Handle, from: &mut Handl
         return closed();
     };
     let done = node.gather(&other);
-    *from = Handle::of(other);
-    put_back(into, node, done)
-}
-
-/// Joins what the history of the second handle's node says of the pages of the shard to the history
-/// of the first's, all or nothing. The second handle is unchanged.
-///
-/// # Errors
-/// In this order; nothing has changed that a caller sees.
-/// - 64: one of the handles is closed.
-/// - 72: there cannot be this many shards.
-/// - 76: there is no shard of this number.
-/// - 1: an allocation failed.
-#[unsafe(no_mangle)]
-pub extern "C" fn node_join_part(
-    alloc: Global,
-    into: &mut Handle,
-    shards: usize,
-    shard: usize,
-    from: &mut Handle,
-) -> i32
-    ensures { CalledWith (JoinsPart shards shard) into.old.held.node from.old.held.node result
-        into.new.held.node from.new.held.node }
-{
-    let Some(mut node) = into.take(alloc) else {
-        return closed();
-    };
-    let Some(other) = from.take(alloc) else {
-        *into = Handle::of(node);
-        return closed();
-    };
-    let done = node.join_part(alloc, shards, shard, &other);
     *from = Handle::of(other);
     put_back(into, node, done)
 }

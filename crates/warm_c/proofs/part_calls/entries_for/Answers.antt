@@ -1,4 +1,4 @@
-use Rattle.std.proofs.Common.{◌≡◌, sym, subst, ap, ◌∙◌}
+use Rattle.std.proofs.Common.{sym, subst, ap, ◌∙◌}
 use Rattle.warm_frames.specs.Entries.{FitsInFrame}
 use Rattle.warm_c.specs.Parts.{part_of_entries}
 use Rattle.warm_c.proofs.Shards.{part_fits}
