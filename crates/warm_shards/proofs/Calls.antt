@@ -30,7 +30,7 @@ use Rattle.warm_gossip.specs.Clauses.{Goes}
 use Rattle.warm_gossip.specs.Step.{IsNextWarm, nth_page}
 use Rattle.warm_gossip.proofs.VictimLemmas.{KeepsPages, frames_after}
 use Rattle.warm_shards.specs.Clauses.{KeepPools, SameShards}
-use Rattle.warm_shards.specs.Shards.{AreShards, IsShard, held, shard_at, shard_of, whole}
+use Rattle.warm_shards.specs.Shards.{AreShards, HoldsPagesOf, IsShard, held, shard_at, shard_of, whole}
 use Rattle.warm_shards.proofs.Keeping.{all_shards, at_each, still_shards}
 use Rattle.warm_shards.proofs.Pages.{all_held, all_pages, all_taken, each_has}
 
@@ -115,7 +115,15 @@ same_whole old new same = ap history (held_alike old new same.count (same_histor
 
 -- ---- one node is still the shard
 
--- it has taken references to its pages in
+-- it has taken references to its pages in: its pages are still its own
+pub takes_own : (count i : ℕ) (v w : NodeView) (S : ReferenceSet) → HoldsPagesOf count i v
+    → w ≡ record v { history = history (references_of v.history ∪ S) }
+    → AllByRecursion (λ r. shard_of count r.page ≡ i) S.given → HoldsPagesOf count i w
+takes_own count i v w S own is all = record {
+  known = subst (λ (x : NodeView). AllByRecursion (λ e. shard_of count e.page ≡ i) (entries_of x.history)) (sym is) (all_taken (λ p. shard_of count p ≡ i) (entries_of v.history) S.given (max v.history.horizon S.horizon) own.known all);
+  resident = λ k p at. own.resident k p (ap (λ (x : NodeView). (frame_at x.pool k).page) (sym is) ∙ at);
+}
+
 pub takes_shard : (count number latest i : ℕ) (n m : NodeState) (S : ReferenceSet)
     → IsShard count number latest i n
     → node_view m ≡ record (node_view n) { history = history (references_of n.history ∪ S) }
@@ -123,15 +131,11 @@ pub takes_shard : (count number latest i : ℕ) (n m : NodeState) (S : Reference
     → IsShard count number (max latest S.horizon) i m
 takes_shard count number latest i n m S old view all =
     let is : m.history ≡ history (references_of n.history ∪ S) = ap (λ (v : NodeView). v.history) view in
-    let pool : view_of m.pool ≡ view_of n.pool = ap (λ (v : NodeView). v.pool) view in
     record {
       id = ap (λ (v : NodeView). v.id) view ∙ old.id;
       horizon = ap (λ h. h.horizon) is ∙ horizon-history (references_of n.history ∪ S) ∙ ap (λ x. max x S.horizon) old.horizon;
       valid = subst IsHistory (sym is) (IsHistory-history (references_of n.history ∪ S));
-      own = record {
-        known = subst (λ h. AllByRecursion (λ e. shard_of count e.page ≡ i) (entries_of h)) (sym is) (all_taken (λ p. shard_of count p ≡ i) (entries_of n.history) S.given (max n.history.horizon S.horizon) old.own.known all);
-        resident = λ k p at. old.own.resident k p (ap (λ v. (frame_at v k).page) (sym pool) ∙ at);
-      };
+      own = takes_own count i (node_view n) (node_view m) S old.own view all;
     }
 
 -- a caller sees what it saw
@@ -207,17 +211,17 @@ each_nth P (p ∷ ps) zero all lt = all.0
 each_nth P (p ∷ ps) (suc i) all lt = each_nth P ps i all.1 (omega arith)
 
 -- the page that a shard loads next is its own
-pub next_is_own : (count number latest i : ℕ) (n : NodeState) (p : PageId)
-    → IsShard count number latest i n → IsNextWarm (node_view n) (Some p) → shard_of count p ≡ i
-next_is_own count number latest i n p old next =
+pub next_is_own : (count i : ℕ) (n : NodeView) (p : PageId)
+    → HoldsPagesOf count i n → IsNextWarm n (Some p) → shard_of count p ≡ i
+next_is_own count i n p old next =
     let own : PageId → Type 0 = λ q. shard_of count q ≡ i in
     let R = references_of n.history in
     let falls = flip_args (eviction_cmp R) in
     let order = IsStrictOrder-flip (eviction_cmp R) (eviction_order R) in
-    let named : AllByRecursion own (pages R) = all_pages own R (all_held own (entries_of n.history) old.own.known) in
+    let named : AllByRecursion own (pages R) = all_pages own R (all_held own (entries_of n.history) old.known) in
     let all : AllByRecursion own (distinct falls (pages R)) = all_of_has own (distinct falls (pages R)) (λ q has. each_has own (pages R) q named (has_from_distinct falls order (pages R) q has)) in
-    let hottest = hottest_pages R (length (view_of n.pool).frames) in
-    subst own next.2 (each_nth own hottest next.0 (all_take own (length (view_of n.pool).frames) (distinct falls (pages R)) all) next.1)
+    let hottest = hottest_pages R (length n.pool.frames) in
+    subst own next.2 (each_nth own hottest next.0 (all_take own (length n.pool.frames) (distinct falls (pages R)) all) next.1)
 
 -- ---- absorbing, shard by shard
 

@@ -7,7 +7,7 @@ use Rattle.warm_devices.specs.Device.{DeviceState}
 use Rattle.warm_pool.specs.declared.fault.PoolFault.{PoolFault}
 use Rattle.warm_pool.specs.declared.fault.PoolFault.TheVariants.{SizeDiffers, NoDevice, Fixed, Fault}
 use Rattle.warm_pool.specs.declared.slot.Slot.{Slot}
-use Rattle.warm_pool.specs.Forgetting.{ForgetRefused, Forgets}
+use Rattle.warm_pool.specs.Forgetting.{Forgets}
 use Rattle.warm_pool.specs.Frames.{FrameState, vacated}
 use Rattle.warm_pool.specs.Keeping.{SameButFailures}
 use Rattle.warm_pool.specs.Retiring.{RetireRefused, Retired, emptied}
@@ -161,16 +161,3 @@ forgotten_own P n m dev from own known forgets = record {
   alone = known_pool n m known;
   own = λ k p at. vacated_own P (λ f. is_from dev from f.page) n.pool.frames own k p (ap (λ (s : PoolState). (frame_at (view_of s) k).page) (sym forgets.becomes) ∙ at);
 }
-
-pub unforgotten_own : (P : PageId → Type 0) (n m : NodeState) (dev from : ℕ) (why : NodeFault)
-    → HasOnly P (view_of n.pool) → KeepsKnown n m
-    → OfPool (λ fault. ForgetRefused n.pool dev from fault m.pool) why → OnlyPool P n m
-unforgotten_own P n m dev from Memory own known refused = absurd refused
-unforgotten_own P n m dev from StaleSlot own known refused = absurd refused
-unforgotten_own P n m dev from (Pool why) own known refused =
-    record { alone = known_pool n m known; own = subst (λ (s : PoolState). HasOnly P (view_of s)) (sym (unchanged why refused)) own }
-  where
-    unchanged : (fault : PoolFault) → ForgetRefused n.pool dev from fault m.pool → m.pool ≡ n.pool
-    unchanged NoDevice refused = refused.1
-    unchanged Fixed refused = refused.2
-    unchanged other refused = absurd refused

@@ -56,7 +56,7 @@ taken_more count k ns m R batch part lt is takes so_far =
 max_same : (n : ℕ) → max n n ≡ n
 max_same n = omega arith
 
-twice : (time : ℕ) (R : ReferenceSet)
+pub twice : (time : ℕ) (R : ReferenceSet)
     → with_horizon time (with_horizon time R) ≡ with_horizon time R
 twice time R =
     let T : ReferenceSet = record { horizon = time; given = [] } in

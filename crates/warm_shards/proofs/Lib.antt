@@ -22,6 +22,9 @@ pub mod Alone
 pub mod PoolCalls
 pub mod EngineCalls
 pub mod Passing
+pub mod Residents
+pub mod Formed
+pub mod Staying
 pub mod Asked
 pub mod LawsHold
 pub mod Examples

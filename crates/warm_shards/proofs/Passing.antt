@@ -1,34 +1,38 @@
 -- Calls that go through the shards, from the first on.
-use Rattle.std.proofs.Common.{◌≡◌, ◌≢◌, ◌⊎◌, inl, inr, ℕ, zero, suc, ◌+◌, ◌<◌, ◌≤◌, Bool, true, false, List, [], ◌∷◌, ◌++◌, length, map, max, set, get_or, take, drop, Some, None, Result, Ok, Err, refl, sym, ap, subst, ◌∙◌, arith}
-use Rattle.std.specs.Prelude.{nat_eq, nat_lt, IfErr, OnOk}
-use Rattle.std.proofs.lemmas.Bool.{eqb-false, eqb-true, ltb-false, ltb-true}
+use Rattle.std.proofs.Common.{◌≡◌, ◌≢◌, ◌⊎◌, inl, inr, ℕ, zero, suc, ◌+◌, ◌<◌, ◌≤◌, Bool, true, false, List, [], ◌∷◌, ◌++◌, length, map, max, set, get_or, take, drop, Option, Some, None, Result, Ok, Err, refl, sym, ap, subst, ◌∙◌, arith}
+use Rattle.std.specs.Prelude.{nat_eq, nat_lt, IfErr, IsTrue, OnOk}
+use Rattle.std.proofs.Math.Dec.{leb-zero}
+use Rattle.std.proofs.Math.ListN.{get_or-map as mapped}
+use Rattle.std.proofs.lemmas.Bool.{eq-eqb, eqb-false, eqb-true, ltb-false, ltb-true}
 use Rattle.std.proofs.lemmas.List.{append-nil, drop_all, get_or-set_same, length-set, take_all}
 use Rattle.std.specs.List.{AllByRecursion}
 use Rattle.warm_stamps.specs.declared.PageId.{PageId}
 use Rattle.warm_history.specs.ReferenceSets.{set_of_list, with_horizon, ◌∪◌}
 use Rattle.warm_history.specs.Histories.{HistoryView, IsHistory, entries_of, history, history_of_entries, history_of_entries_at, references_of}
-use Rattle.warm_pool.specs.declared.fault.PoolFault.TheVariants.{Fault}
+use Rattle.warm_pool.specs.declared.fault.PoolFault.TheVariants.{Fault, Fixed, NoDevice}
+use Rattle.warm_pool.specs.Forgetting.{AreUnfixedFrom, ForgetRefused, MayForget}
 use Rattle.warm_pool.specs.Frames.{FrameState, cleaned, nth_frame}
 use Rattle.warm_pool.specs.Retiring.{Emptied, emptied}
-use Rattle.warm_pool.specs.State.{PoolState, nth_device}
-use Rattle.warm_pool.specs.View.{FrameView, PoolView, frame_at, view_of}
-use Rattle.warm_pool.specs.WritingBack.{cleaned_to}
+use Rattle.warm_pool.specs.State.{IsPool, PoolState, nth_device}
+use Rattle.warm_pool.specs.View.{FrameView, IsUnfixed, PoolView, frame_at, frame_view, view_of}
+use Rattle.warm_pool.specs.WritingBack.{cleaned_to, is_from}
 use Rattle.warm_pool.specs.WritingSome.{CleansFirst, dirty_count}
 use Rattle.warm_pool.proofs.SomeLemmas.{count_most}
 use Rattle.warm_gossip.specs.declared.call.Call.TheVariants.{Restart}
 use Rattle.warm_gossip.specs.declared.call.Reply.TheVariants.{Done, Refused}
 use Rattle.warm_gossip.specs.declared.fault.NodeFault.{NodeFault}
 use Rattle.warm_gossip.specs.declared.fault.NodeFault.TheVariants.{Pool}
+use Rattle.warm_gossip.specs.Clauses.{Goes, OfPool}
 use Rattle.warm_gossip.specs.State.{NodeState, NodeView, node_view}
 use Rattle.warm_gossip.specs.Step.{IsFailed, OnPool, Step}
 use Rattle.warm_shards.specs.Shards.{AreShards, IsShard, IsShardCount, held, no_shard, shard_at, shard_of, whole}
-use Rattle.warm_shards.specs.Through.{FlushFails, ForgetFails, ForgetsPages, HasForgotten, IsClean, IsUnchanged, IsWritten, OfEach, OfFirst, RestartFails, RestartStops, Restarts, Rises, Settles, StopsAt, WriteBackStops, WriteFails}
+use Rattle.warm_shards.specs.Through.{AreUnfixed, FlushFails, ForgetsPages, HasFixed, HasForgotten, IsClean, IsUnchanged, IsWritten, OfEach, OfFirst, RestartRefused, RestartStops, Restarts, Rises, Settles, StopsAt, WriteBackStops, WriteFails}
 use Rattle.warm_shards.proofs.Absorbing.{some_shards}
 use Rattle.warm_shards.proofs.Buckets.{shard_horizon}
 use Rattle.warm_shards.proofs.Calls.{HasOnly, pool_shard, read_at, same_shard}
-use Rattle.warm_shards.proofs.EngineCalls.{forgotten_own, known_pool, same_own, unforgotten_own}
+use Rattle.warm_shards.proofs.EngineCalls.{forgotten_own, known_pool, same_own}
 use Rattle.warm_shards.proofs.Keeping.{all_shards, at_each}
-use Rattle.warm_shards.proofs.PoolCalls.{OnlyPool, refused_own}
+use Rattle.warm_shards.proofs.PoolCalls.{OnlyPool}
 use Rattle.warm_shards.proofs.Taking.{none_joined}
 
 abbrev pub Change : Type 1
@@ -40,7 +44,7 @@ pub none_gone : (change : Change) (old : List NodeState) → OfFirst change 0 ol
 none_gone change old = record { count = refl; first = λ i lt. absurd (omega arith); rest = λ i le. refl }
 
 -- the shard that is read is as it was
-was_left : (change : Change) (old ns : List NodeState) (k : ℕ) (n d : NodeState) → k < length ns
+pub was_left : (change : Change) (old ns : List NodeState) (k : ℕ) (n d : NodeState) → k < length ns
     → n ≡ get_or ns k d → OfFirst change k old ns → n ≡ shard_at old k
 was_left change old ns k n d lt at have = read_at ns k n d lt at ∙ have.rest k (omega arith)
 
@@ -159,10 +163,6 @@ unchanged_stays latest count number i n m was same = subst (IsShard count number
 pub forgets_stays : (latest dev from : ℕ) → StaysShard latest latest (ForgetsPages dev from)
 forgets_stays latest dev from = pool_stays latest (ForgetsPages dev from) (λ P n m own by. forgotten_own P n m dev from own by.0 by.1)
 
-pub not_forgotten_stays : (latest dev from : ℕ) (why : NodeFault)
-    → StaysShard latest latest (ForgetFails dev from why)
-not_forgotten_stays latest dev from why = pool_stays latest (ForgetFails dev from why) (λ P n m own by. unforgotten_own P n m dev from why own by.0 by.1)
-
 pub written_stays : (latest : ℕ) → StaysShard latest latest IsWritten
 written_stays latest count number i n m was by = same_shard count number latest i n m was by.0
 
@@ -225,9 +225,25 @@ written_fails a b c x y = subst (λ (v : NodeView). OnPool IsFailed v (node_view
 pub settled_restarts : (a b c : NodeState) → Settles a b → Restarts b c → Restarts a c
 settled_restarts a b c x y = (subst (λ (v : NodeView). Step v Restart Done (node_view c)) x.0 y.0, y.1)
 
-pub settled_fails : (why : NodeFault) (a b c : NodeState) → Settles a b → RestartFails why b c
-    → RestartFails why a c
-settled_fails why a b c x y = subst (λ (v : NodeView). Step v Restart (Refused why) (node_view c)) x.0 y
+pub settled_fails : (a b c : NodeState) → Settles a b → FlushFails b c → FlushFails a c
+settled_fails a b c x y = subst (λ (v : NodeView). OnPool IsFailed v (node_view c)) x.0 y
+
+-- a node without a pinned page does not restart only where a device fails
+pub fails_only : (why : NodeFault) (n m : NodeState) → IsUnfixed (view_of n.pool)
+    → Goes n Restart (Refused why) m → (why ≡ Pool Fault) × FlushFails n m
+fails_only (Pool Fixed) n m unfixed refused =
+    let none : (frame_at (view_of n.pool) refused.0.frame).fixes ≡ 0 = unfixed refused.0.frame in
+    let some : 0 < (frame_at (view_of n.pool) refused.0.frame).fixes = refused.0.fixed in
+    absurd (omega (arith, none, some))
+fails_only (Pool Fault) n m unfixed refused = (refl, refused.1)
+fails_only why n m unfixed refused = absurd refused
+
+-- settling pins nothing
+pub settled_unfixed : (old mid : List NodeState) → OfEach Settles old mid → AreUnfixed old
+    → AreUnfixed mid
+settled_unfixed old mid settles unfixed i lt =
+    let there : i < length old = omega (arith, lt, settles.count) in
+    subst (λ (v : NodeView). IsUnfixed v.pool) (sym (settles.each i there).0) (unfixed i there)
 
 no_references : (horizon : ℕ)
     → history (with_horizon horizon (references_of (history_of_entries []))) ≡ history_of_entries_at horizon []
@@ -282,7 +298,7 @@ all_emptied [] k = refl
 all_emptied (f ∷ fs) zero = refl
 all_emptied (f ∷ fs) (suc k) = all_emptied fs k
 
-vacant : (v w : PoolView) → Emptied v w → (k : ℕ) (p : PageId) → (frame_at w k).page ≡ Some p → ⊥
+pub vacant : (v w : PoolView) → Emptied v w → (k : ℕ) (p : PageId) → (frame_at w k).page ≡ Some p → ⊥
 vacant v w gone k p at =
     let none : (frame_at w k).page ≡ None = ap (λ (x : PoolView). (frame_at x k).page) gone.becomes ∙ all_emptied v.frames k in
     let no : None ≡ Some p = sym none ∙ at in cc
@@ -308,9 +324,6 @@ pub forgotten_stays : (latest horizon : ℕ) → horizon ≡ latest
     → StaysShard latest latest (HasForgotten horizon)
 forgotten_stays latest horizon same count number i n m was by =
     subst (λ (h : ℕ). IsShard count number h i m) same (empty_shard count number i horizon (view_of n.pool) m (by.id ∙ was.id) by.history by.emptied)
-
-pub restart_fails_stays : (latest : ℕ) (why : NodeFault) → StaysShard latest latest (RestartFails why)
-restart_fails_stays latest why = pool_stays latest (RestartFails why) (λ P n m own by. refused_own P n m Restart why own by)
 
 none_held : (ns : List NodeState)
     → ((i : ℕ) → i < length ns → (shard_at ns i).history ≡ history_of_entries [])
@@ -346,12 +359,15 @@ settled_horizon old mid are settles =
 
 pub restart_stops : (old mid new : List NodeState) (horizon : ℕ) (result : Result Unit NodeFault)
     → horizon ≡ (whole old).horizon → OfEach Settles old mid
-    → IfErr result (λ why. StopsAt (HasForgotten horizon) (RestartFails why) IsUnchanged mid new)
-    → IfErr result (λ why. RestartStops old why new)
+    → IfErr result (λ why. (why ≡ Pool Fault)
+    × StopsAt (HasForgotten horizon) FlushFails IsUnchanged mid new)
+    → IfErr result (λ why. (why ≡ Pool Fault) × RestartStops old new)
 restart_stops old mid new horizon (Ok given) is settles stops = tt
-restart_stops old mid new horizon (Err why) is settles stops =
-    inr (subst (λ (h : ℕ). StopsAt (HasForgotten h) (RestartFails why) Settles old new) is
-    (then_stops Settles (HasForgotten horizon) (RestartFails why) (HasForgotten horizon) (RestartFails why) (forgotten_after horizon) (settled_fails why) old mid new settles stops))
+restart_stops old mid new horizon (Err why) is settles (fault, stops) = (
+  fault,
+  inr (subst (λ (h : ℕ). StopsAt (HasForgotten h) FlushFails Settles old new) is
+      (then_stops Settles (HasForgotten horizon) FlushFails (HasForgotten horizon) FlushFails (forgotten_after horizon) settled_fails old mid new settles stops)),
+)
 
 pub restarted_all : (old mid new : List NodeState) (result : Result Unit NodeFault)
     → OfEach Settles old mid → OnOk result (OfEach Restarts mid new)
@@ -362,16 +378,11 @@ restarted_all old mid new (Ok given) settles restarts =
 
 -- ---- they are still shards
 
-pub forgotten_shards : (dev from : ℕ) (old new : List NodeState) (result : Result Unit NodeFault)
-    → AreShards old → OnOk result (OfEach (ForgetsPages dev from) old new)
-    → IfErr result (λ why. StopsAt (ForgetsPages dev from) (ForgetFails dev from why) IsUnchanged old new)
-    → AreShards new
-forgotten_shards dev from old new (Ok given) are each stops =
+pub forgotten_shards : (dev from : ℕ) (old new : List NodeState) → AreShards old
+    → OfEach (ForgetsPages dev from) old new → AreShards new
+forgotten_shards dev from old new are each =
     let latest = (shard_at old 0).history.horizon in
     each_shards latest (ForgetsPages dev from) old new (forgets_stays latest dev from) are each
-forgotten_shards dev from old new (Err why) are each stops =
-    let latest = (shard_at old 0).history.horizon in
-    stops_shards (ForgetsPages dev from) (ForgetFails dev from why) IsUnchanged old new (forgets_stays latest dev from) (not_forgotten_stays latest dev from why) (unchanged_stays latest) are stops
 
 stopped_shards : (old new : List NodeState) → AreShards old → WriteBackStops old new → AreShards new
 stopped_shards old new are stops =
@@ -390,20 +401,64 @@ settled_shards old new (Ok given) are each stops =
 settled_shards old new (Err why) are each stops = stopped_shards old new are stops.1
 
 pub restarted_shards : (old new : List NodeState) (result : Result Unit NodeFault) → AreShards old
-    → OnOk result (OfEach Restarts old new) → IfErr result (λ why. RestartStops old why new)
-    → AreShards new
+    → OnOk result (OfEach Restarts old new)
+    → IfErr result (λ why. (why ≡ Pool Fault) × RestartStops old new) → AreShards new
 restarted_shards old new (Ok given) are each stops =
     each_shards 0 Restarts old new (restarts_stays (shard_at old 0).history.horizon) are each
 restarted_shards old new (Err why) are each stops =
     let latest = (shard_at old 0).history.horizon in
     let some = some_shards old are in
     let same : (whole old).horizon ≡ latest = sym (shard_horizon old 0 are some some) in
-    elim stops [
-      | inl writes ↦ stopped_shards old new are writes.1
-      | inr restarts ↦ stops_shards (HasForgotten (whole old).horizon) (RestartFails why) Settles old new (forgotten_stays latest (whole old).horizon same) (restart_fails_stays latest why) (settles_stays latest) are restarts
+    elim stops.1 [
+      | inl writes ↦ stopped_shards old new are writes
+      | inr restarts ↦ stops_shards (HasForgotten (whole old).horizon) FlushFails Settles old new (forgotten_stays latest (whole old).horizon same) (flush_fails_stays latest) (settles_stays latest) are restarts
     ]
 
 pub restarted_empty : (old new : List NodeState) (result : Result Unit NodeFault)
     → OnOk result (OfEach Restarts old new) → OnOk result (whole new ≡ history_of_entries [])
 restarted_empty old new (Err why) each = tt
 restarted_empty old new (Ok given) each = restarted_whole old new each
+
+-- why shards do not restart: a page is pinned; or a device failed
+pub pinned_refuses : (old : List NodeState) (why : NodeFault) → why ≡ Pool Fixed → HasFixed old
+    → RestartRefused old why old
+pinned_refuses old why is fixed = subst (λ w. RestartRefused old w old) (sym is) (fixed, refl)
+
+pub fault_refuses : (old new : List NodeState) (result : Result Unit NodeFault) → AreUnfixed old
+    → IfErr result (λ why. (why ≡ Pool Fault) × RestartStops old new)
+    → IfErr result (λ why. RestartRefused old why new)
+fault_refuses old new (Ok given) unfixed stops = tt
+fault_refuses old new (Err why) unfixed (fault, stops) =
+    subst (λ w. RestartRefused old w new) (sym fault) (unfixed, stops)
+
+-- ---- asking first
+
+-- pages that may be forgotten are not refused
+pub may_not_refuse : (dev from : ℕ) (s t : PoolState) (why : NodeFault) → MayForget s dev from
+    → OfPool (λ fault. ForgetRefused s dev from fault t) why → ⊥
+may_not_refuse dev from s t (Pool NoDevice) may refused = omega (arith, may.0, refused.0)
+may_not_refuse dev from s t (Pool Fixed) may refused =
+    let pinned = refused.1 in
+    let none : (frame_at (view_of s) pinned.frame).fixes ≡ 0 = may.1 pinned.frame pinned.is in
+    let some : 0 < (frame_at (view_of s) pinned.frame).fixes = pinned.fixed in
+    omega (arith, none, some)
+may_not_refuse dev from s t why may refused = refused
+
+-- every page of a device has the number 0 or a higher one
+from_start : (p : PageId) → IsTrue (is_from p.dev 0 (Some p))
+from_start p = rw (eq-eqb p.dev p.dev refl) (leb-zero p.no)
+
+-- where no page of any device is pinned, none is
+pub none_fixed : (s : PoolState) → IsPool s
+    → ((k : ℕ) → k < length s.devices → AreUnfixedFrom (view_of s) k 0) → IsUnfixed (view_of s)
+none_fixed s pool each i = cases (nth_frame s.frames i).page refl
+  where
+    seen : frame_at (view_of s) i ≡ frame_view (nth_frame s.frames i)
+    seen = mapped frame_view s.frames i _
+
+    cases : (page : Option PageId) → (nth_frame s.frames i).page ≡ page
+        → (frame_at (view_of s) i).fixes ≡ 0
+    cases None is = ap (λ (f : FrameView). f.fixes) seen ∙ (pool.bare i is).1
+    cases (Some p) is =
+        let here : (frame_at (view_of s) i).page ≡ Some p = ap (λ (f : FrameView). f.page) seen ∙ is in
+        each p.dev (pool.has_device i p is) i (subst (λ o. IsTrue (is_from p.dev 0 o)) (sym here) (from_start p))

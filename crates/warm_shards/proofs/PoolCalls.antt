@@ -78,7 +78,7 @@ loaded_own count number latest i n m (Ok None) old goes = record {
 }
 loaded_own count number latest i n m (Ok (Some p)) old goes = record {
   alone = goes.1.0;
-  own = only_put (λ q. shard_of count q ≡ i) n.history (view_of n.pool) (view_of m.pool) p 0 goes.1.1.0 goes.1.1.1 (next_is_own count number latest i n p old goes.0) old.own.resident;
+  own = only_put (λ q. shard_of count q ≡ i) n.history (view_of n.pool) (view_of m.pool) p 0 goes.1.1.0 goes.1.1.1 (next_is_own count i (node_view n) p old.own goes.0) old.own.resident;
 }
 
 -- the shards after it

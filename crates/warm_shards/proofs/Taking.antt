@@ -6,7 +6,7 @@ use Rattle.warm_history.proofs.JoinLemmas.{both_assoc, history_first, history_se
 use Rattle.warm_gossip.specs.State.{NodeState}
 use Rattle.warm_shards.specs.Shards.{held, shard_at, whole}
 
-last_two : (R B H : ReferenceSet) → history ((R ∪ B) ∪ H) ≡ history ((R ∪ H) ∪ B)
+pub last_two : (R B H : ReferenceSet) → history ((R ∪ B) ∪ H) ≡ history ((R ∪ H) ∪ B)
 last_two R B H =
     ap history (both_assoc R B H)
     ∙ sym (history_second R (B ∪ H))

@@ -44,8 +44,8 @@ abbrev pub TakesInFirst : List NodeState → ReferenceSet → List NodeState →
 TakesInFirst old S new = (k : ℕ) × (k < length old) × ((k ≡ 0) ⊎ HasPart (length old) k S)
     × (whole new ≡ history (references_of (whole old) ∪ of_first_shards (length old) k S))
 
--- of each shard: the pool that a caller sees is unchanged, and so are the devices, and the bytes and
--- the dirty flag of each frame
+-- of each shard: the pool that a caller sees is unchanged, and so are the devices, and the bytes
+-- and the dirty flag of each frame
 pub record KeepPools (old new : List NodeState) : Type 0 where
   pub count : length new ≡ length old
   pub views : (i : ℕ) → view_of (shard_at new i).pool ≡ view_of (shard_at old i).pool

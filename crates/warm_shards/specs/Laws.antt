@@ -1,21 +1,24 @@
 -- The laws of shards: what each shard knows, given what all of them together stand for.
 use Rattle.std.specs.Prelude.{◌≡◌, ◌≢◌, ◌⊎◌, ℕ, ◌<◌, ◌%◌, List, length}
+use Rattle.std.specs.List.{All}
 use Rattle.warm_stamps.specs.declared.PageId.{PageId}
 use Rattle.warm_stamps.specs.declared.TheConstants.{BUCKETS}
 use Rattle.warm_history.specs.ReferenceSets.{ReferenceSet, ◌∪◌}
 use Rattle.warm_history.specs.Histories.{StandsFor, entries_of}
 use Rattle.warm_frames.specs.Digests.{digest_at}
+use Rattle.warm_frames.specs.declared.message.Message.TheVariants.{Entries}
 use Rattle.warm_digest.specs.BucketDigests.{digests_of}
 use Rattle.warm_rank.specs.Laws.{IsFarthest}
 use Rattle.warm_pool.specs.View.{unfixed_pages, view_of}
 use Rattle.warm_gossip.specs.declared.call.Call.{Call}
-use Rattle.warm_gossip.specs.declared.call.Call.TheVariants.{Restart}
+use Rattle.warm_gossip.specs.declared.call.Call.TheVariants.{Absorb, Pin, Receive, Restart}
 use Rattle.warm_gossip.specs.declared.call.Reply.{Reply}
 use Rattle.warm_gossip.specs.Given.{given_by_call}
 use Rattle.warm_gossip.specs.State.{NodeState, NodeView, node_view}
-use Rattle.warm_gossip.specs.Step.{Step}
+use Rattle.warm_gossip.specs.Step.{IsFailed, OnPool, Step}
 use Rattle.warm_gossip.specs.Victims.{IsEvicted}
-use Rattle.warm_shards.specs.Shards.{AreShards, of_first_shards, of_shard, shard_at, whole}
+use Rattle.warm_shards.specs.Shards.{AreShards, HoldsPagesOf, of_first_shards, of_shard, shard_at}
+use Rattle.warm_shards.specs.Shards.{shard_of, whole}
 use Rattle.warm_shards.specs.Clauses.{HasPart, TakesInFirst, Together}
 
 -- The headline: whatever all shards together stand for, they then stand for that with what the call
@@ -51,3 +54,24 @@ ShardVictimsAreFarthest = (S : ReferenceSet) (shards : List NodeState) (i : ℕ)
     → StandsFor (whole shards) S → Step (node_view (shard_at shards i)) call reply new
     → call ≢ Restart → IsEvicted (view_of (shard_at shards i).pool) new.pool v
     → IsFarthest S (unfixed_pages (view_of (shard_at shards i).pool)) v
+
+-- every page that the call brings is of this shard
+abbrev pub BringsOwn : ℕ → ℕ → Call → Type 0
+BringsOwn count i (Absorb batch) = All (λ r. shard_of count r.page ≡ i) batch
+BringsOwn count i (Receive (Entries sender horizon entries)) =
+    All (λ e. shard_of count e.page ≡ i) entries
+BringsOwn count i (Pin p) = shard_of count p ≡ i
+BringsOwn count i call = Unit {0}
+
+-- A node that holds the pages of one shard alone still does after any call that brings no page of
+-- another, whatever the reply.
+abbrev pub StepsStayInShard : Type 0
+StepsStayInShard = (count i : ℕ) (old new : NodeView) (call : Call) (reply : Reply)
+    → BringsOwn count i call → HoldsPagesOf count i old → Step old call reply new
+    → HoldsPagesOf count i new
+
+-- The same after a call of a device failed, of which a caller sees the count of failures alone: so
+-- after a write-back too.
+abbrev pub FailuresStayInShard : Type 0
+FailuresStayInShard = (count i : ℕ) (old new : NodeView) → OnPool IsFailed old new
+    → HoldsPagesOf count i old → HoldsPagesOf count i new

@@ -6,4 +6,5 @@ pub mod Faults
 pub mod Lending
 pub mod Parts
 pub mod Through
+pub mod Forming
 pub mod Laws

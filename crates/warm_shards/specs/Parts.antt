@@ -8,7 +8,8 @@ use Rattle.warm_frames.specs.declared.message.Message.TheVariants.{Entries}
 use Rattle.warm_shards.specs.Shards.{of_shard, shard_of}
 
 -- as many parts as shards, of each shard the references of the batch to its pages
-pub record AreParts (count : ℕ) (batch : List Reference) (parts : List (List Reference)) : Type 0 where
+pub record AreParts (count : ℕ) (batch : List Reference) (parts : List (List Reference))
+    : Type 0 where
   pub size : length parts ≡ count
   pub part : (i : ℕ) → i < count
       → slice_index_or parts i [] ≡ (of_shard count i (set_of_list batch)).given

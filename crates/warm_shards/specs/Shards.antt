@@ -12,7 +12,7 @@ use Rattle.warm_history.specs.Histories.{references_of}
 use Rattle.warm_pool.specs.Counting.{resident_pages}
 use Rattle.warm_pool.specs.State.{fresh_pool}
 use Rattle.warm_pool.specs.View.{PoolView, frame_at, view_of}
-use Rattle.warm_gossip.specs.State.{NodeState, NodeView, opened_node}
+use Rattle.warm_gossip.specs.State.{NodeState, NodeView, node_view, opened_node}
 
 -- a valid number of shards: a power of two, up to the number of buckets
 abbrev pub IsShardCount : ℕ → Type 0
@@ -55,11 +55,17 @@ of_first_shards count k S = filter_references (λ r. nat_lt (shard_of count r.pa
 
 -- The invariant
 
+-- each page in a frame is of this shard
+abbrev pub HasPagesOf : ℕ → ℕ → PoolView → Type 0
+HasPagesOf count i v = (k : ℕ) (p : PageId) → (frame_at v k).page ≡ Some p → shard_of count p ≡ i
+
 -- the node knows pages of this shard alone, and no other page is in its pool
-pub record HoldsShard (count i : ℕ) (n : NodeState) : Type 0 where
+pub record HoldsPagesOf (count i : ℕ) (n : NodeView) : Type 0 where
   pub known : AllByRecursion (λ e. shard_of count e.page ≡ i) (entries_of n.history)
-  pub resident : (k : ℕ) (p : _) → (frame_at (view_of n.pool) k).page ≡ Some p
-      → shard_of count p ≡ i
+  pub resident : HasPagesOf count i n.pool
+
+abbrev pub HoldsShard : ℕ → ℕ → NodeState → Type 0
+HoldsShard count i n = HoldsPagesOf count i (node_view n)
 
 -- the node is the shard of this number, of a count of shards with this id and this horizon
 pub record IsShard (count number latest i : ℕ) (n : NodeState) : Type 0 where

@@ -2,16 +2,16 @@
 use Rattle.std.specs.Prelude.{◌≡◌, ◌⊎◌, ℕ, ◌<◌, ◌≤◌, false, List, [], length}
 use Rattle.warm_history.specs.ReferenceSets.{with_horizon}
 use Rattle.warm_history.specs.Histories.{history, history_of_entries_at, references_of}
-use Rattle.warm_pool.specs.Forgetting.{ForgetRefused, Forgets}
+use Rattle.warm_pool.specs.Forgetting.{ForgetRefused, Forgets, MayForget}
 use Rattle.warm_pool.specs.Frames.{nth_frame}
 use Rattle.warm_pool.specs.Keeping.{KeepsBytes}
 use Rattle.warm_pool.specs.Retiring.{Emptied}
 use Rattle.warm_pool.specs.State.{IsSettled, PoolState}
-use Rattle.warm_pool.specs.View.{view_of}
+use Rattle.warm_pool.specs.View.{IsFixed, IsUnfixed, view_of}
 use Rattle.warm_pool.specs.WritingSome.{SomeFails}
-use Rattle.warm_pool.specs.declared.fault.PoolFault.TheVariants.{Fault}
+use Rattle.warm_pool.specs.declared.fault.PoolFault.TheVariants.{Fault, Fixed}
 use Rattle.warm_gossip.specs.declared.call.Call.TheVariants.{Restart}
-use Rattle.warm_gossip.specs.declared.call.Reply.TheVariants.{Done, Refused}
+use Rattle.warm_gossip.specs.declared.call.Reply.TheVariants.{Done}
 use Rattle.warm_gossip.specs.declared.fault.NodeFault.{NodeFault}
 use Rattle.warm_gossip.specs.declared.fault.NodeFault.TheVariants.{Pool}
 use Rattle.warm_gossip.specs.Clauses.{Goes, OfPool, SameView}
@@ -21,19 +21,22 @@ use Rattle.warm_shards.specs.Clauses.{KeepsKnown}
 use Rattle.warm_shards.specs.Shards.{shard_at, whole}
 
 -- each shard has changed so
-pub record OfEach (change : NodeState → NodeState → Type 0) (old new : List NodeState) : Type 0 where
+pub record OfEach (change : NodeState → NodeState → Type 0) (old new : List NodeState)
+    : Type 0 where
   pub count : length new ≡ length old
   pub each : (i : ℕ) → i < length old → change (shard_at old i) (shard_at new i)
 
 -- the first k shards have changed so, and the others are unchanged
-pub record OfFirst (change : NodeState → NodeState → Type 0) (k : ℕ) (old new : List NodeState) : Type 0 where
+pub record OfFirst (change : NodeState → NodeState → Type 0) (k : ℕ) (old new : List NodeState)
+    : Type 0 where
   pub count : length new ≡ length old
   pub first : (i : ℕ) → i < k → change (shard_at old i) (shard_at new i)
   pub rest : (i : ℕ) → k ≤ i → shard_at new i ≡ shard_at old i
 
 -- the call stopped at one shard: those before it have changed in the first way, it has in the
 -- second, and those after it have in the third
-pub record StopsAt (done fails left : NodeState → NodeState → Type 0) (old new : List NodeState) : Type 0 where
+pub record StopsAt (done fails left : NodeState → NodeState → Type 0) (old new : List NodeState)
+    : Type 0 where
   pub count : length new ≡ length old
   pub shard : ℕ
   pub there : shard < length old
@@ -49,9 +52,17 @@ IsUnchanged old new = new ≡ old
 abbrev pub ForgetsPages : ℕ → ℕ → NodeState → NodeState → Type 0
 ForgetsPages dev from old new = KeepsKnown old new × Forgets old.pool dev from new.pool
 
-abbrev pub ForgetFails : ℕ → ℕ → NodeFault → NodeState → NodeState → Type 0
-ForgetFails dev from why old new = KeepsKnown old new
-    × OfPool (λ fault. ForgetRefused old.pool dev from fault new.pool) why
+-- each shard may forget these pages
+abbrev pub MayForgetEach : ℕ → ℕ → List NodeState → Type 0
+MayForgetEach dev from shards = (i : ℕ) → i < length shards
+    → MayForget (shard_at shards i).pool dev from
+
+-- some shard may not, for this reason
+pub record ForgetIsRefused (dev from : ℕ) (why : NodeFault) (shards : List NodeState) : Type 0 where
+  pub shard : ℕ
+  pub there : shard < length shards
+  pub refuses : let pool = (shard_at shards shard).pool in
+      OfPool (λ fault. ForgetRefused pool dev from fault pool) why
 
 -- Writing back
 
@@ -87,8 +98,15 @@ WriteBackStops old new = StopsAt IsWritten WriteFails IsUnchanged old new
 abbrev pub Restarts : NodeState → NodeState → Type 0
 Restarts old new = Goes old Restart Done new × IsSettled new.pool
 
-abbrev pub RestartFails : NodeFault → NodeState → NodeState → Type 0
-RestartFails why old new = Goes old Restart (Refused why) new
+-- no page of any shard is pinned
+abbrev pub AreUnfixed : List NodeState → Type 0
+AreUnfixed shards = (i : ℕ) → i < length shards → IsUnfixed (view_of (shard_at shards i).pool)
+
+-- a page of some shard is pinned
+pub record HasFixed (shards : List NodeState) : Type 0 where
+  pub shard : ℕ
+  pub there : shard < length shards
+  pub fixed : IsFixed (view_of (shard_at shards shard).pool)
 
 -- the horizon of the shard is this one, if that is later
 abbrev pub Rises : ℕ → NodeState → NodeState → Type 0
@@ -103,8 +121,16 @@ pub record HasForgotten (horizon : ℕ) (old new : NodeState) : Type 0 where
   pub emptied : Emptied (view_of old.pool) (view_of new.pool)
   pub settled : IsSettled new.pool
 
--- Not all pages could be written back, and nothing was forgotten. Or all were, and one shard did not
--- restart: those before it have forgotten their references, at the horizon of all.
-abbrev pub RestartStops : List NodeState → NodeFault → List NodeState → Type 0
-RestartStops old why new = ((why ≡ Pool Fault) × WriteBackStops old new)
-    ⊎ StopsAt (HasForgotten (whole old).horizon) (RestartFails why) Settles old new
+-- Not all pages could be written back, and nothing was forgotten. Or all were, and a device of one
+-- shard failed as it restarted: those before it have forgotten their references, at the horizon of
+-- all.
+abbrev pub RestartStops : List NodeState → List NodeState → Type 0
+RestartStops old new = WriteBackStops old new
+    ⊎ StopsAt (HasForgotten (whole old).horizon) FlushFails Settles old new
+
+-- why shards do not restart: a page is pinned, and nothing has changed; or none is, and a device
+-- failed
+abbrev pub RestartRefused : List NodeState → NodeFault → List NodeState → Type 0
+RestartRefused old (Pool Fixed) new = HasFixed old × (new ≡ old)
+RestartRefused old (Pool Fault) new = AreUnfixed old × RestartStops old new
+RestartRefused old why new = ⊥

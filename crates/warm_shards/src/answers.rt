@@ -161,7 +161,8 @@ fn one_node<D: PageDevice>(alloc: Global, nodes: &Vec<Node<D>>) -> Result<Node<D
     Ok(one)
 }
 
-// The answer to a message at a later horizon: that of a copy, which is raised in place of the shards.
+// The answer to a message at a later horizon: that of a copy, which is raised in place of the
+// shards.
 fn answered_by_copy<D: PageDevice>(
     alloc: Global,
     nodes: &Vec<Node<D>>,

@@ -32,7 +32,8 @@ impl<D: PageDevice> Shards<D> {
         ensures shard { IfOk result (λ at. at.shard ≡ shard_of (length self.old) page) }
         ensures known { let i = shard_of (length self.old) page in
             KeepsKnown (shard_at self.old i) (shard_at self.new i) }
-        ensures pinned { let i = shard_of (length self.old) page in let old = shard_at self.old i in
+        ensures pinned { let i = shard_of (length self.old) page in
+            let old = shard_at self.old i in
             IfOk result (λ at. PinnedZeroed old.history (view_of old.pool) page at.slot
             (view_of (shard_at self.new i).pool)) }
         ensures holds { let i = shard_of (length self.old) page in
@@ -40,7 +41,8 @@ impl<D: PageDevice> Shards<D> {
         ensures frame { let i = shard_of (length self.old) page in
             IfOk result (λ at. TakesZeroed (shard_at self.old i).pool page at.slot
             (shard_at self.new i).pool) }
-        ensures refused { let i = shard_of (length self.old) page in let old = shard_at self.old i in
+        ensures refused { let i = shard_of (length self.old) page in
+            let old = shard_at self.old i in
             IfErr result (OfPool (λ fault. ZeroedRefused old.history (view_of old.pool) page fault
             (view_of (shard_at self.new i).pool))) }
         ensures stays { let i = shard_of (length self.old) page in
@@ -48,7 +50,8 @@ impl<D: PageDevice> Shards<D> {
             (view_of (shard_at self.new i).pool)) }
         ensures frames { let i = shard_of (length self.old) page in
             OnErr result (KeepsFrames (shard_at self.old i).pool (shard_at self.new i).pool) }
-        ensures devices { let i = shard_of (length self.old) page in let old = shard_at self.old i in
+        ensures devices { let i = shard_of (length self.old) page in
+            let old = shard_at self.old i in
             IfErr result (OfPool (λ fault. LeavesDevices old.history old.pool page fault
             (shard_at self.new i).pool)) }
         ensures others { KeepsOthers self.old (shard_of (length self.old) page) self.new }
@@ -102,8 +105,8 @@ impl<D: PageDevice> Shards<D> {
     /// Each shard has a device of its own of this number.
     ///
     /// # Errors
-    /// Those of [`warm_gossip::Node::retire`] of the shard, with the same effects. Each gives the new
-    /// device back.
+    /// Those of [`warm_gossip::Node::retire`] of the shard, with the same effects. Each gives the
+    /// new device back.
     pub fn retire(&mut self, shard: usize, dev: u16, device: D) -> Result<(), RetireError<D>>
         requires there { shard < length self.old }
         ensures known { KeepsKnown (shard_at self.old shard) (shard_at self.new shard) }

@@ -18,10 +18,13 @@ pub enum ShardsFault {
     /// 3: a node has another id, or it has a horizon, an entry or a resident page.
     #[error("NotOpened")]
     NotOpened,
+    /// 4: a node has another id, or an entry or a resident page of another shard.
+    #[error("NotShards")]
+    NotShards,
 }
 
 impl ShardsFault {
-    /// The number of the refusal, 1 to 3.
+    /// The number of the refusal, 1 to 4.
     pub fn code(self) -> u8
         ensures { result ≡ code_of self }
     {
@@ -29,6 +32,7 @@ impl ShardsFault {
             ShardsFault::BadCount => 1,
             ShardsFault::Uneven => 2,
             ShardsFault::NotOpened => 3,
+            ShardsFault::NotShards => 4,
         }
     }
 
@@ -40,6 +44,7 @@ impl ShardsFault {
             ShardsFault::BadCount => "BadCount",
             ShardsFault::Uneven => "Uneven",
             ShardsFault::NotOpened => "NotOpened",
+            ShardsFault::NotShards => "NotShards",
         }
     }
 }

@@ -221,8 +221,8 @@ impl<D: PageDevice> Shards<D> {
     ///
     /// # Errors
     /// `Memory`: an allocation failed. All shards then have the message's horizon, where that is
-    /// later, and the first shards have taken in the references to their pages; the others have not,
-    /// and nothing was answered. To receive the message once more does no harm.
+    /// later, and the first shards have taken in the references to their pages; the others have
+    /// not, and nothing was answered. To receive the message once more does no harm.
     pub fn receive(&mut self, message: Message) -> Result<MessageList, NodeFault>
         ensures received { IfOk result (λ answers. Together self.old (Receive message)
             (Answers answers) self.new) }
@@ -234,8 +234,8 @@ impl<D: PageDevice> Shards<D> {
     }
 
     /// Takes in all that another history stands for, as a restored history is brought: of all
-    /// references of both, those are kept that are not before the later horizon. Several shards copy
-    /// the other history's references.
+    /// references of both, those are kept that are not before the later horizon. Several shards
+    /// copy the other history's references.
     ///
     /// # Errors
     /// `Memory`: an allocation failed. All shards then have the other horizon, where that is later,

@@ -1,11 +1,12 @@
-//! Laws of shards. Each function changes nothing: its contract is a theorem, which `specs/Laws.antt`
-//! states in full.
-ghost use Rattle.warm_shards.specs.Laws.{FirstAreGiven, ShardVictimsAreFarthest, ShardsStand};
-ghost use Rattle.warm_shards.specs.Laws.{WholeIsOfGiven};
+//! Laws of shards. Each function changes nothing: its contract is a theorem, which
+//! `specs/Laws.antt` states in full.
+ghost use Rattle.warm_shards.specs.Laws.{FailuresStayInShard, FirstAreGiven};
+ghost use Rattle.warm_shards.specs.Laws.{ShardVictimsAreFarthest, ShardsStand};
+ghost use Rattle.warm_shards.specs.Laws.{StepsStayInShard, WholeIsOfGiven};
 
-/// Whatever references all shards together stand for, after a call of the whole they stand for those
-/// with what the call gave: that of a batch, of a message, of a horizon. So they stand for all
-/// references that reached the replica, as one node does.
+/// Whatever references all shards together stand for, after a call of the whole they stand for
+/// those with what the call gave: that of a batch, of a message, of a horizon. So they stand for
+/// all references that reached the replica, as one node does.
 pub fn whole_is_of_given()
     ensures { WholeIsOfGiven }
 {}
@@ -27,4 +28,16 @@ pub fn shards_stand()
 /// stand.
 pub fn victims_are_farthest()
     ensures { ShardVictimsAreFarthest }
+{}
+
+/// A node that knows pages of one shard alone, and has no other page in its pool, is so after any
+/// call that brings no page of another shard. So nodes that were asked as shards alone can be
+/// shards again: see [`crate::Shards::from_nodes`].
+pub fn steps_stay_in_shard()
+    ensures { StepsStayInShard }
+{}
+
+/// The same after a call of a device failed: as of a write-back that was refused.
+pub fn failures_stay_in_shard()
+    ensures { FailuresStayInShard }
 {}

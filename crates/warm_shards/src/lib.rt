@@ -17,6 +17,7 @@
 mod answers;
 mod engine_calls;
 mod fault;
+mod forming;
 mod gossip;
 mod history_calls;
 pub mod laws;

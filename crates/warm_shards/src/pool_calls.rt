@@ -152,8 +152,8 @@ impl<D: PageDevice> Shards<D> {
     }
 
     /// Loads the hottest page of a shard that is not resident and that a device has, among as many
-    /// of the shard's hottest as it has frames: the call `WarmStep` of the shard. A standby calls it
-    /// for each shard until it returns `None`.
+    /// of the shard's hottest as it has frames: the call `WarmStep` of the shard. A standby calls
+    /// it for each shard until it returns `None`.
     ///
     /// # Errors
     /// Those of [`warm_gossip::Node::warm_step`] of the shard, with the same effects.

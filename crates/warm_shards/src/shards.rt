@@ -52,11 +52,11 @@ pub fn is_shard_count(count: usize) -> bool
     count.is_power_of_two() && count <= usize::from(BUCKETS)
 }
 
-/// How many frames each shard has where this many are divided among so many shards.
+/// How many frames each shard has where this many are divided among this many shards.
 /// Allocation-free.
 ///
 /// # Errors
-/// In this order: `BadCount`, where there cannot be so many shards; `Uneven`, where the frames
+/// In this order: `BadCount`, where there cannot be this many shards; `Uneven`, where the frames
 /// cannot be divided evenly.
 pub fn frames_of_shard(frames: usize, shards: usize) -> Result<usize, ShardsFault>
     ensures divided { IfOk result (λ each. IsShardCount shards × (each * shards ≡ frames)) }
@@ -85,8 +85,8 @@ impl<D: PageDevice> Shards<D> {
     /// has this number, has received no reference, and no page is in its pool. Allocation-free.
     ///
     /// # Errors
-    /// In this order: `BadCount`, where there cannot be so many shards; `NotOpened`, where a node is
-    /// not so. The nodes are given back.
+    /// In this order: `BadCount`, where there cannot be this many shards; `NotOpened`, where a node
+    /// is not so. The nodes are given back.
     pub fn new(
         alloc: Global,
         id: ReplicaId,
