@@ -1,18 +1,15 @@
 -- The laws of shared shards.
-use Rattle.std.specs.Prelude.{◌≡◌, ℕ, ◌<◌, List, [], ◌∷◌, ◌++◌, length, Option, Some, None, Ok}
-use Rattle.std.specs.List.{AllByRecursion}
+use Rattle.std.specs.Prelude.{ℕ, ◌<◌, List, [], ◌∷◌, ◌++◌, length, Option, Some, None, Ok}
 use mathlib.Core.List.{IsPrefix}
 use Rattle.warm_history.specs.ReferenceSets.{ReferenceSet, set_of_list, ◌∪◌}
-use Rattle.warm_history.specs.Histories.{HistoryView, StandsFor, entries_of, references_of, history}
-use Rattle.warm_pool.specs.View.{frame_at}
+use Rattle.warm_history.specs.Histories.{HistoryView, StandsFor, references_of, history}
 use Rattle.warm_turn.specs.declared.table.Entry.{Entry}
 use Rattle.warm_turn.specs.CallHistories.{Runs, entry}
 use Rattle.warm_gossip.specs.declared.call.Call.{Call}
 use Rattle.warm_gossip.specs.declared.call.Reply.{Reply}
 use Rattle.warm_gossip.specs.Given.{given_by_calls}
-use Rattle.warm_gossip.specs.State.{NodeState, NodeView}
-use Rattle.warm_shards.specs.Shards.{AreShards, HoldsShard, shard_of}
-use Rattle.warm_stamps.specs.declared.PageId.{PageId}
+use Rattle.warm_gossip.specs.State.{NodeState, NodeView, node_view}
+use Rattle.warm_shards.specs.Shards.{AreShards, HoldsPagesOf}
 use Rattle.warm_stamps.specs.declared.Reference.{Reference}
 use Rattle.warm_shared.specs.declared.call.ShardCall.{ShardCall}
 use Rattle.warm_shared.specs.declared.call.ShardReply.{ShardReply}
@@ -71,12 +68,6 @@ ShardIsOfGiven = (S : ReferenceSet) (opening last : ShardView)
 
 -- The pages of a shard
 
--- what a caller sees of a node: it knows pages of this shard alone, and no other page is in its pool
-pub record HoldsPagesOf (count number : ℕ) (node : NodeView) : Type 0 where
-  pub known : AllByRecursion (λ e. shard_of count e.page ≡ number) (entries_of node.history)
-  pub resident : (k : ℕ) (p : PageId) → (frame_at node.pool k).page ≡ Some p
-      → shard_of count p ≡ number
-
 -- Shards that are to be shared hold their own pages alone. A shard that opened so does so after any
 -- legal list of its calls, and so does its node once the shard is closed.
 pub record ShardsHoldTheirPages : Type 0 where
@@ -89,7 +80,7 @@ pub record ShardsHoldTheirPages : Type 0 where
   pub closed : (turn : ShardTurn) (known : Known) (node : NodeState)
       → HoldsPagesOf turn.opening.count turn.opening.number turn.opening.node
       → ClosesShard turn known (Ok node)
-      → HoldsShard turn.opening.count turn.opening.number node
+      → HoldsPagesOf turn.opening.count turn.opening.number (node_view node)
 
 -- All shards
 
