@@ -294,8 +294,10 @@ fn is_passed_on<R: Wait + Abort>(
     attached_there: &mut Attached<MemDevice>,
     bucket: Bucket,
 ) -> bool
-    requires { (AreOf shared.now attached.old.passes) × (AreOf others.now attached_there.old.passes) }
-    ensures { (AreOf shared.now attached.new.passes) × (AreOf others.now attached_there.new.passes) }
+    requires these { AreOf shared.now attached.old.passes }
+    requires those { AreOf others.now attached_there.old.passes }
+    ensures these { AreOf shared.now attached.new.passes }
+    ensures those { AreOf others.now attached_there.new.passes }
 {
     let Ok(message) = shared.send(rt, attached, bucket, None) else {
         return false;

@@ -7,3 +7,4 @@ pub mod Firsts
 pub mod Parts
 pub mod LawsHold
 pub mod Sent
+pub mod Holding

@@ -1,5 +1,5 @@
 -- The laws of shared shards.
-use Rattle.std.specs.Prelude.{ℕ, ◌<◌, List, [], ◌∷◌, ◌++◌, length, Option, Some, None}
+use Rattle.std.specs.Prelude.{ℕ, ◌<◌, List, [], ◌∷◌, ◌++◌, length, Option, Some, None, Ok}
 use mathlib.Core.List.{IsPrefix}
 use Rattle.warm_history.specs.ReferenceSets.{ReferenceSet, set_of_list, ◌∪◌}
 use Rattle.warm_history.specs.Histories.{HistoryView, StandsFor, references_of, history}
@@ -8,13 +8,14 @@ use Rattle.warm_turn.specs.CallHistories.{Runs, entry}
 use Rattle.warm_gossip.specs.declared.call.Call.{Call}
 use Rattle.warm_gossip.specs.declared.call.Reply.{Reply}
 use Rattle.warm_gossip.specs.Given.{given_by_calls}
-use Rattle.warm_gossip.specs.State.{NodeView}
+use Rattle.warm_gossip.specs.State.{NodeState, NodeView, node_view}
+use Rattle.warm_shards.specs.Shards.{AreShards, HoldsPagesOf}
 use Rattle.warm_stamps.specs.declared.Reference.{Reference}
 use Rattle.warm_shared.specs.declared.call.ShardCall.{ShardCall}
 use Rattle.warm_shared.specs.declared.call.ShardReply.{ShardReply}
-use Rattle.warm_shared.specs.Attached.{ShardPass, known_of}
+use Rattle.warm_shared.specs.Attached.{Known, ShardPass, ShardTurn, known_of}
 use Rattle.warm_shared.specs.Clauses.{Answered}
-use Rattle.warm_shared.specs.Opening.{AreJoined}
+use Rattle.warm_shared.specs.Opening.{AreJoined, ClosesShard, shards_over, view_at}
 use Rattle.warm_shared.specs.ShardSteps.{NodeStep, ShardStep, ShardView, node_call_of}
 use Rattle.warm_shared.specs.ShardSteps.{node_reply_of}
 use Rattle.warm_shared.specs.Whole.{AbsorbsFirst, DoneFirst, RaisesFirst}
@@ -64,6 +65,22 @@ abbrev pub ShardIsOfGiven : Type 0
 ShardIsOfGiven = (S : ReferenceSet) (opening last : ShardView)
     (calls : List (Entry ShardCall ShardReply)) → StandsFor opening.node.history S
     → Runs ShardStep opening calls last → StandsFor last.node.history (given_to_shard S calls)
+
+-- The pages of a shard
+
+-- Shards that are to be shared hold their own pages alone. A shard that opened so does so after any
+-- legal list of its calls, and so does its node once the shard is closed.
+pub record ShardsHoldTheirPages : Type 0 where
+  pub opened : (nodes : List NodeState) (i : ℕ) → AreShards nodes → i < length nodes
+      → HoldsPagesOf (length nodes) i (view_at (shards_over nodes) i).node
+  pub called : (opening last : ShardView) (calls : List (Entry ShardCall ShardReply))
+      → HoldsPagesOf opening.count opening.number opening.node
+      → Runs ShardStep opening calls last
+      → HoldsPagesOf opening.count opening.number last.node
+  pub closed : (turn : ShardTurn) (known : Known) (node : NodeState)
+      → HoldsPagesOf turn.opening.count turn.opening.number turn.opening.node
+      → ClosesShard turn known (Ok node)
+      → HoldsPagesOf turn.opening.count turn.opening.number (node_view node)
 
 -- All shards
 

@@ -1,7 +1,7 @@
 //! Laws of shared shards. Each function changes nothing: its contract is a theorem, which
 //! `specs/Laws.antt` states in full.
 ghost use Rattle.warm_shared.specs.Laws.{CallsAreANodes, OnlySeesMore, ShardIsOfGiven};
-ghost use Rattle.warm_shared.specs.Laws.{TogetherAreOfGiven};
+ghost use Rattle.warm_shared.specs.Laws.{ShardsHoldTheirPages, TogetherAreOfGiven};
 ghost use Rattle.std.specs.Thread.{IsSend, IsSync};
 ghost use Rattle.warm_shared.specs.contracts.shared.Attached.{the_row as attached_row};
 ghost use Rattle.warm_shared.specs.contracts.shared.SharedShards.{the_row as shared_row};
@@ -20,8 +20,15 @@ pub fn shard_is_of_given()
     ensures { ShardIsOfGiven }
 {}
 
-/// Where each shard has the history of the references that it was given, the histories of all shards
-/// together are that of all the references that all were given.
+/// A shard holds the pages of its buckets alone: it knows no other page, and no other is in its
+/// pool. Shards that are to be shared are so, a shard that opened so stays so whatever it is called,
+/// and so is the node that is left of it once it is closed.
+pub fn shards_hold_their_pages()
+    ensures { ShardsHoldTheirPages }
+{}
+
+/// Where each shard has the history of the references that it was given, the histories of all
+/// shards together are that of all the references that all were given.
 pub fn together_are_of_given()
     ensures { TogetherAreOfGiven }
 {}
