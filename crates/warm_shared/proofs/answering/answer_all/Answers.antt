@@ -1,11 +1,7 @@
-use Rattle.std.proofs.Common.{◌≡◌, ◌≢◌, inl, inr, ℕ, ◌<◌, List, [], ◌∷◌, ◌++◌, append-nil, flat_map, length, refl, sym, ap, subst, ◌∙◌, arith}
+use Rattle.std.proofs.Common.{◌≡◌, ◌≢◌, inl, ◌<◌, List, [], ◌∷◌, ◌++◌, append-nil, flat_map, length, refl, sym, ap, subst, ◌∙◌, arith}
 use Rattle.std.proofs.lemmas.Bool.{eqb-false, eqb-true}
 use Rattle.warm_frames.specs.declared.message.Message.{Message}
-use Rattle.warm_shared.specs.declared.call.ShardCall.TheVariants.{Answer}
-use Rattle.warm_shared.specs.declared.call.ShardReply.TheVariants.{Answers}
 use Rattle.warm_shared.specs.Answering.{AnswersPart, IsPartOf}
-use Rattle.warm_shared.specs.Attached.{known_of}
-use Rattle.warm_shared.specs.Clauses.{Got}
 use Rattle.warm_shared.proofs.Gathering.{none_gave, one_gave, same_gave}
 use Rattle.warm_shared.proofs.Requests.{messages_more}
 use Rattle.warm_shared.proofs.answering.answer_all.Goals as goal
