@@ -48,12 +48,7 @@ impl Sharded {
         Ok(Sharded { shards, device })
     }
 
-    pub(crate) fn rows<P: Print>(
-        self,
-        rt: &P,
-        met: &mut Met,
-        alloc: Global,
-    ) -> Result<(), Ended> {
+    pub(crate) fn rows<P: Print>(self, rt: &P, met: &mut Met, alloc: Global) -> Result<(), Ended> {
         let Sharded { mut shards, device } = self;
         let at = pinned(rt, met, &mut shards)?;
         written(rt, met, &mut shards, at)?;
@@ -150,12 +145,7 @@ fn all_shards<P: Print>(rt: &P, met: &mut Met, shards: &mut TwoShards) -> Result
     met.holds(shards.restart().is_ok(), "shards do not restart")
 }
 
-fn formed<P: Print>(
-    rt: &P,
-    met: &mut Met,
-    alloc: Global,
-    shards: TwoShards,
-) -> Result<(), Ended> {
+fn formed<P: Print>(rt: &P, met: &mut Met, alloc: Global, shards: TwoShards) -> Result<(), Ended> {
     let id = shards.id();
     takes_none(rt, "from_nodes of shards")?;
     let formed = Shards::from_nodes(alloc, id, shards.into_nodes());
