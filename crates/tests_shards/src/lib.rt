@@ -8,6 +8,8 @@ mod alike;
 #[cfg(test)]
 mod engine;
 #[cfg(test)]
+mod gossip_shared;
+#[cfg(test)]
 mod kit;
 #[cfg(test)]
 mod pages;

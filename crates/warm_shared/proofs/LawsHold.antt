@@ -19,7 +19,7 @@ use Rattle.warm_stamps.specs.declared.Reference.{Reference}
 use Rattle.warm_shared.specs.declared.call.ShardCall.{ShardCall}
 use Rattle.warm_shared.specs.declared.call.ShardCall.TheVariants.{Absorb}
 use Rattle.warm_shared.specs.declared.call.ShardReply.{ShardReply}
-use Rattle.warm_shared.specs.declared.call.ShardReply.TheVariants.{Done, Kept, Pinned, Bytes, Page, Loaded, Sent, Foreign, Refused}
+use Rattle.warm_shared.specs.declared.call.ShardReply.TheVariants.{Done, Kept, Pinned, Bytes, Page, Loaded, Sent, Answers, Foreign, Refused}
 use Rattle.warm_shared.specs.Attached.{Known, ShardPass, known_of, no_pass, shard_pass}
 use Rattle.warm_shared.specs.Clauses.{Answered, Got}
 use Rattle.warm_shared.specs.Laws.{CallsAreANodes, OnlySeesMore, SeesMore, ShardIsOfGiven, StepOrWriteBack, TogetherAreOfGiven, all_of, held_by, node_calls, node_entries, node_steps}
@@ -40,6 +40,7 @@ next o y z e es step rest (Bytes b) is = rw is (y.node, (subst (λ r. ShardStep 
 next o y z e es step rest (Page p) is = rw is (y.node, (subst (λ r. ShardStep o e.call r y) is step).2, rest)
 next o y z e es step rest (Loaded p) is = rw is (y.node, (subst (λ r. ShardStep o e.call r y) is step).2, rest)
 next o y z e es step rest (Sent m) is = rw is (y.node, (subst (λ r. ShardStep o e.call r y) is step).2, rest)
+next o y z e es step rest (Answers ms) is = rw is (y.node, (subst (λ r. ShardStep o e.call r y) is step).2, rest)
 next o y z e es step rest (Refused w) is = rw is (y.node, (subst (λ r. ShardStep o e.call r y) is step).2, rest)
 
 pub calls_are_a_nodes : CallsAreANodes
@@ -71,6 +72,7 @@ call_given S o y by c (Bytes b) stands step = one_given S o.node y.node by (node
 call_given S o y by c (Page p) stands step = one_given S o.node y.node by (node_call_of c) (node_reply.Page p) stands step.2
 call_given S o y by c (Loaded p) stands step = one_given S o.node y.node by (node_call_of c) (node_reply.Loaded p) stands step.2
 call_given S o y by c (Sent m) stands step = one_given S o.node y.node by (node_call_of c) (node_reply.Sent m) stands step.2
+call_given S o y by c (Answers ms) stands step = one_given S o.node y.node by (node_call_of c) (node_reply.Answers ms) stands step.2
 call_given S o y by c (Refused w) stands step = one_given S o.node y.node by (node_call_of c) (node_reply.Refused w) stands step.2
 
 pub shard_is_of_given : ShardIsOfGiven

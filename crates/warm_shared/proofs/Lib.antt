@@ -4,6 +4,8 @@ pub mod Passing
 pub mod Numbering
 pub mod Ending
 pub mod Firsts
+pub mod Gathering
 pub mod Parts
+pub mod Requests
 pub mod LawsHold
 pub mod Sent

@@ -26,11 +26,11 @@ module _ {A : Type 0} where
           subst (P k) (sym (get_or-set_other xs i k a d other)) (old k other)
 
 module _ {A : Type 0} where
-  get_last : (xs : List A) (a d : A) → get_or (xs ++ a ∷ []) (length xs) d ≡ a
+  pub get_last : (xs : List A) (a d : A) → get_or (xs ++ a ∷ []) (length xs) d ≡ a
   get_last [] a d = refl
   get_last (x ∷ xs) a d = get_last xs a d
 
-  get_front : (xs : List A) (a d : A) (i : ℕ) → i < length xs
+  pub get_front : (xs : List A) (a d : A) (i : ℕ) → i < length xs
       → get_or (xs ++ a ∷ []) i d ≡ get_or xs i d
   get_front [] a d i lt = absurd (omega arith)
   get_front (x ∷ xs) a d zero lt = refl

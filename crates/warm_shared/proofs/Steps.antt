@@ -5,7 +5,7 @@ use Rattle.warm_turn.specs.declared.table.Entry.{Entry}
 use Rattle.warm_turn.specs.CallHistories.{Called, Runs, entry}
 use Rattle.warm_shared.specs.declared.call.ShardCall.{ShardCall}
 use Rattle.warm_shared.specs.declared.call.ShardReply.{ShardReply}
-use Rattle.warm_shared.specs.declared.call.ShardReply.TheVariants.{Done, Kept, Pinned, Bytes, Page, Loaded, Sent, Foreign, Refused}
+use Rattle.warm_shared.specs.declared.call.ShardReply.TheVariants.{Done, Kept, Pinned, Bytes, Page, Loaded, Sent, Answers, Foreign, Refused}
 use Rattle.warm_shared.specs.Attached.{Known}
 use Rattle.warm_shared.specs.Clauses.{MayAnswer}
 use Rattle.warm_shared.specs.ShardSteps.{IsOwn, NodeStep, ShardStep, ShardView, node_call_of, node_reply_of}
@@ -27,6 +27,7 @@ step_keeps x y c (Bytes b) step = only_node x y step.1
 step_keeps x y c (Page p) step = only_node x y step.1
 step_keeps x y c (Loaded p) step = only_node x y step.1
 step_keeps x y c (Sent m) step = only_node x y step.1
+step_keeps x y c (Answers ms) step = only_node x y step.1
 step_keeps x y c (Refused w) step = only_node x y step.1
 
 pub runs_keep : (x z : ShardView) (es : List (Entry ShardCall ShardReply)) → Runs ShardStep x es z
@@ -57,6 +58,7 @@ own_step x y c (Bytes b) own step = step.2
 own_step x y c (Page p) own step = step.2
 own_step x y c (Loaded p) own step = step.2
 own_step x y c (Sent m) own step = step.2
+own_step x y c (Answers ms) own step = step.2
 own_step x y c (Refused w) own step = step.2
 
 pub may_answer : (v w : Known) (c : ShardCall) (r : ShardReply) (o : ShardView)

@@ -5,4 +5,5 @@ pub mod Faults
 pub mod Opening
 pub mod Whole
 pub mod Laws
+pub mod Answering
 pub mod Gossip

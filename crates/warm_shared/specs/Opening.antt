@@ -14,7 +14,7 @@ use Rattle.warm_shared.specs.Attached.{shard_turn}
 use Rattle.warm_shared.specs.ShardSteps.{ShardState, ShardStep, ShardView, no_shard_view, shard_over}
 use Rattle.warm_shared.specs.ShardSteps.{shard_view}
 
--- the shards over these nodes, numbered from i on, of so many
+-- the shards over these nodes, numbered from i on, of this many
 abbrev pub shards_from : ℕ → ℕ → List NodeState → List ShardView
 shards_from count i [] = []
 shards_from count i (n ∷ ns) = shard_over count i n ∷ shards_from count (suc i) ns
@@ -70,7 +70,7 @@ pub record AreClosed (turns : List ShardTurn) (passes : List ShardPass)
   pub each : (i : ℕ) (d : Result NodeState Busy) → i < length turns
       → ClosesShard (shard_turn turns i) (known_of passes i) (slice_index_or nodes i d)
 
--- why shards are not closed, where the thread holds so many pins
+-- why shards are not closed, where the thread holds this many pins
 abbrev pub IsCloseRefused : ℕ → SharedFault → Type 0
 IsCloseRefused pins PinsHeld = pins ≢ 0
 IsCloseRefused pins (Node Memory) = pins ≡ 0

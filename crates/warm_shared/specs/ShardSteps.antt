@@ -1,6 +1,10 @@
 -- A shard as a machine: the calls of a node that it answers, and its steps.
-use Rattle.std.specs.Prelude.{◌≡◌, ℕ, length, Option, Some, None, Result, Ok, Err}
+use Rattle.std.specs.Prelude.{◌≡◌, ℕ, ◌%◌, ◌<◌, length, Option, Some, None, Result, Ok, Err}
+use Rattle.std.specs.Int.{bit_at}
 use Rattle.std.specs.List.{All}
+use Rattle.warm_stamps.specs.declared.TheConstants.{BUCKETS}
+use Rattle.warm_frames.specs.declared.message.Message.{Message}
+use Rattle.warm_frames.specs.declared.message.Message.TheVariants.{Want}
 use Rattle.warm_gossip.specs.declared.call.Call.{Call}
 use Rattle.warm_gossip.specs.declared.call.Call.TheVariants as node_call
 use Rattle.warm_gossip.specs.declared.call.Reply.{Reply}
@@ -16,10 +20,12 @@ use Rattle.warm_shards.specs.Shards.{shard_of}
 use Rattle.warm_shared.specs.declared.call.ShardCall.{ShardCall}
 use Rattle.warm_shared.specs.declared.call.ShardCall.TheVariants.{Absorb, Raise, Pin, Unpin, Read}
 use Rattle.warm_shared.specs.declared.call.ShardCall.TheVariants.{Write, Victim, WarmStep}
-use Rattle.warm_shared.specs.declared.call.ShardCall.TheVariants.{Offer, Send, WritePages, WriteBack}
+use Rattle.warm_shared.specs.declared.call.ShardCall.TheVariants.{Answer, Offer, Send}
+use Rattle.warm_shared.specs.declared.call.ShardCall.TheVariants.{WritePages, WriteBack}
 use Rattle.warm_shared.specs.declared.call.ShardReply.{ShardReply}
 use Rattle.warm_shared.specs.declared.call.ShardReply.TheVariants.{Done, Kept, Pinned, Bytes, Page}
-use Rattle.warm_shared.specs.declared.call.ShardReply.TheVariants.{Loaded, Sent, Foreign, Refused}
+use Rattle.warm_shared.specs.declared.call.ShardReply.TheVariants.{Loaded, Sent, Answers, Foreign}
+use Rattle.warm_shared.specs.declared.call.ShardReply.TheVariants.{Refused}
 
 -- a shard: how many there are, its number, and its node
 pub record ShardState : Type 0 where
@@ -46,6 +52,10 @@ no_shard_view = record { count = 0; number = 0; node = empty_node }
 
 -- Calls and replies
 
+-- a request for these buckets, without a horizon: an answer does not depend on its sender
+abbrev pub request_for : ℕ → Message
+request_for request = Want 1 0 request
+
 -- the call of a node that this is, unless it is one that writes back
 abbrev pub node_call_of : ShardCall → Option Call
 node_call_of (Absorb batch) = Some (node_call.Absorb batch)
@@ -58,6 +68,7 @@ node_call_of Victim = Some node_call.Victim
 node_call_of WarmStep = Some node_call.WarmStep
 node_call_of Offer = Some node_call.Offer
 node_call_of (Send bucket after) = Some (node_call.Send bucket after)
+node_call_of (Answer request) = Some (node_call.Receive (request_for request))
 node_call_of WritePages = None
 node_call_of WriteBack = None
 
@@ -70,13 +81,24 @@ node_reply_of (Bytes bytes) = Some (node_reply.Bytes bytes)
 node_reply_of (Page page) = Some (node_reply.Page page)
 node_reply_of (Loaded page) = Some (node_reply.Loaded page)
 node_reply_of (Sent message) = Some (node_reply.Sent message)
+node_reply_of (Answers messages) = Some (node_reply.Answers messages)
 node_reply_of (Refused why) = Some (node_reply.Refused why)
 node_reply_of Foreign = None
 
--- every page that the call brings is of the shard of this number
+-- the number of the shard that has the pages of a bucket, of this many shards
+abbrev pub shard_of_bucket : ℕ → ℕ → ℕ
+shard_of_bucket count bucket = bucket % count
+
+-- all these buckets are of the shard of this number
+abbrev pub AreOwnBuckets : ℕ → ℕ → ℕ → Type 0
+AreOwnBuckets count number buckets = (bucket : ℕ) → bucket < BUCKETS → bit_at buckets bucket ≡ 1
+    → shard_of_bucket count bucket ≡ number
+
+-- every page and every bucket that the call brings is of the shard of this number
 abbrev pub IsOwn : ℕ → ℕ → ShardCall → Type 0
 IsOwn count number (Absorb batch) = All (λ r. shard_of count r.page ≡ number) batch
 IsOwn count number (Pin page) = shard_of count page ≡ number
+IsOwn count number (Answer request) = AreOwnBuckets count number request
 IsOwn count number call = Unit {0}
 
 -- Steps
@@ -94,8 +116,8 @@ NodeStep old call None new = ⊥
 NodeStep old (Some call) (Some reply) new = Step old call reply new
 NodeStep old None (Some reply) new = WritesBack old reply new
 
--- Of a shard's state only the node changes, and it goes as nodes go. A call that brings a page of
--- another shard is refused with `Foreign`, and nothing changes.
+-- Of a shard's state only the node changes, and it goes as nodes go. A call that brings a page, or
+-- a bucket, of another shard is refused with `Foreign`, and nothing changes.
 abbrev pub ShardStep : ShardView → ShardCall → ShardReply → ShardView → Type 0
 ShardStep old call Foreign new = (IsOwn old.count old.number call → ⊥) × (new ≡ old)
 ShardStep old call reply new = IsOwn old.count old.number call

@@ -4,10 +4,10 @@ ghost use Rattle.std.specs.Prelude.{◌≡◌, IfOk};
 
 use std::alloc::{AllocError, Global};
 use std::marker::Model;
-use warm_frames::Message;
+use warm_frames::{Message, MessageList};
 use warm_gossip::NodeFault;
 use warm_pool::Slot;
-use warm_stamps::{Bucket, ByteList, PageId, RefList};
+use warm_stamps::{Bucket, BucketSet, ByteList, PageId, RefList};
 
 /// A call of a shard: a call of its node, or one that writes back.
 #[derive(Drop)]
@@ -51,6 +51,8 @@ pub enum ShardCall {
         /// The page after which they begin, or `None` for the first of the bucket.
         after: Option<PageId>,
     },
+    /// Give the entries of these buckets, in messages. All must be buckets of the shard.
+    Answer(BucketSet),
     /// Write back all dirty pages of the shard. No device is flushed.
     WritePages,
     /// Write back the dirty pages of the shard, and flush its unflushed devices.
@@ -74,7 +76,9 @@ pub enum ShardReply {
     Loaded(Option<PageId>),
     /// The requested message.
     Sent(BoxedMessage),
-    /// The call brings a page of another shard. Nothing has changed.
+    /// The messages with the requested entries, in order.
+    Answers(MessageList),
+    /// The call brings a page, or a bucket, of another shard. Nothing has changed.
     Foreign,
     /// The node refused the call, or no memory was left for a box.
     Refused(NodeFault),

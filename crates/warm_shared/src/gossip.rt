@@ -1,13 +1,18 @@
-//! Exchanging histories: what a shard sends of a bucket, and the entries of a message.
-ghost use Rattle.std.specs.Prelude.{◌≡◌, ◌<◌, length, IfErr, IfOk, OnOk};
+//! Exchanging histories: what is offered and sent, and what is answered to a message.
+ghost use Rattle.std.specs.Prelude.{◌≡◌, ◌<◌, ◌++◌, ◌∷◌, [], length, IfErr, IfOk, OnOk};
 ghost use Rattle.warm_history.specs.ListHistories.{list_references_of};
+ghost use Rattle.warm_shared.specs.Answering.{OfferFails, OffersAll, offer_message};
 ghost use Rattle.warm_shared.specs.Attached.{AreOf, AreTurns};
 ghost use Rattle.warm_shared.specs.Clauses.{CallEnds};
-ghost use Rattle.warm_shared.specs.Gossip.{TakeStops, TakesEntries, shard_of_bucket};
+ghost use Rattle.warm_shared.specs.Gossip.{CompareFails, Compares, DigestsStop, ReceiveStops};
+ghost use Rattle.warm_shared.specs.Gossip.{Receives, RequestStops, TakeStops, TakesDigests};
+ghost use Rattle.warm_shared.specs.Gossip.{TakesEntries, TakesRequest};
+ghost use Rattle.warm_shared.specs.ShardSteps.{shard_of_bucket};
 ghost use Rattle.warm_shared.specs.Whole.{AbsorbFails, AbsorbsFirst};
 ghost use Rattle.warm_shared.specs.declared.call.ShardCall.TheVariants.{Send};
 ghost use Rattle.warm_shared.specs.declared.call.ShardReply.TheVariants.{Sent};
 
+use crate::answering::{Offered, answer_all, gather};
 use crate::call::{BoxedMessage, ShardCall, ShardReply};
 use crate::fault::SharedFault;
 use crate::history_calls::{Stopped, absorb_all, raise_all};
@@ -16,10 +21,11 @@ use crate::shared::{Attached, SharedShards, call_shard};
 use std::alloc::{AllocError, Global};
 use std::sync::Wait;
 use warm_devices::PageDevice;
-use warm_frames::Message;
+use warm_digest::differing;
+use warm_frames::{DigestTable, Message, MessageList};
 use warm_gossip::NodeFault;
 use warm_history::{Entry, PageHist};
-use warm_stamps::{Bucket, PageId, Reference};
+use warm_stamps::{Bucket, BucketSet, PageId, Reference};
 use warm_turn::{Pass, Turn};
 
 /// Where taking entries in stopped, and why.
@@ -31,6 +37,12 @@ pub enum NotReceived {
     /// All shards have the horizon. The shards before this one have taken in the references to their
     /// pages; this one has not, nor have those after it.
     Absorbing(Stopped),
+    /// All shards have the horizon of the digests. This shard has not made an offer to compare them
+    /// with. Nothing else has changed.
+    Comparing(Stopped),
+    /// All shards have the horizon of the digests or the request. The answers of the shards before
+    /// this one were taken. Nothing else has changed.
+    Answering(Stopped),
 }
 
 // The references that entries hold.
@@ -102,6 +114,125 @@ fn send_in<D: PageDevice + Send, R: Wait>(
     }
 }
 
+// The message of an offer.
+fn message_of(offer: Offered) -> Message
+    ensures { result ≡ offer_message offer }
+{
+    let Offered {
+        sender,
+        horizon,
+        digests,
+    } = offer;
+    Message::Digest {
+        sender,
+        horizon,
+        digests,
+    }
+}
+
+// Has each shard forget all stamps before the horizon, and then answer a request.
+fn take_request<D: PageDevice + Send, R: Wait>(
+    rt: &R,
+    alloc: Global,
+    turns: &Vec<Turn<Shard<D>>>,
+    passes: &mut Vec<Pass<Shard<D>>>,
+    horizon: u64,
+    request: BucketSet,
+) -> Result<Vec<Message>, NotReceived>
+    requires turns { AreTurns turns.now.items }
+    requires passes { AreOf turns.now.items passes.old.items }
+    ensures passes { AreOf turns.now.items passes.new.items }
+    ensures received { IfOk result (λ messages. TakesRequest horizon request messages.items
+        passes.old.items passes.new.items) }
+    ensures stopped { IfErr result (λ at. RequestStops horizon request at passes.old.items
+        passes.new.items) }
+{
+    if let Err(at) = raise_all(rt, turns, passes, horizon) {
+        return Err(NotReceived::Raising(at));
+    }
+    match answer_all(rt, alloc, turns, passes, request) {
+        Ok(messages) => Ok(messages),
+        Err(at) => Err(NotReceived::Answering(at)),
+    }
+}
+
+fn put_last(messages: &mut Vec<Message>, message: Message) -> Result<(), AllocError>
+    ensures { OnOk result (messages.new.items ≡ messages.old.items ++ message ∷ []) }
+{
+    messages.push(message)?;
+    Ok(())
+}
+
+// The entries of the buckets whose digests differ from those of an offer, and then a request for
+// these; nothing where none differs.
+fn compare<D: PageDevice + Send, R: Wait>(
+    rt: &R,
+    alloc: Global,
+    turns: &Vec<Turn<Shard<D>>>,
+    passes: &mut Vec<Pass<Shard<D>>>,
+    digests: &DigestTable,
+    own: Offered,
+) -> Result<Vec<Message>, Stopped>
+    requires turns { AreTurns turns.now.items }
+    requires passes { AreOf turns.now.items passes.old.items }
+    ensures passes { AreOf turns.now.items passes.new.items }
+    ensures compared { IfOk result (λ messages. Compares digests.now own messages.items
+        passes.old.items passes.new.items) }
+    ensures stopped { IfErr result (λ at. CompareFails digests.now own at.shard at.fault
+        passes.old.items passes.new.items) }
+{
+    let request = differing(digests, &own.digests);
+    // A set is a number of 64 bits.
+    let _bits = request.bits();
+    if request.is_empty() {
+        return Ok(Vec::new(alloc));
+    }
+    let mut messages = answer_all(rt, alloc, turns, passes, request)?;
+    let want = Message::Want {
+        sender: own.sender,
+        horizon: own.horizon,
+        request,
+    };
+    if let Err(_refused) = put_last(&mut messages, want) {
+        return Err(Stopped {
+            fault: SharedFault::Node(NodeFault::Memory),
+            shard: turns.len(),
+        });
+    }
+    Ok(messages)
+}
+
+// Has each shard forget all stamps before the horizon, and then make an offer, which is compared
+// with the digests.
+fn take_digests<D: PageDevice + Send, R: Wait>(
+    rt: &R,
+    alloc: Global,
+    turns: &Vec<Turn<Shard<D>>>,
+    passes: &mut Vec<Pass<Shard<D>>>,
+    horizon: u64,
+    digests: &DigestTable,
+) -> Result<Vec<Message>, NotReceived>
+    requires turns { AreTurns turns.now.items }
+    requires passes { AreOf turns.now.items passes.old.items }
+    ensures passes { AreOf turns.now.items passes.new.items }
+    ensures received { IfOk result (λ messages. TakesDigests horizon digests.now messages.items
+        passes.old.items passes.new.items) }
+    ensures stopped { IfErr result (λ at. DigestsStop horizon digests.now at passes.old.items
+        passes.new.items) }
+{
+    if let Err(at) = raise_all(rt, turns, passes, horizon) {
+        return Err(NotReceived::Raising(at));
+    }
+    let own = match gather(rt, turns, passes) {
+        Ok(own) => own,
+        Err(at) => return Err(NotReceived::Comparing(at)),
+    };
+    match compare(rt, alloc, turns, passes, digests, own) {
+        Ok(messages) => Ok(messages),
+        Err(at) => Err(NotReceived::Answering(at)),
+    }
+}
+
 impl<D: PageDevice + Send> SharedShards<D> {
     /// A message of the first entries of a bucket, of those whose page is greater than `after`, up
     /// to MAX_ENTRIES: one turn of the shard that has the pages of the bucket, in which the call
@@ -125,6 +256,26 @@ impl<D: PageDevice + Send> SharedShards<D> {
         let shard = usize::from(bucket.get()) % self.turns.len();
         let boxed = send_in(rt, &self.turns, &mut attached.passes, shard, bucket, after)?;
         Ok(boxed.into_message())
+    }
+
+    /// A message of the digests of all buckets: each shard makes an offer in one turn, in the order
+    /// of the shards, in which the call `Offer` is answered. Of each bucket the message has the
+    /// digest that its shard gave, and it has the latest of the horizons that shards gave.
+    ///
+    /// # Errors
+    /// `Node(Memory)`: an allocation failed in the shard of the number given. `TurnsSpent`. Nothing
+    /// has changed in any shard.
+    pub fn offer<R: Wait>(&self, rt: &R, attached: &mut Attached<D>) -> Result<Message, Stopped>
+        requires { AreOf self.now attached.old.passes }
+        ensures attached { AreOf self.now attached.new.passes }
+        ensures offered { IfOk result (λ message. OffersAll message attached.old.passes
+            attached.new.passes) }
+        ensures stopped { IfErr result (λ at. OfferFails at.shard at.fault attached.old.passes
+            attached.new.passes) }
+        ensures pins { attached.new.pins ≡ attached.old.pins }
+    {
+        let all = gather(rt, &self.turns, &mut attached.passes)?;
+        Ok(message_of(all))
     }
 
     /// Takes in the entries of a message with this horizon: first each shard forgets all stamps
@@ -162,5 +313,68 @@ impl<D: PageDevice + Send> SharedShards<D> {
             return Err(NotReceived::Absorbing(at));
         }
         Ok(())
+    }
+
+    /// Takes a message in, and returns the messages that answer it, in order. Entries are taken in
+    /// as by `receive_entries`, and not answered. Otherwise each shard forgets all stamps before
+    /// the horizon of the message, in one turn, in the order of the shards. Then:
+    ///
+    /// - To a request, each shard that has requested buckets answers with their entries, in one
+    ///   turn, in the order of the shards.
+    /// - To digests, each shard makes an offer, as by `offer`. The answer is the entries of the
+    ///   buckets whose digests differ, as to a request, and then a request for these; nothing where
+    ///   none differs.
+    ///
+    /// A caller that does not trust its senders checks the times of a message with
+    /// [`warm_frames::check_times`] before.
+    ///
+    /// # Errors
+    /// [`NotReceived`] says what the shards have taken in. `Raising` with `TurnsSpent`. `Absorbing`,
+    /// as of `receive_entries`. `Comparing`, as of `offer`. `Answering` with `Node(Memory)`: no
+    /// memory was left for the messages; or with `TurnsSpent`. To take the message in once more
+    /// does no harm.
+    pub fn receive<R: Wait>(
+        &self,
+        rt: &R,
+        alloc: Global,
+        attached: &mut Attached<D>,
+        message: &Message,
+    ) -> Result<MessageList, NotReceived>
+        requires { AreOf self.now attached.old.passes }
+        ensures attached { AreOf self.now attached.new.passes }
+        ensures received { IfOk result (λ messages. Receives message.now messages
+            attached.old.passes attached.new.passes) }
+        ensures stopped { IfErr result (λ at. ReceiveStops message.now at attached.old.passes
+            attached.new.passes) }
+        ensures pins { attached.new.pins ≡ attached.old.pins }
+    {
+        match message {
+            Message::Entries {
+                horizon,
+                entries,
+                ..
+            } => {
+                self.receive_entries(rt, alloc, attached, *horizon, entries.as_slice())?;
+                Ok(MessageList::of(Vec::new(alloc)))
+            }
+            Message::Digest {
+                horizon,
+                digests,
+                ..
+            } => {
+                let passes = &mut attached.passes;
+                let messages = take_digests(rt, alloc, &self.turns, passes, *horizon, digests)?;
+                Ok(MessageList::of(messages))
+            }
+            Message::Want {
+                horizon,
+                request,
+                ..
+            } => {
+                let passes = &mut attached.passes;
+                let messages = take_request(rt, alloc, &self.turns, passes, *horizon, *request)?;
+                Ok(MessageList::of(messages))
+            }
+        }
     }
 }

@@ -48,7 +48,7 @@ fn parts_of(
     Ok(parts)
 }
 
-// So many empty parts.
+// This many empty parts.
 fn no_parts(alloc: Global, count: usize) -> Result<Vec<Vec<Reference>>, AllocError>
     ensures { IfOk result (λ parts. ArePartsOf count [] parts.items) }
 {

@@ -1,6 +1,7 @@
 //! One replica in shards that threads share.
 #![tactic(auto)]
 
+mod answering;
 mod attaching;
 mod call;
 mod fault;

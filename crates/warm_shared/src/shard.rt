@@ -2,26 +2,27 @@
 ghost use Rattle.std.specs.Prelude.{◌≡◌, ◌↔◌, IfErr, IsTrue, OnErr, OnOk, length};
 ghost use Rattle.warm_pool.specs.WritingSome.{CleansFirst, SomeFails};
 ghost use Rattle.std.specs.List.{All};
-ghost use Rattle.warm_gossip.specs.declared.call.Call.TheVariants.{Offer, Send};
-ghost use Rattle.warm_gossip.specs.declared.call.Reply.TheVariants.{Sent};
+ghost use Rattle.warm_gossip.specs.declared.call.Call.TheVariants.{Offer, Receive, Send};
+ghost use Rattle.warm_gossip.specs.declared.call.Reply.TheVariants.{Answers, Sent};
 ghost use Rattle.warm_gossip.specs.Clauses.{Answered, NodeWriteBackFails, SameView};
 ghost use Rattle.warm_shards.specs.Shards.{IsShardCount, shard_of};
-ghost use Rattle.warm_shared.specs.ShardSteps.{AnsweredAs, IsOwn, LeavesWritten, ShardStep};
-ghost use Rattle.warm_shared.specs.ShardSteps.{WrittenAs, shard_view};
+ghost use Rattle.warm_shared.specs.ShardSteps.{AnsweredAs, AreOwnBuckets, IsOwn, LeavesWritten};
+ghost use Rattle.warm_shared.specs.ShardSteps.{ShardStep, WrittenAs, request_for, shard_view};
 
 use crate::call::{BoxedMessage, ShardCall, ShardReply};
 use std::alloc::Global;
 use std::marker::Model;
 use warm_devices::PageDevice;
+use warm_frames::{Message, MessageList};
 use warm_gossip::{Node, NodeFault};
 use warm_shards::shard_of;
-use warm_stamps::{Bucket, PageId, Reference};
+use warm_stamps::{BUCKETS, Bucket, BucketSet, PageId, Reference, ReplicaId};
 use warm_turn::Machine;
 
 /// One shard of a replica: a node, how many shards there are, and which of them it is.
 ///
-/// It answers the calls of its node, and refuses those that bring a page of another shard. Contracts
-/// see the three.
+/// It answers the calls of its node, and refuses those that bring a page, or a bucket, of another
+/// shard. Contracts see the three.
 pub struct Shard<D: PageDevice> {
     alloc: Global,
     count: usize,
@@ -74,7 +75,23 @@ fn are_own(count: usize, number: usize, batch: &[Reference]) -> bool
     true
 }
 
-// Whether each page that the call brings is of the shard of this number.
+// Whether all these buckets are of the shard of this number.
+fn are_own_buckets(count: usize, number: usize, request: BucketSet) -> bool
+    requires { IsShardCount count }
+    ensures { IsTrue result ↔ AreOwnBuckets count number request }
+{
+    for index in 0..BUCKETS {
+        let Some(bucket) = Bucket::new(index) else {
+            unreachable!()
+        };
+        if request.contains(bucket) && usize::from(index) % count != number {
+            return false;
+        }
+    }
+    true
+}
+
+// Whether each page and each bucket that the call brings is of the shard of this number.
 fn is_own(count: usize, number: usize, call: &ShardCall) -> bool
     requires { IsShardCount count }
     ensures { IsTrue result ↔ IsOwn count number call.now }
@@ -82,6 +99,7 @@ fn is_own(count: usize, number: usize, call: &ShardCall) -> bool
     match call {
         ShardCall::Absorb(batch) => are_own(count, number, batch.as_slice()),
         ShardCall::Pin(page) => is_own_page(count, number, *page),
+        ShardCall::Answer(request) => are_own_buckets(count, number, *request),
         _ => true,
     }
 }
@@ -108,6 +126,26 @@ fn sent<D: PageDevice>(
     let message = node.send(bucket, after)?;
     let boxed = BoxedMessage::new(alloc, message)?;
     Ok(boxed)
+}
+
+// The entries of these buckets, in messages. It has the room for a message, so it is a function of
+// its own.
+fn requested<D: PageDevice>(
+    node: &mut Node<D>,
+    request: BucketSet,
+) -> Result<MessageList, NodeFault>
+    ensures { Answered node.old (Receive (request_for request)) Answers result node.new }
+{
+    let Ok(sender) = ReplicaId::new(1) else {
+        unreachable!()
+    };
+    let want = Message::Want {
+        sender,
+        horizon: 0,
+        request,
+    };
+    let messages = node.receive(want)?;
+    Ok(messages)
 }
 
 // Writes back all dirty pages of a node. No device is flushed.
@@ -156,6 +194,7 @@ fn answer<D: PageDevice>(
         ShardCall::Send { bucket, after } => {
             Ok(ShardReply::Sent(sent(alloc, node, bucket, after)?))
         }
+        ShardCall::Answer(request) => Ok(ShardReply::Answers(requested(node, request)?)),
         ShardCall::WritePages => {
             write_pages(node)?;
             Ok(ShardReply::Done)
@@ -168,7 +207,7 @@ fn answer<D: PageDevice>(
 }
 
 impl<D: PageDevice> Shard<D> {
-    /// The shard of this number, of so many, over a node. Allocation-free.
+    /// The shard of this number, of `count` shards, over a node. Allocation-free.
     pub fn new(alloc: Global, count: usize, number: usize, node: Node<D>) -> Shard<D>
         requires { IsShardCount count }
         ensures { result ≡ record { count = count; number = number; node = node } }
@@ -181,9 +220,9 @@ impl<D: PageDevice> Shard<D> {
         }
     }
 
-    /// Answers a call: `ShardStep`. A call that brings a page of another shard is answered `Foreign`,
-    /// and nothing has changed. What `WritePages` and `WriteBack` leave of dirty pages and unflushed
-    /// devices, no caller of the shard sees: `LeavesWritten`.
+    /// Answers a call: `ShardStep`. A call that brings a page, or a bucket, of another shard is
+    /// answered `Foreign`, and nothing has changed. What `WritePages` and `WriteBack` leave of dirty
+    /// pages and unflushed devices, no caller of the shard sees: `LeavesWritten`.
     pub fn call(&mut self, call: ShardCall) -> ShardReply
         ensures step { ShardStep (shard_view self.old) call result (shard_view self.new) }
         ensures written { LeavesWritten self.old.node call result self.new.node }
