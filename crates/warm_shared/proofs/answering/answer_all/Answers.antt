@@ -52,8 +52,7 @@ returns-in-Err-append-clause-stopped g c =
     let lt : k < length old = omega (arith, i.count, c.loop-shard-test.true, c.requires.passes.count) in
     let is : IsPartOf (length old) k request part = subst (λ n. IsPartOf n k request part) (i.count ∙ sym c.requires.passes.count) c.part_of-part.ensures in
     let some : part ≢ 0 = eqb-false part 0 (sym c.is_empty.ensures ∙ c.if-is_empty.false) in
-    let ends = c.in-Ok.ensures.ends in
-    (
+    let ends = c.in-Ok.ensures.ends in (
       parts ++ given ∷ [],
       new,
       one_gave (AnswersPart (length old) request) [] parts given k old c.loop-shard.passes.items i.so_far.1 new lt ends.1 (part, is, λ none. absurd (some none), λ other. ends.0),
