@@ -9,6 +9,7 @@ mod alike;
 mod engine;
 #[cfg(test)]
 mod forming;
+#[cfg(test)]
 mod gossip_shared;
 #[cfg(test)]
 mod kit;
