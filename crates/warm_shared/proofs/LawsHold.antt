@@ -1,4 +1,5 @@
 -- The laws of shared shards.
+use Rattle.std.specs.Prelude.{slice_index_or}
 use Rattle.std.proofs.Common.{◌≡◌, ◌⊎◌, inl, inr, ℕ, zero, suc, ◌<◌, ◌≤◌, List, [], ◌∷◌, ◌++◌, length, Option, Some, None, refl, sym, ap, subst, ◌∙◌, arith, append-nil}
 use mathlib.Core.List.{IsPrefix}
 use Rattle.warm_history.specs.ReferenceSets.{ReferenceSet, ◌∪◌}
@@ -15,11 +16,13 @@ use Rattle.warm_gossip.specs.declared.call.Reply.TheVariants as node_reply
 use Rattle.warm_gossip.specs.declared.fault.NodeFault.TheVariants as node_fault
 use Rattle.warm_pool.specs.declared.fault.PoolFault.TheVariants as pool_fault
 use Rattle.warm_gossip.proofs.Given.{told_is_history}
+use Rattle.warm_frames.specs.declared.message.Message.{Message}
 use Rattle.warm_stamps.specs.declared.Reference.{Reference}
 use Rattle.warm_shared.specs.declared.call.ShardCall.{ShardCall}
-use Rattle.warm_shared.specs.declared.call.ShardCall.TheVariants.{Absorb}
+use Rattle.warm_shared.specs.declared.call.ShardCall.TheVariants.{Absorb, Answer, Offer}
 use Rattle.warm_shared.specs.declared.call.ShardReply.{ShardReply}
 use Rattle.warm_shared.specs.declared.call.ShardReply.TheVariants.{Done, Kept, Pinned, Bytes, Page, Loaded, Sent, Answers, Foreign, Refused}
+use Rattle.warm_shared.specs.Answering.{AnswersPart, Offers, offer_at, offer_reply}
 use Rattle.warm_shared.specs.Attached.{Known, ShardPass, known_of, no_pass, shard_pass}
 use Rattle.warm_shared.specs.Clauses.{Answered, Got}
 use Rattle.warm_shared.specs.Laws.{CallsAreANodes, OnlySeesMore, SeesMore, ShardIsOfGiven, StepOrWriteBack, TogetherAreOfGiven, all_of, held_by, node_calls, node_entries, node_steps}
@@ -133,11 +136,22 @@ part_more count batch i old new so = cases (part_of count i batch) refl
     cases [] is = same_seen old new (so.0 is)
     cases (r ∷ rs) is = got_more old.view new.view (Absorb (part_of count i batch)) Done (so.1 (λ none. let no : r ∷ rs ≡ [] = sym is ∙ none in absurd (cc)))
 
+-- a shard that has none of the requested buckets was not called
+answer_more : (count request : ℕ) (messages : List Message) (i : ℕ) (old new : ShardPass)
+    → AnswersPart count request messages i old new → IsPrefix old.view.seen new.view.seen
+answer_more count request messages i old new (part, own, none, some) = cases part refl
+  where
+    cases : (p : ℕ) → part ≡ p → IsPrefix old.view.seen new.view.seen
+    cases zero is = same_seen old new (none is).1
+    cases (suc p) is = got_more old.view new.view (Answer part) (Answers messages) (some (λ zero_part. let no : suc p ≡ 0 = sym is ∙ zero_part in absurd (omega (arith, no))))
+
 pub only_sees_more : OnlySeesMore
 only_sees_more = record {
   called = called_more;
   absorbed = λ old new k batch so. firsts_more (AbsorbsPart (length old) batch) (part_more (length old) batch) k old new so;
   raised = λ old new k time so. firsts_more (Raises time) (λ i p q r. got_more p.view q.view _ (Kept r.0) r.1) k old new so;
   done = λ old new k call so. firsts_more (Does call) (λ i p q r. got_more p.view q.view call Done r) k old new so;
+  offered = λ old new offers k so. firsts_more (λ i. Offers (offer_at offers i) i) (λ i p q r. got_more p.view q.view Offer (offer_reply (offer_at offers i)) r) k old new so.1;
+  answered = λ old new request parts k so. firsts_more (λ i. AnswersPart (length old) request (slice_index_or parts i []) i) (λ i. answer_more (length old) request (slice_index_or parts i []) i) k old new so.1;
   joined = λ old other new so i lt. (Widened-joined ShardStep (known_of old i) (known_of other i) (known_of new i) (so.each i lt)).seen;
 }

@@ -5,14 +5,17 @@ use Rattle.warm_history.specs.ReferenceSets.{ReferenceSet, set_of_list, ◌∪�
 use Rattle.warm_history.specs.Histories.{HistoryView, StandsFor, references_of, history}
 use Rattle.warm_turn.specs.declared.table.Entry.{Entry}
 use Rattle.warm_turn.specs.CallHistories.{Runs, entry}
+use Rattle.warm_frames.specs.declared.message.Message.{Message}
 use Rattle.warm_gossip.specs.declared.call.Call.{Call}
 use Rattle.warm_gossip.specs.declared.call.Reply.{Reply}
 use Rattle.warm_gossip.specs.Given.{given_by_calls}
 use Rattle.warm_gossip.specs.State.{NodeState, NodeView, node_view}
 use Rattle.warm_shards.specs.Shards.{AreShards, HoldsPagesOf}
 use Rattle.warm_stamps.specs.declared.Reference.{Reference}
+use Rattle.warm_shared.specs.declared.answering.Offered.{Offered}
 use Rattle.warm_shared.specs.declared.call.ShardCall.{ShardCall}
 use Rattle.warm_shared.specs.declared.call.ShardReply.{ShardReply}
+use Rattle.warm_shared.specs.Answering.{AnswersFirst, OffersFirst}
 use Rattle.warm_shared.specs.Attached.{Known, ShardPass, ShardTurn, known_of}
 use Rattle.warm_shared.specs.Clauses.{Answered}
 use Rattle.warm_shared.specs.Opening.{AreJoined, ClosesShard, shards_over, view_at}
@@ -121,4 +124,8 @@ pub record OnlySeesMore : Type 0 where
       → SeesMore old new
   pub done : (old new : List ShardPass) (k : ℕ) (call : ShardCall) → DoneFirst call k old new
       → SeesMore old new
+  pub offered : (old new : List ShardPass) (offers : List Offered) (k : ℕ)
+      → OffersFirst offers k old new → SeesMore old new
+  pub answered : (old new : List ShardPass) (request : ℕ) (parts : List (List Message)) (k : ℕ)
+      → AnswersFirst request parts k old new → SeesMore old new
   pub joined : (old other new : List ShardPass) → AreJoined old other new → SeesMore old new
