@@ -10,6 +10,8 @@ mod engine;
 #[cfg(test)]
 mod forming;
 #[cfg(test)]
+mod gossip_shared;
+#[cfg(test)]
 mod kit;
 #[cfg(test)]
 mod pages;
