@@ -16,4 +16,6 @@ mod refused;
 #[cfg(test)]
 mod shared;
 #[cfg(test)]
+mod threads;
+#[cfg(test)]
 mod whole;
