@@ -18,4 +18,6 @@ mod refused;
 #[cfg(test)]
 mod shared;
 #[cfg(test)]
+mod threads;
+#[cfg(test)]
 mod whole;
