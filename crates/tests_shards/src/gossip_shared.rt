@@ -2,7 +2,7 @@
 //! messages alone.
 ghost use Rattle.warm_shared.specs.Attached.{AreOf};
 
-use crate::kit::{batch, bytes_of, node, shards};
+use crate::kit::{batch, bytes_of, node, shared_of};
 use std::alloc::Global;
 use std::process::Abort;
 use std::sync::Wait;
@@ -10,26 +10,8 @@ use test_kit::{SeenAt, page, replica};
 use warm_devices::MemDevice;
 use warm_frames::{Message, MessageList};
 use warm_gossip::Node;
-use warm_shared::{Attached, SharedShards, Sharing};
+use warm_shared::{Attached, SharedShards};
 use warm_stamps::BucketSet;
-
-// The shared shards of a replica, and what the first thread has of them.
-fn shared_of(
-    rt: &impl Abort,
-    alloc: Global,
-    number: u16,
-    count: usize,
-) -> (SharedShards<MemDevice>, Attached<MemDevice>)
-    ensures { AreOf result.0 result.1.passes }
-{
-    let Ok(sharing) = Sharing::new(alloc, shards(rt, alloc, number, count)) else {
-        panic!(rt; "memory for shards")
-    };
-    let Ok(both) = sharing.share() else {
-        panic!(rt; "memory for turns")
-    };
-    both
-}
 
 // Pages of many buckets and of three devices, some referenced twice.
 const FIRST: &[SeenAt] = &[

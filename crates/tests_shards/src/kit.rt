@@ -1,4 +1,6 @@
-//! Shards over devices in memory.
+//! Nodes, shards and shared shards over devices in memory.
+ghost use Rattle.warm_shared.specs.Attached.{AreOf};
+
 use std::alloc::Global;
 use std::process::Abort;
 use test_kit::{SeenAt, alone, memory, references, replica};
@@ -7,12 +9,19 @@ use warm_frames::{Message, encode};
 use warm_gossip::Node;
 use warm_pool::Pool;
 use warm_shards::Shards;
+use warm_shared::{Attached, SharedShards, Sharing};
 use warm_stamps::Reference;
 
-/// A node of four frames over a device.
-fn node_over<D: PageDevice>(rt: &impl Abort, alloc: Global, number: u16, device: D) -> Node<D> {
+/// A node of so many frames over a device.
+pub(crate) fn node_over<D: PageDevice>(
+    rt: &impl Abort,
+    alloc: Global,
+    number: u16,
+    frames: usize,
+    device: D,
+) -> Node<D> {
     let devices = alone(alloc, device).expect(rt, "memory for a list");
-    match Pool::new(alloc, 4, 16, devices) {
+    match Pool::new(alloc, frames, 16, devices) {
         Ok(pool) => Node::new(alloc, replica(number), pool),
         Err(_) => panic!(rt; "no pool"),
     }
@@ -21,7 +30,7 @@ fn node_over<D: PageDevice>(rt: &impl Abort, alloc: Global, number: u16, device:
 /// A node of four frames over a device of 256 pages.
 pub(crate) fn node(rt: &impl Abort, alloc: Global, number: u16) -> Node<MemDevice> {
     let device = memory(alloc, 256).expect(rt, "memory for a device");
-    node_over(rt, alloc, number, device)
+    node_over(rt, alloc, number, 4, device)
 }
 
 /// Two shards of replica 1, over one device each.
@@ -32,8 +41,8 @@ pub(crate) fn over<D: PageDevice>(
     second: D,
 ) -> Shards<D> {
     let mut nodes = Vec::with_capacity(alloc, 2).expect(rt, "memory for nodes");
-    nodes.push_reserved(node_over(rt, alloc, 1, first));
-    nodes.push_reserved(node_over(rt, alloc, 1, second));
+    nodes.push_reserved(node_over(rt, alloc, 1, 4, first));
+    nodes.push_reserved(node_over(rt, alloc, 1, 4, second));
     match Shards::new(alloc, replica(1), nodes) {
         Ok(shards) => shards,
         Err(_) => panic!(rt; "no shards"),
@@ -67,6 +76,83 @@ pub(crate) fn shards(
         Ok(shards) => shards,
         Err(_) => panic!(rt; "no shards"),
     }
+}
+
+/// Shards that threads share, and what the first thread has of them.
+pub(crate) fn shared_from<D: PageDevice + Send>(
+    rt: &impl Abort,
+    alloc: Global,
+    shards: Shards<D>,
+) -> (SharedShards<D>, Attached<D>)
+    ensures { AreOf result.0 result.1.passes }
+{
+    let Ok(sharing) = Sharing::new(alloc, shards) else {
+        panic!(rt; "memory for shards")
+    };
+    let Ok(both) = sharing.share() else {
+        panic!(rt; "memory for turns")
+    };
+    both
+}
+
+/// The shards of a replica that threads share, and what the first thread has of them.
+pub(crate) fn shared_of(
+    rt: &impl Abort,
+    alloc: Global,
+    number: u16,
+    count: usize,
+) -> (SharedShards<MemDevice>, Attached<MemDevice>)
+    ensures { AreOf result.0 result.1.passes }
+{
+    shared_from(rt, alloc, shards(rt, alloc, number, count))
+}
+
+/// A further thread is attached.
+pub(crate) fn more<D: PageDevice + Send>(
+    rt: &impl Abort,
+    alloc: Global,
+    shared: &SharedShards<D>,
+    attached: &mut Attached<D>,
+) -> Attached<D>
+    requires { AreOf shared.now attached.old.passes }
+    ensures these { AreOf shared.now attached.new.passes }
+    ensures those { AreOf shared.now result.passes }
+{
+    let more = shared.attach(alloc, attached);
+    more.ok().expect(rt, "memory for passes")
+}
+
+/// The nodes of closed shards.
+pub(crate) fn closed<D: PageDevice + Send>(
+    rt: &impl Abort,
+    alloc: Global,
+    shared: SharedShards<D>,
+    attached: Attached<D>,
+) -> Vec<Node<D>>
+    requires { AreOf shared attached.passes }
+{
+    let Ok(ends) = shared.close(alloc, attached) else {
+        panic!(rt; "no pin is held")
+    };
+    let mut nodes = Vec::new(alloc);
+    for end in ends {
+        let Ok(node) = end else {
+            panic!(rt; "no call is under way")
+        };
+        let Ok(()) = nodes.push(node) else {
+            panic!(rt; "memory for nodes")
+        };
+    }
+    nodes
+}
+
+/// How many pages of all these nodes are dirty.
+pub(crate) fn dirty<D: PageDevice>(nodes: &[Node<D>]) -> usize {
+    let mut count = 0usize;
+    for node in nodes {
+        count = count.wrapping_add(node.pool().dirty());
+    }
+    count
 }
 
 /// The references of a list.

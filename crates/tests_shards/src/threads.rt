@@ -3,32 +3,23 @@
 ghost use Rattle.std.specs.Prelude.{◌≡◌};
 ghost use Rattle.warm_shared.specs.Attached.{AreOf};
 
+use crate::kit::{closed, dirty, more, node_over, shared_from};
 use std::alloc::Global;
 use std::process::Abort;
 use std::sync::Wait;
 use std::thread::{Threads, join};
-use test_kit::{alone, flaky, page, replica, seen, twice};
+use test_kit::{flaky, page, replica, seen, twice};
 use warm_devices::{Flaky, MemDevice, PageDevice};
 use warm_gossip::Node;
 use warm_history::History;
-use warm_pool::Pool;
 use warm_shards::{ShardSlot, Shards};
-use warm_shared::{Attached, NotClosed, SharedFault, SharedShards, Sharing};
+use warm_shared::{Attached, NotClosed, SharedFault, SharedShards};
 use warm_stamps::{ByteList, PageId};
 
 type Device = Flaky<MemDevice>;
 
-// A node with a frame for each of eight threads, over a device whose `n`-th call fails.
-fn node(rt: &impl Abort, alloc: Global, n: u64) -> Node<Device> {
-    let device = flaky(alloc, 256, n).expect(rt, "memory for a device");
-    let devices = alone(alloc, device).expect(rt, "memory for a list");
-    match Pool::new(alloc, 8, 16, devices) {
-        Ok(pool) => Node::new(alloc, replica(1), pool),
-        Err(_) => panic!(rt; "no pool"),
-    }
-}
-
-// Shared shards, of whose devices these calls fail, and what the first thread has of them.
+// Shared shards over devices whose calls of these numbers fail, 0 for none, with a frame for each of
+// eight threads; and what the first thread has of them.
 fn shared_over(
     rt: &impl Abort,
     alloc: Global,
@@ -38,59 +29,15 @@ fn shared_over(
 {
     let mut nodes = Vec::new(alloc);
     for n in failing {
-        let Ok(()) = nodes.push(node(rt, alloc, *n)) else {
+        let device = flaky(alloc, 256, *n).expect(rt, "memory for a device");
+        let Ok(()) = nodes.push(node_over(rt, alloc, 1, 8, device)) else {
             panic!(rt; "memory for nodes")
         };
     }
     let Ok(shards) = Shards::new(alloc, replica(1), nodes) else {
         panic!(rt; "no shards")
     };
-    let Ok(sharing) = Sharing::new(alloc, shards) else {
-        panic!(rt; "memory for shards")
-    };
-    let Ok(both) = sharing.share() else {
-        panic!(rt; "memory for turns")
-    };
-    both
-}
-
-// A further thread is attached.
-fn more(
-    rt: &impl Abort,
-    alloc: Global,
-    shared: &SharedShards<Device>,
-    attached: &mut Attached<Device>,
-) -> Attached<Device>
-    requires { AreOf shared.now attached.old.passes }
-    ensures these { AreOf shared.now attached.new.passes }
-    ensures those { AreOf shared.now result.passes }
-{
-    let more = shared.attach(alloc, attached);
-    more.ok().expect(rt, "memory for passes")
-}
-
-// The nodes of closed shards.
-fn closed(
-    rt: &impl Abort,
-    alloc: Global,
-    shared: SharedShards<Device>,
-    attached: Attached<Device>,
-) -> Vec<Node<Device>>
-    requires { AreOf shared attached.passes }
-{
-    let Ok(ends) = shared.close(alloc, attached) else {
-        panic!(rt; "no pin is held")
-    };
-    let mut nodes = Vec::new(alloc);
-    for end in ends {
-        let Ok(node) = end else {
-            panic!(rt; "no call is under way")
-        };
-        let Ok(()) = nodes.push(node) else {
-            panic!(rt; "memory for nodes")
-        };
-    }
-    nodes
+    shared_from(rt, alloc, shards)
 }
 
 // Each thread goes over these pages in turn, and is in each of its rounds one page ahead of the
@@ -384,20 +331,21 @@ fn know_all(rt: &impl Abort, alloc: Global, nodes: &[Node<Device>], threads: u64
     history.len() == 128
 }
 
-// How many pages of all shards are dirty.
-fn dirty(nodes: &[Node<Device>]) -> usize {
-    let mut count = 0usize;
-    for node in nodes {
-        count = count.wrapping_add(node.pool().dirty());
-    }
-    count
-}
-
 // The failed calls of the device of a shard.
 fn failures(nodes: &[Node<Device>], shard: usize) -> Option<u64> {
     let node = nodes.get(shard)?;
     let device = node.pool().devices().first()?;
     Some(device.failures())
+}
+
+#[test]
+fn two_threads_leave_their_bytes_and_one_history(rt: HostRuntime) {
+    let alloc = rt.alloc();
+    let (shared, first) = shared_over(&rt, alloc, &[0; 4]);
+    let (mut first, count) = served_by_two(&rt, alloc, &shared, first, 0);
+    assert!(rt; count == 512 && first.pins() == 0);
+    assert!(rt; left_so(&rt, &shared, &mut first, 2) == PAGES);
+    assert!(rt; know_all(&rt, alloc, &closed(&rt, alloc, shared, first), 2));
 }
 
 #[test]

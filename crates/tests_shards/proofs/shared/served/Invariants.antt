@@ -1,6 +1,0 @@
-use Rattle.warm_shared.specs.Attached.{AreOf}
-use Rattle.tests_shards.proofs.shared.served.Given as goal
-
--- the passes are of the turns
-abbrev pub invariant-loop-round : goal.invariant-loop-round
-invariant-loop-round g l = AreOf l.shared l.attached.passes
