@@ -13,6 +13,7 @@ mod histories;
 mod nodes;
 mod references;
 mod shards;
+mod shared;
 mod sizes;
 mod turns;
 
@@ -43,6 +44,7 @@ fn play<R: Threads + Wait + Sync>(met: &mut Met, rt: &R, alloc: Global) -> Resul
     dumps::rows(met, alloc)?;
     play_nodes(met, alloc)?;
     shards::rows(met, alloc)?;
+    shared::rows(met, rt, alloc)?;
     play_turns(met, rt, alloc)
 }
 

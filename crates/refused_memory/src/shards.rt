@@ -10,7 +10,7 @@ use warm_gossip::NodeFault;
 use warm_shards::Shards;
 use warm_stamps::Bucket;
 
-type TwoShards = Shards<MemDevice>;
+pub(crate) type TwoShards = Shards<MemDevice>;
 
 // How many pages each of the two shards knows, and the horizon of both.
 #[derive(Clone, Copy, PartialEq, Eq)]
@@ -42,7 +42,8 @@ fn is_part(before: Known, after: Known, part: usize) -> bool {
     after.second == before.second && (after.first == before.first || after.first == grown)
 }
 
-fn made(met: &mut Met, alloc: Global) -> Result<TwoShards, Ended> {
+// Two shards over devices in memory.
+pub(crate) fn made(met: &mut Met, alloc: Global) -> Result<TwoShards, Ended> {
     let mut nodes = Vec::with_capacity(alloc, 2)?;
     for _shard in 0..2 {
         let node = opened(met, alloc, 1)?;

@@ -39,6 +39,8 @@ mod setup;
 #[cfg(test)]
 mod shards;
 #[cfg(test)]
+mod shared;
+#[cfg(test)]
 mod stamps;
 #[cfg(test)]
 mod threads;
