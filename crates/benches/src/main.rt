@@ -1,5 +1,5 @@
 //! The measurements of `docs/PERFORMANCE.md`, run by the scripts in `bench/`: turn, history, pool,
-//! frames, files, gossip, replica, hits and shards.
+//! frames, files, gossip, replica, hits, shards and shared.
 //!
 //! `benches NAME WORDS..` runs the bench of that name with these arguments, and prints nanoseconds;
 //! its module documents the arguments. `benches NAME` does a little of all that the bench measures,
@@ -11,10 +11,12 @@ mod frames;
 mod gossip;
 mod history;
 mod hits;
+mod numbered;
 mod parts;
 mod pool;
 mod replica;
 mod shards;
+mod shared;
 mod strides;
 mod turn;
 
@@ -37,10 +39,11 @@ enum Bench {
     Replica,
     Hits,
     Shards,
+    Shared,
 }
 
 // In the order in which they run.
-const BENCHES: [Bench; 9] = [
+const BENCHES: [Bench; 10] = [
     Bench::Turn,
     Bench::History,
     Bench::Pool,
@@ -50,6 +53,7 @@ const BENCHES: [Bench; 9] = [
     Bench::Replica,
     Bench::Hits,
     Bench::Shards,
+    Bench::Shared,
 ];
 
 impl Bench {
@@ -64,8 +68,9 @@ impl Bench {
             "replica" => Ok(Bench::Replica),
             "hits" => Ok(Bench::Hits),
             "shards" => Ok(Bench::Shards),
+            "shared" => Ok(Bench::Shared),
             _ => bail!(
-                "what is measured: turn, history, pool, frames, files, gossip, replica, hits or shards"
+                "what is measured: turn, history, pool, frames, files, gossip, replica, hits, shards or shared"
             ),
         }
     }
@@ -81,6 +86,7 @@ impl Bench {
             Bench::Replica => "replica",
             Bench::Hits => "hits",
             Bench::Shards => "shards",
+            Bench::Shared => "shared",
         }
     }
 }
@@ -102,6 +108,7 @@ fn play<T: Threads + Wait + Clock + Print + AllocGlobal + Sync>(
         Bench::Replica => replica::play(threads, words),
         Bench::Hits => hits::play(rt, words),
         Bench::Shards => shards::play(rt, words),
+        Bench::Shared => shared::play(threads, words),
     }
 }
 

@@ -11,7 +11,7 @@ use crate::parts::{added, next, node_over, replica};
 use anyhow::{Context, Result, bail};
 use std::alloc::Global;
 use std::time::{Clock, Duration, Instant};
-use warm_devices::MemDevice;
+use warm_devices::{MemDevice, PageDevice};
 use warm_gossip::{Node, NodeFault};
 use warm_shards::Shards;
 use warm_stamps::{PageId, PageList, Reference, ReplicaId, Stamp};
@@ -22,7 +22,7 @@ const BATCH: usize = 64;
 const HOTTEST: usize = 16;
 
 // What is measured of a node and of shards.
-trait Measured {
+pub(crate) trait Measured {
     fn put_number(&mut self, no: u64) -> Result<(), NodeFault>;
 
     fn number_in(&mut self, no: u64) -> Result<u64, NodeFault>;
@@ -32,7 +32,7 @@ trait Measured {
     fn hottest(&self) -> Result<PageList, NodeFault>;
 }
 
-impl Measured for Node<MemDevice> {
+impl<D: PageDevice> Measured for Node<D> {
     fn put_number(&mut self, no: u64) -> Result<(), NodeFault> {
         let slot = self.pin(PageId { dev: 0, no })?;
         self.write(slot, 0, &no.to_le_bytes())?;
@@ -57,7 +57,7 @@ impl Measured for Node<MemDevice> {
     }
 }
 
-impl Measured for Shards<MemDevice> {
+impl<D: PageDevice> Measured for Shards<D> {
     fn put_number(&mut self, no: u64) -> Result<(), NodeFault> {
         let at = self.pin(PageId { dev: 0, no })?;
         self.write(at, 0, &no.to_le_bytes())?;
@@ -108,7 +108,7 @@ fn fill<M: Measured>(on: &mut M, frames: u64) -> Result<(), NodeFault> {
 
 // A checksum of what the hits read. Pages are drawn by a linear congruence, from as many as the
 // mask and one.
-fn hit_often<M: Measured>(on: &mut M, mask: u64, hits: u64) -> Result<u64, NodeFault> {
+pub(crate) fn hit_often<M: Measured>(on: &mut M, mask: u64, hits: u64) -> Result<u64, NodeFault> {
     let mut drawn = 1u64;
     let mut checksum = 0u64;
     for _ in 0..hits {

@@ -1,0 +1,134 @@
+#!/usr/bin/env python3
+"""Measures hits by 1, 2 and 4 threads in shards that they share (`SharedShards`, each shard behind a turn), beside shards and a node that one
+thread has for itself and beside plain Rust with a Mutex around each shard; prints the tables of docs/PERFORMANCE.md.
+
+usage: measure.py [HITS [ROUNDS]]      HITS of each thread, 1,000,000 where it is not given; ROUNDS, 7
+
+A hit is a pin, a read of eight bytes and an unpin of a resident page of 4,096 bytes, drawn evenly. It needs the proved program (`rt run` in
+crates/benches leaves it as crates/benches/out/benches; the variable BENCHES names another), `rustc`, valgrind, 1 GB of memory and four processors
+that nothing else uses. Each round runs all in a drawn order, and of all rounds the fastest run counts: the time from the first thread's begin
+to the last thread's end, by the hits of one thread. Programs that draw the same pages must print the same sum. Instructions are those of one
+thread, counted by callgrind: what a run of twice as many hits takes more.
+"""
+
+import os
+import random
+import re
+import subprocess
+import sys
+import tempfile
+from pathlib import Path
+from typing import NamedTuple
+
+HERE = Path(__file__).resolve().parent
+BENCHES = Path(os.environ.get("BENCHES", HERE.parent.parent / "crates/benches/out/benches"))
+HITS = 1_000_000
+ROUNDS = 7
+COUNTED_HITS = 20_000
+SIZES = [1_024, 65_536]
+THREADS = [1, 2, 4]
+SHARDS = 16
+
+
+class Row(NamedTuple):
+    program: str
+    before: list[str]  # the arguments before the numbers of pages and hits, where `THREADS` stands for the number of threads
+    after: list[str] = []
+
+
+ALONE = "`Shards`, one shard"
+ROWS = {
+    "a node": Row("ours", ["node"]),
+    ALONE: Row("ours", ["alone", "1"]),
+    "`Shards`, 16 shards": Row("ours", ["alone", str(SHARDS)]),
+    "`SharedShards`, one shard": Row("ours", ["1", "THREADS"]),
+    "`SharedShards`, 16 shards": Row("ours", [str(SHARDS), "THREADS"]),
+    "plain Rust, one shard": Row("plain", ["1", "alone"]),
+    "plain Rust, 16 shards": Row("plain", [str(SHARDS), "alone"]),
+    "plain Rust, one Mutex": Row("plain", ["1", "THREADS"]),
+    "plain Rust, 16 Mutexes": Row("plain", [str(SHARDS), "THREADS"]),
+    "the same, one lock for a hit": Row("plain", [str(SHARDS), "THREADS"], ["once"]),
+}
+
+
+class Cell(NamedTuple):
+    row: str
+    pages: int
+    threads: int
+
+    def words(self, hits: int) -> list[str]:
+        row = ROWS[self.row]
+        before = [str(self.threads) if word == "THREADS" else word for word in row.before]
+        return [*before, str(self.pages), str(hits), *row.after]
+
+
+def is_played(row: Row, threads: int) -> bool:
+    return threads == 1 or "THREADS" in row.before
+
+
+class Bench(NamedTuple):
+    programs: dict[str, list[str | Path]]
+    hits: int
+
+    def command(self, cell: Cell, hits: int) -> list[str | Path]:
+        return [*self.programs[ROWS[cell.row].program], *cell.words(hits)]
+
+    def one_run(self, cell: Cell) -> tuple[str, float]:
+        """The sum of what was read, and the nanoseconds of a hit of each thread."""
+        said = subprocess.run(self.command(cell, self.hits), stdout=subprocess.PIPE, check=True, text=True).stdout
+        read, spent = said.splitlines()
+        return read, int(spent.split()[0]) / self.hits
+
+    def fastest(self, rounds: int) -> dict[Cell, float]:
+        cells = [Cell(name, pages, threads) for name, row in ROWS.items() for pages in SIZES for threads in THREADS if is_played(row, threads)]
+        least: dict[Cell, float] = {}
+        sums: dict[tuple[int, int], str] = {}
+        for _ in range(rounds):
+            for cell in random.sample(cells, len(cells)):
+                read, spent = self.one_run(cell)
+                least[cell] = min(spent, least.get(cell, spent))
+                assert sums.setdefault((cell.pages, cell.threads), read) == read, cell
+        return least
+
+    def counted(self, cell: Cell, hits: int) -> int:
+        command = ["valgrind", "--tool=callgrind", "--callgrind-out-file=/dev/null", *self.command(cell, hits)]
+        said = subprocess.run(command, stdout=subprocess.DEVNULL, stderr=subprocess.PIPE, check=True, text=True).stderr
+        collected = re.search(r"Collected : (\d+)", said)
+        assert collected, said
+        return int(collected[1])
+
+    def instructions(self, cell: Cell) -> float:
+        return (self.counted(cell, 2 * COUNTED_HITS) - self.counted(cell, COUNTED_HITS)) / COUNTED_HITS
+
+
+def said_of(least: dict[Cell, float], cell: Cell) -> str:
+    """The nanoseconds of a hit, and how many times as many hits a second that is as one thread makes in one shard that it has for itself."""
+    if cell not in least:
+        return " |"
+    return f"{least[cell]:,.0f} | {least[Cell(ALONE, cell.pages, 1)] * cell.threads / least[cell]:.2f}"
+
+
+def print_table(bench: Bench, least: dict[Cell, float], pages: int) -> None:
+    print(f"| a hit, {pages:,} pages | instructions |" + "".join(f" {threads} thread{'s' * (threads > 1)}, ns | times |" for threads in THREADS))
+    print("|---|---|" + "---|" * 2 * len(THREADS))
+    for name in ROWS:
+        cells = [Cell(name, pages, threads) for threads in THREADS]
+        print(f"| {name} | {bench.instructions(cells[0]):,.0f} | " + " | ".join(said_of(least, cell) for cell in cells) + " |", flush=True)
+    print()
+
+
+def main() -> None:
+    numbers = [int(word) for word in sys.argv[1:]]
+    hits, rounds = (*numbers, *[HITS, ROUNDS][len(numbers) :])
+    print(f"load before: {os.getloadavg()[0]:.2f} on {len(os.sched_getaffinity(0))} processors; {rounds} rounds of {hits:,} hits of each thread\n", flush=True)
+    with tempfile.TemporaryDirectory() as folder:
+        plain = Path(folder) / "plain"
+        subprocess.run(["rustc", "-O", "--edition", "2024", "-o", plain, HERE / "plain.rs"], check=True)
+        bench = Bench({"ours": [BENCHES, "shared"], "plain": [plain]}, hits)
+        least = bench.fastest(rounds)
+        for pages in SIZES:
+            print_table(bench, least, pages)
+
+
+if __name__ == "__main__":
+    main()
