@@ -39,8 +39,6 @@ mod setup;
 #[cfg(test)]
 mod shards;
 #[cfg(test)]
-mod shared;
-#[cfg(test)]
 mod stamps;
 #[cfg(test)]
 mod threads;
