@@ -18,10 +18,12 @@
 //!
 //! It is a ticket lock (D. P. Reed and R. K. Kanodia, "Synchronization with Eventcounts and
 //! Sequencers", CACM 1979; J. M. Mellor-Crummey and M. L. Scott, "Algorithms for Scalable
-//! Synchronization on Shared-Memory Multiprocessors", ACM TOCS 1991), proved for any machine. The
-//! promise is linearizability as one legal history (M. P. Herlihy and J. M. Wing, ACM TOPLAS 1990)
-//! without the real-time order between callers that did not communicate. Progress, fairness and
-//! waiting times are not specified, and an entry does not prove that its caller still runs.
+//! Synchronization on Shared-Memory Multiprocessors", ACM TOCS 1991), proved for any machine. All
+//! calls have one total order, which is legal, and which respects the order of each pass and every
+//! hand-over between passes: calls are sequentially consistent, and causal between passes that met.
+//! The order in time of others, which linearizability would add (M. P. Herlihy and J. M. Wing, ACM
+//! TOPLAS 1990), is not specified. Nor are progress, fairness and waiting times, and an entry does
+//! not prove that its caller still runs.
 //!
 //! Passes, notes and turns may cross threads where the machine may: for a function that is generic
 //! in `M: Machine + Send` the lemmas are in `proofs/Sent.antt`. Lemmas on what calls, notes and
