@@ -1,9 +1,16 @@
-//! Tests of warm_gossip and warm_world, over only public calls: the replies of one node, and the
-//! answers of a world of nodes to lists of events. Schedules played through a world are in
-//! tests_plays; allocations that fail are in refused_memory and refused_worlds.
+//! Tests of one replica, over only public calls: what devices store and record, where pages go in a
+//! pool, which are evicted, what is refused, the contents of a device when its pool is dropped, and
+//! the replies of a node (warm_devices, test_kit, warm_pool, warm_gossip). Allocations that fail are
+//! in refused_memory and refused_worlds.
 #![tactic(auto)]
 
 #[cfg(test)]
+mod devices;
+#[cfg(test)]
+mod faults;
+#[cfg(test)]
 mod node;
 #[cfg(test)]
-mod world;
+mod notes;
+#[cfg(test)]
+mod pool;

@@ -1,5 +1,5 @@
-//! How faults are displayed: those of lines, setups, commands and runs, of worlds, and of their
-//! nodes and pools.
+//! How faults are displayed: those of lines, setups, commands, plays and runs, of worlds, and of
+//! their nodes and pools.
 use test_kit::displays;
 use warm_gossip::NodeFault;
 use warm_pool::PoolFault;
@@ -69,6 +69,22 @@ fn faults_of_what_is_read_are_shown_by_their_names(rt: HostRuntime) {
     assert!(rt; displays(rt.alloc(), &LineFault::Memory, "Memory"));
     assert!(rt; displays(rt.alloc(), &LineFault::Bad, "Bad"));
     assert!(rt; displays(rt.alloc(), &NotForWorker, "NotForWorker"));
+}
+
+const PLAY: [(PlayFault, &str); 6] = [
+    (PlayFault::Memory, "Memory"),
+    (PlayFault::ReadFault, "ReadFault"),
+    (PlayFault::WriteFault, "WriteFault"),
+    (PlayFault::BadLine(7), "BadLine"),
+    (PlayFault::NoThread, "NoThread"),
+    (PlayFault::BadDevices, "BadDevices"),
+];
+
+#[test]
+fn play_faults_are_shown_by_their_names(rt: HostRuntime) {
+    for (fault, want) in PLAY {
+        assert!(rt; displays(rt.alloc(), &fault, want));
+    }
 }
 
 #[test]

@@ -1,6 +1,9 @@
-//! Tests of warm_schedule and warm_setup, over only public calls: the output of schedules and how a
-//! play ends, the meanings of words and setup files, how a run ends, and what their faults and
-//! those of a world display. The expected texts were derived by hand from docs/FORMATS.md.
+//! Tests of the simulator, over only public calls: the answers of a world of nodes to lists of
+//! events, the output of schedules and how a play ends, also one by threads, the meanings of words
+//! and setup files, how a run ends, and what their faults display (warm_world, warm_schedule,
+//! warm_threads, warm_setup, warm_play_fault). The expected texts were derived by hand from
+//! docs/FORMATS.md. And the call that each README shows (`readmes`). Allocations that fail are in
+//! refused_worlds.
 #![tactic(auto)]
 
 #[cfg(test)]
@@ -16,8 +19,14 @@ mod outcome;
 #[cfg(test)]
 mod player;
 #[cfg(test)]
+mod readmes;
+#[cfg(test)]
 mod schedules;
 #[cfg(test)]
 mod setup;
 #[cfg(test)]
 mod streams;
+#[cfg(test)]
+mod threads;
+#[cfg(test)]
+mod world;

@@ -1,25 +1,8 @@
-//! How faults are displayed: those of replica numbers, of buffers, of frames and of a play.
+//! How faults are displayed: those of replica numbers, of buffers and of frames.
 use test_kit::{displays, page, seen};
 use warm_frames::FrameFault;
-use warm_play_fault::PlayFault;
 use warm_refbuffer::{BufferFault, Full};
 use warm_stamps::BadReplica;
-
-const PLAY: [(PlayFault, &str); 6] = [
-    (PlayFault::Memory, "Memory"),
-    (PlayFault::ReadFault, "ReadFault"),
-    (PlayFault::WriteFault, "WriteFault"),
-    (PlayFault::BadLine(7), "BadLine"),
-    (PlayFault::NoThread, "NoThread"),
-    (PlayFault::BadDevices, "BadDevices"),
-];
-
-#[test]
-fn play_faults_are_shown_by_their_names(rt: HostRuntime) {
-    for (fault, want) in PLAY {
-        assert!(rt; displays(rt.alloc(), &fault, want));
-    }
-}
 
 const FRAME: [(FrameFault, &str); 11] = [
     (FrameFault::Memory, "Memory"),

@@ -1,5 +1,5 @@
 use Rattle.warm_pool.specs.State.{RankedBy}
-use Rattle.tests_pools.proofs.pool.runs.Given as goal
+use Rattle.tests_nodes.proofs.pool.runs.Given as goal
 
 -- the history ranks it still
 abbrev pub invariant-loop-at : goal.invariant-loop-at

@@ -1,7 +1,7 @@
 use denote.Param.Send.{sendable}
 use Rattle.std.proofs.Crossing.{crosses}
 use Rattle.warm_turn.proofs.Sent.{pass_send, turn_sync}
-use Rattle.tests_threads.proofs.turns.add_in_four_threads.Goals as goal
+use Rattle.tests_shards.proofs.turns.add_in_four_threads.Goals as goal
 
 pub join-first-requires-send-F : goal.join-first-requires-send-F
 join-first-requires-send-F g c κs within = let r = c.type_bounds.sync-R in search (sendable, crosses, pass_send, turn_sync) depth 20

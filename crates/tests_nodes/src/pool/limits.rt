@@ -1,5 +1,5 @@
 //! Pools at their limits: the greatest numbers of frames and devices, and no device. Pages at their
-//! limits are read and written in tests_nodes.
+//! limits are read and written by a node (`node/sizes.rt`).
 
 use super::{AMPLE, Row, Said, closes, lives, pool_of, runs};
 use test_kit::memory;
