@@ -1,5 +1,6 @@
 //! Readers that give bytes one by one, are interrupted or fail, and writers that take few bytes or
 //! fail: what a dump makes of them.
+use crate::bytes::row_holds;
 use crate::dumps::{FIRST, SECOND, WHOLE, dump_of_four, four_pages};
 use crate::histories::are_equal;
 use std::alloc::Global;
@@ -41,10 +42,7 @@ fn a_failed_read_is_a_read_fault(rt: HostRuntime) {
         let at = at as u64;
         let fault = DumpFault::ReadFault;
         let broken = broken_after(rt.alloc(), &text, len);
-        assert!(rt;
-            broken == Some(DumpError { at, fault }),
-            "after {len} bytes"
-        );
+        row_holds(&rt, len, broken == Some(DumpError { at, fault }));
     }
 }
 
@@ -67,7 +65,7 @@ fn written_in(rt: &impl Abort, alloc: Global, left: usize) -> Result<(), DumpFau
 fn a_failed_write_is_a_write_fault(rt: HostRuntime) {
     for left in 0..=WHOLE {
         let written = written_in(&rt, rt.alloc(), left);
-        assert!(rt; written == Err(DumpFault::WriteFault), "of {left} bytes");
+        row_holds(&rt, left, written == Err(DumpFault::WriteFault));
     }
     assert!(rt; written_in(&rt, rt.alloc(), 2218) == Ok(()));
 }

@@ -3,6 +3,7 @@
 ghost use Rattle.std.specs.Prelude.{◌≡◌, ◌<◌, ◌≤◌, length};
 ghost use Rattle.warm_rank.specs.declared.TheConstants.{MAX_FRAMES};
 
+use crate::bytes::row_holds;
 use std::alloc::Global;
 use std::cmp::Ordering;
 use std::process::Abort;
@@ -76,7 +77,7 @@ fn rises(rt: &impl Abort, alloc: Global, slots: u32) -> bool
 #[test]
 fn contest_has_any_number_of_slots(rt: HostRuntime) {
     for slots in [1, 2, 3, 65_535, 65_536u32] {
-        assert!(rt; rises(&rt, rt.alloc(), slots), "of {slots}");
+        row_holds(&rt, slots as usize, rises(&rt, rt.alloc(), slots));
     }
 }
 

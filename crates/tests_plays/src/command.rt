@@ -1,4 +1,5 @@
 //! Words of the command line: their meanings, and how they are refused.
+use crate::player::line_holds;
 use crate::setup::is_path;
 use clap::error::ErrorKind;
 use std::alloc::Global;
@@ -75,7 +76,7 @@ const READ: [(&str, Asked); 8] = [
 fn words_ask_for_commands(rt: HostRuntime) {
     for (line, asked) in READ {
         let command = read(&rt, rt.alloc(), line).ok().expect(&rt, "a command");
-        assert!(rt; is_asked(&command, asked), "{line}");
+        line_holds(&rt, line, is_asked(&command, asked));
     }
 }
 
@@ -128,9 +129,7 @@ fn kind_of(read: Result<Cmd, CmdFault>) -> Option<ErrorKind> {
 #[test]
 fn other_words_are_refused(rt: HostRuntime) {
     for (line, kind) in REFUSED {
-        assert!(rt;
-            kind_of(read(&rt, rt.alloc(), line)) == Some(kind),
-            "{line}"
-        );
+        let read = read(&rt, rt.alloc(), line);
+        line_holds(&rt, line, kind_of(read) == Some(kind));
     }
 }

@@ -7,13 +7,9 @@
 #![tactic(auto)]
 
 #[cfg(test)]
-mod bytes;
-#[cfg(test)]
 mod command;
 #[cfg(test)]
 mod faults;
-#[cfg(test)]
-mod lines;
 #[cfg(test)]
 mod outcome;
 #[cfg(test)]

@@ -1,4 +1,5 @@
 //! Texts of setup files: their meanings, and which fault of a text is reported.
+use crate::player::line_holds;
 use std::alloc::Global;
 use std::process::Abort;
 use warm_setup::{DeviceSpec, PathText, SetupFault, read_setup, read_setup_file};
@@ -100,7 +101,8 @@ const REFUSED: [(&str, SetupFault); 23] = [
 #[test]
 fn the_first_fault_is_answered(rt: HostRuntime) {
     for (text, want) in REFUSED {
-        assert!(rt; read_setup(rt.alloc(), text).err() == Some(want), "{text}");
+        let fault = read_setup(rt.alloc(), text).err();
+        line_holds(&rt, text, fault == Some(want));
     }
     let no_text = read_setup_file(rt.alloc(), [b'#', 255].as_slice());
     assert!(rt; matches!(no_text, Err(SetupFault::NotToml)));

@@ -1,5 +1,7 @@
-//! Schedules played by threads: the histories that each replica then prints, which lines are
-//! reported as bad, and devices that do not fit.
+//! Schedules played by threads: the histories that each replica then prints, of long buckets and of
+//! the most replicas, which lines are reported as bad, and devices that do not fit. What short
+//! schedules print is in checks/rows.
+use crate::player::line_holds;
 use std::alloc::Global;
 use std::io::Write;
 use std::process::Abort;
@@ -60,46 +62,6 @@ fn is_printed(got: &(Result<(), PlayFault>, String), want: &str) -> bool {
 // Whether this fault is returned, and nothing is printed.
 fn is_refused(got: &(Result<(), PlayFault>, String), fault: PlayFault) -> bool {
     got.0 == Err(fault) && got.1.as_str() == ""
-}
-
-// A test case: the sizes of a world, its schedule, and the expected output.
-const PLAYED: [(Size, &str, &str); 8] = [
-    (
-        DEFAULT,
-        "ref 1 1 0:1 10\nref 1 2 0:1 20\nref 2 1 0:1 30",
-        "replica 1\n0:1 last 30@2 prev 20@1\nend 1\nreplica 2\n0:1 last 30@2 prev 20@1\nend 1\n\
-         replica 3\n0:1 last 30@2 prev 20@1\nend 1\n",
-    ),
-    // the greatest page number of the greatest device
-    (
-        (2, 1, 1),
-        "ref 1 1 65535:18446744073709551615 7\nref 2 1 65535:18446744073709551615 6\n",
-        "replica 1\n65535:18446744073709551615 last 7@1 prev 6@2\nend 1\n\
-         replica 2\n65535:18446744073709551615 last 7@1 prev 6@2\nend 1\n",
-    ),
-    // a buffer of one is flushed before each further reference
-    (
-        (1, 2, 1),
-        "ref 1 1 0:1 1\nref 1 1 0:2 2\nref 1 2 0:1 3\nref 1 1 0:1 4\nflush 1 1\nref 1 2 3:4 5\n",
-        "replica 1\n0:1 last 4@1 prev 3@1\n0:2 last 2@1\n3:4 last 5@1\nend 3\n",
-    ),
-    ((1, 1, 1), "", "replica 1\nend 0\n"),
-    ((1, 1, 1), "\n", "replica 1\nend 0\n"),
-    ((1, 1, 1), "  # ref 1 1 0:1 1\n\n   ", "replica 1\nend 0\n"),
-    ((1, 1, 1), "flush 1 1", "replica 1\nend 0\n"),
-    (
-        (1, 1, 1),
-        "  ref  001 1 0:1 1",
-        "replica 1\n0:1 last 1@1\nend 1\n",
-    ),
-];
-
-#[test]
-fn each_replica_shows_all_references(rt: HostRuntime) {
-    for (size, text, want) in PLAYED {
-        let got = played_by(&rt, rt.alloc(), size, text.as_bytes());
-        assert!(rt; is_printed(&got, want), "{text}");
-    }
 }
 
 // A line for each of this many pages of a bucket.
@@ -177,7 +139,7 @@ fn bad_lines_are_named(rt: HostRuntime) {
             &rt, "a text",
         );
         let got = played_by(&rt, rt.alloc(), DEFAULT, text.as_bytes());
-        assert!(rt; is_refused(&got, PlayFault::BadLine(3)), "{line}");
+        line_holds(&rt, line, is_refused(&got, PlayFault::BadLine(3)));
     }
 }
 
