@@ -20,11 +20,14 @@ use warm_gossip::{Node, NodeFault};
 use warm_pool::Pool;
 use warm_stamps::{BUCKETS, Bucket, BucketSet};
 
-// How many digests a table has.
-const DIGESTS: usize = BUCKETS as usize;
-
-// Takes the digests of one shard's buckets from its table.
-fn fill(digests: &mut [[u8; DIGEST_SIZE]; DIGESTS], table: &DigestTable, count: usize, shard: usize)
+/// Copies the digests of one shard's buckets from a table into their places. The other digests are
+/// unchanged. Bucket b is of shard b modulo `count`.
+pub fn fill_digests(
+    digests: &mut [[u8; DIGEST_SIZE]; BUCKETS as usize],
+    table: &DigestTable,
+    count: usize,
+    shard: usize,
+)
     requires { 0 < count }
     ensures { FillsShard count shard digests.old table.now digests.new }
 {
@@ -49,13 +52,13 @@ pub(crate) fn gathered<D: PageDevice>(nodes: &mut Vec<Node<D>>) -> Result<Digest
     ensures same { SameShards nodes.old.items nodes.new.items }
 {
     let count = nodes.len();
-    let mut digests = [[0; DIGEST_SIZE]; DIGESTS];
+    let mut digests = [[0; DIGEST_SIZE]; BUCKETS as usize];
     for shard in 0..count {
         let offered = nodes[shard].offer()?;
         let Message::Digest { digests: table, .. } = offered else {
             unreachable!()
         };
-        fill(&mut digests, &table, count, shard);
+        fill_digests(&mut digests, &table, count, shard);
     }
     Ok(DigestTable::of(digests))
 }

@@ -27,6 +27,8 @@ mod shards;
 mod splitting;
 mod through;
 
+pub use answers::fill_digests;
 pub use fault::{ShardsError, ShardsFault};
+pub use gossip::references_in;
 pub use pool_calls::ShardSlot;
 pub use shards::{Shards, frames_of_shard, is_shard_count, shard_of};

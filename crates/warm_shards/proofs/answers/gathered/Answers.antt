@@ -27,8 +27,8 @@ loop-shard-preserved g c =
     let table : c.in-Digest.table ≡ digests_of (entries_of n.history) = let e = sym c.in-Digest.is ∙ c.in_ok-offered.ensures.step.0 in cc in
     record {
       same = same_next _ _ c.len-count.result c.loop-shard.shard n c.offer.new.self n c.loop-shard.invariant.count c.loop-shard-test.true c.index_mut.ensures.value c.in_ok-offered.ensures.step.1 c.in_ok-offered.ensures.devices c.loop-shard.invariant.same;
-      size = c.fill.array_long;
-      digests = digests_next _ c.loop-shard.nodes.items c.len-count.result c.loop-shard.shard n n c.loop-shard.digests c.in-Digest.table c.fill.new.digests c.requires c.loop-shard.invariant.count c.loop-shard-test.true c.index_mut.ensures.value c.loop-shard.invariant.same table c.fill.ensures c.loop-shard.invariant.digests;
+      size = c.fill_digests.array_long;
+      digests = digests_next _ c.loop-shard.nodes.items c.len-count.result c.loop-shard.shard n n c.loop-shard.digests c.in-Digest.table c.fill_digests.new.digests c.requires c.loop-shard.invariant.count c.loop-shard-test.true c.index_mut.ensures.value c.loop-shard.invariant.same table c.fill_digests.ensures c.loop-shard.invariant.digests;
       count = c.loop-shard.invariant.count;
     }
 

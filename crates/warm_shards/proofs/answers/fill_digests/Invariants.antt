@@ -1,6 +1,6 @@
 use Rattle.std.proofs.Common.{◌≡◌, ◌≢◌, ℕ, ◌<◌, ◌%◌, length}
 use Rattle.warm_frames.specs.Digests.{digest_at}
-use Rattle.warm_shards.proofs.answers.fill.Given as goal
+use Rattle.warm_shards.proofs.answers.fill_digests.Given as goal
 
 -- the digests of the shard's buckets so far
 abbrev pub invariant-loop-number : goal.invariant-loop-number
