@@ -74,8 +74,13 @@ pub(crate) struct Pages {
     pub(crate) size: usize,
 }
 
-// A node without references, with a pool of this many frames over a device of these pages.
-fn node_of(alloc: Global, id: ReplicaId, frames: usize, pages: Pages) -> Result<Node<Numbered>> {
+/// A node without references, with a pool of this many frames over a device of these pages.
+pub(crate) fn node_of(
+    alloc: Global,
+    id: ReplicaId,
+    frames: usize,
+    pages: Pages,
+) -> Result<Node<Numbered>> {
     let mut devices = Vec::with_capacity(alloc, 1)?;
     devices.push_reserved(Numbered {
         pages: pages.count,

@@ -6,12 +6,15 @@
 //! drawn evenly, reads eight bytes of it, and unpins it. A batch has 64 references to pages that are
 //! drawn evenly. With no word a little of both is made with a node, one shard and four shards, which
 //! print the same.
+//!
+//! `hits` takes the numbers of frames and of hits alone, for `bench/c/measure.py`, which measures
+//! the same from C, and makes the hits in a plain node. With no word it makes a few.
 
-use crate::parts::{added, next, node_over, replica};
+use crate::numbered::{Pages, numbered_node, numbered_shards};
+use crate::parts::{added, next, replica};
 use anyhow::{Context, Result, bail};
-use std::alloc::Global;
 use std::time::{Clock, Duration, Instant};
-use warm_devices::{MemDevice, PageDevice};
+use warm_devices::PageDevice;
 use warm_gossip::{Node, NodeFault};
 use warm_shards::Shards;
 use warm_stamps::{PageId, PageList, Reference, ReplicaId, Stamp};
@@ -20,6 +23,8 @@ use warm_stamps::{PageId, PageList, Reference, ReplicaId, Stamp};
 const BATCH: usize = 64;
 
 const HOTTEST: usize = 16;
+
+const PAGE_SIZE: usize = 16;
 
 // What is measured of a node and of shards.
 pub(crate) trait Measured {
@@ -90,6 +95,20 @@ struct Load {
     batches: u64,
 }
 
+impl Load {
+    fn pages(self) -> Pages {
+        Pages {
+            count: self.frames,
+            size: PAGE_SIZE,
+        }
+    }
+
+    // Pages are drawn from as many as this mask and one.
+    fn mask(self) -> u64 {
+        self.frames.wrapping_sub(1)
+    }
+}
+
 // The checksums of one run, and its times.
 #[derive(Clone, Copy)]
 struct Run {
@@ -155,18 +174,22 @@ fn checksum_of(pages: &PageList) -> u64 {
     checksum
 }
 
-fn timed<T: Clock, M: Measured>(rt: &T, on: &mut M, id: ReplicaId, load: Load) -> Result<Run> {
-    let mask = load.frames.wrapping_sub(1);
+// The checksum and the time of hits, after each frame is filled.
+fn timed_hits<T: Clock, M: Measured>(rt: &T, on: &mut M, load: Load) -> Result<(u64, Duration)> {
     let Ok(()) = fill(on, load.frames) else {
         bail!("a page was not put into its frame")
     };
     let start = Instant::now(rt)?;
-    let Ok(read) = hit_often(on, mask, load.hits) else {
+    let Ok(read) = hit_often(on, load.mask(), load.hits) else {
         bail!("a hit was refused")
     };
-    let hits = start.elapsed(rt)?;
+    Ok((read, start.elapsed(rt)?))
+}
+
+fn timed<T: Clock, M: Measured>(rt: &T, on: &mut M, id: ReplicaId, load: Load) -> Result<Run> {
+    let (read, hits) = timed_hits(rt, on, load)?;
     let start = Instant::now(rt)?;
-    let Ok(()) = take_often(on, id, mask, load.batches) else {
+    let Ok(()) = take_often(on, id, load.mask(), load.batches) else {
         bail!("a batch was refused")
     };
     let batches = start.elapsed(rt)?;
@@ -182,28 +205,14 @@ fn timed<T: Clock, M: Measured>(rt: &T, on: &mut M, id: ReplicaId, load: Load) -
     })
 }
 
-fn shards_over(alloc: Global, id: ReplicaId, count: u64, frames: u64) -> Result<Shards<MemDevice>> {
-    let each = frames.checked_div(count).unwrap_or(0) as usize;
-    let mut nodes = Vec::new(alloc);
-    for _ in 0..count {
-        let Ok(()) = nodes.push(node_over(alloc, 1, each, frames)?) else {
-            bail!("memory for nodes")
-        };
-    }
-    match Shards::new(alloc, id, nodes) {
-        Ok(shards) => Ok(shards),
-        Err(_) => bail!("these nodes cannot be shards"),
-    }
-}
-
 // The run of this many shards, or of a plain node where the count is 0.
 fn run_of<T: Clock + AllocGlobal>(rt: &T, count: u64, load: Load) -> Result<Run> {
     let id = replica(1)?;
     if count == 0 {
-        let mut node = node_over(rt.alloc(), 1, load.frames as usize, load.frames)?;
+        let mut node = numbered_node(rt.alloc(), load.pages())?;
         return timed(rt, &mut node, id, load);
     }
-    let mut shards = shards_over(rt.alloc(), id, count, load.frames)?;
+    let mut shards = numbered_shards(rt.alloc(), count as usize, load.pages())?;
     timed(rt, &mut shards, id, load)
 }
 
@@ -231,5 +240,30 @@ pub(crate) fn play(rt: &HostRuntime, words: &[String]) -> Result<()> {
     println!(rt; "{} ns", run.hits.as_nanos())?;
     println!(rt; "{}", run.hottest)?;
     println!(rt; "{} ns", run.batches.as_nanos())?;
+    Ok(())
+}
+
+// The hits in a node whose pool has this many frames.
+fn hits_in_node<T: Clock + AllocGlobal>(rt: &T, frames: u64, hits: u64) -> Result<(u64, Duration)> {
+    let load = Load {
+        frames,
+        hits,
+        batches: 0,
+    };
+    let mut node = numbered_node(rt.alloc(), load.pages())?;
+    timed_hits(rt, &mut node, load)
+}
+
+pub(crate) fn play_hits(rt: &HostRuntime, words: &[String]) -> Result<()> {
+    let [frames, hits] = words else {
+        let (read, _) = hits_in_node(rt, 16, 100)?;
+        println!(rt; "{read}")?;
+        return Ok(());
+    };
+    let frames = frames.parse::<u64>().context("how many frames")?;
+    let hits = hits.parse::<u64>().context("how many hits")?;
+    let (read, spent) = hits_in_node(rt, frames, hits)?;
+    println!(rt; "{read}")?;
+    println!(rt; "{} ns", spent.as_nanos())?;
     Ok(())
 }

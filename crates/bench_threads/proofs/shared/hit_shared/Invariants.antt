@@ -1,5 +1,5 @@
 use Rattle.warm_shared.specs.Attached.{AreOf}
-use Rattle.benches.proofs.shared.hit_shared.Given as goal
+use Rattle.bench_threads.proofs.shared.hit_shared.Given as goal
 
 -- the passes are of the turns
 abbrev pub invariant-loop : goal.invariant-loop

@@ -1,7 +1,7 @@
 use denote.Param.Send.{sendable}
 use Rattle.std.proofs.Crossing.{crosses}
 use Rattle.warm_turn.proofs.Sent.{pass_send, turn_sync}
-use Rattle.benches.proofs.replica.bring_four.Goals as goal
+use Rattle.bench_threads.proofs.replica.bring_two.Goals as goal
 
 pub join-pass-requires-send-F : goal.join-pass-requires-send-F
 join-pass-requires-send-F g c κs within = let m = c.type_bounds.send-M in let r = c.type_bounds.sync-R in search (sendable, crosses, pass_send, turn_sync) depth 20

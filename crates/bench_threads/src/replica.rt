@@ -8,14 +8,15 @@
 ghost use Rattle.std.specs.Prelude.{◌≡◌};
 ghost use Rattle.std.specs.Thread.{IsSend, IsSync};
 
-use crate::parts::{added, next, node_over};
+use crate::numbered::{Numbered, Pages, node_of};
+use crate::parts;
+use crate::parts::{added, next};
 use anyhow::{Context, Result, bail};
 use std::alloc::Global;
 use std::io::Print;
 use std::sync::Wait;
 use std::thread::{Threads, join};
 use std::time::{Clock, Duration, Instant};
-use warm_devices::MemDevice;
 use warm_gossip::{Call, Node, Reply};
 use warm_refbuffer::{Full, RefBuffer};
 use warm_replica::{BatchMachine, Worker};
@@ -28,8 +29,8 @@ const BUFFER: usize = 64;
 // The number of the hottest pages in the checksum.
 const HOTTEST: usize = 1_000;
 
-// The number of pages of the node's device.
-const DEVICE_PAGES: u64 = 8;
+// The pages of the node's device.
+const DEVICE_PAGES: Pages = Pages { count: 8, size: 16 };
 
 // The reference of a worker's `i`th turn, to the page drawn.
 fn reference(replica: ReplicaId, worker: u64, i: u64, drawn: u64, pages: u64) -> Reference {
@@ -182,7 +183,7 @@ fn checksum_of(pages: &[PageId]) -> u64 {
 // A checksum of the hottest pages after the workers added their references, and the time they took.
 fn brought<R: Threads + Wait + Clock + AllocGlobal + Sync>(
     rt: &R,
-    node: Node<MemDevice>,
+    node: Node<Numbered>,
     workers: u64,
     references: u64,
     pages: u64,
@@ -211,7 +212,7 @@ fn run<R: Threads + Wait + Clock + AllocGlobal + Sync>(
     references: u64,
     pages: u64,
 ) -> Result<(u64, Duration)> {
-    let node = node_over(rt.alloc(), 1, 2, DEVICE_PAGES)?;
+    let node = node_of(rt.alloc(), parts::replica(1)?, 2, DEVICE_PAGES)?;
     brought(rt, node, workers, references, pages)
 }
 

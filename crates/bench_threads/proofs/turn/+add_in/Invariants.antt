@@ -1,5 +1,5 @@
 use Rattle.std.proofs.Common.{◌+◌, ◌*◌}
-use Rattle.benches.proofs.turn.+add_in.Given as goal
+use Rattle.bench_threads.proofs.turn.+add_in.Given as goal
 
 abbrev pub decreases-add_in : goal.decreases-add_in
 decreases-add_in g l = 2 * l.threads

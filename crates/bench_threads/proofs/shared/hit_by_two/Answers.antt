@@ -1,7 +1,7 @@
 use denote.Param.Send.{sendable}
 use Rattle.std.proofs.Crossing.{crosses}
 use Rattle.warm_shared.proofs.Sent.{attached_send, shards_sync}
-use Rattle.benches.proofs.shared.hit_by_four.Goals as goal
+use Rattle.bench_threads.proofs.shared.hit_by_two.Goals as goal
 
 pub join-attached-requires-send-F : goal.join-attached-requires-send-F
 join-attached-requires-send-F g c κs within = let r = c.type_bounds.sync-R in search (sendable, crosses, attached_send, shards_sync) depth 20
