@@ -1,5 +1,5 @@
 /*
- * Measures hits in the pool of a handle: hits FRAMES HITS, the same as crates/benches/src/hits.rt does in Rattle. FRAMES is a power of two
+ * Measures hits in the pool of a handle: hits FRAMES HITS, the same as crates/bench_threads/src/shards.rt does in Rattle. FRAMES is a power of two
  * up to 65,536, and each frame has a page of 16 bytes. A hit pins a page that is drawn evenly, reads eight bytes of it, and unpins it.
  * Prints a checksum of what was read, and nanoseconds.
  */

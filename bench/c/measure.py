@@ -3,7 +3,7 @@
 
 usage: measure.py LIBRARY       LIBRARY is the folder that scripts/c-library made
 
-It needs the proved program (`rt run` in crates/benches leaves it as crates/benches/out/benches; the variable BENCHES names another) and a
+It needs the proved program (`rt run` in crates/bench_threads leaves it as crates/bench_threads/out/bench_threads; the variable BENCHES names another) and a
 C compiler (cc, or what CC names). Each round is in a drawn order. All programs must print the same checksum.
 """
 
@@ -16,7 +16,7 @@ import tempfile
 from pathlib import Path
 
 HERE = Path(__file__).resolve().parent
-BENCHES = Path(os.environ.get("BENCHES", HERE.parent.parent / "crates/benches/out/benches"))
+BENCHES = Path(os.environ.get("BENCHES", HERE.parent.parent / "crates/bench_threads/out/bench_threads"))
 ROUNDS = 15
 HITS = 5_000_000
 POOLS = [1_024, 65_536]

@@ -1,15 +1,13 @@
 #!/usr/bin/env python3
-"""Measures visits to resident pages of a pool, pins of pages that are in no frame, and the emptying of a full pool against those in plain
-Rust, and how the cost of emptying a pool and retiring a device depends on the frames, and prints the tables of docs/PERFORMANCE.md.
+"""Measures visits to resident pages of a pool, pins of pages that are in no frame, the emptying of a full pool, and searches for pages,
+against those in plain Rust, and prints the tables of docs/PERFORMANCE.md.
 
-usage: measure.py [NAME..]      empty, full, visits, misses, boxed, strides (default: all)
+usage: measure.py [NAME..]      empty, visits, misses, strides (default: all)
 
 It needs the proved program (`rt run` in crates/benches leaves it as crates/benches/out/benches) and `rustc`.
 The programs run in turn, five times, and the fastest run of each counts. All must print the same checksum.
 """
 
-import random
-import statistics
 import subprocess
 import sys
 import tempfile
@@ -18,12 +16,8 @@ from pathlib import Path
 HERE = Path(__file__).resolve().parent
 OURS = [HERE.parent.parent / "crates/benches/out/benches", "pool"]
 RUNS = 5
-BOXED_RUNS = 9
 VISITS, MISSES = 5_000_000, 1_000_000
-FEW, MANY = 4_096, 65_536
-# which frames hold pages when a pool is emptied, and the program's argument for it
-HELD = {"none": "none", "the lower half": "lower", "the upper half": "upper", "all": "all"}
-
+MANY = 65_536
 # how the plain program finds its pages and victims, and its arguments for it
 PLAINS = {
     "a HashMap, a winner tree": [],
@@ -39,31 +33,12 @@ def one_run(command: list[str | Path]) -> tuple[str, int]:
     return read, int(spent.split()[0])
 
 
-def fastest(call: str, held: str) -> dict[int, float]:
-    """The microseconds of a call on a pool of each size, of which these frames hold pages; the sizes take turns."""
-    best: dict[int, float] = {}
-    for _ in range(4 * RUNS):
-        for frames in (FEW, MANY):
-            said = subprocess.run([*OURS, call, str(frames), held], stdout=subprocess.PIPE, check=True, text=True).stdout
-            best[frames] = min(int(said.split()[0]) / 1000, best.get(frames, float("inf")))
-    return best
-
-
 def print_emptying() -> None:
-    print(f"| call, and the frames that hold a page | {FEW:,} frames, µs | {MANY:,} frames, µs | times |")
-    print("|---|---|---|---|")
-    for call in ("empty", "retire"):
-        for name, word in HELD.items():
-            best = fastest(call, word)
-            print(f"| {call}, {name} | {best[FEW]:.0f} | {best[MANY]:.0f} | {best[MANY] / best[FEW]:.1f} |")
-
-
-def print_full() -> None:
     """A restart empties its pool. Runs of ours and of the plain programs take turns."""
     with tempfile.TemporaryDirectory() as folder:
         plain = Path(folder) / "plain"
         subprocess.run(["rustc", "-O", "--edition", "2024", "-o", plain, HERE / "plain.rs"], check=True)
-        commands = {"ours": [*OURS, "empty", str(MANY), "all"]} | {name: [plain, "empty", *words] for name, words in PLAINS.items()}
+        commands = {"ours": [*OURS, "empty", str(MANY)]} | {name: [plain, "empty", *words] for name, words in PLAINS.items()}
         best: dict[str, float] = {}
         for _ in range(4 * RUNS):
             for name, command in commands.items():
@@ -93,30 +68,6 @@ def beside(what: list[str], count: int, plains: dict[str, list[str]]) -> None:
     ours = best.pop("ours")
     for name, spent in best.items():
         print(f"| {name} | {ours:.0f} | {spent:.0f} | {spent / ours:.2f} |", flush=True)
-
-
-def print_boxed() -> None:
-    """A pin that hits and one that misses, over devices of a named type, in boxes, and in plain Rust. All must have read the same.
-    Each round is in a random order, so that no program always runs after the same one. The ratios are of the fastest and of the median runs."""
-    print("| what | devices of a named type, ns | in boxes, ns | plain Rust, ns | boxes by named | middle | plain Rust by named | middle |")
-    print("|---|---|---|---|---|---|---|---|")
-    with tempfile.TemporaryDirectory() as folder:
-        plain = Path(folder) / "plain"
-        subprocess.run(["rustc", "-O", "--edition", "2024", "-o", plain, HERE / "plain.rs"], check=True)
-        for what, words, count in (("a visit of a resident page", [str(VISITS)], VISITS), ("a miss", ["misses", str(MISSES)], MISSES)):
-            commands = {"named": [*OURS, *words], "boxed": [*OURS, "boxed", *words], "plain": [plain, *words, "mixed"]}
-            spent: dict[str, list[float]] = {name: [] for name in commands}
-            read = set()
-            for _ in range(BOXED_RUNS):
-                for name in random.sample(list(commands), len(commands)):
-                    line, nanoseconds = one_run(commands[name])
-                    read.add(line)
-                    spent[name].append(nanoseconds / count)
-            assert len(read) == 1, read
-            least = {name: min(it) for name, it in spent.items()}
-            middle = {name: statistics.median(it) for name, it in spent.items()}
-            ratios = " | ".join(f"{it[name] / it['named']:.2f}" for name in ("boxed", "plain") for it in (least, middle))
-            print(f"| {what} | {least['named']:.0f} | {least['boxed']:.0f} | {least['plain']:.0f} | {ratios} |", flush=True)
 
 
 def print_visits() -> None:
@@ -156,7 +107,7 @@ def print_strides() -> None:
             )
 
 
-TABLES = {"empty": print_emptying, "full": print_full, "visits": print_visits, "misses": print_misses, "boxed": print_boxed, "strides": print_strides}
+TABLES = {"empty": print_emptying, "visits": print_visits, "misses": print_misses, "strides": print_strides}
 
 
 def main() -> None:

@@ -5,7 +5,7 @@ std::sync::Mutex, and prints the table of docs/PERFORMANCE.md.
 usage: measure.py [idle|busy|both] [REFERENCES] [PAGES]      default: both, 1,000,000 per worker, 100,000
 
 For `busy` as many other processes as there are processors keep them busy meanwhile. It needs the proved program
-(`rt run` in crates/benches leaves it as crates/benches/out/benches) and `rustc`. The programs run one
+(`rt run` in crates/bench_threads leaves it as crates/bench_threads/out/bench_threads) and `rustc`. The programs run one
 after another, each time in a random order, eleven times. Ours is compared with each plain program by the fastest run of
 both, and by the median of the eleven ratios: where the machine's host is busy, these differ. All must end with the same
 hottest pages.
@@ -23,7 +23,7 @@ HERE = Path(__file__).resolve().parent
 sys.path.insert(0, str(HERE.parent))
 from busy import all_processors_busy  # noqa: E402
 
-OURS = [HERE.parent.parent / "crates/benches/out/benches", "replica"]
+OURS = [HERE.parent.parent / "crates/bench_threads/out/bench_threads", "replica"]
 RUNS = 11
 CROWDS = [1, 2, 4]
 PLAIN = ["history", "node"]

@@ -1,4 +1,4 @@
-//! The workers of `benches replica` in plain Rust, over one replica behind a `std::sync::Mutex`, for the same measurements.
+//! The workers of `bench_threads replica` in plain Rust, over one replica behind a `std::sync::Mutex`, for the same measurements.
 //!
 //! `plain WORKERS REFERENCES PAGES [history|node]`: WORKERS workers add REFERENCES references each, to PAGES pages, by buffers of 64.
 //! With `history` the replica is a history, a map for each bucket. With `node` it also does the other work of a node: it marks the buckets

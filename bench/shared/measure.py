@@ -5,7 +5,7 @@ thread has for itself and beside plain Rust with a Mutex around each shard; prin
 usage: measure.py [HITS [ROUNDS]]      HITS of each thread, 1,000,000 where it is not given; ROUNDS, 7
 
 A hit is a pin, a read of eight bytes and an unpin of a resident page of 4,096 bytes, drawn evenly. It needs the proved program (`rt run` in
-crates/benches leaves it as crates/benches/out/benches; the variable BENCHES names another), `rustc`, valgrind, 1 GB of memory and four processors
+crates/bench_threads leaves it as crates/bench_threads/out/bench_threads; the variable BENCHES names another), `rustc`, valgrind, 1 GB of memory and four processors
 that nothing else uses. Each round runs all in a drawn order, and of all rounds the fastest run counts: the time from the first thread's begin
 to the last thread's end, by the hits of one thread. Programs that draw the same pages must print the same sum. Instructions are those of one
 thread, counted by callgrind: what a run of twice as many hits takes more.
@@ -21,7 +21,7 @@ from pathlib import Path
 from typing import NamedTuple
 
 HERE = Path(__file__).resolve().parent
-BENCHES = Path(os.environ.get("BENCHES", HERE.parent.parent / "crates/benches/out/benches"))
+BENCHES = Path(os.environ.get("BENCHES", HERE.parent.parent / "crates/bench_threads/out/bench_threads"))
 HITS = 1_000_000
 ROUNDS = 7
 COUNTED_HITS = 20_000

@@ -1,4 +1,4 @@
-//! The hits of `benches shared` in plain Rust: shards that threads share, each a pool behind a `std::sync::Mutex` of its own.
+//! The hits of `bench_threads shared` in plain Rust: shards that threads share, each a pool behind a `std::sync::Mutex` of its own.
 //!
 //! `plain SHARDS THREADS PAGES HITS`: THREADS threads make HITS hits each in SHARDS shards, which together have a frame for each of PAGES pages
 //! (a power of two) of 4,096 bytes; all are resident. The sum of the threads' checksums is printed, and nanoseconds. A hit pins a page that is

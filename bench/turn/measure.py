@@ -6,7 +6,7 @@ usage: measure.py [idle|busy|both] [TURNS]      default: both, and 2,000,000 tur
 
 First for a counter, then for one that sleeps for a millisecond in each call, as a machine over a slow device does, with a
 thousandth of the turns. For `busy` as many other processes as there are processors keep them busy meanwhile. It needs
-the proved program (`rt run` in crates/benches leaves it as crates/benches/out/benches) and `rustc`. Both programs run in
+the proved program (`rt run` in crates/bench_threads leaves it as crates/bench_threads/out/bench_threads) and `rustc`. Both programs run in
 turn, nine times, and the median run of each counts, and its median processor time: the fastest run would be one in which the
 threads hardly contended. The longest wait is that of all calls of nine further runs, in which each call is timed; of a counter that
 sleeps each call is timed in all runs. Every total must be the requested one.
@@ -25,7 +25,7 @@ HERE = Path(__file__).resolve().parent
 sys.path.insert(0, str(HERE.parent))
 from busy import all_processors_busy  # noqa: E402
 
-TURN = [HERE.parent.parent / "crates/benches/out/benches", "turn"]
+TURN = [HERE.parent.parent / "crates/bench_threads/out/bench_threads", "turn"]
 RUNS = 9
 CROWDS = [1, 2, 4, 8]
 LINE = re.compile(r"(\d) threads?: (\d+) in (\d+) ns(?:, (\d+) ns)?")

@@ -1,4 +1,4 @@
-//! The counter of `benches turn` behind a `std::sync::Mutex`, for the same measurements.
+//! The counter of `bench_threads turn` behind a `std::sync::Mutex`, for the same measurements.
 //!
 //! `mutex THREADS TURNS`: THREADS threads add TURNS times each, and the total and the nanoseconds are printed. With the word `waits` after
 //! these also the nanoseconds of the longest call, with `slow` the same of a counter that sleeps for a millisecond in each call.

@@ -1,5 +1,5 @@
-//! The measurements of `docs/PERFORMANCE.md`, run by the scripts in `bench/`: turn, history, pool,
-//! frames, files, gossip, replica, hits, shards and shared.
+//! The measurements of `docs/PERFORMANCE.md` up to a node, run by the scripts in `bench/`: history,
+//! pool, frames, files and gossip. `bench_threads` has those of threads and of shards.
 //!
 //! `benches NAME WORDS..` runs the bench of that name with these arguments, and prints nanoseconds;
 //! its module documents the arguments. `benches NAME` does a little of all that the bench measures,
@@ -10,116 +10,75 @@ mod files;
 mod frames;
 mod gossip;
 mod history;
-mod hits;
-mod numbered;
 mod parts;
 mod pool;
-mod replica;
-mod shards;
-mod shared;
 mod strides;
-mod turn;
 
 use anyhow::{Result, bail};
 use std::env;
 use std::io::Print;
-use std::sync::Wait;
-use std::thread::Threads;
-use std::time::Clock;
 
 /// The benches.
 #[derive(Clone, Copy)]
 enum Bench {
-    Turn,
     History,
     Pool,
     Frames,
     Files,
     Gossip,
-    Replica,
-    Hits,
-    Shards,
-    Shared,
 }
 
 // In the order in which they run.
-const BENCHES: [Bench; 10] = [
-    Bench::Turn,
+const BENCHES: [Bench; 5] = [
     Bench::History,
     Bench::Pool,
     Bench::Frames,
     Bench::Files,
     Bench::Gossip,
-    Bench::Replica,
-    Bench::Hits,
-    Bench::Shards,
-    Bench::Shared,
 ];
 
 impl Bench {
     fn from_word(word: &str) -> Result<Bench> {
         match word {
-            "turn" => Ok(Bench::Turn),
             "history" => Ok(Bench::History),
             "pool" => Ok(Bench::Pool),
             "frames" => Ok(Bench::Frames),
             "files" => Ok(Bench::Files),
             "gossip" => Ok(Bench::Gossip),
-            "replica" => Ok(Bench::Replica),
-            "hits" => Ok(Bench::Hits),
-            "shards" => Ok(Bench::Shards),
-            "shared" => Ok(Bench::Shared),
-            _ => bail!(
-                "what is measured: turn, history, pool, frames, files, gossip, replica, hits, shards or shared"
-            ),
+            _ => bail!("what is measured: history, pool, frames, files or gossip"),
         }
     }
 
     fn name(self) -> &'static str {
         match self {
-            Bench::Turn => "turn",
             Bench::History => "history",
             Bench::Pool => "pool",
             Bench::Frames => "frames",
             Bench::Files => "files",
             Bench::Gossip => "gossip",
-            Bench::Replica => "replica",
-            Bench::Hits => "hits",
-            Bench::Shards => "shards",
-            Bench::Shared => "shared",
         }
     }
 }
 
 // Runs one bench with its arguments.
-fn play<T: Threads + Wait + Clock + Print + AllocGlobal + Sync>(
-    rt: &HostRuntime,
-    threads: &T,
-    bench: Bench,
-    words: &[String],
-) -> Result<()> {
+fn play(rt: &HostRuntime, bench: Bench, words: &[String]) -> Result<()> {
     match bench {
-        Bench::Turn => turn::play(threads, *rt, words),
         Bench::History => history::play(rt, words),
         Bench::Pool => pool::play(rt, words),
         Bench::Frames => frames::play(rt, words),
         Bench::Files => files::play(rt, words),
         Bench::Gossip => gossip::play(rt, words),
-        Bench::Replica => replica::play(threads, words),
-        Bench::Hits => hits::play(rt, words),
-        Bench::Shards => shards::play(rt, words),
-        Bench::Shared => shared::play(threads, words),
     }
 }
 
 fn main(rt: HostRuntime) -> Result<()> {
     let words: Vec<String> = env::args(&rt)?.skip(1).collect(rt.alloc())?;
     if let Some((name, rest)) = words.split_first() {
-        return play(&rt, &rt, Bench::from_word(name)?, rest);
+        return play(&rt, Bench::from_word(name)?, rest);
     }
     for bench in BENCHES {
         println!(rt; "== {}", bench.name())?;
-        play(&rt, &rt, bench, &[])?;
+        play(&rt, bench, &[])?;
     }
     Ok(())
 }

@@ -5,10 +5,8 @@
 //!   visit pins a page, reads eight bytes of it, writes eight, and unpins it.
 //! - `misses` and a number: this number of pins of pages that are in no frame of 65,536, each read
 //!   and unpinned. Each page has two references, and the victim may be in any of the frames.
-//! - Either with `boxed` before it: the same over devices in boxes, whose calls are dynamic.
-//! - `empty` or `retire`, a number of frames and a word: a pool of that many frames is emptied, or
-//!   the device of its pages is retired (where all frames hold one, that of the lower half).
-//!
+//! - `empty` and a number of frames: a pool of that many frames is emptied, each of which holds a
+//!   page.
 //! - `strides` and a number of frames: how long it takes to find the pages of a full pool, by the
 //!   distance of their numbers (`strides.rt`).
 //!
@@ -33,50 +31,8 @@ const PAGE_SIZE: usize = 64;
 // Several times the size of a core's own cache.
 const BESIDE: usize = 32 << 20;
 
-/// How a pool has its devices: as values of a named type, whose calls are static, or in boxes,
-/// whose calls are dynamic.
-#[derive(Clone, Copy)]
-enum Place {
-    Named,
-    Boxed,
-}
-
-/// Which frames hold a page as a pool is emptied.
-#[derive(Clone, Copy)]
-enum Held {
-    None,
-    LowerHalf,
-    UpperHalf,
-    All,
-}
-
-impl Held {
-    // The device that is retired.
-    fn device(self) -> u16 {
-        match self {
-            Held::UpperHalf => 1,
-            Held::None | Held::LowerHalf | Held::All => 0,
-        }
-    }
-
-    fn from_word(word: &str) -> Result<Held> {
-        match word {
-            "none" => Ok(Held::None),
-            "lower" => Ok(Held::LowerHalf),
-            "upper" => Ok(Held::UpperHalf),
-            "all" => Ok(Held::All),
-            _ => bail!("which frames hold a page: none, lower, upper or all"),
-        }
-    }
-}
-
 // Pins, reads, writes and unpins a page, and returns the first byte that was read.
-fn visit<D: PageDevice>(
-    pool: &mut Pool<D>,
-    history: &History,
-    no: u64,
-    byte: u8,
-) -> Result<u8, PoolFault>
+fn visit(pool: &mut Pool<MemDevice>, history: &History, no: u64, byte: u8) -> Result<u8, PoolFault>
     requires { RankedBy pool.old history.now }
     ensures { RankedBy pool.new history.now }
 {
@@ -89,8 +45,8 @@ fn visit<D: PageDevice>(
 }
 
 // Loads the first pages of a device.
-fn load_pages<D: PageDevice>(
-    pool: &mut Pool<D>,
+fn load_pages(
+    pool: &mut Pool<MemDevice>,
     history: &History,
     dev: u16,
     pages: u64,
@@ -105,7 +61,7 @@ fn load_pages<D: PageDevice>(
 }
 
 // Pins, reads and unpins a page, and returns the first byte that was read.
-fn look_at<D: PageDevice>(pool: &mut Pool<D>, history: &History, no: u64) -> Result<u8, PoolFault>
+fn look_at(pool: &mut Pool<MemDevice>, history: &History, no: u64) -> Result<u8, PoolFault>
     requires { RankedBy pool.old history.now }
     ensures { RankedBy pool.new history.now }
 {
@@ -117,7 +73,7 @@ fn look_at<D: PageDevice>(pool: &mut Pool<D>, history: &History, no: u64) -> Res
 }
 
 // Loads the first pages of device 0 into all frames, so that consecutive pages are far apart.
-fn load_apart<D: PageDevice>(pool: &mut Pool<D>, history: &History) -> Result<(), PoolFault>
+fn load_apart(pool: &mut Pool<MemDevice>, history: &History) -> Result<(), PoolFault>
     requires { RankedBy pool.old history.now }
     ensures { RankedBy pool.new history.now }
 {
@@ -131,11 +87,7 @@ fn load_apart<D: PageDevice>(pool: &mut Pool<D>, history: &History) -> Result<()
 // Reads the pages from the number of frames up to another number, and returns a checksum of the
 // bytes read. Where the first pages are resident and ranks rise with the page numbers, each is a
 // miss, and the page of the least number is evicted.
-fn miss_often<D: PageDevice>(
-    pool: &mut Pool<D>,
-    history: &History,
-    pages: u64,
-) -> Result<u64, PoolFault>
+fn miss_often(pool: &mut Pool<MemDevice>, history: &History, pages: u64) -> Result<u64, PoolFault>
     requires { RankedBy pool.old history.now }
     ensures { RankedBy pool.new history.now }
 {
@@ -148,11 +100,7 @@ fn miss_often<D: PageDevice>(
 }
 
 // Visits pages drawn by a linear congruential generator, and returns a checksum of the bytes read.
-fn visit_often<D: PageDevice>(
-    pool: &mut Pool<D>,
-    history: &History,
-    visits: u64,
-) -> Result<u64, PoolFault>
+fn visit_often(pool: &mut Pool<MemDevice>, history: &History, visits: u64) -> Result<u64, PoolFault>
     requires { RankedBy pool.old history.now }
     ensures { RankedBy pool.new history.now }
 {
@@ -173,7 +121,12 @@ fn paged(alloc: Global, pages: u64) -> Result<MemDevice> {
 }
 
 // A pool over two devices, without a page.
-fn opened<D: PageDevice>(alloc: Global, frames: u64, first: D, second: D) -> Result<Pool<D>>
+fn opened(
+    alloc: Global,
+    frames: u64,
+    first: MemDevice,
+    second: MemDevice,
+) -> Result<Pool<MemDevice>>
     ensures { IfOk result (λ pool. IsRankedByAll pool) }
 {
     let Ok(mut devices) = Vec::with_capacity(alloc, 2) else {
@@ -188,9 +141,9 @@ fn opened<D: PageDevice>(alloc: Global, frames: u64, first: D, second: D) -> Res
 }
 
 // A checksum of the bytes that the visits read, and the time that they took.
-fn visits_of<D: PageDevice>(
+fn visits_of(
     clock: &impl Clock,
-    pool: &mut Pool<D>,
+    pool: &mut Pool<MemDevice>,
     history: &History,
     visits: u64,
 ) -> Result<(u64, Duration)>
@@ -206,34 +159,10 @@ fn visits_of<D: PageDevice>(
     Ok((checksum, start.elapsed(clock)?))
 }
 
-// Visits over two devices. The type of a pool over boxes cannot be named, so the pool lives here.
-fn visited_over<D: PageDevice>(
-    clock: &impl Clock,
-    alloc: Global,
-    visits: u64,
-    first: D,
-    second: D,
-) -> Result<(u64, Duration)> {
-    let mut pool = opened(alloc, FRAMES, first, second)?;
-    let history = History::new(alloc);
-    visits_of(clock, &mut pool, &history, visits)
-}
-
-fn visited(
-    clock: &impl Clock,
-    alloc: Global,
-    place: Place,
-    visits: u64,
-) -> Result<(u64, Duration)> {
+fn visited(clock: &impl Clock, alloc: Global, visits: u64) -> Result<(u64, Duration)> {
     let (first, second) = (paged(alloc, FRAMES)?, paged(alloc, FRAMES)?);
-    match place {
-        Place::Named => visited_over(clock, alloc, visits, first, second),
-        Place::Boxed => {
-            let first: Box<dyn PageDevice + Send> = Box::new(alloc, first)?;
-            let second: Box<dyn PageDevice + Send> = Box::new(alloc, second)?;
-            visited_over(clock, alloc, visits, first, second)
-        }
-    }
+    let mut pool = opened(alloc, FRAMES, first, second)?;
+    visits_of(clock, &mut pool, &History::new(alloc), visits)
 }
 
 // The history of this many pages: two references to each, so that ranks rise with the page numbers.
@@ -271,9 +200,9 @@ fn numbered(alloc: Global, pages: u64) -> Result<MemDevice> {
 }
 
 // A checksum of the bytes that the pins with misses read, and the time that they took.
-fn misses_of<D: PageDevice>(
+fn misses_of(
     clock: &impl Clock,
-    pool: &mut Pool<D>,
+    pool: &mut Pool<MemDevice>,
     history: &History,
     pages: u64,
 ) -> Result<(u64, Duration)>
@@ -290,62 +219,23 @@ fn misses_of<D: PageDevice>(
 }
 
 // Misses over two devices, of which the first has the pages.
-fn missed_over<D: PageDevice>(
-    clock: &impl Clock,
-    alloc: Global,
-    pages: u64,
-    first: D,
-    second: D,
-) -> Result<(u64, Duration)> {
+fn missed(clock: &impl Clock, alloc: Global, misses: u64) -> Result<(u64, Duration)> {
+    let pages = FRAMES.saturating_add(misses);
+    let (first, second) = (numbered(alloc, pages)?, paged(alloc, 1)?);
     let mut pool = opened(alloc, FRAMES, first, second)?;
     let history = references(alloc, pages)?;
     misses_of(clock, &mut pool, &history, pages)
 }
 
-fn missed(clock: &impl Clock, alloc: Global, place: Place, misses: u64) -> Result<(u64, Duration)> {
-    let pages = FRAMES.saturating_add(misses);
-    let (first, second) = (numbered(alloc, pages)?, paged(alloc, 1)?);
-    match place {
-        Place::Named => missed_over(clock, alloc, pages, first, second),
-        Place::Boxed => {
-            let first: Box<dyn PageDevice + Send> = Box::new(alloc, first)?;
-            let second: Box<dyn PageDevice + Send> = Box::new(alloc, second)?;
-            missed_over(clock, alloc, pages, first, second)
-        }
-    }
-}
-
-/// The timed call.
-#[derive(Clone, Copy)]
-enum Call {
-    Empty,
-    Retire,
-}
-
-impl Call {
-    fn from_word(word: &str) -> Result<Call> {
-        match word {
-            "empty" => Ok(Call::Empty),
-            "retire" => Ok(Call::Retire),
-            _ => bail!("what is timed: empty or retire"),
-        }
-    }
-}
-
 // Loads a page of device 0 into each frame of the lower half, and one of device 1 into each of the
-// upper half, where these are to have pages now or before.
-fn load_halves(pool: &mut Pool<MemDevice>, history: &History, half: u64, held: Held) -> Result<()>
+// upper half.
+fn load_halves(pool: &mut Pool<MemDevice>, history: &History, half: u64) -> Result<()>
     requires { RankedBy pool.old history.now }
 {
-    let (lower, upper) = match held {
-        Held::None => (0, 0),
-        Held::LowerHalf => (half, 0),
-        Held::UpperHalf | Held::All => (half, half),
-    };
-    if load_pages(pool, history, 0, lower).is_err() {
+    if load_pages(pool, history, 0, half).is_err() {
         bail!("a page was not loaded")
     }
-    if load_pages(pool, history, 1, upper).is_err() {
+    if load_pages(pool, history, 1, half).is_err() {
         bail!("a page was not loaded")
     }
     Ok(())
@@ -356,14 +246,6 @@ fn empty(pool: &mut Pool<MemDevice>) -> Result<()> {
     match pool.empty() {
         Ok(()) => Ok(()),
         Err(_) => bail!("the pool was not emptied"),
-    }
-}
-
-// Retires a device: its pages are evicted, and another device replaces it.
-fn retire(pool: &mut Pool<MemDevice>, dev: u16, another: MemDevice) -> Result<()> {
-    match pool.retire(dev, another) {
-        Ok(()) => Ok(()),
-        Err(_) => bail!("the device was not retired"),
     }
 }
 
@@ -378,69 +260,25 @@ fn write_beside(alloc: Global) -> Result<()> {
     Ok(())
 }
 
-// The time of a call on a pool that is about to be emptied, or whose device is about to be retired.
-fn call_timed(
-    clock: &impl Clock,
-    alloc: Global,
-    pool: &mut Pool<MemDevice>,
-    held: Held,
-    call: Call,
-    another: MemDevice,
-) -> Result<Duration> {
+// The time in which a full pool of this many frames is emptied.
+fn emptied(clock: &impl Clock, alloc: Global, frames: u64) -> Result<Duration> {
+    let half = frames / 2;
+    let mut pool = opened(alloc, frames, paged(alloc, half)?, paged(alloc, half)?)?;
+    load_halves(&mut pool, &History::new(alloc), half)?;
     write_beside(alloc)?;
     let start = Instant::now(clock)?;
-    match call {
-        Call::Empty => empty(pool)?,
-        Call::Retire => retire(pool, held.device(), another)?,
-    }
+    empty(&mut pool)?;
     Ok(start.elapsed(clock)?)
-}
-
-// The same, after the frames are filled. Where only the upper half is to have pages, those of the
-// lower half are evicted by the replacement of their device.
-fn filled_and_timed(
-    clock: &impl Clock,
-    alloc: Global,
-    pool: &mut Pool<MemDevice>,
-    held: Held,
-    call: Call,
-    another: MemDevice,
-    yet_another: MemDevice,
-) -> Result<Duration> {
-    if let Held::UpperHalf = held {
-        retire(pool, 0, another)?;
-    }
-    call_timed(clock, alloc, pool, held, call, yet_another)
-}
-
-// The time of a call on a pool of which these frames have a page.
-fn timed(
-    clock: &impl Clock,
-    alloc: Global,
-    frames: u64,
-    held: Held,
-    call: Call,
-) -> Result<Duration> {
-    let half = frames / 2;
-    let (first, second) = (paged(alloc, half)?, paged(alloc, half)?);
-    let (another, yet_another) = (paged(alloc, half)?, paged(alloc, half)?);
-    let mut pool = opened(alloc, frames, first, second)?;
-    load_halves(&mut pool, &History::new(alloc), half, held)?;
-    filled_and_timed(clock, alloc, &mut pool, held, call, another, yet_another)
 }
 
 // Does a little of all that is measured.
 fn play_small(rt: &HostRuntime) -> Result<()> {
-    for place in [Place::Named, Place::Boxed] {
-        let (checksum, _) = visited(rt, rt.alloc(), place, 1_000)?;
-        println!(rt; "1000 visits: {}", checksum)?;
-        let (checksum, _) = missed(rt, rt.alloc(), place, 1_000)?;
-        println!(rt; "1000 misses: {}", checksum)?;
-    }
-    timed(rt, rt.alloc(), 4_096, Held::UpperHalf, Call::Empty)?;
+    let (checksum, _) = visited(rt, rt.alloc(), 1_000)?;
+    println!(rt; "1000 visits: {}", checksum)?;
+    let (checksum, _) = missed(rt, rt.alloc(), 1_000)?;
+    println!(rt; "1000 misses: {}", checksum)?;
+    emptied(rt, rt.alloc(), 4_096)?;
     println!(rt; "4096 frames emptied")?;
-    timed(rt, rt.alloc(), 4_096, Held::UpperHalf, Call::Retire)?;
-    println!(rt; "the device of 2048 frames retired")?;
     strides::play_small(rt)
 }
 
@@ -451,21 +289,21 @@ fn print_read(rt: &HostRuntime, count: u64, what: &str, read: (u64, Duration)) -
     Ok(())
 }
 
-fn play_visits(rt: &HostRuntime, place: Place, visits: &str) -> Result<()> {
+fn play_visits(rt: &HostRuntime, visits: &str) -> Result<()> {
     let visits = visits.parse::<u64>().context("the number of visits")?;
-    let read = visited(rt, rt.alloc(), place, visits)?;
+    let read = visited(rt, rt.alloc(), visits)?;
     print_read(rt, visits, "visits", read)
 }
 
-fn play_misses(rt: &HostRuntime, place: Place, misses: &str) -> Result<()> {
+fn play_misses(rt: &HostRuntime, misses: &str) -> Result<()> {
     let misses = misses.parse::<u64>().context("the number of misses")?;
-    let read = missed(rt, rt.alloc(), place, misses)?;
+    let read = missed(rt, rt.alloc(), misses)?;
     print_read(rt, misses, "misses", read)
 }
 
-fn play_call(rt: &HostRuntime, call: Call, frames: &str, held: &str) -> Result<()> {
+fn play_empty(rt: &HostRuntime, frames: &str) -> Result<()> {
     let frames = frames.parse::<u64>().context("the number of frames")?;
-    let spent = timed(rt, rt.alloc(), frames, Held::from_word(held)?, call)?;
+    let spent = emptied(rt, rt.alloc(), frames)?;
     println!(rt; "{} ns", spent.as_nanos())?;
     Ok(())
 }
@@ -475,21 +313,13 @@ fn play_strides(rt: &HostRuntime, frames: &str) -> Result<()> {
     strides::play(rt, frames)
 }
 
-// Visits or misses, by the arguments.
-fn play_pins(rt: &HostRuntime, place: Place, words: &[String]) -> Result<()> {
-    match words {
-        [visits] => play_visits(rt, place, visits),
-        [word, misses] if word.as_str() == "misses" => play_misses(rt, place, misses),
-        _ => bail!("visits are a number, and misses the word and a number"),
-    }
-}
-
 pub(crate) fn play(rt: &HostRuntime, words: &[String]) -> Result<()> {
     match words {
         [] => play_small(rt),
-        [word, rest @ ..] if word.as_str() == "boxed" => play_pins(rt, Place::Boxed, rest),
+        [visits] => play_visits(rt, visits),
+        [word, misses] if word.as_str() == "misses" => play_misses(rt, misses),
+        [word, frames] if word.as_str() == "empty" => play_empty(rt, frames),
         [word, frames] if word.as_str() == "strides" => play_strides(rt, frames),
-        [call, frames, held] => play_call(rt, Call::from_word(call)?, frames, held),
-        _ => play_pins(rt, Place::Named, words),
+        _ => bail!("a number of visits, or misses, empty or strides and a number"),
     }
 }

@@ -1,5 +1,5 @@
 //! Histories and their horizons: joins and copies, and pages of all devices and buckets. The state
-//! after an allocation failure is tested by the program `refused_memory`.
+//! after an allocation failure is tested by the program `memory_cases`.
 use std::alloc::Global;
 use std::process::Abort;
 use test_kit::{SeenAt, bucket, entry, history_of, once, page, page_on, seen, twice};

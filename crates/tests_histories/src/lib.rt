@@ -6,7 +6,7 @@
 //! warm_dump).
 //!
 //! They have a crate of their own so that the gate proves those libraries once, and not again with
-//! their tests. Allocations that fail are in refused_memory.
+//! their tests. Allocations that fail are in memory_cases.
 #![tactic(auto)]
 
 #[cfg(test)]

@@ -3,7 +3,7 @@
 //! and setup files, how a run ends, and what their faults display (warm_world, warm_schedule,
 //! warm_threads, warm_setup, warm_play_fault). The expected texts were derived by hand from
 //! docs/FORMATS.md. And the call that each README shows (`readmes`). Allocations that fail are in
-//! refused_worlds.
+//! memory_cases.
 #![tactic(auto)]
 
 #[cfg(test)]

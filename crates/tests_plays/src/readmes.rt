@@ -15,7 +15,6 @@ mod random;
 mod rank;
 mod refbuffer;
 mod replica;
-mod rows;
 mod schedule;
 mod setup;
 mod shards;

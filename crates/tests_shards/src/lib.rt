@@ -3,7 +3,7 @@
 //! input, a page's way through its shard, and calls that go through all shards, also where one
 //! refuses (warm_shards, warm_shared). Threads: a counter that they share, and a node with its
 //! workers, jobs in threads of their own, and mail (warm_turn, warm_replica). Allocations that fail
-//! are in refused_memory.
+//! are in memory_cases.
 #![tactic(auto)]
 
 #[cfg(test)]

@@ -3,4 +3,4 @@ use Rattle.benches.proofs.pool.load_apart.Given as goal
 
 -- the history ranks it still
 abbrev pub invariant-loop-frame : goal.invariant-loop-frame
-invariant-loop-frame g l = RankedBy l.pool l.history
+invariant-loop-frame l = RankedBy l.pool l.history

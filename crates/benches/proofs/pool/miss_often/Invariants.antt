@@ -3,4 +3,4 @@ use Rattle.benches.proofs.pool.miss_often.Given as goal
 
 -- the history ranks it still
 abbrev pub invariant-loop-no : goal.invariant-loop-no
-invariant-loop-no g l = RankedBy l.pool l.history
+invariant-loop-no l = RankedBy l.pool l.history

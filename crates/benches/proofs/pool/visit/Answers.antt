@@ -1,4 +1,4 @@
 use Rattle.benches.proofs.pool.visit.Goals as goal
 
 pub returns : goal.returns
-returns g c = c.unpin.ensures.ranked c.args.history.now (c.write.ensures.ranked c.args.history.now c.pin.ensures.ranked)
+returns c = c.unpin.ensures.ranked c.args.history.now (c.write.ensures.ranked c.args.history.now c.pin.ensures.ranked)

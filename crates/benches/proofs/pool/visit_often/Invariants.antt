@@ -3,4 +3,4 @@ use Rattle.benches.proofs.pool.visit_often.Given as goal
 
 -- the history ranks it still
 abbrev pub invariant-loop : goal.invariant-loop
-invariant-loop g l = RankedBy l.pool l.history
+invariant-loop l = RankedBy l.pool l.history

@@ -1,6 +1,0 @@
-use Rattle.warm_shared.specs.Attached.{AreOf}
-use Rattle.benches.proofs.shared.hit_shared.Given as goal
-
--- the passes are of the turns
-abbrev pub invariant-loop : goal.invariant-loop
-invariant-loop g l = AreOf l.shared l.attached.passes

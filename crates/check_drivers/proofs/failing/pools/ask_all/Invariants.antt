@@ -1,0 +1,6 @@
+use Rattle.warm_pool.specs.State.{RankedBy}
+use Rattle.check_drivers.proofs.failing.pools.ask_all.Given as goal
+
+-- it stays ranked by the history
+abbrev pub invariant-loop-line : goal.invariant-loop-line
+invariant-loop-line g l = RankedBy l.pool l.history

@@ -1,0 +1,67 @@
+//! The end of a world, which writes back all pages.
+ghost use Rattle.std.specs.Prelude.{◌≡◌, IfOk, length};
+ghost use Rattle.warm_world.specs.Opening.{AreFew};
+ghost use Rattle.warm_world.specs.Views.{listed};
+
+use crate::cases::{Ended, Met, takes_none};
+use std::alloc::Global;
+use std::io::Print;
+use warm_devices::{MemDevice, PageDevice};
+use warm_pool::Slot;
+use warm_stamps::{ByteList, PageId};
+use warm_world::{Answer, Event, Setup, World};
+
+// A list of one device.
+fn list_of<D: PageDevice>(alloc: Global, device: D) -> Result<Vec<D>, Ended>
+    ensures { IfOk result (λ list. length list.items ≡ 1) }
+{
+    let mut list = Vec::with_capacity(alloc, 1)?;
+    list.push_reserved(device);
+    Ok(list)
+}
+
+// The same for one replica.
+fn lists_of<D: PageDevice>(alloc: Global, device: D) -> Result<Vec<Vec<D>>, Ended>
+    ensures { IfOk result (λ lists. AreFew (listed D.state lists.items)) }
+{
+    let list = list_of(alloc, device)?;
+    let mut lists = Vec::with_capacity(alloc, 1)?;
+    lists.push_reserved(list);
+    Ok(lists)
+}
+
+// Whether a world does the event.
+fn is_done_by(world: &mut World<MemDevice>, event: Event) -> bool {
+    matches!(world.step(event), Answer::Done | Answer::Pinned(_))
+}
+
+// A world of one replica with a page that was written to.
+pub(crate) fn changed(met: &mut Met, alloc: Global) -> Result<World<MemDevice>, Ended> {
+    let Ok(setup) = Setup::new(1, 1, 1, 1, 16) else {
+        return Err(met.broken("the setup is within its limits"));
+    };
+    let lists = lists_of(alloc, MemDevice::new(alloc, 8, 16)?)?;
+    let Ok(mut world) = World::new(alloc, setup, lists) else {
+        return Err(Ended::NoMemory);
+    };
+    let slot = Slot {
+        index: 0,
+        generation: 1,
+    };
+    let mut bytes = Vec::new(alloc);
+    bytes.extend_from_slice(b"warm")?;
+    let put = Event::Put(1, slot, 0, ByteList::of(bytes));
+    let pinned = is_done_by(&mut world, Event::Pin(1, PageId { dev: 0, no: 1 }));
+    met.holds(pinned, "a page is not pinned")?;
+    met.holds(is_done_by(&mut world, put), "bytes are not put")?;
+    Ok(world)
+}
+
+pub(crate) fn rows<P: Print>(
+    rt: &P,
+    met: &mut Met,
+    mut world: World<MemDevice>,
+) -> Result<(), Ended> {
+    takes_none(rt, "finish of a world")?;
+    met.holds(world.finish().is_ok(), "a finish is refused")
+}
