@@ -14,17 +14,17 @@ fn a_buffer_takes_as_many_as_it_holds(rt: HostRuntime) {
     let more = seen(page(1), 65, 1);
     assert!(rt; buffer.is_full());
     assert!(rt; buffer.touch(more) == Err(Full(more)));
-    assert!(rt; buffer.len() == 64 && buffer.capacity() == 64);
+    assert!(rt; buffer.len() == 64 && buffer.cap() == 64);
     assert!(rt; buffer.refs().first().copied() == Some(seen(page(1), 1, 1)));
     assert!(rt; buffer.refs().last().copied() == Some(seen(page(1), 64, 1)));
     buffer.clear();
-    assert!(rt; buffer.len() == 0 && buffer.capacity() == 64);
+    assert!(rt; buffer.len() == 0 && buffer.cap() == 64);
 }
 
 // The capacity of a new buffer that is requested with this one.
 fn capacity(alloc: Global, capacity: usize) -> Result<usize, BufferFault> {
     let buffer = RefBuffer::new(alloc, capacity)?;
-    Ok(buffer.capacity())
+    Ok(buffer.cap())
 }
 
 #[test]

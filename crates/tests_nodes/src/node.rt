@@ -12,6 +12,7 @@ mod joins;
 mod portions;
 mod retired;
 mod sizes;
+mod streams;
 mod warm_ups;
 
 use std::alloc::Global;

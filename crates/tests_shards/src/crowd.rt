@@ -42,7 +42,7 @@ fn job_of(rt: &impl Abort, alloc: Global, job: u64) -> Job {
         steps.push(Step::Flush).expect(rt, "memory for a flush");
         steps.push(Step::Call(call)).expect(rt, "memory for a step");
     }
-    Job { capacity: 1, steps }
+    Job { cap: 1, steps }
 }
 
 // The replies of eight such jobs.

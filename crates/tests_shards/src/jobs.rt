@@ -150,7 +150,7 @@ fn job_of(rt: &impl Abort, alloc: Global, no: u64, five: bool) -> Job {
     for _ in 0..no {
         steps.push(Step::Flush).expect(rt, "memory for a step");
     }
-    Job { capacity: 2, steps }
+    Job { cap: 2, steps }
 }
 
 // No page is resident. Two references fit, and the third is given back.
@@ -232,23 +232,23 @@ fn four_jobs_meet(rt: HostRuntime) {
 }
 
 // A job with a buffer of this many references and one touch.
-fn one_touch(rt: &impl Abort, alloc: Global, capacity: usize) -> Vec<Job> {
+fn one_touch(rt: &impl Abort, alloc: Global, cap: usize) -> Vec<Job> {
     let touch = Step::Touch(seen(page(1), 10, 1));
     let steps = vec![in alloc; touch].expect(rt, "memory for a step");
-    vec![in alloc; Job { capacity, steps }].expect(rt, "memory for a job")
+    vec![in alloc; Job { cap, steps }].expect(rt, "memory for a job")
 }
 
 // How such a job ends, where nothing was flushed.
 fn ended<R: Threads + Wait + Abort + Sync>(
     rt: &R,
     alloc: Global,
-    capacity: usize,
+    cap: usize,
 ) -> Result<(), RunFault> {
     let (ran, node) = run_over(
         rt,
         alloc,
         fresh_node(rt, alloc),
-        one_touch(rt, alloc, capacity),
+        one_touch(rt, alloc, cap),
         &NoGate,
     );
     assert!(rt; node.history().len() == 0);
@@ -269,7 +269,7 @@ fn are_flushed<R: Threads + Wait + Abort + Sync>(rt: &R, alloc: Global) -> bool 
     let mut jobs = Vec::new(alloc);
     for _ in 0..64 {
         let steps = vec![in alloc; Step::Flush].expect(rt, "memory for a step");
-        jobs.push(Job { capacity: 1, steps })
+        jobs.push(Job { cap: 1, steps })
             .expect(rt, "memory for a job");
     }
     let (ran, _node) = run_over(rt, alloc, fresh_node(rt, alloc), jobs, &NoGate);
@@ -320,7 +320,7 @@ fn a_job_does_just_its_steps(rt: HostRuntime) {
     let pin = make(&rt, alloc, Call::Pin(page(5)));
     let touch = Step::Touch(seen(page(1), 10, 1));
     let steps = vec![in alloc; touch, Step::Flush, pin].expect(&rt, "memory for steps");
-    let jobs = vec![in alloc; Job { capacity: 1, steps }].expect(&rt, "memory for a job");
+    let jobs = vec![in alloc; Job { cap: 1, steps }].expect(&rt, "memory for a job");
     let (_ran, node) = run_over(&rt, alloc, fresh_node(&rt, alloc), jobs, &NoGate);
     assert!(rt; has_one_page(node));
 }

@@ -109,7 +109,7 @@ fn slow_device(
 // A job of one step.
 fn job_of(rt: &impl Abort, alloc: Global, step: Step) -> Job {
     let steps = vec![in alloc; step].expect(rt, "memory for a step");
-    Job { capacity: 1, steps }
+    Job { cap: 1, steps }
 }
 
 // A job that pins 0:1, and one that touches it.

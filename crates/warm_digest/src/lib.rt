@@ -16,6 +16,12 @@ pub mod laws;
 
 pub use cached::Digests;
 pub use digested::DigestedHistory;
+
+/// The specification's name for [`digests`].
+pub use crate::digests as sums;
+
+/// The specification's name for [`Digests`].
+pub use cached::Digests as Sums;
 use std::alloc::{AllocError, Global};
 use warm_frames::DigestTable;
 use warm_history::History;

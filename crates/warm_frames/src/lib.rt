@@ -30,3 +30,12 @@ pub use layout::{DIGEST_SIZE, MAX_ENTRIES, MAX_ENTRY_SIZE};
 pub use limit::{TimeFault, check_times};
 pub use message::{BoxedMessage, Message, MessageList, decode, encode};
 pub use writing::put_entry;
+
+/// The specification's name for [`DigestTable`].
+pub use digests::DigestTable as SumTable;
+
+/// The specification's name for [`Message`].
+pub use message::Message as Frame;
+
+/// The specification's name for [`MessageList`].
+pub use message::MessageList as FrameList;

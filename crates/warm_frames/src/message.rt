@@ -136,11 +136,28 @@ impl Model for BoxedMessage {
 }
 
 impl BoxedMessage {
+    /// Puts the message into a box.
+    ///
+    /// `AllocError` occurs only where the allocation of the box fails. The message is then dropped.
+    pub fn new(alloc: Global, message: Message) -> Result<BoxedMessage, AllocError>
+        ensures { IfOk result (λ boxed. boxed ≡ message) }
+    {
+        let message = Box::new(alloc, message)?;
+        Ok(BoxedMessage { message })
+    }
+
     /// Borrows the message. Allocation-free.
     pub fn as_message(&self) -> &Message
         ensures { result.now ≡ self.now }
     {
         &self.message
+    }
+
+    /// Takes the message out, and frees the box. Allocation-free.
+    pub fn into_message(self) -> Message
+        ensures { result ≡ self }
+    {
+        Box::into_inner(self.message)
     }
 }
 
@@ -150,6 +167,6 @@ pub(crate) fn decode_boxed(alloc: Global, bytes: &[u8]) -> Result<BoxedMessage, 
     ensures reads { (result ≡ read_frame bytes.now) ⊎ (result ≡ Err FrameFault.Memory) }
 {
     let message = decode(alloc, bytes)?;
-    let message = Box::new(alloc, message)?;
-    Ok(BoxedMessage { message })
+    let boxed = BoxedMessage::new(alloc, message)?;
+    Ok(boxed)
 }

@@ -142,7 +142,7 @@ impl RefBuffer {
     }
 
     /// The maximum number of references that the buffer holds.
-    pub fn capacity(&self) -> usize
+    pub fn cap(&self) -> usize
         ensures value { result ≡ self.now.capacity }
         ensures capacity { IsCapacity result }
     {

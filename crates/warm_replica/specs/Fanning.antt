@@ -15,7 +15,7 @@ use Rattle.warm_replica.specs.Replied.{Replied}
 
 -- the prepared job has a buffer of the job's capacity, and the same steps
 abbrev pub IsPrepared : Job → PreparedJob → Type 0
-IsPrepared job prepared = (job.capacity ≡ prepared.buffer.capacity) × (job.steps ≡ prepared.steps)
+IsPrepared job prepared = (job.cap ≡ prepared.buffer.capacity) × (job.steps ≡ prepared.steps)
 
 abbrev pub ArePrepared : List Job → List PreparedJob → Type 0
 ArePrepared = Pairs IsPrepared

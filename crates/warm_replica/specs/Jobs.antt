@@ -95,11 +95,11 @@ WentAs capacity steps replies e = (after : Bool) × (held : List Reference)
     × AllGave capacity e.number false [] steps replies after held e.calls
 
 abbrev pub JobWentAs : Job → Replied → EndedPass Call Reply → Type 0
-JobWentAs job replies e = WentAs job.capacity job.steps.items replies.items e
+JobWentAs job replies e = WentAs job.cap job.steps.items replies.items e
 
 -- every job has a valid buffer capacity
 abbrev pub HaveCapacities : List Job → Type 0
-HaveCapacities jobs = All (λ job. IsCapacity job.capacity) jobs
+HaveCapacities jobs = All (λ job. IsCapacity job.cap) jobs
 
 -- The jobs were run with these replies: the pass has seen more, and holds one pass for each job,
 -- whose calls are that job's, and one pass that made no calls

@@ -143,11 +143,11 @@ fn fan_out<'s, E, M: BatchMachine + Send + 's, R: Threads + Wait + Sync, G: Gate
 // A job with its buffer, and with capacity for its replies. The buffer's capacity is valid, so only
 // an allocation can fail.
 fn prepare_job(alloc: Global, number: usize, job: Job) -> Result<PreparedJob, AllocError>
-    requires { IsCapacity job.capacity }
+    requires { IsCapacity job.cap }
     ensures { IfOk result (IsPrepared job) }
 {
-    let Job { capacity, steps } = job;
-    let Ok(buffer) = RefBuffer::new(alloc, capacity) else {
+    let Job { cap, steps } = job;
+    let Ok(buffer) = RefBuffer::new(alloc, cap) else {
         return Err(AllocError);
     };
     let replies = Replies::with_capacity(alloc, steps.len())?;
@@ -177,7 +177,7 @@ fn have_capacities(jobs: &[Job]) -> bool
     ensures { IsTrue result ↔ HaveCapacities jobs.now }
 {
     jobs.iter()
-        .all(|job| 1 <= job.capacity && job.capacity <= MAX_CAPACITY)
+        .all(|job| 1 <= job.cap && job.cap <= MAX_CAPACITY)
 }
 
 // Runs the prepared jobs, with a pass of their own.

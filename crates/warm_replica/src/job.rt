@@ -45,7 +45,7 @@ pub enum StepReply {
 #[derive(Drop)]
 pub struct Job {
     /// The capacity of the buffer, in references.
-    pub capacity: usize,
+    pub cap: usize,
     /// The steps, in order.
     pub steps: Vec<Step>,
 }

@@ -12,7 +12,7 @@ use warm_devices::PageDevice;
 use warm_gossip::{Call, Node, Reply};
 use warm_refbuffer::{Full, RefBuffer};
 use warm_stamps::{RefList, Reference};
-use warm_turn::{Machine, Pass, Turn};
+use warm_turn::{Machine, Pass, Turn, TurnsSpent};
 
 /// A machine that answers the calls of a node, and refuses a batch of references only because of an
 /// allocation failure. Flushes and jobs require it, so that a refused flush has one meaning.
@@ -90,21 +90,23 @@ impl<M: Machine<Call = Call, Reply = Reply>> Worker<M> {
     /// the call absorbs references.
     ///
     /// # Errors
-    /// The call is given back where no ticket was left for it; then none is left for any later call
-    /// of this worker.
-    pub fn call<R: Wait>(&mut self, rt: &R, replica: &Turn<M>, call: Call) -> Result<Reply, Call>
+    /// `TurnsSpent` gives the call back: no ticket was left for it, and none is left for any later
+    /// call of this worker. The machine has not seen the call.
+    pub fn call<R: Wait>(
+        &mut self,
+        rt: &R,
+        replica: &Turn<M>,
+        call: Call,
+    ) -> Result<Reply, TurnsSpent<Call>>
         requires { self.old.pass.table ≡ replica.now.table }
         ensures table { self.new.pass.table ≡ self.old.pass.table }
         ensures buffer { self.new.buffer ≡ self.old.buffer }
         ensures ok { IfOk result
             (λ r. Called M.goes self.old.pass.view call r self.new.pass.view) }
-        ensures back { IfErr result (λ c. c ≡ call) }
+        ensures back { IfErr result (λ spent. spent.call ≡ call) }
         ensures spent { IfErr result (λ _. self.new.pass.view ≡ marked self.old.pass.view) }
     {
-        match replica.call(rt, &mut self.pass, call) {
-            Ok(reply) => Ok(reply),
-            Err(spent) => Err(spent.call),
-        }
+        replica.call(rt, &mut self.pass, call)
     }
 }
 

@@ -52,7 +52,7 @@ ArePlansOf s asks plans =
 
 -- a job that carries out the plan, and flushes last
 pub record DoesPlan (capacity : ℕ) (plan : Planned) (job : Job) : Type 0 where
-  pub cap_is : job.capacity ≡ capacity
+  pub cap_is : job.cap ≡ capacity
   pub steps : job.steps.items ≡ plan.steps ++ Flush ∷ []
 
 -- jobs that do so, worker by worker and replica by replica
@@ -64,7 +64,7 @@ DoPlans capacity plans jobs =
 -- worker's requests, in their order, where a full buffer is flushed before a further reference, and
 -- it flushes last.
 pub record IsJobOf (s : Sizes) (asks : List Ask) (i w : ℕ) (job : Job) : Type 0 where
-  pub capacity : job.capacity ≡ s.buffer
+  pub capacity : job.cap ≡ s.buffer
   pub steps : job.steps.items ≡ (plan_of s asks i w).steps ++ Flush ∷ []
 
 -- a list of jobs for each replica, in each the job of each worker; replicas and workers are counted

@@ -23,7 +23,7 @@ fn buffer(met: &mut Met, alloc: Global) -> Result<(), Ended> {
         }
     };
     met.holds(
-        buffer.capacity() == 64 && buffer.is_empty(),
+        buffer.cap() == 64 && buffer.is_empty(),
         "a buffer begins empty",
     )
 }

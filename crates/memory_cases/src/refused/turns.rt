@@ -103,7 +103,7 @@ fn jobs(alloc: Global) -> Result<Vec<Job>, Ended> {
         steps.push_reserved(Step::Flush);
         let list = BoxedCall::new(alloc, Call::WarmList(1))?;
         steps.push_reserved(Step::Call(list));
-        if all.push(Job { capacity: 1, steps }).is_err() {
+        if all.push(Job { cap: 1, steps }).is_err() {
             return Err(Ended::NoMemory);
         }
     }

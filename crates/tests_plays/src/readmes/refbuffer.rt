@@ -16,7 +16,7 @@ fn one_call(rt: &impl Abort, alloc: Global) -> Result<()> {
     assert!(rt; buffer.touch(seen) == Ok(()));
     assert!(rt; buffer.is_full() && buffer.touch(seen) == Err(Full(seen)));
     buffer.clear();
-    assert!(rt; buffer.is_empty() && buffer.capacity() == 1);
+    assert!(rt; buffer.is_empty() && buffer.cap() == 1);
     Ok(())
 }
 
