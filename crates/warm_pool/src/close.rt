@@ -26,7 +26,8 @@ use std::fmt;
 use thiserror::Error;
 use warm_devices::{DeviceFault, PageDevice, let_go};
 
-/// Why a pool was not closed, and the pool. As an error it displays the fault.
+/// Why a pool was not closed and its devices not given back, and the pool. As an error it displays
+/// the fault.
 #[derive(Drop, Error)]
 #[error("{fault}")]
 pub struct CloseError<D: PageDevice> {
