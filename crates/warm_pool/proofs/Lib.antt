@@ -8,6 +8,7 @@ pub mod EmptyLemmas
 pub mod Examples
 pub mod FlushLemmas
 pub mod ForgetLemmas
+pub mod HandedBack
 pub mod FrameParts
 pub mod Keeps
 pub mod Lagging

@@ -45,7 +45,7 @@ bytes_to which zero frames p others = refl
 bytes_to which (suc n) [] p others = refl
 bytes_to which (suc n) (f ∷ frames) p others = held_clean which f p (bytes_in (cleaned_selected which n frames) p others) ∙ ap (λ rest. cond (is_page p f.page) f.bytes rest) (bytes_to which n frames p others)
 
-all_clean : (frames : List FrameState) (i : ℕ)
+pub all_clean : (frames : List FrameState) (i : ℕ)
     → (nth_frame (cleaned_selected All (length frames) frames) i).dirty ≡ false
 all_clean [] i = refl
 all_clean (f ∷ frames) zero = refl

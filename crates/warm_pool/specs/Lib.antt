@@ -17,6 +17,7 @@ pub mod Lending
 pub mod Zeroing
 pub mod Refreshing
 pub mod Retiring
+pub mod HandingBack
 pub mod Forgetting
 pub mod Faults
 pub mod Laws

@@ -1,6 +1,6 @@
 -- Writing back some pages, and those of one device.
 use Rattle.std.specs.Prelude.{ℕ, ◌≡◌, ◌≢◌, ◌<◌, ◌≤◌, ◌+◌, ◌-◌, ◌==◌, Bool, true, false, IsTrue, List, [], ◌∷◌}
-use Rattle.std.specs.Prelude.{length, take, Option, Some, None, if◌then◌else◌}
+use Rattle.std.specs.Prelude.{length, take, Option, Some, None, if◌then◌else◌, ◌⊎◌}
 use Rattle.warm_stamps.specs.declared.PageId.{PageId}
 use Rattle.warm_pool.specs.Frames.{FrameState, nth_frame}
 use Rattle.warm_pool.specs.declared.fault.PoolFault.{PoolFault}
@@ -8,7 +8,8 @@ use Rattle.warm_pool.specs.declared.fault.PoolFault.TheVariants.{NoDevice, Fault
 use Rattle.warm_pool.specs.State.{PoolState, nth_device}
 use Rattle.warm_pool.specs.View.{view_of}
 use Rattle.warm_pool.specs.Keeping.{FailsAt}
-use Rattle.warm_pool.specs.WritingBack.{WritesBack, cleaned_to, is_on}
+use Rattle.warm_pool.specs.WritingBack.{StopsAt, WritesBack, cleaned_selected, cleaned_to, is_on}
+use Rattle.warm_pool.specs.declared.selection.Devices.TheVariants.{One}
 
 -- The dirty pages
 
@@ -65,9 +66,20 @@ abbrev pub KeepsOtherDevices : ℕ → PoolState → PoolState → Type 0
 KeepsOtherDevices dev old new =
     (k : ℕ) → k ≢ dev → nth_device new.devices k ≡ nth_device old.devices k
 
+-- the flush of the device failed, after all of its pages were written back
+pub record StopsAtFlush (dev : ℕ) (old new : PoolState) : Type 0 where
+  pub frames : new.frames ≡ cleaned_selected (One dev) (length old.frames) old.frames
+  pub waits : (nth_device new.devices dev).waiting ≡ true
+  pub fails : FailsAt (view_of old) dev (view_of new)
+
+-- What a call of the device that failed leaves: the write of one of its pages failed, after those
+-- of the frames before it; or its flush failed, and none of its pages is dirty.
+abbrev pub StopsAtDevice : ℕ → PoolState → PoolState → Type 0
+StopsAtDevice dev old new = StopsAt (One dev) old new ⊎ StopsAtFlush dev old new
+
 -- why a device isn't flushed: there is none of this number, or a call of it failed
 abbrev pub FlushRefused : PoolState → ℕ → PoolFault → PoolState → Type 0
 FlushRefused old dev NoDevice new = (length old.devices ≤ dev) × (new ≡ old)
 FlushRefused old dev Fault new = (dev < length old.devices)
-    × FailsAt (view_of old) dev (view_of new)
+    × FailsAt (view_of old) dev (view_of new) × StopsAtDevice dev old new
 FlushRefused old dev why new = ⊥

@@ -1,16 +1,18 @@
-//! Writing back a pool's pages, and emptying the pool.
-ghost use Rattle.std.specs.Prelude.{◌≡◌, ◌<◌, length, true, false, OnOk, OnErr, IfErr, MatchBool};
+//! Writing back a pool's pages, emptying the pool, and handing its devices back.
+ghost use Rattle.std.specs.Prelude.{◌≡◌, ◌<◌, length, map, true, false, OnOk, OnErr, IfOk, IfErr};
+ghost use Rattle.std.specs.Prelude.{MatchBool};
 ghost use Rattle.warm_devices.specs.Device.{DeviceState};
 ghost use Rattle.warm_pool.specs.State.{IsSettled, IsRankedByAll, nth_device};
 ghost use Rattle.warm_pool.specs.View.{IsUnfixed, view_of};
 ghost use Rattle.warm_pool.specs.Keeping.{FailsAt, KeepsRanks};
 ghost use Rattle.warm_pool.specs.WritingBack.{WriteBackFails, WritesBackAll, WritesBackOne};
 ghost use Rattle.warm_pool.specs.WritingBack.{KeepsUnselected};
-ghost use Rattle.warm_pool.specs.WritingSome.{KeepsOtherDevices};
+ghost use Rattle.warm_pool.specs.WritingSome.{KeepsOtherDevices, StopsAtDevice};
 ghost use Rattle.warm_pool.specs.WritingBack.{SelectedFails, StopsAt, clean_if};
 ghost use Rattle.warm_pool.specs.Retiring.{EmptyRefused, Emptied, RetireRefused, Retired};
 ghost use Rattle.warm_pool.specs.Retiring.{AreUnfixed, AreClean, IsFixedIn, KeepsElsewhere};
 ghost use Rattle.warm_pool.specs.Retiring.{PreparesRetire, retired};
+ghost use Rattle.warm_pool.specs.HandingBack.{HandsBack, HandsBackOne};
 ghost use Rattle.warm_pool.specs.Flushes.{NoneWaits};
 ghost use Rattle.warm_pool.specs.declared.fault.PoolFault.TheVariants.{Fault};
 ghost use Rattle.warm_pool.specs.declared.selection.Devices.TheVariants.{All, One};
@@ -22,9 +24,10 @@ use crate::pool::{Pool, write_back};
 use crate::selection::Devices;
 use std::fmt;
 use thiserror::Error;
-use warm_devices::{DeviceFault, PageDevice};
+use warm_devices::{DeviceFault, PageDevice, let_go};
 
-/// Why a pool was not closed, and the pool. As an error it displays the fault.
+/// Why a pool was not closed and its devices not given back, and the pool. As an error it displays
+/// the fault.
 #[derive(Drop, Error)]
 #[error("{fault}")]
 pub struct CloseError<D: PageDevice> {
@@ -78,13 +81,14 @@ impl<D: PageDevice> Pool<D> {
         Ok(())
     }
 
-    /// Writes back all pages as [`Pool::write_back_all`] does, and then drops the devices, all of
-    /// which are flushed.
+    /// Writes back all pages as [`Pool::write_back_all`] does, and returns the devices, in their
+    /// order. Each is flushed, and an honest one has every page as the pool had it.
     ///
     /// # Errors
     /// As [`Pool::empty`]; the pool is returned.
-    pub fn close(mut self) -> Result<(), CloseError<D>>
+    pub fn into_devices(mut self) -> Result<Vec<D>, CloseError<D>>
         ensures unfixed { OnOk result (IsUnfixed (view_of self)) }
+        ensures handed_back { IfOk result (λ devices. HandsBack self (map D.state devices.items)) }
         ensures refused { IfErr result (λ unclosed. EmptyRefused
             self unclosed.fault
             unclosed.pool) }
@@ -92,17 +96,32 @@ impl<D: PageDevice> Pool<D> {
             self unclosed.pool) }
     {
         match self.write_back_unpinned() {
-            Ok(()) => {
-                let_all_go(self.into_devices());
-                Ok(())
-            }
+            Ok(()) => Ok(self.take_apart()),
             Err(fault) => Err(CloseError { fault, pool: self }),
         }
     }
 
-    /// Replaces a device with another. The dirty pages of the old device are written back, it is
-    /// flushed, its pages are evicted, and it is dropped. The new device may have another number of
-    /// pages. Frames of other devices are unchanged, whether the call is refused or not.
+    /// Takes the devices back as [`Pool::into_devices`] does, and drops them.
+    ///
+    /// # Errors
+    /// As [`Pool::empty`]; the pool is returned.
+    pub fn close(self) -> Result<(), CloseError<D>>
+        ensures unfixed { OnOk result (IsUnfixed (view_of self)) }
+        ensures refused { IfErr result (λ unclosed. EmptyRefused
+            self unclosed.fault
+            unclosed.pool) }
+        ensures ranked { IfErr result (λ unclosed. KeepsRanks
+            self unclosed.pool) }
+    {
+        let devices = self.into_devices()?;
+        let_all_go(devices);
+        Ok(())
+    }
+
+    /// Replaces a device with another, and returns the old one. The dirty pages of the old device
+    /// are written back, it is flushed, and its pages are evicted. An honest one then has every page
+    /// as the pool had it. The new device may have another number of pages. Frames of other devices
+    /// are unchanged, whether the call is refused or not.
     ///
     /// # Errors
     /// In this order; each gives the new device back, and leaves pages, pin counts and contents
@@ -111,24 +130,45 @@ impl<D: PageDevice> Pool<D> {
     /// - `SizeDiffers`: the page size of the new device is not that of the pool.
     /// - `Fixed`: a page of the device is pinned.
     /// - `Fault`: a write or the flush of the device failed, and its count of failures has
-    ///   increased.
+    ///   increased. The write-backs made before it stay.
+    pub fn replace(&mut self, dev: u16, device: D) -> Result<D, RetireError<D>>
+        ensures retired { OnOk result (Retired (view_of self.old) dev
+            (D.state device) (view_of self.new)) }
+        ensures handed_back { IfOk result (λ old. HandsBackOne self.old dev (D.state old)) }
+        ensures refused { IfErr result (λ unretired. RetireRefused
+            (view_of self.old) dev (D.state device) unretired.fault
+            (view_of self.new)) }
+        ensures stopped { IfErr result (λ unretired. unretired.fault ≡ Fault
+            → StopsAtDevice dev self.old self.new) }
+        ensures given_back { IfErr result (λ unretired. unretired.device ≡ device) }
+        ensures elsewhere { KeepsElsewhere dev self.old self.new }
+        ensures ranked { KeepsRanks self.old self.new }
+    {
+        match self.prepare_retire(dev, device.page_size()) {
+            Ok(()) => Ok(self.install_device(dev, device)),
+            Err(fault) => Err(RetireError { fault, device }),
+        }
+    }
+
+    /// Replaces a device with another, as [`Pool::replace`] does, and drops the old one.
+    ///
+    /// # Errors
+    /// Those of [`Pool::replace`], with the same effects.
     pub fn retire(&mut self, dev: u16, device: D) -> Result<(), RetireError<D>>
         ensures retired { OnOk result (Retired (view_of self.old) dev
             (D.state device) (view_of self.new)) }
         ensures refused { IfErr result (λ unretired. RetireRefused
             (view_of self.old) dev (D.state device) unretired.fault
             (view_of self.new)) }
+        ensures stopped { IfErr result (λ unretired. unretired.fault ≡ Fault
+            → StopsAtDevice dev self.old self.new) }
         ensures given_back { IfErr result (λ unretired. unretired.device ≡ device) }
         ensures elsewhere { KeepsElsewhere dev self.old self.new }
         ensures ranked { KeepsRanks self.old self.new }
     {
-        match self.prepare_retire(dev, device.page_size()) {
-            Ok(()) => {
-                self.install_device(dev, device);
-                Ok(())
-            }
-            Err(fault) => Err(RetireError { fault, device }),
-        }
+        let old = self.replace(dev, device)?;
+        let_go(old);
+        Ok(())
     }
 
     // Writes back the pages of a device and flushes it, where a device with pages of this size may
@@ -139,6 +179,8 @@ impl<D: PageDevice> Pool<D> {
         ensures refused { IfErr result (λ fault. (device : DeviceState) → device.page_size
             ≡ page_size → RetireRefused (view_of self.old) dev device fault
             (view_of self.new)) }
+        ensures stopped { IfErr result (λ fault. fault ≡ Fault
+            → StopsAtDevice dev self.old self.new) }
         ensures elsewhere { KeepsElsewhere dev self.old self.new }
         ensures ranked { KeepsRanks self.old self.new }
     {
@@ -163,6 +205,7 @@ impl<D: PageDevice> Pool<D> {
         ensures flushed { OnOk result ((nth_device
             self.new.devices dev).waiting ≡ false) }
         ensures stopped { OnErr result (FailsAt (view_of self.old) dev (view_of self.new)) }
+        ensures left { OnErr result (StopsAtDevice dev self.old self.new) }
         ensures elsewhere { KeepsElsewhere dev self.old self.new }
         ensures others { KeepsOtherDevices dev self.old self.new }
         ensures ranked { KeepsRanks self.old self.new }
@@ -172,18 +215,19 @@ impl<D: PageDevice> Pool<D> {
         Ok(())
     }
 
-    // Replaces a flushed device, and evicts its pages.
-    fn install_device(&mut self, dev: u16, device: D)
+    // Replaces a flushed device, and evicts its pages. The old device is returned.
+    fn install_device(&mut self, dev: u16, device: D) -> D
         requires there { dev < length self.old.devices }
         requires clean { AreClean (One dev) self.old.frames }
         requires unfixed { AreUnfixed (One dev) self.old.frames }
         requires quiet { (nth_device self.old.devices dev).waiting ≡ false }
         requires sized { (D.state device).page_size ≡ self.old.page_size }
-        ensures { self.new ≡ retired
+        ensures retired { self.new ≡ retired
             self.old dev (D.state device) }
+        ensures handed_back { HandsBackOne self.old dev (D.state result) }
     {
         self.frames.vacate_selected(Devices::One(dev));
-        exchange(&mut self.devices, dev as usize, device);
+        exchange(&mut self.devices, dev as usize, device)
     }
 
     // Writes back all pages and flushes all devices, where no page is pinned.

@@ -61,7 +61,8 @@ impl From<AllocError> for NewPoolFault {
 /// then leaves. All calls of a pool are allocation-free.
 #[derive(Clone, Copy, PartialEq, Eq, Debug, Error)]
 pub enum PoolFault {
-    /// 3: the page size of a new device is not that of the pool. Only `retire` returns it.
+    /// 3: the page size of a new device is not that of the pool. Only `replace` and `retire` return
+    /// it.
     #[error("SizeDiffers")]
     SizeDiffers,
     /// 4: the pool has no such device.
@@ -150,7 +151,7 @@ impl<D: PageDevice> fmt::Debug for NewPoolError<D> {
     }
 }
 
-/// Why a device was not retired, and the device that was to replace it. As an error it displays the
+/// Why a device was not replaced, and the device that was to replace it. As an error it displays the
 /// fault.
 #[derive(Drop, Error)]
 #[error("{fault}")]

@@ -1,4 +1,4 @@
-//! Flushing a pool's devices, and dropping them.
+//! Flushing a pool's devices, and letting go of them.
 ghost use Rattle.std.specs.Prelude.{◌≡◌, ℕ, ◌<◌, length, map, set, false, OnErr, OnOk};
 ghost use Rattle.warm_pool.specs.State.{nth_device};
 ghost use Rattle.warm_pool.specs.Flushes.{DeviceFlush, FlushedTo, FlushStops, NoneWaits};
@@ -50,13 +50,12 @@ pub(crate) fn let_all_go<D: PageDevice>(mut devices: Vec<D>)
     }
 }
 
-/// Replaces a flushed device with another, and drops the old one.
-pub(crate) fn exchange<D: PageDevice>(devices: &mut Vec<D>, at: usize, device: D)
+/// Replaces a device with another, and returns the old one.
+pub(crate) fn exchange<D: PageDevice>(devices: &mut Vec<D>, at: usize, device: D) -> D
     requires there { at < length devices.old.items }
-    requires quiet { (nth_device (map D.state devices.old.items) at).waiting ≡ false }
-    ensures { map D.state devices.new.items
+    ensures given { D.state result ≡ nth_device (map D.state devices.old.items) at }
+    ensures put { map D.state devices.new.items
         ≡ set (map D.state devices.old.items) at (D.state device) }
 {
-    let old = mem::replace(&mut devices[at], device);
-    let_go(old);
+    mem::replace(&mut devices[at], device)
 }

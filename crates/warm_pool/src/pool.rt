@@ -87,8 +87,9 @@ impl<D: PageDevice> Model for Pool<D> {
 impl<D: PageDevice> Pool<D> {
     // Takes the pool apart and returns its devices. Apart from the drop, only this function takes a
     // pool apart.
-    pub(crate) fn into_devices(self) -> Vec<D>
-        ensures { map D.state result.items ≡ self.devices }
+    pub(crate) fn take_apart(self) -> Vec<D>
+        ensures devices { map D.state result.items ≡ self.devices }
+        ensures pool { IsPool self }
     {
         let Self {
             frames,

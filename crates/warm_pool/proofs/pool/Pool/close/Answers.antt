@@ -1,5 +1,5 @@
-use Rattle.warm_pool.proofs.EmptyLemmas.{unfixed_frames}
+use Rattle.warm_pool.proofs.HandedBack.{none_waits}
 use Rattle.warm_pool.proofs.pool.Pool.close.Goals as goal
 
-pub returns-in-Ok-clause-unfixed : goal.returns-in-Ok-clause-unfixed
-returns-in-Ok-clause-unfixed g c = unfixed_frames _ c.in-Ok.ensures.unfixed
+pub let_all_go-requires : goal.let_all_go-requires
+let_all_go-requires g c = none_waits _ _ c.in_ok-devices.ensures.handed_back

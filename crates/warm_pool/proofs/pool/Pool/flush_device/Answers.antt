@@ -23,4 +23,5 @@ returns-in_err-map_err-clause-refused g c = handed_on c.from_residual.result Fau
     let there = ap (λ s. length s.devices) (sym c.self.view_is) in (
       rw there (rw length-map (omega arith)),
       of_err c.settle_device.result c.in_err-map_err.ensures.variant c.settle_device.ensures.stopped,
+      of_err c.settle_device.result c.in_err-map_err.ensures.variant c.settle_device.ensures.left,
     ))

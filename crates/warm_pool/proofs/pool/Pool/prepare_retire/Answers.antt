@@ -27,3 +27,7 @@ returns-then-page_size-clause-refused g c = rw (← c.self.view_is) (λ device s
 pub returns-then-is_fixed-clause-refused : goal.returns-then-is_fixed-clause-refused
 returns-then-is_fixed-clause-refused g c = rw (← c.self.view_is) (λ device size.
     (simp length-map (omega arith), size ∙ c.if-page_size.false ∙ c.page_size.ensures, fixed_on _ c.args.dev c.self.invariant c.if-is_fixed.ensures, refl))
+
+pub returns-in_err-map_err-clause-stopped : goal.returns-in_err-map_err-clause-stopped
+returns-in_err-map_err-clause-stopped g c = handed_on c.from_residual.result Fault _ (search rules) (λ _.
+    of_err c.settle_device.result c.in_err-map_err.ensures.variant c.settle_device.ensures.left)

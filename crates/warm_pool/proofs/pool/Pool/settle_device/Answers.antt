@@ -1,9 +1,10 @@
-use Rattle.std.proofs.Common.{refl, ap, ◌∙◌}
+use Rattle.std.proofs.Common.{refl, ap, ◌∙◌, inl, inr}
 use Rattle.warm_pool.specs.State.{nth_device}
 use Rattle.warm_pool.proofs.FlushLemmas.{on_err}
 use Rattle.warm_pool.proofs.Keeps.{devices_keep_pool}
 use Rattle.warm_pool.proofs.OtherDevices.{off_device, flushed_others}
 use Rattle.warm_pool.proofs.SettleLemmas.{ranked_to, seen_down}
+use Rattle.warm_pool.proofs.HandedBack.{stops_at_flush}
 use Rattle.warm_pool.proofs.RetireLemmas.{down_there, flush_one_down, flush_one_fails, one_kept, elsewhere_cleaned}
 use Rattle.warm_pool.specs.declared.selection.Devices.TheVariants.{One}
 use Rattle.warm_pool.proofs.pool.Pool.settle_device.Goals as goal
@@ -60,3 +61,11 @@ returns-clause-others g c = λ k apart.
     let call = c.in_ok-flush_device.ensures in
     flushed_others c.args.dev _ _ call.after call.becomes k apart ∙ ap (λ s. nth_device s.devices k) c.self.view_is
     ∙ c.in_ok-clean_selected.ensures.others k (off_device c.args.dev k apart)
+
+pub returns-in_err-clean_selected-clause-left : goal.returns-in_err-clean_selected-clause-left
+returns-in_err-clean_selected-clause-left g c = on_err _ _ (inl c.in_err-clean_selected.ensures.stopped)
+
+pub returns-in_err-flush_device-clause-left : goal.returns-in_err-flush_device-clause-left
+returns-in_err-flush_device-clause-left g c =
+    let call = c.in_err-flush_device.ensures in
+    on_err _ _ (inr (stops_at_flush c.args.dev _ _ _ call.after (seen_down c.self.view_is c.in_ok-clean_selected.ensures.down) c.requires.there refl (refl, refl) call.becomes call.failed))

@@ -1,6 +1,8 @@
 use Rattle.std.proofs.Common.{sym, ◌∙◌}
+use Rattle.warm_pool.proofs.HandedBack.{handed_down}
 use Rattle.warm_pool.proofs.RetireLemmas.{way_clean, way_unfixed, retire_view, retire_ranked, elsewhere_retired}
-use Rattle.warm_pool.proofs.pool.Pool.retire.Goals as goal
+use Rattle.warm_pool.specs.declared.selection.Devices.TheVariants.{One}
+use Rattle.warm_pool.proofs.pool.Pool.replace.Goals as goal
 
 pub install_device-requires-clause-clean : goal.install_device-requires-clause-clean
 install_device-requires-clause-clean g c = way_clean _ _ c.args.dev _ c.in-Ok.ensures.way
@@ -12,10 +14,13 @@ pub install_device-requires-clause-sized : goal.install_device-requires-clause-s
 install_device-requires-clause-sized g c = sym c.page_size.ensures ∙ c.in-Ok.ensures.way.size ∙ sym c.in-Ok.ensures.way.down.same.0
 
 pub returns-in-Ok-clause-retired : goal.returns-in-Ok-clause-retired
-returns-in-Ok-clause-retired g c = retire_view _ _ _ c.args.dev _ _ c.in-Ok.ensures.way c.page_size.ensures c.install_device.ensures
+returns-in-Ok-clause-retired g c = retire_view _ _ _ c.args.dev _ _ c.in-Ok.ensures.way c.page_size.ensures c.install_device.ensures.retired
 
 pub returns-in-Ok-clause-ranked : goal.returns-in-Ok-clause-ranked
-returns-in-Ok-clause-ranked g c = λ h ranked. retire_ranked _ _ c.args.dev _ h c.install_device.ensures (c.prepare_retire.ensures.ranked h ranked)
+returns-in-Ok-clause-ranked g c = λ h ranked. retire_ranked _ _ c.args.dev _ h c.install_device.ensures.retired (c.prepare_retire.ensures.ranked h ranked)
 
 pub returns-in-Ok-clause-elsewhere : goal.returns-in-Ok-clause-elsewhere
-returns-in-Ok-clause-elsewhere g c = elsewhere_retired c.args.self.now c.prepare_retire.new.self c.install_device.new.self c.args.dev _ c.prepare_retire.ensures.elsewhere c.install_device.ensures
+returns-in-Ok-clause-elsewhere g c = elsewhere_retired c.args.self.now c.prepare_retire.new.self c.install_device.new.self c.args.dev _ c.prepare_retire.ensures.elsewhere c.install_device.ensures.retired
+
+pub returns-in-Ok-clause-handed_back : goal.returns-in-Ok-clause-handed_back
+returns-in-Ok-clause-handed_back g c = handed_down (One c.args.dev) _ _ c.args.dev _ c.in-Ok.ensures.way.down c.install_device.ensures.handed_back
