@@ -51,7 +51,7 @@ static bool fake_memory(void) {
     return block != NULL;
 }
 
-uint32_t node_shard_of(size_t shards, warm_page page) { return (uint32_t)((page.no + page.dev) % 64 % shards); }
+static uint32_t fake_shard_of(size_t shards, warm_page page) { return (uint32_t)((page.no + page.dev) % 64 % shards); }
 
 int node_divide(size_t frames, size_t shards, size_t *each) {
     if (shards == 0 || shards > 64 || (shards & (shards - 1)) != 0) return WARM_BAD_SHARDS;
@@ -295,7 +295,7 @@ int node_last_failure(node *of, bool *found, warm_failure *failure) {
 
 uint64_t node_shards_of(size_t shards, const warm_reference *references, size_t count) {
     uint64_t set = 0;
-    for (size_t at = 0; at < count; at++) set |= UINT64_C(1) << node_shard_of(shards, (warm_page){.no = references[at].no, .dev = references[at].dev});
+    for (size_t at = 0; at < count; at++) set |= UINT64_C(1) << fake_shard_of(shards, (warm_page){.no = references[at].no, .dev = references[at].dev});
     return set;
 }
 
@@ -305,7 +305,7 @@ int node_absorb_part(node *of, size_t shards, size_t number, const warm_referenc
         if (references[at].replica == 0) return fake_out(of, WARM_BAD_REPLICA);
     if (!fake_memory()) return fake_out(of, WARM_MEMORY);
     for (size_t at = 0; at < count; at++)
-        its->known += node_shard_of(shards, (warm_page){.no = references[at].no, .dev = references[at].dev}) == number;
+        its->known += fake_shard_of(shards, (warm_page){.no = references[at].no, .dev = references[at].dev}) == number;
     return fake_out(of, WARM_OK);
 }
 

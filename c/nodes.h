@@ -2,9 +2,9 @@
  * nodes.h: the proved part of the library, for c/shards.c alone. It is not installed.
  *
  * A replica has one node for each shard. Each function below is proved of one node, or of no node at
- * all; the locks of shards, and which node is asked, are in c/shards.c. A function that include/warm.h
- * has under the name warm_NAME is node_NAME here, and does of a node what the header says there of a
- * replica. Those below "Parts" have no such counterpart. What the header says of statuses, of refused
+ * all; the locks of shards, and which node is asked, are in c/shards.c. Each function above "Parts" is
+ * named as one of include/warm.h, with node_ for warm_, and does of a node what the header says there
+ * of a replica. What the header says of statuses, of refused
  * calls and of pointers holds for all of them.
  *
  * One call at a time uses a node. The shard of a slot that a function writes is 0; that of a slot that
@@ -36,14 +36,10 @@ int node_resident(node *handle, warm_page page, bool *resident);
 int node_victim(node *handle, bool *found, warm_page *page);
 int node_list(node *handle, warm_page *pages, size_t room, size_t *count);
 int node_step(node *handle, bool *found, warm_page *page);
-int node_offer(node *handle, uint8_t *frame, size_t room, size_t *length);
 int node_send(node *handle, uint8_t bucket, bool has_after, warm_page after, uint8_t *frame, size_t room,
     size_t *length);
 int node_send_since(node *handle, uint8_t bucket, uint64_t since, bool has_after, warm_page after, uint8_t *frame,
     size_t room, size_t *length, bool *more, warm_page *last);
-int node_limit(node *handle, uint64_t time);
-int node_receive(node *handle, const uint8_t *frame, size_t length);
-int node_next_answer(node *handle, uint8_t *frame, size_t room, size_t *length);
 int node_horizon(node *handle, uint64_t time, uint64_t *horizon);
 int node_write_back(node *handle);
 int node_write_back_some(node *handle, size_t limit, size_t *left);
@@ -59,12 +55,10 @@ int node_load(node *handle, int fd, uint64_t length);
 int node_status_name(int status, uint8_t *name, size_t room, size_t *length);
 
 /*
- * Parts. shards is how many shards there are (1, 2, 4 to 64), and shard one of them, from 0. Where a
- * function returns a status, it is WARM_BAD_SHARDS first, then WARM_NO_SHARD, where they are not so.
+ * Parts. shards is how many shards there are (1, 2, 4 to 64), and shard one of them, from 0. The shard
+ * of a page is its bucket (docs/FORMATS.md), modulo shards. Where a function returns a status, it is
+ * WARM_BAD_SHARDS first, then WARM_NO_SHARD, where they are not so.
  */
-
-/* The shard of a page: its bucket, modulo shards. 0 where there cannot be this many shards. */
-uint32_t node_shard_of(size_t shards, warm_page page);
 
 /* Writes how many frames each shard has.
  * Refused: WARM_BAD_SHARDS, WARM_UNEVEN_FRAMES. */

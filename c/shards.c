@@ -9,7 +9,7 @@
 #include <stdlib.h>
 #include <string.h>
 
-/* The layouts that the proved part has (crates/warm_c/src/values.rt, counters.rt, handle.rt and parts.rt). */
+/* The layouts that the proved part has (crates/warm_c/src/values.rt, counters.rt, handle.rt and frame_parts.rt). */
 #define SIZE_IS(type, size) _Static_assert(sizeof(type) == (size), #type)
 #define FIELD_IS(type, field, at, width) \
     _Static_assert(offsetof(type, field) == (at) && sizeof(((type *)0)->field) == (width), #type "." #field)
@@ -193,7 +193,8 @@ int warm_close(warm *handle) {
  * What a hit is made of has a function of its own for a shard that must be locked: without a lock there is then little to be saved on the
  * stack. */
 
-/* As node_shard_of has it: the number of shards is a power of two that divides that of the buckets. A hit is not to make one call more. */
+/* As shard_of of crates/warm_shards has it: the page's bucket, (dev + no) modulo 64, modulo the number of shards, which is a power of two up to
+ * 64. The proved part is not asked, so that a hit makes no call more. */
 static shard *shard_of(const opened *its, warm_page page) { return &its->shards[(page.dev + page.no) & (its->count - 1)]; }
 
 /* By one write of eight bytes, as the caller passes the slot on by reads of eight: of an index that was just read, and may be any, no half of these

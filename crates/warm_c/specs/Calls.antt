@@ -1,6 +1,6 @@
 -- What each call does to what an open handle holds, and what it writes.
-use Rattle.std.specs.Prelude.{ℕ, ◌+◌, ◌<◌, ◌≤◌, ◌≡◌, ◌⊎◌, List, map, length, Option, Some, None}
-use Rattle.std.specs.Prelude.{IfSome, Result, Ok, Err, Contains, slice_get}
+use Rattle.std.specs.Prelude.{ℕ, ◌<◌, ◌≤◌, ◌≡◌, ◌⊎◌, List, map, length, Option, IfSome, Result, Ok, Err}
+use Rattle.std.specs.Prelude.{Contains}
 use Rattle.warm_stamps.specs.Replicas.{IsReplica}
 use Rattle.warm_stamps.specs.Buckets.{IsBucket}
 use Rattle.warm_stamps.specs.declared.PageId.{PageId}
@@ -10,25 +10,23 @@ use Rattle.warm_dump.specs.Writing.{StopsWriting}
 use Rattle.warm_frames.specs.declared.message.Message.{Message}
 use Rattle.warm_frames.specs.declared.limit.TimeFault.{TimeFault}
 use Rattle.warm_frames.specs.declared.limit.TimeFault.TheVariants.{LateHorizon, LateStamp}
-use Rattle.warm_frames.specs.Limits.{SpeaksBy, StampsBy, entries_in, horizon_in}
-use Rattle.warm_frames.specs.Reading.{GivesReading, read_frame, reserved_by}
-use Rattle.warm_frames.specs.Encoding.{Encodes, encoding}
+use Rattle.warm_frames.specs.Limits.{StampsBy, entries_in, horizon_in}
+use Rattle.warm_frames.specs.Encoding.{encoding}
 use Rattle.warm_pool.specs.State.{IsSettled}
 use Rattle.warm_pool.specs.View.{view_of, IsResident}
 use Rattle.warm_gossip.specs.declared.call.Call.{Call}
-use Rattle.warm_gossip.specs.declared.call.Call.TheVariants.{Absorb, Send, Receive, Horizon, Pin}
-use Rattle.warm_gossip.specs.declared.call.Call.TheVariants.{Unpin, Read, Write, Victim, WarmList}
-use Rattle.warm_gossip.specs.declared.call.Call.TheVariants.{WarmStep}
+use Rattle.warm_gossip.specs.declared.call.Call.TheVariants.{Absorb, Send, Horizon, Pin, Unpin}
+use Rattle.warm_gossip.specs.declared.call.Call.TheVariants.{Read, Write, Victim, WarmList, WarmStep}
 use Rattle.warm_gossip.specs.declared.call.Reply.{Reply}
-use Rattle.warm_gossip.specs.declared.call.Reply.TheVariants.{Done, Sent, Answers, Kept, Pinned}
-use Rattle.warm_gossip.specs.declared.call.Reply.TheVariants.{Bytes, Page, Pages, Loaded, Refused}
+use Rattle.warm_gossip.specs.declared.call.Reply.TheVariants.{Done, Sent, Kept, Pinned, Bytes}
+use Rattle.warm_gossip.specs.declared.call.Reply.TheVariants.{Page, Pages, Loaded, Refused}
 use Rattle.warm_gossip.specs.declared.fault.NodeFault.{NodeFault}
 use Rattle.warm_gossip.specs.declared.fault.NodeFault.TheVariants.{Memory}
 use Rattle.warm_gossip.specs.Clauses.{Goes, Joins, SameView, NodeWriteBackFails}
 use Rattle.warm_c.specs.declared.open_node.OpenNode.{OpenNode}
 use Rattle.warm_c.specs.declared.status.Refusal.{Refusal}
-use Rattle.warm_c.specs.declared.status.Refusal.TheVariants.{Node, Frame, Late, BufferTooSmall}
-use Rattle.warm_c.specs.declared.status.Refusal.TheVariants.{BadReplica, BadBucket, Dump}
+use Rattle.warm_c.specs.declared.status.Refusal.TheVariants.{Node, BufferTooSmall, BadReplica}
+use Rattle.warm_c.specs.declared.status.Refusal.TheVariants.{BadBucket, Dump}
 use Rattle.warm_c.specs.declared.values.PinnedSlot.{PinnedSlot}
 use Rattle.warm_c.specs.declared.values.WarmPage.{WarmPage}
 use Rattle.warm_c.specs.declared.values.WarmReference.{WarmReference}
@@ -40,17 +38,13 @@ use Rattle.warm_c.specs.Values.{slot_of_c, with_start}
 abbrev pub Ending : Type 0
 Ending = Result (Unit {0}) Refusal
 
--- what is held beside the node is as it was: the answers that wait, the limit of times, and the
--- devices
-pub record SameBeside (old new : OpenNode) : Type 0 where
-  pub answers : new.answers ≡ old.answers
-  pub given : new.given ≡ old.given
-  pub limit : new.limit ≡ old.limit
-  pub devices : new.devices ≡ old.devices
+-- the devices that the handle was given are as they were
+abbrev pub SameDevices : OpenNode → OpenNode → Type 0
+SameDevices old new = new.devices ≡ old.devices
 
--- The node has answered this call so, and what is held beside it is as it was.
+-- The node has answered this call so, and the devices are as they were.
 abbrev pub Replies : Call → OpenNode → Reply → OpenNode → Type 0
-Replies call old reply new = Goes old.node call reply new.node × SameBeside old new
+Replies call old reply new = Goes old.node call reply new.node × SameDevices old new
 
 -- the node refuses the call for this reason
 abbrev pub RefusedByNode : Call → OpenNode → Refusal → OpenNode → Type 0
@@ -131,8 +125,8 @@ SaysResident page number old new =
 
 abbrev pub WritesBack : OpenNode → Ending → OpenNode → Type 0
 WritesBack old (Ok given) new = SameView old.node new.node × IsSettled new.node.pool
-    × SameBeside old new
-WritesBack old (Err (Node why)) new = NodeWriteBackFails old.node why new.node × SameBeside old new
+    × SameDevices old new
+WritesBack old (Err (Node why)) new = NodeWriteBackFails old.node why new.node × SameDevices old new
 WritesBack old (Err why) new = ⊥
 
 -- Frames
@@ -172,48 +166,6 @@ IsLate limit message LateHorizon = limit < horizon_in message
 IsLate limit message LateStamp = (horizon_in message ≤ limit)
     × (StampsBy limit (entries_in message) → ⊥)
 
--- The bytes are a frame that speaks of no time later than the limit, which the node has received:
--- its answers wait, and none is given yet. Or it refuses the frame; or the frame speaks of a later
--- time, or the bytes are no frame, and nothing has changed.
-abbrev pub Receives : List ℕ → OpenNode → Ending → OpenNode → Type 0
-Receives bytes old (Ok given) new =
-    (message : Message) × Encodes bytes message × SpeaksBy old.limit message
-    × Goes old.node (Receive message) (Answers new.answers) new.node × (new.given ≡ 0)
-    × (new.limit ≡ old.limit) × (new.devices ≡ old.devices)
-Receives bytes old (Err (Node why)) new = (message : Message) × Encodes bytes message
-    × SpeaksBy old.limit message × Replies (Receive message) old (Refused why) new
-Receives bytes old (Err (Late fault)) new = (message : Message) × Encodes bytes message
-    × IsLate old.limit message fault × (new ≡ old)
-Receives bytes old (Err (Frame fault)) new =
-    GivesReading (Err fault) (read_frame bytes) (reserved_by bytes) × (new ≡ old)
-Receives bytes old (Err why) new = ⊥
-
--- the limit of times is this one from then on, and nothing else has changed
-abbrev pub Limits : ℕ → OpenNode → OpenNode → Type 0
-Limits time old new = new ≡ record old { limit = time }
-
--- the answer that comes next, if one waits
-abbrev pub next_answer : OpenNode → Option Message
-next_answer h = slice_get h.answers h.given
-
--- one more answer was given, where this ended well
-abbrev pub after_answer : OpenNode → Ending → OpenNode
-after_answer h (Ok given) = record h { given = h.given + 1 }
-after_answer h (Err why) = h
-
--- the frame of the next answer is put into the buffer, and it waits no more where it fitted; a
--- length of 0 where none waits
-abbrev pub PutsNext : Option Message → List ℕ → ℕ → List ℕ → ℕ → OpenNode → Ending → OpenNode
-    → Type 0
-PutsNext None before len after len' old ending new = (ending ≡ Ok tt) × (after ≡ before)
-    × (len' ≡ 0) × (new ≡ old)
-PutsNext (Some message) before len after len' old ending new =
-    PutsFrame message before len after len' ending × (new ≡ after_answer old ending)
-
-abbrev pub GivesNext : List ℕ → ℕ → List ℕ → ℕ → OpenNode → Ending → OpenNode → Type 0
-GivesNext before len after len' old ending new =
-    PutsNext (next_answer old) before len after len' old ending new
-
 -- Dumps
 
 -- Why a dump is not written: an allocation failed, or the writer did.
@@ -232,8 +184,8 @@ Saves old (Err why) new = SaveRefused why × (new ≡ old)
 abbrev pub Loads : Option (List ℕ) → OpenNode → Ending → OpenNode → Type 0
 Loads bytes old (Ok given) new =
     ((h : HistoryView) × IsHistory h × IfSome bytes (λ text. IsDump text h)
-    × Joins old.node h new.node) × SameBeside old new
-Loads bytes old (Err (Node Memory)) new = SameView old.node new.node × SameBeside old new
+    × Joins old.node h new.node) × SameDevices old new
+Loads bytes old (Err (Node Memory)) new = SameView old.node new.node × SameDevices old new
 Loads bytes old (Err (Dump why)) new = ((at : ℕ) × IfSome bytes (λ text. IsDumpRefused text at why))
     × (new ≡ old)
 Loads bytes old (Err why) new = ⊥

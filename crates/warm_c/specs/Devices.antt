@@ -11,7 +11,7 @@ use Rattle.warm_c.specs.declared.status.Refusal.{Refusal}
 use Rattle.warm_c.specs.declared.status.Refusal.TheVariants.{Node, SameFile}
 use Rattle.warm_c.specs.declared.values.WarmDevice.{WarmDevice}
 use Rattle.warm_c.specs.FdParts.{fd_opened}
-use Rattle.warm_c.specs.Calls.{Ending, SameBeside}
+use Rattle.warm_c.specs.Calls.{Ending, SameDevices}
 use Rattle.warm_c.specs.Handles.{DescriptorsDiffer, HaveOneFile}
 
 -- Replacing a device
@@ -30,13 +30,10 @@ pub record MayStand (dev : ℕ) (d : WarmDevice) (h : OpenNode) : Type 0 where
   pub listed : dev < length h.devices
   pub fits : d.pages * h.node.pool.page_size < 2 ^ 63
 
--- the history, and all that is held beside the node but the devices, is as it was
+-- the id and the history are as they were
 pub record KeepsHistory (old new : OpenNode) : Type 0 where
   pub id : new.node.id ≡ old.node.id
   pub history : new.node.history ≡ old.node.history
-  pub answers : new.answers ≡ old.answers
-  pub given : new.given ≡ old.given
-  pub limit : new.limit ≡ old.limit
 
 -- the device is retired for the new one, and no two devices have one descriptor
 pub record Replaced (dev : ℕ) (d : WarmDevice) (old new : OpenNode) : Type 0 where
@@ -51,13 +48,13 @@ abbrev pub ReplaceRefused : ℕ → WarmDevice → OpenNode → Refusal → Open
 ReplaceRefused dev d old (Node Memory) new = new ≡ old
 ReplaceRefused dev d old (Node (Pool NoDevice)) new =
     (MayStand dev d old → dev < length old.node.pool.devices → ⊥)
-    × SameView old.node new.node × SameBeside old new
+    × SameView old.node new.node × SameDevices old new
 ReplaceRefused dev d old SameFile new = MayStand dev d old
     × HaveOneFile (devices_after dev d old) × (new ≡ old)
 ReplaceRefused dev d old (Node (Pool why)) new = MayStand dev d old
     × DescriptorsDiffer (devices_after dev d old)
     × RetireRefused (view_of old.node.pool) dev (made_device d old) why (view_of new.node.pool)
-    × KeepsHistory old new × (new.devices ≡ old.devices)
+    × KeepsHistory old new × SameDevices old new
 ReplaceRefused dev d old why new = ⊥
 
 abbrev pub Replaces : ℕ → WarmDevice → OpenNode → Ending → OpenNode → Type 0

@@ -12,14 +12,14 @@ use Rattle.warm_c.specs.declared.open_node.OpenNode.{OpenNode}
 use Rattle.warm_c.specs.declared.status.Refusal.TheVariants.{Node}
 use Rattle.warm_c.specs.declared.values.PinnedSlot.{PinnedSlot}
 use Rattle.warm_c.specs.declared.values.WarmPage.{WarmPage}
-use Rattle.warm_c.specs.Calls.{Ending, SameBeside}
+use Rattle.warm_c.specs.Calls.{Ending, SameDevices}
 use Rattle.warm_c.specs.Values.{page_of_c, pinned_slot}
 
--- the history, and what is held beside the node, is as it was
+-- the id, the history and the devices that the handle was given are as they were
 pub record SameButPool (old new : OpenNode) : Type 0 where
   pub id : new.node.id ≡ old.node.id
   pub history : new.node.history ≡ old.node.history
-  pub beside : SameBeside old new
+  pub devices : SameDevices old new
 
 -- Pinning with zeros
 
@@ -46,14 +46,14 @@ PinsZeroed page before after old (Err why) new = ⊥
 -- gives nothing
 abbrev pub WritesSome : ℕ → ℕ → ℕ → OpenNode → Ending → OpenNode → Type 0
 WritesSome limit before left old (Ok given) new = SameView old.node new.node
-    × WritesBackSome limit old.node.pool left new.node.pool × SameBeside old new
+    × WritesBackSome limit old.node.pool left new.node.pool × SameDevices old new
 WritesSome limit before left old (Err (Node (Pool Fault))) new =
     SomeFails limit old.node.pool new.node.pool × SameButPool old new × (left ≡ before)
 WritesSome limit before left old (Err why) new = ⊥
 
 abbrev pub FlushesDevice : ℕ → OpenNode → Ending → OpenNode → Type 0
 FlushesDevice dev old (Ok given) new = SameView old.node new.node × IsSettledOn dev new.node.pool
-    × SameBeside old new
+    × SameDevices old new
 FlushesDevice dev old (Err (Node (Pool why))) new =
     FlushRefused old.node.pool dev why new.node.pool × SameButPool old new
 FlushesDevice dev old (Err why) new = ⊥

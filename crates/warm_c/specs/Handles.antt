@@ -1,5 +1,5 @@
 -- What a call of a handle does: a closed one says so, and an open one makes the call.
-use Rattle.std.specs.Prelude.{ℕ, ℤ, pos, ◌*◌, ◌^◌, ◌-◌, ◌<◌, ◌≤◌, ◌≡◌, ◌≢◌, ◌⊎◌, List, [], map}
+use Rattle.std.specs.Prelude.{ℕ, ℤ, pos, ◌*◌, ◌^◌, ◌<◌, ◌≤◌, ◌≡◌, ◌≢◌, ◌⊎◌, List, map}
 use Rattle.std.specs.Prelude.{length, Option, Some, None, Ok, Err, Contains}
 use Rattle.std.specs.List.{AllPairs}
 use Rattle.warm_stamps.specs.Replicas.{IsReplica}
@@ -80,14 +80,10 @@ pub record MayOpen (a : OpenRequest) : Type 0 where
   pub devices : AreDevices a.page_size a.devices
   pub apart : DescriptorsDiffer a.devices
 
--- a node with an empty history, over a pool without a page; no answer waits, no time is later than
--- the limit, and the devices are those of the request
+-- a node with an empty history, over a pool without a page; the devices are those of the request
 abbrev pub opened_handle : OpenRequest → OpenNode
 opened_handle a = record {
   node = opened_node a.replica (fresh_pool a.frames a.page_size (fd_devices a.page_size a.devices));
-  answers = [];
-  given = 0;
-  limit = 2 ^ 64 - 1;
   devices = a.devices;
 }
 

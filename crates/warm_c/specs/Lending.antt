@@ -9,7 +9,7 @@ use Rattle.warm_c.specs.declared.open_node.OpenNode.{OpenNode}
 use Rattle.warm_c.specs.declared.status.Refusal.{Refusal}
 use Rattle.warm_c.specs.declared.status.Refusal.TheVariants.{Node}
 use Rattle.warm_c.specs.declared.values.WarmSlot.{WarmSlot}
-use Rattle.warm_c.specs.Calls.{Ending, SameBeside}
+use Rattle.warm_c.specs.Calls.{Ending, SameDevices}
 use Rattle.warm_c.specs.Values.{slot_of_c}
 
 -- the slot does not hold its page, and the pointer is as it was
@@ -34,7 +34,7 @@ pub record LendsMutBytes (slot : WarmSlot) (old new : OpenNode) : Type 0 where
   pub holds : Holds (view_of old.node.pool) (slot_of_c slot)
   pub lent : IsLent (view_of old.node.pool) (slot_of_c slot) bytes
   pub dirty : new.node ≡ relent_node old.node slot.index bytes
-  pub beside : SameBeside old new
+  pub devices : SameDevices old new
 
 abbrev pub LendsMut : WarmSlot → Ptr → Ptr → OpenNode → Ending → OpenNode → Type 0
 LendsMut slot before after old (Ok given) new = LendsMutBytes slot old new

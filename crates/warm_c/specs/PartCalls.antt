@@ -16,7 +16,7 @@ use Rattle.warm_c.specs.declared.status.Refusal.TheVariants.{BadReplica, Closed,
 use Rattle.warm_c.specs.declared.values.PinnedSlot.{PinnedSlot}
 use Rattle.warm_c.specs.declared.values.WarmPage.{WarmPage}
 use Rattle.warm_c.specs.declared.values.WarmReference.{WarmReference}
-use Rattle.warm_c.specs.Calls.{Ending, HasBadReplica, Pins, RefusedByNode, Replies, SameBeside}
+use Rattle.warm_c.specs.Calls.{Ending, HasBadReplica, Pins, RefusedByNode, Replies, SameDevices}
 use Rattle.warm_c.specs.Parts.{AreReplicas, OfPart, part_of_batch, part_of_message}
 use Rattle.warm_c.specs.Statuses.{code_of, status_of}
 
@@ -74,9 +74,9 @@ pub record TakesDigests (shards shard : ℕ) (before after : Gathered) (h : Hist
   pub digests : FillsShard shards shard before.digests (digests_of (entries_of h)) after.digests
   pub horizon : after.horizon ≡ max before.horizon h.horizon
 
--- the node is as it was, as a caller sees it, and so is what is beside it
+-- the node is as it was, as a caller sees it, and so are the devices that the handle was given
 abbrev pub SameOpen : OpenNode → OpenNode → Type 0
-SameOpen old new = SameView old.node new.node × SameBeside old new
+SameOpen old new = SameView old.node new.node × SameDevices old new
 
 abbrev pub GivesThose : ℕ → ℕ → Gathered → Gathered → OpenNode → Ending → OpenNode → Type 0
 GivesThose shards shard before after old (Ok given) new =
@@ -96,7 +96,7 @@ GivesDigests shards shard before after old ending new =
 -- that a caller sees
 abbrev pub Gathers : OpenNode → OpenNode → Ending → OpenNode → Type 0
 Gathers other old (Ok given) new =
-    Joins old.node other.node.history new.node × SameBeside old new
+    Joins old.node other.node.history new.node × SameDevices old new
 Gathers other old (Err (Node Memory)) new = SameOpen old new
 Gathers other old (Err why) new = ⊥
 

@@ -1,8 +1,6 @@
-//! The calls of an open handle that write frames or receive one.
+//! The calls of an open handle that write frames.
 ghost use Rattle.std.specs.Prelude.{◌≡◌, ◌<◌, ◌≤◌, length};
-ghost use Rattle.warm_gossip.specs.declared.call.Call.TheVariants.{Offer};
-ghost use Rattle.warm_c.specs.Calls.{GivesNext, Limits, PutsFrame, Receives, Sends};
-ghost use Rattle.warm_c.specs.Calls.{SendsFromBucket};
+ghost use Rattle.warm_c.specs.Calls.{PutsFrame, SendsFromBucket};
 ghost use Rattle.warm_c.specs.Since.{SendsSince, last_in, send_buffers};
 ghost use Rattle.warm_c.specs.Values.{with_start};
 
@@ -10,7 +8,7 @@ use crate::open_node::OpenNode;
 use crate::status::Refusal;
 use crate::values::{WarmPage, c_bool};
 use std::alloc::Global;
-use warm_frames::{Message, check_times, decode, encode};
+use warm_frames::{Message, encode};
 use warm_stamps::{Bucket, PageId};
 
 // Puts bytes at the start of a buffer.
@@ -53,19 +51,6 @@ fn put_last(message: &Message, last: &mut WarmPage)
 }
 
 impl OpenNode {
-    /// Calls [`warm_gossip::Node::offer`] and writes the frame of its message, and its length.
-    ///
-    /// # Errors
-    /// The buffer is unchanged.
-    /// - `Node`, with `Memory`: an allocation failed.
-    /// - `BufferTooSmall`: the frame does not fit; its length is written.
-    pub fn offer(&mut self, alloc: Global, frame: &mut [u8], len: &mut usize) -> Result<(), Refusal>
-        ensures { Sends Offer frame.old len.old frame.new len.new self.old result self.new }
-    {
-        let message = self.node.offer()?;
-        put_frame(alloc, &message, frame, len)
-    }
-
     /// Calls [`warm_gossip::Node::send`] and writes the frame of its message, and its length.
     ///
     /// # Errors
@@ -124,57 +109,6 @@ impl OpenNode {
         }
         *more = c_bool(sent.more);
         put_last(&sent.message, last);
-        Ok(())
-    }
-
-    /// Sets the latest time that a received frame may speak of.
-    pub fn limit(&mut self, time: u64)
-        ensures { Limits time self.old self.new }
-    {
-        self.limit = time;
-    }
-
-    /// Decodes a frame and calls [`warm_gossip::Node::receive`] with its message. The answers wait;
-    /// those that waited are dropped.
-    ///
-    /// # Errors
-    /// In this order. Nothing has changed, and the answers that waited still wait.
-    /// - `Frame`: the bytes are no frame.
-    /// - `Late`: the horizon, or else a stamp, is later than the limit.
-    /// - `Node`: the node's own.
-    pub fn receive(&mut self, alloc: Global, frame: &[u8]) -> Result<(), Refusal>
-        ensures { Receives frame.now self.old result self.new }
-    {
-        let message = decode(alloc, frame)?;
-        check_times(&message, self.limit)?;
-        let answers = self.node.receive(message)?;
-        self.answers = answers;
-        self.given = 0;
-        Ok(())
-    }
-
-    /// Writes the frame of the next answer that waits, and its length; a length of 0 where none
-    /// waits.
-    ///
-    /// # Errors
-    /// The answer is still the next, and the buffer is unchanged.
-    /// - `Node`, with `Memory`: an allocation failed.
-    /// - `BufferTooSmall`: the frame does not fit; its length is written.
-    pub fn next_answer(
-        &mut self,
-        alloc: Global,
-        frame: &mut [u8],
-        len: &mut usize,
-    ) -> Result<(), Refusal>
-        ensures { GivesNext frame.old len.old frame.new len.new self.old result self.new }
-    {
-        let answers = self.answers.as_slice();
-        if self.given >= answers.len() {
-            *len = 0;
-            return Ok(());
-        }
-        put_frame(alloc, &answers[self.given], frame, len)?;
-        self.given += 1;
         Ok(())
     }
 }

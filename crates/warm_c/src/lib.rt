@@ -1,9 +1,8 @@
 //! A replica's node for C and C++: a static library over `Node<FdDevice>`. Its header is
 //! include/warm.h.
 //!
-//! A handle holds a node over the caller's file descriptors, the answers to the frame that it
-//! received last, a limit of the times in frames, and the devices that it was given. All zeros is a
-//! closed handle. A function returns a status: 0, or the number of why it is refused.
+//! A handle holds a node over the caller's file descriptors, and the devices that it was given. All
+//! zeros is a closed handle. A function returns a status: 0, or the number of why it is refused.
 //!
 //! Most functions, `node_NAME`, make the node's call `Node::NAME`. The others are:
 //!
@@ -15,7 +14,6 @@
 //!   [`node_last_failure`] ask the node's pool, [`node_lend_mut`] makes `Node::bytes_mut`,
 //!   [`node_replace`] `Node::retire`, [`node_flush`] `Node::flush_device`, and [`node_forget`]
 //!   `Node::forget_pages`.
-//! - [`node_limit`] and [`node_next_answer`] are of the handle alone.
 //! - [`node_open`] and [`node_close`] create and drop the node, and [`node_status_name`] takes no
 //!   handle. Each of the other functions returns 64 on a closed handle, and changes nothing.
 //!
@@ -29,10 +27,9 @@
 #![tactic(auto)]
 
 ghost use Rattle.std.specs.Prelude.{◌≡◌, pos, [], ◌∷◌, ◌++◌, length, None, Some};
-ghost use Rattle.warm_gossip.specs.declared.call.Call.TheVariants.{Offer};
-ghost use Rattle.warm_c.specs.Calls.{Absorbs, CountsPages, GivesNext, Limits, Lists, Loads, Names};
-ghost use Rattle.warm_c.specs.Calls.{Pins, Raises, ReadsPage, Receives, Saves, SaysResident, Sends};
-ghost use Rattle.warm_c.specs.Calls.{SendsFromBucket, StepsWarmUp, Unpins, Writes, WritesBack};
+ghost use Rattle.warm_c.specs.Calls.{Absorbs, CountsPages, Lists, Loads, Names, Pins, Raises};
+ghost use Rattle.warm_c.specs.Calls.{ReadsPage, Saves, SaysResident, SendsFromBucket, StepsWarmUp};
+ghost use Rattle.warm_c.specs.Calls.{Unpins, Writes, WritesBack};
 ghost use Rattle.warm_c.specs.Counting.{CountsDevice, CountsPool, SaysFailure};
 ghost use Rattle.warm_c.specs.Devices.{Replaces};
 ghost use Rattle.warm_c.specs.Engine.{FlushesDevice, ForgetsPages, PinsZeroed, WritesSome};
@@ -40,8 +37,7 @@ ghost use Rattle.warm_c.specs.Handles.{Called, Opens, Surely, open_request};
 ghost use Rattle.warm_c.specs.Lending.{Lends, LendsMut};
 ghost use Rattle.warm_c.specs.Since.{SendsSince, send_buffers};
 ghost use Rattle.warm_c.specs.StatusNames.{status_name};
-ghost use Rattle.warm_c.specs.Statuses.{code_of, status_of};
-ghost use Rattle.warm_c.specs.declared.status.Refusal.TheVariants.{Closed};
+ghost use Rattle.warm_c.specs.Statuses.{status_of};
 ghost use Rattle.warm_c.specs.Values.{page_if, with_some};
 
 mod called;
@@ -395,30 +391,6 @@ pub extern "C" fn node_step(
     }
 }
 
-/// Writes the frame with the digests of the history, and its length.
-///
-/// # Errors
-/// The buffer is unchanged.
-/// - 1: an allocation failed.
-/// - 66: the frame does not fit; its length is written.
-#[unsafe(no_mangle)]
-pub extern "C" fn node_offer(
-    alloc: Global,
-    handle: &mut Handle,
-    frame: &mut [u8],
-    len: &mut usize,
-) -> i32
-    ensures called { Called (Sends Offer frame.old len.old frame.new len.new)
-        handle.old.held.node result handle.new.held.node }
-    ensures closed { handle.old.held.node ≡ None → (frame.new ≡ frame.old) × (len.new ≡ len.old) }
-{
-    let Some(mut node) = handle.take(alloc) else {
-        return closed();
-    };
-    let done = node.offer(alloc, frame, len);
-    put_back(handle, node, done)
-}
-
 /// Writes the frame with the first 1000 entries of a bucket, or, where `has_after`, of its entries
 /// whose page is greater than `after`; and its length.
 ///
@@ -485,59 +457,6 @@ pub extern "C" fn node_send_since(
     };
     let after = page_if(has_after, after);
     let done = node.send_since(alloc, bucket, since, after, frame, len, more, last);
-    put_back(handle, node, done)
-}
-
-/// Sets the latest time that a received frame may speak of: [`node_receive`] refuses a frame whose
-/// horizon or a stamp is later. Of a handle that was just opened it is 2^64 - 1, which refuses
-/// none.
-#[unsafe(no_mangle)]
-pub extern "C" fn node_limit(alloc: Global, handle: &mut Handle, time: u64) -> i32
-    ensures { Called (Surely (Limits time)) handle.old.held.node result handle.new.held.node }
-{
-    on_open(alloc, handle, |node| {
-        node.limit(time);
-        Ok(())
-    })
-}
-
-/// Receives one whole frame that another replica sent. Its answers wait for [`node_next_answer`];
-/// those that waited are dropped.
-///
-/// # Errors
-/// In this order, and 1 at any point where an allocation failed. Nothing has changed, and the
-/// answers that waited still wait.
-/// - 34 to 42: the bytes are no frame, by the first fault from left to right.
-/// - 70: the horizon is later than the limit.
-/// - 71: a stamp is later than the limit.
-#[unsafe(no_mangle)]
-pub extern "C" fn node_receive(alloc: Global, handle: &mut Handle, frame: &[u8]) -> i32
-    ensures { Called (Receives frame.now) handle.old.held.node result handle.new.held.node }
-{
-    on_open(alloc, handle, |node| node.receive(alloc, frame))
-}
-
-/// Writes the frame of the next answer that waits, and its length; a length of 0 where none waits.
-///
-/// # Errors
-/// The answer is still the next, and the buffer is unchanged.
-/// - 1: an allocation failed.
-/// - 66: the frame does not fit; its length is written.
-#[unsafe(no_mangle)]
-pub extern "C" fn node_next_answer(
-    alloc: Global,
-    handle: &mut Handle,
-    frame: &mut [u8],
-    len: &mut usize,
-) -> i32
-    ensures called { Called (GivesNext frame.old len.old frame.new len.new)
-        handle.old.held.node result handle.new.held.node }
-    ensures closed { handle.old.held.node ≡ None → (frame.new ≡ frame.old) × (len.new ≡ len.old) }
-{
-    let Some(mut node) = handle.take(alloc) else {
-        return closed();
-    };
-    let done = node.next_answer(alloc, frame, len);
     put_back(handle, node, done)
 }
 

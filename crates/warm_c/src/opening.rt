@@ -15,7 +15,6 @@ use crate::values::WarmDevice;
 use std::alloc::{AllocError, Global};
 use std::collections::BTreeSet;
 use std::iter::FromIterator;
-use warm_frames::MessageList;
 use warm_gossip::{Node, NodeFault};
 use warm_pool::{MAX_DEVICES, Pool, PoolFault};
 use warm_stamps::{Items, ReplicaId};
@@ -164,9 +163,6 @@ pub fn open(
     match Pool::new(alloc, frames, page_size, made) {
         Ok(pool) => Ok(OpenNode {
             node: Node::new(alloc, replica, pool),
-            answers: MessageList::of(Vec::new(alloc)),
-            given: 0,
-            limit: u64::MAX,
             devices: Items::of(copy),
         }),
         Err(error) => Err(Refusal::NewPool(error.fault)),

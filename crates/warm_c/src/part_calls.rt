@@ -1,8 +1,7 @@
 //! The calls on an open handle that concern one shard of many, or join what another handle holds.
-ghost use Rattle.std.specs.Prelude.{◌≡◌, ◌<◌, IfErr, IfOk};
+ghost use Rattle.std.specs.Prelude.{◌≡◌, IfOk};
 ghost use Rattle.warm_frames.specs.Entries.{FitsInFrame};
-ghost use Rattle.warm_frames.specs.Limits.{entries_in, horizon_in};
-ghost use Rattle.warm_shards.specs.Digests.{FillsShard};
+ghost use Rattle.warm_frames.specs.Limits.{entries_in};
 ghost use Rattle.warm_shards.specs.Shards.{IsShardCount};
 ghost use Rattle.warm_c.specs.PartCalls.{AbsorbsPart, Gathers, GivesDigests};
 ghost use Rattle.warm_c.specs.PartCalls.{PinsAndLends, ReceivesPart, gathered};
@@ -15,29 +14,10 @@ use crate::shard_parts::{check_part, part_of_batch, part_of_entries};
 use crate::status::Refusal;
 use crate::values::{PinnedSlot, WarmPage, WarmReference};
 use std::alloc::{AllocError, Global};
-use warm_frames::{DIGEST_SIZE, DigestTable, EntryList, Message, decode};
+use warm_frames::{EntryList, Message, decode};
 use warm_history::Entry;
-use warm_stamps::{BUCKETS, Bucket, ReplicaId};
-
-// Takes the digests of one shard's buckets from its table.
-fn fill(
-    digests: &mut [[u8; DIGEST_SIZE]; BUCKETS as usize],
-    table: &DigestTable,
-    shards: usize,
-    shard: usize,
-)
-    requires { 0 < shards }
-    ensures { FillsShard shards shard digests.old table.now digests.new }
-{
-    for number in 0..BUCKETS {
-        let Some(bucket) = Bucket::new(number) else {
-            unreachable!()
-        };
-        if number as usize % shards == shard {
-            digests[number as usize] = table.digest(bucket);
-        }
-    }
-}
+use warm_shards::fill_digests;
+use warm_stamps::ReplicaId;
 
 // The replica that sent a message.
 fn sender_of(message: &Message) -> ReplicaId
@@ -182,7 +162,7 @@ impl OpenNode {
         else {
             unreachable!()
         };
-        fill(&mut table.digests, &digests, shards, shard);
+        fill_digests(&mut table.digests, &digests, shards, shard);
         *horizon = own.max(*horizon);
         Ok(())
     }

@@ -1,7 +1,7 @@
 //! The functions that C calls for one shard of many. `c/nodes.h` has their prototypes.
 ghost use Rattle.std.specs.Prelude.{◌≡◌, None};
 ghost use Rattle.warm_frames.specs.declared.message.Message.TheVariants.{Digest, Want};
-ghost use Rattle.warm_shards.specs.Shards.{IsShardCount, shard_of};
+ghost use Rattle.warm_shards.specs.Shards.{IsShardCount};
 ghost use Rattle.warm_c.specs.Devices.{SaysMayStand};
 ghost use Rattle.warm_c.specs.Engine.{SaysMayForget};
 ghost use Rattle.warm_c.specs.FrameParts.{FindsDiffering, MakesFrame, ReadsFrame};
@@ -9,7 +9,6 @@ ghost use Rattle.warm_c.specs.Handles.{Called};
 ghost use Rattle.warm_c.specs.PartCalls.{AbsorbsPart, CalledWith, Gathers, GivesDigests};
 ghost use Rattle.warm_c.specs.PartCalls.{PinsAndLends, ReceivesPart, gathered};
 ghost use Rattle.warm_c.specs.Parts.{Divides, Ends, HasBits, batch_pages, shards_of};
-ghost use Rattle.warm_c.specs.Values.{page_of_c};
 
 use crate::called::{closed, put_back};
 use crate::frame_parts::{
@@ -20,19 +19,7 @@ use crate::shard_parts::{divide, shards_of_batch};
 use crate::status::status_of;
 use crate::values::{PinnedSlot, WarmDevice, WarmPage, WarmReference};
 use std::alloc::Global;
-use warm_shards::{is_shard_count, shard_of};
-
-/// Returns the shard of a page, of this many; 0 where there cannot be this many.
-#[unsafe(no_mangle)]
-pub extern "C" fn node_shard_of(shards: usize, page: WarmPage) -> u32
-    ensures value { IsShardCount shards → result ≡ shard_of shards (page_of_c page) }
-    ensures none { (IsShardCount shards → ⊥) → result ≡ 0 }
-{
-    if !is_shard_count(shards) {
-        return 0;
-    }
-    shard_of(shards, page.page()) as u32
-}
+use warm_shards::is_shard_count;
 
 /// Divides frames evenly among shards, and writes how many each has.
 ///

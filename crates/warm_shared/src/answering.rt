@@ -1,7 +1,6 @@
 //! What all shards offer, and what they answer to a request: shard by shard.
 ghost use Rattle.std.specs.Prelude.{◌≡◌, ◌↔◌, ◌<◌, length, IfErr, IfOk, IsTrue};
 ghost use Rattle.std.specs.Int.{bit_at};
-ghost use Rattle.warm_shards.specs.Digests.{FillsShard};
 ghost use Rattle.warm_shared.specs.Answering.{AnswerFails, AnswersAll, GathersAll, IsDigest};
 ghost use Rattle.warm_shared.specs.Answering.{IsPartOf, OfferFails, offer_message, offer_reply};
 ghost use Rattle.warm_shared.specs.Attached.{AreOf, AreTurns};
@@ -20,11 +19,9 @@ use std::sync::Wait;
 use warm_devices::PageDevice;
 use warm_frames::{DIGEST_SIZE, DigestTable, Message, MessageList};
 use warm_gossip::NodeFault;
+use warm_shards::fill_digests;
 use warm_stamps::{BUCKETS, Bucket, BucketSet, ReplicaId};
 use warm_turn::{Pass, Turn};
-
-// How many digests a table has.
-const DIGESTS: usize = BUCKETS as usize;
 
 /// What a shard offers, or all shards together.
 #[derive(Drop)]
@@ -95,21 +92,6 @@ fn one_offer<D: PageDevice + Send, R: Wait>(
     Ok(offer_of(boxed.into_message()))
 }
 
-// Takes the digests of one shard's buckets from its table.
-fn fill(digests: &mut [[u8; DIGEST_SIZE]; DIGESTS], table: &DigestTable, count: usize, shard: usize)
-    requires { 0 < count }
-    ensures { FillsShard count shard digests.old table.now digests.new }
-{
-    for number in 0..BUCKETS {
-        let Some(bucket) = Bucket::new(number) else {
-            unreachable!()
-        };
-        if number as usize % count == shard {
-            digests[number as usize] = table.digest(bucket);
-        }
-    }
-}
-
 /// Has each shard make an offer, in the order of the shards. Returns what they offer together.
 pub(crate) fn gather<D: PageDevice + Send, R: Wait>(
     rt: &R,
@@ -129,15 +111,15 @@ pub(crate) fn gather<D: PageDevice + Send, R: Wait>(
         Err(fault) => return Err(Stopped { fault, shard: 0 }),
     };
     let mut horizon = first.horizon;
-    let mut digests = [[0; DIGEST_SIZE]; DIGESTS];
-    fill(&mut digests, &first.digests, count, 0);
+    let mut digests = [[0; DIGEST_SIZE]; BUCKETS as usize];
+    fill_digests(&mut digests, &first.digests, count, 0);
     for shard in 1..count {
         let offer = match one_offer(rt, turns, passes, shard) {
             Ok(offer) => offer,
             Err(fault) => return Err(Stopped { fault, shard }),
         };
         horizon = horizon.max(offer.horizon);
-        fill(&mut digests, &offer.digests, count, shard);
+        fill_digests(&mut digests, &offer.digests, count, shard);
     }
     Ok(Offered {
         sender: first.sender,

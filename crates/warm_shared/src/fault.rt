@@ -14,8 +14,8 @@ pub enum SharedFault {
     /// failed before any shard was called; `StaleSlot`, 13, also a slot of a shard that is not there.
     #[error(transparent)]
     Node(NodeFault),
-    /// 14: no ticket was left for a call of the shard, and none is left for any later call by the
-    /// same attached thread.
+    /// 14: no ticket was left for a call of the shard, and none is left for any later call of that
+    /// shard by the same attached thread.
     #[error("TurnsSpent")]
     TurnsSpent,
     /// 15: as many pins are held as can be counted, `u64::MAX`.

@@ -24,8 +24,9 @@ use warm_devices::PageDevice;
 use warm_digest::differing;
 use warm_frames::{DigestTable, Message, MessageList};
 use warm_gossip::NodeFault;
-use warm_history::{Entry, PageHist};
-use warm_stamps::{Bucket, BucketSet, PageId, Reference};
+use warm_history::Entry;
+use warm_shards::references_in;
+use warm_stamps::{Bucket, BucketSet, PageId};
 use warm_turn::{Pass, Turn};
 
 /// Where taking entries in stopped, and why.
@@ -43,26 +44,6 @@ pub enum NotReceived {
     /// All shards have the horizon of the digests or the request. The answers of the shards before
     /// this one were taken. Nothing else has changed.
     Answering(Stopped),
-}
-
-// The references that entries hold.
-fn references_in(alloc: Global, entries: &[Entry]) -> Result<Vec<Reference>, AllocError>
-    ensures { IfOk result (λ references. references.items ≡ list_references_of entries.now) }
-{
-    let mut references = Vec::new(alloc);
-    for entry in entries {
-        let page = entry.page;
-        match entry.hist {
-            PageHist::Once(stamp) => references.push(Reference { page, stamp })?,
-            PageHist::Twice(two) => {
-                let last = two.last();
-                let prev = two.prev();
-                references.push(Reference { page, stamp: last })?;
-                references.push(Reference { page, stamp: prev })?;
-            }
-        }
-    }
-    Ok(references)
 }
 
 // Each shard absorbs the references to its pages that entries hold.

@@ -21,7 +21,7 @@ loop-shard-init g c =
       of = c.one_offer.ensures.passes;
       count = omega (arith, c.args.turns.now.ok.0);
       some = omega arith;
-      so_far = (o ∷ [], one_gave Offers no_offer [] o 0 old old (none_gave Offers no_offer old) c.one_offer.new.passes.items lt c.in-Ok.ensures.ends.1 c.in-Ok.ensures.ends.0, first_gathered c.len-count.result o _ c.fill.new.digests c.fill.ensures c.type_inv.digests);
+      so_far = (o ∷ [], one_gave Offers no_offer [] o 0 old old (none_gave Offers no_offer old) c.one_offer.new.passes.items lt c.in-Ok.ensures.ends.1 c.in-Ok.ensures.ends.0, first_gathered c.len-count.result o _ c.fill_digests.new.digests c.fill_digests.ensures c.type_inv.digests);
     }
 
 pub loop-shard-preserved : goal.loop-shard-preserved
@@ -40,7 +40,7 @@ loop-shard-preserved g c =
       so_far = (
         offers ++ o ∷ [],
         one_gave Offers no_offer offers o k old c.loop-shard.passes.items i.so_far.1 c.one_offer-in-loop-shard.new.passes.items lt ends.1 ends.0,
-        more_gathered offers o k i.so_far.1.0 c.len-count.result c.in-Ok.first.sender c.loop-shard.horizon c.max-horizon.result c.loop-shard.digests c.fill-in-loop-shard.new.digests i.some c.fill-in-loop-shard.ensures c.max-horizon.ensures c.type_inv.digests i.so_far.2,
+        more_gathered offers o k i.so_far.1.0 c.len-count.result c.in-Ok.first.sender c.loop-shard.horizon c.max-horizon.result c.loop-shard.digests c.fill_digests-in-loop-shard.new.digests i.some c.fill_digests-in-loop-shard.ensures c.max-horizon.ensures c.type_inv.digests i.so_far.2,
       );
     }
 
