@@ -99,10 +99,10 @@ set_on() {
     sql "$1" "select pg_reload_conf()" > /dev/null
 }
 
-# make_primary NAME SHARED_BUFFERS [SETTING..]: a primary with the extension, started.
+# make_primary NAME SHARED_BUFFERS [SETTING..]: a primary with the extension, started. Its segments have $segment MB, where that is set.
 make_primary() {
     servers+=("$1")
-    as "$bin/initdb" -D "$work/$1" -A trust --locale=C -E UTF8 -N > "$work/initdb.log" || fail "initdb: $(tail "$work/initdb.log")"
+    as "$bin/initdb" -D "$work/$1" -A trust --locale=C -E UTF8 -N ${segment:+--wal-segsize="$segment"} > "$work/initdb.log" || fail "initdb: $(tail "$work/initdb.log")"
     configure "$1" "listen_addresses = ''" "unix_socket_directories = '$work/run'" "port = $(port "$1")" "shared_buffers = $2" \
         "fsync = off" "jit = off" "max_parallel_workers_per_gather = 0" "max_wal_senders = 12" "wal_keep_size = 1GB" "max_wal_size = 4GB" \
         "max_standby_streaming_delay = -1" "max_worker_processes = 16" "max_connections = 40" "log_min_messages = info" \

@@ -9,6 +9,7 @@
  */
 #include "postgres.h"
 
+#include "access/xlog.h"
 #include "access/xloginsert.h"
 #include "miscadmin.h"
 #include "postmaster/interrupt.h"
@@ -56,7 +57,23 @@ ws_publish_reset(void)
 	directory_at = paid_at = turn_at = ws_us();
 }
 
-/* Writes one message.  An idle server makes no checkpoint for its sake. */
+/*
+ * Whether a message is to count as important WAL.  A checkpoint is skipped, also
+ * one that WAL asks for, where nothing important was written since the last one:
+ * where only this worker writes, no segment would ever be recycled.  So a message
+ * is important once a quarter of max_wal_size has no important record.  WAL asks for
+ * a checkpoint after half of max_wal_size at the earliest, so it is not skipped.
+ * All others are unimportant: else an idle server would make a checkpoint each
+ * checkpoint_timeout, and switch segments each archive_timeout.
+ */
+static bool
+is_important(void)
+{
+	return GetXLogInsertRecPtr() - GetLastImportantRecPtr() >=
+		(XLogRecPtr) max_wal_size_mb * (1024 * 1024 / 4);
+}
+
+/* Writes one message. */
 static void
 emit(uint8 kind, uint8 *message, Size length)
 {
@@ -70,7 +87,8 @@ emit(uint8 kind, uint8 *message, Size length)
 	XLogRegisterData((char *) &record, SizeOfLogicalMessage);
 	XLogRegisterData((char *) WS_NAME, sizeof WS_NAME);
 	XLogRegisterData((char *) message, length);
-	XLogSetRecordFlags(XLOG_MARK_UNIMPORTANT);
+	if (!is_important())
+		XLogSetRecordFlags(XLOG_MARK_UNIMPORTANT);
 	last_message = XLogInsert(RM_LOGICALMSG_ID, XLOG_LOGICAL_MESSAGE);
 	allowance -= length;
 	ws_stats.frames_sent++;
