@@ -4,7 +4,7 @@
 use crate::parts::replica;
 use anyhow::{Result, bail};
 use std::alloc::Global;
-use warm_devices::{DeviceFault, PageDevice};
+use warm_devices::{CallsMade, DeviceFault, PageDevice};
 use warm_gossip::Node;
 use warm_pool::Pool;
 use warm_shards::{Shards, frames_of_shard};
@@ -17,6 +17,7 @@ pub(crate) struct Numbered {
     pages: u64,
     page_size: usize,
     waiting: bool,
+    calls: CallsMade,
 }
 
 impl PageDevice for Numbered {
@@ -28,6 +29,7 @@ impl PageDevice for Numbered {
       contents = [];
       waiting = numbered.waiting;
       failures = 0;
+      calls = numbered.calls.made;
       honest = false;
       unfailing = true;
     } };
@@ -49,6 +51,7 @@ impl PageDevice for Numbered {
     }
 
     fn read(&mut self, no: u64, into: &mut [u8]) -> Result<(), DeviceFault> {
+        self.calls.note(DeviceFault::Read);
         into.fill(0);
         if let Some(number) = into.first_chunk_mut::<8>() {
             *number = no.to_le_bytes();
@@ -57,11 +60,13 @@ impl PageDevice for Numbered {
     }
 
     fn write(&mut self, _no: u64, _bytes: &[u8]) -> Result<(), DeviceFault> {
+        self.calls.note(DeviceFault::Write);
         self.waiting = true;
         Ok(())
     }
 
     fn flush(&mut self) -> Result<(), DeviceFault> {
+        self.calls.note(DeviceFault::Flush);
         self.waiting = false;
         Ok(())
     }
@@ -86,6 +91,7 @@ pub(crate) fn node_of(
         pages: pages.count,
         page_size: pages.size,
         waiting: false,
+        calls: CallsMade::new(),
     });
     match Pool::new(alloc, frames, pages.size, devices) {
         Ok(pool) => Ok(Node::new(alloc, id, pool)),

@@ -12,7 +12,7 @@ use crate::parts::next;
 use anyhow::{Result, bail};
 use std::alloc::Global;
 use std::time::{Clock, Duration, Instant};
-use warm_devices::{DeviceFault, PageDevice};
+use warm_devices::{CallsMade, DeviceFault, PageDevice};
 use warm_history::History;
 use warm_pool::{MAX_DEVICES, Pool, PoolFault};
 use warm_stamps::PageId;
@@ -28,6 +28,7 @@ const POWERS: u32 = 41;
 #[derive(Drop)]
 struct Hollow {
     waiting: bool,
+    calls: CallsMade,
 }
 
 impl PageDevice for Hollow {
@@ -39,6 +40,7 @@ impl PageDevice for Hollow {
       contents = [];
       waiting = hollow.waiting;
       failures = 0;
+      calls = hollow.calls.made;
       honest = false;
       unfailing = true;
     } };
@@ -60,16 +62,19 @@ impl PageDevice for Hollow {
     }
 
     fn read(&mut self, _no: u64, into: &mut [u8]) -> Result<(), DeviceFault> {
+        self.calls.note(DeviceFault::Read);
         into.fill(0);
         Ok(())
     }
 
     fn write(&mut self, _no: u64, _bytes: &[u8]) -> Result<(), DeviceFault> {
+        self.calls.note(DeviceFault::Write);
         self.waiting = true;
         Ok(())
     }
 
     fn flush(&mut self) -> Result<(), DeviceFault> {
+        self.calls.note(DeviceFault::Flush);
         self.waiting = false;
         Ok(())
     }
@@ -141,7 +146,10 @@ fn hollow_pool(alloc: Global, frames: usize) -> Result<Pool<Hollow>>
 {
     let mut devices = Vec::with_capacity(alloc, MAX_DEVICES)?;
     for _ in 0..MAX_DEVICES {
-        devices.push(Hollow { waiting: false })?;
+        devices.push(Hollow {
+            waiting: false,
+            calls: CallsMade::new(),
+        })?;
     }
     if devices.len() > MAX_DEVICES {
         bail!("too many devices")

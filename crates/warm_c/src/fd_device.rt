@@ -5,7 +5,7 @@ ghost use Rattle.std.specs.Prelude.{◌≡◌, ◌*◌, ◌^◌, ◌<◌, ◌≤
 use crate::counters::WarmDeviceCounters;
 use crate::descriptor::Descriptor;
 use crate::device_file::DeviceFile;
-use warm_devices::{DeviceFault, PageDevice};
+use warm_devices::{CallsMade, DeviceFault, PageDevice};
 
 /// Pages in a file that the engine opened, one after another from its start. A flush syncs the
 /// file.
@@ -20,6 +20,7 @@ pub struct FdDevice {
     page_size: usize,
     waiting: bool,
     failures: u64,
+    calls: CallsMade,
     ghost fits: { pages * page_size < 2 ^ 63 },
 }
 
@@ -43,6 +44,7 @@ impl FdDevice {
                 page_size,
                 waiting: false,
                 failures: 0,
+                calls: CallsMade::new(),
             }),
             _ => None,
         }
@@ -95,6 +97,7 @@ impl PageDevice for FdDevice {
     }
 
     fn read(&mut self, no: u64, into: &mut [u8]) -> Result<(), DeviceFault> {
+        self.calls.note(DeviceFault::Read);
         let at = no * self.page_size as u64;
         if !self.file.read(at, into) {
             self.failures = self.failures.saturating_add(1);
@@ -104,6 +107,7 @@ impl PageDevice for FdDevice {
     }
 
     fn write(&mut self, no: u64, bytes: &[u8]) -> Result<(), DeviceFault> {
+        self.calls.note(DeviceFault::Write);
         self.waiting = true;
         let at = no * self.page_size as u64;
         if !self.file.write(at, bytes) {
@@ -114,6 +118,7 @@ impl PageDevice for FdDevice {
     }
 
     fn flush(&mut self) -> Result<(), DeviceFault> {
+        self.calls.note(DeviceFault::Flush);
         if !self.file.flush() {
             self.failures = self.failures.saturating_add(1);
             return Err(DeviceFault::Flush);
@@ -138,7 +143,9 @@ impl Drop for FdDevice {
             page_size: _,
             waiting: _,
             failures: _,
+            calls,
         } = self;
         drop(file);
+        drop(calls);
     }
 }

@@ -1,19 +1,25 @@
 -- The counts of a `Counted` device, and what each call adds to them.
 use Rattle.std.specs.Prelude.{if◌then◌else◌}
+use Rattle.warm_devices.specs.Calls.{DeviceCalls}
 use Rattle.warm_devices.specs.Device.{DeviceState, one_more}
 use Rattle.warm_devices.specs.declared.counted.Counted.{Counted}
+use Rattle.warm_devices.specs.declared.device.PageDevice.{Ghosts}
 use Rattle.warm_devices.specs.declared.counted.DeviceCounts.{DeviceCounts}
 
--- the device to which calls are forwarded, and the calls made of it so far
-abbrev pub inner_of : {D : Type 0} → Counted D → D
+-- the device to which calls are forwarded, the calls that were counted, and what had been made of
+-- the device before
+abbrev pub inner_of : {D : Type 0} {g : Ghosts D} → Counted D g → D
 inner_of c = c.inner
 
-abbrev pub calls_of : {D : Type 0} → Counted D → DeviceCounts
+abbrev pub calls_of : {D : Type 0} {g : Ghosts D} → Counted D g → DeviceCounts
 calls_of c = c.calls
 
--- no call was made
-abbrev pub no_calls : DeviceCounts
-no_calls = record { reads = 0; writes = 0; flushes = 0 }
+abbrev pub before_of : {D : Type 0} {g : Ghosts D} → Counted D g → DeviceCalls
+before_of {D} {g} c = (g.state c.before.value).calls
+
+-- no call was counted
+abbrev pub none_counted : DeviceCounts
+none_counted = record { reads = 0; writes = 0; flushes = 0 }
 
 -- one call more of a kind, saturating at the greatest `u64`
 abbrev pub one_read : DeviceCounts → DeviceCounts

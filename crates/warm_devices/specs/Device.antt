@@ -1,17 +1,21 @@
 -- The state of a page device as proofs see it, and the effect of its calls.
 use Rattle.std.specs.Prelude.{◌≡◌, ◌≢◌, ◌⊎◌, ℕ, ◌+◌, ◌-◌, ◌^◌, min, Bool, true, false, IsTrue, List}
 use Rattle.std.specs.Prelude.{[], length, slice_index_or, replicate, Result, MatchResult}
+use Rattle.std.specs.Prelude.{if◌then◌else◌}
 use Rattle.warm_devices.specs.declared.fault.DeviceFault.{DeviceFault}
+use Rattle.warm_devices.specs.declared.fault.DeviceFault.TheVariants.{Flush}
+use Rattle.warm_devices.specs.Calls.{DeviceCalls, no_calls, one_call}
 
 -- A device as plain data: the contents of its pages, whether a page was written since the last
--- flush, how many calls failed, and whether it is honest and unfailing. An honest device returns
--- the bytes last written; the calls of an unfailing one never fail.
+-- flush, how many calls failed, how many calls were made, and whether it is honest and unfailing.
+-- An honest device returns the bytes last written; the calls of an unfailing one never fail.
 pub record DeviceState : Type 0 where
   pub pages : ℕ
   pub page_size : ℕ
   pub contents : List (List ℕ)
   pub waiting : Bool
   pub failures : ℕ
+  pub calls : DeviceCalls
   pub honest : Bool
   pub unfailing : Bool
 
@@ -37,6 +41,14 @@ abbrev pub CountsFault : {T : Type 0} → DeviceFault → Result T DeviceFault �
 CountsFault kind result old new =
     MatchResult result (λ _. new.failures ≡ old.failures)
     (λ fault. (fault ≡ kind) × (new.failures ≡ one_more old.failures))
+
+-- one call of this kind was made of the device, and no other
+abbrev pub CountsCall : DeviceFault → DeviceState → DeviceState → Type 0
+CountsCall kind old new = new.calls ≡ one_call kind old.calls
+
+-- an unflushed device was flushed once; of another one no call was made
+abbrev pub CountsSettle : DeviceState → DeviceState → Type 0
+CountsSettle old new = new.calls ≡ (if old.waiting then one_call Flush old.calls else old.calls)
 
 -- nothing is unflushed, or something was unflushed and its flush failed
 abbrev pub Settles : DeviceState → DeviceState → Type 0
@@ -76,6 +88,7 @@ zeroed pages page_size = record {
   contents = replicate pages (replicate page_size 0);
   waiting = false;
   failures = 0;
+  calls = no_calls;
   honest = true;
   unfailing = true;
 }

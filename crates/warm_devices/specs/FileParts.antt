@@ -12,6 +12,7 @@ file_state f = record {
   contents = [];
   waiting = f.waiting;
   failures = f.failures;
+  calls = f.calls.made;
   honest = false;
   unfailing = false;
 }

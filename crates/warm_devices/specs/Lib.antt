@@ -1,7 +1,9 @@
+pub mod Calls
 pub mod Device
 pub mod Faults
 pub mod FlakyParts
 pub mod FileParts
 pub mod LoggedParts
 pub mod CountedParts
+pub mod Counting
 pub mod Pieces

@@ -2,6 +2,7 @@
 ghost use Rattle.std.specs.Prelude.{◌≡◌, ◌<◌, IsTrue, IsOk, OnOk, OnErr, length, true, false};
 ghost use Rattle.warm_devices.specs.Device.{DeviceState, SameShape, CountsFault, ChangesPage};
 ghost use Rattle.warm_devices.specs.Device.{GivesPage, TakesPage, Settles};
+ghost use Rattle.warm_devices.specs.Device.{CountsCall, CountsSettle};
 ghost use Rattle.warm_devices.specs.declared.fault.DeviceFault.TheVariants.{Read, Write, Flush};
 
 use crate::DeviceFault;
@@ -9,7 +10,9 @@ use crate::DeviceFault;
 /// A device of numbered pages of one size.
 ///
 /// No call changes the number of pages, their size, or whether the device is honest and unfailing.
-/// No call lowers `failures`. All calls are allocation-free. The drop of a device settles it first.
+/// No call lowers `failures`. Contracts count the reads, writes and flushes of a device, whether
+/// they fail or not (`calls` of its `state`); a device notes its own in a [`crate::CallsMade`]. All
+/// calls are allocation-free. The drop of a device settles it first.
 pub trait PageDevice: Drop {
     /// The state of the device, as plain data.
     ghost state: { Self → DeviceState };
@@ -39,6 +42,7 @@ pub trait PageDevice: Drop {
         requires sized { length into.old ≡ (state self.old).page_size }
         ensures shape { SameShape (state self.old) (state self.new) }
         ensures faults { CountsFault Read result (state self.old) (state self.new) }
+        ensures calls { CountsCall Read (state self.old) (state self.new) }
         ensures unfailing { IsTrue (state self.old).unfailing → IsOk result }
         ensures waiting { (state self.new).waiting ≡ (state self.old).waiting }
         ensures contents { (state self.new).contents ≡ (state self.old).contents }
@@ -55,6 +59,7 @@ pub trait PageDevice: Drop {
         requires sized { length bytes.now ≡ (state self.old).page_size }
         ensures shape { SameShape (state self.old) (state self.new) }
         ensures faults { CountsFault Write result (state self.old) (state self.new) }
+        ensures calls { CountsCall Write (state self.old) (state self.new) }
         ensures unfailing { IsTrue (state self.old).unfailing → IsOk result }
         ensures waiting { (state self.new).waiting ≡ true }
         ensures others { ChangesPage no (state self.old).contents (state self.new).contents }
@@ -72,6 +77,7 @@ pub trait PageDevice: Drop {
     fn flush(&mut self) -> Result<(), DeviceFault>
         ensures shape { SameShape (state self.old) (state self.new) }
         ensures faults { CountsFault Flush result (state self.old) (state self.new) }
+        ensures calls { CountsCall Flush (state self.old) (state self.new) }
         ensures unfailing { IsTrue (state self.old).unfailing → IsOk result }
         ensures flushed { OnOk result ((state self.new).waiting ≡ false) }
         ensures failed { OnErr result ((state self.new).waiting ≡ (state self.old).waiting) }
@@ -82,6 +88,7 @@ pub trait PageDevice: Drop {
     fn settle(&mut self)
         ensures shape { SameShape (state self.old) (state self.new) }
         ensures settled { Settles (state self.old) (state self.new) }
+        ensures calls { CountsSettle (state self.old) (state self.new) }
         ensures unfailing { IsTrue (state self.old).unfailing → (state self.new).waiting ≡ false }
         ensures contents { (state self.new).contents ≡ (state self.old).contents }
     {

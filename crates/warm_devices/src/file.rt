@@ -1,9 +1,10 @@
 //! A device over a file of the operating system. No contract can say what the file holds.
 ghost use Rattle.std.specs.Prelude.{◌≡◌, ◌*◌, ◌^◌, ◌<◌, ◌≤◌, Err, IfOk, false, []};
 ghost use Rattle.warm_devices.specs.declared.fault.OpenFault.TheVariants.{Open};
+ghost use Rattle.warm_devices.specs.Calls.{no_calls};
 ghost use Rattle.warm_devices.specs.Device.{DeviceState};
 
-use crate::{DeviceFault, OpenFault, PageDevice};
+use crate::{CallsMade, DeviceFault, OpenFault, PageDevice};
 use std::fs::{File, Files, OpenOptions};
 use std::io;
 use std::os::unix::fs::FileExt;
@@ -25,6 +26,7 @@ pub struct FileDevice {
     failures: u64,
     /// Whether a flush has failed.
     flush_failed: bool,
+    calls: CallsMade,
     ghost fits: { pages * page_size < 2 ^ 63 },
 }
 
@@ -62,6 +64,7 @@ impl FileDevice {
           contents = [];
           waiting = false;
           failures = 0;
+          calls = no_calls;
           honest = false;
           unfailing = false;
         }) }
@@ -80,6 +83,7 @@ impl FileDevice {
             waiting: false,
             failures: 0,
             flush_failed: false,
+            calls: CallsMade::new(),
         })
     }
 }
@@ -87,7 +91,7 @@ impl FileDevice {
 impl PageDevice for FileDevice {
     ghost use Rattle.std.specs.Prelude.{◌≡◌, ◌<◌, IsTrue, IsOk, OnOk, OnErr, length, true, false};
     ghost use Rattle.warm_devices.specs.Device.{DeviceState, SameShape, CountsFault, ChangesOnly};
-    ghost use Rattle.warm_devices.specs.Device.{GivesPage};
+    ghost use Rattle.warm_devices.specs.Device.{GivesPage, CountsCall, CountsSettle};
     ghost use Rattle.warm_devices.specs.Device.{TakesPage, SameWaiting, Settles, SettlesSurely};
     ghost use Rattle.warm_devices.specs.FileParts.{file_state, flush_failed, RemembersFailure};
     ghost use Rattle.warm_devices.specs.FileParts.{SettlesUnlessFailed};
@@ -116,12 +120,14 @@ impl PageDevice for FileDevice {
         requires sized { length into.old ≡ (file_state self.old).page_size }
         ensures shape { SameShape (file_state self.old) (file_state self.new) }
         ensures faults { CountsFault Read result (file_state self.old) (file_state self.new) }
+        ensures calls { CountsCall Read (file_state self.old) (file_state self.new) }
         ensures unfailing { IsTrue (file_state self.old).unfailing → IsOk result }
         ensures waiting { (file_state self.new).waiting ≡ (file_state self.old).waiting }
         ensures contents { (file_state self.new).contents ≡ (file_state self.old).contents }
         ensures bytes { OnOk result (GivesPage (file_state self.old) no into.new) }
         ensures kept { flush_failed self.new ≡ flush_failed self.old }
     {
+        self.calls.note(DeviceFault::Read);
         let at = no * self.page_size as u64;
         if self.file.read_exact_at(into, at).is_err() {
             self.failures = self.failures.saturating_add(1);
@@ -135,6 +141,7 @@ impl PageDevice for FileDevice {
         requires sized { length bytes.now ≡ (file_state self.old).page_size }
         ensures shape { SameShape (file_state self.old) (file_state self.new) }
         ensures faults { CountsFault Write result (file_state self.old) (file_state self.new) }
+        ensures calls { CountsCall Write (file_state self.old) (file_state self.new) }
         ensures unfailing { IsTrue (file_state self.old).unfailing → IsOk result }
         ensures waiting { (file_state self.new).waiting ≡ true }
         ensures others { ChangesOnly no (file_state self.old) (file_state self.new) }
@@ -142,6 +149,7 @@ impl PageDevice for FileDevice {
             (TakesPage (file_state self.old) no bytes.now (file_state self.new)) }
         ensures kept { flush_failed self.new ≡ flush_failed self.old }
     {
+        self.calls.note(DeviceFault::Write);
         self.waiting = true;
         let at = no * self.page_size as u64;
         if self.file.write_all_at(bytes, at).is_err() {
@@ -155,12 +163,14 @@ impl PageDevice for FileDevice {
     fn flush(&mut self) -> Result<(), DeviceFault>
         ensures shape { SameShape (file_state self.old) (file_state self.new) }
         ensures faults { CountsFault Flush result (file_state self.old) (file_state self.new) }
+        ensures calls { CountsCall Flush (file_state self.old) (file_state self.new) }
         ensures unfailing { IsTrue (file_state self.old).unfailing → IsOk result }
         ensures flushed { OnOk result ((file_state self.new).waiting ≡ false) }
         ensures failed { OnErr result (SameWaiting (file_state self.old) (file_state self.new)) }
         ensures contents { (file_state self.new).contents ≡ (file_state self.old).contents }
         ensures remembered { RemembersFailure result self.old self.new }
     {
+        self.calls.note(DeviceFault::Flush);
         // The system may have dropped the pages of a failed sync: the next one says nothing of
         // them.
         if self.flush_failed || self.file.sync_all().is_err() {
@@ -175,6 +185,7 @@ impl PageDevice for FileDevice {
     fn settle(&mut self)
         ensures shape { SameShape (file_state self.old) (file_state self.new) }
         ensures settled { Settles (file_state self.old) (file_state self.new) }
+        ensures calls { CountsSettle (file_state self.old) (file_state self.new) }
         ensures unfailing { SettlesSurely (file_state self.old) (file_state self.new) }
         ensures contents { (file_state self.new).contents ≡ (file_state self.old).contents }
         ensures remembered { SettlesUnlessFailed self.old self.new }
@@ -195,7 +206,9 @@ impl Drop for FileDevice {
             waiting: _,
             failures: _,
             flush_failed: _,
+            calls,
         } = self;
         drop(file);
+        drop(calls);
     }
 }

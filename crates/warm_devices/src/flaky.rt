@@ -2,7 +2,7 @@
 ghost use Rattle.std.specs.Prelude.{◌≡◌, ◌-◌, ◌≤◌, ◌==◌, replicate};
 ghost use Rattle.warm_devices.specs.declared.TheConstants.{MAX_PAGE_SIZE};
 
-use crate::{DeviceFault, MAX_PAGE_SIZE, PageDevice};
+use crate::{CallsMade, DeviceFault, MAX_PAGE_SIZE, PageDevice};
 
 /// The bytes of torn pages.
 static TORN: [u8; MAX_PAGE_SIZE] = [0xEE; MAX_PAGE_SIZE];
@@ -11,13 +11,15 @@ static TORN: [u8; MAX_PAGE_SIZE] = [0xEE; MAX_PAGE_SIZE];
 ///
 /// Its calls are counted from 1, and the n-th fails once; after that nothing is counted, and with
 /// an n of 0 no call fails. A failed read or flush does not reach the inner device. A failed write
-/// fills the page with bytes EE (hexadecimal).
+/// fills the page with bytes EE (hexadecimal). The calls that contracts count of the wrapper are
+/// its own; each other one makes exactly this call of the inner device.
 pub struct Flaky<D: PageDevice> {
     inner: D,
     /// The number of calls up to and including the one that fails; 0 once it has failed, or where
     /// none is to fail.
     calls_left: u64,
     failed: u64,
+    calls: CallsMade,
     ghost fits: { (D.PageDevice.state inner).page_size ≤ MAX_PAGE_SIZE },
 }
 
@@ -36,6 +38,7 @@ impl<D: PageDevice> Flaky<D> {
             inner,
             calls_left: n,
             failed: 0,
+            calls: CallsMade::new(),
         }
     }
 }
@@ -61,7 +64,7 @@ fn torn_page(len: usize) -> &'static [u8]
 impl<D: PageDevice> PageDevice for Flaky<D> {
     ghost use Rattle.std.specs.Prelude.{◌≡◌, ◌<◌, IsTrue, IsOk, OnOk, OnErr, length, true, false};
     ghost use Rattle.warm_devices.specs.Device.{DeviceState, SameShape, CountsFault, ChangesOnly};
-    ghost use Rattle.warm_devices.specs.Device.{GivesPage};
+    ghost use Rattle.warm_devices.specs.Device.{GivesPage, CountsCall, CountsSettle};
     ghost use Rattle.warm_devices.specs.Device.{TakesPage, SameWaiting, Settles, SettlesSurely};
     ghost use Rattle.warm_devices.specs.FlakyParts.{flaky_state, FailsWhenDue, StopsWhenDue};
     ghost use Rattle.warm_devices.specs.FlakyParts.{TearsWhenDue};
@@ -91,6 +94,7 @@ impl<D: PageDevice> PageDevice for Flaky<D> {
         requires sized { length into.old ≡ (flaky_state self.old).page_size }
         ensures shape { SameShape (flaky_state self.old) (flaky_state self.new) }
         ensures faults { CountsFault Read result (flaky_state self.old) (flaky_state self.new) }
+        ensures calls { CountsCall Read (flaky_state self.old) (flaky_state self.new) }
         ensures unfailing { IsTrue (flaky_state self.old).unfailing → IsOk result }
         ensures waiting { (flaky_state self.new).waiting ≡ (flaky_state self.old).waiting }
         ensures contents { (flaky_state self.new).contents ≡ (flaky_state self.old).contents }
@@ -98,6 +102,7 @@ impl<D: PageDevice> PageDevice for Flaky<D> {
         ensures chosen { FailsWhenDue Read result self.old self.new }
         ensures stopped { StopsWhenDue self.old self.new }
     {
+        self.calls.note(DeviceFault::Read);
         if is_due(&mut self.calls_left) {
             self.failed = self.failed.saturating_add(1);
             return Err(DeviceFault::Read);
@@ -110,6 +115,7 @@ impl<D: PageDevice> PageDevice for Flaky<D> {
         requires sized { length bytes.now ≡ (flaky_state self.old).page_size }
         ensures shape { SameShape (flaky_state self.old) (flaky_state self.new) }
         ensures faults { CountsFault Write result (flaky_state self.old) (flaky_state self.new) }
+        ensures calls { CountsCall Write (flaky_state self.old) (flaky_state self.new) }
         ensures unfailing { IsTrue (flaky_state self.old).unfailing → IsOk result }
         ensures waiting { (flaky_state self.new).waiting ≡ true }
         ensures others { ChangesOnly no (flaky_state self.old) (flaky_state self.new) }
@@ -118,6 +124,7 @@ impl<D: PageDevice> PageDevice for Flaky<D> {
         ensures chosen { FailsWhenDue Write result self.old self.new }
         ensures torn { TearsWhenDue no self.old self.new }
     {
+        self.calls.note(DeviceFault::Write);
         if is_due(&mut self.calls_left) {
             // The inner device has counted a failure of its own write.
             if self.inner.write(no, torn_page(bytes.len())).is_ok() {
@@ -131,6 +138,7 @@ impl<D: PageDevice> PageDevice for Flaky<D> {
     fn flush(&mut self) -> Result<(), DeviceFault>
         ensures shape { SameShape (flaky_state self.old) (flaky_state self.new) }
         ensures faults { CountsFault Flush result (flaky_state self.old) (flaky_state self.new) }
+        ensures calls { CountsCall Flush (flaky_state self.old) (flaky_state self.new) }
         ensures unfailing { IsTrue (flaky_state self.old).unfailing → IsOk result }
         ensures flushed { OnOk result ((flaky_state self.new).waiting ≡ false) }
         ensures failed { OnErr result (SameWaiting (flaky_state self.old) (flaky_state self.new)) }
@@ -138,6 +146,7 @@ impl<D: PageDevice> PageDevice for Flaky<D> {
         ensures chosen { FailsWhenDue Flush result self.old self.new }
         ensures stopped { StopsWhenDue self.old self.new }
     {
+        self.calls.note(DeviceFault::Flush);
         if is_due(&mut self.calls_left) {
             self.failed = self.failed.saturating_add(1);
             return Err(DeviceFault::Flush);
@@ -149,6 +158,7 @@ impl<D: PageDevice> PageDevice for Flaky<D> {
     fn settle(&mut self)
         ensures shape { SameShape (flaky_state self.old) (flaky_state self.new) }
         ensures settled { Settles (flaky_state self.old) (flaky_state self.new) }
+        ensures calls { CountsSettle (flaky_state self.old) (flaky_state self.new) }
         ensures unfailing { SettlesSurely (flaky_state self.old) (flaky_state self.new) }
         ensures contents { (flaky_state self.new).contents ≡ (flaky_state self.old).contents }
         ensures counted { SettlesUnlessDue self.old self.new }
@@ -166,7 +176,9 @@ impl<D: PageDevice> Drop for Flaky<D> {
             inner,
             calls_left: _,
             failed: _,
+            calls,
         } = self;
         drop(inner);
+        drop(calls);
     }
 }

@@ -13,6 +13,7 @@
 #![tactic(auto)]
 
 mod boxed;
+mod calls;
 mod counted;
 mod device;
 mod fault;
@@ -22,6 +23,7 @@ mod log;
 mod logged;
 mod memory;
 
+pub use calls::CallsMade;
 pub use counted::{Counted, DeviceCounts};
 pub use device::{PageDevice, let_go};
 pub use fault::{DeviceFault, OpenFault};

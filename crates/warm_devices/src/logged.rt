@@ -2,14 +2,18 @@
 ghost use Rattle.std.specs.Prelude.{◌≡◌};
 
 use crate::log::PageLog;
-use crate::{DeviceFault, PageDevice};
+use crate::{CallsMade, DeviceFault, PageDevice};
 
 /// A wrapper of a device that asks a log before each write, so that no page reaches the device
 /// before the log entries that it needs are durable ("write-ahead").
 ///
 /// Where the log answers "not yet", the write fails: the device below isn't called, a failure is
 /// counted, and the device is unflushed until the next flush. A pool then keeps the page resident
-/// and dirty, and its call answers `WriteBack` or `Fault`. All other calls are passed on.
+/// and dirty, and its call answers `WriteBack` or `Fault`. Each other call makes exactly this call
+/// of the device below, and answers as that one does.
+///
+/// The calls that contracts count of the wrapper are its own, the writes that were held back
+/// among them.
 pub struct Logged<D: PageDevice, L: PageLog> {
     device: D,
     log: L,
@@ -17,6 +21,7 @@ pub struct Logged<D: PageDevice, L: PageLog> {
     held_back: bool,
     /// The number of writes that were held back.
     refused: u64,
+    calls: CallsMade,
 }
 
 impl<D: PageDevice, L: PageLog> Logged<D, L> {
@@ -34,6 +39,7 @@ impl<D: PageDevice, L: PageLog> Logged<D, L> {
             log,
             held_back: false,
             refused: 0,
+            calls: CallsMade::new(),
         }
     }
 }
@@ -41,9 +47,10 @@ impl<D: PageDevice, L: PageLog> Logged<D, L> {
 impl<D: PageDevice, L: PageLog> PageDevice for Logged<D, L> {
     ghost use Rattle.std.specs.Prelude.{◌≡◌, ◌<◌, IsTrue, IsOk, OnOk, OnErr, length, true, false};
     ghost use Rattle.warm_devices.specs.Device.{DeviceState, SameShape, CountsFault, ChangesOnly};
-    ghost use Rattle.warm_devices.specs.Device.{GivesPage};
+    ghost use Rattle.warm_devices.specs.Device.{GivesPage, CountsCall, CountsSettle};
     ghost use Rattle.warm_devices.specs.Device.{TakesPage, SameWaiting, Settles, SettlesSurely};
     ghost use Rattle.warm_devices.specs.LoggedParts.{logged_state, AsksFirst, LeavesLog};
+    ghost use Rattle.warm_devices.specs.LoggedParts.{PassesOn, PassesSettleOn};
     ghost use Rattle.warm_devices.specs.declared.fault.DeviceFault.TheVariants.{Read, Write, Flush};
 
     ghost state = { logged_state D.PageDevice.state };
@@ -71,6 +78,8 @@ impl<D: PageDevice, L: PageLog> PageDevice for Logged<D, L> {
             (logged_state D.PageDevice.state self.new) }
         ensures faults { CountsFault Read result (logged_state D.PageDevice.state self.old)
             (logged_state D.PageDevice.state self.new) }
+        ensures calls { CountsCall Read (logged_state D.PageDevice.state self.old)
+            (logged_state D.PageDevice.state self.new) }
         ensures unfailing { IsTrue (logged_state D.PageDevice.state self.old).unfailing
             → IsOk result }
         ensures waiting { SameWaiting (logged_state D.PageDevice.state self.old)
@@ -80,7 +89,9 @@ impl<D: PageDevice, L: PageLog> PageDevice for Logged<D, L> {
         ensures bytes { OnOk result
             (GivesPage (logged_state D.PageDevice.state self.old) no into.new) }
         ensures log { LeavesLog self.old self.new }
+        ensures passed_on { PassesOn D.PageDevice.state Read result self.old self.new }
     {
+        self.calls.note(DeviceFault::Read);
         self.device.read(no, into)
     }
 
@@ -92,6 +103,8 @@ impl<D: PageDevice, L: PageLog> PageDevice for Logged<D, L> {
             (logged_state D.PageDevice.state self.new) }
         ensures faults { CountsFault Write result (logged_state D.PageDevice.state self.old)
             (logged_state D.PageDevice.state self.new) }
+        ensures calls { CountsCall Write (logged_state D.PageDevice.state self.old)
+            (logged_state D.PageDevice.state self.new) }
         ensures unfailing { IsTrue (logged_state D.PageDevice.state self.old).unfailing
             → IsOk result }
         ensures waiting { (logged_state D.PageDevice.state self.new).waiting ≡ true }
@@ -99,8 +112,10 @@ impl<D: PageDevice, L: PageLog> PageDevice for Logged<D, L> {
             (logged_state D.PageDevice.state self.new) }
         ensures bytes { OnOk result (TakesPage (logged_state D.PageDevice.state self.old) no
             bytes.now (logged_state D.PageDevice.state self.new)) }
-        ensures asked { AsksFirst L.PageLog.answers no bytes.now result self.old self.new }
+        ensures asked { AsksFirst D.PageDevice.state L.PageLog.answers no bytes.now result
+            self.old self.new }
     {
+        self.calls.note(DeviceFault::Write);
         if self.log.before_write(no, bytes).is_err() {
             self.held_back = true;
             self.refused = self.refused.saturating_add(1);
@@ -114,6 +129,8 @@ impl<D: PageDevice, L: PageLog> PageDevice for Logged<D, L> {
             (logged_state D.PageDevice.state self.new) }
         ensures faults { CountsFault Flush result (logged_state D.PageDevice.state self.old)
             (logged_state D.PageDevice.state self.new) }
+        ensures calls { CountsCall Flush (logged_state D.PageDevice.state self.old)
+            (logged_state D.PageDevice.state self.new) }
         ensures unfailing { IsTrue (logged_state D.PageDevice.state self.old).unfailing
             → IsOk result }
         ensures flushed { OnOk result
@@ -123,7 +140,9 @@ impl<D: PageDevice, L: PageLog> PageDevice for Logged<D, L> {
         ensures contents { (logged_state D.PageDevice.state self.new).contents
             ≡ (logged_state D.PageDevice.state self.old).contents }
         ensures log { LeavesLog self.old self.new }
+        ensures passed_on { PassesOn D.PageDevice.state Flush result self.old self.new }
     {
+        self.calls.note(DeviceFault::Flush);
         self.device.flush()?;
         self.held_back = false;
         Ok(())
@@ -134,11 +153,14 @@ impl<D: PageDevice, L: PageLog> PageDevice for Logged<D, L> {
             (logged_state D.PageDevice.state self.new) }
         ensures settled { Settles (logged_state D.PageDevice.state self.old)
             (logged_state D.PageDevice.state self.new) }
+        ensures calls { CountsSettle (logged_state D.PageDevice.state self.old)
+            (logged_state D.PageDevice.state self.new) }
         ensures unfailing { SettlesSurely (logged_state D.PageDevice.state self.old)
             (logged_state D.PageDevice.state self.new) }
         ensures contents { (logged_state D.PageDevice.state self.new).contents
             ≡ (logged_state D.PageDevice.state self.old).contents }
         ensures log { LeavesLog self.old self.new }
+        ensures passed_on { PassesSettleOn D.PageDevice.state self.old self.new }
     {
         if self.waiting() {
             let _ = self.flush();
@@ -154,8 +176,10 @@ impl<D: PageDevice, L: PageLog> Drop for Logged<D, L> {
             log,
             held_back: _,
             refused: _,
+            calls,
         } = self;
         drop(device);
         drop(log);
+        drop(calls);
     }
 }

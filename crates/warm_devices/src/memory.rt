@@ -3,7 +3,7 @@ ghost use Rattle.std.specs.Prelude.{◌≡◌, ◌+◌, ◌-◌, ◌*◌, ◌^�
 ghost use Rattle.warm_devices.specs.Device.{zeroed};
 ghost use Rattle.warm_devices.specs.Pieces.{with_part};
 
-use crate::{DeviceFault, PageDevice};
+use crate::{CallsMade, DeviceFault, PageDevice};
 use std::alloc::{AllocError, Global};
 use std::marker::Model;
 use std::ops::Range;
@@ -17,6 +17,7 @@ pub struct MemDevice {
     pages: u64,
     page_size: usize,
     waiting: bool,
+    calls: CallsMade,
 }
 
 impl Model for MemDevice {
@@ -32,6 +33,7 @@ impl Model for MemDevice {
       contents = equal_pieces m.pages m.page_size m.bytes.items;
       waiting = m.waiting;
       failures = 0;
+      calls = m.calls.made;
       honest = true;
       unfailing = true;
     } };
@@ -53,6 +55,7 @@ impl MemDevice {
             pages,
             page_size,
             waiting: false,
+            calls: CallsMade::new(),
         })
     }
 }
@@ -112,6 +115,7 @@ impl PageDevice for MemDevice {
     fn read(&mut self, no: u64, into: &mut [u8]) -> Result<(), DeviceFault> {
         let place = place_of(no, self.page_size);
         into.copy_from_slice(&self.bytes[place]);
+        self.calls.note(DeviceFault::Read);
         Ok(())
     }
 
@@ -119,11 +123,13 @@ impl PageDevice for MemDevice {
         let place = place_of(no, self.page_size);
         write_at(&mut self.bytes, place, bytes);
         self.waiting = true;
+        self.calls.note(DeviceFault::Write);
         Ok(())
     }
 
     fn flush(&mut self) -> Result<(), DeviceFault> {
         self.waiting = false;
+        self.calls.note(DeviceFault::Flush);
         Ok(())
     }
 
@@ -142,7 +148,9 @@ impl Drop for MemDevice {
             pages: _,
             page_size: _,
             waiting: _,
+            calls,
         } = self;
         drop(bytes);
+        drop(calls);
     }
 }

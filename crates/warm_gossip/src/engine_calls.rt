@@ -8,12 +8,12 @@ ghost use Rattle.std.specs.Prelude.{◌≡◌, IfErr, IfOk, OnErr, OnOk};
 ghost use Rattle.warm_pool.specs.declared.fault.PoolFault.TheVariants.{Fault};
 ghost use Rattle.warm_pool.specs.Forgetting.{ForgetRefused, Forgets, MayForget};
 ghost use Rattle.warm_pool.specs.Keeping.{KeepsFrames, KeepsRanks, SameButFailures};
-ghost use Rattle.warm_pool.specs.Pinning.{LeavesDevices};
+ghost use Rattle.warm_pool.specs.Calls.{FlushesNone, FlushesOnce};
 ghost use Rattle.warm_pool.specs.Retiring.{KeepsElsewhere};
 ghost use Rattle.warm_pool.specs.View.{view_of, Holds};
 ghost use Rattle.warm_pool.specs.WritingSome.{FlushRefused, IsSettledOn, KeepsOtherDevices};
 ghost use Rattle.warm_pool.specs.WritingSome.{SomeFails, WritesBackSome};
-ghost use Rattle.warm_pool.specs.Zeroing.{PinnedZeroed, TakesZeroed, ZeroedRefused};
+ghost use Rattle.warm_pool.specs.Zeroing.{LeavesUnread, PinnedZeroed, TakesZeroed, ZeroedRefused};
 ghost use Rattle.warm_gossip.specs.declared.fault.NodeFault.TheVariants.{Pool};
 ghost use Rattle.warm_gossip.specs.Clauses.{OfPool, SameView};
 
@@ -49,8 +49,9 @@ impl<D: PageDevice> Node<D> {
         ensures stays { OnErr result (SameButFailures
             (view_of self.old.pool) (view_of self.new.pool)) }
         ensures frames { OnErr result (KeepsFrames self.old.pool self.new.pool) }
-        ensures devices { IfErr result (OfPool (λ fault. LeavesDevices self.old.history
-            self.old.pool page fault self.new.pool)) }
+        ensures devices { IfErr result (OfPool (λ fault. LeavesUnread self.old.history
+            self.old.pool fault self.new.pool)) }
+        ensures unflushed { FlushesNone self.old.pool.devices self.new.pool.devices }
     {
         let slot = self.pool.pin_zeroed(page, self.history.history())?;
         self.warm_up.passed = 0;
@@ -73,6 +74,7 @@ impl<D: PageDevice> Node<D> {
             self.old.pool left self.new.pool) }
         ensures refused { IfErr result (λ why. (why ≡ Pool Fault)
             × SomeFails limit self.old.pool self.new.pool) }
+        ensures unflushed { FlushesNone self.old.pool.devices self.new.pool.devices }
         ensures ranked { KeepsRanks self.old.pool self.new.pool }
     {
         let left = self.pool.write_back_some(limit)?;
@@ -97,6 +99,7 @@ impl<D: PageDevice> Node<D> {
             self.old.pool dev fault self.new.pool)) }
         ensures elsewhere { KeepsElsewhere dev self.old.pool self.new.pool }
         ensures others { KeepsOtherDevices dev self.old.pool self.new.pool }
+        ensures once { FlushesOnce self.old.pool.devices self.new.pool.devices }
         ensures ranked { KeepsRanks self.old.pool self.new.pool }
     {
         self.pool.flush_device(dev)?;

@@ -11,13 +11,15 @@ use Rattle.warm_pool.specs.Frames.{FrameState, FramesState, nth_frame, fresh_fra
 use Rattle.warm_pool.specs.State.{PoolState, IsPool, IsNowhere, nth_device}
 use Rattle.warm_pool.specs.View.{view_of, PoolView}
 use Rattle.warm_pool.specs.Keeping.{FailsAt, KeepsContents}
-use Rattle.warm_pool.specs.WritingBack.{KeptDevices, Cleans, CleanFails}
+use Rattle.warm_pool.specs.WritingBack.{KeptDevices, Cleans, CleanFails, WriteFails}
 use Rattle.warm_pool.specs.Pinning.{LoadsInto, ReadFails}
-use Rattle.warm_pool.specs.DeviceCalls.{PageRead}
+use Rattle.warm_pool.specs.Calls.{FlushesNone}
+use Rattle.warm_pool.specs.DeviceCalls.{PageRead, read_at}
 use Rattle.warm_pool.proofs.Slots.{at_set}
 use Rattle.warm_pool.proofs.Keeps.{pool_from, stored_honest, devices_keep_pool}
 use Rattle.warm_pool.proofs.FlushLemmas.{may_fail}
-use Rattle.warm_pool.proofs.DeviceSteps.{read_keeps, read_same, read_counted, fails_at, same_view}
+use Rattle.warm_pool.proofs.DeviceSteps.{read_keeps, read_once, read_counted, fails_at, same_view}
+use Rattle.warm_pool.proofs.CallLemmas.{read_none}
 use Rattle.warm_pool.proofs.Loads.{Failed, on_ok, PutsPage, put_pool, put_keeps}
 use Rattle.warm_pool.proofs.WriteBacks.{cleans_view}
 
@@ -62,6 +64,9 @@ module _ {s : PoolState} {ds : List DeviceState} {i : ℕ} {p : PageId} {bytes :
   kept : KeptDevices s.frames s.devices ds
   kept = read_keeps s.frames s.devices ds p.dev p.no bytes result h.device h.call
 
+  pub fetched_none : FlushesNone s.devices ds
+  fetched_none = read_none s.devices ds p.dev p.no bytes result h.device h.call
+
   pub fetched_pool : (n : ℕ) → n ≡ s.spare → IsPool (record s { spare = n; devices = ds })
   fetched_pool n e = spare_keeps (record s { devices = ds }) n (e ∙ h.pool.spare_size) (devices_keep_pool s ds kept h.pool)
 
@@ -80,14 +85,15 @@ module _ {s : PoolState} {ds : List DeviceState} {i : ℕ} {p : PageId} {bytes :
 
     -- the page that was to leave was not written
     pub leave_failed : {n : ℕ} (t : PoolState)
-        → CleanFails (record s { spare = n; devices = ds }) i t → CleanFails s i t
+        → CleanFails (record s { spare = n; devices = ds }) i t
+        → WriteFails s (read_at p.dev s.devices) i t
     leave_failed t c = record {
       page = c.page;
       holds = c.holds;
       dirty = c.dirty;
       frames = c.frames;
       waits = c.waits;
-      others = λ k ne. c.others k ne ∙ ap (λ l. nth_device l k) (read_same s.devices ds p.dev p.no bytes result h.call ok);
+      others = λ k ne. c.others k ne ∙ ap (λ l. nth_device l k) (read_once s.devices ds p.dev p.no bytes result h.call ok);
       fails = subst (λ v. FailsAt v c.page.dev (view_of t)) fetched_view c.fails;
     }
 
@@ -154,7 +160,7 @@ module _ {s : PoolState} {ds : List DeviceState} {i : ℕ} {p : PageId} {bytes :
             frames = ap (λ l. set l i (arrival fs.frames i p key fixes b)) c.frames
                 ∙ set-set s.frames i (cleaned (nth_frame s.frames i)) (arrival fs.frames i p key fixes b)
                 ∙ ap (λ (f : FrameState). let r : FrameState = record { page = Some p; key = Some key; generation = f.generation + 1; fixes = fixes; dirty = false; bytes = b } in set s.frames i r) nth_old;
-            devices = λ clean. c.untouched clean ∙ read_same s.devices ds p.dev p.no bytes result h.call ok;
+            devices = λ clean. c.untouched clean ∙ read_once s.devices ds p.dev p.no bytes result h.call ok;
             waits = c.waits;
             rest = ap (λ (v : PoolView). let x : PoolView = record v {
               frames = (view_of (pool_from (record fs { frames = set fs.frames i (arrival fs.frames i p key fixes b) }) k es)).frames;

@@ -7,6 +7,7 @@ use Rattle.std.proofs.lemmas.Bool.{cases_eq}
 use Rattle.std.proofs.lemmas.List.{length-set, length-map, map-set, set-get_or, get_or_read}
 use Rattle.warm_stamps.specs.declared.PageId.{PageId}
 use Rattle.warm_devices.specs.declared.fault.DeviceFault.TheVariants.{Read}
+use Rattle.warm_devices.specs.Calls.{one_call}
 use Rattle.warm_devices.specs.Device.{DeviceState, SameShape, CountsFault, page_at, one_more}
 use Rattle.warm_devices.specs.declared.fault.DeviceFault.{DeviceFault}
 use Rattle.warm_pool.specs.Frames.{FrameState, nth_frame}
@@ -14,7 +15,7 @@ use Rattle.warm_pool.specs.State.{PoolState, IsPool, no_device, nth_device}
 use Rattle.warm_pool.specs.View.{stored, view_of, device_view, PoolView}
 use Rattle.warm_pool.specs.Keeping.{FailsAt}
 use Rattle.warm_pool.specs.WritingBack.{KeptDevices}
-use Rattle.warm_pool.specs.DeviceCalls.{PageRead, PageWrite, ReadsPage, WritesPage, failed_at}
+use Rattle.warm_pool.specs.DeviceCalls.{PageRead, PageWrite, ReadsPage, WritesPage, failed_at, read_at}
 use Rattle.warm_pool.proofs.Slots.{at_set}
 use Rattle.warm_pool.proofs.FlushLemmas.{same_shape}
 use Rattle.warm_pool.proofs.Bytes.{same_page, device_seen}
@@ -131,26 +132,28 @@ same_view s new k e is kept same =
     view_of_kept s new kept
     ∙ ap (λ (failures : List ℕ). let v : PoolView = record (view_of s) { failures = failures } in v) (failures_kept s.devices new k e is same)
 
--- a device of which a page was read is unchanged, except for its failures
+-- a device of which a page was read is unchanged, except for its failures and its calls
 read_after : {old new : List DeviceState} {k n : ℕ} {bytes : List ℕ}
     {result : Result (Unit {0}) DeviceFault} (r : PageRead old new k n bytes result) (failures : ℕ)
-    → r.after.failures ≡ failures → r.after ≡ record (nth_device old k) { failures = failures }
+    → r.after.failures ≡ failures
+    → r.after ≡ record (nth_device old k) { failures = failures; calls = one_call Read (nth_device old k).calls }
 read_after r failures is i = record {
   pages = r.call.shape.pages i;
   page_size = r.call.shape.page_size i;
   contents = r.call.contents i;
   waiting = r.call.waiting i;
   failures = is i;
+  calls = r.call.calls i;
   honest = r.call.shape.honest i;
   unfailing = r.call.shape.unfailing i;
 }
 
-pub read_same : (old new : List DeviceState) (k n : ℕ) (bytes : List ℕ)
+pub read_once : (old new : List DeviceState) (k n : ℕ) (bytes : List ℕ)
     (result : Result (Unit {0}) DeviceFault)
-    → PageRead old new k n bytes result → result ≡ Ok tt → new ≡ old
-read_same old new k n bytes result r ok =
+    → PageRead old new k n bytes result → result ≡ Ok tt → new ≡ read_at k old
+read_once old new k n bytes result r ok =
     let failures : r.after.failures ≡ (nth_device old k).failures = subst (λ x. CountsFault Read x (nth_device old k) r.after) ok r.call.faults in
-    r.becomes ∙ ap (set old k) (read_after r (nth_device old k).failures failures) ∙ set-get_or old k no_device
+    r.becomes ∙ ap (set old k) (read_after r (nth_device old k).failures failures)
 
 -- where it was not read, a failure is counted
 pub read_counted : (old new : List DeviceState) (k n : ℕ) (bytes : List ℕ)

@@ -5,6 +5,7 @@ use Rattle.std.specs.List.{Contains}
 use Rattle.warm_stamps.specs.declared.PageId.{PageId}
 use Rattle.warm_history.specs.Histories.{history_of_entries as alone, references_of}
 use Rattle.warm_rank.specs.Ranking.{IsBefore}
+use Rattle.warm_devices.specs.Calls.{no_calls}
 use Rattle.warm_devices.specs.Device.{DeviceState}
 use Rattle.warm_pool.specs.Frames.{FrameState, fresh_frame}
 use Rattle.warm_pool.specs.State.{PoolState}
@@ -26,6 +27,7 @@ device honest = record {
   contents = (1 ∷ 1 ∷ []) ∷ (2 ∷ 2 ∷ []) ∷ (3 ∷ 3 ∷ []) ∷ [];
   waiting = false;
   failures = 0;
+  calls = no_calls;
   honest = honest;
   unfailing = true;
 }

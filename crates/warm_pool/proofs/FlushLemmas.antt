@@ -1,8 +1,9 @@
 -- Devices that are flushed one after the other.
-use Rattle.std.proofs.Common.{◌≡◌, ◌≢◌, ℕ, zero, suc, ◌+◌, ◌<◌, Bool, true, false, IsTrue, List, [], ◌∷◌, ◌++◌, length, map, set, get_or, Result, Ok, Err, IsOk, OnOk, OnErr, IfOk, IfErr, IsErrAnd, refl, sym, ap, ◌∙◌, subst, inl, inr, arith, get_or-set_same, get_or-set_other}
+use Rattle.std.proofs.Common.{◌≡◌, ◌≢◌, ℕ, zero, suc, ◌+◌, ◌<◌, cond, Bool, true, false, IsTrue, List, [], ◌∷◌, ◌++◌, length, map, set, get_or, Result, Ok, Err, IsOk, OnOk, OnErr, IfOk, IfErr, IsErrAnd, refl, sym, ap, ◌∙◌, subst, inl, inr, arith, get_or-set_same, get_or-set_other}
 use Rattle.std.proofs.lemmas.List.{length-set, get_or-map, map-set, set-get_or}
 use Rattle.std.proofs.lemmas.Bool.{cases_eq}
-use Rattle.warm_devices.specs.Device.{DeviceState, SameShape, CountsFault}
+use Rattle.warm_devices.specs.Calls.{DeviceCalls, one_call}
+use Rattle.warm_devices.specs.Device.{DeviceState, SameShape, CountsFault, CountsCall}
 use Rattle.warm_devices.specs.declared.fault.DeviceFault.{DeviceFault}
 use Rattle.warm_devices.specs.declared.fault.DeviceFault.TheVariants.{Flush}
 use Rattle.warm_pool.specs.State.{nth_device, no_device}
@@ -56,6 +57,10 @@ pub nth_read : {A : Type 0} (f : A → DeviceState) (xs : List A) (i : ℕ) (x :
     → x ≡ get_or xs i x → nth_device (map f xs) i ≡ f x
 nth_read f xs i x lt is = get_or-map f xs i x no_device lt ∙ ap f (sym is)
 
+-- the calls of a device that is settled, by whether it was unflushed
+abbrev calls_if : DeviceState → Bool → DeviceCalls
+calls_if d waiting = cond waiting (one_call Flush d.calls) d.calls
+
 -- a flushed device needs no flush
 pub needs_none : {A : Type 0} (f : A → DeviceState) (xs : List A) (i : ℕ) (x : A) → i < length xs
     → x ≡ get_or xs i x → (f x).waiting ≡ false → DeviceFlush (map f xs) (map f xs) i (Ok tt)
@@ -64,7 +69,7 @@ needs_none f xs i x lt is quiet =
     record {
       after = f x;
       becomes = sym (ap (λ d. set (map f xs) i d) (sym nth) ∙ set-get_or (map f xs) i no_device);
-      done = subst (λ d. IsFlushed d (f x)) (sym nth) (record { shape = same_shape (f x); contents = refl; failures = refl; waiting = quiet });
+      done = subst (λ d. IsFlushed d (f x)) (sym nth) (record { shape = same_shape (f x); contents = refl; failures = refl; calls = ap (calls_if (f x)) (sym quiet); waiting = quiet });
       failed = tt;
     }
 
@@ -82,25 +87,27 @@ may_fail true fault result e ok = absurd (never fault (subst IsOk e (ok refl)))
 pub flushes : {A : Type 0} (f : A → DeviceState) (xs : List A) (i : ℕ) (x y z : A)
     (result : Result (Unit {0}) DeviceFault) → i < length xs → x ≡ get_or xs i x → y ≡ get_or xs i y
     → (f x).waiting ≡ true → SameShape (f y) (f z) → CountsFault Flush result (f y) (f z)
+    → CountsCall Flush (f y) (f z)
     → (IsTrue (f y).unfailing → IsOk result)
     → OnOk result ((f z).waiting ≡ false) → OnErr result ((f z).waiting ≡ (f y).waiting)
     → (f z).contents ≡ (f y).contents → DeviceFlush (map f xs) (map f (set xs i z)) i result
-flushes f xs i x y z (Ok done) lt is_x is_y waits shape counts never flushed kept contents =
+flushes f xs i x y z (Ok done) lt is_x is_y waits shape counts calls never flushed kept contents =
     let nth : nth_device (map f xs) i ≡ f y = nth_read f xs i y lt is_y in
+    let waited : (f y).waiting ≡ true = ap (λ d. d.waiting) (sym nth ∙ nth_read f xs i x lt is_x) ∙ waits in
     record {
       after = f z;
       becomes = map-set f xs i z;
-      done = subst (λ d. IsFlushed d (f z)) (sym nth) (record { shape = shape; contents = contents; failures = counts; waiting = flushed });
+      done = subst (λ d. IsFlushed d (f z)) (sym nth) (record { shape = shape; contents = contents; failures = counts; calls = calls ∙ ap (calls_if (f y)) (sym waited); waiting = flushed });
       failed = tt;
     }
-flushes f xs i x y z (Err fault) lt is_x is_y waits shape counts never flushed kept contents =
+flushes f xs i x y z (Err fault) lt is_x is_y waits shape counts calls never flushed kept contents =
     let nth : nth_device (map f xs) i ≡ f y = nth_read f xs i y lt is_y in
     let waited : (f y).waiting ≡ true = ap (λ d. d.waiting) (sym nth ∙ nth_read f xs i x lt is_x) ∙ waits in
     record {
       after = f z;
       becomes = map-set f xs i z;
       done = tt;
-      failed = subst (λ d. FlushFails d (f z)) (sym nth) (record { may = may_fail (f y).unfailing fault (Err fault) refl never; shape = shape; contents = contents; failures = counts.1; waiting = kept ∙ waited });
+      failed = subst (λ d. FlushFails d (f z)) (sym nth) (record { may = may_fail (f y).unfailing fault (Err fault) refl never; shape = shape; contents = contents; failures = counts.1; calls = calls ∙ ap (calls_if (f y)) (sym waited); waiting = kept ∙ waited });
     }
 
 -- the last of flushed devices, and those before it

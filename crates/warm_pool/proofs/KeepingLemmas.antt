@@ -1,5 +1,5 @@
 -- What a call leaves unchanged, from its steps.
-use Rattle.std.proofs.Common.{◌≡◌, ℕ, ◌+◌, ◌<◌, false, [], length, Some, Result, IfErr, refl, sym, ◌∙◌, ap, subst}
+use Rattle.std.proofs.Common.{◌≡◌, ℕ, ◌+◌, ◌<◌, false, List, [], length, Some, Result, IfErr, refl, sym, ◌∙◌, ap, subst}
 use Rattle.std.proofs.lemmas.List.{get_or-set_same, get_or-set_other}
 use Rattle.warm_stamps.specs.declared.PageId.{PageId}
 use Rattle.warm_history.specs.Histories.{HistoryView}
@@ -11,10 +11,14 @@ use Rattle.warm_pool.specs.Frames.{FrameState, nth_frame, fresh_frame}
 use Rattle.warm_pool.specs.State.{PoolState, IsNowhere}
 use Rattle.warm_pool.specs.View.{view_of, HasPage}
 use Rattle.warm_pool.specs.Keeping.{KeepsOthers, KeepsBytes}
-use Rattle.warm_pool.specs.WritingBack.{WaitsFor}
-use Rattle.warm_pool.specs.Pinning.{IsFrameToLoad, LoadRefused, FixRefused, LoadsInto, LoadFails, TakesFrame, LeavesDevices}
+use Rattle.warm_pool.specs.WritingBack.{WaitsFor, WriteFails}
+use Rattle.warm_devices.specs.Device.{DeviceState}
+use Rattle.warm_pool.specs.Calls.{FlushesNone}
+use Rattle.warm_pool.specs.DeviceCalls.{read_at}
+use Rattle.warm_pool.specs.Pinning.{IsFrameToLoad, LoadRefused, FixRefused, LoadsInto, LoadFails, TakesFrame, LeavesDevices, IsUnwritten}
 use Rattle.warm_pool.proofs.Bytes.{absent_seen, frame_seen}
 use Rattle.warm_pool.proofs.FlushLemmas.{if_err}
+use Rattle.warm_pool.proofs.CallLemmas.{same_none}
 
 pub same_bytes : (s : PoolState) → KeepsBytes s s
 same_bytes s = record { devices = refl; bytes = λ i. refl; dirty = λ i. refl }
@@ -30,21 +34,23 @@ stays_in_frame s t i p slot holds others kept = record {
   others = others;
   resident = λ _. kept;
   clean = λ away. absurd (away i (ap (λ f. f.page) (frame_seen s i) ∙ holds));
-  devices = λ _. kept.devices;
+  devices = λ away. absurd (away i (ap (λ f. f.page) (frame_seen s i) ∙ holds));
   waits = λ away. absurd (away i (ap (λ f. f.page) (frame_seen s i) ∙ holds));
+  unflushed = same_none kept.devices;
 }
 
 -- a page was loaded into a frame
 pub loaded_takes : (s t : PoolState) (i : ℕ) (p : PageId) (key : RankKey) (n : ℕ)
     → LoadsInto s i p key n t → i < length s.frames → IsNowhere s.frames p
-    → (slot : Slot) → slot.index ≡ i → TakesFrame s p slot t
-loaded_takes s t i p key n l there away slot at =
+    → FlushesNone s.devices t.devices → (slot : Slot) → slot.index ≡ i → TakesFrame s p slot t
+loaded_takes s t i p key n l there away none slot at =
     let came : FrameState = record { page = Some p; key = Some key; generation = (nth_frame s.frames i).generation + 1; fixes = n; dirty = false; bytes = l.bytes } in record {
       others = λ j ne. ap (λ fs. nth_frame fs j) l.frames ∙ get_or-set_other s.frames i j came (fresh_frame []) (λ e. ne (e ∙ sym at));
       resident = λ r. absurd (absent_seen s p away r.frame r.holds);
       clean = λ _. ap (λ k. (nth_frame t.frames k).dirty) at ∙ ap (λ fs. (nth_frame fs i).dirty) l.frames ∙ ap (λ f. f.dirty) (get_or-set_same s.frames i came (fresh_frame []) there);
-      devices = λ clean. l.devices (sym (ap (λ k. (nth_frame s.frames k).dirty) at) ∙ clean);
+      devices = λ _ clean. l.devices (sym (ap (λ k. (nth_frame s.frames k).dirty) at) ∙ clean);
       waits = λ _. subst (λ k. WaitsFor s k t.devices) (sym at) l.waits;
+      unflushed = none;
     }
 
 -- a refusal of a page that no device has, and one for its pin count, leave the devices unchanged
@@ -59,11 +65,18 @@ pub full_leaves : (h : HistoryView) (s t : PoolState) (i : ℕ) (p : PageId) {T 
     → IfErr r (λ why. LeavesDevices h s p why t)
 full_leaves h s t i p r x = if_err _ _ r x (λ why full. subst (λ y. LeavesDevices h s p y t) (sym full.0) (ap (λ u. u.devices) full.2))
 
+-- a failed write of the page that would leave
+pub unwritten : (h : HistoryView) (s : PoolState) (before : List DeviceState) (t : PoolState)
+    (i : ℕ) → IsFrameToLoad h (view_of s) (Some i) → FlushesNone s.devices t.devices
+    → WriteFails s before i t → IsUnwritten h s before t
+unwritten h s before t i to_load none l =
+    record { frame = i; page = l.page; to_load = to_load; holds = l.holds; dirty = l.dirty; waits = l.waits; others = l.others; unflushed = none }
+
 -- what a failed read, or a failed write of the page that would leave, leaves of the devices
 pub failed_leaves : (h : HistoryView) (s t : PoolState) (i : ℕ) (p : PageId)
-    → IsFrameToLoad h (view_of s) (Some i)
-    → (why : PoolFault) → LoadFails s i p why t → LeavesDevices h s p why t
-failed_leaves h s t i p to_load ReadFault l = l.devices
-failed_leaves h s t i p to_load WriteBack l =
-    record { frame = i; page = l.page; to_load = to_load; holds = l.holds; dirty = l.dirty; waits = l.waits; others = l.others }
-failed_leaves h s t i p to_load why l = absurd l
+    → IsFrameToLoad h (view_of s) (Some i) → FlushesNone s.devices t.devices
+    → (why : PoolFault) → LoadFails s (read_at p.dev s.devices) i p why t
+    → LeavesDevices h s p why t
+failed_leaves h s t i p to_load none ReadFault l = l.devices
+failed_leaves h s t i p to_load none WriteBack l = unwritten h s (read_at p.dev s.devices) t i to_load none l
+failed_leaves h s t i p to_load none why l = absurd l

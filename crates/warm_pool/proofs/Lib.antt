@@ -1,4 +1,5 @@
 pub mod Arrivals
+pub mod CallLemmas
 pub mod Bytes
 pub mod ChainLemmas
 pub mod ClosingLemmas

@@ -9,6 +9,7 @@ use Rattle.warm_rank.specs.Keys.{rank_key}
 use Rattle.warm_pool.specs.declared.slot.Slot.{Slot}
 use Rattle.warm_pool.specs.declared.fault.PoolFault.{PoolFault}
 use Rattle.warm_pool.specs.declared.fault.PoolFault.TheVariants.{NoDevice, NoPage, AllFixed, ReadFault, WriteBack, FixesFull}
+use Rattle.warm_devices.specs.Device.{DeviceState}
 use Rattle.warm_pool.specs.Frames.{FrameState, nth_frame, fresh_frame}
 use Rattle.warm_pool.specs.State.{PoolState, RankedBy, IsNowhere}
 use Rattle.warm_pool.specs.View.{frame_view, view_of, PoolView, FrameView, frame_at, HasPage, IsAbsent, Holds}
@@ -25,25 +26,26 @@ pub stays_by : (old new : PoolView) (failures : List ℕ) → new ≡ record old
 stays_by old new failures e = e ∙ ap (λ (f : List ℕ). let v : PoolView = record old { failures = f } in v) (sym (ap (λ v. v.failures) e))
 
 -- a page that was not put into a frame
-pub put_refused : (s t : PoolState) (h : HistoryView) (i : ℕ) (p : PageId)
+pub put_refused : (s : PoolState) (before : List DeviceState) (t : PoolState) (h : HistoryView) (i : ℕ) (p : PageId)
     → IsFrameToLoad h (view_of s) (Some i) → (nth_frame s.frames i).generation < 2 ^ 64 - 1
-    → (why : PoolFault) → LoadFails s i p why t → PutRefused h (view_of s) p why (view_of t)
-put_refused s t h i p to_load room ReadFault l =
+    → (why : PoolFault) → LoadFails s before i p why t → PutRefused h (view_of s) p why (view_of t)
+put_refused s before t h i p to_load room ReadFault l =
     ((i, record { to_load = to_load; below = subst (λ f. f.generation < 2 ^ 64 - 1) (sym (frame_seen s i)) room }), l.fails)
-put_refused s t h i p to_load room WriteBack l =
+put_refused s before t h i p to_load room WriteBack l =
     (i, l.page, record { to_load = to_load; below = subst (λ f. f.generation < 2 ^ 64 - 1) (sym (frame_seen s i)) room }, ap (λ f. f.page) (frame_seen s i) ∙ l.holds, l.fails)
-put_refused s t h i p to_load room why l = absurd l
+put_refused s before t h i p to_load room why l = absurd l
 
-pub same_frames : (s t : PoolState) (i : ℕ) (p : PageId) (why : PoolFault) → LoadFails s i p why t
-    → t.frames ≡ s.frames
-same_frames s t i p ReadFault l = l.frames
-same_frames s t i p WriteBack l = l.frames
-same_frames s t i p why l = absurd l
+pub same_frames : (s : PoolState) (before : List DeviceState) (t : PoolState) (i : ℕ) (p : PageId)
+    (why : PoolFault) → LoadFails s before i p why t → t.frames ≡ s.frames
+same_frames s before t i p ReadFault l = l.frames
+same_frames s before t i p WriteBack l = l.frames
+same_frames s before t i p why l = absurd l
 
-pub failed_ranked : (s t : PoolState) (i : ℕ) (p : PageId) (why : PoolFault) → LoadFails s i p why t
+pub failed_ranked : (s : PoolState) (before : List DeviceState) (t : PoolState) (i : ℕ) (p : PageId)
+    (why : PoolFault) → LoadFails s before i p why t
     → (h : HistoryView) → RankedBy s h → RankedBy t h
-failed_ranked s t i p why l h r =
-    subst (λ fs. (j : ℕ) → (nth_frame fs j).key ≡ option_map (λ q. rank_key q (hist (references_of h) q)) (nth_frame fs j).page) (sym (same_frames s t i p why l)) r
+failed_ranked s before t i p why l h r =
+    subst (λ fs. (j : ℕ) → (nth_frame fs j).key ≡ option_map (λ q. rank_key q (hist (references_of h) q)) (nth_frame fs j).page) (sym (same_frames s before t i p why l)) r
 
 -- a page that was put into a frame
 pub loaded_ranked : (s t : PoolState) (i : ℕ) (p : PageId) (key : RankKey) (n : ℕ)

@@ -7,6 +7,7 @@ use Rattle.warm_pool.specs.State.{PoolState, nth_device}
 use Rattle.warm_pool.specs.View.{view_of}
 use Rattle.warm_pool.specs.Keeping.{FailsAt, KeepsRanks}
 use Rattle.warm_pool.specs.WritingBack.{CleanFails, WritesBack, WritesBackAll, cleaned_selected}
+use Rattle.warm_pool.specs.Calls.{FlushesNone}
 use Rattle.warm_pool.specs.WritingSome.{one_if, dirty_count, CleansFirst, SomeFails, room_after, IsSettledOn}
 use Rattle.warm_pool.proofs.ClosingLemmas.{nth_rest}
 use Rattle.warm_pool.proofs.FlushLemmas.{same_shape}
@@ -57,6 +58,7 @@ none_left true room is = elim (cases_eq room 0) [
 pub record SomeSoFar (limit at room : ℕ) (old new : PoolState) : Type 0 where
   pub spent : dirty_count (take at old.frames) + room ≡ limit
   pub down : WritesBack (cleaned_selected All at old.frames) old new
+  pub unflushed : FlushesNone old.devices new.devices
 
 -- the current frame is as it was
 pub still_dirty : (at : ℕ) (old new : PoolState)
@@ -123,6 +125,7 @@ none_so_far limit s = record {
     failures = refl;
     same = (refl, refl);
   };
+  unflushed = λ k. refl;
 }
 
 -- ranks

@@ -18,16 +18,19 @@ use Rattle.warm_pool.specs.State.{PoolState, IsPool, IsNowhere, RankedBy, nth_de
 use Rattle.warm_pool.specs.View.{stored, bytes_of, device_view, frame_view, view_of, contents_at, frame_at, HasPage, Holds, PoolView, FrameView}
 use Rattle.warm_pool.specs.Keeping.{KeepsOthers}
 use Rattle.warm_pool.specs.WritingBack.{Cleans, WaitsFor}
+use Rattle.warm_pool.specs.Calls.{FlushesNone}
 use Rattle.warm_pool.specs.PageBytes.{Written}
-use Rattle.warm_pool.specs.Pinning.{AddsFix, IsFrameToLoad, LoadFails, FixRefused, PinRefused, current_slot}
+use Rattle.warm_pool.specs.Pinning.{AddsFix, IsFrameToLoad, LoadFails, LoadRefused, FixRefused, PinRefused, current_slot}
 use Rattle.warm_pool.specs.Lending.{relent, relent_pool}
 use Rattle.warm_pool.specs.Laws.{IsWrittenWhole}
-use Rattle.warm_pool.specs.Zeroing.{KeepsContentsBut, PutsZeros, TakesZeroed, ZeroesInto, ZeroFails, ZeroedRefused, FixesZeros, zeroed_frame}
+use Rattle.warm_pool.specs.Zeroing.{KeepsContentsBut, PutsZeros, TakesZeroed, ZeroesInto, ZeroFails, ZeroedRefused, LeavesUnread, FixesZeros, zeroed_frame}
 use Rattle.warm_pool.proofs.Slots.{at_set}
 use Rattle.warm_pool.proofs.Bytes.{where_is, bytes_held, contents_seen, device_seen, frame_seen, nowhere_seen, absent_seen}
 use Rattle.warm_pool.proofs.Keeps.{Fits, pool_from, set_keeps_pool, stored_honest, ranked_set}
 use Rattle.warm_pool.proofs.Loads.{contents_absent, held_size}
 use Rattle.warm_pool.proofs.Pins.{placed_there}
+use Rattle.warm_pool.proofs.KeepingLemmas.{unwritten}
+use Rattle.warm_pool.proofs.CallLemmas.{same_none}
 use Rattle.warm_pool.proofs.WriteBacks.{cleans_view}
 use Rattle.warm_pool.proofs.FlushLemmas.{if_err}
 use Rattle.warm_pool.proofs.Lents.{refilled_whole, lent_page}
@@ -235,13 +238,15 @@ module _ (s t : PoolState) (i : ℕ) (p : PageId) (key : RankKey) (z : ZeroesInt
     others = z.others;
   }
 
-  pub zeroed_takes : IsNowhere s.frames p → (slot : Slot) → slot.index ≡ i → TakesZeroed s p slot t
-  zeroed_takes away slot at = record {
+  pub zeroed_takes : IsNowhere s.frames p → FlushesNone s.devices t.devices → (slot : Slot)
+      → slot.index ≡ i → TakesZeroed s p slot t
+  zeroed_takes away none slot at = record {
     dirty = ap (λ k. (nth_frame t.frames k).dirty) at ∙ ap (λ fs. (nth_frame fs i).dirty) z.frames ∙ ap (λ f. f.dirty) (get_or-set_same s.frames i came (fresh_frame []) there);
     others = λ j ne. ap (λ fs. nth_frame fs j) z.frames ∙ get_or-set_other s.frames i j came (fresh_frame []) (λ e. ne (e ∙ sym at));
     resident = λ r. absurd (absent_seen s p away r.frame r.holds);
     devices = λ clean. z.devices (sym (ap (λ k. (nth_frame s.frames k).dirty) at) ∙ clean);
     waits = λ _. subst (λ k. WaitsFor s k t.devices) (sym at) z.waits;
+    unflushed = none;
   }
 
 pub zeroed_holds : (h : HistoryView) (old : PoolView) (p : PageId) (slot : Slot) (new : PoolView)
@@ -258,8 +263,24 @@ zeroed_holds h old p slot new x =
 
 -- the write of the page that was in the frame failed
 pub zero_failed : (s t : PoolState) (i : ℕ) (p : PageId) (why : PoolFault) → ZeroFails s i why t
-    → LoadFails s i p why t
-zero_failed s t i p why x = subst (λ y. LoadFails s i p y t) (sym x.0) x.1
+    → LoadFails s s.devices i p why t
+zero_failed s t i p why x = subst (λ y. LoadFails s s.devices i p y t) (sym x.0) x.1
+
+pub zero_leaves : (h : HistoryView) (s t : PoolState) (i : ℕ) → IsFrameToLoad h (view_of s) (Some i)
+    → FlushesNone s.devices t.devices → (why : PoolFault) → ZeroFails s i why t
+    → LeavesUnread h s why t
+zero_leaves h s t i to_load none why x = subst (λ y. LeavesUnread h s y t) (sym x.0) (unwritten h s s.devices t i to_load none x.1)
+
+pub unknown_leaves_unread : (h : HistoryView) (s : PoolState) (p : PageId)
+    → (HasPage (view_of s) p → ⊥) → (why : PoolFault)
+    → LoadRefused h (view_of s) p why (view_of s) → LeavesUnread h s why s
+unknown_leaves_unread h s p hasnt WriteBack refused = absurd (hasnt refused.0)
+unknown_leaves_unread h s p hasnt why refused = refl
+
+pub full_leaves_unread : (h : HistoryView) (s t : PoolState) (i : ℕ) {T : Type 0}
+    (r : Result T PoolFault) → IfErr r (λ why. FixRefused s i why t)
+    → IfErr r (λ why. LeavesUnread h s why t)
+full_leaves_unread h s t i r x = if_err _ _ r x (λ why full. subst (λ y. LeavesUnread h s y t) (sym full.0) (ap (λ u. u.devices) full.2))
 
 -- a refused pin reads no page
 pub unread : (h : HistoryView) (old : PoolView) (p : PageId) (new : PoolView) {T : Type 0}
@@ -291,6 +312,7 @@ fixed_takes s t i p slot holds z = record {
   resident = λ _. z.devices;
   devices = λ _. z.devices;
   waits = λ away. absurd (away i (ap (λ f. f.page) (frame_seen s i) ∙ holds));
+  unflushed = same_none z.devices;
 }
 
 pub written_holds : (old new : PoolView) (slot : Slot) (at : ℕ) (put : List ℕ)

@@ -1,14 +1,16 @@
 -- The effect of flushing the devices of a list.
 use Rattle.std.specs.Prelude.{◌≡◌, ℕ, ◌<◌, ◌≤◌, true, false, List, length, set, Result, OnOk, OnErr}
-use Rattle.warm_devices.specs.Device.{DeviceState, SameShape, one_more}
+use Rattle.warm_devices.specs.Device.{DeviceState, SameShape, CountsSettle, one_more}
 use Rattle.warm_devices.specs.declared.fault.DeviceFault.{DeviceFault}
 use Rattle.warm_pool.specs.State.{nth_device}
 
--- the device has nothing unflushed, and nothing else has changed
+-- the device has nothing unflushed, and nothing else has changed; it was flushed once, where it was
+-- unflushed
 pub record IsFlushed (old new : DeviceState) : Type 0 where
   pub shape : SameShape old new
   pub contents : new.contents ≡ old.contents
   pub failures : new.failures ≡ old.failures
+  pub calls : CountsSettle old new
   pub waiting : new.waiting ≡ false
 
 -- the flush failed: the device is still unflushed, and its count of failures has increased
@@ -17,6 +19,7 @@ pub record FlushFails (old new : DeviceState) : Type 0 where
   pub shape : SameShape old new
   pub contents : new.contents ≡ old.contents
   pub failures : new.failures ≡ one_more old.failures
+  pub calls : CountsSettle old new
   pub waiting : new.waiting ≡ true
 
 -- device k was flushed, where it was unflushed

@@ -8,6 +8,7 @@ pub mod Counting
 pub mod Keeping
 pub mod Opening
 pub mod DeviceCalls
+pub mod Calls
 pub mod Flushes
 pub mod WritingBack
 pub mod WritingSome

@@ -16,8 +16,10 @@ use Rattle.warm_pool.specs.State.{PoolState, RankedBy, nth_device}
 use Rattle.warm_pool.specs.View.{PoolView, device_at, frame_at, view_of, HasPage, IsResident}
 use Rattle.warm_pool.specs.View.{IsAbsent, unfixed_pages}
 use Rattle.warm_pool.specs.Keeping.{FailsAt, KeepsContents, KeepsOthers, KeepsBytes}
-use Rattle.warm_pool.specs.DeviceCalls.{failed_at}
-use Rattle.warm_pool.specs.WritingBack.{CleanFails, WaitsFor}
+use Rattle.warm_devices.specs.Device.{DeviceState}
+use Rattle.warm_pool.specs.Calls.{FlushesNone}
+use Rattle.warm_pool.specs.DeviceCalls.{failed_at, read_at}
+use Rattle.warm_pool.specs.WritingBack.{WriteFails, WaitsFor}
 
 -- The frame for a page
 
@@ -111,15 +113,18 @@ unpinned old slot =
           (record (frame_at old slot.index) { fixes = (frame_at old slot.index).fixes - 1 });
     }
 
--- A page that was resident leaves all bytes unchanged. A page that is loaded changes only the
--- slot's frame, which is then clean, and leaves the devices unchanged unless that frame was dirty:
--- then its page was written back, and its device is unflushed.
+-- A page that was resident leaves all bytes unchanged, and no device is called. A page that is loaded
+-- changes only the slot's frame, which is then clean. It is read once, and no other call of a device
+-- is made unless that frame was dirty: then its page was written back, and its device is unflushed.
+-- No device is flushed.
 pub record TakesFrame (old : PoolState) (p : PageId) (slot : Slot) (new : PoolState) : Type 0 where
   pub others : KeepsOthers slot.index old new
   pub resident : IsResident (view_of old) p → KeepsBytes old new
   pub clean : IsAbsent (view_of old) p → (nth_frame new.frames slot.index).dirty ≡ false
-  pub devices : (nth_frame old.frames slot.index).dirty ≡ false → new.devices ≡ old.devices
+  pub devices : IsAbsent (view_of old) p → (nth_frame old.frames slot.index).dirty ≡ false
+      → new.devices ≡ read_at p.dev old.devices
   pub waits : IsAbsent (view_of old) p → WaitsFor old slot.index new.devices
+  pub unflushed : FlushesNone old.devices new.devices
 
 -- Why a call is refused
 
@@ -159,21 +164,24 @@ PinRefused h old p FixesFull new = (HasPage old p × IsFixesFull old p × (new �
 PinRefused h old p why new = LoadRefused h old p why new
 
 -- The page of the frame into which a page would be loaded is dirty. A write of it was attempted:
--- its device is unflushed, and the other devices are unchanged.
-pub record IsUnwritten (h : HistoryView) (old new : PoolState) : Type 0 where
+-- its device is unflushed, and the other devices are as they were before the write. No device is
+-- flushed.
+pub record IsUnwritten (h : HistoryView) (old : PoolState) (before : List DeviceState)
+    (new : PoolState) : Type 0 where
   pub frame : ℕ
   pub page : PageId
   pub to_load : IsFrameToLoad h (view_of old) (Some frame)
   pub holds : (nth_frame old.frames frame).page ≡ Some page
   pub dirty : (nth_frame old.frames frame).dirty ≡ true
   pub waits : (nth_device new.devices page.dev).waiting ≡ true
-  pub others : (k : ℕ) → k ≢ page.dev → nth_device new.devices k ≡ nth_device old.devices k
+  pub others : (k : ℕ) → k ≢ page.dev → nth_device new.devices k ≡ nth_device before k
+  pub unflushed : FlushesNone old.devices new.devices
 
--- The devices after a refused pin or load. A page is read before the victim is written: where the
--- read fails, a failure is counted, and nothing else has changed.
+-- The devices after a refused pin or load. A page is read, once, before the victim is written: where
+-- the read fails, a failure is counted, and nothing else has changed.
 abbrev pub LeavesDevices : HistoryView → PoolState → PageId → PoolFault → PoolState → Type 0
 LeavesDevices h old p ReadFault new = new.devices ≡ failed_at p.dev old.devices
-LeavesDevices h old p WriteBack new = IsUnwritten h old new
+LeavesDevices h old p WriteBack new = IsUnwritten h old (read_at p.dev old.devices) new
 LeavesDevices h old p why new = new.devices ≡ old.devices
 
 -- The steps of both
@@ -205,7 +213,7 @@ pub record LoadsInto (old : PoolState) (i : ℕ) (p : PageId) (key : RankKey) (n
         dirty = false;
         bytes = bytes;
       })
-  pub devices : (nth_frame old.frames i).dirty ≡ false → new.devices ≡ old.devices
+  pub devices : (nth_frame old.frames i).dirty ≡ false → new.devices ≡ read_at p.dev old.devices
   pub waits : WaitsFor old i new.devices
   pub rest : view_of new
       ≡ record (view_of old) { frames = (view_of new).frames; contents = (view_of new).contents }
@@ -217,8 +225,9 @@ pub record ReadFails (old : PoolState) (p : PageId) (new : PoolState) : Type 0 w
   pub devices : new.devices ≡ failed_at p.dev old.devices
   pub fails : FailsAt (view_of old) p.dev (view_of new)
 
--- the read of the page failed, or the write of the frame's page failed
-abbrev pub LoadFails : PoolState → ℕ → PageId → PoolFault → PoolState → Type 0
-LoadFails old i p ReadFault new = ReadFails old p new
-LoadFails old i p WriteBack new = CleanFails old i new
-LoadFails old i p why new = ⊥
+-- the read of the page failed, or the write of the frame's page failed, before which the devices
+-- were so
+abbrev pub LoadFails : PoolState → List DeviceState → ℕ → PageId → PoolFault → PoolState → Type 0
+LoadFails old before i p ReadFault new = ReadFails old p new
+LoadFails old before i p WriteBack new = WriteFails old before i new
+LoadFails old before i p why new = ⊥

@@ -8,6 +8,7 @@ use Rattle.warm_rank.specs.declared.TheConstants.{MAX_FRAMES}
 use Rattle.warm_pool.specs.declared.TheConstants.{MAX_DEVICES}
 use Rattle.warm_rank.specs.Keys.{rank_key}
 use Rattle.warm_devices.specs.declared.TheConstants.{MAX_PAGE_SIZE}
+use Rattle.warm_devices.specs.Calls.{no_calls}
 use Rattle.warm_devices.specs.Device.{DeviceState, page_at}
 use Rattle.warm_pool.specs.Frames.{FrameState, FramesState, nth_frame, fresh_frame}
 
@@ -48,6 +49,7 @@ no_device =
       contents = [];
       waiting = false;
       failures = 0;
+      calls = no_calls;
       honest = false;
       unfailing = false;
     }

@@ -58,15 +58,21 @@ pub record Cleans (old : PoolState) (i : ℕ) (new : PoolState) : Type 0 where
   pub failures : map (λ d. d.failures) new.devices ≡ map (λ d. d.failures) old.devices
   pub same : (new.page_size ≡ old.page_size) × (new.spare ≡ old.spare)
 
--- the write-back of the frame's page failed; only its device has changed, and it is unflushed
-pub record CleanFails (old : PoolState) (i : ℕ) (new : PoolState) : Type 0 where
+-- The write-back of the frame's page failed. Of the devices as they were before the write, only that
+-- of the page has changed, and it is unflushed.
+pub record WriteFails (old : PoolState) (before : List DeviceState) (i : ℕ) (new : PoolState)
+    : Type 0 where
   pub page : PageId
   pub holds : (nth_frame old.frames i).page ≡ Some page
   pub dirty : (nth_frame old.frames i).dirty ≡ true
   pub frames : new.frames ≡ old.frames
   pub waits : (nth_device new.devices page.dev).waiting ≡ true
-  pub others : (k : ℕ) → k ≢ page.dev → nth_device new.devices k ≡ nth_device old.devices k
+  pub others : (k : ℕ) → k ≢ page.dev → nth_device new.devices k ≡ nth_device before k
   pub fails : FailsAt (view_of old) page.dev (view_of new)
+
+-- the same, where no device was called before the write
+abbrev pub CleanFails : PoolState → ℕ → PoolState → Type 0
+CleanFails old i new = WriteFails old old.devices i new
 
 -- The selected frames: those of one device, of its last pages, or all
 

@@ -12,10 +12,11 @@ use Rattle.warm_pool.specs.FrameSteps.{loaded_frame}
 use Rattle.warm_pool.specs.State.{PoolState}
 use Rattle.warm_pool.specs.View.{PoolView, device_at, frame_at, contents_at, view_of, HasPage}
 use Rattle.warm_pool.specs.View.{IsResident, IsAbsent}
+use Rattle.warm_pool.specs.Calls.{FlushesNone}
 use Rattle.warm_pool.specs.Keeping.{KeepsOthers}
 use Rattle.warm_pool.specs.WritingBack.{CleanFails, WaitsFor}
 use Rattle.warm_pool.specs.PageBytes.{Written}
-use Rattle.warm_pool.specs.Pinning.{AddsFix, IsFrameToLoad, PinRefused}
+use Rattle.warm_pool.specs.Pinning.{AddsFix, IsFrameToLoad, PinRefused, IsUnwritten}
 
 -- The pages of honest devices, and those resident before and after, have the same bytes as before,
 -- all but one page. A page of another device that isn't resident has no bytes here, and one that is
@@ -56,17 +57,23 @@ PinnedZeroed h old p slot new =
 
 -- The slot's frame is dirty, and no other has changed. The devices are unchanged for a page that
 -- was resident, and for another one unless the slot's frame was dirty: then its page was written
--- back, and its device is unflushed.
+-- back, and its device is unflushed. No device is flushed.
 pub record TakesZeroed (old : PoolState) (p : PageId) (slot : Slot) (new : PoolState) : Type 0 where
   pub dirty : (nth_frame new.frames slot.index).dirty ≡ true
   pub others : KeepsOthers slot.index old new
   pub resident : IsResident (view_of old) p → new.devices ≡ old.devices
   pub devices : (nth_frame old.frames slot.index).dirty ≡ false → new.devices ≡ old.devices
   pub waits : IsAbsent (view_of old) p → WaitsFor old slot.index new.devices
+  pub unflushed : FlushesNone old.devices new.devices
 
 -- the refusals of a pin, but that of a failed read: no page is read
 abbrev pub ZeroedRefused : HistoryView → PoolView → PageId → PoolFault → PoolView → Type 0
 ZeroedRefused h old p why new = PinRefused h old p why new × (why ≢ ReadFault)
+
+-- the devices after a refused call: only the write of the victim called one
+abbrev pub LeavesUnread : HistoryView → PoolState → PoolFault → PoolState → Type 0
+LeavesUnread h old WriteBack new = IsUnwritten h old old.devices new
+LeavesUnread h old why new = new.devices ≡ old.devices
 
 -- The steps
 

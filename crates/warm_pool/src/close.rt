@@ -13,6 +13,7 @@ ghost use Rattle.warm_pool.specs.Retiring.{EmptyRefused, Emptied, RetireRefused,
 ghost use Rattle.warm_pool.specs.Retiring.{AreUnfixed, AreClean, IsFixedIn, KeepsElsewhere};
 ghost use Rattle.warm_pool.specs.Retiring.{PreparesRetire, retired};
 ghost use Rattle.warm_pool.specs.HandingBack.{HandsBack, HandsBackOne};
+ghost use Rattle.warm_pool.specs.Calls.{FlushesNone, FlushesOnce};
 ghost use Rattle.warm_pool.specs.Flushes.{NoneWaits};
 ghost use Rattle.warm_pool.specs.declared.fault.PoolFault.TheVariants.{Fault};
 ghost use Rattle.warm_pool.specs.declared.selection.Devices.TheVariants.{All, One};
@@ -58,6 +59,7 @@ impl<D: PageDevice> Pool<D> {
         ensures settled { OnOk result (IsSettled self.new) }
         ensures refused { IfErr result (λ fault. (fault ≡ Fault) × WriteBackFails
             self.old self.new) }
+        ensures once { FlushesOnce self.old.devices self.new.devices }
     {
         self.settle().map_err(|_| PoolFault::Fault)?;
         Ok(())
@@ -75,6 +77,7 @@ impl<D: PageDevice> Pool<D> {
         ensures ranked { KeepsRanks self.old self.new }
         ensures refused { IfErr result (λ fault. EmptyRefused
             self.old fault self.new) }
+        ensures once { FlushesOnce self.old.devices self.new.devices }
     {
         self.write_back_unpinned()?;
         self.frames.vacate_selected(Devices::All);
@@ -208,6 +211,7 @@ impl<D: PageDevice> Pool<D> {
         ensures left { OnErr result (StopsAtDevice dev self.old self.new) }
         ensures elsewhere { KeepsElsewhere dev self.old self.new }
         ensures others { KeepsOtherDevices dev self.old self.new }
+        ensures once { FlushesOnce self.old.devices self.new.devices }
         ensures ranked { KeepsRanks self.old self.new }
     {
         self.clean_selected(Devices::One(dev))?;
@@ -238,6 +242,7 @@ impl<D: PageDevice> Pool<D> {
         ensures flushed { OnOk result (NoneWaits self.new.devices) }
         ensures refused { IfErr result (λ fault. EmptyRefused
             self.old fault self.new) }
+        ensures once { FlushesOnce self.old.devices self.new.devices }
         ensures ranked { KeepsRanks self.old self.new }
     {
         if is_fixed(&self.frames, Devices::All) {
@@ -254,6 +259,7 @@ impl<D: PageDevice> Pool<D> {
         ensures flushed { OnOk result (NoneWaits self.new.devices) }
         ensures stopped { OnErr result (WriteBackFails
             self.old self.new) }
+        ensures once { FlushesOnce self.old.devices self.new.devices }
         ensures ranked { KeepsRanks self.old self.new }
     {
         self.clean_selected(Devices::All)?;
@@ -268,6 +274,7 @@ impl<D: PageDevice> Pool<D> {
         ensures stopped { OnErr result (StopsAt which
             self.old self.new) }
         ensures others { KeepsUnselected which self.old self.new }
+        ensures unflushed { FlushesNone self.old.devices self.new.devices }
     {
         for at in 0..self.frames.len() {
             self.clean_if(at, which)?;
@@ -283,6 +290,7 @@ impl<D: PageDevice> Pool<D> {
         ensures failed { OnErr result (SelectedFails which
             self.old at self.new) }
         ensures others { KeepsUnselected which self.old self.new }
+        ensures unflushed { FlushesNone self.old.devices self.new.devices }
     {
         // Mostly a page is clean: that is seen first, without its number.
         if !self.frames.is_dirty(at) {

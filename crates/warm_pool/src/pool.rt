@@ -12,6 +12,8 @@ ghost use Rattle.warm_pool.specs.State.{IsNowhere, fresh_pool, nth_device};
 ghost use Rattle.warm_pool.specs.View.{view_of, HasPage, IsResident, Holds};
 ghost use Rattle.warm_pool.specs.Keeping.{SameButFailures, KeepsRanks, KeepsBytes, KeepsFrames};
 ghost use Rattle.warm_pool.specs.Keeping.{KeepsOthers};
+ghost use Rattle.warm_pool.specs.Calls.{FlushesNone};
+ghost use Rattle.warm_pool.specs.DeviceCalls.{read_at};
 ghost use Rattle.warm_pool.specs.Opening.{IsUpTo, IsSize, NewPoolRefused};
 ghost use Rattle.warm_pool.specs.WritingBack.{Cleans, CleanFails, KeepsDevicesBut};
 ghost use Rattle.warm_pool.specs.Pinning.{Pinned, PinRefused, Loaded, IsPlaced, LoadRefused};
@@ -215,6 +217,7 @@ impl<D: PageDevice> Pool<D> {
             self.old self.new) }
         ensures devices { IfErr result (λ fault. LeavesDevices history.now
             self.old page fault self.new) }
+        ensures unflushed { FlushesNone self.old.devices self.new.devices }
     {
         let placed = self.pin_placed(page, history)?;
         Ok(placed.slot)
@@ -242,6 +245,7 @@ impl<D: PageDevice> Pool<D> {
             self.old self.new) }
         ensures devices { IfErr result (λ fault. LeavesDevices history.now
             self.old page fault self.new) }
+        ensures unflushed { FlushesNone self.old.devices self.new.devices }
     {
         self.check(page)?;
         match self.frames.find(page) {
@@ -271,6 +275,7 @@ impl<D: PageDevice> Pool<D> {
             self.old self.new) }
         ensures devices { IfErr result (λ fault. LeavesDevices history.now
             self.old page fault self.new) }
+        ensures unflushed { FlushesNone self.old.devices self.new.devices }
     {
         let placed = self.load_placed(page, history)?;
         Ok(placed.slot)
@@ -297,6 +302,7 @@ impl<D: PageDevice> Pool<D> {
             self.old self.new) }
         ensures devices { IfErr result (λ fault. LeavesDevices history.now
             self.old page fault self.new) }
+        ensures unflushed { FlushesNone self.old.devices self.new.devices }
     {
         self.check(page)?;
         match self.frames.find(page) {
@@ -543,6 +549,7 @@ impl<D: PageDevice> Pool<D> {
             self.old self.new) }
         ensures devices { IfErr result (λ fault. LeavesDevices history.now
             self.old page fault self.new) }
+        ensures unflushed { FlushesNone self.old.devices self.new.devices }
     {
         let Some(at) = self.frame_to_load() else {
             return Err(PoolFault::AllFixed);
@@ -577,6 +584,7 @@ impl<D: PageDevice> Pool<D> {
             self.old self.new) }
         ensures devices { IfErr result (λ fault. LeavesDevices history.now
             self.old page fault self.new) }
+        ensures unflushed { FlushesNone self.old.devices self.new.devices }
     {
         let evicted = self.frames.page(at);
         if self.frames.generation(at) < u64::MAX {
@@ -604,8 +612,9 @@ impl<D: PageDevice> Pool<D> {
         requires absent { IsNowhere self.old.frames page }
         ensures put { OnOk result (LoadsInto self.old at page key fixes
             self.new) }
-        ensures refused { IfErr result (λ fault. LoadFails
-            self.old at page fault self.new) }
+        ensures refused { IfErr result (λ fault. LoadFails self.old
+            (read_at page.dev self.old.devices) at page fault self.new) }
+        ensures unflushed { FlushesNone self.old.devices self.new.devices }
     {
         if read_page(&mut self.devices, &mut self.tally, page, &mut self.spare).is_err() {
             return Err(PoolFault::ReadFault);
@@ -642,6 +651,8 @@ pub(crate) fn write_back<D: PageDevice>(
     ensures others { KeepsDevicesBut (nth_frame frames.old.frames at).page
         (pool_over D.state frames.old frames.old.page_size devices.old.items)
         (pool_over D.state frames.new frames.old.page_size devices.new.items) }
+    ensures unflushed { FlushesNone (map D.state devices.old.items)
+        (map D.state devices.new.items) }
 {
     let Some(page) = frames.page(at) else {
         return Ok(());

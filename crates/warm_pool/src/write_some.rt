@@ -3,6 +3,7 @@ ghost use Rattle.std.specs.Prelude.{◌≡◌, ◌<◌, length, OnOk, IfErr, IfO
 ghost use Rattle.warm_pool.specs.Frames.{nth_frame};
 ghost use Rattle.warm_pool.specs.View.{view_of};
 ghost use Rattle.warm_pool.specs.Keeping.{KeepsRanks};
+ghost use Rattle.warm_pool.specs.Calls.{FlushesNone, FlushesOnce};
 ghost use Rattle.warm_pool.specs.Retiring.{KeepsElsewhere};
 ghost use Rattle.warm_pool.specs.WritingSome.{CleansFirst, FlushRefused, IsSettledOn, SomeFails, KeepsOtherDevices};
 ghost use Rattle.warm_pool.specs.WritingSome.{WritesBackSome, dirty_count, one_if, room_after};
@@ -32,6 +33,7 @@ impl<D: PageDevice> Pool<D> {
         ensures written { IfOk result (λ left. WritesBackSome limit self.old left self.new) }
         ensures refused { IfErr result (λ fault. (fault ≡ Fault)
             × SomeFails limit self.old self.new) }
+        ensures unflushed { FlushesNone self.old.devices self.new.devices }
     {
         self.clean_first(limit).map_err(|_| PoolFault::Fault)?;
         Ok(self.dirty())
@@ -53,6 +55,7 @@ impl<D: PageDevice> Pool<D> {
         ensures refused { IfErr result (λ fault. FlushRefused self.old dev fault self.new) }
         ensures elsewhere { KeepsElsewhere dev self.old self.new }
         ensures others { KeepsOtherDevices dev self.old self.new }
+        ensures once { FlushesOnce self.old.devices self.new.devices }
     {
         if dev as usize >= self.devices.len() {
             return Err(PoolFault::NoDevice);
@@ -85,6 +88,7 @@ impl<D: PageDevice> Pool<D> {
         ensures ranked { KeepsRanks self.old self.new }
         ensures down { OnOk result (CleansFirst limit self.old self.new) }
         ensures stopped { OnErr result (SomeFails limit self.old self.new) }
+        ensures unflushed { FlushesNone self.old.devices self.new.devices }
     {
         let mut room = limit;
         for at in 0..self.frames.len() {

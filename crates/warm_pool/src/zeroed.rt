@@ -9,9 +9,10 @@ ghost use Rattle.warm_pool.specs.FrameSteps.{changed_at};
 ghost use Rattle.warm_pool.specs.State.{RankedBy, IsNowhere, nth_device};
 ghost use Rattle.warm_pool.specs.View.{view_of, HasPage, Holds};
 ghost use Rattle.warm_pool.specs.Keeping.{SameButFailures, KeepsRanks, KeepsFrames};
-ghost use Rattle.warm_pool.specs.Pinning.{FixRefused, IsNextFrameToLoad, LeavesDevices, PutRefused};
+ghost use Rattle.warm_pool.specs.Calls.{FlushesNone};
+ghost use Rattle.warm_pool.specs.Pinning.{FixRefused, IsNextFrameToLoad, PutRefused};
 ghost use Rattle.warm_pool.specs.Zeroing.{FixesZeros, PinnedZeroed, PutsZeros, TakesZeroed};
-ghost use Rattle.warm_pool.specs.Zeroing.{ZeroFails, ZeroedRefused, ZeroesInto, zeroed_frame};
+ghost use Rattle.warm_pool.specs.Zeroing.{LeavesUnread, ZeroFails, ZeroedRefused, ZeroesInto, zeroed_frame};
 
 use crate::fault::PoolFault;
 use crate::frames::Frames;
@@ -45,8 +46,9 @@ impl<D: PageDevice> Pool<D> {
             (view_of self.old) page fault (view_of self.new)) }
         ensures stays { OnErr result (SameButFailures (view_of self.old) (view_of self.new)) }
         ensures frames { OnErr result (KeepsFrames self.old self.new) }
-        ensures devices { IfErr result (λ fault. LeavesDevices history.now
-            self.old page fault self.new) }
+        ensures devices { IfErr result (λ fault. LeavesUnread history.now
+            self.old fault self.new) }
+        ensures unflushed { FlushesNone self.old.devices self.new.devices }
     {
         self.check(page)?;
         match self.frames.find(page) {
@@ -83,8 +85,9 @@ impl<D: PageDevice> Pool<D> {
             (view_of self.old) page fault (view_of self.new)) }
         ensures unread { IfErr result (λ fault. fault ≢ ReadFault) }
         ensures frames { OnErr result (KeepsFrames self.old self.new) }
-        ensures devices { IfErr result (λ fault. LeavesDevices history.now
-            self.old page fault self.new) }
+        ensures devices { IfErr result (λ fault. LeavesUnread history.now
+            self.old fault self.new) }
+        ensures unflushed { FlushesNone self.old.devices self.new.devices }
     {
         let Some(at) = self.frame_to_load() else {
             return Err(PoolFault::AllFixed);
@@ -107,8 +110,9 @@ impl<D: PageDevice> Pool<D> {
             (view_of self.old) page fault (view_of self.new)) }
         ensures unread { IfErr result (λ fault. fault ≢ ReadFault) }
         ensures frames { OnErr result (KeepsFrames self.old self.new) }
-        ensures devices { IfErr result (λ fault. LeavesDevices history.now
-            self.old page fault self.new) }
+        ensures devices { IfErr result (λ fault. LeavesUnread history.now
+            self.old fault self.new) }
+        ensures unflushed { FlushesNone self.old.devices self.new.devices }
     {
         if self.frames.generation(at) < u64::MAX {
             let key = rank_of(history, page);
@@ -127,6 +131,7 @@ impl<D: PageDevice> Pool<D> {
         requires absent { IsNowhere self.old.frames page }
         ensures put { OnOk result (ZeroesInto self.old at page key self.new) }
         ensures refused { IfErr result (λ fault. ZeroFails self.old at fault self.new) }
+        ensures unflushed { FlushesNone self.old.devices self.new.devices }
     {
         if write_back(&mut self.frames, &mut self.devices, &mut self.tally, at).is_err() {
             return Err(PoolFault::WriteBack);

@@ -2,6 +2,7 @@
 use Rattle.std.specs.Prelude.{◌≡◌, ◌⊎◌, ℕ, ◌<◌, ◌≤◌, false, List, [], length}
 use Rattle.warm_history.specs.ReferenceSets.{with_horizon}
 use Rattle.warm_history.specs.Histories.{history, history_of_entries_at, references_of}
+use Rattle.warm_pool.specs.Calls.{FlushesNone}
 use Rattle.warm_pool.specs.Forgetting.{ForgetRefused, Forgets, MayForget}
 use Rattle.warm_pool.specs.Frames.{nth_frame}
 use Rattle.warm_pool.specs.Keeping.{KeepsBytes}
@@ -73,6 +74,7 @@ IsClean s = (i : ℕ) → (nth_frame s.frames i).dirty ≡ false
 -- all dirty pages of the shard were written back; no device was flushed
 abbrev pub IsWritten : NodeState → NodeState → Type 0
 IsWritten old new = SameView old new × IsClean new.pool
+    × FlushesNone old.pool.devices new.pool.devices
 
 -- the write of one page failed, after those of the frames before it; other pages are as they were
 abbrev pub WriteFails : NodeState → NodeState → Type 0

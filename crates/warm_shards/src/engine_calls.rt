@@ -3,12 +3,12 @@ ghost use Rattle.std.specs.Prelude.{◌≡◌, ◌<◌, length, IfErr, IfOk, OnE
 ghost use Rattle.warm_gossip.specs.Clauses.{OfPool, SameView};
 ghost use Rattle.warm_gossip.specs.declared.fault.NodeFault.TheVariants.{Pool};
 ghost use Rattle.warm_pool.specs.Keeping.{KeepsFrames, SameButFailures};
-ghost use Rattle.warm_pool.specs.Pinning.{LeavesDevices};
+ghost use Rattle.warm_pool.specs.Calls.{FlushesNone, FlushesOnce};
 ghost use Rattle.warm_pool.specs.Retiring.{KeepsElsewhere, RetireRefused, Retired};
 ghost use Rattle.warm_pool.specs.View.{Holds, view_of};
 ghost use Rattle.warm_pool.specs.WritingSome.{FlushRefused, IsSettledOn, KeepsOtherDevices};
 ghost use Rattle.warm_pool.specs.WritingSome.{SomeFails, WritesBackSome};
-ghost use Rattle.warm_pool.specs.Zeroing.{PinnedZeroed, TakesZeroed, ZeroedRefused};
+ghost use Rattle.warm_pool.specs.Zeroing.{LeavesUnread, PinnedZeroed, TakesZeroed, ZeroedRefused};
 ghost use Rattle.warm_pool.specs.declared.fault.PoolFault.TheVariants.{Fault};
 ghost use Rattle.warm_shards.specs.Clauses.{KeepsKnown, KeepsOthers};
 ghost use Rattle.warm_shards.specs.Shards.{shard_at, shard_of};
@@ -52,8 +52,10 @@ impl<D: PageDevice> Shards<D> {
             OnErr result (KeepsFrames (shard_at self.old i).pool (shard_at self.new i).pool) }
         ensures devices { let i = shard_of (length self.old) page in
             let old = shard_at self.old i in
-            IfErr result (OfPool (λ fault. LeavesDevices old.history old.pool page fault
+            IfErr result (OfPool (λ fault. LeavesUnread old.history old.pool fault
             (shard_at self.new i).pool)) }
+        ensures unflushed { let i = shard_of (length self.old) page in
+            FlushesNone (shard_at self.old i).pool.devices (shard_at self.new i).pool.devices }
         ensures others { KeepsOthers self.old (shard_of (length self.old) page) self.new }
     {
         let shard = self.shard_of(page);
@@ -75,6 +77,8 @@ impl<D: PageDevice> Shards<D> {
             left (shard_at self.new shard).pool) }
         ensures refused { IfErr result (λ why. (why ≡ Pool Fault)
             × SomeFails limit (shard_at self.old shard).pool (shard_at self.new shard).pool) }
+        ensures unflushed { FlushesNone (shard_at self.old shard).pool.devices
+            (shard_at self.new shard).pool.devices }
         ensures others { KeepsOthers self.old shard self.new }
     {
         self.nodes[shard].write_back_some(limit)
@@ -96,6 +100,8 @@ impl<D: PageDevice> Shards<D> {
             (shard_at self.new shard).pool }
         ensures devices { KeepsOtherDevices dev (shard_at self.old shard).pool
             (shard_at self.new shard).pool }
+        ensures once { FlushesOnce (shard_at self.old shard).pool.devices
+            (shard_at self.new shard).pool.devices }
         ensures others { KeepsOthers self.old shard self.new }
     {
         self.nodes[shard].flush_device(dev)

@@ -15,6 +15,7 @@ returns-clause-call g c =
     page_read _ _ _ _ _ _ _ _ (device_is _ _ _ _ c.requires.device c.index_mut.ensures.value) (map-set _ _ _ _) (record {
       shape = c.read-done.ensures.shape;
       faults = c.read-done.ensures.faults;
+      calls = c.read-done.ensures.calls;
       unfailing = c.read-done.ensures.unfailing;
       waiting = c.read-done.ensures.waiting;
       contents = c.read-done.ensures.contents;

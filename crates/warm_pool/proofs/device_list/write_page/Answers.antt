@@ -14,6 +14,7 @@ returns g c =
     page_written _ _ _ _ _ _ _ _ (device_is _ _ _ _ c.requires.device c.index_mut.ensures.value) (map-set _ _ _ _) (record {
       shape = c.write-done.ensures.shape;
       faults = c.write-done.ensures.faults;
+      calls = c.write-done.ensures.calls;
       unfailing = c.write-done.ensures.unfailing;
       waiting = c.write-done.ensures.waiting;
       others = c.write-done.ensures.others;

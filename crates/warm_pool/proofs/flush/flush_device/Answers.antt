@@ -10,4 +10,4 @@ pub returns : goal.returns
 returns g c =
     let flush = c.flush-done.ensures in
     flushes _ c.args.devices.now.items c.args.at c.index.result.now c.index_mut.result.now c.flush-done.new.self c.flush-done.result c.requires c.index.ensures c.index_mut.ensures.value
-    (sym c.waiting.ensures ∙ c.if-not-waiting.false) flush.shape flush.faults flush.unfailing flush.flushed flush.failed flush.contents
+    (sym c.waiting.ensures ∙ c.if-not-waiting.false) flush.shape flush.faults flush.calls flush.unfailing flush.flushed flush.failed flush.contents

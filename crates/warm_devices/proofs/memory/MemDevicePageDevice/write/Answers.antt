@@ -7,15 +7,15 @@ use Rattle.warm_devices.proofs.Pages.{changes-set}
 use Rattle.warm_devices.proofs.Pieces.{page-write, pieces-count}
 use Rattle.warm_devices.proofs.memory.MemDevicePageDevice.write.Goals as goal
 
-is_page : (c : goal.After-self-1) → c.args.no < c.self.inside.pages
+is_page : (c : goal.After-note) → c.args.no < c.self.inside.pages
 is_page c = rw (ap (λ s. s.pages) c.self.view_is) c.requires.known
 
 -- the pages before the write
-before : goal.After-self-1 → List (List ℕ)
+before : goal.After-note → List (List ℕ)
 before c = equal_pieces c.self.inside.pages c.self.inside.page_size c.self.inside.bytes.items
 
 -- the pages after it
-written : (c : goal.After-self-1) → equal_pieces c.self.inside.pages c.self.inside.page_size c.write_at.new.all.items ≡ set (before c) c.args.no c.args.bytes.now
+written : (c : goal.After-note) → equal_pieces c.self.inside.pages c.self.inside.page_size c.write_at.new.all.items ≡ set (before c) c.args.no c.args.bytes.now
 unfolding before
 written c =
     let size = c.self.inside.page_size in

@@ -17,6 +17,7 @@ loop-at-preserved g c =
     record {
       spent = spent_more c.args.limit c.loop-at.at c.loop-at.room _ _ _ (omega (arith, seen)) c.loop-at.invariant is;
       down = down_more All c.loop-at.at _ _ _ (omega (arith, seen)) c.loop-at.invariant.down c.in_ok-clean_if.ensures.down;
+      unflushed = λ k. c.in_ok-clean_if.ensures.unflushed k ∙ c.loop-at.invariant.unflushed k;
     }
 
 pub returns-in_default-clause-down : goal.returns-in_default-clause-down
@@ -54,3 +55,6 @@ pub returns-clause-ranked : goal.returns-clause-ranked
 returns-clause-ranked g c =
     let seen = ap (λ s. length s.frames) c.self.view_is in
     first_ranked c.args.limit _ _ (all_first c.args.limit c.loop-at.at c.loop-at.room _ _ (omega (arith, seen)) (omega (arith, seen)) c.loop-at.invariant)
+
+pub returns-in_err-clean_if-clause-unflushed : goal.returns-in_err-clean_if-clause-unflushed
+returns-in_err-clean_if-clause-unflushed g c = λ k. c.in_err-clean_if.ensures.unflushed k ∙ c.loop-at.invariant.unflushed k

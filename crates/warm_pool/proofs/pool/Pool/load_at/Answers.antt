@@ -2,6 +2,7 @@ use Rattle.std.proofs.Common.{◌≡◌, ◌<◌, length, refl, sym, subst, ◌�
 use Rattle.std.proofs.lemmas.List.{length-set}
 use Rattle.warm_pool.specs.Frames.{nth_frame}
 use Rattle.warm_pool.proofs.PoolSteps.{pool_seen, has_device, has_number, seen_generation}
+use Rattle.warm_pool.specs.DeviceCalls.{read_at}
 use Rattle.warm_pool.specs.View.{view_of}
 use Rattle.warm_pool.specs.Pinning.{PutsIn}
 use Rattle.warm_pool.proofs.Pins.{put_refused, failed_ranked, loaded_ranked, loaded_puts, loaded_slot}
@@ -20,11 +21,11 @@ pub load_into-requires-clause-known : goal.load_into-requires-clause-known
 load_into-requires-clause-known g c = has_number (pool_seen c.self.view_is c.self.invariant) _ c.requires.known
 
 pub returns-in_err-load_into-clause-ranked : goal.returns-in_err-load_into-clause-ranked
-returns-in_err-load_into-clause-ranked g c = failed_ranked c.args.self.now c.load_into.new.self c.args.at c.args.page _ c.in_err-load_into.ensures.refused c.args.history.now c.requires.ranked
+returns-in_err-load_into-clause-ranked g c = failed_ranked c.args.self.now (read_at c.args.page.dev c.args.self.now.devices) c.load_into.new.self c.args.at c.args.page _ c.in_err-load_into.ensures.refused c.args.history.now c.requires.ranked
 
 pub returns-in_err-load_into-clause-refused : goal.returns-in_err-load_into-clause-refused
 returns-in_err-load_into-clause-refused g c =
-    handed_on c.from_residual.result c.in_err-load_into.field-0.0 _ c.from_residual.ensures.1 (put_refused c.args.self.now c.load_into.new.self c.args.history.now c.args.at c.args.page (c.requires.to_load _ c.requires.ranked)
+    handed_on c.from_residual.result c.in_err-load_into.field-0.0 _ c.from_residual.ensures.1 (put_refused c.args.self.now (read_at c.args.page.dev c.args.self.now.devices) c.load_into.new.self c.args.history.now c.args.at c.args.page (c.requires.to_load _ c.requires.ranked)
     (subst (λ n. n < 18446744073709551615) (c.generation.ensures ∙ ap (λ s. (nth_frame s.frames c.args.at).generation) c.self.view_is) c.if-generation-lt18446744073709551615.true)
     _ c.in_err-load_into.ensures.refused)
 
@@ -56,10 +57,10 @@ returns-clause-refused g c =
 
 pub returns-then-generation-lt18446744073709551615-clause-frame : goal.returns-then-generation-lt18446744073709551615-clause-frame
 returns-then-generation-lt18446744073709551615-clause-frame g c =
-    loaded_takes _ _ c.args.at c.args.page c.rank_of-key.result c.args.fixes c.in_ok-load_into.ensures.put c.requires.there c.requires.absent _ (ap (λ x. x.index) c.slot_at-slot.ensures)
+    loaded_takes _ _ c.args.at c.args.page c.rank_of-key.result c.args.fixes c.in_ok-load_into.ensures.put c.requires.there c.requires.absent c.in_ok-load_into.ensures.unflushed _ (ap (λ x. x.index) c.slot_at-slot.ensures)
 
 pub returns-in_err-load_into-clause-devices : goal.returns-in_err-load_into-clause-devices
-returns-in_err-load_into-clause-devices g c = handed_on c.from_residual.result c.in_err-load_into.field-0.0 _ c.from_residual.ensures.1 (failed_leaves c.args.history.now c.args.self.now _ c.args.at c.args.page (c.requires.to_load _ c.requires.ranked) _ c.in_err-load_into.ensures.refused)
+returns-in_err-load_into-clause-devices g c = handed_on c.from_residual.result c.in_err-load_into.field-0.0 _ c.from_residual.ensures.1 (failed_leaves c.args.history.now c.args.self.now _ c.args.at c.args.page (c.requires.to_load _ c.requires.ranked) c.in_err-load_into.ensures.unflushed _ c.in_err-load_into.ensures.refused)
 
 pub slot_at-slot-requires : goal.slot_at-slot-requires
 slot_at-slot-requires g c =

@@ -1,7 +1,7 @@
 use Rattle.std.proofs.Common.{◌<◌, ◌∙◌, ap, refl, length, sym, subst}
 use Rattle.warm_pool.specs.Frames.{nth_frame}
 use Rattle.warm_pool.proofs.Loads.{ok_if_no_err, err_if, on_ok, on_err}
-use Rattle.warm_pool.proofs.Arrivals.{fetched_in, fetched_pool, fetch_failed, leave_failed, still_there, still_below, still_size, arrived_pool, loads_into}
+use Rattle.warm_pool.proofs.Arrivals.{fetched_in, fetched_pool, fetched_none, fetch_failed, leave_failed, still_there, still_below, still_size, arrived_pool, loads_into}
 use Rattle.warm_pool.proofs.pool.Pool.load_into.Goals as goal
 
 pub page-requires : goal.page-requires
@@ -39,3 +39,12 @@ invariant_of-self-2 g c =
 pub returns-clause-put : goal.returns-clause-put
 returns-clause-put g c = rw (← c.self.view_is) (
     loads_into (fetched_in c.args.at c.self.view_is c.self.invariant c.requires.there c.read_page.ensures.len c.requires.device c.requires.known c.requires.absent c.read_page.ensures.call) (ok_if_no_err _ c.if-is_err.ensures.value) c.write_back.new.frames c.write_back.ensures.fit (on_ok _ (ok_if_no_err _ c.if-is_err-2.ensures.value) c.write_back.ensures.done) c.args.key c.args.fixes c.read_page.new.into.items refl c.install.new.self _ c.install.ensures.frames)
+
+pub returns-then-is_err-clause-unflushed : goal.returns-then-is_err-clause-unflushed
+returns-then-is_err-clause-unflushed g c = rw (← c.self.view_is) (fetched_none (fetched_in c.args.at c.self.view_is c.self.invariant c.requires.there c.read_page.ensures.len c.requires.device c.requires.known c.requires.absent c.read_page.ensures.call))
+
+pub returns-then-is_err-2-clause-unflushed : goal.returns-then-is_err-2-clause-unflushed
+returns-then-is_err-2-clause-unflushed g c = rw (← c.self.view_is) (λ k. c.write_back.ensures.unflushed k ∙ fetched_none (fetched_in c.args.at c.self.view_is c.self.invariant c.requires.there c.read_page.ensures.len c.requires.device c.requires.known c.requires.absent c.read_page.ensures.call) k)
+
+pub returns-clause-unflushed : goal.returns-clause-unflushed
+returns-clause-unflushed g c = rw (← c.self.view_is) (λ k. c.write_back.ensures.unflushed k ∙ fetched_none (fetched_in c.args.at c.self.view_is c.self.invariant c.requires.there c.read_page.ensures.len c.requires.device c.requires.known c.requires.absent c.read_page.ensures.call) k)

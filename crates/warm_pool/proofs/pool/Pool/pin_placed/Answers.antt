@@ -7,6 +7,7 @@ use Rattle.warm_pool.proofs.Pins.{puts_holds, pin_put_refused, stays_put, pin_fu
 use Rattle.warm_pool.proofs.KeepingLemmas.{unknown_leaves, full_leaves, stays_in_frame}
 use Rattle.warm_pool.proofs.FlushLemmas.{handed_on, if_ok, if_both}
 use Rattle.warm_pool.proofs.PlacedLemmas.{placed_fixed, placed_loaded}
+use Rattle.warm_pool.proofs.CallLemmas.{same_none}
 use Rattle.warm_pool.proofs.pool.Pool.pin_placed.Goals as goal
 
 pub add_fix-requires-clause-there : goal.add_fix-requires-clause-there
@@ -67,3 +68,6 @@ pub returns-in-None-clause-evicted : goal.returns-in-None-clause-evicted
 returns-in-None-clause-evicted g c =
     if_both _ _ (λ placed. IsPlaced (view_of c.args.self.now) c.args.page placed (view_of c.load_absent.new.self)) _ c.load_absent.ensures.put c.load_absent.ensures.evicted
     (λ placed puts evicted. placed_loaded (pool_seen c.self.view_is c.self.invariant) c.args.history.now _ c.args.page 1 placed puts evicted)
+
+pub returns-in-Some-clause-unflushed : goal.returns-in-Some-clause-unflushed
+returns-in-Some-clause-unflushed g c = same_none c.add_fix.ensures.kept.devices

@@ -4,9 +4,9 @@ use Rattle.warm_pool.specs.Zeroing.{PinnedZeroed, TakesZeroed}
 use Rattle.warm_pool.specs.declared.slot.Slot.{Slot}
 use Rattle.warm_pool.proofs.PoolSteps.{pool_seen, place_seen, found_there, found_holds, found_nowhere}
 use Rattle.warm_pool.proofs.Pins.{pin_put_refused, stays_put, pin_full, full_stays}
-use Rattle.warm_pool.proofs.KeepingLemmas.{unknown_leaves, full_leaves}
+use Rattle.warm_pool.proofs.CallLemmas.{zeros_none}
 use Rattle.warm_pool.proofs.FlushLemmas.{handed_on, if_ok}
-use Rattle.warm_pool.proofs.Zeroes.{zeroed_holds, unread, unknown_unread, full_unread, fixed_takes}
+use Rattle.warm_pool.proofs.Zeroes.{zeroed_holds, unread, unknown_unread, full_unread, fixed_takes, unknown_leaves_unread, full_leaves_unread}
 use Rattle.warm_pool.proofs.pool.Pool.pin_zeroed.Goals as goal
 
 pub fix_zeroed-requires-clause-there : goal.fix_zeroed-requires-clause-there
@@ -35,7 +35,7 @@ pub returns-in-Some-clause-stays : goal.returns-in-Some-clause-stays
 returns-in-Some-clause-stays g c = full_stays c.args.self.now c.fix_zeroed.new.self c.in-Some.at _ c.fix_zeroed.ensures.refused
 
 pub returns-in-Some-clause-devices : goal.returns-in-Some-clause-devices
-returns-in-Some-clause-devices g c = full_leaves c.args.history.now c.args.self.now c.fix_zeroed.new.self c.in-Some.at c.args.page _ c.fix_zeroed.ensures.refused
+returns-in-Some-clause-devices g c = full_leaves_unread c.args.history.now c.args.self.now c.fix_zeroed.new.self c.in-Some.at _ c.fix_zeroed.ensures.refused
 
 pub zero_absent-requires-clause-absent : goal.zero_absent-requires-clause-absent
 zero_absent-requires-clause-absent g c = found_nowhere (pool_seen c.self.view_is c.self.invariant) _ (place_seen c.self.view_is c.args.page None c.in-None.ensures)
@@ -58,7 +58,10 @@ returns-in-None-clause-stays g c =
     stays_put c.args.self.now c.zero_absent.new.self c.args.history.now c.args.page c.in_ok-check.ensures.known _ c.zero_absent.ensures.refused
 
 pub returns-in_err-check-clause-devices : goal.returns-in_err-check-clause-devices
-returns-in_err-check-clause-devices g c = handed_on c.from_residual.result c.in_err-check.field-0.0 _ c.from_residual.ensures.1 (unknown_leaves c.args.history.now c.args.self.now c.args.page c.in_err-check.ensures.unknown _ (c.in_err-check.ensures.load c.args.history.now))
+returns-in_err-check-clause-devices g c = handed_on c.from_residual.result c.in_err-check.field-0.0 _ c.from_residual.ensures.1 (unknown_leaves_unread c.args.history.now c.args.self.now c.args.page c.in_err-check.ensures.unknown _ (c.in_err-check.ensures.load c.args.history.now))
 
 pub returns-in_err-check-clause-refused : goal.returns-in_err-check-clause-refused
 returns-in_err-check-clause-refused g c = handed_on c.from_residual.result c.in_err-check.field-0.0 _ c.from_residual.ensures.1 (unknown_unread c.args.history.now c.args.self.now c.args.page c.in_err-check.ensures.unknown _ (c.in_err-check.ensures.pin c.args.history.now))
+
+pub returns-in-Some-clause-unflushed : goal.returns-in-Some-clause-unflushed
+returns-in-Some-clause-unflushed g c = zeros_none c.args.self.now c.fix_zeroed.new.self c.in-Some.at _ c.fix_zeroed.ensures.fixed c.fix_zeroed.ensures.refused

@@ -1,9 +1,12 @@
-use Rattle.std.proofs.Common.{refl, arith}
+use Rattle.std.proofs.Common.{refl, sym, subst, arith}
 use Rattle.std.proofs.lemmas.List.{length-map}
 use Rattle.warm_pool.proofs.FlushLemmas.{on_err}
 use Rattle.warm_pool.proofs.SettleLemmas.{ranked_to, seen_down, flush_down, flushed_alike, flushed_failures, flushed_quiet, stopped_alike, flush_stops_at, alike_kept}
 use Rattle.warm_pool.proofs.Keeps.{devices_keep_pool}
 use Rattle.warm_pool.specs.declared.selection.Devices.TheVariants.{All}
+use Rattle.warm_pool.specs.State.{PoolState}
+use Rattle.warm_pool.specs.Calls.{FlushesNone}
+use Rattle.warm_pool.proofs.CallLemmas.{stopped_once, all_once}
 use Rattle.warm_pool.proofs.pool.Pool.settle.Goals as goal
 
 pub returns-in_err-clean_selected-clause-ranked : goal.returns-in_err-clean_selected-clause-ranked
@@ -32,3 +35,12 @@ returns-clause-flushed g c = flushed_quiet _ _ _ (rw length-map (omega arith)) c
 
 pub returns-clause-ranked : goal.returns-clause-ranked
 returns-clause-ranked g c = λ h ranked. ranked_to All _ _ _ h (seen_down c.self.view_is c.in_ok-clean_selected.ensures.down).becomes ranked
+
+pub returns-in_err-clean_selected-clause-once : goal.returns-in_err-clean_selected-clause-once
+returns-in_err-clean_selected-clause-once g c = λ k. let same = c.in_err-clean_selected.ensures.unflushed k in omega (arith, same)
+
+pub returns-in_err-flush_all-clause-once : goal.returns-in_err-flush_all-clause-once
+returns-in_err-flush_all-clause-once g c = stopped_once c.args.self.now.devices _ _ (subst (λ (s : PoolState). FlushesNone c.args.self.now.devices s.devices) (sym c.self.view_is) c.in_ok-clean_selected.ensures.unflushed) c.in_err-flush_all.ensures.stopped
+
+pub returns-clause-once : goal.returns-clause-once
+returns-clause-once g c = all_once c.args.self.now.devices _ _ (subst (λ (s : PoolState). FlushesNone c.args.self.now.devices s.devices) (sym c.self.view_is) c.in_ok-clean_selected.ensures.unflushed) _ c.in_ok-flush_all.ensures.flushed

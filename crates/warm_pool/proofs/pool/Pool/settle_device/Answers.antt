@@ -1,5 +1,6 @@
-use Rattle.std.proofs.Common.{refl, ap, ◌∙◌, inl, inr}
-use Rattle.warm_pool.specs.State.{nth_device}
+use Rattle.std.proofs.Common.{refl, sym, subst, ap, ◌∙◌, inl, inr, arith}
+use Rattle.warm_pool.specs.State.{PoolState, nth_device}
+use Rattle.warm_pool.specs.Calls.{FlushesNone}
 use Rattle.warm_pool.proofs.FlushLemmas.{on_err}
 use Rattle.warm_pool.proofs.Keeps.{devices_keep_pool}
 use Rattle.warm_pool.proofs.OtherDevices.{off_device, flushed_others}
@@ -7,6 +8,7 @@ use Rattle.warm_pool.proofs.SettleLemmas.{ranked_to, seen_down}
 use Rattle.warm_pool.proofs.HandedBack.{stops_at_flush}
 use Rattle.warm_pool.proofs.RetireLemmas.{down_there, flush_one_down, flush_one_fails, one_kept, elsewhere_cleaned}
 use Rattle.warm_pool.specs.declared.selection.Devices.TheVariants.{One}
+use Rattle.warm_pool.proofs.CallLemmas.{device_once}
 use Rattle.warm_pool.proofs.pool.Pool.settle_device.Goals as goal
 
 pub returns-in_err-clean_selected-clause-ranked : goal.returns-in_err-clean_selected-clause-ranked
@@ -69,3 +71,16 @@ pub returns-in_err-flush_device-clause-left : goal.returns-in_err-flush_device-c
 returns-in_err-flush_device-clause-left g c =
     let call = c.in_err-flush_device.ensures in
     on_err _ _ (inr (stops_at_flush c.args.dev _ _ _ call.after (seen_down c.self.view_is c.in_ok-clean_selected.ensures.down) c.requires.there refl (refl, refl) call.becomes call.failed))
+
+pub returns-in_err-clean_selected-clause-once : goal.returns-in_err-clean_selected-clause-once
+returns-in_err-clean_selected-clause-once g c = λ k. let same = c.in_err-clean_selected.ensures.unflushed k in omega (arith, same)
+
+pub returns-in_err-flush_device-clause-once : goal.returns-in_err-flush_device-clause-once
+returns-in_err-flush_device-clause-once g c =
+    let call = c.in_err-flush_device.ensures in
+    device_once c.args.self.now.devices _ _ (subst (λ (s : PoolState). FlushesNone c.args.self.now.devices s.devices) (sym c.self.view_is) c.in_ok-clean_selected.ensures.unflushed) c.args.dev call.after (down_there (seen_down c.self.view_is c.in_ok-clean_selected.ensures.down) c.requires.there) call.becomes call.failed.calls
+
+pub returns-clause-once : goal.returns-clause-once
+returns-clause-once g c =
+    let call = c.in_ok-flush_device.ensures in
+    device_once c.args.self.now.devices _ _ (subst (λ (s : PoolState). FlushesNone c.args.self.now.devices s.devices) (sym c.self.view_is) c.in_ok-clean_selected.ensures.unflushed) c.args.dev call.after (down_there (seen_down c.self.view_is c.in_ok-clean_selected.ensures.down) c.requires.there) call.becomes call.done.calls

@@ -5,9 +5,8 @@ use Rattle.warm_pool.specs.View.{view_of}
 use Rattle.warm_pool.specs.Zeroing.{PutsZeros}
 use Rattle.warm_pool.proofs.PoolSteps.{pool_seen, has_device, has_number, seen_generation}
 use Rattle.warm_pool.proofs.Pins.{put_refused, failed_ranked}
-use Rattle.warm_pool.proofs.KeepingLemmas.{failed_leaves}
 use Rattle.warm_pool.proofs.FlushLemmas.{handed_on}
-use Rattle.warm_pool.proofs.Zeroes.{zero_failed, zero_unread, zeroed_ranked, zeroed_slot, zeroed_puts, zeroed_takes}
+use Rattle.warm_pool.proofs.Zeroes.{zero_failed, zero_leaves, zero_unread, zeroed_ranked, zeroed_slot, zeroed_puts, zeroed_takes}
 use Rattle.warm_pool.proofs.pool.Pool.zero_at.Goals as goal
 
 pub zero_into-requires-clause-below : goal.zero_into-requires-clause-below
@@ -21,16 +20,16 @@ pub zero_into-requires-clause-known : goal.zero_into-requires-clause-known
 zero_into-requires-clause-known g c = has_number (pool_seen c.self.view_is c.self.invariant) _ c.requires.known
 
 pub returns-in_err-zero_into-clause-ranked : goal.returns-in_err-zero_into-clause-ranked
-returns-in_err-zero_into-clause-ranked g c = failed_ranked c.args.self.now c.zero_into.new.self c.args.at c.args.page _ (zero_failed _ _ _ _ _ c.in_err-zero_into.ensures.refused) c.args.history.now c.requires.ranked
+returns-in_err-zero_into-clause-ranked g c = failed_ranked c.args.self.now c.args.self.now.devices c.zero_into.new.self c.args.at c.args.page _ (zero_failed _ _ _ _ _ c.in_err-zero_into.ensures.refused) c.args.history.now c.requires.ranked
 
 pub returns-in_err-zero_into-clause-refused : goal.returns-in_err-zero_into-clause-refused
 returns-in_err-zero_into-clause-refused g c =
-    handed_on c.from_residual.result c.in_err-zero_into.field-0.0 _ c.from_residual.ensures.1 (put_refused c.args.self.now c.zero_into.new.self c.args.history.now c.args.at c.args.page (c.requires.to_load _ c.requires.ranked)
+    handed_on c.from_residual.result c.in_err-zero_into.field-0.0 _ c.from_residual.ensures.1 (put_refused c.args.self.now c.args.self.now.devices c.zero_into.new.self c.args.history.now c.args.at c.args.page (c.requires.to_load _ c.requires.ranked)
     (subst (λ n. n < 18446744073709551615) (c.generation.ensures ∙ ap (λ s. (nth_frame s.frames c.args.at).generation) c.self.view_is) c.if-generation-lt18446744073709551615.true)
     _ (zero_failed _ _ _ _ _ c.in_err-zero_into.ensures.refused))
 
 pub returns-in_err-zero_into-clause-devices : goal.returns-in_err-zero_into-clause-devices
-returns-in_err-zero_into-clause-devices g c = handed_on c.from_residual.result c.in_err-zero_into.field-0.0 _ c.from_residual.ensures.1 (failed_leaves c.args.history.now c.args.self.now _ c.args.at c.args.page (c.requires.to_load _ c.requires.ranked) _ (zero_failed _ _ _ _ _ c.in_err-zero_into.ensures.refused))
+returns-in_err-zero_into-clause-devices g c = handed_on c.from_residual.result c.in_err-zero_into.field-0.0 _ c.from_residual.ensures.1 (zero_leaves c.args.history.now c.args.self.now _ c.args.at (c.requires.to_load _ c.requires.ranked) c.in_err-zero_into.ensures.unflushed _ c.in_err-zero_into.ensures.refused)
 
 pub returns-then-generation-lt18446744073709551615-clause-ranked : goal.returns-then-generation-lt18446744073709551615-clause-ranked
 returns-then-generation-lt18446744073709551615-clause-ranked g c =
@@ -49,7 +48,7 @@ returns-then-generation-lt18446744073709551615-clause-put g c =
 
 pub returns-then-generation-lt18446744073709551615-clause-frame : goal.returns-then-generation-lt18446744073709551615-clause-frame
 returns-then-generation-lt18446744073709551615-clause-frame g c =
-    zeroed_takes c.args.self.now c.zero_into.new.self c.args.at c.args.page c.rank_of-key.result c.in_ok-zero_into.ensures.put c.requires.there c.requires.absent _ (ap (λ x. x.index) c.slot_at.ensures)
+    zeroed_takes c.args.self.now c.zero_into.new.self c.args.at c.args.page c.rank_of-key.result c.in_ok-zero_into.ensures.put c.requires.there c.requires.absent c.in_ok-zero_into.ensures.unflushed _ (ap (λ x. x.index) c.slot_at.ensures)
 
 pub slot_at-requires : goal.slot_at-requires
 slot_at-requires g c =

@@ -65,3 +65,9 @@ returns-clause-put g c = rw (← c.self.view_is) (
     c.write_back.new.frames c.write_back.ensures.fit (on_ok _ (ok_if_no_err _ c.if-is_err.ensures.value) c.write_back.ensures.done)
     _ c.self.invariant.spare_size c.install_zeros.new.frames (length c.install_zeros.new.bytes.items) c.install_zeros.ensures.frames in
     record { frames = x.frames; devices = x.devices; waits = x.waits; rest = x.rest; zeros = x.zeros; others = x.others })
+
+pub returns-then-is_err-clause-unflushed : goal.returns-then-is_err-clause-unflushed
+returns-then-is_err-clause-unflushed g c = rw (← c.self.view_is) c.write_back.ensures.unflushed
+
+pub returns-clause-unflushed : goal.returns-clause-unflushed
+returns-clause-unflushed g c = rw (← c.self.view_is) c.write_back.ensures.unflushed
