@@ -1,5 +1,5 @@
 //! The calls that the READMEs of the libraries show under "One call", each compiled, proved and
-//! run.
+//! run; and, in `names`, each call of the specification by its own name.
 //!
 //! `scripts/check-docs` compares: the lines of each README stand in `readmes/`, one after the other.
 mod devices;
@@ -9,7 +9,6 @@ mod frames;
 mod gossip;
 mod history;
 mod kit;
-mod play_fault;
 mod pool;
 mod random;
 mod rank;
