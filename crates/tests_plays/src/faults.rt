@@ -87,22 +87,6 @@ fn faults_of_what_is_read_are_shown_by_their_names(rt: HostRuntime) {
     assert!(rt; displays(rt.alloc(), &NotForWorker, "NotForWorker"));
 }
 
-const PLAY: [(PlayFault, &str); 6] = [
-    (PlayFault::Memory, "Memory"),
-    (PlayFault::ReadFault, "ReadFault"),
-    (PlayFault::WriteFault, "WriteFault"),
-    (PlayFault::BadLine(7), "BadLine"),
-    (PlayFault::NoThread, "NoThread"),
-    (PlayFault::BadDevices, "BadDevices"),
-];
-
-#[test]
-fn play_faults_are_shown_by_their_names(rt: HostRuntime) {
-    for (fault, want) in PLAY {
-        assert!(rt; displays(rt.alloc(), &fault, want));
-    }
-}
-
 #[test]
 fn faults_of_a_run_show_their_part(rt: HostRuntime) {
     let alloc = rt.alloc();

@@ -1,5 +1,5 @@
 //! The calls that the READMEs of the libraries show under "One call", each compiled, proved and
-//! run; and, in `names`, each call of the specification by its own name.
+//! run.
 //!
 //! `scripts/check-docs` compares: the lines of each README stand in `readmes/`, one after the other.
 mod devices;
