@@ -11,7 +11,10 @@ fn are_given_back(rt: &impl Abort, alloc: Global, first: u64, second: u64) -> bo
         entry(page(first), once(10, 1)),
         entry(page(second), once(10, 1)),
     ];
-    let list = both.to_vec(alloc).expect(rt, "memory for entries");
+    let list = both
+        .as_slice()
+        .to_vec(alloc)
+        .expect(rt, "memory for entries");
     match EntryList::of(list) {
         Ok(_) => false,
         Err(back) => back.as_slice() == both.as_slice(),

@@ -164,8 +164,8 @@ fn use_frames(rt: &impl Abort, alloc: Global) -> Result<()> {
     assert!(rt; matches!(frame, Frame::Want { horizon: 12, .. }));
     let mut decoder = Decoder::new(alloc);
     let (front, back) = bytes.as_slice().split_at(26);
-    decoder.feed(front)?;
-    assert!(rt; decoder.finish() == Err(FrameFault::Truncated));
+    let part = decoder.feed(front)?;
+    assert!(rt; part.taken == 26 && decoder.finish() == Err(FrameFault::Truncated));
     let fed: Fed = decoder.feed(back)?;
     assert!(rt; fed.taken == 1 && fed.message.is_some() && decoder.finish() == Ok(()));
     assert!(rt; decoder.feed(&[0x4D, 0, 0, 0]).err() == Some(FrameFault::BadMagic));
@@ -253,10 +253,7 @@ fn fresh_pool(rt: &impl Abort, alloc: Global) -> Pool<MemDevice>
 }
 
 // Writes two bytes into a slot's page; returns whether the slot holds it and takes them.
-fn writes(pool: &mut Pool<MemDevice>, history: &History, slot: Slot) -> bool
-    requires { RankedBy pool.old history.now }
-    ensures { RankedBy pool.new history.now }
-{
+fn writes(pool: &mut Pool<MemDevice>, slot: Slot) -> bool {
     if !pool.holds(slot) {
         return false;
     }
@@ -274,10 +271,7 @@ fn reads(pool: &Pool<MemDevice>, slot: Slot) -> bool {
         && bytes == [1, 2]
 }
 
-fn unpins(pool: &mut Pool<MemDevice>, history: &History, slot: Slot) -> bool
-    requires { RankedBy pool.old history.now }
-    ensures { RankedBy pool.new history.now }
-{
+fn unpins(pool: &mut Pool<MemDevice>, slot: Slot) -> bool {
     if !pool.holds(slot) {
         return false;
     }
@@ -285,17 +279,24 @@ fn unpins(pool: &mut Pool<MemDevice>, history: &History, slot: Slot) -> bool
     true
 }
 
-// 0:3 is pinned, written and read; 0:5 is loaded, and leaves first.
+// 0:3 is pinned and 0:5 loaded.
+fn placed(rt: &impl Abort, pool: &mut Pool<MemDevice>, history: &History) -> (Slot, Slot)
+    requires { RankedBy pool.old history.now }
+{
+    let pinned = pool.pin(page(3), history).expect(rt, "a frame is free");
+    let loaded = pool.load(page(5), history).expect(rt, "a frame is free");
+    (pinned, loaded)
+}
+
+// 0:3 is written and read; 0:5 leaves first.
 fn use_frames_of_a_pool(rt: &impl Abort, pool: &mut Pool<MemDevice>, history: &History)
     requires { RankedBy pool.old history.now }
-    ensures { RankedBy pool.new history.now }
 {
-    let slot = pool.pin(page(3), history).expect(rt, "a frame is free");
-    assert!(rt; slot.index == 0 && slot.generation == 1);
-    assert!(rt; writes(pool, history, slot) && reads(pool, slot));
-    let loaded = pool.load(page(5), history).expect(rt, "a frame is free");
-    assert!(rt; loaded.index == 1 && !pool.holds(loaded) && pool.victim() == Some(page(5)));
-    assert!(rt; unpins(pool, history, slot) && !pool.holds(slot));
+    let (slot, loaded) = placed(rt, pool, history);
+    assert!(rt; slot.index == 0 && slot.generation == 1 && loaded.index == 1);
+    assert!(rt; writes(pool, slot) && reads(pool, slot));
+    assert!(rt; !pool.holds(loaded) && pool.victim() == Some(page(5)));
+    assert!(rt; unpins(pool, slot) && !pool.holds(slot));
     assert!(rt; pool.frames() == 2 && pool.has(page(7)) && !pool.has(page(8)));
     pool.refresh(history, &[page(3)]);
     pool.refresh_all(history);
