@@ -18,7 +18,7 @@ use std::alloc::Global;
 use std::io::Read;
 use warm_devices::{Flaky, MemDevice};
 use warm_history::History;
-use warm_schedule::play;
+use warm_player::play;
 use warm_stamps::{PageId, Reference, ReplicaId, Stamp};
 use warm_world::Setup;
 

@@ -10,6 +10,7 @@ mod dumps;
 mod frames;
 mod kept;
 mod lines;
+mod pools;
 mod shards;
 mod sizes;
 mod worlds;
@@ -21,8 +22,10 @@ use crate::promised::shards::Sharded;
 use std::alloc::Global;
 use std::io::Print;
 use warm_devices::MemDevice;
+use warm_history::History;
 use warm_rank::Contest;
 use warm_stamps::ByteList;
+use warm_turn::{Counter, Turn};
 
 pub(crate) fn play<P: Print>(rt: &P, met: &mut Met, alloc: Global) -> Result<(), Ended> {
     sizes::rows(rt, met, alloc)?;
@@ -33,14 +36,22 @@ pub(crate) fn play<P: Print>(rt: &P, met: &mut Met, alloc: Global) -> Result<(),
     bytes.extend_from_slice(b"warm")?;
     let made = Made::new(alloc)?;
     let contest = Contest::new(alloc, 2)?;
-    let world = worlds::changed(met, alloc)?;
+    let (world, text) = worlds::changed(met, alloc)?;
+    let pool = pools::opened(alloc)?;
+    let history = History::new(alloc);
+    let device = MemDevice::new(alloc, 4, 16)?;
+    let Ok((turn, pass)) = Turn::new(alloc, Counter { total: 0 }) else {
+        return Err(Ended::NoMemory);
+    };
     let sharded = Sharded::new(alloc)?;
     // from here on nothing is allocated
     calls::rows(rt, met, &mut node, ByteList::of(bytes))?;
     sharded.rows(rt, met, alloc)?;
     made.rows(rt, met)?;
     calls::contested(rt, met, contest)?;
-    worlds::rows(rt, met, world)?;
+    worlds::rows(rt, met, world, text)?;
+    pools::rows(rt, met, pool, &history, device)?;
+    pools::turned(rt, met, turn, pass)?;
     kept.rows(rt, met)?;
     frames::rows(rt, met, alloc)?;
     lines::rows(rt, met, alloc)?;

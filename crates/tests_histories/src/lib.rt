@@ -24,6 +24,8 @@ mod dump_streams;
 #[cfg(test)]
 mod dumps;
 #[cfg(test)]
+mod falling;
+#[cfg(test)]
 mod faults;
 #[cfg(test)]
 mod frames;

@@ -57,3 +57,13 @@ fn a_flaky_device_settles_as_it_is_dropped(rt: HostRuntime) {
     assert!(rt; found_as_call_fails(&rt, rt.alloc(), 2) == Found::Waiting);
     assert!(rt; found_as_call_fails(&rt, rt.alloc(), 3) == Found::Settled);
 }
+
+// The second call is the flush that `settle` makes, and it does not reach the device below.
+#[test]
+fn a_flush_of_settle_that_fails_reaches_no_device(rt: HostRuntime) {
+    let (device, note) = noting(&rt, rt.alloc(), 1, 1);
+    let mut device = Flaky::new(device, 2);
+    assert!(rt; device.write(0, &[5]) == Ok(()) && device.failures() == 0);
+    device.settle();
+    assert!(rt; device.failures() == 1 && device.waiting() && note.counts() == (1, 0));
+}

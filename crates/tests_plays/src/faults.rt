@@ -2,10 +2,10 @@
 //! their nodes and pools.
 use test_kit::displays;
 use warm_gossip::NodeFault;
+use warm_player::{LineFault, NotForWorker};
 use warm_pool::PoolFault;
-use warm_schedule::{LineFault, NotForWorker, PlayFault};
 use warm_setup::{CmdFault, PathText, ProgramFault, SetupFault};
-use warm_world::{BadSetup, BadWorld, WorldFault};
+use warm_world::{BadSetup, BadWorld, PlayFault, WorldFault};
 
 const POOL: [(PoolFault, &str); 10] = [
     (PoolFault::SizeDiffers, "SizeDiffers"),
@@ -54,6 +54,22 @@ fn world_faults_are_shown_by_their_names(rt: HostRuntime) {
     assert!(rt; displays(rt.alloc(), &BadSetup, "BadSetup"));
 }
 
+const PLAY: [(PlayFault, &str); 6] = [
+    (PlayFault::Memory, "Memory"),
+    (PlayFault::ReadFault, "ReadFault"),
+    (PlayFault::WriteFault, "WriteFault"),
+    (PlayFault::BadLine(7), "BadLine"),
+    (PlayFault::NoThread, "NoThread"),
+    (PlayFault::BadDevices, "BadDevices"),
+];
+
+#[test]
+fn play_faults_are_shown_by_their_names(rt: HostRuntime) {
+    for (fault, want) in PLAY {
+        assert!(rt; displays(rt.alloc(), &fault, want));
+    }
+}
+
 const SETUP: [(SetupFault, &str); 4] = [
     (SetupFault::Memory, "Memory"),
     (SetupFault::NotToml, "NotToml"),
@@ -69,22 +85,6 @@ fn faults_of_what_is_read_are_shown_by_their_names(rt: HostRuntime) {
     assert!(rt; displays(rt.alloc(), &LineFault::Memory, "Memory"));
     assert!(rt; displays(rt.alloc(), &LineFault::Bad, "Bad"));
     assert!(rt; displays(rt.alloc(), &NotForWorker, "NotForWorker"));
-}
-
-const PLAY: [(PlayFault, &str); 6] = [
-    (PlayFault::Memory, "Memory"),
-    (PlayFault::ReadFault, "ReadFault"),
-    (PlayFault::WriteFault, "WriteFault"),
-    (PlayFault::BadLine(7), "BadLine"),
-    (PlayFault::NoThread, "NoThread"),
-    (PlayFault::BadDevices, "BadDevices"),
-];
-
-#[test]
-fn play_faults_are_shown_by_their_names(rt: HostRuntime) {
-    for (fault, want) in PLAY {
-        assert!(rt; displays(rt.alloc(), &fault, want));
-    }
 }
 
 #[test]

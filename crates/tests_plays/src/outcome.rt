@@ -1,10 +1,10 @@
 //! How a run ends: its exit status, and its line on standard error.
 use std::alloc::Global;
 use std::process::Abort;
-use warm_play_fault::PlayFault;
 use warm_setup::{
     CmdFault, PathText, ProgramFault, SetupFault, command_of, non_utf8_argument, outcome_of,
 };
+use warm_world::PlayFault;
 
 // Whether a run with this end has this status and this line.
 fn says(

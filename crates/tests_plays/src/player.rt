@@ -8,8 +8,8 @@ use std::io::{Read, Write};
 use std::process::Abort;
 use test_kit::{alone, memory};
 use warm_devices::{MemDevice, PageDevice};
-use warm_schedule::{PlayFault, play};
-use warm_world::Setup;
+use warm_player::play;
+use warm_world::{PlayFault, Setup};
 
 pub(crate) fn default_setup() -> Setup {
     Setup::new(3, 2, 64, 4, 16).unwrap()

@@ -9,7 +9,6 @@ mod frames;
 mod gossip;
 mod history;
 mod kit;
-mod play_fault;
 mod pool;
 mod random;
 mod rank;

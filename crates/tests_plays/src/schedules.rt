@@ -8,8 +8,8 @@ use std::process::Abort;
 use std::str;
 use test_kit::{alone, flaky};
 use warm_devices::PageDevice;
-use warm_schedule::{PlayFault, play, random_schedule};
-use warm_world::Setup;
+use warm_player::{play, random_schedule};
+use warm_world::{PlayFault, Setup};
 
 pub(crate) const GOSSIP: [&[(&str, &str)]; 7] = [
     // the same time at two replicas

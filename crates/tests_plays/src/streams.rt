@@ -6,8 +6,8 @@ use std::alloc::Global;
 use std::io::Write;
 use std::process::Abort;
 use test_kit::{BrokenReader, CountingReader, FullWriter, MarkingWriter, TrickleReader};
-use warm_schedule::{PlayFault, random_schedule};
-use warm_world::Setup;
+use warm_player::random_schedule;
+use warm_world::{PlayFault, Setup};
 
 // A schedule that is read in this way prints this.
 fn trickles(rt: &impl Abort, alloc: Global, schedule: &[u8], want: &[u8]) {

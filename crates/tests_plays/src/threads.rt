@@ -9,9 +9,8 @@ use std::sync::Wait;
 use std::thread::Threads;
 use test_kit::alone;
 use warm_devices::MemDevice;
-use warm_play_fault::PlayFault;
 use warm_threads::play_threads;
-use warm_world::Setup;
+use warm_world::{PlayFault, Setup};
 
 // Replicas, workers of each, and references of a buffer.
 type Size = (u16, u16, u16);

@@ -1,26 +1,11 @@
-//! Schedules: lines of text that are the events of a world of warm-standby replicas, and the player
-//! that answers them.
+//! Schedules, under the specification's names: reading a line, playing a schedule line by line or
+//! by threads, drawing one at random, and the setup and the command line of the program `warmplay`.
 //!
-//! [`parse_line`] reads one line, and [`parse_worker_line`] one that is a request to a worker.
-//! [`play`] reads a whole schedule from any reader and writes the answers to any writer, each as
-//! [`print_answer`] prints it, and [`random_schedule`] writes a schedule that a seed gives.
-//! docs/FORMATS.md has the language, line by line.
+//! It has no code of its own. Lines and the player are those of `warm_player`, plays by threads
+//! those of `warm_threads`, setups and commands those of `warm_setup`.
 #![tactic(auto)]
 
-mod commands;
-mod fields;
-pub mod laws;
-mod parse;
-mod player;
-mod printer;
-mod random;
-mod text;
-mod worker;
-
-pub use parse::{Line, LineFault, MAX_LINE, parse_line};
-pub use player::{MAX_READS, READ_SIZE, play};
-pub use printer::{print_answer, print_bad_line, print_end_refused, print_history};
-pub use random::random_schedule;
-pub use text::first_line;
-pub use warm_play_fault::PlayFault;
-pub use worker::{NotForWorker, WorkerRequest, parse_worker_line};
+pub use warm_player::{Line, LineFault, parse_line, play, random_schedule};
+pub use warm_setup::{Cmd, CmdFault, DeviceSpec, PathText, SetupFault, command_of, read_setup};
+pub use warm_threads::play_threads;
+pub use warm_world::PlayFault;

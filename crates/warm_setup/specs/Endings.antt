@@ -9,9 +9,9 @@ use Rattle.warm_setup.specs.declared.command.CmdFault.TheVariants as command
 use Rattle.warm_setup.specs.declared.outcome.ProgramFault.{ProgramFault}
 use Rattle.warm_setup.specs.declared.outcome.ProgramFault.TheVariants.{Command, CannotOpen, Setup}
 use Rattle.warm_setup.specs.declared.outcome.ProgramFault.TheVariants.{Play}
-use Rattle.warm_play_fault.specs.Faults.{play_fault_name}
-use Rattle.warm_play_fault.specs.declared.PlayFault.{PlayFault}
-use Rattle.warm_play_fault.specs.declared.PlayFault.TheVariants.{BadLine}
+use Rattle.warm_world.specs.PlayFaults.{play_fault_name}
+use Rattle.warm_world.specs.declared.play_fault.PlayFault.{PlayFault}
+use Rattle.warm_world.specs.declared.play_fault.PlayFault.TheVariants.{BadLine}
 use Rattle.warm_setup.specs.SetupFaults.{name_of}
 
 -- displaying requested help is not a failure

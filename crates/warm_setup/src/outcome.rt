@@ -12,7 +12,7 @@ use clap::error::ErrorKind;
 use std::io::{self, Write};
 use std::marker::Model;
 use thiserror::Error;
-use warm_play_fault::PlayFault;
+use warm_world::PlayFault;
 
 /// Why a run of the program did not reach its end, by the part of the run that found it. The parts
 /// run in this order: the command line, the setup file, its text, the schedule's file, the devices

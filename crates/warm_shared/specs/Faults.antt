@@ -1,4 +1,5 @@
--- The numbers and names of the refusals of shared shards: those of a node, and four more.
+-- The numbers and names of the refusals of shared shards: those of a node, and four more. 14 to 17
+-- are those of a world.
 use Rattle.std.specs.Prelude.{ℕ, List, codes}
 use Rattle.warm_gossip.specs.Faults as node_faults
 use Rattle.warm_shared.specs.declared.fault.SharedFault.{SharedFault}
@@ -7,10 +8,10 @@ use Rattle.warm_shared.specs.declared.fault.SharedFault.TheVariants.{NoPins, Pin
 
 abbrev pub code_of : SharedFault → ℕ
 code_of (Node why) = node_faults.code_of why
-code_of TurnsSpent = 14
-code_of PinsFull = 15
-code_of NoPins = 16
-code_of PinsHeld = 17
+code_of TurnsSpent = 18
+code_of PinsFull = 19
+code_of NoPins = 20
+code_of PinsHeld = 21
 
 abbrev pub name_of : SharedFault → List ℕ
 name_of (Node why) = node_faults.name_of why

@@ -9,7 +9,7 @@ ghost use Rattle.warm_shared.specs.ShardSteps.{IsOwn, shard_of_bucket};
 ghost use Rattle.warm_shared.specs.declared.call.ShardCall.TheVariants.{Answer, Offer};
 ghost use Rattle.warm_shared.specs.declared.call.ShardReply.TheVariants.{Answers, Sent};
 
-use crate::call::{BoxedMessage, ShardCall, ShardReply};
+use crate::call::{ShardCall, ShardReply};
 use crate::fault::SharedFault;
 use crate::history_calls::Stopped;
 use crate::shard::Shard;
@@ -17,7 +17,7 @@ use crate::shared::call_shard;
 use std::alloc::Global;
 use std::sync::Wait;
 use warm_devices::PageDevice;
-use warm_frames::{DIGEST_SIZE, DigestTable, Message, MessageList};
+use warm_frames::{BoxedMessage, DIGEST_SIZE, DigestTable, Message, MessageList};
 use warm_gossip::NodeFault;
 use warm_shards::fill_digests;
 use warm_stamps::{BUCKETS, Bucket, BucketSet, ReplicaId};

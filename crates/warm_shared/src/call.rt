@@ -1,10 +1,7 @@
 //! The calls of a shard and its replies. None has space for a message, of 2 KB: a message is in a
 //! box.
-ghost use Rattle.std.specs.Prelude.{◌≡◌, IfOk};
 
-use std::alloc::{AllocError, Global};
-use std::marker::Model;
-use warm_frames::{Message, MessageList};
+use warm_frames::{BoxedMessage, MessageList};
 use warm_gossip::NodeFault;
 use warm_pool::Slot;
 use warm_stamps::{Bucket, BucketSet, ByteList, PageId, RefList};
@@ -82,37 +79,4 @@ pub enum ShardReply {
     Foreign,
     /// The node refused the call, or no memory was left for a box.
     Refused(NodeFault),
-}
-
-/// A message in a heap box. Contracts see the message.
-#[derive(Drop)]
-pub struct BoxedMessage {
-    message: Box<Message>,
-}
-
-impl Model for BoxedMessage {
-    ghost use Rattle.warm_frames.specs.declared.message.Message.{Message};
-
-    ghost Value = { Message };
-
-    ghost view = { λ boxed. boxed.message.value };
-}
-
-impl BoxedMessage {
-    /// The message in a box.
-    ///
-    /// `AllocError` occurs only where the allocation fails. The message is then dropped.
-    pub fn new(alloc: Global, message: Message) -> Result<BoxedMessage, AllocError>
-        ensures { IfOk result (λ boxed. boxed ≡ message) }
-    {
-        let message = Box::new(alloc, message)?;
-        Ok(BoxedMessage { message })
-    }
-
-    /// The message. Allocation-free; the box is freed.
-    pub fn into_message(self) -> Message
-        ensures { result ≡ self }
-    {
-        Box::into_inner(self.message)
-    }
 }

@@ -7,24 +7,25 @@ use thiserror::Error;
 use warm_gossip::NodeFault;
 use warm_turn::TurnsSpent;
 
-/// Why a call on shared shards is refused. Each fault is displayed as its name.
+/// Why a call on shared shards is refused. Each fault is displayed as its name. 14 to 17 are the
+/// numbers of a world's own faults.
 #[derive(Clone, Copy, PartialEq, Eq, Debug, Error)]
 pub enum SharedFault {
     /// 1, or 4 to 13: why the node of the shard refuses. `Memory`, 1, is also an allocation that
     /// failed before any shard was called; `StaleSlot`, 13, also a slot of a shard that is not there.
     #[error(transparent)]
     Node(NodeFault),
-    /// 14: no ticket was left for a call of the shard, and none is left for any later call of that
+    /// 18: no ticket was left for a call of the shard, and none is left for any later call of that
     /// shard by the same attached thread.
     #[error("TurnsSpent")]
     TurnsSpent,
-    /// 15: as many pins are held as can be counted, `u64::MAX`.
+    /// 19: as many pins are held as can be counted, `u64::MAX`.
     #[error("PinsFull")]
     PinsFull,
-    /// 16: no pin is held.
+    /// 20: no pin is held.
     #[error("NoPins")]
     NoPins,
-    /// 17: pins are held.
+    /// 21: pins are held.
     #[error("PinsHeld")]
     PinsHeld,
 }
@@ -54,16 +55,16 @@ impl<C: Drop> From<TurnsSpent<C>> for SharedFault {
 }
 
 impl SharedFault {
-    /// The number of the refusal: 1, or 4 to 17.
+    /// The number of the refusal: 1, 4 to 13, or 18 to 21.
     pub fn code(self) -> u8
         ensures { result ≡ code_of self }
     {
         match self {
             SharedFault::Node(why) => why.code(),
-            SharedFault::TurnsSpent => 14,
-            SharedFault::PinsFull => 15,
-            SharedFault::NoPins => 16,
-            SharedFault::PinsHeld => 17,
+            SharedFault::TurnsSpent => 18,
+            SharedFault::PinsFull => 19,
+            SharedFault::NoPins => 20,
+            SharedFault::PinsHeld => 21,
         }
     }
 

@@ -13,7 +13,7 @@ ghost use Rattle.warm_shared.specs.declared.call.ShardCall.TheVariants.{Send};
 ghost use Rattle.warm_shared.specs.declared.call.ShardReply.TheVariants.{Sent};
 
 use crate::answering::{Offered, answer_all, gather};
-use crate::call::{BoxedMessage, ShardCall, ShardReply};
+use crate::call::{ShardCall, ShardReply};
 use crate::fault::SharedFault;
 use crate::history_calls::{Stopped, absorb_all, raise_all};
 use crate::shard::Shard;
@@ -22,7 +22,7 @@ use std::alloc::{AllocError, Global};
 use std::sync::Wait;
 use warm_devices::PageDevice;
 use warm_digest::differing;
-use warm_frames::{DigestTable, Message, MessageList};
+use warm_frames::{BoxedMessage, DigestTable, Message, MessageList};
 use warm_gossip::NodeFault;
 use warm_history::Entry;
 use warm_shards::references_in;

@@ -15,7 +15,7 @@ mod sharing;
 mod writing;
 
 pub use attaching::{NotClosed, NotDetached};
-pub use call::{BoxedMessage, ShardCall, ShardReply};
+pub use call::{ShardCall, ShardReply};
 pub use fault::SharedFault;
 pub use gossip::NotReceived;
 pub use history_calls::Stopped;

@@ -9,11 +9,11 @@ ghost use Rattle.warm_shards.specs.Shards.{IsShardCount, shard_of};
 ghost use Rattle.warm_shared.specs.ShardSteps.{AnsweredAs, AreOwnBuckets, IsOwn, LeavesWritten};
 ghost use Rattle.warm_shared.specs.ShardSteps.{ShardStep, WrittenAs, request_for, shard_view};
 
-use crate::call::{BoxedMessage, ShardCall, ShardReply};
+use crate::call::{ShardCall, ShardReply};
 use std::alloc::Global;
 use std::marker::Model;
 use warm_devices::PageDevice;
-use warm_frames::{Message, MessageList};
+use warm_frames::{BoxedMessage, Message, MessageList};
 use warm_gossip::{Node, NodeFault};
 use warm_shards::shard_of;
 use warm_stamps::{BUCKETS, Bucket, BucketSet, PageId, Reference, ReplicaId};

@@ -1,8 +1,8 @@
 -- The first line that threads cannot play.
 use Rattle.std.proofs.Common.{◌≡◌, ◌⊎◌, inl, inr, ℕ, ◌+◌, List, [], ◌∷◌, ◌++◌, Option, Some, None, Result, Ok, Err, refl, subst, ap, sym, ◌∙◌, append_assoc}
 use Rattle.std.specs.Prelude.{IfErr, IsErrAnd}
-use Rattle.warm_play_fault.specs.declared.PlayFault.{PlayFault}
-use Rattle.warm_play_fault.specs.declared.PlayFault.TheVariants.{BadLine, Memory}
+use Rattle.warm_world.specs.declared.play_fault.PlayFault.{PlayFault}
+use Rattle.warm_world.specs.declared.play_fault.PlayFault.TheVariants.{BadLine, Memory}
 use Rattle.warm_world.specs.Sizes.{Sizes}
 use Rattle.warm_threads.specs.declared.ask.Ask.{Ask}
 use Rattle.warm_threads.specs.declared.ask.NotPlayable.{NotPlayable}

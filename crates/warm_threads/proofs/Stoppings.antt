@@ -2,8 +2,8 @@
 use Rattle.std.proofs.Common.{◌≡◌, List, Result, Ok, Err, sym, subst}
 use Rattle.std.specs.Prelude.{IfErr, OnOk}
 use Rattle.warm_devices.specs.Device.{DeviceState}
-use Rattle.warm_play_fault.specs.declared.PlayFault.{PlayFault}
-use Rattle.warm_play_fault.specs.declared.PlayFault.TheVariants.{Memory}
+use Rattle.warm_world.specs.declared.play_fault.PlayFault.{PlayFault}
+use Rattle.warm_world.specs.declared.play_fault.PlayFault.TheVariants.{Memory}
 use Rattle.warm_world.specs.Sizes.{Sizes}
 use Rattle.warm_world.specs.Nodes.{AreUsable}
 use Rattle.warm_threads.specs.Refusals.{ThreadsPlayRefused}

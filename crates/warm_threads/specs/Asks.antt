@@ -4,13 +4,13 @@ use Rattle.std.specs.Prelude.{Result, Ok, Err, if◌then◌else◌}
 use Rattle.warm_stamps.specs.declared.PageId.{PageId}
 use Rattle.warm_stamps.specs.declared.Reference.{Reference}
 use Rattle.warm_world.specs.Sizes.{Sizes}
-use Rattle.warm_schedule.specs.Grammar.{meaning}
-use Rattle.warm_schedule.specs.Workers.{worker_request_in}
-use Rattle.warm_schedule.specs.declared.worker.NotForWorker.{NotForWorker}
-use Rattle.warm_schedule.specs.declared.worker.WorkerRequest.{WorkerRequest}
-use Rattle.warm_schedule.specs.declared.worker.WorkerRequest.TheVariants as request
-use Rattle.warm_play_fault.specs.declared.PlayFault.{PlayFault}
-use Rattle.warm_play_fault.specs.declared.PlayFault.TheVariants.{BadLine}
+use Rattle.warm_player.specs.Grammar.{meaning}
+use Rattle.warm_player.specs.Workers.{worker_request_in}
+use Rattle.warm_player.specs.declared.worker.NotForWorker.{NotForWorker}
+use Rattle.warm_player.specs.declared.worker.WorkerRequest.{WorkerRequest}
+use Rattle.warm_player.specs.declared.worker.WorkerRequest.TheVariants as request
+use Rattle.warm_world.specs.declared.play_fault.PlayFault.{PlayFault}
+use Rattle.warm_world.specs.declared.play_fault.PlayFault.TheVariants.{BadLine}
 use Rattle.warm_threads.specs.declared.ask.Ask.{Ask}
 use Rattle.warm_threads.specs.declared.ask.NotPlayable.{NotPlayable}
 use Rattle.warm_threads.specs.declared.ask.Task.{Task}

@@ -1,8 +1,8 @@
 -- The fault of a replica's run for a fault of a lower layer, and the fault of a play for that.
 use Rattle.crossbeam_channel.specs.declared.err.SendError.{SendError}
 use Rattle.crossbeam_channel.specs.declared.err.SendError.TheVariants as send
-use Rattle.warm_play_fault.specs.declared.PlayFault.{PlayFault}
-use Rattle.warm_play_fault.specs.declared.PlayFault.TheVariants as play
+use Rattle.warm_world.specs.declared.play_fault.PlayFault.{PlayFault}
+use Rattle.warm_world.specs.declared.play_fault.PlayFault.TheVariants as play
 use Rattle.warm_replica.specs.declared.fault.RunFault.{RunFault}
 use Rattle.warm_replica.specs.declared.fault.RunFault.TheVariants as run
 use Rattle.warm_threads.specs.declared.fault.ReplicaRunFault.{ReplicaRunFault}

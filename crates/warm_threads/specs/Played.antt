@@ -5,7 +5,7 @@ use Rattle.warm_devices.specs.Device.{DeviceState}
 use Rattle.warm_gossip.specs.State.{NodeView, node_view}
 use Rattle.warm_gossip.specs.Step.{Step}
 use Rattle.warm_replica.specs.declared.job.Job.{Job}
-use Rattle.warm_schedule.specs.Text.{lines}
+use Rattle.warm_player.specs.Text.{lines}
 use Rattle.warm_world.specs.Sizes.{Sizes}
 use Rattle.warm_threads.specs.Asks.{asks}
 use Rattle.warm_world.specs.Nodes.{nodes_over}

@@ -1,9 +1,9 @@
 -- Which faults end a play by threads.
 use Rattle.std.specs.Prelude.{List}
 use Rattle.warm_devices.specs.Device.{DeviceState}
-use Rattle.warm_play_fault.specs.declared.PlayFault.{PlayFault}
-use Rattle.warm_play_fault.specs.declared.PlayFault.TheVariants.{Memory, ReadFault, WriteFault}
-use Rattle.warm_play_fault.specs.declared.PlayFault.TheVariants.{BadLine, NoThread, BadDevices}
+use Rattle.warm_world.specs.declared.play_fault.PlayFault.{PlayFault}
+use Rattle.warm_world.specs.declared.play_fault.PlayFault.TheVariants.{Memory, ReadFault, WriteFault}
+use Rattle.warm_world.specs.declared.play_fault.PlayFault.TheVariants.{BadLine, NoThread, BadDevices}
 use Rattle.warm_world.specs.Sizes.{Sizes}
 use Rattle.warm_world.specs.Nodes.{AreUsable}
 

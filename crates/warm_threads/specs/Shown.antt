@@ -2,7 +2,7 @@
 use Rattle.std.specs.Prelude.{ℕ, ◌+◌, List, [], ◌∷◌, ◌++◌, codes, decimal}
 use Rattle.warm_history.specs.Histories.{HistoryView, entries_of}
 use Rattle.warm_gossip.specs.State.{NodeView}
-use Rattle.warm_schedule.specs.Answers.{shown_text}
+use Rattle.warm_player.specs.Answers.{shown_text}
 
 -- the replica of this number, and what `show` prints of its history
 abbrev pub replica_text : ℕ → HistoryView → List ℕ

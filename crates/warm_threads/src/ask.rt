@@ -3,7 +3,7 @@ ghost use Rattle.std.specs.Prelude.{◌≡◌};
 ghost use Rattle.warm_world.specs.Sizes.{IsSetup};
 ghost use Rattle.warm_threads.specs.Asks.{ask_in, asked, has_worker};
 
-use warm_schedule::{WorkerRequest, parse_worker_line};
+use warm_player::{WorkerRequest, parse_worker_line};
 use warm_stamps::{Reference, ReplicaId, Stamp};
 use warm_world::Setup;
 

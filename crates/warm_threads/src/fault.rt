@@ -2,9 +2,9 @@
 use crossbeam_channel::SendError;
 use std::alloc::{AllocError, AllocFailed};
 use thiserror::Error;
-use warm_play_fault::PlayFault;
 use warm_replica::RunFault;
 use warm_turn::{Busy, Memory};
+use warm_world::PlayFault;
 
 /// Why a run did not end well. Each fault is displayed as its name.
 #[derive(Clone, Copy, Debug, Error)]

@@ -3,8 +3,8 @@ ghost use Rattle.std.specs.Prelude.{◌≡◌, ◌+◌, ◌<◌, ◌^◌, ◌++�
 ghost use Rattle.std.specs.Prelude.{true};
 ghost use Rattle.std.specs.Prelude.{Err, IfOk, IfErr, OnOk, None, ◌⊎◌, slice_set, slice_index_or};
 ghost use Rattle.warm_refbuffer.specs.Buffered.{IsCapacity};
-ghost use Rattle.warm_play_fault.specs.declared.PlayFault.TheVariants.{Memory, BadLine};
-ghost use Rattle.warm_schedule.specs.Text.{lines};
+ghost use Rattle.warm_world.specs.declared.play_fault.PlayFault.TheVariants.{Memory, BadLine};
+ghost use Rattle.warm_player.specs.Text.{lines};
 ghost use Rattle.warm_replica.specs.Pairs.{Pairs};
 ghost use Rattle.warm_threads.specs.declared.ask.Ask.{Ask};
 ghost use Rattle.warm_threads.specs.Steps.{nothing_planned};
@@ -17,10 +17,9 @@ ghost use Rattle.warm_threads.specs.Asks.{IsBadLine, IsPlayable};
 use crate::ask::{Ask, Task, asked};
 use std::alloc::{AllocError, Global};
 use std::marker::Model;
-use warm_play_fault::PlayFault;
+use warm_player::first_line;
 use warm_replica::{Job, Step};
-use warm_schedule::first_line;
-use warm_world::Setup;
+use warm_world::{PlayFault, Setup};
 
 /// The steps planned for a worker, and how many references its buffer holds after them.
 #[derive(Drop)]
@@ -171,7 +170,10 @@ fn job_of(plan: Plan, capacity: usize) -> Result<Job, AllocError>
 {
     let Plan { mut steps, held: _ } = plan;
     steps.push(Step::Flush)?;
-    Ok(Job { capacity, steps })
+    Ok(Job {
+        cap: capacity,
+        steps,
+    })
 }
 
 // The jobs of a replica.

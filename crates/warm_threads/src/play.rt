@@ -6,11 +6,11 @@ ghost use Rattle.std.specs.Io.KnownBytes.{Appends, IsAtEnd};
 ghost use Rattle.warm_gossip.specs.State.{node_view};
 ghost use Rattle.warm_world.specs.Nodes.{AreUsable, nodes_over};
 ghost use Rattle.warm_world.specs.Views.{listed};
-ghost use Rattle.warm_schedule.specs.Answers.{Prints};
-ghost use Rattle.warm_schedule.specs.Text.{lines};
+ghost use Rattle.warm_player.specs.Answers.{Prints};
+ghost use Rattle.warm_player.specs.Text.{lines};
 ghost use Rattle.warm_replica.specs.declared.job.Job.{Job};
-ghost use Rattle.warm_play_fault.specs.declared.PlayFault.TheVariants.{BadDevices, BadLine, Memory};
-ghost use Rattle.warm_play_fault.specs.declared.PlayFault.TheVariants.{WriteFault};
+ghost use Rattle.warm_world.specs.declared.play_fault.PlayFault.TheVariants.{BadDevices, BadLine, Memory};
+ghost use Rattle.warm_world.specs.declared.play_fault.PlayFault.TheVariants.{WriteFault};
 ghost use Rattle.warm_threads.specs.Asks.{asks, first_bad};
 ghost use Rattle.warm_threads.specs.Plans.{AreJobsOf};
 ghost use Rattle.warm_threads.specs.Shown.{replica_text, replicas_text};
@@ -28,10 +28,9 @@ use std::thread::Threads;
 use warm_devices::PageDevice;
 use warm_gossip::Node;
 use warm_history::History;
-use warm_play_fault::PlayFault;
+use warm_player::print_history;
 use warm_replica::BatchMachine;
-use warm_schedule::print_history;
-use warm_world::{Setup, are_usable, nodes_over};
+use warm_world::{PlayFault, Setup, are_usable, nodes_over};
 
 // Prints the history of the replica of a number.
 fn print_replica<W: Write>(writer: &mut W, number: u64, history: &History) -> io::Result<()>

@@ -2,12 +2,12 @@
 ghost use Rattle.std.specs.Prelude.{◌≡◌, ◌<◌, ◌++◌, false, List, ℕ, length, OnOk, IfOk, IfErr};
 ghost use Rattle.std.specs.Prelude.{IfSome, Err, ◌⊎◌};
 ghost use Rattle.std.specs.Io.KnownBytes.{Consumes, IsAtEnd};
-ghost use Rattle.warm_play_fault.specs.declared.PlayFault.TheVariants.{Memory, ReadFault};
+ghost use Rattle.warm_world.specs.declared.play_fault.PlayFault.TheVariants.{Memory, ReadFault};
 
 use std::alloc::Global;
 use std::io::{ErrorKind, Read};
-use warm_play_fault::PlayFault;
-use warm_schedule::{MAX_READS, READ_SIZE};
+use warm_player::{MAX_READS, READ_SIZE};
+use warm_world::PlayFault;
 
 // Reads once, and appends the bytes read to the text. `false` at the end of the input. An
 // interrupted read counts as reading nothing.

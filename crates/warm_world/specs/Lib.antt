@@ -4,6 +4,7 @@ pub mod Sizes
 pub mod States
 pub mod Answered
 pub mod Faults
+pub mod PlayFaults
 pub mod Next
 pub mod Views
 pub mod Replicas

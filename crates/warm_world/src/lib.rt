@@ -16,6 +16,7 @@ mod event;
 mod gossip;
 pub mod laws;
 mod nodes;
+mod play_fault;
 mod pool_events;
 mod replica;
 mod setup;
@@ -24,6 +25,7 @@ mod world;
 
 pub use event::{Answer, BadWorld, Event, WorldFault};
 pub use nodes::{are_usable, nodes_over};
+pub use play_fault::PlayFault;
 pub use setup::{BadSetup, Setup};
 pub use shown::ShownHistory;
 pub use world::{World, are_sized};

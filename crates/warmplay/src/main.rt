@@ -13,12 +13,11 @@ use std::sync::Wait;
 use std::thread::Threads;
 use warm_devices::{FileDevice, MemDevice, OpenFault, PageDevice};
 use warm_pool::MAX_DEVICES;
-use warm_schedule::{PlayFault, play, random_schedule};
-use warm_setup::{
-    Cmd, CmdFault, DeviceSpec, PathText, ProgramFault, SetupFault, command_of, non_utf8_argument,
-    outcome_of, read_setup, read_setup_file,
+use warm_schedule::{
+    Cmd, CmdFault, DeviceSpec, PathText, PlayFault, SetupFault, command_of, play, play_threads,
+    random_schedule, read_setup,
 };
-use warm_threads::play_threads;
+use warm_setup::{ProgramFault, non_utf8_argument, outcome_of, read_setup_file};
 use warm_world::Setup;
 
 // The size of the output buffer for answers, in bytes.

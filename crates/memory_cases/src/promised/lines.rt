@@ -2,7 +2,7 @@
 use crate::cases::{Ended, Met, takes_none};
 use std::alloc::Global;
 use std::io::Print;
-use warm_schedule::{LineFault, parse_line};
+use warm_player::{LineFault, parse_line};
 
 const LINES: [&str; 18] = [
     "",

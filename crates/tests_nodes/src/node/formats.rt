@@ -1,6 +1,6 @@
 //! Messages that a node receives in either format, and messages of pages that no device has.
 
-use super::{NO_PAGE, Row, Said, answers, fresh, runs};
+use super::{NO_PAGE, Row, Said, answers, bytes_of, fresh, runs};
 use std::alloc::Global;
 use std::process::Abort;
 use test_kit::{NARROW, WIDE};
@@ -46,4 +46,31 @@ fn messages_of_both_formats_are_received(rt: HostRuntime) {
     takes(&rt, alloc, &WIDE, &[Row::Knows(12, &[(7, 20, 0)])]);
     takes(&rt, alloc, &wide([0, 0, 0, 1, 0, 0, 0, 0]), FIRST_WIDE);
     takes(&rt, alloc, &wide([255; 8]), LAST_WIDE);
+}
+
+// The entry of 0:2 at 11, and a request for buckets 1 and 2, both of replica 2.
+const ENTRY: [u8; 44] = [
+    0x4C, 0x32, 0x47, 0x32, 1, 0, 2, 0, 0, 0, 0, 0, 0, 0, 0, 0, 0, 0, 25, 0, 0, 0, 1, 0, 0, 0, 0,
+    0, 0, 0, 0, 0, 2, 1, 0, 0, 0, 0, 0, 0, 0, 11, 0, 2,
+];
+
+const REQUEST: [u8; 27] = [
+    0x4C, 0x32, 0x47, 0x32, 3, 0, 2, 0, 0, 0, 0, 0, 0, 0, 0, 0, 0, 0, 8, 0, 0, 0, 0, 0, 0, 0, 6,
+];
+
+// Replica 1 has 0:1 and replica 2 has 0:2: replica 2 answers the digests of replica 1 by these.
+#[test]
+fn a_round_is_answered_in_these_bytes(rt: HostRuntime) {
+    let alloc = rt.alloc();
+    let mut first = fresh(&rt, alloc, 1);
+    let mut second = fresh(&rt, alloc, 2);
+    runs(&rt, alloc, &mut first, &[Row::Absorbs(&[(0, 1, 10, 1)])]);
+    runs(&rt, alloc, &mut second, &[Row::Absorbs(&[(0, 2, 11, 2)])]);
+    let offered = first.offer().ok().expect(&rt, "memory is ample");
+    let answered = answers(&rt, &mut second, offered);
+    let [one, two] = answered.as_slice() else {
+        panic!(rt; "two answers");
+    };
+    assert!(rt; bytes_of(&rt, alloc, one).as_slice() == ENTRY.as_slice());
+    assert!(rt; bytes_of(&rt, alloc, two).as_slice() == REQUEST.as_slice());
 }

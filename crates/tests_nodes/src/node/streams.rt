@@ -73,14 +73,17 @@ fn hears(
 #[test]
 fn a_stream_of_entries_reaches_the_history(rt: HostRuntime) {
     let alloc = rt.alloc();
-    let mut stream = NARROW.to_vec(alloc).expect(&rt, "memory for a stream");
+    let mut stream = NARROW
+        .as_slice()
+        .to_vec(alloc)
+        .expect(&rt, "memory for a stream");
     stream
         .extend_from_slice(&WIDE)
         .expect(&rt, "memory for a stream");
     for size in [1, 2, 41, 42, 43, 95, 96] {
         let mut node = fresh(&rt, alloc, 2);
-        let heard = hears(&rt, alloc, &mut node, &stream, size);
-        assert!(rt; heard.expect(&rt, "a message").as_slice().is_empty());
+        let heard = hears(&rt, alloc, &mut node, &stream, size).expect(&rt, "a message");
+        assert!(rt; heard.as_slice().is_empty());
         runs(&rt, alloc, &mut node, &[Row::Knows(12, &[(7, 20, 0)])]);
     }
 }
@@ -91,7 +94,10 @@ fn a_stream_of_entries_reaches_the_history(rt: HostRuntime) {
 fn digests_in_pieces_are_answered(rt: HostRuntime) {
     let alloc = rt.alloc();
     let empty = bytes_of(&rt, alloc, &message_of(&rt, alloc, Sent::Digests(0, &[])));
-    let mut stream = NARROW.to_vec(alloc).expect(&rt, "memory for a stream");
+    let mut stream = NARROW
+        .as_slice()
+        .to_vec(alloc)
+        .expect(&rt, "memory for a stream");
     stream
         .extend_from_slice(&empty)
         .expect(&rt, "memory for a stream");

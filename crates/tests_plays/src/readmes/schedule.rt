@@ -1,9 +1,9 @@
-//! The call that the README of `warm_schedule` shows.
+//! The call that the README of `warm_player` shows.
 use anyhow::Result;
 use std::alloc::Global;
 use std::process::Abort;
 use warm_devices::MemDevice;
-use warm_schedule::play;
+use warm_player::play;
 use warm_world::Setup;
 
 fn one_call(rt: &impl Abort, alloc: Global) -> Result<()> {
@@ -20,6 +20,6 @@ fn one_call(rt: &impl Abort, alloc: Global) -> Result<()> {
 }
 
 #[test]
-fn one_call_of_warm_schedule(rt: HostRuntime) {
+fn one_call_of_warm_player(rt: HostRuntime) {
     assert!(rt; one_call(&rt, rt.alloc()).is_ok());
 }

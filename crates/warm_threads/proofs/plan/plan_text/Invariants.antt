@@ -1,5 +1,5 @@
 use Rattle.std.proofs.Common.{◌≡◌, ◌+◌, ◌≤◌, ◌++◌, List, length}
-use Rattle.warm_schedule.specs.Text.{lines}
+use Rattle.warm_player.specs.Text.{lines}
 use Rattle.warm_threads.specs.declared.ask.Ask.{Ask}
 use Rattle.warm_threads.specs.Asks.{asks, bad_from}
 use Rattle.warm_threads.specs.Plans.{ArePlansOf, IsShaped}

@@ -1,8 +1,8 @@
 use Rattle.std.proofs.Common.{◌≡◌, map, ap, subst}
 use Rattle.std.specs.Prelude.{IfErr}
 use Rattle.warm_gossip.specs.State.{node_view}
-use Rattle.warm_play_fault.specs.declared.PlayFault.TheVariants.{BadLine, WriteFault}
-use Rattle.warm_schedule.specs.Answers.{Prints}
+use Rattle.warm_world.specs.declared.play_fault.PlayFault.TheVariants.{BadLine, WriteFault}
+use Rattle.warm_player.specs.Answers.{Prints}
 use Rattle.warm_world.specs.Nodes.{nodes_over}
 use Rattle.warm_threads.specs.Shown.{replicas_text}
 use Rattle.warm_world.specs.Views.{listed}

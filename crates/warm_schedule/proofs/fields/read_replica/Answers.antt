@@ -1,5 +1,0 @@
-use Rattle.warm_schedule.proofs.OnePass.{one_digit_read}
-use Rattle.warm_schedule.proofs.fields.read_replica.Goals as goal
-
-pub returns-in-Some : goal.returns-in-Some
-returns-in-Some c = one_digit_read c.args.fields.now c.in-Some.rest.now c.in-Some.replica c.in-Some.ensures.parts c.in-Some.ensures.bound
