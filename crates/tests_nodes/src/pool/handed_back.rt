@@ -12,7 +12,9 @@ use warm_stamps::PageId;
 
 // The bytes of pages that nobody wrote to, that were filled by `fills`, and that are written here.
 const ZEROS: [u8; 16] = [0; 16];
+
 const FILLED: [u8; 16] = [0xAA; 16];
+
 const PAINTED: [u8; 16] = [0xBB; 16];
 
 // Writes to all bytes of a page in its frame; returns whether that succeeded.
