@@ -8,6 +8,7 @@
 mod calls;
 mod dumps;
 mod frames;
+mod handed_back;
 mod kept;
 mod lines;
 mod pools;
@@ -17,6 +18,7 @@ mod worlds;
 
 use crate::cases::{Ended, Met, is_done};
 use crate::promised::calls::Made;
+use crate::promised::handed_back::HandedBack;
 use crate::promised::kept::Kept;
 use crate::promised::shards::Sharded;
 use std::alloc::Global;
@@ -44,9 +46,11 @@ pub(crate) fn play<P: Print>(rt: &P, met: &mut Met, alloc: Global) -> Result<(),
         return Err(Ended::NoMemory);
     };
     let sharded = Sharded::new(alloc)?;
+    let handed_back = HandedBack::new(alloc)?;
     // from here on nothing is allocated
     calls::rows(rt, met, &mut node, ByteList::of(bytes))?;
     sharded.rows(rt, met, alloc)?;
+    handed_back.rows(rt, met)?;
     made.rows(rt, met)?;
     calls::contested(rt, met, contest)?;
     worlds::rows(rt, met, world, text)?;

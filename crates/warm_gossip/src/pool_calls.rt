@@ -1,9 +1,13 @@
 //! The calls on a node's pool.
-ghost use Rattle.std.specs.Prelude.{◌≡◌, length, IfErr, OnErr, OnOk};
+ghost use Rattle.std.specs.Prelude.{◌≡◌, length, IfErr, IfOk, OnErr, OnOk};
+ghost use Rattle.warm_pool.specs.HandingBack.{HandsBackOne};
 ghost use Rattle.warm_pool.specs.Keeping.{KeepsRanks};
 ghost use Rattle.warm_pool.specs.Retiring.{KeepsElsewhere, RetireRefused, Retired};
 ghost use Rattle.warm_pool.specs.State.{IsSettled};
 ghost use Rattle.warm_pool.specs.View.{view_of};
+ghost use Rattle.warm_pool.specs.WritingBack.{WriteBackFails};
+ghost use Rattle.warm_pool.specs.WritingSome.{StopsAtDevice};
+ghost use Rattle.warm_pool.specs.declared.fault.PoolFault.TheVariants.{Fault};
 ghost use Rattle.warm_gossip.specs.declared.call.Call.TheVariants.{Pin, Unpin, Read, Write, Victim};
 ghost use Rattle.warm_gossip.specs.declared.call.Call.TheVariants.{Restart};
 ghost use Rattle.warm_gossip.specs.declared.call.Reply.TheVariants.{Pinned, Bytes, Page};
@@ -13,7 +17,7 @@ ghost use Rattle.warm_gossip.specs.Clauses.{SameView, NodeWriteBackFails, done};
 use crate::fault::NodeFault;
 use crate::node::Node;
 use crate::warm_step::{WarmUp, passed_at_pin};
-use warm_devices::PageDevice;
+use warm_devices::{PageDevice, let_go};
 use warm_pool::{PoolFault, RetireError, Slot};
 use warm_stamps::{ByteList, PageId};
 
@@ -135,25 +139,52 @@ impl<D: PageDevice> Node<D> {
     ///
     /// # Errors
     /// `Pool(Fault)` at the first write or flush that fails. Of what a caller sees, only one count
-    /// of failures has changed.
+    /// of failures has changed; the pages written before the failure are clean, and where a flush
+    /// failed no page is dirty.
     pub fn write_back(&mut self) -> Result<(), NodeFault>
         ensures same { OnOk result (SameView self.old self.new) }
         ensures settled { OnOk result (IsSettled self.new.pool) }
         ensures refused { IfErr result (λ why. NodeWriteBackFails self.old why self.new) }
+        ensures stopped { OnErr result (WriteBackFails self.old.pool self.new.pool) }
     {
         self.pool.write_back_all()?;
         Ok(())
     }
 
-    /// Replaces a device with another, as [`warm_pool::Pool::retire`] does: its dirty pages are
-    /// written back, it is flushed, its pages are evicted, and it is dropped. The history is kept,
-    /// with its horizon: pages of the new device that it knows are ranked by it, and warmed up.
+    /// Replaces a device with another and returns the old one, as [`warm_pool::Pool::replace`]
+    /// does: its dirty pages are written back, it is flushed, and its pages are evicted. The history
+    /// is kept, with its horizon: pages of the new device that it knows are ranked by it, and warmed
+    /// up.
     ///
     /// The next warm-up step begins with the hottest page again.
     ///
     /// # Errors
-    /// Those of [`warm_pool::Pool::retire`], in its order. Each gives the new device back, and
+    /// Those of [`warm_pool::Pool::replace`], in its order. Each gives the new device back, and
     /// leaves pages, pin counts and contents unchanged.
+    pub fn replace(&mut self, dev: u16, device: D) -> Result<D, RetireError<D>>
+        ensures id { self.new.id ≡ self.old.id }
+        ensures history { self.new.history ≡ self.old.history }
+        ensures retired { OnOk result (Retired (view_of self.old.pool) dev
+            (D.state device) (view_of self.new.pool)) }
+        ensures handed_back { IfOk result (λ old. HandsBackOne self.old.pool dev (D.state old)) }
+        ensures refused { IfErr result (λ unretired. RetireRefused
+            (view_of self.old.pool) dev (D.state device) unretired.fault
+            (view_of self.new.pool)) }
+        ensures stopped { IfErr result (λ unretired. unretired.fault ≡ Fault
+            → StopsAtDevice dev self.old.pool self.new.pool) }
+        ensures given_back { IfErr result (λ unretired. unretired.device ≡ device) }
+        ensures elsewhere { KeepsElsewhere dev self.old.pool self.new.pool }
+        ensures ranked { KeepsRanks self.old.pool self.new.pool }
+    {
+        let old = self.pool.replace(dev, device)?;
+        self.warm_up.passed = 0;
+        Ok(old)
+    }
+
+    /// Replaces a device with another, as [`Node::replace`] does, and drops the old one.
+    ///
+    /// # Errors
+    /// Those of [`Node::replace`], with the same effects.
     pub fn retire(&mut self, dev: u16, device: D) -> Result<(), RetireError<D>>
         ensures id { self.new.id ≡ self.old.id }
         ensures history { self.new.history ≡ self.old.history }
@@ -162,12 +193,14 @@ impl<D: PageDevice> Node<D> {
         ensures refused { IfErr result (λ unretired. RetireRefused
             (view_of self.old.pool) dev (D.state device) unretired.fault
             (view_of self.new.pool)) }
+        ensures stopped { IfErr result (λ unretired. unretired.fault ≡ Fault
+            → StopsAtDevice dev self.old.pool self.new.pool) }
         ensures given_back { IfErr result (λ unretired. unretired.device ≡ device) }
         ensures elsewhere { KeepsElsewhere dev self.old.pool self.new.pool }
         ensures ranked { KeepsRanks self.old.pool self.new.pool }
     {
-        self.pool.retire(dev, device)?;
-        self.warm_up.passed = 0;
+        let old = self.replace(dev, device)?;
+        let_go(old);
         Ok(())
     }
 }

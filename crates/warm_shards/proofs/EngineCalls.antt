@@ -131,8 +131,8 @@ retire_refused P v w dev device Fixed own refused = subst (HasOnly P) (sym refus
 retire_refused P v w dev device Fault own refused = same_own P v w (ap (λ (x : PoolView). x.frames) refused.1.becomes) own
 retire_refused P v w dev device why own refused = absurd refused
 
-pub retired_own : {E : Type 0} (P : PageId → Type 0) (n m : NodeState) (dev : ℕ)
-    (device : DeviceState) (fault : E → PoolFault) (result : Result Unit E)
+pub retired_own : {T E : Type 0} (P : PageId → Type 0) (n m : NodeState) (dev : ℕ)
+    (device : DeviceState) (fault : E → PoolFault) (result : Result T E)
     → HasOnly P (view_of n.pool) → KeepsKnown n m
     → OnOk result (Retired (view_of n.pool) dev device (view_of m.pool))
     → IfErr result (λ e. RetireRefused (view_of n.pool) dev device (fault e) (view_of m.pool))

@@ -15,18 +15,18 @@ use Rattle.warm_pool.specs.Frames.{FrameState, cleaned, nth_frame}
 use Rattle.warm_pool.specs.Retiring.{Emptied, emptied}
 use Rattle.warm_pool.specs.State.{IsPool, PoolState, nth_device}
 use Rattle.warm_pool.specs.View.{FrameView, IsUnfixed, PoolView, frame_at, frame_view, view_of}
-use Rattle.warm_pool.specs.WritingBack.{cleaned_to, is_from}
+use Rattle.warm_pool.specs.WritingBack.{WriteBackFails, cleaned_to, is_from}
 use Rattle.warm_pool.specs.WritingSome.{CleansFirst, dirty_count}
 use Rattle.warm_pool.proofs.SomeLemmas.{count_most}
 use Rattle.warm_gossip.specs.declared.call.Call.TheVariants.{Restart}
 use Rattle.warm_gossip.specs.declared.call.Reply.TheVariants.{Done, Refused}
 use Rattle.warm_gossip.specs.declared.fault.NodeFault.{NodeFault}
 use Rattle.warm_gossip.specs.declared.fault.NodeFault.TheVariants.{Pool}
-use Rattle.warm_gossip.specs.Clauses.{Goes, OfPool}
+use Rattle.warm_gossip.specs.Clauses.{DevicesAfter, Goes, OfPool}
 use Rattle.warm_gossip.specs.State.{NodeState, NodeView, node_view}
 use Rattle.warm_gossip.specs.Step.{IsFailed, OnPool, Step}
 use Rattle.warm_shards.specs.Shards.{AreShards, IsShard, IsShardCount, held, no_shard, shard_at, shard_of, whole}
-use Rattle.warm_shards.specs.Through.{AreUnfixed, FlushFails, ForgetsPages, HasFixed, HasForgotten, IsClean, IsUnchanged, IsWritten, OfEach, OfFirst, RestartRefused, RestartStops, Restarts, Rises, Settles, StopsAt, WriteBackStops, WriteFails}
+use Rattle.warm_shards.specs.Through.{AreUnfixed, DeviceFails, FlushFails, ForgetsPages, HasFixed, HasForgotten, IsClean, IsUnchanged, IsWritten, OfEach, OfFirst, RestartRefused, RestartStops, Restarts, Rises, Settles, StopsAt, WriteBackStops, WriteFails}
 use Rattle.warm_shards.proofs.Absorbing.{some_shards}
 use Rattle.warm_shards.proofs.Buckets.{shard_horizon}
 use Rattle.warm_shards.proofs.Calls.{HasOnly, pool_shard, read_at, same_shard}
@@ -177,8 +177,8 @@ write_fails_stays latest = pool_stays latest WriteFails (λ P n m own by. record
 
 pub flush_fails_stays : (latest : ℕ) → StaysShard latest latest FlushFails
 flush_fails_stays latest = pool_stays latest FlushFails (λ P n m own by. record {
-  alone = by.0;
-  own = same_own P (view_of n.pool) (view_of m.pool) (ap (λ (v : PoolView). v.frames) by.1.1.becomes) own;
+  alone = by.0.0;
+  own = same_own P (view_of n.pool) (view_of m.pool) (ap (λ (v : PoolView). v.frames) by.0.1.1.becomes) own;
 })
 
 -- ---- writing back
@@ -217,26 +217,46 @@ all_written limit s t is cleans i =
 pub written_then : (a b c : NodeState) → IsWritten a b → Settles b c → Settles a c
 written_then a b c x y = (y.0 ∙ x.0, y.1)
 
-pub written_fails : (a b c : NodeState) → IsWritten a b → FlushFails b c → FlushFails a c
-written_fails a b c x y = subst (λ (v : NodeView). OnPool IsFailed v (node_view c)) x.0 y
+-- clean frames stay clean where writing them back stops
+stays_clean : (frames : List FrameState) (n i : ℕ)
+    → ((k : ℕ) → (nth_frame frames k).dirty ≡ false)
+    → (nth_frame (cleaned_to n frames) i).dirty ≡ false
+stays_clean frames zero i clean = clean i
+stays_clean [] (suc n) i clean = refl
+stays_clean (f ∷ fs) (suc n) zero clean = refl
+stays_clean (f ∷ fs) (suc n) (suc i) clean = stays_clean fs n i (λ k. clean (suc k))
+
+fails_clean : (s t : PoolState) → IsClean s → WriteBackFails s t → IsClean t
+fails_clean s t clean fails i =
+    ap (λ (fs : List FrameState). (nth_frame fs i).dirty) fails.frames ∙ stays_clean s.frames fails.written i clean
+
+pub written_fails : (a b c : NodeState) → IsWritten a b → DeviceFails b c → FlushFails a c
+written_fails a b c x y = (
+  subst (λ (v : NodeView). OnPool IsFailed v (node_view c)) x.0 y.0,
+  fails_clean b.pool c.pool x.1 y.1,
+)
 
 -- ---- restarting
 
 pub settled_restarts : (a b c : NodeState) → Settles a b → Restarts b c → Restarts a c
 settled_restarts a b c x y = (subst (λ (v : NodeView). Step v Restart Done (node_view c)) x.0 y.0, y.1)
 
-pub settled_fails : (a b c : NodeState) → Settles a b → FlushFails b c → FlushFails a c
-settled_fails a b c x y = subst (λ (v : NodeView). OnPool IsFailed v (node_view c)) x.0 y
+pub settled_fails : (a b c : NodeState) → Settles a b → DeviceFails b c → FlushFails a c
+settled_fails a b c x y = (
+  subst (λ (v : NodeView). OnPool IsFailed v (node_view c)) x.0 y.0,
+  fails_clean b.pool c.pool x.1.clean y.1,
+)
 
 -- a node without a pinned page does not restart only where a device fails
 pub fails_only : (why : NodeFault) (n m : NodeState) → IsUnfixed (view_of n.pool)
-    → Goes n Restart (Refused why) m → (why ≡ Pool Fault) × FlushFails n m
-fails_only (Pool Fixed) n m unfixed refused =
+    → Goes n Restart (Refused why) m → DevicesAfter n Restart (Refused why) m
+    → (why ≡ Pool Fault) × DeviceFails n m
+fails_only (Pool Fixed) n m unfixed refused left =
     let none : (frame_at (view_of n.pool) refused.0.frame).fixes ≡ 0 = unfixed refused.0.frame in
     let some : 0 < (frame_at (view_of n.pool) refused.0.frame).fixes = refused.0.fixed in
     absurd (omega (arith, none, some))
-fails_only (Pool Fault) n m unfixed refused = (refl, refused.1)
-fails_only why n m unfixed refused = absurd refused
+fails_only (Pool Fault) n m unfixed refused left = (refl, (refused.1, left))
+fails_only why n m unfixed refused left = absurd refused
 
 -- settling pins nothing
 pub settled_unfixed : (old mid : List NodeState) → OfEach Settles old mid → AreUnfixed old
@@ -360,13 +380,13 @@ settled_horizon old mid are settles =
 pub restart_stops : (old mid new : List NodeState) (horizon : ℕ) (result : Result Unit NodeFault)
     → horizon ≡ (whole old).horizon → OfEach Settles old mid
     → IfErr result (λ why. (why ≡ Pool Fault)
-    × StopsAt (HasForgotten horizon) FlushFails IsUnchanged mid new)
+    × StopsAt (HasForgotten horizon) DeviceFails IsUnchanged mid new)
     → IfErr result (λ why. (why ≡ Pool Fault) × RestartStops old new)
 restart_stops old mid new horizon (Ok given) is settles stops = tt
 restart_stops old mid new horizon (Err why) is settles (fault, stops) = (
   fault,
   inr (subst (λ (h : ℕ). StopsAt (HasForgotten h) FlushFails Settles old new) is
-      (then_stops Settles (HasForgotten horizon) FlushFails (HasForgotten horizon) FlushFails (forgotten_after horizon) settled_fails old mid new settles stops)),
+      (then_stops Settles (HasForgotten horizon) DeviceFails (HasForgotten horizon) FlushFails (forgotten_after horizon) settled_fails old mid new settles stops)),
 )
 
 pub restarted_all : (old mid new : List NodeState) (result : Result Unit NodeFault)

@@ -9,6 +9,7 @@ use Rattle.warm_pool.specs.Keeping.{KeepsBytes}
 use Rattle.warm_pool.specs.Retiring.{Emptied}
 use Rattle.warm_pool.specs.State.{IsSettled, PoolState}
 use Rattle.warm_pool.specs.View.{IsFixed, IsUnfixed, view_of}
+use Rattle.warm_pool.specs.WritingBack.{WriteBackFails}
 use Rattle.warm_pool.specs.WritingSome.{SomeFails}
 use Rattle.warm_pool.specs.declared.fault.PoolFault.TheVariants.{Fault, Fixed}
 use Rattle.warm_gossip.specs.declared.call.Call.TheVariants.{Restart}
@@ -84,9 +85,15 @@ WriteFails old new = KeepsKnown old new × SomeFails (length old.pool.frames) ol
 abbrev pub Settles : NodeState → NodeState → Type 0
 Settles old new = SameView old new × IsSettled new.pool
 
--- a call of a device failed: of what a caller sees only its count of failures has changed
+-- a call of a device failed: of what a caller sees only its count of failures has changed, and the
+-- pages written before it are clean
+abbrev pub DeviceFails : NodeState → NodeState → Type 0
+DeviceFails old new = OnPool IsFailed (node_view old) (node_view new)
+    × WriteBackFails old.pool new.pool
+
+-- the same, and no page of the shard is dirty: what failed is a flush
 abbrev pub FlushFails : NodeState → NodeState → Type 0
-FlushFails old new = OnPool IsFailed (node_view old) (node_view new)
+FlushFails old new = OnPool IsFailed (node_view old) (node_view new) × IsClean new.pool
 
 -- A page of one shard was not written: the shards before it have written theirs, and those after it
 -- are unchanged. Or all shards have written theirs, and a device of one was not flushed: those

@@ -2,12 +2,13 @@
 ghost use Rattle.std.specs.Prelude.{◌≡◌, ◌<◌, length, IfErr, IfOk, OnErr, OnOk};
 ghost use Rattle.warm_gossip.specs.Clauses.{OfPool, SameView};
 ghost use Rattle.warm_gossip.specs.declared.fault.NodeFault.TheVariants.{Pool};
+ghost use Rattle.warm_pool.specs.HandingBack.{HandsBackOne};
 ghost use Rattle.warm_pool.specs.Keeping.{KeepsFrames, SameButFailures};
 ghost use Rattle.warm_pool.specs.Calls.{FlushesNone, FlushesOnce};
 ghost use Rattle.warm_pool.specs.Retiring.{KeepsElsewhere, RetireRefused, Retired};
 ghost use Rattle.warm_pool.specs.View.{Holds, view_of};
 ghost use Rattle.warm_pool.specs.WritingSome.{FlushRefused, IsSettledOn, KeepsOtherDevices};
-ghost use Rattle.warm_pool.specs.WritingSome.{SomeFails, WritesBackSome};
+ghost use Rattle.warm_pool.specs.WritingSome.{SomeFails, StopsAtDevice, WritesBackSome};
 ghost use Rattle.warm_pool.specs.Zeroing.{LeavesUnread, PinnedZeroed, TakesZeroed, ZeroedRefused};
 ghost use Rattle.warm_pool.specs.declared.fault.PoolFault.TheVariants.{Fault};
 ghost use Rattle.warm_shards.specs.Clauses.{KeepsKnown, KeepsOthers};
@@ -107,8 +108,35 @@ impl<D: PageDevice> Shards<D> {
         self.nodes[shard].flush_device(dev)
     }
 
-    /// Replaces a device of a shard with another: as [`warm_gossip::Node::retire`] of the shard.
-    /// Each shard has a device of its own of this number.
+    /// Replaces a device of a shard with another, and returns the old one: as
+    /// [`warm_gossip::Node::replace`] of the shard. Each shard has a device of its own of this
+    /// number.
+    ///
+    /// # Errors
+    /// Those of [`warm_gossip::Node::replace`] of the shard, with the same effects. Each gives the
+    /// new device back.
+    pub fn replace(&mut self, shard: usize, dev: u16, device: D) -> Result<D, RetireError<D>>
+        requires there { shard < length self.old }
+        ensures known { KeepsKnown (shard_at self.old shard) (shard_at self.new shard) }
+        ensures retired { OnOk result (Retired (view_of (shard_at self.old shard).pool) dev
+            (D.state device) (view_of (shard_at self.new shard).pool)) }
+        ensures handed_back { IfOk result (λ old. HandsBackOne (shard_at self.old shard).pool dev
+            (D.state old)) }
+        ensures refused { IfErr result (λ unretired. RetireRefused
+            (view_of (shard_at self.old shard).pool) dev (D.state device) unretired.fault
+            (view_of (shard_at self.new shard).pool)) }
+        ensures stopped { IfErr result (λ unretired. unretired.fault ≡ Fault
+            → StopsAtDevice dev (shard_at self.old shard).pool (shard_at self.new shard).pool) }
+        ensures given_back { IfErr result (λ unretired. unretired.device ≡ device) }
+        ensures elsewhere { KeepsElsewhere dev (shard_at self.old shard).pool
+            (shard_at self.new shard).pool }
+        ensures others { KeepsOthers self.old shard self.new }
+    {
+        self.nodes[shard].replace(dev, device)
+    }
+
+    /// Replaces a device of a shard with another, and drops the old one: as
+    /// [`warm_gossip::Node::retire`] of the shard.
     ///
     /// # Errors
     /// Those of [`warm_gossip::Node::retire`] of the shard, with the same effects. Each gives the
@@ -121,6 +149,8 @@ impl<D: PageDevice> Shards<D> {
         ensures refused { IfErr result (λ unretired. RetireRefused
             (view_of (shard_at self.old shard).pool) dev (D.state device) unretired.fault
             (view_of (shard_at self.new shard).pool)) }
+        ensures stopped { IfErr result (λ unretired. unretired.fault ≡ Fault
+            → StopsAtDevice dev (shard_at self.old shard).pool (shard_at self.new shard).pool) }
         ensures given_back { IfErr result (λ unretired. unretired.device ≡ device) }
         ensures elsewhere { KeepsElsewhere dev (shard_at self.old shard).pool
             (shard_at self.new shard).pool }

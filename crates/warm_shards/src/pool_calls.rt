@@ -1,5 +1,5 @@
 //! The calls on the pool of one shard.
-ghost use Rattle.std.specs.Prelude.{◌≡◌, ◌<◌, length, IfErr, IfOk, OnOk};
+ghost use Rattle.std.specs.Prelude.{◌≡◌, ◌<◌, length, IfErr, IfOk, OnErr, OnOk};
 ghost use Rattle.warm_gossip.specs.Clauses.{Answered, DevicesAnswered, Goes, NodeWriteBackFails};
 ghost use Rattle.warm_gossip.specs.Clauses.{ReadIntoFails, SameView, done};
 ghost use Rattle.warm_gossip.specs.declared.call.Call.TheVariants.{Pin, Read, Unpin, Victim};
@@ -8,6 +8,7 @@ ghost use Rattle.warm_gossip.specs.declared.call.Reply.TheVariants.{Bytes, Loade
 ghost use Rattle.warm_history.specs.Histories.{references_of};
 ghost use Rattle.warm_pool.specs.State.{IsSettled};
 ghost use Rattle.warm_pool.specs.View.{unfixed_pages, view_of};
+ghost use Rattle.warm_pool.specs.WritingBack.{WriteBackFails};
 ghost use Rattle.warm_rank.specs.Ranking.{IsVictim};
 ghost use Rattle.warm_shards.specs.Clauses.{KeepsOthers};
 ghost use Rattle.warm_shards.specs.Shards.{shard_at, shard_of, whole};
@@ -131,6 +132,8 @@ impl<D: PageDevice> Shards<D> {
         ensures settled { OnOk result (IsSettled (shard_at self.new shard).pool) }
         ensures refused { IfErr result (λ why. NodeWriteBackFails (shard_at self.old shard) why
             (shard_at self.new shard)) }
+        ensures stopped { OnErr result (WriteBackFails (shard_at self.old shard).pool
+            (shard_at self.new shard).pool) }
         ensures others { KeepsOthers self.old shard self.new }
     {
         self.nodes[shard].write_back()

@@ -6,7 +6,7 @@ ghost use Rattle.warm_history.specs.Histories.{history_of_entries};
 ghost use Rattle.warm_pool.specs.View.{IsFixed, IsUnfixed, view_of};
 ghost use Rattle.warm_pool.specs.declared.fault.PoolFault.TheVariants.{Fault, Fixed};
 ghost use Rattle.warm_shards.specs.Shards.{AreShards, whole};
-ghost use Rattle.warm_shards.specs.Through.{AreUnfixed, FlushFails, ForgetIsRefused};
+ghost use Rattle.warm_shards.specs.Through.{AreUnfixed, DeviceFails, ForgetIsRefused};
 ghost use Rattle.warm_shards.specs.Through.{ForgetsPages, HasFixed, HasForgotten, IsUnchanged};
 ghost use Rattle.warm_shards.specs.Through.{IsWritten, MayForgetEach, OfEach, OfFirst};
 ghost use Rattle.warm_shards.specs.Through.{RestartRefused, RestartStops, Restarts, Rises};
@@ -73,7 +73,7 @@ fn write_each<D: PageDevice>(nodes: &mut Vec<Node<D>>) -> Result<(), NodeFault>
 fn flush_each<D: PageDevice>(nodes: &mut Vec<Node<D>>) -> Result<(), NodeFault>
     ensures settled { OnOk result (OfEach Settles nodes.old.items nodes.new.items) }
     ensures refused { IfErr result (λ why. (why ≡ Pool Fault)
-        × StopsAt Settles FlushFails IsUnchanged nodes.old.items nodes.new.items) }
+        × StopsAt Settles DeviceFails IsUnchanged nodes.old.items nodes.new.items) }
 {
     let count = nodes.len();
     for shard in 0..count {
@@ -135,7 +135,7 @@ fn restart_each<D: PageDevice>(nodes: &mut Vec<Node<D>>, horizon: u64) -> Result
     requires { AreUnfixed nodes.old.items }
     ensures restarted { OnOk result (OfEach Restarts nodes.old.items nodes.new.items) }
     ensures refused { IfErr result (λ why. (why ≡ Pool Fault)
-        × StopsAt (HasForgotten horizon) FlushFails IsUnchanged nodes.old.items nodes.new.items) }
+        × StopsAt (HasForgotten horizon) DeviceFails IsUnchanged nodes.old.items nodes.new.items) }
 {
     let count = nodes.len();
     for shard in 0..count {
@@ -167,8 +167,8 @@ impl<D: PageDevice> Shards<D> {
     /// # Errors
     /// `Pool(Fault)` at the first write or flush that fails. Of what a caller sees, only one count
     /// of failures has changed. At a write, the shards before that one have written their pages,
-    /// and those after it are unchanged. At a flush, all pages were written back, and the shards before
-    /// that one have flushed their devices.
+    /// and those after it are unchanged. At a flush, all pages of all shards were written back and
+    /// none is dirty, and the shards before that one have flushed their devices.
     pub fn write_back_all(&mut self) -> Result<(), NodeFault>
         ensures settled { OnOk result (OfEach Settles self.old self.new) }
         ensures refused { IfErr result (λ why. (why ≡ Pool Fault)

@@ -124,9 +124,13 @@ fn retired<P: Print>(
     if shards.count() < 2 {
         return Err(met.broken("two shards"));
     }
+    takes_none(rt, "replace of a shard")?;
+    let Ok(old) = shards.replace(0, 0, device) else {
+        return Err(met.broken("a shard's device is not replaced"));
+    };
     takes_none(rt, "retire of a shard")?;
     met.holds(
-        shards.retire(0, 0, device).is_ok(),
+        shards.retire(0, 0, old).is_ok(),
         "a shard's device is not retired",
     )
 }

@@ -1,0 +1,14 @@
+use Rattle.std.proofs.Common.{◌≡◌, ◌<◌, List, length, sym, subst}
+use Rattle.warm_gossip.specs.State.{NodeState}
+use Rattle.warm_shards.specs.Shards.{shard_of}
+use Rattle.warm_shards.proofs.PoolCalls.{after_call}
+use Rattle.warm_shards.proofs.EngineCalls.{retired_own}
+use Rattle.warm_shards.proofs.shards.Shards.replace.Goals as goal
+
+pub invariant_of-self : goal.invariant_of-self
+invariant_of-self g c =
+    let ns = c.self.inside.nodes.items in
+    let i = c.args.shard in
+    let lt : i < length ns = subst (λ (xs : List NodeState). i < length xs) (sym c.self.view_is) c.requires.there in
+    after_call ns i c.index_mut.result.now c.replace.new.self c.index_mut.result.now c.self.invariant lt c.index_mut.ensures.value (λ old.
+    retired_own (λ p. shard_of (length ns) p ≡ i) c.index_mut.result.now c.replace.new.self c.args.dev (g.D.PageDevice.state c.args.device) (λ e. e.fault) c.replace.result old.own.resident (record { id = c.replace.ensures.id; history = c.replace.ensures.history }) c.replace.ensures.retired c.replace.ensures.refused)
