@@ -74,11 +74,19 @@ static int slow_fstat(int fd, struct stat *file) {
 
 static void *slow_realloc(void *old, size_t size) { return slow.has_no_memory ? NULL : realloc(old, size); }
 
+/* It changes errno, as a call that succeeds may. */
+static int slow_unlock(pthread_mutex_t *of) {
+    int result = pthread_mutex_unlock(of);
+    errno = ENOTRECOVERABLE;
+    return result;
+}
+
 #define pread slow_pread
 #define pwrite slow_pwrite
 #define fsync slow_fsync
 #define fstat slow_fstat
 #define realloc slow_realloc
+#define pthread_mutex_unlock slow_unlock
 #include "sync_once.c"
 #include "fd_calls.c"
 #undef pread
@@ -86,6 +94,7 @@ static void *slow_realloc(void *old, size_t size) { return slow.has_no_memory ? 
 #undef fsync
 #undef fstat
 #undef realloc
+#undef pthread_mutex_unlock
 
 enum { SIZE = 65536, NO_FILE = 999 };
 
@@ -168,10 +177,11 @@ static void test_slow_calls(void) {
     close(fd);
 }
 
-/* Where reads are direct, a page that the end of the file is in is read whole, and another rest that is refused is a read that fails. */
+/* Where reads are direct, a page that the end of the file is in is read whole, and another rest that is refused is a read that fails: also of a
+ * device, which has no size by which its end could be known. */
 static void test_direct(void) {
-    int fd = new_file(), ends[2];
-    MUST(pipe(ends) == 0 && write_at(fd, 0, 5000) == 5000);
+    int fd = new_file(), ends[2], device = open("/dev/zero", O_RDONLY);
+    MUST(pipe(ends) == 0 && device >= 0 && write_at(fd, 0, 5000) == 5000);
     slow.is_direct = true;
     MUST(read_at(fd, 4096, 4096) == 4096 && memcmp(got, page + 4096, 904) == 0 && is_filled(got + 904, 4096 - 904, 0) && got[4096] == 0xEE);
     MUST(read_at(fd, 8192, 4096) == 4096 && is_filled(got, 4096, 0));
@@ -180,11 +190,13 @@ static void test_direct(void) {
     FAILS(read_at(ends[0], 0, 4096), ESPIPE);
     slow.most = 1000;
     FAILS(read_at(fd, 0, 4096), EINVAL);
+    FAILS(read_at(device, 0, 4096), EINVAL);
     slow.fails_stat = true; /* the errno is that of the read */
     FAILS(read_at(fd, 0, 4096), EINVAL);
     slow.fails_stat = false;
     slow.most = 0;
     slow.is_direct = false;
+    close(device);
     close(ends[0]);
     close(ends[1]);
     close(fd);

@@ -21,15 +21,16 @@ static bool keeps_mappings;  /* munmap fails */
 
 static bool refuses(void) { return fails_at != 0 && --fails_at == 0; }
 
+/* Of no bytes they answer NULL, as they may. */
 static void *counted_malloc(size_t n) {
-    if (refuses()) return NULL;
+    if (n == 0 || refuses()) return NULL;
     void *p = aligns ? aligned_alloc(4096, (n + 4095) / 4096 * 4096) : malloc(n);
     in_use += p != NULL;
     return p;
 }
 
 static void *counted_realloc(void *p, size_t n) {
-    if (refuses()) return NULL;
+    if (n == 0 || refuses()) return NULL;
     void *moved = realloc(p, n);
     in_use += p == NULL && moved != NULL;
     return moved;
@@ -230,6 +231,15 @@ static void test_refusals(void) {
     }
 }
 
+/* Each call of malloc or mmap for the first run refused in turn: nothing is left. */
+static void test_no_run(void) {
+    for (long at = 1; at <= 3; at++) { /* the list of the runs, a run, its mapping */
+        fails_at = at;
+        tried got = rattle_alloc(UNIT, 1);
+        MUST(!got.ok && fails_at == 0 && in_use == 0 && runs == NULL && run_room == 0);
+    }
+}
+
 static uint32_t drawn(uint32_t *seed) {
     *seed = *seed * 1664525 + 1013904223;
     return *seed >> 8;
@@ -322,6 +332,7 @@ int main(int count, char **words) {
     test_kept();
     test_holes();
     test_refusals();
+    test_no_run();
     test_churn();
     test_behind();
     puts("heap_test: as expected");

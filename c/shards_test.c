@@ -439,6 +439,9 @@ static void test_horizons(void) {
     OK(node_horizon(&((opened *)handle.at)->shards[1].node, 9, &horizon));
     OK(warm_horizon(&handle, 3, &horizon));
     MUST(horizon == 7);
+    OK(node_horizon(&((opened *)handle.at)->shards[3].node, 9, &horizon)); /* the last one */
+    OK(warm_horizon(&handle, 3, &horizon));
+    MUST(horizon == 7);
     OK(warm_offer(&handle, frame, sizeof frame, &length));
     MUST(frame[1] == 9);
     OK(warm_receive(&handle, request, sizeof request)); /* it raises the others */

@@ -427,13 +427,9 @@ static int settle_in_all(opened *its, uint16_t dev, const warm_device *device) {
     return status;
 }
 
-/* Whether the first shards have the device again that the replica has. */
-static bool put_back(opened *its, uint16_t dev, size_t count) {
-    bool is_back = true;
-    for (size_t number = 0; number < count; number++) {
-        if (node_replace(&its->shards[number].node, dev, &its->of->devices[dev]) != WARM_OK) is_back = false;
-    }
-    return is_back;
+/* Gives the first shards the device again that the replica has. */
+static void put_back(opened *its, uint16_t dev, size_t count) {
+    for (size_t number = 0; number < count; number++) node_replace(&its->shards[number].node, dev, &its->of->devices[dev]);
 }
 
 /* Replaces the device in each shard, or goes back. All shards are entered. */
@@ -443,7 +439,9 @@ static int replace_in_all(opened *its, uint16_t dev, const warm_device *device) 
     for (size_t number = 0; number < its->count; number++) {
         shard *in = &its->shards[number];
         status = noted(its, in, node_replace(&in->node, dev, device));
-        if (status != WARM_OK) return put_back(its, dev, number) ? status : WARM_MEMORY;
+        if (status == WARM_OK) continue;
+        put_back(its, dev, number);
+        return status;
     }
     return WARM_OK;
 }

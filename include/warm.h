@@ -3,9 +3,9 @@
  *
  * A handle opens a replica: a buffer pool over the caller's file descriptors, with LRU-2 replacement (O'Neil, O'Neil, Weikum, 1993),
  * and the history of page references that ranks its pages. Replicas exchange their histories as frames: a frame is the bytes of one
- * message, and the caller carries it, by any transport. Frames that are lost, repeated or reordered do no harm. The times in a frame are
- * believed, and wrong ones do harm: frames from senders that are not trusted need warm_limit. (A frame of the pool is another thing:
- * memory for one page.)
+ * message, and the caller carries it, by any transport. Frames that are lost, repeated or reordered do no harm. What a frame says is
+ * believed, and can do harm: a replica takes frames only from senders that it trusts. warm_limit refuses times that are too late, and says what it
+ * does not protect from. (A frame of the pool is another thing: memory for one page.)
  *
  *     warm handle = {0};
  *     warm_device device = {.pages = 1000, .fd = fd};
@@ -111,7 +111,8 @@ typedef struct warm_reference {
     uint16_t replica; /* 1 to 64 */
 } warm_reference;
 
-/* Where a pinned page is: a frame of its shard, and how many pages were put into that frame so far. */
+/* Where a pinned page is: a frame of its shard, and how many pages were put into that frame so far. That number begins again at 0 with each
+ * warm_open: a slot from before warm_close may be the slot of another page after the next warm_open of the handle. */
 typedef struct warm_slot {
     uint64_t generation;
     uint32_t index; /* of the frame among those of its shard, from 0 */
@@ -219,6 +220,9 @@ enum {
  * file that may be in a frame. A page may be in one from the warm_pin or warm_step that reads it on; of any other the replica has no copy.
  * (A descriptor that is closed or negative, that is of a pipe, or that may not be read or written does no harm: reads, writes and
  * flushes fail. A write beyond the file size limit of the process raises SIGXFSZ, and fails where that is ignored.)
+ * The system reports a write that was lost to one fsync of the open file: who else syncs the descriptor, or a copy of it (dup), may take that
+ * error, and then no call of the replica is refused for it. What the caller itself writes to the descriptor is not counted: a flush of the
+ * replica may leave out the fsync that would make it durable.
  *
  * O_DIRECT: a descriptor of a device may have it where page_size is a multiple of 4,096. The memory of each page is then aligned to 4,096
  * bytes, as its place in the file is, which is enough for file systems that ask for no more. (It is no memory of malloc: the system maps
@@ -364,15 +368,18 @@ int warm_send_since(warm *handle, uint8_t bucket, uint64_t since, bool has_after
 
 /* Sets the limit of a replica: from then on warm_receive, by any of its handles, refuses each frame that speaks of a time later than this one.
  * Of a replica that was just opened the limit is 2^64 - 1, which refuses none; no other function changes it. Where times are of a clock, the
- * limit is the current time and as much as clocks may differ; set it again before each frame. What the history has already stays. */
+ * limit is the current time and as much as clocks may differ; set it again before each frame. What the history has already stays.
+ * It protects from clocks that are far ahead, and not from a sender that means harm. Within the limit a frame is believed. A horizon up to the
+ * limit makes the replica forget every older stamp, and goes on to others. Entries of pages that no device has are taken in: they take memory,
+ * without a bound on their number, and where they are as many of the hottest pages as a shard has frames, warm_step finds no page there. */
 int warm_limit(warm *handle, uint64_t time);
 
 /* Takes in one whole frame that another replica sent. Its answers wait at this handle, for warm_next_answer; those of the frame before are
  * dropped.
  * The times in a frame are believed. A frame whose horizon is greater than this replica's is well formed: the replica takes the horizon, so
  * that all older stamps are gone for good, and passes it on; a horizon of 2^64 - 1 empties the history of every replica that it reaches. And
- * a page that was referenced at time 2^64 - 1 is the hottest one for ever. Frames that a sender that is not trusted made, or a transport
- * may change, need warm_limit.
+ * a page that was referenced at time 2^64 - 1 is the hottest one for ever. warm_limit refuses such times. A frame has no checksum: what
+ * a transport may change is the caller's to detect.
  * Refused: WARM_TRUNCATED to WARM_BAD_ORDER, by the first fault from left to right; WARM_LATE_HORIZON where the horizon is later than the
  * limit (each kind of frame has one; that of an older format is 0), WARM_LATE_STAMP where a stamp is; WARM_MEMORY at any
  * point. The answers of the frame before then still wait. After WARM_MEMORY the shards before some number may have the frame's horizon and

@@ -156,7 +156,8 @@ static void found_pages(void) {
     close(fd);
 }
 
-/* Slots of a handle that was closed since mean nothing to it once it is open again, nor do slots that no call wrote. */
+/* A slot of a handle that was closed since is stale to it once it is open again, until its frame has taken as many pages as it had then: then it is
+ * the slot of the page that is there. Slots that no call wrote are stale. */
 static void slots_of_before(void) {
     const uint32_t last = (uint32_t)shards - 1, none = (uint32_t)shards;
     const warm_slot made_up[] = {{0, 0, last}, {1, 0, last}, {UINT64_MAX, 0, last}, {1, 2, last}, {1, UINT32_MAX, last}, {1, 0, none}, {1, 0, UINT32_MAX}};
@@ -177,6 +178,15 @@ static void slots_of_before(void) {
         EXPECT(WARM_STALE_SLOT, warm_write(&handle, made_up[at], 0, &byte, 0)); /* also where there is no byte to write */
         EXPECT(WARM_STALE_SLOT, warm_unpin(&handle, made_up[at]));
     }
+    warm_slot again;
+    uint8_t written = 'o';
+    OK(warm_pin(&handle, page_of(2), &again));
+    MUST(again.shard == slot.shard && again.index == slot.index && again.generation == slot.generation);
+    OK(warm_write(&handle, again, 0, &written, 1));
+    OK(warm_read(&handle, slot, 0, &byte, 1));
+    MUST(byte == written); /* of page 2, and the slot was given for page 1 */
+    OK(warm_unpin(&handle, slot));
+    EXPECT(WARM_STALE_SLOT, warm_unpin(&handle, again));
     warm_close(&handle);
     close(fd);
 }

@@ -1,19 +1,26 @@
-/* Each allocation of a call fails in turn, until the call succeeds: it returns WARM_MEMORY, and what was there before is still there. What
- * allocates nothing succeeds while every allocation fails. The check links malloc and realloc to the functions below (ld --wrap). refused SHARDS: a
- * replica has this many. A call on several of them may be refused with a part of it done, and is whole once it succeeds. */
+/* Each allocation of a call fails in turn, and each mapping, until the call succeeds: it returns WARM_MEMORY, and what was there before is still
+ * there. What allocates nothing succeeds while every allocation fails. The check links malloc, realloc, free, mmap and munmap to the functions below
+ * (ld --wrap). refused SHARDS: a replica has this many. A call on several of them may be refused with a part of it done, and is whole once it
+ * succeeds. */
 #define _GNU_SOURCE /* mkstemp */
 #define PROGRAM "refused"
 #include "expect.h"
+
+#include <sys/mman.h>
 
 enum { PAGE_SIZE = 512, FRAMES = 4, SEEN = 200, FRAME_ROOM = 40000, MOST_GRANTS = 100000 };
 
 static size_t shards;
 
-/* How many more allocations succeed. */
+/* How many more allocations and mappings succeed, and how many of both there are. */
 static size_t granted = SIZE_MAX;
+static long blocks, mappings;
 
 void *__real_malloc(size_t size);
 void *__real_realloc(void *block, size_t size);
+void __real_free(void *block);
+void *__real_mmap(void *at, size_t size, int may, int how, int fd, off_t from);
+int __real_munmap(void *at, size_t size);
 
 static bool is_granted(void) {
     if (granted == 0) return false;
@@ -21,9 +28,33 @@ static bool is_granted(void) {
     return true;
 }
 
-void *__wrap_malloc(size_t size) { return is_granted() ? __real_malloc(size) : NULL; }
+void *__wrap_malloc(size_t size) {
+    void *block = is_granted() ? __real_malloc(size) : NULL;
+    blocks += block != NULL;
+    return block;
+}
 
-void *__wrap_realloc(void *block, size_t size) { return is_granted() ? __real_realloc(block, size) : NULL; }
+void *__wrap_realloc(void *block, size_t size) {
+    void *moved = is_granted() ? __real_realloc(block, size) : NULL;
+    blocks += block == NULL && moved != NULL;
+    return moved;
+}
+
+void __wrap_free(void *block) {
+    blocks -= block != NULL;
+    __real_free(block);
+}
+
+void *__wrap_mmap(void *at, size_t size, int may, int how, int fd, off_t from) {
+    void *mapping = is_granted() ? __real_mmap(at, size, may, how, fd, from) : MAP_FAILED;
+    mappings += mapping != MAP_FAILED;
+    return mapping;
+}
+
+int __wrap_munmap(void *at, size_t size) {
+    mappings--;
+    return __real_munmap(at, size);
+}
 
 /* The call, once with none of its allocations granted, once with one, and so on; and what holds after each refusal. */
 #define EACH_REFUSED(call, unchanged)                                           \
@@ -68,6 +99,19 @@ static uint8_t first_byte(warm *handle, warm_page page) {
 static void opened(warm *handle, uint16_t replica, int fd) {
     warm_device device = {.pages = 16, .fd = fd};
     EACH_REFUSED(warm_open(handle, replica, shards, FRAMES * shards, PAGE_SIZE, &device, 1), handle->at == NULL);
+}
+
+/* Frames of whole pages of the system, whose memory is mapped. Nothing is left of a refused call, nor after the close. */
+static void mapped(void) {
+    for (size_t size = 4096; size <= 16384; size *= 4) {
+        warm_device device = {.pages = 1000, .fd = temporary()};
+        warm handle = {0};
+        EACH_REFUSED(warm_open(&handle, 1, shards, 600, size, &device, 1), handle.at == NULL && blocks == 0 && mappings == 0);
+        MUST(mappings > 0);
+        UNREFUSED(warm_close(&handle));
+        MUST(blocks == 0 && mappings == 0);
+        close(device.fd);
+    }
 }
 
 static void attached(warm *handle) {
@@ -192,6 +236,7 @@ int main(int count, char **words) {
     shards = strtoul(words[1], NULL, 10);
     int fds[] = {temporary(), temporary(), temporary()};
     warm from = {0}, to = {0};
+    mapped();
     opened(&from, 1, fds[0]);
     opened(&to, 2, fds[1]);
     attached(&from);
@@ -201,7 +246,7 @@ int main(int count, char **words) {
     unrefused(&from);
     UNREFUSED(warm_close(&from));
     UNREFUSED(warm_close(&to));
-    MUST(from.at == NULL && to.at == NULL);
+    MUST(from.at == NULL && to.at == NULL && blocks == 0 && mappings == 0);
     for (int at = 0; at < 3; at++) close(fds[at]);
     return end_as_expected();
 }

@@ -564,6 +564,29 @@ static void many_frames(void) {
     free(is_taken);
 }
 
+/* A page that a warm-up step has read is where a call on that page looks for it: so both parts of the library have one shard for a page. */
+static void found_again(void) {
+    enum { DEVICES = 2, EACH = 64 };
+    int fds[DEVICES] = {temporary(), temporary()};
+    warm handle = {0};
+    warm_page page;
+    bool found;
+    size_t read = 0;
+    open_over(&handle, DEVICES * EACH, fds, DEVICES);
+    for (uint16_t dev = 0; dev < DEVICES; dev++) {
+        for (uint64_t no = 0; no < EACH; no++) OK(warm_absorb(&handle, &(warm_reference){.time = no + 1, .no = PAGES - 1 - no, .dev = dev, .replica = 1}, 1));
+    }
+    for (OK(warm_step(&handle, &found, &page)); found; read++) {
+        bool resident = false;
+        OK(warm_resident(&handle, page, &resident));
+        MUST(resident);
+        OK(warm_step(&handle, &found, &page));
+    }
+    MUST(read == DEVICES * EACH);
+    OK(warm_close(&handle));
+    for (int dev = 0; dev < DEVICES; dev++) close(fds[dev]);
+}
+
 int main(int count, char **words) {
     MUST(count == 2);
     shards = strtoul(words[1], NULL, 10);
@@ -575,6 +598,7 @@ int main(int count, char **words) {
     last_failures();
     portions();
     warmed_up();
+    found_again();
     replaced_in_all();
     forgotten_in_all();
     many_frames();
