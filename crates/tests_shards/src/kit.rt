@@ -12,7 +12,7 @@ use warm_shards::Shards;
 use warm_shared::{Attached, SharedShards, Sharing};
 use warm_stamps::Reference;
 
-/// A node of so many frames over a device.
+/// A node of a replica with this many frames over a device.
 pub(crate) fn node_over<D: PageDevice>(
     rt: &impl Abort,
     alloc: Global,
@@ -49,7 +49,7 @@ pub(crate) fn over<D: PageDevice>(
     }
 }
 
-/// As many nodes of a replica.
+/// This many nodes of a replica.
 pub(crate) fn nodes(
     rt: &impl Abort,
     alloc: Global,

@@ -2,7 +2,8 @@
 //! unchanged. Loops in threads of their own are in mail_loops.
 ghost use Rattle.std.specs.Prelude.{◌≡◌};
 
-use crate::setup::{fresh_node, node_over, turn_and_worker};
+use crate::kit::{bytes_of, node_over};
+use crate::setup::{fresh_node, turn_and_worker};
 use crossbeam_channel::{Receiver, Sender, unbounded};
 use std::alloc::Global;
 use std::process::Abort;
@@ -10,7 +11,7 @@ use std::sync::Wait;
 use test_kit::{NARROW, WIDE, entry, memory, once, page, replica, seen, twice};
 use warm_devices::MemDevice;
 use warm_digest::digests;
-use warm_frames::{EntryList, Message, decode, encode};
+use warm_frames::{EntryList, Message, decode};
 use warm_gossip::Node;
 use warm_history::{Entry, History};
 use warm_pool::Slot;
@@ -73,7 +74,7 @@ pub(crate) fn digest_of(rt: &impl Abort, alloc: Global, number: u16, horizon: u6
         horizon,
         digests,
     };
-    encode(alloc, &message).expect(rt, "memory for the bytes")
+    bytes_of(rt, alloc, &message)
 }
 
 // The numbers of Stops and turns after which a loop ends, and the number of items of its channel.
@@ -400,7 +401,7 @@ fn a_thousand_entries_go_through_an_outbox(rt: HostRuntime) {
         horizon: 0,
         entries: thousand(&rt, alloc),
     };
-    let text = encode(alloc, &message).expect(&rt, "memory for the bytes");
+    let text = bytes_of(&rt, alloc, &message);
     assert!(rt; text.len() == 31_023);
     let mail = mailed(&rt, alloc, &[text.as_slice(), &request_of(9, 0, 2)]);
     let (boxes, receiver) = outbox_of(&rt, alloc, 9);
@@ -452,7 +453,7 @@ const FIRST: Slot = Slot {
 // `stays` is true.
 fn filled(rt: &impl Abort, alloc: Global, stays: bool) -> Node<MemDevice> {
     let device = memory(alloc, 8).expect(rt, "memory for a device");
-    let mut node = node_over(rt, alloc, 1, device);
+    let mut node = node_over(rt, alloc, 1, 1, device);
     let slot = node.pin(page(3)).ok().expect(rt, "the page comes in");
     node.write(slot, 0, &[7, 8, 9])
         .ok()

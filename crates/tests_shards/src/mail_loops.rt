@@ -3,7 +3,7 @@ use crate::mail::{
     boxed, brings, brings_entries, brings_request, channel_of, digest_of, entry_at, mailed,
     outbox_of, report,
 };
-use crate::setup::{comes, fresh_node, turn_and_worker};
+use crate::setup::{comes, fresh_node, node_of, turn_and_worker};
 use crossbeam_channel::{Receiver, Sender};
 use std::alloc::Global;
 use std::process::Abort;
@@ -11,10 +11,7 @@ use std::sync::atomic::{AtomicU64, Ordering};
 use std::sync::{Arc, Wait};
 use std::thread::{self, Threads};
 use std::time::Clock;
-use test_kit::{NARROW, alone, entry, memory, page, replica, twice};
-use warm_devices::MemDevice;
-use warm_gossip::Node;
-use warm_pool::Pool;
+use test_kit::{NARROW, entry, page, twice};
 use warm_replica::{BatchMachine, Mail, MailLoop, MailReport, Outbox, run_mail_loops};
 
 // The counts of two machines of their mail, each in a thread of its own, until each has received a
@@ -76,16 +73,6 @@ fn two_replicas_take_their_mail_in_threads(rt: HostRuntime) {
     assert!(rt; one == report(1, 1, 0) && two == report(2, 0, 0));
     assert!(rt; brings_entries(&rt, alloc, &receiver, &answer));
     assert!(rt; brings_request(&rt, alloc, &receiver, 128) && !brings(&rt, &receiver));
-}
-
-// A node of a replica with two frames over a device of 8 pages.
-fn node_of(rt: &impl Abort, alloc: Global, number: u16) -> Node<MemDevice> {
-    let device = memory(alloc, 8).expect(rt, "memory for a device");
-    let devices = alone(alloc, device).expect(rt, "memory for a list");
-    match Pool::new(alloc, 2, 16, devices) {
-        Ok(pool) => Node::new(alloc, replica(number), pool),
-        Err(_) => panic!(rt; "no pool"),
-    }
 }
 
 // Both ends of a channel.

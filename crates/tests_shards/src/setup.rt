@@ -1,38 +1,29 @@
 //! Nodes, turns and workers that the tests start with, a bounded wait, and lists of replies.
 ghost use Rattle.std.specs.Prelude.{◌≡◌};
 
+use crate::kit::node_over;
 use std::alloc::Global;
 use std::process::Abort;
 use std::sync::atomic::{AtomicU64, Ordering};
 use std::thread;
 use std::time::{Clock, Duration};
-use test_kit::{alone, memory, replica};
-use warm_devices::{MemDevice, PageDevice};
+use test_kit::memory;
+use warm_devices::MemDevice;
 use warm_gossip::{Node, Reply};
-use warm_pool::Pool;
 use warm_refbuffer::RefBuffer;
 use warm_replica::{BatchMachine, Replies, StepReply, Worker};
 use warm_stamps::PageList;
 use warm_turn::{Pass, Turn};
 
-// A node of replica 1 with this many frames.
-pub(crate) fn node_over<D: PageDevice>(
-    rt: &impl Abort,
-    alloc: Global,
-    frames: usize,
-    device: D,
-) -> Node<D> {
-    let devices = alone(alloc, device).expect(rt, "memory for a list");
-    match Pool::new(alloc, frames, 16, devices) {
-        Ok(pool) => Node::new(alloc, replica(1), pool),
-        Err(_) => panic!(rt; "no pool"),
-    }
+// A node of a replica with two frames over a device of 8 pages.
+pub(crate) fn node_of(rt: &impl Abort, alloc: Global, number: u16) -> Node<MemDevice> {
+    let device = memory(alloc, 8).expect(rt, "memory for a device");
+    node_over(rt, alloc, number, 2, device)
 }
 
-// A node of two frames over a device of 8 pages.
+// The same of replica 1.
 pub(crate) fn fresh_node(rt: &impl Abort, alloc: Global) -> Node<MemDevice> {
-    let device = memory(alloc, 8).expect(rt, "memory for a device");
-    node_over(rt, alloc, 2, device)
+    node_of(rt, alloc, 1)
 }
 
 // A turn over this machine, and its first pass.

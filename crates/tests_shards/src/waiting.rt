@@ -1,6 +1,7 @@
 //! A page is read while another thread touches what it has referenced: a touch never waits.
 use crate::jobs::{FIRST, run_over};
-use crate::setup::{comes, list_of, node_over};
+use crate::kit::node_over;
+use crate::setup::{comes, list_of};
 use std::alloc::Global;
 use std::process::Abort;
 use std::sync::atomic::{AtomicU64, Ordering};
@@ -151,7 +152,7 @@ fn are_answered<R: Clock + Threads + Wait + Abort + Sync>(
     clock: HostRuntime,
     flags: &Arc<Flags, Global>,
 ) -> bool {
-    let node = node_over(rt, alloc, 1, slow_device(rt, alloc, clock, flags));
+    let node = node_over(rt, alloc, 1, 1, slow_device(rt, alloc, clock, flags));
     let gate = WhileRead { clock: rt, flags };
     let (pinned, touched) = pins_and_touches(rt, alloc, node, &gate);
     let pinned = list_of(rt, alloc, pinned);
