@@ -31,6 +31,7 @@ impl CallsMade {
     }
 
     /// Notes one call of the kind that fails with this fault, whether it failed or not.
+    #[inline(always)]
     pub fn note(&mut self, kind: DeviceFault)
         ensures { self.new.made ≡ one_call kind self.old.made }
     {
@@ -38,6 +39,7 @@ impl CallsMade {
     }
 
     // The calls after one more.
+    #[inline(always)]
     fn after(_before: &CallsMade, _kind: &DeviceFault) -> CallsMade
         ensures { result.made ≡ one_call _kind.now _before.now.made }
     {

@@ -83,20 +83,20 @@ pub full_first : (limit at room : ℕ) (old new : PoolState) → at < length old
     → CleansFirst limit old new
 full_first limit at room old new lt so is =
     let none = none_left (nth_frame new.frames at).dirty room is in let spent = so.spent in
-    record { upto = at; within = omega (arith, lt); few = omega (arith, spent); whole = λ _. omega (arith, none, spent); down = so.down }
+    record { upto = at; within = omega (arith, lt); few = omega (arith, spent); whole = λ _. omega (arith, none, spent); down = so.down; unflushed = so.unflushed }
 
 pub all_first : (limit at room : ℕ) (old new : PoolState) → at ≤ length old.frames
     → length old.frames ≤ at → SomeSoFar limit at room old new → CleansFirst limit old new
 all_first limit at room old new within all so =
     let spent = so.spent in
-    record { upto = at; within = within; few = omega (arith, spent); whole = λ lt. absurd (omega (arith, lt, all)); down = so.down }
+    record { upto = at; within = within; few = omega (arith, spent); whole = λ lt. absurd (omega (arith, lt, all)); down = so.down; unflushed = so.unflushed }
 
 -- the write of a frame's page failed
 pub some_fails : (limit at room rest : ℕ) (old new later : PoolState) → at < length old.frames
     → SomeSoFar limit at room old new
     → room_after (nth_frame new.frames at).dirty room ≡ Some rest → view_of new ≡ view_of old
-    → CleanFails new at later → SomeFails limit old later
-some_fails limit at room rest old new later lt so is same fails =
+    → FlushesNone new.devices later.devices → CleanFails new at later → SomeFails limit old later
+some_fails limit at room rest old new later lt so is same none fails =
     let here : nth_frame new.frames at ≡ nth_frame old.frames at = ap (λ fs. nth_frame fs at) so.down.becomes ∙ nth_rest All at old.frames at (omega arith) in
     let was : (nth_frame old.frames at).dirty ≡ true = ap (λ f. f.dirty) (sym here) ∙ fails.dirty in
     let more = spent_more limit at room rest old new lt so is in
@@ -113,6 +113,7 @@ some_fails limit at room rest old new later lt so is same fails =
       below = omega (arith, count, unit, all);
       frames = fails.frames ∙ so.down.becomes;
       fails = subst (λ v. FailsAt v fails.page.dev (view_of later)) same fails.fails;
+      unflushed = λ k. none k ∙ so.unflushed k;
     }
 
 -- before the first frame

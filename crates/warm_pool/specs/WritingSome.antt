@@ -7,6 +7,7 @@ use Rattle.warm_pool.specs.declared.fault.PoolFault.{PoolFault}
 use Rattle.warm_pool.specs.declared.fault.PoolFault.TheVariants.{NoDevice, Fault}
 use Rattle.warm_pool.specs.State.{PoolState, nth_device}
 use Rattle.warm_pool.specs.View.{view_of}
+use Rattle.warm_pool.specs.Calls.{FlushesNone}
 use Rattle.warm_pool.specs.Keeping.{FailsAt}
 use Rattle.warm_pool.specs.WritingBack.{StopsAt, WritesBack, cleaned_selected, cleaned_to, is_on}
 use Rattle.warm_pool.specs.declared.selection.Devices.TheVariants.{One}
@@ -26,19 +27,22 @@ dirty_count (f ∷ frames) = one_if f.dirty + dirty_count frames
 
 -- The pages of the first frames, up to one, were written back, and nothing has changed for a
 -- caller. Of these frames at most `limit` were dirty: exactly so many, unless these are all frames.
+-- No device was flushed.
 pub record CleansFirst (limit : ℕ) (old new : PoolState) : Type 0 where
   pub upto : ℕ
   pub within : upto ≤ length old.frames
   pub few : dirty_count (take upto old.frames) ≤ limit
   pub whole : upto < length old.frames → dirty_count (take upto old.frames) ≡ limit
   pub down : WritesBack (cleaned_to upto old.frames) old new
+  pub unflushed : FlushesNone old.devices new.devices
 
 -- the same, and this many pages are still dirty
 abbrev pub WritesBackSome : ℕ → PoolState → ℕ → PoolState → Type 0
 WritesBackSome limit old left new = CleansFirst limit old new × (left ≡ dirty_count new.frames)
 
 -- The write of the page of a dirty frame failed, after the pages of the frames before it were
--- written back, fewer than `limit`; the frame and those after it are unchanged.
+-- written back, fewer than `limit`; the frame and those after it are unchanged. No device was
+-- flushed.
 pub record SomeFails (limit : ℕ) (old new : PoolState) : Type 0 where
   pub frame : ℕ
   pub page : PageId
@@ -48,6 +52,7 @@ pub record SomeFails (limit : ℕ) (old new : PoolState) : Type 0 where
   pub below : dirty_count (take frame old.frames) < limit
   pub frames : new.frames ≡ cleaned_to frame old.frames
   pub fails : FailsAt (view_of old) page.dev (view_of new)
+  pub unflushed : FlushesNone old.devices new.devices
 
 -- how many more dirty pages may be written, after one frame; none where no more may
 abbrev pub room_after : Bool → ℕ → Option ℕ

@@ -37,14 +37,14 @@ returns-in_err-clean_if-clause-stopped g c =
     let seen = ap (λ s. length s.frames) c.self.view_is in
     let is = sym (ap (λ d. room_after d c.loop-at.room) c.is_dirty.ensures) ∙ sym c.room_after.ensures ∙ c.in-Some.is in
     let so = c.loop-at.invariant in
-    on_err _ _ (some_fails c.args.limit c.loop-at.at c.loop-at.room _ _ _ _ (omega (arith, seen)) so is (down_view All c.loop-at.at _ _ so.down) c.in_err-clean_if.ensures.failed.1)
+    on_err _ _ (some_fails c.args.limit c.loop-at.at c.loop-at.room _ _ _ _ (omega (arith, seen)) so is (down_view All c.loop-at.at _ _ so.down) c.in_err-clean_if.ensures.unflushed c.in_err-clean_if.ensures.failed.1)
 
 pub returns-in_err-clean_if-clause-ranked : goal.returns-in_err-clean_if-clause-ranked
 returns-in_err-clean_if-clause-ranked g c =
     let seen = ap (λ s. length s.frames) c.self.view_is in
     let is = sym (ap (λ d. room_after d c.loop-at.room) c.is_dirty.ensures) ∙ sym c.room_after.ensures ∙ c.in-Some.is in
     let so = c.loop-at.invariant in
-    failed_ranked c.args.limit _ _ (some_fails c.args.limit c.loop-at.at c.loop-at.room _ _ _ _ (omega (arith, seen)) so is (down_view All c.loop-at.at _ _ so.down) c.in_err-clean_if.ensures.failed.1)
+    failed_ranked c.args.limit _ _ (some_fails c.args.limit c.loop-at.at c.loop-at.room _ _ _ _ (omega (arith, seen)) so is (down_view All c.loop-at.at _ _ so.down) c.in_err-clean_if.ensures.unflushed c.in_err-clean_if.ensures.failed.1)
 
 pub returns-clause-down : goal.returns-clause-down
 returns-clause-down g c =
