@@ -23,13 +23,13 @@ pub struct DeviceFile {
 
 impl DeviceFile {
     ghost use Rattle.warm_c.specs.FdParts.{Remembers};
-    ghost use Rattle.warm_devices.specs.CountedParts.{no_calls, one_flush, one_read, one_write};
+    ghost use Rattle.warm_devices.specs.CountedParts.{none_counted, one_flush, one_read, one_write};
 
     /// Wraps a descriptor, as a file of which no call was made. Nothing is asked of it yet.
     pub fn new(descriptor: Descriptor) -> DeviceFile
         ensures over { result.descriptor ≡ descriptor }
         ensures unfailed { result.flush_failed ≡ false }
-        ensures none { result.calls ≡ no_calls }
+        ensures none { result.calls ≡ none_counted }
     {
         DeviceFile {
             descriptor,
