@@ -172,8 +172,7 @@ fn use_worker<R: Wait + Abort>(rt: &R, alloc: Global) {
     let mut worker = Worker::new(pass, buffer);
     assert!(rt; worker.touch(seen(page(1), 10, 1)) == Ok(()));
     assert!(rt; worker.touch(seen(page(1), 20, 1)) == Ok(()));
-    let third = seen(page(1), 30, 1);
-    assert!(rt; worker.touch(third) == Err(Full(third)));
+    assert!(rt; worker.touch(seen(page(1), 30, 1)) == Err(Full(seen(page(1), 30, 1))));
     assert!(rt; worker.flush(rt, alloc, &replica) == Ok(()));
     let answered = worker.call(rt, &replica, Call::WarmList(5));
     let Reply::Pages(pages) = answered.ok().expect(rt, "a ticket") else {

@@ -1,10 +1,11 @@
 use denote.Param.Send.{sendable}
 use Rattle.std.proofs.Crossing.{crosses}
+use Rattle.warm_devices.proofs.calls.CallsMade.TheSendSync.{the_send as calls_send}
 use Rattle.warm_shared.proofs.Sent.{attached_send, shards_sync}
 use Rattle.bench_threads.proofs.shared.hit_by_four.Goals as goal
 
 pub join-attached-requires-send-F : goal.join-attached-requires-send-F
-join-attached-requires-send-F g c κs within = let r = c.type_bounds.sync-R in search (sendable, crosses, attached_send, shards_sync) depth 20
+join-attached-requires-send-F g c κs within = let r = c.type_bounds.sync-R in search (sendable, crosses, calls_send, attached_send, shards_sync) depth 20
 
 pub join-attached-requires-send-A : goal.join-attached-requires-send-A
-join-attached-requires-send-A g c κs within = search (sendable, crosses, attached_send) depth 20
+join-attached-requires-send-A g c κs within = search (sendable, crosses, calls_send, attached_send) depth 20
