@@ -82,7 +82,7 @@ emit(uint8 kind, uint8 *message, Size length)
 
 	message[0] = WS_MESSAGE_VERSION;
 	message[1] = kind;
-	ws_put(message + 2, (uint64) GetCurrentTimestamp(), 8);
+	ws_put(ws_put(message + 2, (uint64) GetCurrentTimestamp(), 8), ws_stats.known, 8);
 	XLogBeginInsert();
 	XLogRegisterData((char *) &record, SizeOfLogicalMessage);
 	XLogRegisterData((char *) WS_NAME, sizeof WS_NAME);

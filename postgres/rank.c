@@ -366,7 +366,18 @@ walk_buffers(void)
 		if (ws_load && BUF_STATE_GET_USAGECOUNT(state) < usage_of(entry->rank))
 			touch(i, &tag, usage_of(entry->rank));
 	}
-	ws_stats.wanted = wanted_count;
+}
+
+/*
+ * How many pages this standby would keep warm if it knew all that its primary
+ * knows: one that lacks a part of the history is not warm.
+ */
+static int64
+count_wanted(void)
+{
+	int64		lacks = Max(ws_stats.primary_known - ws_stats.known, 0);
+
+	return Max((int64) wanted_count, Min((int64) (ws_fraction * NBuffers), wanted_count + lacks));
 }
 
 /* Hands out the hottest pages that are missing, then those to prefetch. */
@@ -411,6 +422,7 @@ ws_round(void)
 	reap_loaders();
 	rank_pages();
 	walk_buffers();
+	ws_stats.wanted = count_wanted();
 	if (ws_load)
 		load_pages();
 	MemoryContextReset(round_context);
@@ -420,6 +432,7 @@ ws_round(void)
 	is_warm = ws_stats.resident >= ws_stats.wanted * (is_warm ? 0.9 : 0.99) && ws_stats.wanted > 0;
 	ws_stats.rounds++;
 	ws_stats.round_us = ws_us() - begun;
+	ws_last_round = GetCurrentTimestamp();
 }
 
 /* Puts the hottest pages where SQL finds them. */

@@ -107,14 +107,22 @@ ws_receive_stop(void)
 	close_segment();
 }
 
-/* What a message that begins so is refused for, or WARM_OK. */
+static Size
+header_length(const uint8 *bytes)
+{
+	return bytes[0] == 1 ? WS_HEADER_1 : WS_HEADER;
+}
+
+/* What a message is refused for by its header, or WARM_OK. */
 static int
 header_status(const uint8 *bytes, Size length)
 {
-	if (length < WS_HEADER)
+	if (length < WS_HEADER_1)
 		return WS_BAD_MESSAGE;
-	if (bytes[0] != WS_MESSAGE_VERSION)
+	if (bytes[0] != WS_MESSAGE_VERSION && bytes[0] != WS_MESSAGE_VERSION - 1)
 		return WS_BAD_VERSION;
+	if (length < header_length(bytes))
+		return WS_BAD_MESSAGE;
 	if (bytes[1] != WS_MESSAGE_FRAME && bytes[1] != WS_MESSAGE_DIRECTORY)
 		return WS_BAD_MESSAGE;
 	if (ws_get(bytes + 2, 8) > (uint64) GetCurrentTimestamp() + ws_clock_tolerance * US_PER_S)
@@ -130,23 +138,24 @@ static void
 take_message(const uint8 *bytes, Size length)
 {
 	int			status = header_status(bytes, length);
+	Size		header = status == WARM_OK ? header_length(bytes) : 0;
 	uint64		time;
 
 	if (status == WARM_OK && bytes[1] == WS_MESSAGE_DIRECTORY)
 	{
-		status = ws_directory_decode(bytes + WS_HEADER, length - WS_HEADER);
+		status = ws_directory_decode(bytes + header, length - header);
 		if (status == WS_OTHER_DIRECTORY)
 		{
 			ws_history_reset("another primary gave the numbers of devices");
-			(void) ws_directory_decode(bytes + WS_HEADER, length - WS_HEADER);
+			(void) ws_directory_decode(bytes + header, length - header);
 		}
 	}
-	else if (status == WARM_OK &&
-			 ws_history_receive(bytes + WS_HEADER, length - WS_HEADER) == WARM_OK)
+	else if (status == WARM_OK && ws_history_receive(bytes + header, length - header) == WARM_OK)
 	{
 		time = ws_get(bytes + 2, 8);
 		ws_latest = Max(ws_latest, time);
 		ws_last_frame = Max(ws_last_frame, (TimestampTz) time);
+		ws_stats.primary_known = header == WS_HEADER ? ws_get(bytes + WS_HEADER_1, 8) : -1;
 		ws_stats.frames_received++;
 	}
 	if (status != WARM_OK)

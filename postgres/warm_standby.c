@@ -27,7 +27,7 @@ PGDLLEXPORT void warm_standby_main(Datum main_arg);
 WsShared   *ws_shared = NULL;
 WsStats		ws_stats;
 int64		ws_refused[WS_STATUSES];
-TimestampTz ws_last_frame = 0;
+TimestampTz ws_last_frame = 0, ws_last_round = 0;
 
 bool		ws_enabled;
 bool		ws_load;
@@ -214,6 +214,7 @@ static void
 begin_role(void)
 {
 	is_standby = RecoveryInProgress();
+	ws_stats.primary_known = -1;
 	if (is_standby)
 		ws_receive_start();
 	else
@@ -232,6 +233,7 @@ start(void)
 	ws_shared->latch = MyLatch;
 	ws_shared->is_standby = RecoveryInProgress();
 	ws_shared->epoch++;
+	ws_shared->stats_reset = GetCurrentTimestamp();
 	LWLockRelease(ws_shared->lock);
 	ws_history_start();
 	ws_rank_reset();
@@ -317,6 +319,7 @@ turn(void)
 	LWLockAcquire(ws_shared->lock, LW_EXCLUSIVE);
 	ws_shared->is_standby = is_standby;
 	ws_shared->last_frame = ws_last_frame;
+	ws_shared->last_round = ws_last_round;
 	ws_shared->stats = ws_stats;
 	memcpy(ws_shared->refused, ws_refused, sizeof ws_refused);
 	list_wanted = ws_shared->list_wanted;

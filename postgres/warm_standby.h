@@ -112,6 +112,7 @@ typedef struct WsStats
 	int64		read_us;
 	int64		pages_prefetched;
 	int64		pages_failed;
+	int64		primary_known;	/* pages of the primary's history; -1: it did not say */
 } WsStats;
 
 /* lock guards all of it, but the batch of a slot that its state gives to one process. */
@@ -122,6 +123,8 @@ typedef struct WsShared
 	uint64		epoch;			/* counts the starts of the worker */
 	bool		is_standby;
 	TimestampTz last_frame;		/* when the newest frame was written */
+	TimestampTz last_round;		/* when the last round of loading ended */
+	TimestampTz stats_reset;	/* since when is counted */
 	WsStats		stats;
 	int64		refused[WS_STATUSES];
 	bool		list_wanted;
@@ -138,7 +141,7 @@ extern WsShared *ws_shared;
 /* The worker's own, copied once a turn. */
 extern WsStats ws_stats;
 extern int64 ws_refused[WS_STATUSES];
-extern TimestampTz ws_last_frame;
+extern TimestampTz ws_last_frame, ws_last_round;
 
 /* Settings, in the units that their names have in warm_standby.c. */
 extern bool ws_enabled;
@@ -192,11 +195,15 @@ extern uint64 ws_us(void);
 extern bool ws_wait(long milliseconds);
 extern void ws_describe_worker(BackgroundWorker *worker, const char *function, const char *name);
 
-/* A message: a header of WS_HEADER bytes, and its content. */
-#define WS_MESSAGE_VERSION 1
+/*
+ * A message: a header of WS_HEADER bytes, and its content.  Standbys are upgraded
+ * before their primary, so the version before this one is taken too.
+ */
+#define WS_MESSAGE_VERSION 2
 #define WS_MESSAGE_FRAME 1
 #define WS_MESSAGE_DIRECTORY 2
-#define WS_HEADER		10		/* version, kind, time */
+#define WS_HEADER		18		/* version, kind, time, pages that the primary knows */
+#define WS_HEADER_1		10		/* of version 1: the same without the pages */
 #define WS_DEVICE_BYTES 11		/* number, tablespace, database, fork */
 #define WS_FRAME_ROOM	32768	/* a frame has at most 31,023 bytes */
 

@@ -43,6 +43,19 @@ DROP ROLE regress_warm_nobody, regress_warm_monitor;
 -- what users write is no message of ours
 SELECT pg_logical_emit_message(false, 'warm_standby', 'forged') IS NOT NULL AS written;
 DROP TABLE warm;
+-- the view of an extension of another version: fewer columns, or more, which are null
+CREATE FUNCTION older(OUT role text, OUT refused bigint) RETURNS record
+AS '$libdir/warm_standby', 'warm_standby_status' LANGUAGE C;
+SELECT * FROM older();
+DO $$
+BEGIN
+    EXECUTE format('CREATE FUNCTION newer(%s, OUT to_come bigint) RETURNS record
+        AS ''$libdir/warm_standby'', ''warm_standby_status'' LANGUAGE C',
+        pg_get_function_arguments('warm_standby_status'::regproc));
+END
+$$;
+SELECT role, samples > 0 AS samples, to_come FROM newer();
+DROP FUNCTION older, newer;
 DROP EXTENSION warm_standby;
 -- in a schema whose owner has operators of his own, which fit better
 CREATE SCHEMA regress_warm;
