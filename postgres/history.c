@@ -105,19 +105,47 @@ ws_clock(void)
 	return ws_latest;
 }
 
-/* Counts a call of the library that is refused; returns its status. */
-static int
-note(int status)
+/* What an operator can do where this is refused, or NULL. */
+static const char *
+hint_of(int status)
 {
-	if (status != WARM_OK && status >= 0 && status < WS_STATUSES)
-		ws_refused[status]++;
+	switch (status)
+	{
+		case WS_BAD_VERSION:
+			return "Upgrade this server to the version of its primary.";
+		case WS_OTHER_DIRECTORY:
+			return "Find out whether two servers were primaries at the same time.";
+		case WS_LATE_MESSAGE:
+		case WARM_LATE_STAMP:
+		case WARM_LATE_HORIZON:
+			return "Compare the clocks of the servers. They may differ by \"warm_standby.clock_tolerance\".";
+		default:
+			return NULL;
+	}
+}
+
+/* Counts what is refused, a message or a call of the library, and warns of it; returns its status. */
+int
+ws_note(int status, const char *what)
+{
+	const char *hint = hint_of(status);
+
+	if (status == WARM_OK || status < 0 || status >= WS_STATUSES)
+		return status;
+	ws_refused[status]++;
+	if (ws_may_log(status))
+		ereport(WARNING,
+				(errcode(status == WARM_MEMORY ? ERRCODE_OUT_OF_MEMORY : ERRCODE_PROTOCOL_VIOLATION),
+				 errmsg("warm_standby refused %s: %s", what, ws_status_name(status)),
+				 hint != NULL ? errhint("%s", hint) : 0));
 	return status;
 }
 
 static void
 absorb(int bucket)
 {
-	note(warm_absorb(&history, references[bucket], reference_counts[bucket]));
+	ws_note(warm_absorb(&history, references[bucket], reference_counts[bucket]),
+			"references of a sample");
 	reference_counts[bucket] = 0;
 }
 
@@ -153,7 +181,7 @@ ws_history_receive(const uint8 *frame, Size length)
 	if (ws_latest > time_limit())
 		ws_history_reset("the clock was set back");
 	warm_limit(&history, time_limit());
-	return note(warm_receive(&history, frame, length));
+	return ws_note(warm_receive(&history, frame, length), "a message of its primary");
 }
 
 /*
@@ -164,8 +192,9 @@ bool
 ws_history_piece(uint8 bucket, uint64 since, bool has_after, warm_page *after, uint8 *frame,
 				 Size *length, bool *more)
 {
-	return note(warm_send_since(&history, bucket, since, has_after, *after, frame, WS_FRAME_ROOM,
-								length, more, after)) == WARM_OK;
+	return ws_note(warm_send_since(&history, bucket, since, has_after, *after, frame,
+								   WS_FRAME_ROOM, length, more, after),
+				   "a publication") == WARM_OK;
 }
 
 /* The hottest pages, hottest first. */
@@ -175,7 +204,7 @@ ws_history_list(warm_page *pages, Size room)
 	Size		count = 0;
 
 	if (room > 0)
-		note(warm_list(&history, pages, room, &count));
+		ws_note(warm_list(&history, pages, room, &count), "a ranking");
 	return count;
 }
 
@@ -288,7 +317,7 @@ void
 ws_history_save(void)
 {
 	int			fd = ws_directory_save() ? open_draft(HISTORY_FILE) : -1;
-	int			status = fd >= 0 ? note(warm_save(&history, fd)) : WARM_OK;
+	int			status = fd >= 0 ? ws_note(warm_save(&history, fd), "a save") : WARM_OK;
 
 	if (fd >= 0 &&
 		end_draft(fd, HISTORY_FILE, status == WARM_OK ? NULL : ws_status_name(status)))
@@ -354,7 +383,7 @@ ws_history_start(void)
 	ws_directory_reset();
 	if (load_directory() && (fd = open_saved(HISTORY_FILE, &length)) >= 0)
 	{
-		status = note(warm_load(&history, fd, length));
+		status = ws_note(warm_load(&history, fd, length), "a saved history");
 		CloseTransientFile(fd);
 		if (status != WARM_OK)
 			ereport(LOG, (errmsg("warm_standby does not use \"%s\": %s", HISTORY_FILE,

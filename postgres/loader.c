@@ -96,6 +96,25 @@ read_file(WsRequest *some, int count)
 	return WS_NO_FILE;
 }
 
+/* Whether an error is a conflict with replay. */
+static bool
+is_cancelled(const ErrorData *error)
+{
+	return ERRCODE_TO_CATEGORY(error->sqlerrcode) == ERRCODE_TRANSACTION_ROLLBACK;
+}
+
+/* Says why a page was not read.  A message of a fault of storage names the file and the block. */
+static void
+log_error(const ErrorData *error, const WsPage *page)
+{
+	ereport(!is_cancelled(error) && ws_may_log(WS_FAULT_READ) ? WARNING : DEBUG1,
+			(errcode(error->sqlerrcode),
+			 errmsg("warm_standby could not read a page: %s", error->message),
+			 errdetail("It is block %u of fork %d of file %u in tablespace %u and database %u.",
+					   page->block, page->device.fork, page->file, page->device.space,
+					   page->device.database)));
+}
+
 /* The same, where an error costs these pages and nothing else. */
 static void
 try_file(WsRequest *some, int count)
@@ -121,10 +140,9 @@ try_file(WsRequest *some, int count)
 		AbortCurrentTransaction();
 		if (reading != NULL)
 			reading->outcome = WS_FAILED;
-		if (reading || ERRCODE_TO_CATEGORY(error->sqlerrcode) == ERRCODE_TRANSACTION_ROLLBACK)
+		if (reading || is_cancelled(error))
 			rest = WS_WAITING;	/* they are handed out again */
-		ereport(DEBUG1, (errmsg_internal("warm_standby could not read file %u: %s", some->page.file,
-										 error->message)));
+		log_error(error, reading != NULL ? &reading->page : &some->page);
 		FreeErrorData(error);
 	}
 	PG_END_TRY();

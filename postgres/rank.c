@@ -52,7 +52,6 @@ static Oid	next_of[WS_MOST_LOADERS];	/* the database that gets a slot next */
 static Oid	waiting;			/* the one that found no slot, whose page is hottest */
 static uint64 round_at;			/* when the last round began */
 static double load_allowance;	/* pages that may be read now */
-static uint64 complained_at = 0;
 static bool is_warm;
 static Size prefetched;			/* ranks beyond the wanted, prefetched since then: */
 static uint64 prefetched_since = 0;
@@ -169,12 +168,11 @@ start_loader(int slot)
 	started = RegisterDynamicBackgroundWorker(&worker, &handles[slot]);
 	started_at[slot] = round_at;
 	MemoryContextSwitchTo(old);
-	if (!started && round_at - complained_at > FORGIVE_US)
-	{
-		ereport(LOG, (errmsg("warm_standby has no worker process for a loader"),
-					  errhint("Raise max_worker_processes.")));
-		complained_at = round_at;
-	}
+	if (!started && ws_may_log(WS_FAULT_WORKERS))
+		ereport(WARNING,
+				(errcode(ERRCODE_CONFIGURATION_LIMIT_EXCEEDED),
+				 errmsg("warm_standby has no worker process for a loader"),
+				 errhint("You might need to increase \"max_worker_processes\".")));
 	return started;
 }
 

@@ -158,8 +158,7 @@ take_message(const uint8 *bytes, Size length)
 		ws_stats.primary_known = header == WS_HEADER ? ws_get(bytes + WS_HEADER_1, 8) : -1;
 		ws_stats.frames_received++;
 	}
-	if (status != WARM_OK)
-		ws_refused[status]++;
+	(void) ws_note(status, "a message of its primary");
 }
 
 /* Hands on the message of a record, where it is one of ours. */
@@ -179,6 +178,23 @@ look_at_record(void)
 	take_message((const uint8 *) message->message + sizeof WS_NAME, message->message_size);
 }
 
+/* Warns that WAL is skipped up to end, for what the reader says; it says nothing of a file that is gone. */
+static void
+log_skipped(XLogRecPtr end, const char *why)
+{
+	char		path[MAXPGPATH];
+
+	if (!ws_may_log(WS_FAULT_WAL))
+		return;
+	XLogFilePath(path, segment_timeline, segment_number, wal_segment_size);
+	ereport(WARNING,
+			(errcode(why != NULL ? ERRCODE_DATA_CORRUPTED : ERRCODE_UNDEFINED_FILE),
+			 errmsg("warm_standby skipped WAL from %X/%X to %X/%X, last of file \"%s\": %s",
+					LSN_FORMAT_ARGS(position), LSN_FORMAT_ARGS(end), path,
+					why != NULL ? why : "it is gone"),
+			 errdetail("Pages that were published in it are known once they are published again.")));
+}
+
 /* Reads what was replayed; true where there is more than a turn of it. */
 bool
 ws_receive(void)
@@ -194,9 +210,7 @@ ws_receive(void)
 		CHECK_FOR_INTERRUPTS();
 		if (XLogReadRecord(reader, &message) == NULL)
 		{
-			ereport(DEBUG1, (errmsg_internal("warm_standby skips WAL from %X/%X to %X/%X: %s",
-											 LSN_FORMAT_ARGS(position), LSN_FORMAT_ARGS(end),
-											 message != NULL ? message : "it is gone")));
+			log_skipped(end, message);
 			ws_stats.wal_skipped += end - position;
 			ws_stats.wal_read -= end - position;
 			position = end;

@@ -20,6 +20,7 @@ PGDLLEXPORT void warm_standby_main(Datum main_arg);
 
 #define RESTART_SECONDS 5
 #define SAVE_AGAIN_MS	10000
+#define LOG_AGAIN_US	(300 * US_PER_S)
 
 /* A sample, a publication, a round, a save: each rests nine times as long as it took. */
 #define SHARE			9
@@ -190,6 +191,21 @@ ws_us(void)
 
 	INSTR_TIME_SET_CURRENT(now);
 	return INSTR_TIME_GET_MICROSEC(now);
+}
+
+/* Whether a fault is to be logged now: each at most once in five minutes, by whichever process. */
+bool
+ws_may_log(int fault)
+{
+	uint64		now = ws_us();
+	bool		may;
+
+	LWLockAcquire(ws_shared->lock, LW_EXCLUSIVE);
+	may = ws_shared->logged_at[fault] == 0 || now - ws_shared->logged_at[fault] >= LOG_AGAIN_US;
+	if (may)
+		ws_shared->logged_at[fault] = now;
+	LWLockRelease(ws_shared->lock);
+	return may;
 }
 
 /* When work that began then is to be done again: after its rest at least. */

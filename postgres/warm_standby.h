@@ -28,6 +28,12 @@
 #define WS_OTHER_DIRECTORY 103	/* a number that was given twice */
 #define WS_LATE_MESSAGE 104		/* written later than our clock allows */
 
+/* Faults that are logged, each at most once in five minutes: the statuses, and these. */
+#define WS_FAULT_WAL	(WS_STATUSES + 0)	/* WAL was skipped */
+#define WS_FAULT_READ	(WS_STATUSES + 1)	/* a loader could not read a page */
+#define WS_FAULT_WORKERS (WS_STATUSES + 2)	/* a loader has no worker process */
+#define WS_FAULTS		(WS_STATUSES + 3)
+
 /* Pages handed to a loader at a time, and pages that SQL can list. */
 #define WS_BATCH		4096
 #define WS_LISTED		16384
@@ -127,6 +133,7 @@ typedef struct WsShared
 	TimestampTz stats_reset;	/* since when is counted */
 	WsStats		stats;
 	int64		refused[WS_STATUSES];
+	uint64		logged_at[WS_FAULTS];	/* by ws_us; 0: never */
 	bool		list_wanted;
 	uint64		list_made;		/* counts the lists */
 	uint32		list_count;
@@ -161,6 +168,7 @@ extern uint8 *ws_directory_encode(int *next, int end, int most, uint8 *to);
 extern int	ws_directory_decode(const uint8 *bytes, Size length);
 /* history.c */
 extern const char *ws_status_name(int status);
+extern int	ws_note(int status, const char *what);
 extern void ws_history_reset(const char *why);
 extern uint64 ws_clock(void);
 extern uint64 ws_latest;
@@ -192,6 +200,7 @@ extern void ws_round(void);
 extern void ws_make_list(void);
 /* warm_standby.c */
 extern uint64 ws_us(void);
+extern bool ws_may_log(int fault);
 extern bool ws_wait(long milliseconds);
 extern void ws_describe_worker(BackgroundWorker *worker, const char *function, const char *name);
 
