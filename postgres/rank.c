@@ -8,6 +8,9 @@
  */
 #include "postgres.h"
 
+#include <sys/stat.h>
+
+#include "common/relpath.h"
 #include "miscadmin.h"
 #include "utils/memutils.h"
 #include "warm_standby.h"
@@ -36,7 +39,7 @@ typedef struct Wanted
 #define SH_DEFINE
 #include "lib/simplehash.h"
 
-/* Pages; without a block whole files; and without a file too, databases. */
+/* Pages; without a block whole files; and without a file too, all of a device. */
 typedef struct Unloadable
 {
 	WsPage		page;			/* the key */
@@ -86,7 +89,7 @@ static bool
 is_unloadable(const WsPage *page)
 {
 	WsPage		keys[] = {*page, {page->device, page->file, InvalidBlockNumber},
-	{.device.database = page->device.database, .block = InvalidBlockNumber}};
+	{.device = page->device, .block = InvalidBlockNumber}};
 	const Unloadable *found = NULL;
 
 	for (int i = 0; i < lengthof(keys) && (found == NULL || found->until <= round_at); i++)
@@ -94,23 +97,35 @@ is_unloadable(const WsPage *page)
 	return found != NULL && found->until > round_at;
 }
 
-/* Notes what a loader read, and could not; of one that ended and left its batch, its database. */
+/* Leaves the files of a batch alone, those of its database: nobody can load them. */
+static void
+leave_batch_alone(const WsLoader *loader)
+{
+	for (const WsRequest *at = loader->pages; at < loader->pages + loader->count; at++)
+	{
+		WsPage		key = {.device = at->page.device, .block = InvalidBlockNumber};
+
+		if (key.device.database == loader->database)
+			leave_alone(&key, FORGIVE_US);
+	}
+}
+
+/* Notes what a loader read, and could not; one that ended and left its batch could not connect. */
 static void
 note_outcomes(const WsLoader *loader, bool ended)
 {
-	WsPage		key = {.device.database = loader->database, .block = InvalidBlockNumber};
-
 	if (ended && loader->state == WS_SLOT_FULL)
-		leave_alone(&key, FORGIVE_US);
+		leave_batch_alone(loader);
 	if (loader->state != WS_SLOT_DONE)
 		return;
 	ws_stats.read_us += loader->took_us;
 	for (const WsRequest *at = loader->pages; at < loader->pages + loader->count; at++)
 	{
+		WsPage		key = at->page;
+
 		ws_stats.pages_read += at->outcome == WS_LOADED && !at->prefetch;
 		ws_stats.pages_prefetched += at->outcome == WS_LOADED && at->prefetch;
 		ws_stats.pages_failed += at->outcome == WS_FAILED;
-		key = at->page;
 		if (at->outcome == WS_NO_FILE || at->outcome == WS_BUSY)
 			key.block = InvalidBlockNumber;
 		if (at->outcome >= WS_BUSY)
@@ -259,6 +274,35 @@ make_room(void)
 	}
 }
 
+/* Whether there is a folder of the database of a batch: a loader of one that was dropped would fail. */
+static bool
+has_database(const WsLoader *loader)
+{
+	WsDevice	seen = {0};
+
+	for (const WsRequest *at = loader->pages; at < loader->pages + loader->count; at++)
+	{
+		struct stat st;
+
+		if (at->page.device.database != loader->database || at->page.device.space == seen.space)
+			continue;
+		seen = at->page.device;
+		if (stat(GetDatabasePath(seen.database, seen.space), &st) == 0)
+			return true;
+	}
+	return false;
+}
+
+/* Starts the loader of a batch; false where there is none, and the slot is to be free. */
+static bool
+start_batch(int slot)
+{
+	if (has_database(&ws_shared->loaders[slot]))
+		return start_loader(slot);
+	leave_batch_alone(&ws_shared->loaders[slot]);
+	return false;
+}
+
 /* Lets the loaders have their batches.  A slot whose next database wants nothing is free. */
 static void
 send_batches(void)
@@ -278,7 +322,7 @@ send_batches(void)
 		if (!has_work && handles[i] == NULL)
 			loader->database = InvalidOid;
 		LWLockRelease(ws_shared->lock);
-		if (has_work && handles[i] == NULL && !start_loader(i))
+		if (has_work && handles[i] == NULL && !start_batch(i))
 			clear_slot(i, true);	/* nobody else knows of it */
 	}
 }
