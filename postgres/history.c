@@ -18,8 +18,8 @@
 #define HISTORY_FILE "warm_standby.history"
 #define DIRECTORY_FILE "warm_standby.directory"
 #define DRAFT_FILE "warm_standby.tmp"
-#define DIRECTORY_MAGIC UINT64CONST(0x5741524d44495231)	/* WARMDIR1 */
-#define DIRECTORY_HEADER 24		/* magic, system identifier, latest time */
+#define DIRECTORY_MAGIC UINT64CONST(0x5741524d44495232)	/* WARMDIR2 */
+#define DIRECTORY_HEADER 32		/* magic, system identifier, latest time, position */
 #define MOST_DIRECTORY_BYTES (DIRECTORY_HEADER + 65536 * WS_DEVICE_BYTES + 4)
 
 #define REFERENCES 1024
@@ -27,6 +27,7 @@
 
 uint64		ws_changed_buckets = 0;
 uint64		ws_latest = 0;	/* the latest time given or heard of */
+XLogRecPtr	ws_saved_position = InvalidXLogRecPtr;	/* the saved history has all that WAL says before this */
 
 static warm history = {0};
 static uint16 replica = 1;		/* of a primary, by its timeline */
@@ -76,6 +77,7 @@ ws_history_reset(const char *why)
 	ws_directory_reset();
 	open_history();
 	ws_latest = 0;
+	ws_saved_position = InvalidXLogRecPtr;
 	ws_publish_reset();			/* the numbers are given, saved and sent again */
 	ws_stats.resets++;
 }
@@ -286,11 +288,12 @@ checksum(const uint8 *bytes, Size length)
 	return crc;
 }
 
-/* Saves the directory, and the latest time. */
+/* Saves the directory, the latest time, and the position of the history that is in its file. */
 bool
 ws_directory_save(void)
 {
 	uint8	   *bytes = palloc(DIRECTORY_HEADER + ws_device_count * WS_DEVICE_BYTES + 4);
+	uint8	   *at = ws_put(ws_put(bytes, DIRECTORY_MAGIC, 8), GetSystemIdentifier(), 8);
 	const char *fault = NULL;
 	int			next = 0;
 	int			fd = open_draft(DIRECTORY_FILE);
@@ -298,7 +301,7 @@ ws_directory_save(void)
 
 	if (fd < 0)
 		return false;
-	ws_put(ws_put(ws_put(bytes, DIRECTORY_MAGIC, 8), GetSystemIdentifier(), 8), ws_latest, 8);
+	ws_put(ws_put(at, ws_latest, 8), ws_saved_position, 8);
 	length = ws_directory_encode(&next, ws_device_count, ws_device_count,
 								 bytes + DIRECTORY_HEADER) - bytes;
 	ws_put(bytes + length, checksum(bytes, length), 4);
@@ -311,19 +314,24 @@ ws_directory_save(void)
 
 /*
  * Saves directory and history, each whole or not at all.  The directory comes
- * first: it never changes a number, so a newer one fits an older history.
+ * first: it never changes a number, so a newer one fits an older history.  The
+ * position, up to which the history has what WAL says, comes last.
  */
 void
-ws_history_save(void)
+ws_history_save(XLogRecPtr position)
 {
 	int			fd = ws_directory_save() ? open_draft(HISTORY_FILE) : -1;
 	int			status = fd >= 0 ? ws_note(warm_save(&history, fd), "a save") : WARM_OK;
 
-	if (fd >= 0 &&
-		end_draft(fd, HISTORY_FILE, status == WARM_OK ? NULL : ws_status_name(status)))
-		ws_stats.saves++;
-	else
+	if (fd < 0 ||
+		!end_draft(fd, HISTORY_FILE, status == WARM_OK ? NULL : ws_status_name(status)))
+	{
 		ws_stats.save_failures++;
+		return;
+	}
+	ws_stats.saves++;
+	ws_saved_position = position;
+	(void) ws_directory_save();
 }
 
 /* Opens a file for reading; -1 where there is none. */
@@ -359,6 +367,7 @@ load_directory(void)
 	{
 		length -= 4;
 		ws_latest = ws_get(bytes + 16, 8);
+		ws_saved_position = ws_get(bytes + 24, 8);
 		good = checksum(bytes, length) == ws_get(bytes + length, 4) &&
 			ws_directory_decode(bytes + DIRECTORY_HEADER, length - DIRECTORY_HEADER) == WARM_OK;
 	}
@@ -368,6 +377,7 @@ load_directory(void)
 							 DIRECTORY_FILE)));
 		ws_directory_reset();
 		ws_latest = 0;
+		ws_saved_position = InvalidXLogRecPtr;
 	}
 	return good;
 }
@@ -386,8 +396,11 @@ ws_history_start(void)
 		status = ws_note(warm_load(&history, fd, length), "a saved history");
 		CloseTransientFile(fd);
 		if (status != WARM_OK)
+		{
 			ereport(LOG, (errmsg("warm_standby does not use \"%s\": %s", HISTORY_FILE,
 								 ws_status_name(status))));
+			ws_saved_position = InvalidXLogRecPtr;
+		}
 	}
 	ws_history_bound();
 }

@@ -3,7 +3,8 @@
  *		Messages out of the WAL of a standby.
  *
  * The worker reads the WAL that was replayed, from pg_wal, by an XLogReader of
- * its own.  Nothing is hooked, so no message makes replay wait or fail.  Where a
+ * its own.  One that starts on a primary reads what was written since its history was
+ * saved: what a crash or a promotion left there.  Nothing is hooked, so no message makes replay wait or fail.  Where a
  * segment is gone, or a record cannot be read, it goes on at the end of what was
  * replayed, and counts the bytes that it skipped.
  */
@@ -27,6 +28,18 @@ static int	segment = -1;
 static XLogSegNo segment_number;
 static TimeLineID segment_timeline;
 static XLogRecPtr position;		/* where the next record begins */
+static XLogRecPtr own_end;		/* of the WAL that a primary begins with; of a standby invalid */
+static TimeLineID own_timeline;
+
+/* Where WAL ends for now: a standby's at what was replayed. */
+static XLogRecPtr
+wal_end(TimeLineID *timeline)
+{
+	if (XLogRecPtrIsInvalid(own_end))
+		return GetXLogReplayRecPtr(timeline);
+	*timeline = own_timeline;
+	return own_end;
+}
 
 static void
 close_segment(void)
@@ -57,12 +70,12 @@ open_segment(XLogSegNo number, TimeLineID timeline)
 	return segment >= 0;
 }
 
-/* Reads a page of WAL, as far as it was replayed.  A segment that is gone is no error. */
+/* Reads a page of WAL, as far as there is any.  A segment that is gone is no error. */
 static int
 read_page(XLogReaderState *state, XLogRecPtr page, int wanted, XLogRecPtr record, char *into)
 {
 	TimeLineID	timeline;
-	XLogRecPtr	end = GetXLogReplayRecPtr(&timeline);
+	XLogRecPtr	end = wal_end(&timeline);
 	XLogSegNo	number;
 	int			length = XLOG_BLCKSZ;
 
@@ -79,9 +92,12 @@ read_page(XLogReaderState *state, XLogRecPtr page, int wanted, XLogRecPtr record
 	return length;
 }
 
-/* Begins at the redo point of the last restartpoint, whose WAL is kept. */
+/*
+ * Begins with the WAL from a place on.  A standby goes on with what is replayed;
+ * of a primary it is what was written before its worker started.
+ */
 void
-ws_receive_start(void)
+ws_receive_start(XLogRecPtr from, bool is_standby)
 {
 	MemoryContext old;
 
@@ -93,8 +109,16 @@ ws_receive_start(void)
 	MemoryContextSwitchTo(old);
 	if (reader == NULL)
 		ereport(ERROR, (errcode(ERRCODE_OUT_OF_MEMORY), errmsg("out of memory")));
-	position = GetRedoRecPtr();
+	own_end = is_standby ? InvalidXLogRecPtr : GetFlushRecPtr(&own_timeline);
+	position = from;
 	XLogBeginRead(reader, position);
+}
+
+/* Up to where messages were taken in; invalid where none are. */
+XLogRecPtr
+ws_receive_position(void)
+{
+	return reader != NULL ? position : InvalidXLogRecPtr;
 }
 
 void
@@ -187,20 +211,22 @@ log_skipped(XLogRecPtr end, const char *why)
 	if (!ws_may_log(WS_FAULT_WAL))
 		return;
 	XLogFilePath(path, segment_timeline, segment_number, wal_segment_size);
-	ereport(WARNING,
+	/* A crash or a promotion is followed by a checkpoint, after which WAL is recycled. */
+	ereport(XLogRecPtrIsInvalid(own_end) ? WARNING : LOG,
 			(errcode(why != NULL ? ERRCODE_DATA_CORRUPTED : ERRCODE_UNDEFINED_FILE),
 			 errmsg("warm_standby skipped WAL from %X/%X to %X/%X, last of file \"%s\": %s",
 					LSN_FORMAT_ARGS(position), LSN_FORMAT_ARGS(end), path,
 					why != NULL ? why : "it is gone"),
-			 errdetail("Pages that were published in it are known once they are published again.")));
+			 errdetail("What was published in it is known once it is published or referenced again.")));
 }
 
-/* Reads what was replayed; true where there is more than a turn of it. */
+/* Reads the WAL that there is; true where it is more than a turn of it. */
 bool
 ws_receive(void)
 {
 	XLogRecPtr	begun = position;
-	XLogRecPtr	end = GetXLogReplayRecPtr(NULL);
+	TimeLineID	timeline;
+	XLogRecPtr	end = wal_end(&timeline);
 	MemoryContext old = MemoryContextSwitchTo(reader_context);	/* its buffers grow */
 
 	while (position < end && position - begun < BYTES_A_TURN)

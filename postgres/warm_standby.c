@@ -232,13 +232,33 @@ begin_role(void)
 	is_standby = RecoveryInProgress();
 	ws_stats.primary_known = -1;
 	if (is_standby)
-		ws_receive_start();
+		ws_receive_start(GetRedoRecPtr(), true);	/* a restartpoint, whose WAL is kept */
 	else
 	{
 		ws_sample_reset();
 		ws_publish_reset();
 		ws_stats.wanted = ws_stats.resident = ws_stats.unloadable = 0;
 	}
+}
+
+/* Reads all the WAL that is left, so that no number of a device is given twice. */
+static void
+receive_rest(void)
+{
+	while (ws_enabled && !ShutdownRequestPending && ws_receive())
+		;
+	if (!ShutdownRequestPending)
+		ws_receive_stop();
+}
+
+/* Up to where the history has what WAL says: all of it, where a primary goes on. */
+static XLogRecPtr
+known_position(void)
+{
+	XLogRecPtr	read = ws_receive_position();
+
+	return !XLogRecPtrIsInvalid(read) ? read :
+		ShutdownRequestPending ? GetXLogInsertRecPtr() : GetRedoRecPtr();
 }
 
 /* Begins, with what was saved. */
@@ -253,6 +273,13 @@ start(void)
 	LWLockRelease(ws_shared->lock);
 	ws_history_start();
 	ws_rank_reset();
+	if (!RecoveryInProgress())
+	{
+		/* What was published since the save, by this server, or before its promotion. */
+		ws_receive_start(XLogRecPtrIsInvalid(ws_saved_position) ? GetRedoRecPtr() :
+						 ws_saved_position, false);
+		receive_rest();
+	}
 	begin_role();
 	saved_redo = GetRedoRecPtr();
 	ereport(LOG, (errmsg("warm_standby started on a %s, with " INT64_FORMAT " pages known",
@@ -266,9 +293,7 @@ promote(void)
 	ereport(LOG, (errmsg("warm_standby was promoted: " INT64_FORMAT " pages known, " INT64_FORMAT
 						 " of " INT64_FORMAT " wanted pages resident", ws_stats.known,
 						 ws_stats.resident, ws_stats.wanted)));
-	while (ws_enabled && !ShutdownRequestPending && ws_receive())
-		;						/* what was replayed last, so that no number is given twice */
-	ws_receive_stop();
+	receive_rest();
 	ws_rank_reset();			/* the loaders end by themselves */
 	begin_role();
 }
@@ -329,7 +354,7 @@ turn(void)
 	if (GetRedoRecPtr() != saved_redo && now >= save_at)
 	{
 		saved_redo = GetRedoRecPtr();	/* a checkpoint, or a restartpoint */
-		ws_history_save();
+		ws_history_save(known_position());
 		save_at = next_time(now, SAVE_AGAIN_MS);
 	}
 	LWLockAcquire(ws_shared->lock, LW_EXCLUSIVE);
@@ -371,6 +396,6 @@ warm_standby_main(Datum main_arg)
 			sample_at = publish_at = round_at = 0;	/* the intervals may be others */
 		MemoryContextReset(context);
 	}
-	ws_history_save();
+	ws_history_save(known_position());
 	proc_exit(1);				/* so that it starts again, where the server goes on */
 }

@@ -180,7 +180,8 @@ extern bool ws_history_piece(uint8 bucket, uint64 since, bool has_after, warm_pa
 extern Size ws_history_list(warm_page *pages, Size room);
 extern void ws_history_bound(void);
 extern bool ws_directory_save(void);
-extern void ws_history_save(void);
+extern void ws_history_save(XLogRecPtr position);
+extern XLogRecPtr ws_saved_position;
 extern void ws_history_start(void);
 extern uint64 ws_changed_buckets;
 /* sample.c */
@@ -191,7 +192,8 @@ extern bool ws_look(int buffer, BufferTag *tag, uint32 *state);
 extern void ws_publish_reset(void);
 extern void ws_publish(void);
 /* receive.c */
-extern void ws_receive_start(void);
+extern void ws_receive_start(XLogRecPtr from, bool is_standby);
+extern XLogRecPtr ws_receive_position(void);
 extern bool ws_receive(void);
 extern void ws_receive_stop(void);
 /* rank.c */
