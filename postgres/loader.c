@@ -44,17 +44,25 @@ by_page(const void *a, const void *b)
 	return order != 0 ? order : x->block < y->block ? -1 : x->block > y->block;
 }
 
-/* Reads pages of one fork of a relation that is locked. */
+/*
+ * Reads pages of one fork of a relation that is locked.  The system is asked for as
+ * many of the next ones as maintenance_io_concurrency says: storage takes them
+ * together.
+ */
 static void
 read_pages(Relation relation, WsRequest *some, int count)
 {
 	ForkNumber	fork = some->page.device.fork;
 	BlockNumber blocks = 0;
+	int			asked = 0;
 
 	if (smgrexists(RelationGetSmgr(relation), fork))
 		blocks = smgrnblocks(RelationGetSmgr(relation), fork);
 	for (int i = 0; i < count; i++)
 	{
+		for (; asked < count && asked <= i + maintenance_io_concurrency; asked++)
+			if (!some[asked].prefetch && some[asked].page.block < blocks)
+				(void) PrefetchBuffer(relation, fork, some[asked].page.block);
 		if (some[i].page.block >= blocks)
 		{
 			some[i].outcome = WS_NO_BLOCK;

@@ -18,6 +18,7 @@
 #define FORGIVE_US		(300 * US_PER_S)	/* for which a page that cannot be read is left alone */
 #define BUSY_US			(10 * US_PER_S) /* and a file that is locked */
 #define MOST_UNLOADABLE 65536
+#define LEAST_RATE		2000	/* pages a second that are read by default */
 #define TERM_US			(5 * US_PER_S)	/* a loader's, where another database waits for one */
 
 typedef struct Wanted
@@ -449,6 +450,13 @@ load_pages(void)
 	send_batches();
 }
 
+/* How many pages may be read in a second: by default a hundredth of the buffers. */
+static double
+load_rate(void)
+{
+	return ws_load_rate >= 0 ? ws_load_rate : Max(LEAST_RATE, NBuffers / 100);
+}
+
 /* A round of a standby. */
 void
 ws_round(void)
@@ -459,8 +467,8 @@ ws_round(void)
 	round_at = begun;
 	if (begun > unloadable_until && hash_get_num_entries(unloadable) > 0)
 		forgive();				/* so that ranking looks for none */
-	load_allowance = Min(load_allowance + passed * ws_load_rate,
-						 Max(2.0 * ws_load_rate * ws_load_interval / 1000, 1));
+	load_allowance = Min(load_allowance + passed * load_rate(),
+						 Max(2.0 * load_rate() * ws_load_interval / 1000, 1));
 	reap_loaders();
 	rank_pages();
 	walk_buffers();
