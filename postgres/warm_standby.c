@@ -84,7 +84,7 @@ define_settings(void)
 							 &ws_load, true, PGC_SIGHUP, 0, NULL, NULL, NULL);
 	DefineCustomRealVariable("warm_standby.fraction",
 							 "Sets the share of shared_buffers that a standby keeps warm.", NULL,
-							 &ws_fraction, 0.8, 0.0, 1.0, PGC_SIGHUP, 0, NULL, NULL, NULL);
+							 &ws_fraction, 0.5, 0.0, 1.0, PGC_SIGHUP, 0, NULL, NULL, NULL);
 	DefineCustomIntVariable("warm_standby.max_loaders",
 							"Sets how many databases are loaded at the same time.",
 							"Each loader is one of max_worker_processes.",

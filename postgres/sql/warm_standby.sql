@@ -6,7 +6,8 @@ AND name NOT IN ('warm_standby.sample_interval', 'warm_standby.publish_interval'
                  'warm_standby.full_interval', 'warm_standby.load_interval',
                  'warm_standby.load_rate')
 ORDER BY name COLLATE "C";
-SELECT name, boot_val, unit FROM pg_settings WHERE name = 'warm_standby.load_rate';
+SELECT name, boot_val, unit FROM pg_settings
+WHERE name IN ('warm_standby.fraction', 'warm_standby.load_rate') ORDER BY name;
 SELECT count(*) AS settings, count(*) FILTER (WHERE context = 'sighup') AS by_sighup,
        count(*) FILTER (WHERE short_desc = '') AS without_description
 FROM pg_settings WHERE name LIKE 'warm\_standby.%';
