@@ -20,6 +20,7 @@ PGDLLEXPORT void warm_standby_main(Datum main_arg);
 
 #define RESTART_SECONDS 5
 #define SAVE_AGAIN_MS	10000
+#define PUBLISH_AGAIN_MS 100	/* where more waits */
 #define LOG_AGAIN_US	(300 * US_PER_S)
 
 /* A sample, a publication, a round, a save: each rests nine times as long as it took. */
@@ -315,9 +316,10 @@ primary_turn(void)
 	now = ws_us();
 	if (now >= publish_at)
 	{
-		if (XLogIsNeeded())		/* else no standby reads it */
-			ws_publish();
-		publish_at = next_time(now, ws_publish_interval);
+		int			interval = ws_publish() ? Min(PUBLISH_AGAIN_MS, ws_publish_interval) :
+			ws_publish_interval;
+
+		publish_at = next_time(now, interval);
 	}
 	return Min(sample_at, publish_at);
 }

@@ -190,7 +190,7 @@ extern bool ws_sample(void);
 extern bool ws_look(int buffer, BufferTag *tag, uint32 *state);
 /* publish.c */
 extern void ws_publish_reset(void);
-extern void ws_publish(void);
+extern bool ws_publish(void);
 /* receive.c */
 extern void ws_receive_start(XLogRecPtr from, bool is_standby);
 extern XLogRecPtr ws_receive_position(void);
