@@ -19,6 +19,7 @@
 #define BUSY_US			(10 * US_PER_S) /* and a file that is locked */
 #define MOST_UNLOADABLE 65536
 #define LEAST_RATE		2000	/* pages a second that are read by default */
+#define BUFFERS_OF_REPLAY 256	/* that are kept for it at least */
 #define TERM_US			(5 * US_PER_S)	/* a loader's, where another database waits for one */
 
 typedef struct Wanted
@@ -49,6 +50,7 @@ typedef struct Unloadable
 
 static HTAB *unloadable = NULL;
 static uint64 unloadable_until; /* the latest of them */
+static uint64 unloadable_bits[64];	/* by hash_of of a file or device: those that are not set are of none */
 static MemoryContext round_context = NULL;
 static BackgroundWorkerHandle *handles[WS_MOST_LOADERS];
 static uint64 started_at[WS_MOST_LOADERS];
@@ -59,6 +61,21 @@ static double load_allowance;	/* pages that may be read now */
 static bool is_warm;
 static Size prefetched;			/* ranks beyond the wanted, prefetched since then: */
 static uint64 prefetched_since = 0;
+
+/* The ranking, which is made again where the history has changed. */
+static warm_page *listed = NULL;
+static Size listed_count, listed_room;
+static int64 listed_frames, listed_resets;	/* of the history that was ranked */
+
+/* What a slot gets in a round.  It is the worker's alone until send_batches. */
+typedef struct Batch
+{
+	Oid			database;		/* InvalidOid: of none yet */
+	bool		takes;			/* it can get further pages */
+	uint32		count;
+} Batch;
+
+static Batch batches[WS_MOST_LOADERS];
 
 /* One round. */
 static warm_page *pages;
@@ -75,13 +92,30 @@ forgive(void)
 		hash_destroy(unloadable);
 	unloadable = hash_create("warm_standby unloadable pages", 256, &control,
 							 HASH_ELEM | HASH_BLOBS | HASH_CONTEXT);
+	memset(unloadable_bits, 0, sizeof unloadable_bits);
+}
+
+/* A number below 4,096 of a file; of a device with file 0. */
+static inline uint32
+hash_of(const WsDevice *device, Oid file)
+{
+	return ((device->database * 31 + file) * UINT64CONST(0x9e3779b97f4a7c15)) >> 52;
+}
+
+static inline bool
+has_bit(uint32 bit)
+{
+	return (unloadable_bits[bit / 64] >> bit % 64 & 1) != 0;
 }
 
 static void
 leave_alone(const WsPage *page, uint64 us)
 {
+	uint32		bit = hash_of(&page->device, page->file);
+
 	if (hash_get_num_entries(unloadable) >= MOST_UNLOADABLE)
 		forgive();
+	unloadable_bits[bit / 64] |= UINT64CONST(1) << bit % 64;
 	((Unloadable *) hash_search(unloadable, page, HASH_ENTER, NULL))->until = round_at + us;
 	unloadable_until = Max(unloadable_until, round_at + us);
 }
@@ -93,6 +127,8 @@ is_unloadable(const WsPage *page)
 	{.device = page->device, .block = InvalidBlockNumber}};
 	const Unloadable *found = NULL;
 
+	if (!has_bit(hash_of(&page->device, page->file)) && !has_bit(hash_of(&page->device, 0)))
+		return false;
 	for (int i = 0; i < lengthof(keys) && (found == NULL || found->until <= round_at); i++)
 		found = hash_search(unloadable, &keys[i], HASH_FIND, NULL);
 	return found != NULL && found->until > round_at;
@@ -164,6 +200,9 @@ ws_rank_reset(void)
 	if (round_context == NULL)
 		round_context = AllocSetContextCreate(TopMemoryContext, "warm_standby round",
 											  ALLOCSET_DEFAULT_SIZES);
+	if (listed != NULL)
+		pfree(listed);
+	listed = NULL;
 	forgive();
 	round_at = ws_us();
 	load_allowance = 0;
@@ -216,6 +255,17 @@ reap_loaders(void)
 	}
 }
 
+/* Which slots can get pages in this round, and of which database. */
+static void
+open_batches(void)
+{
+	LWLockAcquire(ws_shared->lock, LW_SHARED);
+	for (int i = 0; i < ws_shared->loader_count; i++)
+		batches[i] = (Batch) {.database = ws_shared->loaders[i].database,
+		.takes = ws_shared->loaders[i].state == WS_SLOT_IDLE && !ws_shared->loaders[i].leave};
+	LWLockRelease(ws_shared->lock);
+}
+
 /* The slot of a database, one that is free, or -1.  A shared catalog's pages may go to any. */
 static int
 slot_of(Oid database)
@@ -224,7 +274,7 @@ slot_of(Oid database)
 
 	for (int i = 0; i < ws_shared->loader_count; i++)
 	{
-		Oid			of = ws_shared->loaders[i].database;
+		Oid			of = batches[i].database;
 
 		if (OidIsValid(of) && (of == database || !OidIsValid(database)))
 			return i;
@@ -234,22 +284,23 @@ slot_of(Oid database)
 	return OidIsValid(database) ? vacant : -1;
 }
 
-/* Keeps a page for a loader; false where none takes it now.  Under the lock. */
+/* Keeps a page for a loader; false where none takes it now. */
 static bool
 hand_out(warm_page page, bool prefetch)
 {
 	WsRequest	request = {.prefetch = prefetch, .outcome = WS_WAITING};
 	bool		named = ws_names_of(page, &request.page);
 	int			slot = named ? slot_of(request.page.device.database) : -1;
-	WsLoader   *loader = &ws_shared->loaders[Max(slot, 0)];
+	Batch	   *batch = &batches[Max(slot, 0)];
 
 	if (named && slot < 0 && !OidIsValid(waiting) && !prefetch)
 		waiting = request.page.device.database;
-	if (slot < 0 || loader->state != WS_SLOT_IDLE || loader->count == WS_BATCH)
+	if (slot < 0 || !batch->takes)
 		return slot < 0 && prefetch;	/* without a loader it is passed over */
-	if (!OidIsValid(loader->database))
-		loader->database = request.page.device.database;
-	loader->pages[loader->count++] = request;
+	if (!OidIsValid(batch->database))
+		batch->database = request.page.device.database;
+	ws_shared->loaders[slot].pages[batch->count++] = request;
+	batch->takes = batch->count < WS_BATCH;
 	return true;
 }
 
@@ -260,7 +311,7 @@ make_room(void)
 	for (int i = 0; i < ws_shared->loader_count; i++)
 	{
 		WsLoader   *loader = &ws_shared->loaders[i];
-		bool		is_idle = loader->state == WS_SLOT_IDLE && loader->count == 0;
+		bool		is_idle = loader->state == WS_SLOT_IDLE && batches[i].count == 0;
 
 		if (next_of[i] == waiting)
 			return;
@@ -304,20 +355,28 @@ start_batch(int slot)
 	return false;
 }
 
-/* Lets the loaders have their batches.  A slot whose next database wants nothing is free. */
+/*
+ * Lets the loaders have their batches.  A loader that ended meanwhile gets none, and
+ * a slot whose next database wants nothing is free.
+ */
 static void
 send_batches(void)
 {
 	for (int i = 0; i < ws_shared->loader_count; i++)
 	{
 		WsLoader   *loader = &ws_shared->loaders[i];
+		bool		is_vacant = !OidIsValid(loader->database) && handles[i] == NULL;
 		bool		has_work;
 
 		LWLockAcquire(ws_shared->lock, LW_EXCLUSIVE);
-		has_work = loader->state == WS_SLOT_IDLE && loader->count > 0 &&
-			OidIsValid(loader->database);
+		has_work = batches[i].count > 0 && loader->state == WS_SLOT_IDLE &&
+			(is_vacant || loader->database == batches[i].database);
 		if (has_work)
+		{
+			loader->database = batches[i].database;
+			loader->count = batches[i].count;
 			loader->state = WS_SLOT_FULL;
+		}
 		if (has_work && loader->latch != NULL)
 			SetLatch(loader->latch);
 		if (!has_work && handles[i] == NULL)
@@ -328,31 +387,55 @@ send_batches(void)
 	}
 }
 
+/* How many pages are to be kept warm.  The smallest pools have no room for it beside replay. */
+static Size
+most_wanted(void)
+{
+	return Min((Size) (ws_fraction * NBuffers), (Size) Max(NBuffers - BUFFERS_OF_REPLAY, 0));
+}
+
+/* Lists the hottest pages, where the history has changed since they were listed last. */
+static void
+list_pages(void)
+{
+	Size		room = Min(most_wanted() * 2 + ws_prefetch_pages, (Size) ws_stats.known);
+
+	if (listed != NULL && room == listed_room && ws_stats.frames_received == listed_frames &&
+		ws_stats.resets == listed_resets)
+		return;
+	if (listed != NULL)
+		pfree(listed);
+	listed = MemoryContextAllocHuge(TopMemoryContext, sizeof(warm_page) * Max(room, 1));
+	listed_count = ws_history_list(listed, room);
+	listed_room = room;
+	listed_frames = ws_stats.frames_received;
+	listed_resets = ws_stats.resets;
+	ws_stats.rankings++;
+}
+
 /* Ranks: pages that have a device and can be loaded, hottest first. */
 static void
 rank_pages(void)
 {
-	Size		limit = (Size) (ws_fraction * NBuffers);
-	Size		room = Min(limit * 2 + ws_prefetch_pages, (Size) ws_stats.known);
-	Size		listed;
+	Size		most = most_wanted() + ws_prefetch_pages;
 
-	pages = MemoryContextAllocHuge(round_context, sizeof(warm_page) * Max(room, 1));
-	listed = ws_history_list(pages, room);
+	list_pages();
+	pages = MemoryContextAllocHuge(round_context,
+								   sizeof(warm_page) * Max(Min(most, listed_count), 1));
 	page_count = 0;
 	ws_stats.unloadable = 0;
-	for (Size i = 0; i < listed; i++)
+	for (Size i = 0; i < listed_count && page_count < most; i++)
 	{
 		WsPage		names;
 
-		if (!ws_names_of(pages[i], &names))
+		if (!ws_names_of(listed[i], &names))
 			continue;
-		if (hash_get_num_entries(unloadable) > 0 && is_unloadable(&names))
+		if (is_unloadable(&names))
 			ws_stats.unloadable++;
 		else
-			pages[page_count++] = pages[i];
+			pages[page_count++] = listed[i];
 	}
-	wanted_count = Min(page_count, limit);
-	page_count = Min(page_count, limit + ws_prefetch_pages);
+	wanted_count = Min(page_count, most_wanted());
 	resident = MemoryContextAllocExtended(round_context, Max(wanted_count, 1),
 										  MCXT_ALLOC_HUGE | MCXT_ALLOC_ZERO);
 }
@@ -420,20 +503,18 @@ count_wanted(void)
 {
 	int64		lacks = Max(ws_stats.primary_known - ws_stats.known, 0);
 
-	return Max((int64) wanted_count, Min((int64) (ws_fraction * NBuffers), wanted_count + lacks));
+	return Max((int64) wanted_count, Min((int64) most_wanted(), (int64) wanted_count + lacks));
 }
 
 /* Hands out the hottest pages that are missing, then those to prefetch. */
 static void
 load_pages(void)
 {
-	LWLockAcquire(ws_shared->lock, LW_EXCLUSIVE);
+	open_batches();
 	waiting = InvalidOid;
 	for (Size i = 0; i < wanted_count && load_allowance >= 1; i++)
 		if (!resident[i] && hand_out(pages[i], false))
 			load_allowance--;
-	if (OidIsValid(waiting))
-		make_room();
 	if (round_at - prefetched_since > FORGIVE_US)
 	{
 		prefetched = 0;
@@ -446,8 +527,13 @@ load_pages(void)
 		prefetched++;
 		load_allowance--;
 	}
-	LWLockRelease(ws_shared->lock);
 	send_batches();
+	if (OidIsValid(waiting))
+	{
+		LWLockAcquire(ws_shared->lock, LW_EXCLUSIVE);
+		make_room();
+		LWLockRelease(ws_shared->lock);
+	}
 }
 
 /* How many pages may be read in a second: by default a hundredth of the buffers. */
@@ -476,7 +562,8 @@ ws_round(void)
 	if (ws_load)
 		load_pages();
 	MemoryContextReset(round_context);
-	if (!is_warm && ws_stats.wanted > 0 && ws_stats.resident >= ws_stats.wanted * 0.99)
+	if (!is_warm && ws_stats.wanted > 0 && ws_stats.resident >= ws_stats.wanted * 0.99 &&
+		ws_last_frame != 0 && ws_may_log(WS_FAULT_WARM))
 		ereport(LOG, (errmsg("warm_standby is warm: " INT64_FORMAT " of " INT64_FORMAT
 							 " wanted pages are resident", ws_stats.resident, ws_stats.wanted)));
 	is_warm = ws_stats.resident >= ws_stats.wanted * (is_warm ? 0.9 : 0.99) && ws_stats.wanted > 0;

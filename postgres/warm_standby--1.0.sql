@@ -14,7 +14,7 @@ CREATE FUNCTION @extschema@.warm_standby_status(
     OUT samples bigint, OUT sample_us bigint, OUT page_references bigint, OUT frames_sent bigint,
     OUT bytes_sent bigint, OUT saves bigint, OUT save_failures bigint, OUT resets bigint,
     OUT pages_read bigint, OUT read_us bigint, OUT pages_prefetched bigint, OUT pages_failed bigint,
-    OUT primary_known bigint)
+    OUT primary_known bigint, OUT rankings bigint)
 RETURNS record
 AS 'MODULE_PATHNAME'
 LANGUAGE C STRICT VOLATILE PARALLEL RESTRICTED;
@@ -40,7 +40,7 @@ CREATE VIEW @extschema@.pg_stat_warm_standby AS
            (SELECT jsonb_object_agg(r.name, r.frames) FROM @extschema@.warm_standby_refused() r)
                AS refused_by_name,
            unloadable, loaders, pages_read, round(read_us / 1000.0, 3) AS read_ms, pages_failed,
-           pages_prefetched, pages_touched, rounds, round(round_us / 1000.0, 3) AS round_ms,
+           pages_prefetched, pages_touched, rounds, rankings, round(round_us / 1000.0, 3) AS round_ms,
            samples, round(sample_us / 1000.0, 3) AS sample_ms, page_references, frames_sent,
            bytes_sent, wal_read, wal_skipped, devices, saves, save_failures, resets, stats_reset
     FROM @extschema@.warm_standby_status();

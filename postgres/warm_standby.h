@@ -32,7 +32,9 @@
 #define WS_FAULT_WAL	(WS_STATUSES + 0)	/* WAL was skipped */
 #define WS_FAULT_READ	(WS_STATUSES + 1)	/* a loader could not read a page */
 #define WS_FAULT_WORKERS (WS_STATUSES + 2)	/* a loader has no worker process */
-#define WS_FAULTS		(WS_STATUSES + 3)
+#define WS_FAULT_DEVICES (WS_STATUSES + 3)	/* there are no numbers for further devices */
+#define WS_FAULT_WARM	(WS_STATUSES + 4)	/* no fault: the standby is warm */
+#define WS_FAULTS		(WS_STATUSES + 5)
 
 /* Pages handed to a loader at a time, and pages that SQL can list. */
 #define WS_BATCH		4096
@@ -119,6 +121,7 @@ typedef struct WsStats
 	int64		pages_prefetched;
 	int64		pages_failed;
 	int64		primary_known;	/* pages of the primary's history; -1: it did not say */
+	int64		rankings;		/* rounds for which the history was ranked again */
 } WsStats;
 
 /* lock guards all of it, but the batch of a slot that its state gives to one process. */
