@@ -11,8 +11,6 @@
 #include "utils/memutils.h"
 #include "warm_standby.h"
 
-#define MOST_DEVICES 65536
-
 typedef struct Number
 {
 	WsDevice	device;			/* the key */
@@ -23,7 +21,7 @@ int			ws_device_count = 0;	/* the greatest number given, plus 1 */
 
 static HTAB *numbers = NULL;
 static Number *last = NULL;		/* the one that was looked for last, often also the next */
-static WsDevice devices[MOST_DEVICES];	/* by number; fork -1: not given */
+static WsDevice devices[WS_MOST_DEVICES];	/* by number; fork -1: not given */
 
 /* Forgets all numbers. */
 void
@@ -80,7 +78,7 @@ ws_page_of(const BufferTag *tag, bool give, warm_page *page)
 		last = hash_search(numbers, &device, HASH_FIND, NULL);
 	if (last != NULL)
 		page->dev = last->number;
-	else if (give && ws_device_count < MOST_DEVICES)
+	else if (give && ws_device_count < WS_MOST_DEVICES)
 	{
 		page->dev = (uint16) ws_device_count;
 		put(page->dev, &device);

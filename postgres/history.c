@@ -20,7 +20,7 @@
 #define DRAFT_FILE "warm_standby.tmp"
 #define DIRECTORY_MAGIC UINT64CONST(0x5741524d44495232)	/* WARMDIR2 */
 #define DIRECTORY_HEADER 32		/* magic, system identifier, latest time, position */
-#define MOST_DIRECTORY_BYTES (DIRECTORY_HEADER + 65536 * WS_DEVICE_BYTES + 4)
+#define MOST_DIRECTORY_BYTES (DIRECTORY_HEADER + WS_MOST_DEVICES * WS_DEVICE_BYTES + 4)
 
 #define REFERENCES 1024
 #define BOUND_US (60 * US_PER_S)
@@ -241,6 +241,11 @@ ws_history_bound(void)
 	ws_stats.devices = ws_device_count;
 	if (ws_stats.known <= most + most / 8 && ws_us() < bound_at)
 		return;
+	if (ws_device_count == WS_MOST_DEVICES && !is_standby && ws_may_log(WS_FAULT_DEVICES))
+		ereport(WARNING,
+				(errcode(ERRCODE_PROGRAM_LIMIT_EXCEEDED),
+				 errmsg("warm_standby has no number for the pages of further databases and tablespaces"),
+				 errhint("Call warm_standby_reset() to begin a new history.")));
 	bound_at = ws_us() + BOUND_US;
 	warm_horizon(&history, age > 0 && age < now ? now - age : 0, &horizon);
 	if (horizon == 0 && known() > most)

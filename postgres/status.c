@@ -19,6 +19,7 @@
 PG_FUNCTION_INFO_V1(warm_standby_status);
 PG_FUNCTION_INFO_V1(warm_standby_refused);
 PG_FUNCTION_INFO_V1(warm_standby_hottest);
+PG_FUNCTION_INFO_V1(warm_standby_reset);
 
 static void
 need_shared(void)
@@ -176,4 +177,17 @@ warm_standby_hottest(PG_FUNCTION_ARGS)
 		tuplestore_putvalues(result->setResult, result->setDesc, values, nulls);
 	}
 	return (Datum) 0;
+}
+
+/* Lets the worker begin a new history, soon. */
+Datum
+warm_standby_reset(PG_FUNCTION_ARGS)
+{
+	need_shared();
+	LWLockAcquire(ws_shared->lock, LW_EXCLUSIVE);
+	ws_shared->reset_wanted = true;
+	if (ws_shared->latch != NULL)
+		SetLatch(ws_shared->latch);
+	LWLockRelease(ws_shared->lock);
+	PG_RETURN_VOID();
 }

@@ -32,6 +32,11 @@ RETURNS SETOF record
 AS 'MODULE_PATHNAME'
 LANGUAGE C STRICT VOLATILE PARALLEL RESTRICTED;
 
+CREATE FUNCTION @extschema@.warm_standby_reset()
+RETURNS void
+AS 'MODULE_PATHNAME'
+LANGUAGE C STRICT VOLATILE PARALLEL UNSAFE;
+
 CREATE VIEW @extschema@.pg_stat_warm_standby AS
     SELECT role, known, primary_known, wanted, resident,
            round(100.0 * resident / nullif(wanted, 0), 1) AS percent_warm,
@@ -65,6 +70,7 @@ $$ LANGUAGE SQL STRICT VOLATILE SET search_path = pg_catalog, pg_temp;
 REVOKE ALL ON FUNCTION @extschema@.warm_standby_status() FROM PUBLIC;
 REVOKE ALL ON FUNCTION @extschema@.warm_standby_refused() FROM PUBLIC;
 REVOKE ALL ON FUNCTION @extschema@.warm_standby_hottest(integer) FROM PUBLIC;
+REVOKE ALL ON FUNCTION @extschema@.warm_standby_reset() FROM PUBLIC;
 REVOKE ALL ON FUNCTION @extschema@.warm_standby_hot_relations(integer) FROM PUBLIC;
 GRANT EXECUTE ON FUNCTION @extschema@.warm_standby_status() TO pg_monitor;
 GRANT EXECUTE ON FUNCTION @extschema@.warm_standby_refused() TO pg_monitor;

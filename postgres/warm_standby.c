@@ -8,9 +8,11 @@
 #include "miscadmin.h"
 #include "pgstat.h"
 #include "postmaster/interrupt.h"
+#include "storage/fd.h"
 #include "storage/ipc.h"
 #include "utils/guc.h"
 #include "utils/memutils.h"
+#include "utils/pidfile.h"
 #include "warm_standby.h"
 
 PG_MODULE_MAGIC;
@@ -345,7 +347,7 @@ turn(void)
 {
 	uint64		next = ws_us() + US_PER_S;
 	uint64		now;
-	bool		list_wanted;
+	bool		list_wanted, reset_wanted;
 
 	if (is_standby && !RecoveryInProgress())
 		promote();
@@ -367,11 +369,32 @@ turn(void)
 	ws_shared->stats = ws_stats;
 	memcpy(ws_shared->refused, ws_refused, sizeof ws_refused);
 	list_wanted = ws_shared->list_wanted;
+	reset_wanted = ws_shared->reset_wanted;
+	ws_shared->reset_wanted = false;
 	LWLockRelease(ws_shared->lock);
+	if (reset_wanted)
+		ws_history_reset("warm_standby_reset was called");
 	if (list_wanted)
 		ws_make_list();
 	now = ws_us();
 	return now < next ? (long) ((next - now) / 1000 + 1) : 0;
+}
+
+/* Whether the whole server stops, as its lock file says, and not this worker alone. */
+static bool
+is_server_stopping(void)
+{
+	FILE	   *file = AllocateFile("postmaster.pid", "r");
+	char		line[MAXPGPATH] = "";
+	int			number = 0;
+
+	if (file == NULL)
+		return false;
+	while (number < LOCK_FILE_LINE_PM_STATUS && fgets(line, sizeof line, file) != NULL)
+		number++;
+	FreeFile(file);
+	return number == LOCK_FILE_LINE_PM_STATUS &&
+		strncmp(line, PM_STATUS_STOPPING, strlen(PM_STATUS_STOPPING)) == 0;
 }
 
 /*
@@ -400,5 +423,6 @@ warm_standby_main(Datum main_arg)
 		MemoryContextReset(context);
 	}
 	ws_history_save(known_position());
-	proc_exit(1);				/* so that it starts again, where the server goes on */
+	/* With 1 it starts again, and the log has a line. */
+	proc_exit(is_server_stopping() ? 0 : 1);
 }

@@ -40,6 +40,7 @@
 #define WS_BATCH		4096
 #define WS_LISTED		16384
 #define WS_BUCKETS		64		/* of a history, by which it is sent */
+#define WS_MOST_DEVICES 65536	/* a page of the history has 16 bits for them */
 #define WS_MOST_LOADERS 64		/* that warm_standby.max_loaders can ask for */
 
 /* A device of the history: files of one tablespace, database and fork. */
@@ -137,6 +138,7 @@ typedef struct WsShared
 	WsStats		stats;
 	int64		refused[WS_STATUSES];
 	uint64		logged_at[WS_FAULTS];	/* by ws_us; 0: never */
+	bool		reset_wanted;
 	bool		list_wanted;
 	uint64		list_made;		/* counts the lists */
 	uint32		list_count;

@@ -40,6 +40,7 @@ SELECT count(*) FROM warm_standby_hottest(); -- error
 SET ROLE regress_warm_monitor;
 SELECT count(*) FROM pg_stat_warm_standby;
 SELECT count(*) > 0 AS some FROM warm_standby_hottest();
+SELECT warm_standby_reset(); -- error
 RESET ROLE;
 DROP ROLE regress_warm_nobody, regress_warm_monitor;
 -- what users write is no message of ours
