@@ -12,7 +12,9 @@
 #include "access/xlog.h"
 #include "miscadmin.h"
 #include "port/pg_crc32c.h"
+#include "postmaster/interrupt.h"
 #include "storage/fd.h"
+#include "storage/procsignal.h"
 #include "warm_standby.h"
 
 #define HISTORY_FILE "warm_standby.history"
@@ -24,6 +26,8 @@
 
 #define REFERENCES 1024
 #define BOUND_US (60 * US_PER_S)
+#define MOST_KNOWN 10000000		/* by default: some 0.7 GB, and a second for a ranking */
+#define STOP_US (US_PER_S / 2)	/* for a save at a stop, which would hold up a switchover */
 
 uint64		ws_changed_buckets = 0;
 uint64		ws_latest = 0;	/* the latest time given or heard of */
@@ -231,7 +235,7 @@ ws_history_bound(void)
 {
 	static uint64 bound_at = 0;
 	bool		is_standby = RecoveryInProgress();
-	Size		usual = is_standby ? PG_INT32_MAX : (Size) NBuffers * 4;
+	Size		usual = is_standby ? PG_INT32_MAX : Min((Size) NBuffers * 4, MOST_KNOWN);
 	Size		most = ws_history_pages > 0 ? ws_history_pages : usual;
 	uint64		now = Max(is_standby ? 0 : (uint64) GetCurrentTimestamp(), ws_latest);
 	uint64		age = (uint64) ws_history_age * 60 * US_PER_S;
@@ -270,11 +274,11 @@ open_draft(const char *path)
 
 /* Puts the draft into a file's place; where there was a fault, says so and drops it. */
 static bool
-end_draft(int fd, const char *path, const char *fault)
+end_draft(int fd, const char *path, bool whole, const char *fault)
 {
 	if (CloseTransientFile(fd) != 0 && fault == NULL)
 		fault = strerror(errno);
-	if (fault == NULL && durable_rename(DRAFT_FILE, path, LOG) == 0)
+	if (whole && fault == NULL && durable_rename(DRAFT_FILE, path, LOG) == 0)
 		return true;
 	if (fault != NULL)
 		ereport(LOG, (errmsg("warm_standby could not write \"%s\": %s", path, fault)));
@@ -314,7 +318,47 @@ ws_directory_save(void)
 	errno = ENOSPC;				/* a write that is short says nothing */
 	if (write(fd, bytes, length) != (ssize_t) length || pg_fsync(fd) != 0)
 		fault = strerror(errno);
-	return end_draft(fd, DIRECTORY_FILE, fault);
+	return end_draft(fd, DIRECTORY_FILE, true, fault);
+}
+
+static uint64 save_until;		/* when a save at a stop is given up; 0: it is another */
+static bool gave_up;
+
+/*
+ * Asked before each piece of a dump is written: 1 ends the save.  It ends where the
+ * server is to stop; one that the stop makes has a while.  What waits for all processes,
+ * as DROP DATABASE, does not wait for the save.  No error may leave this.
+ */
+static int
+before_piece(void *context, uint64_t at, const uint8_t *bytes, size_t length)
+{
+	MemoryContext old = CurrentMemoryContext;
+
+	PG_TRY();
+	{
+		if (ProcSignalBarrierPending)
+			ProcessProcSignalBarrier();
+	}
+	PG_CATCH();
+	{
+		MemoryContextSwitchTo(old);
+		FlushErrorState();		/* it is processed again at the next chance */
+	}
+	PG_END_TRY();
+	gave_up = save_until > 0 ? ws_us() > save_until : ShutdownRequestPending;
+	return gave_up;
+}
+
+/* Saves the history into a draft. */
+static int
+save_to(int fd)
+{
+	int			status = warm_before_write(fd, before_piece, NULL);
+
+	if (status == WARM_OK)
+		status = warm_save(&history, fd);
+	(void) warm_before_write(fd, NULL, NULL);
+	return gave_up ? status : ws_note(status, "a save");
 }
 
 /*
@@ -325,18 +369,26 @@ ws_directory_save(void)
 void
 ws_history_save(XLogRecPtr position)
 {
+	static uint64 cost = 0;		/* of the last save */
+	uint64		begun = ws_us();
 	int			fd = ws_directory_save() ? open_draft(HISTORY_FILE) : -1;
-	int			status = fd >= 0 ? ws_note(warm_save(&history, fd), "a save") : WARM_OK;
+	int			status;
+	bool		saved;
 
-	if (fd < 0 ||
-		!end_draft(fd, HISTORY_FILE, status == WARM_OK ? NULL : ws_status_name(status)))
+	gave_up = false;
+	save_until = ShutdownRequestPending ? begun + (cost < STOP_US ? STOP_US : 0) : 0;
+	status = fd >= 0 ? save_to(fd) : WARM_OK;
+	saved = fd >= 0 && end_draft(fd, HISTORY_FILE, !gave_up, gave_up || status == WARM_OK ? NULL :
+								 ws_status_name(status));
+	if (saved)
 	{
-		ws_stats.save_failures++;
-		return;
+		cost = ws_us() - begun;
+		ws_stats.saves++;
+		ws_saved_position = position;
+		(void) ws_directory_save();
 	}
-	ws_stats.saves++;
-	ws_saved_position = position;
-	(void) ws_directory_save();
+	else if (!gave_up)
+		ws_stats.save_failures++;
 }
 
 /* Opens a file for reading; -1 where there is none. */

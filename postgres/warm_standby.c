@@ -66,7 +66,8 @@ static const IntSetting int_settings[] = {
 	"Sets after which time without a reference a page is forgotten.", "0 means never."},
 	{&ws_history_pages, "warm_standby.history_pages", 0, 0, PG_INT32_MAX / 2, GUC_UNIT_BLOCKS,
 		"Sets how many pages are known at most.",
-	"0 means four times shared_buffers on a primary, and on a standby what its primary knows."},
+		"0 means four times shared_buffers on a primary, 10 million at most, and on a standby "
+	"what its primary knows."},
 	{&ws_load_interval, "warm_standby.load_interval", 1000, 10, 3600 * 1000, GUC_UNIT_MS,
 	"Sets the time between two rounds of loading."},
 	{&ws_load_rate, "warm_standby.load_rate", -1, -1, PG_INT32_MAX / 2, GUC_UNIT_BLOCKS,
