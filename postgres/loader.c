@@ -1,6 +1,7 @@
 /*
  * loader.c
- *		The worker that reads the pages of one database of a standby.
+ *		The worker that reads the pages of one database of a standby, or of a
+ *		primary that started.
  *
  * A loader reads its batch file by file, in short transactions of some pages
  * each, under AccessShareLock, which no drop or truncation passes.  It waits for no
@@ -161,16 +162,17 @@ try_file(WsRequest *some, int count)
 			some[i].outcome = rest;
 }
 
-/* Whether the worker that started this loader is there, on a standby, and wants it. */
+/* Whether the worker that started this loader is there, and wants it. */
 static bool
 is_needed(void)
 {
-	bool		needed;
+	bool		needed, is_warming;
 
 	LWLockAcquire(ws_shared->lock, LW_SHARED);
 	needed = ws_shared->epoch == epoch && !slot->leave;
+	is_warming = ws_shared->is_warming;
 	LWLockRelease(ws_shared->lock);
-	return needed && RecoveryInProgress();
+	return needed && (is_warming || RecoveryInProgress());
 }
 
 static void

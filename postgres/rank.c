@@ -391,7 +391,9 @@ send_batches(void)
 static Size
 most_wanted(void)
 {
-	return Min((Size) (ws_fraction * NBuffers), (Size) Max(NBuffers - BUFFERS_OF_REPLAY, 0));
+	double		fraction = ws_warming ? 1.0 : ws_fraction;
+
+	return Min((Size) (fraction * NBuffers), (Size) Max(NBuffers - BUFFERS_OF_REPLAY, 0));
 }
 
 /* Lists the hottest pages, where the history has changed since they were listed last. */
@@ -489,7 +491,8 @@ walk_buffers(void)
 			continue;
 		resident[entry->rank] = true;
 		ws_stats.resident++;
-		if (ws_load && BUF_STATE_GET_USAGECOUNT(state) < usage_of(entry->rank))
+		/* A touch of a primary's would be a reference at its next sample. */
+		if (ws_load && !ws_warming && BUF_STATE_GET_USAGECOUNT(state) < usage_of(entry->rank))
 			touch(i, &tag, usage_of(entry->rank));
 	}
 }
@@ -563,7 +566,7 @@ ws_round(void)
 		load_pages();
 	MemoryContextReset(round_context);
 	if (!is_warm && ws_stats.wanted > 0 && ws_stats.resident >= ws_stats.wanted * 0.99 &&
-		ws_last_frame != 0 && ws_may_log(WS_FAULT_WARM))
+		ws_last_frame != 0 && !ws_warming && ws_may_log(WS_FAULT_WARM))
 		ereport(LOG, (errmsg("warm_standby is warm: " INT64_FORMAT " of " INT64_FORMAT
 							 " wanted pages are resident", ws_stats.resident, ws_stats.wanted)));
 	is_warm = ws_stats.resident >= ws_stats.wanted * (is_warm ? 0.9 : 0.99) && ws_stats.wanted > 0;

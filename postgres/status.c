@@ -30,9 +30,9 @@ need_shared(void)
 				 errmsg("warm_standby must be loaded via shared_preload_libraries")));
 }
 
-/* Of a count: whether it says something of a standby alone. */
+/* Of a count: whether it says something only where pages are loaded. */
 static bool
-is_of_standby(int count)
+is_of_loading(int count)
 {
 	static const Size those[] = {offsetof(WsStats, wanted), offsetof(WsStats, resident),
 	offsetof(WsStats, unloadable), offsetof(WsStats, primary_known)};
@@ -57,7 +57,7 @@ warm_standby_status(PG_FUNCTION_ARGS)
 	int64		counts[STATS];
 	int64		refused = 0, loaders = 0;
 	TimestampTz times[3];
-	bool		runs, is_standby;
+	bool		runs, is_standby, loads;
 
 	need_shared();
 	if (get_call_result_type(fcinfo, NULL, &desc) != TYPEFUNC_COMPOSITE)
@@ -70,8 +70,9 @@ warm_standby_status(PG_FUNCTION_ARGS)
 		loaders += ws_shared->loaders[i].latch != NULL;
 	runs = ws_shared->latch != NULL;
 	is_standby = ws_shared->is_standby && runs && ws_enabled;
+	loads = is_standby || (ws_shared->is_warming && runs && ws_enabled);
 	times[0] = ws_shared->last_frame;
-	times[1] = is_standby ? ws_shared->last_round : 0;
+	times[1] = loads ? ws_shared->last_round : 0;
 	times[2] = ws_shared->stats_reset;
 	LWLockRelease(ws_shared->lock);
 
@@ -89,7 +90,7 @@ warm_standby_status(PG_FUNCTION_ARGS)
 	for (int i = 0; i < STATS; i++)
 	{
 		values[OWN_COLUMNS + i] = Int64GetDatum(counts[i]);
-		nulls[OWN_COLUMNS + i] = is_of_standby(i) && (!is_standby || counts[i] < 0);
+		nulls[OWN_COLUMNS + i] = is_of_loading(i) && (!loads || counts[i] < 0);
 	}
 	PG_RETURN_DATUM(HeapTupleGetDatum(heap_form_tuple(BlessTupleDesc(desc), values, nulls)));
 }

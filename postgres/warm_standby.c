@@ -32,6 +32,7 @@ WsShared   *ws_shared = NULL;
 WsStats		ws_stats;
 int64		ws_refused[WS_STATUSES];
 TimestampTz ws_last_frame = 0, ws_last_round = 0;
+bool		ws_warming = false;
 
 bool		ws_enabled;
 bool		ws_load;
@@ -39,7 +40,8 @@ double		ws_fraction;
 int			ws_max_loaders;
 int			ws_sample_interval, ws_publish_interval, ws_full_interval, ws_publish_rate;
 int			ws_history_age, ws_history_pages;
-int			ws_load_interval, ws_load_rate, ws_prefetch_pages, ws_clock_tolerance;
+int			ws_load_interval, ws_load_rate, ws_load_after_start, ws_prefetch_pages,
+			ws_clock_tolerance;
 
 static shmem_request_hook_type prev_shmem_request_hook = NULL;
 static shmem_startup_hook_type prev_shmem_startup_hook = NULL;
@@ -73,6 +75,8 @@ static const IntSetting int_settings[] = {
 	{&ws_load_rate, "warm_standby.load_rate", -1, -1, PG_INT32_MAX / 2, GUC_UNIT_BLOCKS,
 		"Sets how many pages a standby reads each second at most.",
 	"-1 means a hundredth of shared_buffers, and 2000 pages at least."},
+	{&ws_load_after_start, "warm_standby.load_after_start", 300, 0, 86400, GUC_UNIT_S,
+	"Sets for how long a primary that starts loads the pages that it knew."},
 	{&ws_prefetch_pages, "warm_standby.prefetch_pages", 0, 0, PG_INT32_MAX / 2, GUC_UNIT_BLOCKS,
 	"Sets how many further pages are read into the operating system's cache."},
 	{&ws_clock_tolerance, "warm_standby.clock_tolerance", 600, 1, 7 * 86400, GUC_UNIT_S,
@@ -187,6 +191,7 @@ _PG_init(void)
 static bool is_standby;
 static XLogRecPtr saved_redo;	/* of the checkpoint at which the history was saved last */
 static uint64 sample_at, publish_at, round_at, save_at; /* when they are due */
+static uint64 warming_until;
 
 /* Microseconds of a clock that nobody sets: what the worker waits by. */
 uint64
@@ -266,6 +271,43 @@ known_position(void)
 		ShutdownRequestPending ? GetXLogInsertRecPtr() : GetRedoRecPtr();
 }
 
+/* Loaders of a primary run as long as it says that it is warming. */
+static void
+set_warming(bool warming)
+{
+	ws_warming = warming;
+	LWLockAcquire(ws_shared->lock, LW_EXCLUSIVE);
+	ws_shared->is_warming = warming;
+	LWLockRelease(ws_shared->lock);
+}
+
+/*
+ * A primary that started has few pages in its buffers: it loads those that it knew,
+ * until there is no free buffer.  Pages that clients brought are not driven out.
+ */
+static void
+warm_primary(void)
+{
+	uint64		now = ws_us();
+
+	if (now < warming_until && ws_load && have_free_buffer())
+	{
+		if (now < round_at)
+			return;
+		ws_round();
+		round_at = next_time(now, ws_load_interval);
+		if (ws_stats.resident < ws_stats.wanted)
+			return;
+	}
+	set_warming(false);
+	if (ws_stats.wanted > 0)
+		ereport(LOG, (errmsg("warm_standby has warmed a primary: " INT64_FORMAT " of " INT64_FORMAT
+							 " wanted pages are resident", ws_stats.resident,
+							 ws_stats.wanted)));
+	ws_rank_reset();			/* the loaders end by themselves */
+	ws_stats.wanted = ws_stats.resident = ws_stats.unloadable = 0;
+}
+
 /* Begins, with what was saved. */
 static void
 start(void)
@@ -286,6 +328,8 @@ start(void)
 		receive_rest();
 	}
 	begin_role();
+	warming_until = ws_us() + ws_load_after_start * US_PER_S;
+	set_warming(!is_standby && ws_load_after_start > 0);
 	saved_redo = GetRedoRecPtr();
 	ereport(LOG, (errmsg("warm_standby started on a %s, with " INT64_FORMAT " pages known",
 						 is_standby ? "standby" : "primary", ws_stats.known)));
@@ -324,7 +368,9 @@ primary_turn(void)
 
 		publish_at = next_time(now, interval);
 	}
-	return Min(sample_at, publish_at);
+	if (ws_warming)
+		warm_primary();
+	return Min(Min(sample_at, publish_at), ws_warming ? round_at : publish_at);
 }
 
 static uint64

@@ -132,6 +132,7 @@ typedef struct WsShared
 	Latch	   *latch;			/* of the worker, NULL while there is none */
 	uint64		epoch;			/* counts the starts of the worker */
 	bool		is_standby;
+	bool		is_warming;		/* a primary that started loads what it knew */
 	TimestampTz last_frame;		/* when the newest frame was written */
 	TimestampTz last_round;		/* when the last round of loading ended */
 	TimestampTz stats_reset;	/* since when is counted */
@@ -154,6 +155,7 @@ extern WsShared *ws_shared;
 extern WsStats ws_stats;
 extern int64 ws_refused[WS_STATUSES];
 extern TimestampTz ws_last_frame, ws_last_round;
+extern bool ws_warming;
 
 /* Settings, in the units that their names have in warm_standby.c. */
 extern bool ws_enabled;
@@ -162,7 +164,8 @@ extern double ws_fraction;
 extern int	ws_max_loaders;
 extern int	ws_sample_interval, ws_publish_interval, ws_full_interval, ws_publish_rate;
 extern int	ws_history_age, ws_history_pages;
-extern int	ws_load_interval, ws_load_rate, ws_prefetch_pages, ws_clock_tolerance;
+extern int	ws_load_interval, ws_load_rate, ws_load_after_start, ws_prefetch_pages,
+			ws_clock_tolerance;
 
 /* directory.c */
 extern void ws_directory_reset(void);
