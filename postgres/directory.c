@@ -47,7 +47,7 @@ device_of(int number)
 
 /* Notes that a device has a number; false where it has another, or the number another device. */
 static bool
-put(uint16 number, const WsDevice *device)
+put_number(uint16 number, const WsDevice *device)
 {
 	Number	   *entry = hash_search(numbers, device, HASH_FIND, NULL);
 
@@ -81,7 +81,7 @@ ws_page_of(const BufferTag *tag, bool give, warm_page *page)
 	else if (give && ws_device_count < WS_MOST_DEVICES)
 	{
 		page->dev = (uint16) ws_device_count;
-		put(page->dev, &device);
+		put_number(page->dev, &device);
 	}
 	else
 		return false;
@@ -130,7 +130,7 @@ ws_directory_decode(const uint8 *bytes, Size length)
 
 		if (device.fork > MAX_FORKNUM || !OidIsValid(device.space))
 			return WS_BAD_DIRECTORY;
-		if (!put((uint16) ws_get(at, 2), &device))
+		if (!put_number((uint16) ws_get(at, 2), &device))
 			return WS_OTHER_DIRECTORY;
 	}
 	return WARM_OK;

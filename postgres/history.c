@@ -148,7 +148,7 @@ ws_note(int status, const char *what)
 }
 
 static void
-absorb(int bucket)
+absorb_bucket(int bucket)
 {
 	ws_note(warm_absorb(&history, references[bucket], reference_counts[bucket]),
 			"references of a sample");
@@ -160,7 +160,7 @@ void
 ws_references_end(void)
 {
 	for (int bucket = 0; bucket < WS_BUCKETS; bucket++)
-		absorb(bucket);
+		absorb_bucket(bucket);
 }
 
 /* Hands in one reference, with others of its bucket. */
@@ -174,7 +174,7 @@ ws_reference(warm_page page, uint64 time)
 	ws_changed_buckets |= UINT64CONST(1) << bucket;
 	ws_stats.page_references++;
 	if (reference_counts[bucket] == REFERENCES)
-		absorb(bucket);
+		absorb_bucket(bucket);
 }
 
 /*
@@ -215,7 +215,7 @@ ws_history_list(warm_page *pages, Size room)
 }
 
 static Size
-known(void)
+count_known(void)
 {
 	Size		length = 0;
 
@@ -241,7 +241,7 @@ ws_history_bound(void)
 	uint64		age = (uint64) ws_history_age * 60 * US_PER_S;
 	uint64		horizon = 0;
 
-	ws_stats.known = known();
+	ws_stats.known = count_known();
 	ws_stats.devices = ws_device_count;
 	if (ws_stats.known <= most + most / 8 && ws_us() < bound_at)
 		return;
@@ -252,11 +252,11 @@ ws_history_bound(void)
 				 errhint("Call warm_standby_reset() to begin a new history.")));
 	bound_at = ws_us() + BOUND_US;
 	warm_horizon(&history, age > 0 && age < now ? now - age : 0, &horizon);
-	if (horizon == 0 && known() > most)
+	if (horizon == 0 && count_known() > most)
 		warm_horizon(&history, now - Min(now, UINT64CONST(86400) * US_PER_S), &horizon);
-	while (known() > most && horizon < now)
+	while (count_known() > most && horizon < now)
 		warm_horizon(&history, horizon + (now - horizon) / 4 + 1, &horizon);
-	ws_stats.known = known();
+	ws_stats.known = count_known();
 }
 
 /* Makes the draft of a file; -1, and a line in the log, where that fails. */
@@ -268,7 +268,8 @@ open_draft(const char *path)
 	(void) unlink(DRAFT_FILE);
 	fd = OpenTransientFile(DRAFT_FILE, O_CREAT | O_EXCL | O_WRONLY | PG_BINARY);
 	if (fd < 0)
-		ereport(LOG, (errmsg("warm_standby could not write \"%s\": %m", path)));
+		ereport(LOG, (errcode_for_file_access(),
+					  errmsg("could not create file \"%s\" for \"%s\": %m", DRAFT_FILE, path)));
 	return fd;
 }
 
@@ -281,7 +282,7 @@ end_draft(int fd, const char *path, bool whole, const char *fault)
 	if (whole && fault == NULL && durable_rename(DRAFT_FILE, path, LOG) == 0)
 		return true;
 	if (fault != NULL)
-		ereport(LOG, (errmsg("warm_standby could not write \"%s\": %s", path, fault)));
+		ereport(LOG, (errcode(ERRCODE_IO_ERROR), errmsg("could not write file \"%s\": %s", path, fault)));
 	(void) unlink(DRAFT_FILE);
 	return false;
 }
@@ -400,7 +401,7 @@ open_saved(const char *path, Size *length)
 
 	if (fd < 0 ? errno != ENOENT : fstat(fd, &st) != 0)
 		ereport(LOG, (errcode_for_file_access(),
-					  errmsg("warm_standby could not read \"%s\": %m", path)));
+					  errmsg("could not open file \"%s\": %m", path)));
 	*length = st.st_size;
 	return fd;
 }

@@ -176,7 +176,7 @@ is_needed(void)
 }
 
 static void
-load(uint32 count)
+load_batch(uint32 count)
 {
 	qsort(batch, count, sizeof(WsRequest), by_page);
 	for (uint32 i = 0, k; i < count; i = k)
@@ -222,7 +222,7 @@ give_outcomes(uint32 count, uint64 took_us)
 
 /* Gives the slot back.  Where it could not connect its batch stays, by which the worker sees it. */
 static void
-leave(int code, Datum arg)
+release_slot(int code, Datum arg)
 {
 	LWLockAcquire(ws_shared->lock, LW_EXCLUSIVE);
 	if (ws_shared->epoch == epoch)
@@ -246,7 +246,7 @@ warm_standby_loader_main(Datum main_arg)
 	BackgroundWorkerUnblockSignals();
 	memcpy(&epoch, MyBgworkerEntry->bgw_extra, sizeof epoch);
 	slot = &ws_shared->loaders[DatumGetInt32(main_arg)];
-	before_shmem_exit(leave, (Datum) 0);
+	before_shmem_exit(release_slot, (Datum) 0);
 	LWLockAcquire(ws_shared->lock, LW_EXCLUSIVE);
 	database = ws_shared->epoch == epoch ? slot->database : InvalidOid;
 	if (OidIsValid(database))
@@ -265,7 +265,9 @@ warm_standby_loader_main(Datum main_arg)
 		idle++;
 		if (count > 0)
 		{
-			load(count);
+			pgstat_report_activity(STATE_RUNNING, "warm_standby reads pages");
+			load_batch(count);
+			pgstat_report_activity(STATE_IDLE, NULL);
 			give_outcomes(count, ws_us() - begun);
 			(void) pgstat_report_stat(false);
 			idle = 0;

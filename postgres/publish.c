@@ -77,7 +77,7 @@ is_important(void)
 
 /* Writes one message. */
 static void
-emit(uint8 kind, uint8 *message, Size length)
+emit_message(uint8 kind, uint8 *message, Size length)
 {
 	xl_logical_message record = {.dbId = InvalidOid, .transactional = false,
 	.prefix_size = sizeof WS_NAME, .message_size = length};
@@ -120,7 +120,7 @@ send_directory(uint64 now, int64 rate)
 		uint8	   *end = ws_directory_encode(&devices_sent, devices_saved, DEVICES_A_MESSAGE,
 											  message + WS_HEADER);
 
-		emit(WS_MESSAGE_DIRECTORY, message, end - message);
+		emit_message(WS_MESSAGE_DIRECTORY, message, end - message);
 	}
 }
 
@@ -136,7 +136,7 @@ send_piece(Walk *walk)
 		return false;
 	walk->has_after = true;
 	if (length > FRAME_HEADER)
-		emit(WS_MESSAGE_FRAME, message, WS_HEADER + length);
+		emit_message(WS_MESSAGE_FRAME, message, WS_HEADER + length);
 	return true;
 }
 

@@ -83,7 +83,7 @@ static Size page_count, wanted_count;	/* how many, and how many of these are wan
 static bool *resident;
 
 static void
-forgive(void)
+forget_unloadable(void)
 {
 	HASHCTL		control = {.keysize = sizeof(WsPage), .entrysize = sizeof(Unloadable),
 	.hcxt = TopMemoryContext};
@@ -114,7 +114,7 @@ leave_alone(const WsPage *page, uint64 us)
 	uint32		bit = hash_of(&page->device, page->file);
 
 	if (hash_get_num_entries(unloadable) >= MOST_UNLOADABLE)
-		forgive();
+		forget_unloadable();
 	unloadable_bits[bit / 64] |= UINT64CONST(1) << bit % 64;
 	((Unloadable *) hash_search(unloadable, page, HASH_ENTER, NULL))->until = round_at + us;
 	unloadable_until = Max(unloadable_until, round_at + us);
@@ -203,7 +203,7 @@ ws_rank_reset(void)
 	if (listed != NULL)
 		pfree(listed);
 	listed = NULL;
-	forgive();
+	forget_unloadable();
 	round_at = ws_us();
 	load_allowance = 0;
 	is_warm = false;
@@ -383,7 +383,11 @@ send_batches(void)
 			loader->database = InvalidOid;
 		LWLockRelease(ws_shared->lock);
 		if (has_work && handles[i] == NULL && !start_batch(i))
-			clear_slot(i, true);	/* nobody else knows of it */
+		{
+			LWLockAcquire(ws_shared->lock, LW_EXCLUSIVE);
+			clear_slot(i, true);
+			LWLockRelease(ws_shared->lock);
+		}
 	}
 }
 
@@ -451,7 +455,7 @@ usage_of(Size rank)
 
 /* Raises a usage count, where the buffer has that page still. */
 static void
-touch(int buffer, const BufferTag *tag, uint32 usage)
+touch_buffer(int buffer, const BufferTag *tag, uint32 usage)
 {
 	BufferDesc *descriptor = GetBufferDescriptor(buffer);
 	uint32		state = LockBufHdr(descriptor);
@@ -493,7 +497,7 @@ walk_buffers(void)
 		ws_stats.resident++;
 		/* A touch of a primary's would be a reference at its next sample. */
 		if (ws_load && !ws_warming && BUF_STATE_GET_USAGECOUNT(state) < usage_of(entry->rank))
-			touch(i, &tag, usage_of(entry->rank));
+			touch_buffer(i, &tag, usage_of(entry->rank));
 	}
 }
 
@@ -555,7 +559,7 @@ ws_round(void)
 
 	round_at = begun;
 	if (begun > unloadable_until && hash_get_num_entries(unloadable) > 0)
-		forgive();				/* so that ranking looks for none */
+		forget_unloadable();				/* so that ranking looks for none */
 	load_allowance = Min(load_allowance + passed * load_rate(),
 						 Max(2.0 * load_rate() * ws_load_interval / 1000, 1));
 	reap_loaders();

@@ -115,7 +115,7 @@ shared_size(void)
 }
 
 static void
-shmem_request(void)
+request_shared(void)
 {
 	if (prev_shmem_request_hook)
 		prev_shmem_request_hook();
@@ -124,7 +124,7 @@ shmem_request(void)
 }
 
 static void
-shmem_startup(void)
+start_shared(void)
 {
 	bool		found;
 
@@ -179,9 +179,9 @@ _PG_init(void)
 		return;
 	define_settings();
 	prev_shmem_request_hook = shmem_request_hook;
-	shmem_request_hook = shmem_request;
+	shmem_request_hook = request_shared;
 	prev_shmem_startup_hook = shmem_startup_hook;
-	shmem_startup_hook = shmem_startup;
+	shmem_startup_hook = start_shared;
 
 	ws_describe_worker(&worker, "warm_standby_main", WS_NAME);
 	worker.bgw_restart_time = RESTART_SECONDS;
@@ -228,7 +228,7 @@ next_time(uint64 begun, int interval)
 }
 
 static void
-leave(int code, Datum arg)
+release_worker(int code, Datum arg)
 {
 	LWLockReleaseAll();			/* an error may have come below ours */
 	LWLockAcquire(ws_shared->lock, LW_EXCLUSIVE);
@@ -310,7 +310,7 @@ warm_primary(void)
 
 /* Begins, with what was saved. */
 static void
-start(void)
+start_worker(void)
 {
 	LWLockAcquire(ws_shared->lock, LW_EXCLUSIVE);
 	ws_shared->latch = MyLatch;
@@ -337,7 +337,7 @@ start(void)
 
 /* The standby was promoted: the worker goes on as the sampler. */
 static void
-promote(void)
+become_primary(void)
 {
 	ereport(LOG, (errmsg("warm_standby was promoted: " INT64_FORMAT " pages known, " INT64_FORMAT
 						 " of " INT64_FORMAT " wanted pages resident", ws_stats.known,
@@ -390,14 +390,14 @@ standby_turn(void)
 
 /* One turn; returns for how many milliseconds the worker may sleep, a second at most. */
 static long
-turn(void)
+take_turn(void)
 {
 	uint64		next = ws_us() + US_PER_S;
 	uint64		now;
 	bool		list_wanted, reset_wanted;
 
 	if (is_standby && !RecoveryInProgress())
-		promote();
+		become_primary();
 	if (ws_enabled)
 		next = Min(next, is_standby ? standby_turn() : primary_turn());
 	else if (!is_standby)
@@ -459,13 +459,13 @@ warm_standby_main(Datum main_arg)
 	pqsignal(SIGINT, SIG_IGN);	/* a cancel would cost what was learned since the last save */
 	BackgroundWorkerUnblockSignals();
 	BackgroundWorkerInitializeConnection(NULL, NULL, 0);
-	before_shmem_exit(leave, (Datum) 0);
+	before_shmem_exit(release_worker, (Datum) 0);
 	context = AllocSetContextCreate(TopMemoryContext, WS_NAME, ALLOCSET_DEFAULT_SIZES);
 	MemoryContextSwitchTo(context);
-	start();
+	start_worker();
 	while (!ShutdownRequestPending)
 	{
-		if (ws_wait(turn()))
+		if (ws_wait(take_turn()))
 			sample_at = publish_at = round_at = 0;	/* the intervals may be others */
 		MemoryContextReset(context);
 	}
