@@ -220,14 +220,17 @@ give_outcomes(uint32 count, uint64 took_us)
 	LWLockRelease(ws_shared->lock);
 }
 
-/* Gives the slot back.  Where it could not connect its batch stays, by which the worker sees it. */
+/*
+ * Gives the slot back.  Where it could not connect its batch stays, by which the
+ * worker sees it, and so do outcomes that the worker did not read yet.
+ */
 static void
 release_slot(int code, Datum arg)
 {
 	LWLockAcquire(ws_shared->lock, LW_EXCLUSIVE);
 	if (ws_shared->epoch == epoch)
 		slot->latch = NULL;
-	if (ws_shared->epoch == epoch && is_connected)
+	if (ws_shared->epoch == epoch && is_connected && slot->state != WS_SLOT_DONE)
 	{
 		slot->state = WS_SLOT_IDLE;
 		slot->database = InvalidOid;
@@ -271,6 +274,9 @@ warm_standby_loader_main(Datum main_arg)
 			give_outcomes(count, ws_us() - begun);
 			(void) pgstat_report_stat(false);
 			idle = 0;
+			/* DROP DATABASE waits for a while until nobody is connected. */
+			if (!RecoveryInProgress())
+				break;
 		}
 		(void) ws_wait(IDLE_MS);
 	}
