@@ -5,7 +5,7 @@ use Rattle.warm_shared.proofs.Sent.{attached_send, shards_sync}
 use Rattle.tests_shards.proofs.threads.served_by_eight.Goals as goal
 
 pub join-one-requires-send-F : goal.join-one-requires-send-F
-join-one-requires-send-F g c κs within = let r = c.type_bounds.sync-R in search (sendable, crosses, calls_send, attached_send, shards_sync) depth 20
+join-one-requires-send-F g c κs within = let r = c.type_bounds.sync-R in search (sendable, crosses, calls_send, attached_send, shards_sync) depth 30
 
 pub join-one-requires-send-A : goal.join-one-requires-send-A
 join-one-requires-send-A g c κs within = search (sendable, crosses, calls_send, attached_send) depth 20
