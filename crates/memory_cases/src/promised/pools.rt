@@ -50,7 +50,7 @@ pub(crate) fn rows<P: Print>(
     history: &History,
     device: MemDevice,
 ) -> Result<(), Ended>
-    requires { RankedBy pool history.now }
+    requires { IsRankedByAll pool }
 {
     ranked(rt, met, &mut pool, history)?;
     takes_none(rt, "write_back_all")?;
