@@ -55,19 +55,11 @@ FIELD_IS(node_frame, horizon, 0, 8);
 FIELD_IS(node_frame, shards, 8, 8);
 FIELD_IS(node_frame, buckets, 16, 8);
 FIELD_IS(node_frame, kind, 24, 1);
-/* node_pin writes the index of a slot and the shard after it as one number, and so does name_shard. */
+/* node_pin writes the index of a slot and the shard after it as one number. */
 _Static_assert(__BYTE_ORDER__ == __ORDER_LITTLE_ENDIAN__, "the lowest byte of a number is first");
 _Static_assert(sizeof(shard) % LINE == 0 && sizeof(opened) % LINE == 0 && sizeof(replica) % LINE == 0, "whole lines");
 
 /* ---- handles ---- */
-
-/* Zeros in lines of their own, or NULL; and the block of malloc that they are in. */
-static void *in_lines(size_t size, void **block) {
-    *block = malloc(size + LINE - 1);
-    if (*block == NULL) return NULL;
-    uintptr_t at = ((uintptr_t)*block + LINE - 1) / LINE * LINE;
-    return memset((void *)at, 0, size);
-}
 
 static void destroy_locks(replica *of, size_t count) {
     for (size_t number = 0; number < count; number++) pthread_mutex_destroy(&of->shards[number].lock);
@@ -103,6 +95,8 @@ static replica *new_replica(uint16_t number, size_t count) {
 static void end_replica(replica *of) {
     for (size_t number = 0; number < of->count; number++) node_close(&of->shards[number].node);
     for (size_t dev = 0; dev < of->device_count; dev++) sync_drop(of->devices[dev].fd);
+    for (size_t number = 0; number < of->count; number++) close_table(&of->shards[number].table);
+    free_holds(of);
     destroy_locks(of, of->count);
     free(of->devices);
     free(of->block);
@@ -124,6 +118,7 @@ static int open_nodes(replica *of, size_t frames, size_t page_size, const warm_d
     int status = WARM_OK;
     for (size_t number = 0; status == WARM_OK && number < of->count; number++) {
         status = node_open(&of->shards[number].node, of->number, frames, page_size, devices, device_count);
+        if (status == WARM_OK && !open_table(&of->shards[number].table, frames)) status = WARM_MEMORY;
     }
     return status == WARM_OK ? keep_devices(of, devices, device_count) : status;
 }
@@ -137,13 +132,9 @@ static opened *new_opened(replica *of) {
     made->shards = of->shards;
     made->count = of->count;
     made->block = block;
-    return made;
-}
-
-/* Only the handle that opened the replica can be the only one. */
-static void look_who_is_there(opened *its) {
-    bool is_alone = its->count == 1 && open_handles(its->of) == 1;
-    its->alone = is_alone ? &its->shards[0].node : NULL;
+    if (take_holds(made)) return made;
+    free(block);
+    return NULL;
 }
 
 int warm_open(warm *handle, uint16_t number, size_t shards, size_t frames, size_t page_size, const warm_device *devices, size_t device_count) {
@@ -160,7 +151,6 @@ int warm_open(warm *handle, uint16_t number, size_t shards, size_t frames, size_
         return status != WARM_OK ? status : WARM_MEMORY;
     }
     its->is_first = true;
-    look_who_is_there(its);
     handle->at = its;
     return WARM_OK;
 }
@@ -172,160 +162,209 @@ int warm_thread(warm *handle, warm *attached) {
     attached->at = new_opened(its->of);
     if (attached->at == NULL) return WARM_MEMORY;
     atomic_fetch_add_explicit(&its->of->handles, 1, memory_order_acq_rel);
-    its->alone = NULL;
     return WARM_OK;
 }
 
 int warm_close(warm *handle) {
     opened *its = handle->at;
     if (its == NULL) return WARM_OK;
-    if (!its->is_first && its->pins > 0) return WARM_PINS_LEFT;
+    if (!its->is_first && (its->pins > 0 || its->used != 0)) return WARM_PINS_LEFT;
     if (its->is_first && open_handles(its->of) > 1) return WARM_ATTACHED;
-    if (its->is_first) end_replica(its->of);
-    else atomic_fetch_sub_explicit(&its->of->handles, 1, memory_order_acq_rel);
+    if (its->is_first) {
+        end_replica(its->of);
+    } else {
+        give_holds(its);
+        atomic_fetch_sub_explicit(&its->of->handles, 1, memory_order_acq_rel);
+    }
     free(its->block);
     handle->at = NULL;
     return WARM_OK;
 }
 
-/* ---- pages ----
- *
- * What a hit is made of has a function of its own for a shard that must be locked: without a lock there is then little to be saved on the
- * stack. */
+/* ---- pages ---- */
 
 /* As shard_of of crates/warm_shards has it: the page's bucket, (dev + no) modulo 64, modulo the number of shards, which is a power of two up to
- * 64. The proved part is not asked, so that a hit makes no call more. */
-static shard *shard_of(const opened *its, warm_page page) { return &its->shards[(page.dev + page.no) & (its->count - 1)]; }
+ * 64. The proved part is not asked, so that a hit makes no call. */
+static size_t number_of(const opened *its, warm_page page) { return (page.dev + page.no) & (its->count - 1); }
 
-/* By one write of eight bytes, as the caller passes the slot on by reads of eight: of an index that was just read, and may be any, no half of these
- * is left out. */
-static void name_shard(warm_slot *slot, size_t number) {
-    uint64_t place = *(volatile uint32_t *)&slot->index | (uint64_t)number << 32;
-    memcpy((uint8_t *)slot + offsetof(warm_slot, index), &place, sizeof place);
+static shard *shard_of(const opened *its, warm_page page) { return &its->shards[number_of(its, page)]; }
+
+/* checks/holds puts pauses here, for a moment at which another thread lets the page leave. */
+#ifndef HOLDS_PAUSE
+#define HOLDS_PAUSE() ((void)0)
+#endif
+
+/* The hold by which the handle names a record, or one that it does not use; HOLDS where it has none left, or no count. */
+static inline unsigned hold_for(const opened *its, uint64_t word) {
+    for (unsigned left = its->used; left != 0; left &= left - 1) {
+        unsigned at = (unsigned)__builtin_ctz(left);
+        if (atomic_load_explicit(&its->holds->words[at], memory_order_relaxed) == word) return at;
+    }
+    return (unsigned)__builtin_ctz(~its->used);
 }
 
-/* What comes of a pin, in the handle and in the slot, once its shard was left. */
-static inline int pinned(opened *its, shard *in, warm_slot *slot, int status) {
+/* Holds the record's page, unless another one has the record now. */
+static inline bool hold(opened *its, unsigned at, record *its_record, uint32_t state, uint64_t word) {
+    HOLDS_PAUSE();
+    atomic_exchange(&its->holds->words[at], word);
+    HOLDS_PAUSE();
+    if (atomic_load(&its_record->state) == state) return true;
+    atomic_store_explicit(&its->holds->words[at], 0, memory_order_release);
+    return false;
+}
+
+/* Pins a page by a hold: the page has a record, and the handle a hold left. */
+static inline bool pin_by_hold(opened *its, warm_page page, warm_slot *slot, const uint8_t **bytes) {
+    uint32_t state;
+    size_t number = number_of(its, page);
+    const table *of = &its->shards[number].table;
+    record *at = find_record(of, page, &state);
+    if (at == NULL) return false;
+    warm_slot given = {.generation = atomic_load_explicit(&at->generation, memory_order_acquire),
+        .index = atomic_load_explicit(&at->index, memory_order_acquire), .shard = (uint32_t)number};
+    const uint8_t *lent = atomic_load_explicit(&at->bytes, memory_order_acquire);
+    uint64_t word = word_of(number, of, at, state);
+    unsigned by = hold_for(its, word);
+    if (by == HOLDS) return false;
+    if ((its->used >> by & 1) == 0) {
+        if (!hold(its, by, at, state, word)) return false;
+        its->held[by] = (held){.slot = given};
+        its->used |= 1u << by;
+    }
+    its->held[by].pins++;
+    atomic_store_explicit(&its->holds->hits, atomic_load_explicit(&its->holds->hits, memory_order_relaxed) + 1, memory_order_relaxed);
+    *slot = given;
+    *bytes = lent;
+    return true;
+}
+
+/* Takes back a pin by a hold, where the slot's page has one. */
+static inline bool unpin_by_hold(opened *its, warm_slot slot) {
+    for (unsigned left = its->used; left != 0; left &= left - 1) {
+        unsigned at = (unsigned)__builtin_ctz(left);
+        held *it = &its->held[at];
+        if (it->slot.generation != slot.generation || it->slot.index != slot.index || it->slot.shard != slot.shard) continue;
+        if (--it->pins > 0) return true;
+        atomic_store_explicit(&its->holds->words[at], 0, memory_order_release);
+        its->used &= ~(1u << at);
+        return true;
+    }
+    return false;
+}
+
+/* What comes of a pin in a node, in the handle and in the slot, once its shard was left. */
+static int pinned(opened *its, shard *in, warm_slot *slot, int status) {
     if (status != WARM_OK) return noted(its, in, status);
     its->pins++;
-    if (in != its->shards) name_shard(slot, (size_t)(in - its->shards)); /* 0 is there already */
+    slot->shard = (uint32_t)(in - its->shards);
     return WARM_OK;
 }
 
-__attribute__((noinline)) static int locked_pin(opened *its, shard *in, warm_page page, warm_slot *slot) {
-    pthread_mutex_lock(&in->lock);
-    int status = node_pin(&in->node, page, slot);
-    pthread_mutex_unlock(&in->lock);
-    return pinned(its, in, slot, status);
+/* Whether a call of the node may go on that loads a page: where another one may have to leave for it, that is one that nobody holds. */
+static bool may_load(opened *its, shard *in) { return in->table.filled < in->table.frames || pass_over_held(its, in, true); }
+
+/* After that call. */
+static void loaded(shard *in, bool is_loaded) {
+    unpin_passed(in);
+    if (is_loaded && in->table.filled < in->table.frames) in->table.filled++;
 }
 
-int warm_pin(warm *handle, warm_page page, warm_slot *slot) {
-    opened *its = handle->at;
-    if (its == NULL) return WARM_CLOSED;
-    if (its->alone != NULL) return node_pin(its->alone, page, slot);
+/* A page that is pinned for the second time since it came gets a record: many pages leave without. */
+__attribute__((noinline)) static int pin_in_shard(opened *its, warm_page page, warm_slot *slot, const uint8_t **bytes) {
     shard *in = shard_of(its, page);
-    if (open_handles(its->of) > 1) return locked_pin(its, in, page, slot);
-    look_who_is_there(its);
-    return pinned(its, in, slot, node_pin(&in->node, page, slot));
-}
-
-int warm_pin_zeroed(warm *handle, warm_page page, warm_slot *slot) {
-    opened *its = handle->at;
-    if (its == NULL) return WARM_CLOSED;
-    shard *in = shard_of(its, page);
-    bool is_locked = enter(its, in);
-    int status = node_pin_zeroed(&in->node, page, slot);
+    bool is_locked = enter(its, in), is_in = false;
+    node_resident(&in->node, page, &is_in);
+    int status = is_in || may_load(its, in) ? node_pin_lend(&in->node, page, slot, bytes) : WARM_ALL_FIXED;
+    if (!is_in) loaded(in, status == WARM_OK);
+    else if (status == WARM_OK) put_record(its, in, page, *slot, *bytes);
     leave(in, is_locked);
-    return pinned(its, in, slot, status);
-}
-
-__attribute__((noinline)) static int locked_pin_lend(opened *its, shard *in, warm_page page, warm_slot *slot, const uint8_t **bytes) {
-    pthread_mutex_lock(&in->lock);
-    int status = node_pin_lend(&in->node, page, slot, bytes);
-    pthread_mutex_unlock(&in->lock);
     return pinned(its, in, slot, status);
 }
 
 int warm_pin_lend(warm *handle, warm_page page, warm_slot *slot, const uint8_t **bytes) {
     opened *its = handle->at;
     if (its == NULL) return WARM_CLOSED;
-    if (its->alone != NULL) return node_pin_lend(its->alone, page, slot, bytes);
+    return pin_by_hold(its, page, slot, bytes) ? WARM_OK : pin_in_shard(its, page, slot, bytes);
+}
+
+int warm_pin(warm *handle, warm_page page, warm_slot *slot) {
+    const uint8_t *bytes;
+    return warm_pin_lend(handle, page, slot, &bytes);
+}
+
+int warm_pin_zeroed(warm *handle, warm_page page, warm_slot *slot) {
+    opened *its = handle->at;
+    if (its == NULL) return WARM_CLOSED;
     shard *in = shard_of(its, page);
-    if (open_handles(its->of) > 1) return locked_pin_lend(its, in, page, slot, bytes);
-    look_who_is_there(its);
-    return pinned(its, in, slot, node_pin_lend(&in->node, page, slot, bytes));
+    bool is_locked = enter(its, in), is_in = false;
+    node_resident(&in->node, page, &is_in);
+    int status = is_in || may_load(its, in) ? node_pin_zeroed(&in->node, page, slot) : WARM_ALL_FIXED;
+    if (!is_in) loaded(in, status == WARM_OK);
+    leave(in, is_locked);
+    return pinned(its, in, slot, status);
 }
 
-static inline int unpinned(opened *its, int status) {
-    if (status == WARM_OK) its->pins--;
-    return status;
-}
-
-__attribute__((noinline)) static int locked_unpin(shard *in, warm_slot slot) {
-    pthread_mutex_lock(&in->lock);
+__attribute__((noinline)) static int unpin_in_shard(opened *its, warm_slot slot) {
+    if ((its->pins == 0 && !its->is_first) || slot.shard >= its->count) return WARM_STALE_SLOT;
+    shard *in = &its->shards[slot.shard];
+    bool is_locked = enter(its, in);
     int status = node_unpin(&in->node, slot);
-    pthread_mutex_unlock(&in->lock);
+    leave(in, is_locked);
+    if (status == WARM_OK) its->pins--;
     return status;
 }
 
 int warm_unpin(warm *handle, warm_slot slot) {
     opened *its = handle->at;
     if (its == NULL) return WARM_CLOSED;
-    if (its->alone != NULL && slot.shard == 0) return node_unpin(its->alone, slot);
-    if ((its->pins == 0 && !its->is_first) || slot.shard >= its->count) return WARM_STALE_SLOT;
-    shard *in = &its->shards[slot.shard];
-    if (open_handles(its->of) > 1) return unpinned(its, locked_unpin(in, slot));
-    return unpinned(its, node_unpin(&in->node, slot));
+    return unpin_by_hold(its, slot) ? WARM_OK : unpin_in_shard(its, slot);
 }
 
-__attribute__((noinline)) static int locked_read(shard *in, warm_slot slot, size_t at, uint8_t *into, size_t length) {
-    pthread_mutex_lock(&in->lock);
-    int status = node_read(&in->node, slot, at, into, length);
-    pthread_mutex_unlock(&in->lock);
+/* A shard that is entered for a call on a slot, whose page the node has a pin of meanwhile, where anybody has one. */
+typedef struct visit {
+    shard *in;
+    bool is_locked, is_pinned;
+} visit;
+
+/* Whether the handle is open and the shard there, or why not. */
+static int enter_slot(warm *handle, warm_slot slot, visit *made) {
+    opened *its = handle->at;
+    if (its == NULL) return WARM_CLOSED;
+    if (slot.shard >= its->count) return WARM_STALE_SLOT;
+    made->in = &its->shards[slot.shard];
+    made->is_locked = enter(its, made->in);
+    made->is_pinned = pin_held(its, made->in, slot);
+    return WARM_OK;
+}
+
+static int leave_slot(const visit *made, warm_slot slot, int status) {
+    if (made->is_pinned) node_unpin(&made->in->node, slot);
+    leave(made->in, made->is_locked);
     return status;
 }
 
 int warm_read(warm *handle, warm_slot slot, size_t at, uint8_t *into, size_t length) {
-    opened *its = handle->at;
-    if (its == NULL) return WARM_CLOSED;
-    if (its->alone != NULL && slot.shard == 0) return node_read(its->alone, slot, at, into, length);
-    if (slot.shard >= its->count) return WARM_STALE_SLOT;
-    shard *in = &its->shards[slot.shard];
-    if (open_handles(its->of) > 1) return locked_read(in, slot, at, into, length);
-    return node_read(&in->node, slot, at, into, length);
+    visit made;
+    int status = enter_slot(handle, slot, &made);
+    return status != WARM_OK ? status : leave_slot(&made, slot, node_read(&made.in->node, slot, at, into, length));
 }
 
 int warm_write(warm *handle, warm_slot slot, size_t at, const uint8_t *bytes, size_t length) {
-    opened *its = handle->at;
-    if (its == NULL) return WARM_CLOSED;
-    if (slot.shard >= its->count) return WARM_STALE_SLOT;
-    shard *in = &its->shards[slot.shard];
-    bool is_locked = enter(its, in);
-    int status = node_write(&in->node, slot, at, bytes, length);
-    leave(in, is_locked);
-    return status;
+    visit made;
+    int status = enter_slot(handle, slot, &made);
+    return status != WARM_OK ? status : leave_slot(&made, slot, node_write(&made.in->node, slot, at, bytes, length));
 }
 
 int warm_lend(warm *handle, warm_slot slot, const uint8_t **bytes) {
-    opened *its = handle->at;
-    if (its == NULL) return WARM_CLOSED;
-    if (slot.shard >= its->count) return WARM_STALE_SLOT;
-    shard *in = &its->shards[slot.shard];
-    bool is_locked = enter(its, in);
-    int status = node_lend(&in->node, slot, bytes);
-    leave(in, is_locked);
-    return status;
+    visit made;
+    int status = enter_slot(handle, slot, &made);
+    return status != WARM_OK ? status : leave_slot(&made, slot, node_lend(&made.in->node, slot, bytes));
 }
 
 int warm_lend_mut(warm *handle, warm_slot slot, uint8_t **bytes) {
-    opened *its = handle->at;
-    if (its == NULL) return WARM_CLOSED;
-    if (slot.shard >= its->count) return WARM_STALE_SLOT;
-    shard *in = &its->shards[slot.shard];
-    bool is_locked = enter(its, in);
-    int status = node_lend_mut(&in->node, slot, bytes);
-    leave(in, is_locked);
-    return status;
+    visit made;
+    int status = enter_slot(handle, slot, &made);
+    return status != WARM_OK ? status : leave_slot(&made, slot, node_lend_mut(&made.in->node, slot, bytes));
 }
 
 int warm_resident(warm *handle, warm_page page, bool *resident) {
@@ -344,7 +383,8 @@ int warm_victim(warm *handle, size_t number, bool *found, warm_page *page) {
     if (number >= its->count) return WARM_NO_SHARD;
     shard *in = &its->shards[number];
     bool is_locked = enter(its, in);
-    int status = node_victim(&in->node, found, page);
+    int status = pass_over_held(its, in, false) ? node_victim(&in->node, found, page) : WARM_ALL_FIXED;
+    unpin_passed(in);
     leave(in, is_locked);
     return status;
 }
@@ -358,7 +398,8 @@ int warm_step(warm *handle, bool *found, warm_page *page) {
         shard *in = &its->shards[its->turn];
         its->turn = (its->turn + 1) % its->count;
         bool is_locked = enter(its, in);
-        int status = node_step(&in->node, &is_loaded, page);
+        int status = may_load(its, in) ? node_step(&in->node, &is_loaded, page) : WARM_ALL_FIXED;
+        loaded(in, status == WARM_OK && is_loaded);
         leave(in, is_locked);
         if (status != WARM_OK) return noted(its, in, status);
     }

@@ -3,22 +3,21 @@
  *
  * A replica has one node of the proved part for each shard, and a lock for each. Whoever is in a shard, between enter and leave, has its node to
  * itself: by its lock, or since no other handle is open. No call is in two shards at once but those that are in all, which enter them in
- * their order.
+ * their order. A pin of a page that has a record, and its unpin, are in no shard: holds.h.
  */
 #ifndef SHARDS_H
 #define SHARDS_H
 
+#include "holds.h"
 #include "nodes.h"
 
 #include <pthread.h>
 #include <stdatomic.h>
 
-/* Bytes that a processor takes from another one as a whole. No two shards share any, and no two handles. */
-enum { LINE = 64 };
-
 typedef struct shard {
     _Alignas(LINE) pthread_mutex_t lock;
     node node;
+    _Alignas(LINE) table table;
 } shard;
 
 typedef struct replica {
@@ -30,6 +29,8 @@ typedef struct replica {
     _Atomic uint64_t limit;  /* of times in frames */
     atomic_size_t failed_in; /* the shard in which a call of a device failed last */
     void *block;
+    _Atomic(holds *) holds;     /* of all handles that are open or were */
+    atomic_size_t holds_count; /* how many these are, and are about to be */
     shard shards[];
 } replica;
 
@@ -42,15 +43,21 @@ typedef struct answers {
     bool has_after;
 } answers;
 
+/* The slot of a page that a handle holds, and how often the handle has pinned it so. */
+typedef struct held {
+    warm_slot slot;
+    uint64_t pins;
+} held;
+
 /* What an open handle points to. */
 typedef struct opened {
-    /* The node of a replica of one shard, while no other handle is open: calls on a page then go to it at once. The calls of this handle alone
-     * read and change it. In any other handle it is NULL. */
-    _Alignas(LINE) node *alone;
-    replica *of;
+    _Alignas(LINE) replica *of;
     shard *shards; /* those of the replica, and how many they are: a pin finds them sooner here */
     size_t count;
-    uint64_t pins; /* means something in an attached handle alone */
+    uint64_t pins; /* in nodes: it means something in an attached handle alone */
+    holds *holds;
+    uint32_t used; /* bit i: hold i names a record */
+    held held[HOLDS];
     size_t turn; /* the shard with which the next warm_step begins */
     bool is_first; /* whether it opened the replica */
     answers waiting;

@@ -401,6 +401,9 @@ static void leave_all(opened *its, bool are_locked) {
 static int may_all_forget(opened *its, uint16_t dev, uint64_t from) {
     int status = WARM_OK;
     for (size_t number = 0; number < its->count && status == WARM_OK; number++) status = node_may_forget(&its->shards[number].node, dev, from);
+    for (size_t number = 0; number < its->count && status == WARM_OK; number++) {
+        if (!may_leave(its, &its->shards[number], dev, from)) status = WARM_FIXED;
+    }
     return status;
 }
 
@@ -434,7 +437,8 @@ static void put_back(opened *its, uint16_t dev, size_t count) {
 
 /* Replaces the device in each shard, or goes back. All shards are entered. */
 static int replace_in_all(opened *its, uint16_t dev, const warm_device *device) {
-    int status = its->count == 1 ? WARM_OK : settle_in_all(its, dev, device);
+    bool is_settled = its->count == 1 && may_leave(its, its->shards, dev, 0);
+    int status = is_settled ? WARM_OK : settle_in_all(its, dev, device);
     if (status != WARM_OK) return status;
     for (size_t number = 0; number < its->count; number++) {
         shard *in = &its->shards[number];
@@ -466,13 +470,14 @@ int warm_counts(warm *handle, warm_counters *counters) {
     opened *its = handle->at;
     warm_counters all = {0};
     if (its == NULL) return WARM_CLOSED;
+    all.hits = hits_of_holds(its->of);
     for (size_t number = 0; number < its->count; number++) {
         warm_counters part = {0};
         shard *in = &its->shards[number];
         bool is_locked = enter(its, in);
         node_counts(&in->node, &part);
+        all.hits += part.hits - in->table.pins;
         leave(in, is_locked);
-        all.hits += part.hits;
         all.misses += part.misses;
         all.evictions += part.evictions;
         all.written_back += part.written_back;
