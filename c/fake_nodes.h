@@ -13,7 +13,7 @@
 #include <stdlib.h>
 #include <string.h>
 
-enum { FAKE_DEVICES = 4, FAKE_FRAMES = 8, FAKE_PAGES = 512, FAKE_EMPTY = 23, FAKE_FULL = 44 };
+enum { FAKE_DEVICES = 4, FAKE_FRAMES = 16, FAKE_PAGES = 512, FAKE_EMPTY = 23, FAKE_FULL = 44 };
 
 typedef struct fake_frame {
     bool is_in, is_dirty;
@@ -182,10 +182,17 @@ int node_resident(node *of, warm_page page, bool *resident) {
     return fake_out(of, WARM_OK);
 }
 
+/* What a test does while a node says which page would leave: other threads may do that. */
+static void (*at_victim)(void);
+
 int node_victim(node *of, bool *found, warm_page *page) {
     fake *its = fake_in(of);
-    *found = its->at[0].is_in && its->at[0].pins == 0;
-    if (*found) *page = its->at[0].page;
+    *found = false;
+    if (at_victim != NULL) at_victim();
+    for (size_t at = 0; at < its->frames && !*found; at++) {
+        *found = its->at[at].is_in && its->at[at].pins == 0;
+        if (*found) *page = its->at[at].page;
+    }
     return fake_out(of, WARM_OK);
 }
 

@@ -112,7 +112,7 @@ uint64_t hits_of_holds(replica *of) {
 
 /* ---- what is held ---- */
 
-static size_t number_of(const opened *its, const shard *in) { return (size_t)(in - its->shards); }
+static size_t shard_number(const opened *its, const shard *in) { return (size_t)(in - its->shards); }
 
 /* The place of a word among those that were seen, or the free one where it would be. */
 static uint64_t *seen_at(const table *of, uint64_t word) {
@@ -131,7 +131,7 @@ static void see_all(opened *its, shard *in) {
     for (holds *of = atomic_load(&its->of->holds); of != NULL; of = of->next) {
         for (int at = 0; at < HOLDS; at++) {
             uint64_t word = atomic_load(&of->words[at]);
-            if (word != 0 && word >> SHARD_AT == number_of(its, in)) *seen_at(&in->table, word) = word;
+            if (word != 0 && word >> SHARD_AT == shard_number(its, in)) *seen_at(&in->table, word) = word;
         }
     }
 }
@@ -149,7 +149,7 @@ static warm_slot slot_of(const record *at) {
 
 /* The word of those who hold a record's page: since it was given the record, no other state of it was open. */
 static uint64_t word_for(const opened *its, const shard *in, const record *at) {
-    return word_of(number_of(its, in), &in->table, at, state_of(at) | 1);
+    return word_of(shard_number(its, in), &in->table, at, state_of(at) | 1);
 }
 
 /* Its holders still hold it, and nobody begins to. */
@@ -293,7 +293,7 @@ static bool is_same(warm_slot slot, warm_slot other) {
 
 /* The record that a word names, where it is of this shard and the record is as it was. */
 static const record *named(const opened *its, const shard *in, uint64_t word) {
-    if (word == 0 || word >> SHARD_AT != number_of(its, in)) return NULL;
+    if (word == 0 || word >> SHARD_AT != shard_number(its, in)) return NULL;
     const record *at = &in->table.records[word >> RECORD_AT & RECORD_MASK];
     return state_of(at) == (uint32_t)word ? at : NULL;
 }

@@ -55,7 +55,7 @@ FIELD_IS(node_frame, horizon, 0, 8);
 FIELD_IS(node_frame, shards, 8, 8);
 FIELD_IS(node_frame, buckets, 16, 8);
 FIELD_IS(node_frame, kind, 24, 1);
-/* node_pin writes the index of a slot and the shard after it as one number. */
+/* node_pin writes the index of a slot and the shard after it as one number, and so does put_place. */
 _Static_assert(__BYTE_ORDER__ == __ORDER_LITTLE_ENDIAN__, "the lowest byte of a number is first");
 _Static_assert(sizeof(shard) % LINE == 0 && sizeof(opened) % LINE == 0 && sizeof(replica) % LINE == 0, "whole lines");
 
@@ -194,6 +194,18 @@ static shard *shard_of(const opened *its, warm_page page) { return &its->shards[
 #define HOLDS_PAUSE() ((void)0)
 #endif
 
+/* A slot's index and shard, read and written as the caller does it: eight bytes at once. What is written in halves is slow to read
+ * as a whole. */
+static inline uint64_t place_in(const warm_slot *slot) {
+    uint64_t place;
+    memcpy(&place, (const uint8_t *)slot + offsetof(warm_slot, index), sizeof place);
+    return place;
+}
+
+static inline void put_place(warm_slot *slot, uint64_t place) {
+    memcpy((uint8_t *)slot + offsetof(warm_slot, index), &place, sizeof place);
+}
+
 /* The hold by which the handle names a record, or one that it does not use; HOLDS where it has none left, or no count. */
 static inline unsigned hold_for(const opened *its, uint64_t word) {
     for (unsigned left = its->used; left != 0; left &= left - 1) {
@@ -220,20 +232,21 @@ static inline bool pin_by_hold(opened *its, warm_page page, warm_slot *slot, con
     const table *of = &its->shards[number].table;
     record *at = find_record(of, page, &state);
     if (at == NULL) return false;
-    warm_slot given = {.generation = atomic_load_explicit(&at->generation, memory_order_acquire),
-        .index = atomic_load_explicit(&at->index, memory_order_acquire), .shard = (uint32_t)number};
+    uint64_t generation = atomic_load_explicit(&at->generation, memory_order_acquire);
+    uint64_t place = atomic_load_explicit(&at->index, memory_order_acquire) | (uint64_t)number << 32;
     const uint8_t *lent = atomic_load_explicit(&at->bytes, memory_order_acquire);
     uint64_t word = word_of(number, of, at, state);
     unsigned by = hold_for(its, word);
     if (by == HOLDS) return false;
     if ((its->used >> by & 1) == 0) {
         if (!hold(its, by, at, state, word)) return false;
-        its->held[by] = (held){.slot = given};
+        its->own[by] = (own_hold){.generation = generation, .place = place};
         its->used |= 1u << by;
     }
-    its->held[by].pins++;
+    its->own[by].pins++;
     atomic_store_explicit(&its->holds->hits, atomic_load_explicit(&its->holds->hits, memory_order_relaxed) + 1, memory_order_relaxed);
-    *slot = given;
+    slot->generation = generation;
+    put_place(slot, place);
     *bytes = lent;
     return true;
 }
@@ -242,8 +255,8 @@ static inline bool pin_by_hold(opened *its, warm_page page, warm_slot *slot, con
 static inline bool unpin_by_hold(opened *its, warm_slot slot) {
     for (unsigned left = its->used; left != 0; left &= left - 1) {
         unsigned at = (unsigned)__builtin_ctz(left);
-        held *it = &its->held[at];
-        if (it->slot.generation != slot.generation || it->slot.index != slot.index || it->slot.shard != slot.shard) continue;
+        own_hold *it = &its->own[at];
+        if (it->generation != slot.generation || it->place != place_in(&slot)) continue;
         if (--it->pins > 0) return true;
         atomic_store_explicit(&its->holds->words[at], 0, memory_order_release);
         its->used &= ~(1u << at);

@@ -43,11 +43,10 @@ typedef struct answers {
     bool has_after;
 } answers;
 
-/* The slot of a page that a handle holds, and how often the handle has pinned it so. */
-typedef struct held {
-    warm_slot slot;
-    uint64_t pins;
-} held;
+/* What a handle alone knows of a hold: the slot of its page, index and shard in one, and how often it has pinned the page so. */
+typedef struct own_hold {
+    uint64_t generation, place, pins;
+} own_hold;
 
 /* What an open handle points to. */
 typedef struct opened {
@@ -57,7 +56,7 @@ typedef struct opened {
     uint64_t pins; /* in nodes: it means something in an attached handle alone */
     holds *holds;
     uint32_t used; /* bit i: hold i names a record */
-    held held[HOLDS];
+    own_hold own[HOLDS];
     size_t turn; /* the shard with which the next warm_step begins */
     bool is_first; /* whether it opened the replica */
     answers waiting;
