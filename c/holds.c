@@ -1,5 +1,6 @@
 /*
- * holds.c: records and holds, as holds.h says. Nothing here is proved; c/check tests it, and checks/holds.
+ * holds.c: records and holds, as holds.h says. Nothing here is proved; c/check tests it, and
+ * checks/holds.
  */
 #define _POSIX_C_SOURCE 200809L /* pthread_mutex_t */
 #include "holds.h"
@@ -33,8 +34,8 @@ void close_table(table *of) {
 
 /* ---- the holds of a handle ---- */
 
-/* Makes room in a shard for the words of all handles, of which there are this many at most. What is in the room now is of no
- * use between calls. */
+/* Makes room in a shard for the words of all handles, of which there are this many at most. What is
+ * in the room now is of no use between calls. */
 static bool make_room(table *of, size_t room) {
     size_t places = 2;
     if (room <= of->room) return true;
@@ -70,7 +71,8 @@ static holds *used_holds(replica *of) {
     return NULL;
 }
 
-/* Threads that attach at once count themselves first: so there is room for all whose holds are among those of the replica. */
+/* Threads that attach at once count themselves first: so there is room for all whose holds are
+ * among those of the replica. */
 static holds *new_holds(opened *its) {
     void *block;
     holds *made = in_lines(sizeof(holds), &block);
@@ -112,7 +114,9 @@ uint64_t hits_of_holds(replica *of) {
 
 /* ---- what is held ---- */
 
-static size_t shard_number(const opened *its, const shard *in) { return (size_t)(in - its->shards); }
+static size_t shard_number(const opened *its, const shard *in) {
+    return (size_t)(in - its->shards);
+}
 
 /* The place of a word among those that were seen, or the free one where it would be. */
 static uint64_t *seen_at(const table *of, uint64_t word) {
@@ -131,15 +135,19 @@ static void see_all(opened *its, shard *in) {
     for (holds *of = atomic_load(&its->of->holds); of != NULL; of = of->next) {
         for (int at = 0; at < HOLDS; at++) {
             uint64_t word = atomic_load(&of->words[at]);
-            if (word != 0 && word >> SHARD_AT == shard_number(its, in)) *seen_at(&in->table, word) = word;
+            if (word == 0 || word >> SHARD_AT != shard_number(its, in)) continue;
+            *seen_at(&in->table, word) = word;
         }
     }
 }
 
-static uint32_t state_of(const record *at) { return atomic_load_explicit(&at->state, memory_order_relaxed); }
+static uint32_t state_of(const record *at) {
+    return atomic_load_explicit(&at->state, memory_order_relaxed);
+}
 
 static warm_page page_of(const record *at) {
-    return (warm_page){.no = atomic_load_explicit(&at->no, memory_order_relaxed), .dev = atomic_load_explicit(&at->dev, memory_order_relaxed)};
+    return (warm_page){.no = atomic_load_explicit(&at->no, memory_order_relaxed),
+        .dev = atomic_load_explicit(&at->dev, memory_order_relaxed)};
 }
 
 static warm_slot slot_of(const record *at) {
@@ -147,7 +155,8 @@ static warm_slot slot_of(const record *at) {
         .index = atomic_load_explicit(&at->index, memory_order_relaxed)};
 }
 
-/* The word of those who hold a record's page: since it was given the record, no other state of it was open. */
+/* The word of those who hold a record's page: since it was given the record, no other state of it
+ * was open. */
 static uint64_t word_for(const opened *its, const shard *in, const record *at) {
     return word_of(shard_number(its, in), &in->table, at, state_of(at) | 1);
 }
@@ -197,10 +206,11 @@ static bool pin_in_node(shard *in, warm_page page) {
     return true;
 }
 
-/* Pins the node's next victims while they are held, and ends at the first that is not. Writes its record, closed, or NULL where
- * there is no such page or it has no record, as nobody then holds it. False where there is no room: that page is held. What was seen
- * before a record was closed is enough to say that its page is held, since that is asked again, and not enough to
- * say that it is not. */
+/* Pins the node's next victims while they are held, and ends at the first that is not. Writes its
+ * record, closed, or NULL where there is no such page or it has no record, as nobody then holds it.
+ * False where there is no room: that page is held. What was seen before a record was closed is
+ * enough to say that its page is held, since that is asked again, and not enough to say that it is
+ * not. */
 static bool pass_over(opened *its, shard *in, record **last) {
     table *of = &in->table;
     for (;;) {
@@ -220,8 +230,9 @@ static bool pass_over(opened *its, shard *in, record **last) {
     }
 }
 
-/* Looks again at the pages that were passed over: whether one was let go meanwhile. Such a page has no record any more, so that
- * nobody begins to hold it before the node says again which page is next. */
+/* Looks again at the pages that were passed over: whether one was let go meanwhile. Such a page has
+ * no record any more, so that nobody begins to hold it before the node says again which page is
+ * next. */
 static bool is_let_go(opened *its, shard *in) {
     table *of = &in->table;
     size_t kept = 0, count = of->passed_count;
@@ -239,8 +250,9 @@ static bool is_let_go(opened *its, shard *in) {
     return kept < count;
 }
 
-/* The node's choice is that of a single moment, when the holds were looked at for its last answer: the records of all pages that
- * come before that one were closed by then, and these pages were still held after it. */
+/* The node's choice is that of a single moment, when the holds were looked at for its last answer:
+ * the records of all pages that come before that one were closed by then, and these pages were
+ * still held after it. */
 bool pass_over_held(opened *its, shard *in, bool leaves) {
     table *of = &in->table;
     record *last;
@@ -307,12 +319,14 @@ static const record *held_by(const opened *its, const shard *in, holds *of, warm
     return NULL;
 }
 
-/* Its own holds first: those of others are in lines of memory that they change. The node is asked between, so that a page that it
- * has a pin of needs no look at these. */
+/* Its own holds first: those of others are in lines of memory that they change. The node is asked
+ * between, so that a page that it has a pin of needs no look at these. */
 bool pin_held(opened *its, shard *in, warm_slot slot) {
     const uint8_t *bytes;
     const record *at = held_by(its, in, its->holds, slot);
     if (at == NULL && node_lend(&in->node, slot, &bytes) == WARM_OK) return false;
-    for (holds *of = atomic_load(&its->of->holds); at == NULL && of != NULL; of = of->next) at = held_by(its, in, of, slot);
+    for (holds *of = atomic_load(&its->of->holds); at == NULL && of != NULL; of = of->next) {
+        at = held_by(its, in, of, slot);
+    }
     return at != NULL && pin_in_node(in, page_of(at));
 }

@@ -1,11 +1,11 @@
 /*
  * holds.h: pins that take no lock. Not installed.
  *
- * A shard has records: each says where a page is that is in a frame. A handle has holds: each names a
- * record, and so a page that the handle pins. The node does not know of holds. Whoever is in a shard,
- * and is about to let a page leave its frame, closes the record of that page, looks at all holds, and
- * where one names it pins the page in the node until the call is over. So the node has a pin of a
- * held page whenever its answer depends on that, and has none of them between calls.
+ * A shard has records: each says where a page is that is in a frame. A handle has holds: each names
+ * a record, and so a page that the handle pins. The node does not know of holds. Whoever is in a
+ * shard, and is about to let a page leave its frame, closes the record of that page, looks at all
+ * holds, and where one names it pins the page in the node until the call is over. So the node has a
+ * pin of a held page whenever its answer depends on that, and has none of them between calls.
  *
  * A hold is a hazard pointer, and a record is what it protects. The handle publishes the hold (an
  * exchange), and then looks at the record again: is it still open, and the same? Who lets a page
@@ -16,12 +16,13 @@
  * four, a processor may put the look before the store, on both sides, and neither sees the other.
  *
  * For the rest it is enough to release and to acquire. What a handle reads of a page it has read
- * before it takes its hold back (release), and who finds no hold (acquire) overwrites the frame after
- * that. A page's bytes are in its frame before its record opens (release), and the handle reads them
- * after it found the record open (acquire). The fields of a record are stored by release and read by
- * acquire, too: who reads one of the next page has then seen that the record was closed before, and
- * its second look finds another state. States have 32 bits: a pin that sleeps between its two looks
- * while its record is given to exactly 2^31 other pages would take the last one for its own.
+ * before it takes its hold back (release), and who finds no hold (acquire) overwrites the frame
+ * after that. A page's bytes are in its frame before its record opens (release), and the handle
+ * reads them after it found the record open (acquire). The fields of a record are stored by release
+ * and read by acquire, too: who reads one of the next page has then seen that the record was closed
+ * before, and its second look finds another state. States have 32 bits: a pin that sleeps between
+ * its two looks while its record is given to exactly 2^31 other pages would take the last one for
+ * its own.
  */
 #ifndef HOLDS_H
 #define HOLDS_H
@@ -30,15 +31,16 @@
 
 #include <stdatomic.h>
 
-/* Bytes that a processor takes from another one as a whole. No two shards share any, and no two handles. */
+/* Bytes that a processor takes from another one as a whole. No two shards share any, and no two
+ * handles. */
 enum { LINE = 64 };
 
 /* How many pages a handle holds at once; in how many records a page may be, from its first on. */
 enum { HOLDS = 8, NEAR = 8 };
 
-/* Where a page is. All threads read it, and who is in the shard changes it. The state is twice the number of pages that the
- * record was given to before, and 1 more while it is open. A closed record is free, but during a call that closes it
- * and may open it again. */
+/* Where a page is. All threads read it, and who is in the shard changes it. The state is twice the
+ * number of pages that the record was given to before, and 1 more while it is open. A closed record
+ * is free, but during a call that closes it and may open it again. */
 typedef struct record {
     _Atomic uint32_t state;
     _Atomic uint16_t index, dev;
@@ -46,10 +48,10 @@ typedef struct record {
     _Atomic(const uint8_t *) bytes;
 } record;
 
-/* What a handle holds. All threads read it, and the handle alone changes it. It is freed with the replica: once the handle is
- * closed another one may have it. */
+/* What a handle holds. All threads read it, and the handle alone changes it. It is freed with the
+ * replica: once the handle is closed another one may have it. */
 typedef struct holds {
-    _Alignas(LINE) _Atomic uint64_t words[HOLDS]; /* each names a shard, a record and its state while it is open; 0 is no hold */
+    _Alignas(LINE) _Atomic uint64_t words[HOLDS]; /* see word_of; 0 is no hold */
     _Alignas(LINE) _Atomic uint64_t hits;         /* pins by holds */
     _Alignas(LINE) atomic_bool is_used;
     struct holds *next; /* among those of the replica; it does not change */
@@ -62,16 +64,17 @@ typedef struct passed {
     record *at;
 } passed;
 
-/* The records of a shard, and what its calls need to look at the holds: who is in the shard reads and changes that. */
+/* The records of a shard, and what its calls need to look at the holds: who is in the shard reads
+ * and changes that. */
 typedef struct table {
     record *records; /* two for each frame or more, and some behind them; they do not move */
     size_t mask;     /* of the half of a first record's number */
     void *block;
     _Alignas(LINE) passed *passed; /* and behind them what was seen: they are one block */
     size_t passed_count, room;     /* as many as all handles have holds */
-    uint64_t *seen;                /* holds of this shard, each at the place that its bits say or behind it; 0: none */
+    uint64_t *seen; /* words of this shard, each at the place that its bits say or behind it */
     size_t seen_mask;
-    size_t frames, filled; /* no page leaves for another while fewer frames were filled than there are */
+    size_t frames, filled; /* no page leaves for another while fewer were filled than there are */
     uint64_t pins;         /* that holds.c made in the node: no caller's hits */
 } table;
 
@@ -93,7 +96,8 @@ static inline record *find_record(const table *of, warm_page page, uint32_t *sta
     return NULL;
 }
 
-/* The word of a hold of a record: the number of its shard, of 6 bits, its own, of 18, and its state while it is open. */
+/* The word of a hold of a record: the number of its shard, of 6 bits, its own, of 18, and its state
+ * while it is open. */
 enum { SHARD_AT = 50, RECORD_AT = 32, RECORD_MASK = (1 << 18) - 1 };
 
 static inline uint64_t word_of(size_t shard, const table *of, const record *at, uint32_t state) {
@@ -107,11 +111,11 @@ struct shard;
 /* Zeros in lines of their own, or NULL; and the block of malloc that they are in. */
 void *in_lines(size_t size, void **block);
 
-/* The table of a shard of this many frames; false where there is no memory, and then close_table, too. */
+/* The table of a shard of this many frames; false where there is no memory. Then close_table, too. */
 bool open_table(table *of, size_t frames);
 void close_table(table *of);
 
-/* Gives a handle holds, and room for them in each shard; false where there is no memory for that. */
+/* Gives a handle holds, and room for them in each shard; false where there is no memory. */
 bool take_holds(struct opened *its);
 void give_holds(struct opened *its);
 void free_holds(struct replica *of);
@@ -122,15 +126,17 @@ uint64_t hits_of_holds(struct replica *of);
 /* The rest is called by who is in the shard. */
 
 /* Gives a page that is in a frame a record, where there is room for one. */
-void put_record(struct opened *its, struct shard *in, warm_page page, warm_slot slot, const uint8_t *bytes);
+void put_record(struct opened *its, struct shard *in, warm_page page, warm_slot slot,
+    const uint8_t *bytes);
 
-/* Before a call of the node that may let a page leave for another, or says which one would: that page is then one that nobody
- * holds. False where the call is to be refused (WARM_ALL_FIXED). After the call, unpin_passed. */
+/* Before a call of the node that may let a page leave for another, or says which one would: that
+ * page is then one that nobody holds. False where the call is to be refused (WARM_ALL_FIXED). After
+ * the call, unpin_passed. */
 bool pass_over_held(struct opened *its, struct shard *in, bool leaves);
 void unpin_passed(struct shard *in);
 
-/* Before a call of the node on a slot: whether the slot's page is held, and was pinned in the node. If so it is to be unpinned
- * after the call. */
+/* Before a call of the node on a slot: whether the slot's page is held, and was pinned in the node.
+ * If so it is to be unpinned after the call. */
 bool pin_held(struct opened *its, struct shard *in, warm_slot slot);
 
 /* Before pages of a device leave, with this number and above: whether nobody holds one. */

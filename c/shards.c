@@ -1,6 +1,7 @@
 /*
- * shards.c: handles, and the calls on one page, of include/warm.h. Each finds the shard, enters it, makes one call of the proved part on
- * the shard's node (nodes.h), and leaves it. Nothing here is proved; c/check tests it.
+ * shards.c: handles, and the calls on one page, of include/warm.h. A pin of a page that has a record and its unpin touch what is the handle's
+ * alone (holds.h). Each other call finds the shard, enters it, makes a call of the proved part on the shard's node (nodes.h), and leaves it.
+ * Nothing here is proved; c/check tests it, and checks/holds.
  */
 #define _POSIX_C_SOURCE 200809L /* pthread_mutex_t */
 #include "shards.h"

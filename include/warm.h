@@ -38,6 +38,8 @@
  * slot or a bucket has its shard to itself while it runs, also while it reads or writes a device: a call on the same shard waits for it, and calls
  * on other shards do not. A call on the whole replica goes from shard to shard, in their order, and has one of them to itself at a time;
  * warm_forget and warm_replace alone have all of them at once. As long as one handle is open there is nobody to wait for, and no shard is locked.
+ * A pin of a page that was pinned twice since it came into its frame, and its unpin, wait for nobody, as a rule: a handle has 8 pages at a
+ * time so. (The next one, or one that a call is about to let leave, waits for its shard.)
  * Two syncs of one descriptor, of whatever replicas, come one after the other.
  *
  * What threads see of each other. For each shard, all calls of all threads have one order, in which each is one step, or several. A call on several
@@ -45,6 +47,8 @@
  * list, and not yet those of the next. Of each shard a thread sees nothing older than what it saw of it before. Where some shards have a later
  * horizon than others, since a thread is about to raise them all, or was refused with WARM_MEMORY in the middle, then what is made of all
  * of them (an offer, a list, a dump) has the latest one.
+ * Pins and unpins that wait for nobody are in that order, too: which page leaves is what it would be if each of them had its shard to itself. A
+ * page that a thread is about to pin, by a call that has not returned, may count as pinned.
  *
  * The library needs the C library alone, starts no thread, handles no signal and ends no process: a program that is out of memory gets
  * WARM_MEMORY.
@@ -171,7 +175,7 @@ enum {
     WARM_ALL_FIXED = 6,     /* each frame of the page's shard has a pinned page */
     WARM_READ_FAULT = 7,    /* the page could not be read */
     WARM_WRITE_BACK = 8,    /* the page that would leave could not be written */
-    WARM_FIXES_FULL = 9,    /* the page has 2^32 - 1 pins, or 2^64 - 1 pages were put into the frame */
+    WARM_FIXES_FULL = 9,    /* the page has 2^32 - 1 pins or more, or 2^64 - 1 pages were put into the frame */
     WARM_OUT_OF_PAGE = 10,  /* the bytes reach beyond the end of the page */
     WARM_FIXED = 11,        /* a page that is to leave its frame is pinned */
     WARM_FAULT = 12,        /* a page could not be written, or a device not flushed */
@@ -272,8 +276,8 @@ int warm_pin(warm *handle, warm_page page, warm_slot *slot);
  * Caller: slot points to one element. */
 int warm_pin_zeroed(warm *handle, warm_page page, warm_slot *slot);
 
-/* Pins a page as warm_pin does, and writes where its bytes lie as warm_lend does: both by one call, which takes the lock of its shard once. It is
- * what a hit is best read by. Allocation-free.
+/* Pins a page as warm_pin does, and writes where its bytes lie as warm_lend does: both by one call. It is what
+ * a hit is best read by. Allocation-free.
  * Refused: what warm_pin is refused with, in its order; bytes is then as it was, too.
  * Caller: slot and bytes point to one element each, and what warm_lend asks of the pointer that is written to bytes. */
 int warm_pin_lend(warm *handle, warm_page page, warm_slot *slot, const uint8_t **bytes);
@@ -281,8 +285,8 @@ int warm_pin_lend(warm *handle, warm_page page, warm_slot *slot, const uint8_t *
 /* Takes one pin from the slot's page, and one from those that an attached handle counts. Allocation-free.
  * Refused: WARM_STALE_SLOT: the attached handle has no pin left, the replica has no such shard, or the slot holds no pinned page, or another
  * than it was given for.
- * Caller: unpins a page as often as it pinned it, by the handle that pinned it. A slot whose page another part of the program still pins is not
- * stale. */
+ * Caller: unpins a page as often as it pinned it, by the handle that pinned it. A slot whose page another part of the program still pins may not
+ * be stale. */
 int warm_unpin(warm *handle, warm_slot slot);
 
 /* Copies length bytes of the slot's page, from byte at on. Allocation-free.
