@@ -111,7 +111,7 @@ struct shard;
 /* Zeros in lines of their own, or NULL; and the block of malloc that they are in. */
 void *in_lines(size_t size, void **block);
 
-/* The table of a shard of this many frames; false where there is no memory. Then close_table, too. */
+/* The table of a shard of this many frames; false where there is no memory: close_table, too. */
 bool open_table(table *of, size_t frames);
 void close_table(table *of);
 

@@ -366,12 +366,14 @@ static void test_taking(void) {
 /* The other handle pins another page within a pin of page 0 by a hold, before or after the hold is there; twice, so that the page
  * has a record, which is that of page 0 where this one left. */
 static int steps, at_step;
+static bool forgets;
 static warm_slot taken_slot;
 static uint64_t same_record;
 static int taken_status;
 
 static void take_frame(void) {
     if (++steps != at_step) return;
+    if (forgets) OK(warm_forget(other, 0, 0));
     for (int time = 0; time < 2; time++) taken_status = warm_pin(other, page_at(same_record), &taken_slot);
 }
 
@@ -407,6 +409,26 @@ static void test_steps(void) {
         no_pins(&first);
         close_two(&first, &second);
     }
+}
+
+/* The same, where the page is forgotten before the hold is there. */
+static void test_step_of_forgetting(void) {
+    warm first = {0}, second = {0};
+    warm_slot slot;
+    open_two(&first, &second, 2);
+    other = &second;
+    pin_twice(&first, 0);
+    steps = 0;
+    at_step = 1;
+    forgets = true;
+    at_pause = take_frame;
+    OK(warm_pin(&first, page_at(0), &slot));
+    at_pause = NULL;
+    forgets = false;
+    MUST(taken_slot.index == 0 && slot.index == 1 && slot.generation == 1);
+    OK(warm_unpin(&first, slot));
+    for (int time = 0; time < 2; time++) OK(warm_unpin(&second, taken_slot));
+    close_two(&first, &second);
 }
 
 /* ---- threads ---- */
@@ -488,6 +510,7 @@ int main(void) {
     test_letting_go();
     test_taking();
     test_steps();
+    test_step_of_forgetting();
     test_threads();
     puts("holds_test: as expected");
     return 0;
