@@ -214,6 +214,12 @@ static void call_one(void) {
     }
 }
 
+/* All frames are filled by steps, so that no pin has filled one. */
+static void warm_up(void) {
+    for (size_t at = 0; at < 4 * PAGES / BATCH; at++) absorb();
+    for (size_t at = 0; at < 2 * frames; at++) step();
+}
+
 static int temporary(void) {
     const char *folder = getenv("TMPDIR");
     char path[512];
@@ -238,6 +244,7 @@ int main(int count, char **words) {
     for (size_t at = 1; at < HANDLES; at++) MUST(warm_thread(&handles[0], &handles[at]) == WARM_OK);
     for (size_t number = 0; number < shards; number++) MUST(node_open(&nodes[number], 1, frames / shards, PAGE_SIZE, &copy, 1) == WARM_OK);
     unsigned long calls = strtoul(words[4], NULL, 10);
+    if (drawn % 2 == 0) warm_up();
     for (unsigned long call = 0; call < calls; call++) call_one();
     while (pin_count > 0) unpin(0);
     write_back();
