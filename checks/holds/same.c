@@ -48,12 +48,10 @@ static size_t shard_of(warm_page page) { return (page.no + page.dev) % shards; }
 
 static warm *draw_handle(void) { return &handles[draw(HANDLES)]; }
 
-static void pin(void) {
-    warm_page page = draw_page();
+static void pin(warm_page page, warm *by) {
     node *beside = &nodes[shard_of(page)];
     warm_slot slot = {0}, wanted = {0};
     const uint8_t *bytes = NULL, *other = NULL;
-    warm *by = draw_handle();
     uint64_t how = draw(8);
     int status, expected;
     if (how == 0) status = warm_pin_zeroed(by, page, &slot), expected = node_pin_zeroed(beside, page, &wanted);
@@ -197,7 +195,7 @@ static void attach(void) {
 
 static void call_one(void) {
     uint64_t what = draw(64);
-    if (what < 26 && pin_count < MOST_PINS) pin();
+    if (what < 26 && pin_count < MOST_PINS) pin(draw_page(), draw_handle());
     else if (what < 40 && pin_count > 0) unpin(draw(pin_count));
     else if (what < 50) use_slot();
     else if (what < 56) absorb();
@@ -214,10 +212,19 @@ static void call_one(void) {
     }
 }
 
-/* All frames are filled by steps, so that no pin has filled one. */
+/* All frames are filled by steps, so that no pin has filled one; and the pages that would leave are held. */
 static void warm_up(void) {
+    bool is_found;
+    warm_page page;
     for (size_t at = 0; at < 4 * PAGES / BATCH; at++) absorb();
     for (size_t at = 0; at < 2 * frames; at++) step();
+    for (int at = 0; at < HANDLES; at++) {
+        MUST(node_victim(&nodes[0], &is_found, &page) == WARM_OK);
+        for (int time = 0; is_found && time < 3; time++) {
+            if (time > 0) unpin(pin_count - 1);
+            pin(page, &handles[at]);
+        }
+    }
 }
 
 static int temporary(void) {
