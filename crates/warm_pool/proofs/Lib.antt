@@ -16,8 +16,10 @@ pub mod Lagging
 pub mod Lents
 pub mod Loads
 pub mod MoveLemmas
+pub mod OnePin
 pub mod Opens
 pub mod Pins
+pub mod PinsAdded
 pub mod OtherDevices
 pub mod PlacedLemmas
 pub mod PlaceLemmas
@@ -33,3 +35,4 @@ pub mod WriteBacks
 pub mod Writes
 pub mod KeepingLemmas
 pub mod Zeroes
+pub mod Fills

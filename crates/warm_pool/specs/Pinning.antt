@@ -200,9 +200,10 @@ FixRefused old i fault new = (fault ≡ FixesFull) × ((nth_frame old.frames i).
 abbrev pub IsNextFrameToLoad : PoolState → Option ℕ → Type 0
 IsNextFrameToLoad s frame = (h : HistoryView) → RankedBy s h → IsFrameToLoad h (view_of s) frame
 
--- the page is in the frame, with its device's bytes, this rank and this pin count
-pub record LoadsInto (old : PoolState) (i : ℕ) (p : PageId) (key : RankKey) (n : ℕ)
-    (new : PoolState) : Type 0 where
+-- The page is in the frame, with its device's bytes, this rank and this pin count. Before the write
+-- of the page that was in the frame, the devices were so.
+pub record LoadsInto (old : PoolState) (before : List DeviceState) (i : ℕ) (p : PageId)
+    (key : RankKey) (n : ℕ) (new : PoolState) : Type 0 where
   pub bytes : List ℕ
   pub frames : new.frames
       ≡ set old.frames i (record {
@@ -213,7 +214,7 @@ pub record LoadsInto (old : PoolState) (i : ℕ) (p : PageId) (key : RankKey) (n
         dirty = false;
         bytes = bytes;
       })
-  pub devices : (nth_frame old.frames i).dirty ≡ false → new.devices ≡ read_at p.dev old.devices
+  pub devices : (nth_frame old.frames i).dirty ≡ false → new.devices ≡ before
   pub waits : WaitsFor old i new.devices
   pub rest : view_of new
       ≡ record (view_of old) { frames = (view_of new).frames; contents = (view_of new).contents }
