@@ -11,6 +11,7 @@ ghost use Rattle.warm_pool.specs.State.{IsRankedByAll, RankedBy};
 
 mod counts;
 mod engine;
+mod filled;
 mod handed_back;
 mod let_go;
 mod limits;
