@@ -1,6 +1,6 @@
 use Rattle.std.proofs.Common.{rules, ◌≡◌}
 use Rattle.warm_turn.proofs.Seats.{looks, has_machine}
-use Rattle.warm_turn.proofs.turn.wait_turn.Goals as goal
+use Rattle.warm_turn.proofs.waiting.poll_for_turn.Goals as goal
 
 pub load-served-requires : goal.load-served-requires
 load-served-requires g c = (search rules, search rules, looks _ _ _ _ _ _ _ (c.loop.invariant.2) c.requires.waits.0 c.requires.waits.1 c.requires.waits.2)
