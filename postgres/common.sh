@@ -109,7 +109,7 @@ make_primary() {
         "track_io_timing = on" "autovacuum_naptime = 1h" "dynamic_shared_memory_type = mmap" \
         "shared_preload_libraries = 'pg_stat_statements,pg_prewarm,warm_standby'" "pg_prewarm.autoprewarm = off" \
         "pg_stat_statements.save = off" "warm_standby.sample_interval = 200ms" "warm_standby.publish_interval = 1s" \
-        "warm_standby.full_interval = 10s" "warm_standby.load_interval = 500ms" "warm_standby.load_rate = 4000" "warm_standby.fraction = 0.8" "${@:3}"
+        "warm_standby.full_interval = 10s" "warm_standby.load_interval = 500ms" "warm_standby.load_rate = 4000" "${@:3}"
     start "$1"
 }
 

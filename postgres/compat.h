@@ -8,10 +8,6 @@
 #ifndef WARM_STANDBY_COMPAT_H
 #define WARM_STANDBY_COMPAT_H
 
-#if PG_VERSION_NUM < 150000 || PG_VERSION_NUM >= 190000
-#error "warm_standby is for PostgreSQL 15 to 18"
-#endif
-
 #include "storage/buf_internals.h"
 #include "utils/rel.h"
 

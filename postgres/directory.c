@@ -11,6 +11,8 @@
 #include "utils/memutils.h"
 #include "warm_standby.h"
 
+#define MOST_DEVICES 65536
+
 typedef struct Number
 {
 	WsDevice	device;			/* the key */
@@ -21,7 +23,7 @@ int			ws_device_count = 0;	/* the greatest number given, plus 1 */
 
 static HTAB *numbers = NULL;
 static Number *last = NULL;		/* the one that was looked for last, often also the next */
-static WsDevice devices[WS_MOST_DEVICES];	/* by number; fork -1: not given */
+static WsDevice devices[MOST_DEVICES];	/* by number; fork -1: not given */
 
 /* Forgets all numbers. */
 void
@@ -47,7 +49,7 @@ device_of(int number)
 
 /* Notes that a device has a number; false where it has another, or the number another device. */
 static bool
-put_number(uint16 number, const WsDevice *device)
+put(uint16 number, const WsDevice *device)
 {
 	Number	   *entry = hash_search(numbers, device, HASH_FIND, NULL);
 
@@ -78,10 +80,10 @@ ws_page_of(const BufferTag *tag, bool give, warm_page *page)
 		last = hash_search(numbers, &device, HASH_FIND, NULL);
 	if (last != NULL)
 		page->dev = last->number;
-	else if (give && ws_device_count < WS_MOST_DEVICES)
+	else if (give && ws_device_count < MOST_DEVICES)
 	{
 		page->dev = (uint16) ws_device_count;
-		put_number(page->dev, &device);
+		put(page->dev, &device);
 	}
 	else
 		return false;
@@ -130,7 +132,7 @@ ws_directory_decode(const uint8 *bytes, Size length)
 
 		if (device.fork > MAX_FORKNUM || !OidIsValid(device.space))
 			return WS_BAD_DIRECTORY;
-		if (!put_number((uint16) ws_get(at, 2), &device))
+		if (!put((uint16) ws_get(at, 2), &device))
 			return WS_OTHER_DIRECTORY;
 	}
 	return WARM_OK;

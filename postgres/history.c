@@ -12,26 +12,21 @@
 #include "access/xlog.h"
 #include "miscadmin.h"
 #include "port/pg_crc32c.h"
-#include "postmaster/interrupt.h"
 #include "storage/fd.h"
-#include "storage/procsignal.h"
 #include "warm_standby.h"
 
 #define HISTORY_FILE "warm_standby.history"
 #define DIRECTORY_FILE "warm_standby.directory"
 #define DRAFT_FILE "warm_standby.tmp"
-#define DIRECTORY_MAGIC UINT64CONST(0x5741524d44495232)	/* WARMDIR2 */
-#define DIRECTORY_HEADER 32		/* magic, system identifier, latest time, position */
-#define MOST_DIRECTORY_BYTES (DIRECTORY_HEADER + WS_MOST_DEVICES * WS_DEVICE_BYTES + 4)
+#define DIRECTORY_MAGIC UINT64CONST(0x5741524d44495231)	/* WARMDIR1 */
+#define DIRECTORY_HEADER 24		/* magic, system identifier, latest time */
+#define MOST_DIRECTORY_BYTES (DIRECTORY_HEADER + 65536 * WS_DEVICE_BYTES + 4)
 
 #define REFERENCES 1024
 #define BOUND_US (60 * US_PER_S)
-#define MOST_KNOWN 10000000		/* by default: some 0.7 GB, and a second for a ranking */
-#define STOP_US (US_PER_S / 2)	/* for a save at a stop, which would hold up a switchover */
 
 uint64		ws_changed_buckets = 0;
 uint64		ws_latest = 0;	/* the latest time given or heard of */
-XLogRecPtr	ws_saved_position = InvalidXLogRecPtr;	/* the saved history has all that WAL says before this */
 
 static warm history = {0};
 static uint16 replica = 1;		/* of a primary, by its timeline */
@@ -81,7 +76,6 @@ ws_history_reset(const char *why)
 	ws_directory_reset();
 	open_history();
 	ws_latest = 0;
-	ws_saved_position = InvalidXLogRecPtr;
 	ws_publish_reset();			/* the numbers are given, saved and sent again */
 	ws_stats.resets++;
 }
@@ -111,47 +105,19 @@ ws_clock(void)
 	return ws_latest;
 }
 
-/* What an operator can do where this is refused, or NULL. */
-static const char *
-hint_of(int status)
+/* Counts a call of the library that is refused; returns its status. */
+static int
+note(int status)
 {
-	switch (status)
-	{
-		case WS_BAD_VERSION:
-			return "Upgrade this server to the version of its primary.";
-		case WS_OTHER_DIRECTORY:
-			return "Find out whether two servers were primaries at the same time.";
-		case WS_LATE_MESSAGE:
-		case WARM_LATE_STAMP:
-		case WARM_LATE_HORIZON:
-			return "Compare the clocks of the servers. They may differ by \"warm_standby.clock_tolerance\".";
-		default:
-			return NULL;
-	}
-}
-
-/* Counts what is refused, a message or a call of the library, and warns of it; returns its status. */
-int
-ws_note(int status, const char *what)
-{
-	const char *hint = hint_of(status);
-
-	if (status == WARM_OK || status < 0 || status >= WS_STATUSES)
-		return status;
-	ws_refused[status]++;
-	if (ws_may_log(status))
-		ereport(WARNING,
-				(errcode(status == WARM_MEMORY ? ERRCODE_OUT_OF_MEMORY : ERRCODE_PROTOCOL_VIOLATION),
-				 errmsg("warm_standby refused %s: %s", what, ws_status_name(status)),
-				 hint != NULL ? errhint("%s", hint) : 0));
+	if (status != WARM_OK && status >= 0 && status < WS_STATUSES)
+		ws_refused[status]++;
 	return status;
 }
 
 static void
-absorb_bucket(int bucket)
+absorb(int bucket)
 {
-	ws_note(warm_absorb(&history, references[bucket], reference_counts[bucket]),
-			"references of a sample");
+	note(warm_absorb(&history, references[bucket], reference_counts[bucket]));
 	reference_counts[bucket] = 0;
 }
 
@@ -160,7 +126,7 @@ void
 ws_references_end(void)
 {
 	for (int bucket = 0; bucket < WS_BUCKETS; bucket++)
-		absorb_bucket(bucket);
+		absorb(bucket);
 }
 
 /* Hands in one reference, with others of its bucket. */
@@ -174,7 +140,7 @@ ws_reference(warm_page page, uint64 time)
 	ws_changed_buckets |= UINT64CONST(1) << bucket;
 	ws_stats.page_references++;
 	if (reference_counts[bucket] == REFERENCES)
-		absorb_bucket(bucket);
+		absorb(bucket);
 }
 
 /*
@@ -187,7 +153,7 @@ ws_history_receive(const uint8 *frame, Size length)
 	if (ws_latest > time_limit())
 		ws_history_reset("the clock was set back");
 	warm_limit(&history, time_limit());
-	return ws_note(warm_receive(&history, frame, length), "a message of its primary");
+	return note(warm_receive(&history, frame, length));
 }
 
 /*
@@ -198,9 +164,8 @@ bool
 ws_history_piece(uint8 bucket, uint64 since, bool has_after, warm_page *after, uint8 *frame,
 				 Size *length, bool *more)
 {
-	return ws_note(warm_send_since(&history, bucket, since, has_after, *after, frame,
-								   WS_FRAME_ROOM, length, more, after),
-				   "a publication") == WARM_OK;
+	return note(warm_send_since(&history, bucket, since, has_after, *after, frame, WS_FRAME_ROOM,
+								length, more, after)) == WARM_OK;
 }
 
 /* The hottest pages, hottest first. */
@@ -210,12 +175,12 @@ ws_history_list(warm_page *pages, Size room)
 	Size		count = 0;
 
 	if (room > 0)
-		ws_note(warm_list(&history, pages, room, &count), "a ranking");
+		note(warm_list(&history, pages, room, &count));
 	return count;
 }
 
 static Size
-count_known(void)
+known(void)
 {
 	Size		length = 0;
 
@@ -235,28 +200,23 @@ ws_history_bound(void)
 {
 	static uint64 bound_at = 0;
 	bool		is_standby = RecoveryInProgress();
-	Size		usual = is_standby ? PG_INT32_MAX : Min((Size) NBuffers * 4, MOST_KNOWN);
+	Size		usual = is_standby ? PG_INT32_MAX : (Size) NBuffers * 4;
 	Size		most = ws_history_pages > 0 ? ws_history_pages : usual;
 	uint64		now = Max(is_standby ? 0 : (uint64) GetCurrentTimestamp(), ws_latest);
 	uint64		age = (uint64) ws_history_age * 60 * US_PER_S;
 	uint64		horizon = 0;
 
-	ws_stats.known = count_known();
+	ws_stats.known = known();
 	ws_stats.devices = ws_device_count;
 	if (ws_stats.known <= most + most / 8 && ws_us() < bound_at)
 		return;
-	if (ws_device_count == WS_MOST_DEVICES && !is_standby && ws_may_log(WS_FAULT_DEVICES))
-		ereport(WARNING,
-				(errcode(ERRCODE_PROGRAM_LIMIT_EXCEEDED),
-				 errmsg("warm_standby has no number for the pages of further databases and tablespaces"),
-				 errhint("Call warm_standby_reset() to begin a new history.")));
 	bound_at = ws_us() + BOUND_US;
 	warm_horizon(&history, age > 0 && age < now ? now - age : 0, &horizon);
-	if (horizon == 0 && count_known() > most)
+	if (horizon == 0 && known() > most)
 		warm_horizon(&history, now - Min(now, UINT64CONST(86400) * US_PER_S), &horizon);
-	while (count_known() > most && horizon < now)
+	while (known() > most && horizon < now)
 		warm_horizon(&history, horizon + (now - horizon) / 4 + 1, &horizon);
-	ws_stats.known = count_known();
+	ws_stats.known = known();
 }
 
 /* Makes the draft of a file; -1, and a line in the log, where that fails. */
@@ -268,21 +228,20 @@ open_draft(const char *path)
 	(void) unlink(DRAFT_FILE);
 	fd = OpenTransientFile(DRAFT_FILE, O_CREAT | O_EXCL | O_WRONLY | PG_BINARY);
 	if (fd < 0)
-		ereport(LOG, (errcode_for_file_access(),
-					  errmsg("could not create file \"%s\" for \"%s\": %m", DRAFT_FILE, path)));
+		ereport(LOG, (errmsg("warm_standby could not write \"%s\": %m", path)));
 	return fd;
 }
 
 /* Puts the draft into a file's place; where there was a fault, says so and drops it. */
 static bool
-end_draft(int fd, const char *path, bool whole, const char *fault)
+end_draft(int fd, const char *path, const char *fault)
 {
 	if (CloseTransientFile(fd) != 0 && fault == NULL)
 		fault = strerror(errno);
-	if (whole && fault == NULL && durable_rename(DRAFT_FILE, path, LOG) == 0)
+	if (fault == NULL && durable_rename(DRAFT_FILE, path, LOG) == 0)
 		return true;
 	if (fault != NULL)
-		ereport(LOG, (errcode(ERRCODE_IO_ERROR), errmsg("could not write file \"%s\": %s", path, fault)));
+		ereport(LOG, (errmsg("warm_standby could not write \"%s\": %s", path, fault)));
 	(void) unlink(DRAFT_FILE);
 	return false;
 }
@@ -298,12 +257,11 @@ checksum(const uint8 *bytes, Size length)
 	return crc;
 }
 
-/* Saves the directory, the latest time, and the position of the history that is in its file. */
+/* Saves the directory, and the latest time. */
 bool
 ws_directory_save(void)
 {
 	uint8	   *bytes = palloc(DIRECTORY_HEADER + ws_device_count * WS_DEVICE_BYTES + 4);
-	uint8	   *at = ws_put(ws_put(bytes, DIRECTORY_MAGIC, 8), GetSystemIdentifier(), 8);
 	const char *fault = NULL;
 	int			next = 0;
 	int			fd = open_draft(DIRECTORY_FILE);
@@ -311,7 +269,7 @@ ws_directory_save(void)
 
 	if (fd < 0)
 		return false;
-	ws_put(ws_put(at, ws_latest, 8), ws_saved_position, 8);
+	ws_put(ws_put(ws_put(bytes, DIRECTORY_MAGIC, 8), GetSystemIdentifier(), 8), ws_latest, 8);
 	length = ws_directory_encode(&next, ws_device_count, ws_device_count,
 								 bytes + DIRECTORY_HEADER) - bytes;
 	ws_put(bytes + length, checksum(bytes, length), 4);
@@ -319,76 +277,23 @@ ws_directory_save(void)
 	errno = ENOSPC;				/* a write that is short says nothing */
 	if (write(fd, bytes, length) != (ssize_t) length || pg_fsync(fd) != 0)
 		fault = strerror(errno);
-	return end_draft(fd, DIRECTORY_FILE, true, fault);
-}
-
-static uint64 save_until;		/* when a save at a stop is given up; 0: it is another */
-static bool gave_up;
-
-/*
- * Asked before each piece of a dump is written: 1 ends the save.  It ends where the
- * server is to stop; one that the stop makes has a while.  What waits for all processes,
- * as DROP DATABASE, does not wait for the save.  No error may leave this.
- */
-static int
-before_piece(void *context, uint64_t at, const uint8_t *bytes, size_t length)
-{
-	MemoryContext old = CurrentMemoryContext;
-
-	PG_TRY();
-	{
-		if (ProcSignalBarrierPending)
-			ProcessProcSignalBarrier();
-	}
-	PG_CATCH();
-	{
-		MemoryContextSwitchTo(old);
-		FlushErrorState();		/* it is processed again at the next chance */
-	}
-	PG_END_TRY();
-	gave_up = save_until > 0 ? ws_us() > save_until : ShutdownRequestPending;
-	return gave_up;
-}
-
-/* Saves the history into a draft. */
-static int
-save_to(int fd)
-{
-	int			status = warm_before_write(fd, before_piece, NULL);
-
-	if (status == WARM_OK)
-		status = warm_save(&history, fd);
-	(void) warm_before_write(fd, NULL, NULL);
-	return gave_up ? status : ws_note(status, "a save");
+	return end_draft(fd, DIRECTORY_FILE, fault);
 }
 
 /*
  * Saves directory and history, each whole or not at all.  The directory comes
- * first: it never changes a number, so a newer one fits an older history.  The
- * position, up to which the history has what WAL says, comes last.
+ * first: it never changes a number, so a newer one fits an older history.
  */
 void
-ws_history_save(XLogRecPtr position)
+ws_history_save(void)
 {
-	static uint64 cost = 0;		/* of the last save */
-	uint64		begun = ws_us();
 	int			fd = ws_directory_save() ? open_draft(HISTORY_FILE) : -1;
-	int			status;
-	bool		saved;
+	int			status = fd >= 0 ? note(warm_save(&history, fd)) : WARM_OK;
 
-	gave_up = false;
-	save_until = ShutdownRequestPending ? begun + (cost < STOP_US ? STOP_US : 0) : 0;
-	status = fd >= 0 ? save_to(fd) : WARM_OK;
-	saved = fd >= 0 && end_draft(fd, HISTORY_FILE, !gave_up, gave_up || status == WARM_OK ? NULL :
-								 ws_status_name(status));
-	if (saved)
-	{
-		cost = ws_us() - begun;
+	if (fd >= 0 &&
+		end_draft(fd, HISTORY_FILE, status == WARM_OK ? NULL : ws_status_name(status)))
 		ws_stats.saves++;
-		ws_saved_position = position;
-		(void) ws_directory_save();
-	}
-	else if (!gave_up)
+	else
 		ws_stats.save_failures++;
 }
 
@@ -401,7 +306,7 @@ open_saved(const char *path, Size *length)
 
 	if (fd < 0 ? errno != ENOENT : fstat(fd, &st) != 0)
 		ereport(LOG, (errcode_for_file_access(),
-					  errmsg("could not open file \"%s\": %m", path)));
+					  errmsg("warm_standby could not read \"%s\": %m", path)));
 	*length = st.st_size;
 	return fd;
 }
@@ -425,7 +330,6 @@ load_directory(void)
 	{
 		length -= 4;
 		ws_latest = ws_get(bytes + 16, 8);
-		ws_saved_position = ws_get(bytes + 24, 8);
 		good = checksum(bytes, length) == ws_get(bytes + length, 4) &&
 			ws_directory_decode(bytes + DIRECTORY_HEADER, length - DIRECTORY_HEADER) == WARM_OK;
 	}
@@ -435,7 +339,6 @@ load_directory(void)
 							 DIRECTORY_FILE)));
 		ws_directory_reset();
 		ws_latest = 0;
-		ws_saved_position = InvalidXLogRecPtr;
 	}
 	return good;
 }
@@ -451,14 +354,11 @@ ws_history_start(void)
 	ws_directory_reset();
 	if (load_directory() && (fd = open_saved(HISTORY_FILE, &length)) >= 0)
 	{
-		status = ws_note(warm_load(&history, fd, length), "a saved history");
+		status = note(warm_load(&history, fd, length));
 		CloseTransientFile(fd);
 		if (status != WARM_OK)
-		{
 			ereport(LOG, (errmsg("warm_standby does not use \"%s\": %s", HISTORY_FILE,
 								 ws_status_name(status))));
-			ws_saved_position = InvalidXLogRecPtr;
-		}
 	}
 	ws_history_bound();
 }

@@ -1,7 +1,6 @@
 /*
  * loader.c
- *		The worker that reads the pages of one database of a standby, or of a
- *		primary that started.
+ *		The worker that reads the pages of one database of a standby.
  *
  * A loader reads its batch file by file, in short transactions of some pages
  * each, under AccessShareLock, which no drop or truncation passes.  It waits for no
@@ -45,25 +44,17 @@ by_page(const void *a, const void *b)
 	return order != 0 ? order : x->block < y->block ? -1 : x->block > y->block;
 }
 
-/*
- * Reads pages of one fork of a relation that is locked.  The system is asked for as
- * many of the next ones as maintenance_io_concurrency says: storage takes them
- * together.
- */
+/* Reads pages of one fork of a relation that is locked. */
 static void
 read_pages(Relation relation, WsRequest *some, int count)
 {
 	ForkNumber	fork = some->page.device.fork;
 	BlockNumber blocks = 0;
-	int			asked = 0;
 
 	if (smgrexists(RelationGetSmgr(relation), fork))
 		blocks = smgrnblocks(RelationGetSmgr(relation), fork);
 	for (int i = 0; i < count; i++)
 	{
-		for (; asked < count && asked <= i + maintenance_io_concurrency; asked++)
-			if (!some[asked].prefetch && some[asked].page.block < blocks)
-				(void) PrefetchBuffer(relation, fork, some[asked].page.block);
 		if (some[i].page.block >= blocks)
 		{
 			some[i].outcome = WS_NO_BLOCK;
@@ -105,25 +96,6 @@ read_file(WsRequest *some, int count)
 	return WS_NO_FILE;
 }
 
-/* Whether an error is a conflict with replay. */
-static bool
-is_cancelled(const ErrorData *error)
-{
-	return ERRCODE_TO_CATEGORY(error->sqlerrcode) == ERRCODE_TRANSACTION_ROLLBACK;
-}
-
-/* Says why a page was not read.  A message of a fault of storage names the file and the block. */
-static void
-log_error(const ErrorData *error, const WsPage *page)
-{
-	ereport(!is_cancelled(error) && ws_may_log(WS_FAULT_READ) ? WARNING : DEBUG1,
-			(errcode(error->sqlerrcode),
-			 errmsg("warm_standby could not read a page: %s", error->message),
-			 errdetail("It is block %u of fork %d of file %u in tablespace %u and database %u.",
-					   page->block, page->device.fork, page->file, page->device.space,
-					   page->device.database)));
-}
-
 /* The same, where an error costs these pages and nothing else. */
 static void
 try_file(WsRequest *some, int count)
@@ -149,9 +121,10 @@ try_file(WsRequest *some, int count)
 		AbortCurrentTransaction();
 		if (reading != NULL)
 			reading->outcome = WS_FAILED;
-		if (reading || is_cancelled(error))
+		if (reading || ERRCODE_TO_CATEGORY(error->sqlerrcode) == ERRCODE_TRANSACTION_ROLLBACK)
 			rest = WS_WAITING;	/* they are handed out again */
-		log_error(error, reading != NULL ? &reading->page : &some->page);
+		ereport(DEBUG1, (errmsg_internal("warm_standby could not read file %u: %s", some->page.file,
+										 error->message)));
 		FreeErrorData(error);
 	}
 	PG_END_TRY();
@@ -162,21 +135,20 @@ try_file(WsRequest *some, int count)
 			some[i].outcome = rest;
 }
 
-/* Whether the worker that started this loader is there, and wants it. */
+/* Whether the worker that started this loader is there, on a standby, and wants it. */
 static bool
 is_needed(void)
 {
-	bool		needed, is_warming;
+	bool		needed;
 
 	LWLockAcquire(ws_shared->lock, LW_SHARED);
 	needed = ws_shared->epoch == epoch && !slot->leave;
-	is_warming = ws_shared->is_warming;
 	LWLockRelease(ws_shared->lock);
-	return needed && (is_warming || RecoveryInProgress());
+	return needed && RecoveryInProgress();
 }
 
 static void
-load_batch(uint32 count)
+load(uint32 count)
 {
 	qsort(batch, count, sizeof(WsRequest), by_page);
 	for (uint32 i = 0, k; i < count; i = k)
@@ -220,17 +192,14 @@ give_outcomes(uint32 count, uint64 took_us)
 	LWLockRelease(ws_shared->lock);
 }
 
-/*
- * Gives the slot back.  Where it could not connect its batch stays, by which the
- * worker sees it, and so do outcomes that the worker did not read yet.
- */
+/* Gives the slot back.  Where it could not connect its batch stays, by which the worker sees it. */
 static void
-release_slot(int code, Datum arg)
+leave(int code, Datum arg)
 {
 	LWLockAcquire(ws_shared->lock, LW_EXCLUSIVE);
 	if (ws_shared->epoch == epoch)
 		slot->latch = NULL;
-	if (ws_shared->epoch == epoch && is_connected && slot->state != WS_SLOT_DONE)
+	if (ws_shared->epoch == epoch && is_connected)
 	{
 		slot->state = WS_SLOT_IDLE;
 		slot->database = InvalidOid;
@@ -249,7 +218,7 @@ warm_standby_loader_main(Datum main_arg)
 	BackgroundWorkerUnblockSignals();
 	memcpy(&epoch, MyBgworkerEntry->bgw_extra, sizeof epoch);
 	slot = &ws_shared->loaders[DatumGetInt32(main_arg)];
-	before_shmem_exit(release_slot, (Datum) 0);
+	before_shmem_exit(leave, (Datum) 0);
 	LWLockAcquire(ws_shared->lock, LW_EXCLUSIVE);
 	database = ws_shared->epoch == epoch ? slot->database : InvalidOid;
 	if (OidIsValid(database))
@@ -268,15 +237,10 @@ warm_standby_loader_main(Datum main_arg)
 		idle++;
 		if (count > 0)
 		{
-			pgstat_report_activity(STATE_RUNNING, "warm_standby reads pages");
-			load_batch(count);
-			pgstat_report_activity(STATE_IDLE, NULL);
+			load(count);
 			give_outcomes(count, ws_us() - begun);
 			(void) pgstat_report_stat(false);
 			idle = 0;
-			/* DROP DATABASE waits for a while until nobody is connected. */
-			if (!RecoveryInProgress())
-				break;
 		}
 		(void) ws_wait(IDLE_MS);
 	}

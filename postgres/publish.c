@@ -14,15 +14,13 @@
 #include "miscadmin.h"
 #include "postmaster/interrupt.h"
 #include "replication/message.h"
-#include "replication/slot.h"
-#include "replication/walsender_private.h"
 #include "warm_standby.h"
 
 #define FRAME_HEADER	23		/* a frame without an entry is as long */
 #define DEVICES_A_MESSAGE 1000
 #define MOST_LATE_US	(60 * US_PER_S)
+#define DIRECTORY_US	(10 * US_PER_S)
 #define BURST_S			10
-#define SLICES			5		/* of what a second may send: a publication sends one */
 
 /* A walk over a bucket, piece by piece. */
 typedef struct Walk
@@ -77,14 +75,14 @@ is_important(void)
 
 /* Writes one message. */
 static void
-emit_message(uint8 kind, uint8 *message, Size length)
+emit(uint8 kind, uint8 *message, Size length)
 {
 	xl_logical_message record = {.dbId = InvalidOid, .transactional = false,
 	.prefix_size = sizeof WS_NAME, .message_size = length};
 
 	message[0] = WS_MESSAGE_VERSION;
 	message[1] = kind;
-	ws_put(ws_put(message + 2, (uint64) GetCurrentTimestamp(), 8), ws_stats.known, 8);
+	ws_put(message + 2, (uint64) GetCurrentTimestamp(), 8);
 	XLogBeginInsert();
 	XLogRegisterData((char *) &record, SizeOfLogicalMessage);
 	XLogRegisterData((char *) WS_NAME, sizeof WS_NAME);
@@ -110,7 +108,7 @@ send_directory(uint64 now, int64 rate)
 
 	if (devices_saved != ws_device_count && ws_directory_save())
 		devices_saved = ws_device_count;
-	if (now - directory_at > Max(ws_full_interval * US_PER_S, cost_us * 10))
+	if (now - directory_at > Max(DIRECTORY_US, cost_us * 10))
 	{
 		devices_sent = 0;
 		directory_at = now;
@@ -120,7 +118,7 @@ send_directory(uint64 now, int64 rate)
 		uint8	   *end = ws_directory_encode(&devices_sent, devices_saved, DEVICES_A_MESSAGE,
 											  message + WS_HEADER);
 
-		emit_message(WS_MESSAGE_DIRECTORY, message, end - message);
+		emit(WS_MESSAGE_DIRECTORY, message, end - message);
 	}
 }
 
@@ -136,7 +134,7 @@ send_piece(Walk *walk)
 		return false;
 	walk->has_after = true;
 	if (length > FRAME_HEADER)
-		emit_message(WS_MESSAGE_FRAME, message, WS_HEADER + length);
+		emit(WS_MESSAGE_FRAME, message, WS_HEADER + length);
 	return true;
 }
 
@@ -183,60 +181,23 @@ next_walk(uint64 now)
 	return is_turn ? &in_turn : has_change ? &changes : NULL;
 }
 
-/* Whether WAL goes anywhere: into an archive, or to who streams it or will. */
-static bool
-has_reader(void)
-{
-	bool		found = XLogArchivingActive();
-
-	for (int i = 0; i < max_wal_senders && !found; i++)
-	{
-		WalSnd	   *sender = &WalSndCtl->walsnds[i];
-
-		SpinLockAcquire(&sender->mutex);
-		found = sender->pid != 0;
-		SpinLockRelease(&sender->mutex);
-	}
-	if (found || max_replication_slots == 0)
-		return found;
-	LWLockAcquire(ReplicationSlotControlLock, LW_SHARED);
-	for (int i = 0; i < max_replication_slots && !found; i++)
-	{
-		ReplicationSlot *slot = &ReplicationSlotCtl->replication_slots[i];
-
-		found = slot->in_use && SlotIsPhysical(slot);
-	}
-	LWLockRelease(ReplicationSlotControlLock);
-	return found;
-}
-
-/*
- * Sends what is new, as far as the rate allows; true where more waits, for the rate.
- * What was not used in the last seconds may be, but not at once: a commit would
- * wait until all of it is flushed.  A message may take more, of the next seconds.
- */
-bool
+/* Sends what is new, as far as the rate allows; the rest waits. */
+void
 ws_publish(void)
 {
 	uint64		now = ws_us();
 	int64		rate = ws_publish_rate * INT64CONST(1024);
-	XLogRecPtr	before = last_message;
-	int64		least;
 	Walk	   *walk;
 
-	if (!XLogIsNeeded() || !has_reader())
-		return false;			/* what is new waits for one */
+	/* What was not used in the last seconds may be; a message may take more, of the next ones. */
 	allowance = Min(allowance + (int64) (rate * ((now - paid_at) / 1e6)), rate * BURST_S);
 	paid_at = now;
-	least = Max(allowance - rate / SLICES, 0);
 	send_directory(now, rate);
-	while (allowance > least && !ShutdownRequestPending && (walk = next_walk(now)) != NULL)
+	while (allowance > 0 && !ShutdownRequestPending && (walk = next_walk(now)) != NULL)
 	{
 		CHECK_FOR_INTERRUPTS();
 		if (!send_piece(walk))
 			break;
 	}
-	if (last_message != before)
-		XLogSetAsyncXactLSN(last_message);	/* so that the WAL writer does not leave it */
-	return allowance <= least && (changes.is_on || in_turn.is_on || ws_changed_buckets != 0);
+	XLogSetAsyncXactLSN(last_message);	/* so that the WAL writer does not leave it */
 }

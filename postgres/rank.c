@@ -8,9 +8,6 @@
  */
 #include "postgres.h"
 
-#include <sys/stat.h>
-
-#include "common/relpath.h"
 #include "miscadmin.h"
 #include "utils/memutils.h"
 #include "warm_standby.h"
@@ -18,8 +15,6 @@
 #define FORGIVE_US		(300 * US_PER_S)	/* for which a page that cannot be read is left alone */
 #define BUSY_US			(10 * US_PER_S) /* and a file that is locked */
 #define MOST_UNLOADABLE 65536
-#define LEAST_RATE		2000	/* pages a second that are read by default */
-#define BUFFERS_OF_REPLAY 256	/* that are kept for it at least */
 #define TERM_US			(5 * US_PER_S)	/* a loader's, where another database waits for one */
 
 typedef struct Wanted
@@ -41,7 +36,7 @@ typedef struct Wanted
 #define SH_DEFINE
 #include "lib/simplehash.h"
 
-/* Pages; without a block whole files; and without a file too, all of a device. */
+/* Pages; without a block whole files; and without a file too, databases. */
 typedef struct Unloadable
 {
 	WsPage		page;			/* the key */
@@ -50,7 +45,6 @@ typedef struct Unloadable
 
 static HTAB *unloadable = NULL;
 static uint64 unloadable_until; /* the latest of them */
-static uint64 unloadable_bits[64];	/* by hash_of of a file or device: those that are not set are of none */
 static MemoryContext round_context = NULL;
 static BackgroundWorkerHandle *handles[WS_MOST_LOADERS];
 static uint64 started_at[WS_MOST_LOADERS];
@@ -58,24 +52,10 @@ static Oid	next_of[WS_MOST_LOADERS];	/* the database that gets a slot next */
 static Oid	waiting;			/* the one that found no slot, whose page is hottest */
 static uint64 round_at;			/* when the last round began */
 static double load_allowance;	/* pages that may be read now */
+static uint64 complained_at = 0;
 static bool is_warm;
 static Size prefetched;			/* ranks beyond the wanted, prefetched since then: */
 static uint64 prefetched_since = 0;
-
-/* The ranking, which is made again where the history has changed. */
-static warm_page *listed = NULL;
-static Size listed_count, listed_room;
-static int64 listed_frames, listed_resets;	/* of the history that was ranked */
-
-/* What a slot gets in a round.  It is the worker's alone until send_batches. */
-typedef struct Batch
-{
-	Oid			database;		/* InvalidOid: of none yet */
-	bool		takes;			/* it can get further pages */
-	uint32		count;
-} Batch;
-
-static Batch batches[WS_MOST_LOADERS];
 
 /* One round. */
 static warm_page *pages;
@@ -83,7 +63,7 @@ static Size page_count, wanted_count;	/* how many, and how many of these are wan
 static bool *resident;
 
 static void
-forget_unloadable(void)
+forgive(void)
 {
 	HASHCTL		control = {.keysize = sizeof(WsPage), .entrysize = sizeof(Unloadable),
 	.hcxt = TopMemoryContext};
@@ -92,30 +72,13 @@ forget_unloadable(void)
 		hash_destroy(unloadable);
 	unloadable = hash_create("warm_standby unloadable pages", 256, &control,
 							 HASH_ELEM | HASH_BLOBS | HASH_CONTEXT);
-	memset(unloadable_bits, 0, sizeof unloadable_bits);
-}
-
-/* A number below 4,096 of a file; of a device with file 0. */
-static inline uint32
-hash_of(const WsDevice *device, Oid file)
-{
-	return ((device->database * 31 + file) * UINT64CONST(0x9e3779b97f4a7c15)) >> 52;
-}
-
-static inline bool
-has_bit(uint32 bit)
-{
-	return (unloadable_bits[bit / 64] >> bit % 64 & 1) != 0;
 }
 
 static void
 leave_alone(const WsPage *page, uint64 us)
 {
-	uint32		bit = hash_of(&page->device, page->file);
-
 	if (hash_get_num_entries(unloadable) >= MOST_UNLOADABLE)
-		forget_unloadable();
-	unloadable_bits[bit / 64] |= UINT64CONST(1) << bit % 64;
+		forgive();
 	((Unloadable *) hash_search(unloadable, page, HASH_ENTER, NULL))->until = round_at + us;
 	unloadable_until = Max(unloadable_until, round_at + us);
 }
@@ -124,45 +87,31 @@ static bool
 is_unloadable(const WsPage *page)
 {
 	WsPage		keys[] = {*page, {page->device, page->file, InvalidBlockNumber},
-	{.device = page->device, .block = InvalidBlockNumber}};
+	{.device.database = page->device.database, .block = InvalidBlockNumber}};
 	const Unloadable *found = NULL;
 
-	if (!has_bit(hash_of(&page->device, page->file)) && !has_bit(hash_of(&page->device, 0)))
-		return false;
 	for (int i = 0; i < lengthof(keys) && (found == NULL || found->until <= round_at); i++)
 		found = hash_search(unloadable, &keys[i], HASH_FIND, NULL);
 	return found != NULL && found->until > round_at;
 }
 
-/* Leaves the files of a batch alone, those of its database: nobody can load them. */
-static void
-leave_batch_alone(const WsLoader *loader)
-{
-	for (const WsRequest *at = loader->pages; at < loader->pages + loader->count; at++)
-	{
-		WsPage		key = {.device = at->page.device, .block = InvalidBlockNumber};
-
-		if (key.device.database == loader->database)
-			leave_alone(&key, FORGIVE_US);
-	}
-}
-
-/* Notes what a loader read, and could not; one that ended and left its batch could not connect. */
+/* Notes what a loader read, and could not; of one that ended and left its batch, its database. */
 static void
 note_outcomes(const WsLoader *loader, bool ended)
 {
+	WsPage		key = {.device.database = loader->database, .block = InvalidBlockNumber};
+
 	if (ended && loader->state == WS_SLOT_FULL)
-		leave_batch_alone(loader);
+		leave_alone(&key, FORGIVE_US);
 	if (loader->state != WS_SLOT_DONE)
 		return;
 	ws_stats.read_us += loader->took_us;
 	for (const WsRequest *at = loader->pages; at < loader->pages + loader->count; at++)
 	{
-		WsPage		key = at->page;
-
 		ws_stats.pages_read += at->outcome == WS_LOADED && !at->prefetch;
 		ws_stats.pages_prefetched += at->outcome == WS_LOADED && at->prefetch;
 		ws_stats.pages_failed += at->outcome == WS_FAILED;
+		key = at->page;
 		if (at->outcome == WS_NO_FILE || at->outcome == WS_BUSY)
 			key.block = InvalidBlockNumber;
 		if (at->outcome >= WS_BUSY)
@@ -200,10 +149,7 @@ ws_rank_reset(void)
 	if (round_context == NULL)
 		round_context = AllocSetContextCreate(TopMemoryContext, "warm_standby round",
 											  ALLOCSET_DEFAULT_SIZES);
-	if (listed != NULL)
-		pfree(listed);
-	listed = NULL;
-	forget_unloadable();
+	forgive();
 	round_at = ws_us();
 	load_allowance = 0;
 	is_warm = false;
@@ -223,11 +169,12 @@ start_loader(int slot)
 	started = RegisterDynamicBackgroundWorker(&worker, &handles[slot]);
 	started_at[slot] = round_at;
 	MemoryContextSwitchTo(old);
-	if (!started && ws_may_log(WS_FAULT_WORKERS))
-		ereport(WARNING,
-				(errcode(ERRCODE_CONFIGURATION_LIMIT_EXCEEDED),
-				 errmsg("warm_standby has no worker process for a loader"),
-				 errhint("You might need to increase \"max_worker_processes\".")));
+	if (!started && round_at - complained_at > FORGIVE_US)
+	{
+		ereport(LOG, (errmsg("warm_standby has no worker process for a loader"),
+					  errhint("Raise max_worker_processes.")));
+		complained_at = round_at;
+	}
 	return started;
 }
 
@@ -255,17 +202,6 @@ reap_loaders(void)
 	}
 }
 
-/* Which slots can get pages in this round, and of which database. */
-static void
-open_batches(void)
-{
-	LWLockAcquire(ws_shared->lock, LW_SHARED);
-	for (int i = 0; i < ws_shared->loader_count; i++)
-		batches[i] = (Batch) {.database = ws_shared->loaders[i].database,
-		.takes = ws_shared->loaders[i].state == WS_SLOT_IDLE && !ws_shared->loaders[i].leave};
-	LWLockRelease(ws_shared->lock);
-}
-
 /* The slot of a database, one that is free, or -1.  A shared catalog's pages may go to any. */
 static int
 slot_of(Oid database)
@@ -274,7 +210,7 @@ slot_of(Oid database)
 
 	for (int i = 0; i < ws_shared->loader_count; i++)
 	{
-		Oid			of = batches[i].database;
+		Oid			of = ws_shared->loaders[i].database;
 
 		if (OidIsValid(of) && (of == database || !OidIsValid(database)))
 			return i;
@@ -284,23 +220,22 @@ slot_of(Oid database)
 	return OidIsValid(database) ? vacant : -1;
 }
 
-/* Keeps a page for a loader; false where none takes it now. */
+/* Keeps a page for a loader; false where none takes it now.  Under the lock. */
 static bool
 hand_out(warm_page page, bool prefetch)
 {
 	WsRequest	request = {.prefetch = prefetch, .outcome = WS_WAITING};
 	bool		named = ws_names_of(page, &request.page);
 	int			slot = named ? slot_of(request.page.device.database) : -1;
-	Batch	   *batch = &batches[Max(slot, 0)];
+	WsLoader   *loader = &ws_shared->loaders[Max(slot, 0)];
 
 	if (named && slot < 0 && !OidIsValid(waiting) && !prefetch)
 		waiting = request.page.device.database;
-	if (slot < 0 || !batch->takes)
+	if (slot < 0 || loader->state != WS_SLOT_IDLE || loader->count == WS_BATCH)
 		return slot < 0 && prefetch;	/* without a loader it is passed over */
-	if (!OidIsValid(batch->database))
-		batch->database = request.page.device.database;
-	ws_shared->loaders[slot].pages[batch->count++] = request;
-	batch->takes = batch->count < WS_BATCH;
+	if (!OidIsValid(loader->database))
+		loader->database = request.page.device.database;
+	loader->pages[loader->count++] = request;
 	return true;
 }
 
@@ -311,7 +246,7 @@ make_room(void)
 	for (int i = 0; i < ws_shared->loader_count; i++)
 	{
 		WsLoader   *loader = &ws_shared->loaders[i];
-		bool		is_idle = loader->state == WS_SLOT_IDLE && batches[i].count == 0;
+		bool		is_idle = loader->state == WS_SLOT_IDLE && loader->count == 0;
 
 		if (next_of[i] == waiting)
 			return;
@@ -326,122 +261,55 @@ make_room(void)
 	}
 }
 
-/* Whether there is a folder of the database of a batch: a loader of one that was dropped would fail. */
-static bool
-has_database(const WsLoader *loader)
-{
-	WsDevice	seen = {0};
-
-	for (const WsRequest *at = loader->pages; at < loader->pages + loader->count; at++)
-	{
-		struct stat st;
-
-		if (at->page.device.database != loader->database || at->page.device.space == seen.space)
-			continue;
-		seen = at->page.device;
-		if (stat(GetDatabasePath(seen.database, seen.space), &st) == 0)
-			return true;
-	}
-	return false;
-}
-
-/* Starts the loader of a batch; false where there is none, and the slot is to be free. */
-static bool
-start_batch(int slot)
-{
-	if (has_database(&ws_shared->loaders[slot]))
-		return start_loader(slot);
-	leave_batch_alone(&ws_shared->loaders[slot]);
-	return false;
-}
-
-/*
- * Lets the loaders have their batches.  A loader that ended meanwhile gets none, and
- * a slot whose next database wants nothing is free.
- */
+/* Lets the loaders have their batches.  A slot whose next database wants nothing is free. */
 static void
 send_batches(void)
 {
 	for (int i = 0; i < ws_shared->loader_count; i++)
 	{
 		WsLoader   *loader = &ws_shared->loaders[i];
-		bool		is_vacant = !OidIsValid(loader->database) && handles[i] == NULL;
 		bool		has_work;
 
 		LWLockAcquire(ws_shared->lock, LW_EXCLUSIVE);
-		has_work = batches[i].count > 0 && loader->state == WS_SLOT_IDLE &&
-			(is_vacant || loader->database == batches[i].database);
+		has_work = loader->state == WS_SLOT_IDLE && loader->count > 0 &&
+			OidIsValid(loader->database);
 		if (has_work)
-		{
-			loader->database = batches[i].database;
-			loader->count = batches[i].count;
 			loader->state = WS_SLOT_FULL;
-		}
 		if (has_work && loader->latch != NULL)
 			SetLatch(loader->latch);
 		if (!has_work && handles[i] == NULL)
 			loader->database = InvalidOid;
 		LWLockRelease(ws_shared->lock);
-		if (has_work && handles[i] == NULL && !start_batch(i))
-		{
-			LWLockAcquire(ws_shared->lock, LW_EXCLUSIVE);
-			clear_slot(i, true);
-			LWLockRelease(ws_shared->lock);
-		}
+		if (has_work && handles[i] == NULL && !start_loader(i))
+			clear_slot(i, true);	/* nobody else knows of it */
 	}
-}
-
-/* How many pages are to be kept warm.  The smallest pools have no room for it beside replay. */
-static Size
-most_wanted(void)
-{
-	double		fraction = ws_warming ? 1.0 : ws_fraction;
-
-	return Min((Size) (fraction * NBuffers), (Size) Max(NBuffers - BUFFERS_OF_REPLAY, 0));
-}
-
-/* Lists the hottest pages, where the history has changed since they were listed last. */
-static void
-list_pages(void)
-{
-	Size		room = Min(most_wanted() * 2 + ws_prefetch_pages, (Size) ws_stats.known);
-
-	if (listed != NULL && room == listed_room && ws_stats.frames_received == listed_frames &&
-		ws_stats.resets == listed_resets)
-		return;
-	if (listed != NULL)
-		pfree(listed);
-	listed = MemoryContextAllocHuge(TopMemoryContext, sizeof(warm_page) * Max(room, 1));
-	listed_count = ws_history_list(listed, room);
-	listed_room = room;
-	listed_frames = ws_stats.frames_received;
-	listed_resets = ws_stats.resets;
-	ws_stats.rankings++;
 }
 
 /* Ranks: pages that have a device and can be loaded, hottest first. */
 static void
 rank_pages(void)
 {
-	Size		most = most_wanted() + ws_prefetch_pages;
+	Size		limit = (Size) (ws_fraction * NBuffers);
+	Size		room = Min(limit * 2 + ws_prefetch_pages, (Size) ws_stats.known);
+	Size		listed;
 
-	list_pages();
-	pages = MemoryContextAllocHuge(round_context,
-								   sizeof(warm_page) * Max(Min(most, listed_count), 1));
+	pages = MemoryContextAllocHuge(round_context, sizeof(warm_page) * Max(room, 1));
+	listed = ws_history_list(pages, room);
 	page_count = 0;
 	ws_stats.unloadable = 0;
-	for (Size i = 0; i < listed_count && page_count < most; i++)
+	for (Size i = 0; i < listed; i++)
 	{
 		WsPage		names;
 
-		if (!ws_names_of(listed[i], &names))
+		if (!ws_names_of(pages[i], &names))
 			continue;
-		if (is_unloadable(&names))
+		if (hash_get_num_entries(unloadable) > 0 && is_unloadable(&names))
 			ws_stats.unloadable++;
 		else
-			pages[page_count++] = listed[i];
+			pages[page_count++] = pages[i];
 	}
-	wanted_count = Min(page_count, most_wanted());
+	wanted_count = Min(page_count, limit);
+	page_count = Min(page_count, limit + ws_prefetch_pages);
 	resident = MemoryContextAllocExtended(round_context, Max(wanted_count, 1),
 										  MCXT_ALLOC_HUGE | MCXT_ALLOC_ZERO);
 }
@@ -455,7 +323,7 @@ usage_of(Size rank)
 
 /* Raises a usage count, where the buffer has that page still. */
 static void
-touch_buffer(int buffer, const BufferTag *tag, uint32 usage)
+touch(int buffer, const BufferTag *tag, uint32 usage)
 {
 	BufferDesc *descriptor = GetBufferDescriptor(buffer);
 	uint32		state = LockBufHdr(descriptor);
@@ -495,33 +363,23 @@ walk_buffers(void)
 			continue;
 		resident[entry->rank] = true;
 		ws_stats.resident++;
-		/* A touch of a primary's would be a reference at its next sample. */
-		if (ws_load && !ws_warming && BUF_STATE_GET_USAGECOUNT(state) < usage_of(entry->rank))
-			touch_buffer(i, &tag, usage_of(entry->rank));
+		if (ws_load && BUF_STATE_GET_USAGECOUNT(state) < usage_of(entry->rank))
+			touch(i, &tag, usage_of(entry->rank));
 	}
-}
-
-/*
- * How many pages this standby would keep warm if it knew all that its primary
- * knows: one that lacks a part of the history is not warm.
- */
-static int64
-count_wanted(void)
-{
-	int64		lacks = Max(ws_stats.primary_known - ws_stats.known, 0);
-
-	return Max((int64) wanted_count, Min((int64) most_wanted(), (int64) wanted_count + lacks));
+	ws_stats.wanted = wanted_count;
 }
 
 /* Hands out the hottest pages that are missing, then those to prefetch. */
 static void
 load_pages(void)
 {
-	open_batches();
+	LWLockAcquire(ws_shared->lock, LW_EXCLUSIVE);
 	waiting = InvalidOid;
 	for (Size i = 0; i < wanted_count && load_allowance >= 1; i++)
 		if (!resident[i] && hand_out(pages[i], false))
 			load_allowance--;
+	if (OidIsValid(waiting))
+		make_room();
 	if (round_at - prefetched_since > FORGIVE_US)
 	{
 		prefetched = 0;
@@ -534,20 +392,8 @@ load_pages(void)
 		prefetched++;
 		load_allowance--;
 	}
+	LWLockRelease(ws_shared->lock);
 	send_batches();
-	if (OidIsValid(waiting))
-	{
-		LWLockAcquire(ws_shared->lock, LW_EXCLUSIVE);
-		make_room();
-		LWLockRelease(ws_shared->lock);
-	}
-}
-
-/* How many pages may be read in a second: by default a hundredth of the buffers. */
-static double
-load_rate(void)
-{
-	return ws_load_rate >= 0 ? ws_load_rate : Max(LEAST_RATE, NBuffers / 100);
 }
 
 /* A round of a standby. */
@@ -559,24 +405,21 @@ ws_round(void)
 
 	round_at = begun;
 	if (begun > unloadable_until && hash_get_num_entries(unloadable) > 0)
-		forget_unloadable();				/* so that ranking looks for none */
-	load_allowance = Min(load_allowance + passed * load_rate(),
-						 Max(2.0 * load_rate() * ws_load_interval / 1000, 1));
+		forgive();				/* so that ranking looks for none */
+	load_allowance = Min(load_allowance + passed * ws_load_rate,
+						 Max(2.0 * ws_load_rate * ws_load_interval / 1000, 1));
 	reap_loaders();
 	rank_pages();
 	walk_buffers();
-	ws_stats.wanted = count_wanted();
 	if (ws_load)
 		load_pages();
 	MemoryContextReset(round_context);
-	if (!is_warm && ws_stats.wanted > 0 && ws_stats.resident >= ws_stats.wanted * 0.99 &&
-		ws_last_frame != 0 && !ws_warming && ws_may_log(WS_FAULT_WARM))
+	if (!is_warm && ws_stats.wanted > 0 && ws_stats.resident >= ws_stats.wanted * 0.99)
 		ereport(LOG, (errmsg("warm_standby is warm: " INT64_FORMAT " of " INT64_FORMAT
 							 " wanted pages are resident", ws_stats.resident, ws_stats.wanted)));
 	is_warm = ws_stats.resident >= ws_stats.wanted * (is_warm ? 0.9 : 0.99) && ws_stats.wanted > 0;
 	ws_stats.rounds++;
 	ws_stats.round_us = ws_us() - begun;
-	ws_last_round = GetCurrentTimestamp();
 }
 
 /* Puts the hottest pages where SQL finds them. */

@@ -3,8 +3,7 @@
  *		Messages out of the WAL of a standby.
  *
  * The worker reads the WAL that was replayed, from pg_wal, by an XLogReader of
- * its own.  One that starts on a primary reads what was written since its history was
- * saved: what a crash or a promotion left there.  Nothing is hooked, so no message makes replay wait or fail.  Where a
+ * its own.  Nothing is hooked, so no message makes replay wait or fail.  Where a
  * segment is gone, or a record cannot be read, it goes on at the end of what was
  * replayed, and counts the bytes that it skipped.
  */
@@ -28,18 +27,6 @@ static int	segment = -1;
 static XLogSegNo segment_number;
 static TimeLineID segment_timeline;
 static XLogRecPtr position;		/* where the next record begins */
-static XLogRecPtr own_end;		/* of the WAL that a primary begins with; of a standby invalid */
-static TimeLineID own_timeline;
-
-/* Where WAL ends for now: a standby's at what was replayed. */
-static XLogRecPtr
-wal_end(TimeLineID *timeline)
-{
-	if (XLogRecPtrIsInvalid(own_end))
-		return GetXLogReplayRecPtr(timeline);
-	*timeline = own_timeline;
-	return own_end;
-}
 
 static void
 close_segment(void)
@@ -70,12 +57,12 @@ open_segment(XLogSegNo number, TimeLineID timeline)
 	return segment >= 0;
 }
 
-/* Reads a page of WAL, as far as there is any.  A segment that is gone is no error. */
+/* Reads a page of WAL, as far as it was replayed.  A segment that is gone is no error. */
 static int
 read_page(XLogReaderState *state, XLogRecPtr page, int wanted, XLogRecPtr record, char *into)
 {
 	TimeLineID	timeline;
-	XLogRecPtr	end = wal_end(&timeline);
+	XLogRecPtr	end = GetXLogReplayRecPtr(&timeline);
 	XLogSegNo	number;
 	int			length = XLOG_BLCKSZ;
 
@@ -92,12 +79,9 @@ read_page(XLogReaderState *state, XLogRecPtr page, int wanted, XLogRecPtr record
 	return length;
 }
 
-/*
- * Begins with the WAL from a place on.  A standby goes on with what is replayed;
- * of a primary it is what was written before its worker started.
- */
+/* Begins at the redo point of the last restartpoint, whose WAL is kept. */
 void
-ws_receive_start(XLogRecPtr from, bool is_standby)
+ws_receive_start(void)
 {
 	MemoryContext old;
 
@@ -109,16 +93,8 @@ ws_receive_start(XLogRecPtr from, bool is_standby)
 	MemoryContextSwitchTo(old);
 	if (reader == NULL)
 		ereport(ERROR, (errcode(ERRCODE_OUT_OF_MEMORY), errmsg("out of memory")));
-	own_end = is_standby ? InvalidXLogRecPtr : GetFlushRecPtr(&own_timeline);
-	position = from;
+	position = GetRedoRecPtr();
 	XLogBeginRead(reader, position);
-}
-
-/* Up to where messages were taken in; invalid where none are. */
-XLogRecPtr
-ws_receive_position(void)
-{
-	return reader != NULL ? position : InvalidXLogRecPtr;
 }
 
 void
@@ -131,22 +107,14 @@ ws_receive_stop(void)
 	close_segment();
 }
 
-static Size
-header_length(const uint8 *bytes)
-{
-	return bytes[0] == 1 ? WS_HEADER_1 : WS_HEADER;
-}
-
-/* What a message is refused for by its header, or WARM_OK. */
+/* What a message that begins so is refused for, or WARM_OK. */
 static int
 header_status(const uint8 *bytes, Size length)
 {
-	if (length < WS_HEADER_1)
+	if (length < WS_HEADER)
 		return WS_BAD_MESSAGE;
-	if (bytes[0] != WS_MESSAGE_VERSION && bytes[0] != WS_MESSAGE_VERSION - 1)
+	if (bytes[0] != WS_MESSAGE_VERSION)
 		return WS_BAD_VERSION;
-	if (length < header_length(bytes))
-		return WS_BAD_MESSAGE;
 	if (bytes[1] != WS_MESSAGE_FRAME && bytes[1] != WS_MESSAGE_DIRECTORY)
 		return WS_BAD_MESSAGE;
 	if (ws_get(bytes + 2, 8) > (uint64) GetCurrentTimestamp() + ws_clock_tolerance * US_PER_S)
@@ -162,27 +130,27 @@ static void
 take_message(const uint8 *bytes, Size length)
 {
 	int			status = header_status(bytes, length);
-	Size		header = status == WARM_OK ? header_length(bytes) : 0;
 	uint64		time;
 
 	if (status == WARM_OK && bytes[1] == WS_MESSAGE_DIRECTORY)
 	{
-		status = ws_directory_decode(bytes + header, length - header);
+		status = ws_directory_decode(bytes + WS_HEADER, length - WS_HEADER);
 		if (status == WS_OTHER_DIRECTORY)
 		{
 			ws_history_reset("another primary gave the numbers of devices");
-			(void) ws_directory_decode(bytes + header, length - header);
+			(void) ws_directory_decode(bytes + WS_HEADER, length - WS_HEADER);
 		}
 	}
-	else if (status == WARM_OK && ws_history_receive(bytes + header, length - header) == WARM_OK)
+	else if (status == WARM_OK &&
+			 ws_history_receive(bytes + WS_HEADER, length - WS_HEADER) == WARM_OK)
 	{
 		time = ws_get(bytes + 2, 8);
 		ws_latest = Max(ws_latest, time);
 		ws_last_frame = Max(ws_last_frame, (TimestampTz) time);
-		ws_stats.primary_known = header == WS_HEADER ? ws_get(bytes + WS_HEADER_1, 8) : -1;
 		ws_stats.frames_received++;
 	}
-	(void) ws_note(status, "a message of its primary");
+	if (status != WARM_OK)
+		ws_refused[status]++;
 }
 
 /* Hands on the message of a record, where it is one of ours. */
@@ -202,31 +170,12 @@ look_at_record(void)
 	take_message((const uint8 *) message->message + sizeof WS_NAME, message->message_size);
 }
 
-/* Warns that WAL is skipped up to end, for what the reader says; it says nothing of a file that is gone. */
-static void
-log_skipped(XLogRecPtr end, const char *why)
-{
-	char		path[MAXPGPATH];
-
-	if (!ws_may_log(WS_FAULT_WAL))
-		return;
-	XLogFilePath(path, segment_timeline, segment_number, wal_segment_size);
-	/* A crash or a promotion is followed by a checkpoint, after which WAL is recycled. */
-	ereport(XLogRecPtrIsInvalid(own_end) ? WARNING : LOG,
-			(errcode(why != NULL ? ERRCODE_DATA_CORRUPTED : ERRCODE_UNDEFINED_FILE),
-			 errmsg("warm_standby skipped WAL from %X/%X to %X/%X, last of file \"%s\": %s",
-					LSN_FORMAT_ARGS(position), LSN_FORMAT_ARGS(end), path,
-					why != NULL ? why : "it is gone"),
-			 errdetail("What was published in it is known once it is published or referenced again.")));
-}
-
-/* Reads the WAL that there is; true where it is more than a turn of it. */
+/* Reads what was replayed; true where there is more than a turn of it. */
 bool
 ws_receive(void)
 {
 	XLogRecPtr	begun = position;
-	TimeLineID	timeline;
-	XLogRecPtr	end = wal_end(&timeline);
+	XLogRecPtr	end = GetXLogReplayRecPtr(NULL);
 	MemoryContext old = MemoryContextSwitchTo(reader_context);	/* its buffers grow */
 
 	while (position < end && position - begun < BYTES_A_TURN)
@@ -236,7 +185,9 @@ ws_receive(void)
 		CHECK_FOR_INTERRUPTS();
 		if (XLogReadRecord(reader, &message) == NULL)
 		{
-			log_skipped(end, message);
+			ereport(DEBUG1, (errmsg_internal("warm_standby skips WAL from %X/%X to %X/%X: %s",
+											 LSN_FORMAT_ARGS(position), LSN_FORMAT_ARGS(end),
+											 message != NULL ? message : "it is gone")));
 			ws_stats.wal_skipped += end - position;
 			ws_stats.wal_read -= end - position;
 			position = end;

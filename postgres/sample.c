@@ -4,9 +4,9 @@
  *
  * A page is referenced at the time of a sample where it came in since the sample
  * before, or its usage count rose: at most once a sample, which is LRU-2's
- * correlated reference period.  A count at its greatest cannot rise: a page that has it
- * is taken as referenced once a minute, so that the horizon does not forget it, and no
- * sooner: a page that rows were only inserted into has it at once.
+ * correlated reference period.  A count at its greatest cannot rise: where it stays,
+ * the page is taken as referenced at the next sample, so that it has two
+ * references, and then once a minute, so that the horizon does not forget it.
  */
 #include "postgres.h"
 
@@ -82,11 +82,11 @@ sample_buffer(int i, uint64 time, bool saturated)
 	{
 		mark = hash_bytes_extended((const unsigned char *) &tag, sizeof tag, 0);
 		mark = (mark & ~SEEN_NONE) | BUF_STATE_GET_USAGECOUNT(state);
-		/* While a primary loads pages, one that comes in is not referenced. */
-		is_new = !ws_warming &&
-			((before ^ mark) > SEEN_NONE || (before & SEEN_NONE) == SEEN_NONE);
-		is_hotter = ((before ^ mark) <= SEEN_NONE && mark > before) ||
-			(saturated && BUF_STATE_GET_USAGECOUNT(state) == BM_MAX_USAGE_COUNT);
+		if (BUF_STATE_GET_USAGECOUNT(state) == BM_MAX_USAGE_COUNT && before - mark <= 1)
+			mark++;				/* for the second time at least */
+		is_new = (before ^ mark) > SEEN_NONE || (before & SEEN_NONE) == SEEN_NONE;
+		is_hotter = mark > before ||
+			(saturated && (mark & SEEN_NONE) >= BM_MAX_USAGE_COUNT);
 		if (!is_first && (is_new || is_hotter) && ws_page_of(&tag, true, &page))
 			ws_reference(page, time);
 	}

@@ -11,15 +11,13 @@
 #include "warm_standby.h"
 
 #define STATS			(sizeof(WsStats) / sizeof(int64))
-#define OWN_COLUMNS		6
-#define STATUS_COLUMNS	(OWN_COLUMNS + STATS)
+#define STATUS_COLUMNS	(4 + STATS)
 #define LIST_COLUMNS	6
 #define LIST_WAITS		100		/* of 100 ms */
 
 PG_FUNCTION_INFO_V1(warm_standby_status);
 PG_FUNCTION_INFO_V1(warm_standby_refused);
 PG_FUNCTION_INFO_V1(warm_standby_hottest);
-PG_FUNCTION_INFO_V1(warm_standby_reset);
 
 static void
 need_shared(void)
@@ -30,37 +28,19 @@ need_shared(void)
 				 errmsg("warm_standby must be loaded via shared_preload_libraries")));
 }
 
-/* Of a count: whether it says something only where pages are loaded. */
-static bool
-is_of_loading(int count)
-{
-	static const Size those[] = {offsetof(WsStats, wanted), offsetof(WsStats, resident),
-	offsetof(WsStats, unloadable), offsetof(WsStats, primary_known)};
-
-	for (int i = 0; i < lengthof(those); i++)
-		if (count * sizeof(int64) == those[i])
-			return true;
-	return false;
-}
-
-/*
- * The row of pg_stat_warm_standby: six columns, then the counts in their order.  The
- * extension of another version may have fewer columns, or more, which are null then:
- * new ones come last, so the library may be newer than the extension, and older.
- */
+/* The row of pg_stat_warm_standby: four columns, then the counts in their order. */
 Datum
 warm_standby_status(PG_FUNCTION_ARGS)
 {
 	TupleDesc	desc;
-	Datum		values[MaxTupleAttributeNumber];
-	bool		nulls[MaxTupleAttributeNumber];
+	Datum		values[STATUS_COLUMNS];
+	bool		nulls[STATUS_COLUMNS] = {false};
 	int64		counts[STATS];
 	int64		refused = 0, loaders = 0;
-	TimestampTz times[3];
-	bool		runs, is_standby, loads;
 
 	need_shared();
-	if (get_call_result_type(fcinfo, NULL, &desc) != TYPEFUNC_COMPOSITE)
+	if (get_call_result_type(fcinfo, NULL, &desc) != TYPEFUNC_COMPOSITE ||
+		desc->natts != STATUS_COLUMNS)
 		elog(ERROR, "return type must be a row type");
 	LWLockAcquire(ws_shared->lock, LW_SHARED);
 	memcpy(counts, &ws_shared->stats, sizeof(WsStats));
@@ -68,30 +48,15 @@ warm_standby_status(PG_FUNCTION_ARGS)
 		refused += ws_shared->refused[i];
 	for (int i = 0; i < ws_shared->loader_count; i++)
 		loaders += ws_shared->loaders[i].latch != NULL;
-	runs = ws_shared->latch != NULL;
-	is_standby = ws_shared->is_standby && runs && ws_enabled;
-	loads = is_standby || (ws_shared->is_warming && runs && ws_enabled);
-	times[0] = ws_shared->last_frame;
-	times[1] = loads ? ws_shared->last_round : 0;
-	times[2] = ws_shared->stats_reset;
+	values[0] = CStringGetTextDatum(ws_shared->latch == NULL ? "none" :
+									ws_shared->is_standby ? "standby" : "primary");
+	values[1] = TimestampTzGetDatum(ws_shared->last_frame);
+	nulls[1] = ws_shared->last_frame == 0;
 	LWLockRelease(ws_shared->lock);
-
-	memset(nulls, true, sizeof nulls);
-	values[0] = CStringGetTextDatum(!runs ? "none" : !ws_enabled ? "disabled" :
-									is_standby ? "standby" : "primary");
-	values[1] = Int64GetDatum(refused);
-	values[2] = Int32GetDatum(loaders);
-	nulls[0] = nulls[1] = nulls[2] = false;
-	for (int i = 0; i < lengthof(times); i++)
-	{
-		values[3 + i] = TimestampTzGetDatum(times[i]);
-		nulls[3 + i] = times[i] == 0;
-	}
+	values[2] = Int64GetDatum(refused);
+	values[3] = Int32GetDatum(loaders);
 	for (int i = 0; i < STATS; i++)
-	{
-		values[OWN_COLUMNS + i] = Int64GetDatum(counts[i]);
-		nulls[OWN_COLUMNS + i] = is_of_loading(i) && (!loads || counts[i] < 0);
-	}
+		values[4 + i] = Int64GetDatum(counts[i]);
 	PG_RETURN_DATUM(HeapTupleGetDatum(heap_form_tuple(BlessTupleDesc(desc), values, nulls)));
 }
 
@@ -178,17 +143,4 @@ warm_standby_hottest(PG_FUNCTION_ARGS)
 		tuplestore_putvalues(result->setResult, result->setDesc, values, nulls);
 	}
 	return (Datum) 0;
-}
-
-/* Lets the worker begin a new history, soon. */
-Datum
-warm_standby_reset(PG_FUNCTION_ARGS)
-{
-	need_shared();
-	LWLockAcquire(ws_shared->lock, LW_EXCLUSIVE);
-	ws_shared->reset_wanted = true;
-	if (ws_shared->latch != NULL)
-		SetLatch(ws_shared->latch);
-	LWLockRelease(ws_shared->lock);
-	PG_RETURN_VOID();
 }

@@ -7,14 +7,13 @@
 SET LOCAL search_path TO pg_catalog, pg_temp;
 
 CREATE FUNCTION @extschema@.warm_standby_status(
-    OUT role text, OUT refused bigint, OUT loaders integer, OUT last_frame timestamptz,
-    OUT last_round timestamptz, OUT stats_reset timestamptz, OUT known bigint, OUT devices bigint, OUT wanted bigint,
+    OUT role text, OUT last_frame timestamptz, OUT refused bigint,
+    OUT loaders integer, OUT known bigint, OUT devices bigint, OUT wanted bigint,
     OUT resident bigint, OUT unloadable bigint, OUT frames_received bigint, OUT wal_read bigint,
     OUT wal_skipped bigint, OUT pages_touched bigint, OUT rounds bigint, OUT round_us bigint,
     OUT samples bigint, OUT sample_us bigint, OUT page_references bigint, OUT frames_sent bigint,
     OUT bytes_sent bigint, OUT saves bigint, OUT save_failures bigint, OUT resets bigint,
-    OUT pages_read bigint, OUT read_us bigint, OUT pages_prefetched bigint, OUT pages_failed bigint,
-    OUT primary_known bigint, OUT rankings bigint)
+    OUT pages_read bigint, OUT read_us bigint, OUT pages_prefetched bigint, OUT pages_failed bigint)
 RETURNS record
 AS 'MODULE_PATHNAME'
 LANGUAGE C STRICT VOLATILE PARALLEL RESTRICTED;
@@ -32,22 +31,16 @@ RETURNS SETOF record
 AS 'MODULE_PATHNAME'
 LANGUAGE C STRICT VOLATILE PARALLEL RESTRICTED;
 
-CREATE FUNCTION @extschema@.warm_standby_reset()
-RETURNS void
-AS 'MODULE_PATHNAME'
-LANGUAGE C STRICT VOLATILE PARALLEL UNSAFE;
-
 CREATE VIEW @extschema@.pg_stat_warm_standby AS
-    SELECT role, known, primary_known, wanted, resident,
+    SELECT role, known, wanted, resident,
            round(100.0 * resident / nullif(wanted, 0), 1) AS percent_warm,
-           clock_timestamp() - last_frame AS last_frame_age,
-           clock_timestamp() - last_round AS last_round_age, frames_received, refused,
+           clock_timestamp() - last_frame AS last_frame_age, frames_received, refused,
            (SELECT jsonb_object_agg(r.name, r.frames) FROM @extschema@.warm_standby_refused() r)
                AS refused_by_name,
            unloadable, loaders, pages_read, round(read_us / 1000.0, 3) AS read_ms, pages_failed,
-           pages_prefetched, pages_touched, rounds, rankings, round(round_us / 1000.0, 3) AS round_ms,
+           pages_prefetched, pages_touched, rounds, round(round_us / 1000.0, 3) AS round_ms,
            samples, round(sample_us / 1000.0, 3) AS sample_ms, page_references, frames_sent,
-           bytes_sent, wal_read, wal_skipped, devices, saves, save_failures, resets, stats_reset
+           bytes_sent, wal_read, wal_skipped, devices, saves, save_failures, resets
     FROM @extschema@.warm_standby_status();
 
 -- The relations of this database among the hottest pages, at most 16,384.
@@ -70,7 +63,6 @@ $$ LANGUAGE SQL STRICT VOLATILE SET search_path = pg_catalog, pg_temp;
 REVOKE ALL ON FUNCTION @extschema@.warm_standby_status() FROM PUBLIC;
 REVOKE ALL ON FUNCTION @extschema@.warm_standby_refused() FROM PUBLIC;
 REVOKE ALL ON FUNCTION @extschema@.warm_standby_hottest(integer) FROM PUBLIC;
-REVOKE ALL ON FUNCTION @extschema@.warm_standby_reset() FROM PUBLIC;
 REVOKE ALL ON FUNCTION @extschema@.warm_standby_hot_relations(integer) FROM PUBLIC;
 GRANT EXECUTE ON FUNCTION @extschema@.warm_standby_status() TO pg_monitor;
 GRANT EXECUTE ON FUNCTION @extschema@.warm_standby_refused() TO pg_monitor;

@@ -8,11 +8,9 @@
 #include "miscadmin.h"
 #include "pgstat.h"
 #include "postmaster/interrupt.h"
-#include "storage/fd.h"
 #include "storage/ipc.h"
 #include "utils/guc.h"
 #include "utils/memutils.h"
-#include "utils/pidfile.h"
 #include "warm_standby.h"
 
 PG_MODULE_MAGIC;
@@ -22,8 +20,6 @@ PGDLLEXPORT void warm_standby_main(Datum main_arg);
 
 #define RESTART_SECONDS 5
 #define SAVE_AGAIN_MS	10000
-#define PUBLISH_AGAIN_MS 100	/* where more waits */
-#define LOG_AGAIN_US	(300 * US_PER_S)
 
 /* A sample, a publication, a round, a save: each rests nine times as long as it took. */
 #define SHARE			9
@@ -31,8 +27,7 @@ PGDLLEXPORT void warm_standby_main(Datum main_arg);
 WsShared   *ws_shared = NULL;
 WsStats		ws_stats;
 int64		ws_refused[WS_STATUSES];
-TimestampTz ws_last_frame = 0, ws_last_round = 0;
-bool		ws_warming = false;
+TimestampTz ws_last_frame = 0;
 
 bool		ws_enabled;
 bool		ws_load;
@@ -40,8 +35,7 @@ double		ws_fraction;
 int			ws_max_loaders;
 int			ws_sample_interval, ws_publish_interval, ws_full_interval, ws_publish_rate;
 int			ws_history_age, ws_history_pages;
-int			ws_load_interval, ws_load_rate, ws_load_after_start, ws_prefetch_pages,
-			ws_clock_tolerance;
+int			ws_load_interval, ws_load_rate, ws_prefetch_pages, ws_clock_tolerance;
 
 static shmem_request_hook_type prev_shmem_request_hook = NULL;
 static shmem_startup_hook_type prev_shmem_startup_hook = NULL;
@@ -66,17 +60,13 @@ static const IntSetting int_settings[] = {
 	"Sets how much WAL is written for publications each second."},
 	{&ws_history_age, "warm_standby.history_age", 1440, 0, PG_INT32_MAX / 60, GUC_UNIT_MIN,
 	"Sets after which time without a reference a page is forgotten.", "0 means never."},
-	{&ws_history_pages, "warm_standby.history_pages", 0, 0, PG_INT32_MAX / 2, GUC_UNIT_BLOCKS,
+	{&ws_history_pages, "warm_standby.history_pages", 0, 0, PG_INT32_MAX / 2, 0,
 		"Sets how many pages are known at most.",
-		"0 means four times shared_buffers on a primary, 10 million at most, and on a standby "
-	"what its primary knows."},
+	"0 means four times shared_buffers on a primary, and on a standby what its primary knows."},
 	{&ws_load_interval, "warm_standby.load_interval", 1000, 10, 3600 * 1000, GUC_UNIT_MS,
 	"Sets the time between two rounds of loading."},
-	{&ws_load_rate, "warm_standby.load_rate", -1, -1, PG_INT32_MAX / 2, GUC_UNIT_BLOCKS,
-		"Sets how many pages a standby reads each second at most.",
-	"-1 means a hundredth of shared_buffers, and 2000 pages at least."},
-	{&ws_load_after_start, "warm_standby.load_after_start", 300, 0, 86400, GUC_UNIT_S,
-	"Sets for how long a primary that starts loads the pages that it knew."},
+	{&ws_load_rate, "warm_standby.load_rate", 2000, 0, 1000000, 0,
+	"Sets how many pages a standby reads each second at most."},
 	{&ws_prefetch_pages, "warm_standby.prefetch_pages", 0, 0, PG_INT32_MAX / 2, GUC_UNIT_BLOCKS,
 	"Sets how many further pages are read into the operating system's cache."},
 	{&ws_clock_tolerance, "warm_standby.clock_tolerance", 600, 1, 7 * 86400, GUC_UNIT_S,
@@ -92,7 +82,7 @@ define_settings(void)
 							 &ws_load, true, PGC_SIGHUP, 0, NULL, NULL, NULL);
 	DefineCustomRealVariable("warm_standby.fraction",
 							 "Sets the share of shared_buffers that a standby keeps warm.", NULL,
-							 &ws_fraction, 0.5, 0.0, 1.0, PGC_SIGHUP, 0, NULL, NULL, NULL);
+							 &ws_fraction, 0.8, 0.0, 1.0, PGC_SIGHUP, 0, NULL, NULL, NULL);
 	DefineCustomIntVariable("warm_standby.max_loaders",
 							"Sets how many databases are loaded at the same time.",
 							"Each loader is one of max_worker_processes.",
@@ -115,7 +105,7 @@ shared_size(void)
 }
 
 static void
-request_shared(void)
+shmem_request(void)
 {
 	if (prev_shmem_request_hook)
 		prev_shmem_request_hook();
@@ -124,7 +114,7 @@ request_shared(void)
 }
 
 static void
-start_shared(void)
+shmem_startup(void)
 {
 	bool		found;
 
@@ -179,9 +169,9 @@ _PG_init(void)
 		return;
 	define_settings();
 	prev_shmem_request_hook = shmem_request_hook;
-	shmem_request_hook = request_shared;
+	shmem_request_hook = shmem_request;
 	prev_shmem_startup_hook = shmem_startup_hook;
-	shmem_startup_hook = start_shared;
+	shmem_startup_hook = shmem_startup;
 
 	ws_describe_worker(&worker, "warm_standby_main", WS_NAME);
 	worker.bgw_restart_time = RESTART_SECONDS;
@@ -191,7 +181,6 @@ _PG_init(void)
 static bool is_standby;
 static XLogRecPtr saved_redo;	/* of the checkpoint at which the history was saved last */
 static uint64 sample_at, publish_at, round_at, save_at; /* when they are due */
-static uint64 warming_until;
 
 /* Microseconds of a clock that nobody sets: what the worker waits by. */
 uint64
@@ -201,21 +190,6 @@ ws_us(void)
 
 	INSTR_TIME_SET_CURRENT(now);
 	return INSTR_TIME_GET_MICROSEC(now);
-}
-
-/* Whether a fault is to be logged now: each at most once in five minutes, by whichever process. */
-bool
-ws_may_log(int fault)
-{
-	uint64		now = ws_us();
-	bool		may;
-
-	LWLockAcquire(ws_shared->lock, LW_EXCLUSIVE);
-	may = ws_shared->logged_at[fault] == 0 || now - ws_shared->logged_at[fault] >= LOG_AGAIN_US;
-	if (may)
-		ws_shared->logged_at[fault] = now;
-	LWLockRelease(ws_shared->lock);
-	return may;
 }
 
 /* When work that began then is to be done again: after its rest at least. */
@@ -228,7 +202,7 @@ next_time(uint64 begun, int interval)
 }
 
 static void
-release_worker(int code, Datum arg)
+leave(int code, Datum arg)
 {
 	LWLockReleaseAll();			/* an error may have come below ours */
 	LWLockAcquire(ws_shared->lock, LW_EXCLUSIVE);
@@ -240,9 +214,8 @@ static void
 begin_role(void)
 {
 	is_standby = RecoveryInProgress();
-	ws_stats.primary_known = -1;
 	if (is_standby)
-		ws_receive_start(GetRedoRecPtr(), true);	/* a restartpoint, whose WAL is kept */
+		ws_receive_start();
 	else
 	{
 		ws_sample_reset();
@@ -251,85 +224,18 @@ begin_role(void)
 	}
 }
 
-/* Reads all the WAL that is left, so that no number of a device is given twice. */
-static void
-receive_rest(void)
-{
-	while (ws_enabled && !ShutdownRequestPending && ws_receive())
-		;
-	if (!ShutdownRequestPending)
-		ws_receive_stop();
-}
-
-/* Up to where the history has what WAL says: all of it, where a primary goes on. */
-static XLogRecPtr
-known_position(void)
-{
-	XLogRecPtr	read = ws_receive_position();
-
-	return !XLogRecPtrIsInvalid(read) ? read :
-		ShutdownRequestPending ? GetXLogInsertRecPtr() : GetRedoRecPtr();
-}
-
-/* Loaders of a primary run as long as it says that it is warming. */
-static void
-set_warming(bool warming)
-{
-	ws_warming = warming;
-	LWLockAcquire(ws_shared->lock, LW_EXCLUSIVE);
-	ws_shared->is_warming = warming;
-	LWLockRelease(ws_shared->lock);
-}
-
-/*
- * A primary that started has few pages in its buffers: it loads those that it knew,
- * until there is no free buffer.  Pages that clients brought are not driven out.
- */
-static void
-warm_primary(void)
-{
-	uint64		now = ws_us();
-
-	if (now < warming_until && ws_load && have_free_buffer())
-	{
-		if (now < round_at)
-			return;
-		ws_round();
-		round_at = next_time(now, ws_load_interval);
-		if (ws_stats.resident < ws_stats.wanted)
-			return;
-	}
-	set_warming(false);
-	if (ws_stats.wanted > 0)
-		ereport(LOG, (errmsg("warm_standby has warmed a primary: " INT64_FORMAT " of " INT64_FORMAT
-							 " wanted pages are resident", ws_stats.resident,
-							 ws_stats.wanted)));
-	ws_rank_reset();			/* the loaders end by themselves */
-	ws_stats.wanted = ws_stats.resident = ws_stats.unloadable = 0;
-}
-
 /* Begins, with what was saved. */
 static void
-start_worker(void)
+start(void)
 {
 	LWLockAcquire(ws_shared->lock, LW_EXCLUSIVE);
 	ws_shared->latch = MyLatch;
 	ws_shared->is_standby = RecoveryInProgress();
 	ws_shared->epoch++;
-	ws_shared->stats_reset = GetCurrentTimestamp();
 	LWLockRelease(ws_shared->lock);
 	ws_history_start();
 	ws_rank_reset();
-	if (!RecoveryInProgress())
-	{
-		/* What was published since the save, by this server, or before its promotion. */
-		ws_receive_start(XLogRecPtrIsInvalid(ws_saved_position) ? GetRedoRecPtr() :
-						 ws_saved_position, false);
-		receive_rest();
-	}
 	begin_role();
-	warming_until = ws_us() + ws_load_after_start * US_PER_S;
-	set_warming(!is_standby && ws_load_after_start > 0);
 	saved_redo = GetRedoRecPtr();
 	ereport(LOG, (errmsg("warm_standby started on a %s, with " INT64_FORMAT " pages known",
 						 is_standby ? "standby" : "primary", ws_stats.known)));
@@ -337,12 +243,14 @@ start_worker(void)
 
 /* The standby was promoted: the worker goes on as the sampler. */
 static void
-become_primary(void)
+promote(void)
 {
 	ereport(LOG, (errmsg("warm_standby was promoted: " INT64_FORMAT " pages known, " INT64_FORMAT
 						 " of " INT64_FORMAT " wanted pages resident", ws_stats.known,
 						 ws_stats.resident, ws_stats.wanted)));
-	receive_rest();
+	while (ws_enabled && !ShutdownRequestPending && ws_receive())
+		;						/* what was replayed last, so that no number is given twice */
+	ws_receive_stop();
 	ws_rank_reset();			/* the loaders end by themselves */
 	begin_role();
 }
@@ -363,14 +271,11 @@ primary_turn(void)
 	now = ws_us();
 	if (now >= publish_at)
 	{
-		int			interval = ws_publish() ? Min(PUBLISH_AGAIN_MS, ws_publish_interval) :
-			ws_publish_interval;
-
-		publish_at = next_time(now, interval);
+		if (XLogIsNeeded())		/* else no standby reads it */
+			ws_publish();
+		publish_at = next_time(now, ws_publish_interval);
 	}
-	if (ws_warming)
-		warm_primary();
-	return Min(Min(sample_at, publish_at), ws_warming ? round_at : publish_at);
+	return Min(sample_at, publish_at);
 }
 
 static uint64
@@ -390,14 +295,14 @@ standby_turn(void)
 
 /* One turn; returns for how many milliseconds the worker may sleep, a second at most. */
 static long
-take_turn(void)
+turn(void)
 {
 	uint64		next = ws_us() + US_PER_S;
 	uint64		now;
-	bool		list_wanted, reset_wanted;
+	bool		list_wanted;
 
 	if (is_standby && !RecoveryInProgress())
-		become_primary();
+		promote();
 	if (ws_enabled)
 		next = Min(next, is_standby ? standby_turn() : primary_turn());
 	else if (!is_standby)
@@ -406,42 +311,20 @@ take_turn(void)
 	if (GetRedoRecPtr() != saved_redo && now >= save_at)
 	{
 		saved_redo = GetRedoRecPtr();	/* a checkpoint, or a restartpoint */
-		ws_history_save(known_position());
+		ws_history_save();
 		save_at = next_time(now, SAVE_AGAIN_MS);
 	}
 	LWLockAcquire(ws_shared->lock, LW_EXCLUSIVE);
 	ws_shared->is_standby = is_standby;
 	ws_shared->last_frame = ws_last_frame;
-	ws_shared->last_round = ws_last_round;
 	ws_shared->stats = ws_stats;
 	memcpy(ws_shared->refused, ws_refused, sizeof ws_refused);
 	list_wanted = ws_shared->list_wanted;
-	reset_wanted = ws_shared->reset_wanted;
-	ws_shared->reset_wanted = false;
 	LWLockRelease(ws_shared->lock);
-	if (reset_wanted)
-		ws_history_reset("warm_standby_reset was called");
 	if (list_wanted)
 		ws_make_list();
 	now = ws_us();
 	return now < next ? (long) ((next - now) / 1000 + 1) : 0;
-}
-
-/* Whether the whole server stops, as its lock file says, and not this worker alone. */
-static bool
-is_server_stopping(void)
-{
-	FILE	   *file = AllocateFile("postmaster.pid", "r");
-	char		line[MAXPGPATH] = "";
-	int			number = 0;
-
-	if (file == NULL)
-		return false;
-	while (number < LOCK_FILE_LINE_PM_STATUS && fgets(line, sizeof line, file) != NULL)
-		number++;
-	FreeFile(file);
-	return number == LOCK_FILE_LINE_PM_STATUS &&
-		strncmp(line, PM_STATUS_STOPPING, strlen(PM_STATUS_STOPPING)) == 0;
 }
 
 /*
@@ -459,17 +342,16 @@ warm_standby_main(Datum main_arg)
 	pqsignal(SIGINT, SIG_IGN);	/* a cancel would cost what was learned since the last save */
 	BackgroundWorkerUnblockSignals();
 	BackgroundWorkerInitializeConnection(NULL, NULL, 0);
-	before_shmem_exit(release_worker, (Datum) 0);
+	before_shmem_exit(leave, (Datum) 0);
 	context = AllocSetContextCreate(TopMemoryContext, WS_NAME, ALLOCSET_DEFAULT_SIZES);
 	MemoryContextSwitchTo(context);
-	start_worker();
+	start();
 	while (!ShutdownRequestPending)
 	{
-		if (ws_wait(take_turn()))
+		if (ws_wait(turn()))
 			sample_at = publish_at = round_at = 0;	/* the intervals may be others */
 		MemoryContextReset(context);
 	}
-	ws_history_save(known_position());
-	/* With 1 it starts again, and the log has a line. */
-	proc_exit(is_server_stopping() ? 0 : 1);
+	ws_history_save();
+	proc_exit(1);				/* so that it starts again, where the server goes on */
 }

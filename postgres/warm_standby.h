@@ -28,19 +28,10 @@
 #define WS_OTHER_DIRECTORY 103	/* a number that was given twice */
 #define WS_LATE_MESSAGE 104		/* written later than our clock allows */
 
-/* Faults that are logged, each at most once in five minutes: the statuses, and these. */
-#define WS_FAULT_WAL	(WS_STATUSES + 0)	/* WAL was skipped */
-#define WS_FAULT_READ	(WS_STATUSES + 1)	/* a loader could not read a page */
-#define WS_FAULT_WORKERS (WS_STATUSES + 2)	/* a loader has no worker process */
-#define WS_FAULT_DEVICES (WS_STATUSES + 3)	/* there are no numbers for further devices */
-#define WS_FAULT_WARM	(WS_STATUSES + 4)	/* no fault: the standby is warm */
-#define WS_FAULTS		(WS_STATUSES + 5)
-
 /* Pages handed to a loader at a time, and pages that SQL can list. */
 #define WS_BATCH		4096
 #define WS_LISTED		16384
 #define WS_BUCKETS		64		/* of a history, by which it is sent */
-#define WS_MOST_DEVICES 65536	/* a page of the history has 16 bits for them */
 #define WS_MOST_LOADERS 64		/* that warm_standby.max_loaders can ask for */
 
 /* A device of the history: files of one tablespace, database and fork. */
@@ -121,8 +112,6 @@ typedef struct WsStats
 	int64		read_us;
 	int64		pages_prefetched;
 	int64		pages_failed;
-	int64		primary_known;	/* pages of the primary's history; -1: it did not say */
-	int64		rankings;		/* rounds for which the history was ranked again */
 } WsStats;
 
 /* lock guards all of it, but the batch of a slot that its state gives to one process. */
@@ -132,14 +121,9 @@ typedef struct WsShared
 	Latch	   *latch;			/* of the worker, NULL while there is none */
 	uint64		epoch;			/* counts the starts of the worker */
 	bool		is_standby;
-	bool		is_warming;		/* a primary that started loads what it knew */
 	TimestampTz last_frame;		/* when the newest frame was written */
-	TimestampTz last_round;		/* when the last round of loading ended */
-	TimestampTz stats_reset;	/* since when is counted */
 	WsStats		stats;
 	int64		refused[WS_STATUSES];
-	uint64		logged_at[WS_FAULTS];	/* by ws_us; 0: never */
-	bool		reset_wanted;
 	bool		list_wanted;
 	uint64		list_made;		/* counts the lists */
 	uint32		list_count;
@@ -154,8 +138,7 @@ extern WsShared *ws_shared;
 /* The worker's own, copied once a turn. */
 extern WsStats ws_stats;
 extern int64 ws_refused[WS_STATUSES];
-extern TimestampTz ws_last_frame, ws_last_round;
-extern bool ws_warming;
+extern TimestampTz ws_last_frame;
 
 /* Settings, in the units that their names have in warm_standby.c. */
 extern bool ws_enabled;
@@ -164,8 +147,7 @@ extern double ws_fraction;
 extern int	ws_max_loaders;
 extern int	ws_sample_interval, ws_publish_interval, ws_full_interval, ws_publish_rate;
 extern int	ws_history_age, ws_history_pages;
-extern int	ws_load_interval, ws_load_rate, ws_load_after_start, ws_prefetch_pages,
-			ws_clock_tolerance;
+extern int	ws_load_interval, ws_load_rate, ws_prefetch_pages, ws_clock_tolerance;
 
 /* directory.c */
 extern void ws_directory_reset(void);
@@ -176,7 +158,6 @@ extern uint8 *ws_directory_encode(int *next, int end, int most, uint8 *to);
 extern int	ws_directory_decode(const uint8 *bytes, Size length);
 /* history.c */
 extern const char *ws_status_name(int status);
-extern int	ws_note(int status, const char *what);
 extern void ws_history_reset(const char *why);
 extern uint64 ws_clock(void);
 extern uint64 ws_latest;
@@ -188,8 +169,7 @@ extern bool ws_history_piece(uint8 bucket, uint64 since, bool has_after, warm_pa
 extern Size ws_history_list(warm_page *pages, Size room);
 extern void ws_history_bound(void);
 extern bool ws_directory_save(void);
-extern void ws_history_save(XLogRecPtr position);
-extern XLogRecPtr ws_saved_position;
+extern void ws_history_save(void);
 extern void ws_history_start(void);
 extern uint64 ws_changed_buckets;
 /* sample.c */
@@ -198,10 +178,9 @@ extern bool ws_sample(void);
 extern bool ws_look(int buffer, BufferTag *tag, uint32 *state);
 /* publish.c */
 extern void ws_publish_reset(void);
-extern bool ws_publish(void);
+extern void ws_publish(void);
 /* receive.c */
-extern void ws_receive_start(XLogRecPtr from, bool is_standby);
-extern XLogRecPtr ws_receive_position(void);
+extern void ws_receive_start(void);
 extern bool ws_receive(void);
 extern void ws_receive_stop(void);
 /* rank.c */
@@ -210,19 +189,14 @@ extern void ws_round(void);
 extern void ws_make_list(void);
 /* warm_standby.c */
 extern uint64 ws_us(void);
-extern bool ws_may_log(int fault);
 extern bool ws_wait(long milliseconds);
 extern void ws_describe_worker(BackgroundWorker *worker, const char *function, const char *name);
 
-/*
- * A message: a header of WS_HEADER bytes, and its content.  Standbys are upgraded
- * before their primary, so the version before this one is taken too.
- */
-#define WS_MESSAGE_VERSION 2
+/* A message: a header of WS_HEADER bytes, and its content. */
+#define WS_MESSAGE_VERSION 1
 #define WS_MESSAGE_FRAME 1
 #define WS_MESSAGE_DIRECTORY 2
-#define WS_HEADER		18		/* version, kind, time, pages that the primary knows */
-#define WS_HEADER_1		10		/* of version 1: the same without the pages */
+#define WS_HEADER		10		/* version, kind, time */
 #define WS_DEVICE_BYTES 11		/* number, tablespace, database, fork */
 #define WS_FRAME_ROOM	32768	/* a frame has at most 31,023 bytes */
 

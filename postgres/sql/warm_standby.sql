@@ -6,8 +6,6 @@ AND name NOT IN ('warm_standby.sample_interval', 'warm_standby.publish_interval'
                  'warm_standby.full_interval', 'warm_standby.load_interval',
                  'warm_standby.load_rate')
 ORDER BY name COLLATE "C";
-SELECT name, boot_val, unit FROM pg_settings
-WHERE name IN ('warm_standby.fraction', 'warm_standby.load_rate') ORDER BY name;
 SELECT count(*) AS settings, count(*) FILTER (WHERE context = 'sighup') AS by_sighup,
        count(*) FILTER (WHERE short_desc = '') AS without_description
 FROM pg_settings WHERE name LIKE 'warm\_standby.%';
@@ -40,25 +38,11 @@ SELECT count(*) FROM warm_standby_hottest(); -- error
 SET ROLE regress_warm_monitor;
 SELECT count(*) FROM pg_stat_warm_standby;
 SELECT count(*) > 0 AS some FROM warm_standby_hottest();
-SELECT warm_standby_reset(); -- error
 RESET ROLE;
 DROP ROLE regress_warm_nobody, regress_warm_monitor;
 -- what users write is no message of ours
 SELECT pg_logical_emit_message(false, 'warm_standby', 'forged') IS NOT NULL AS written;
 DROP TABLE warm;
--- the view of an extension of another version: fewer columns, or more, which are null
-CREATE FUNCTION older(OUT role text, OUT refused bigint) RETURNS record
-AS '$libdir/warm_standby', 'warm_standby_status' LANGUAGE C;
-SELECT * FROM older();
-DO $$
-BEGIN
-    EXECUTE format('CREATE FUNCTION newer(%s, OUT to_come bigint) RETURNS record
-        AS ''$libdir/warm_standby'', ''warm_standby_status'' LANGUAGE C',
-        pg_get_function_arguments('warm_standby_status'::regproc));
-END
-$$;
-SELECT role, samples > 0 AS samples, to_come FROM newer();
-DROP FUNCTION older, newer;
 DROP EXTENSION warm_standby;
 -- in a schema whose owner has operators of his own, which fit better
 CREATE SCHEMA regress_warm;
