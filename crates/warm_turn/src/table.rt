@@ -42,6 +42,10 @@ pub struct View<X, C, R> {
     pub serves: bool,
     /// The last number, `u64::MAX`, was found in the ticket word.
     pub found_last: bool,
+    /// This seat was split off a pass, and is to be a pass.
+    pub heir: bool,
+    /// Its parts of the right to close the turn.
+    pub parts: u128,
     /// The number of the pass, which no other pass of the turn has.
     pub number: u64,
     /// The ticket, where one was taken.

@@ -1,16 +1,16 @@
 //! The turn, its passes and notes.
 ghost use Rattle.std.specs.Prelude.{◌≡◌, ◌≢◌, ℕ, ◌<◌, [], ◌∷◌, Some};
-ghost use Rattle.std.specs.Prelude.{IfOk, IfErr, OnOk};
+ghost use Rattle.std.specs.Prelude.{IfOk, IfErr, IsOk, OnOk};
 ghost use Rattle.warm_turn.specs.declared.table.CellContents.{CellContents};
 ghost use Rattle.warm_turn.specs.CallHistories.{calls_by, first_pass, new_pass, note_of, marked};
 ghost use Rattle.warm_turn.specs.CallHistories.{IsPass, IsStep, IsLast, Called, Learned, Joined};
-ghost use Rattle.warm_turn.specs.CallHistories.{MadeVisit};
+ghost use Rattle.warm_turn.specs.CallHistories.{MadeVisit, all_parts, halved};
 ghost use Rattle.warm_turn.specs.Rule.{IsTicketTable, AreWords, MarkShows};
 ghost use Rattle.warm_turn.specs.Steps.{IsMade, Served, HasPassedOn};
 
 use crate::fault::{Busy, Memory, TurnsSpent};
 use crate::machine::Machine;
-use crate::plays::{Become, CatchUp, Come, End, GiveNote, Learn, PassOn};
+use crate::plays::{Become, CatchUp, Come, End, GiveNote, GivePass, Learn, PassOn};
 use crate::table::{BoxedMachine, CellContents, MachineCell, SharedTable, TicketTable, TurnSeat};
 use crate::visit::{Calling, Visit, Visited};
 use crate::waiting::{take_ticket, wait_turn};
@@ -234,16 +234,17 @@ impl<M: Machine> Turn<M> {
     }
 
     /// A new pass, which has seen what this one has. It has a number of its own, of which that list
-    /// has no entry, and no calls, and no pass was ended into it. This pass is unchanged.
+    /// has no entry, and no calls, and no pass was ended into it. It gets half of this pass's parts
+    /// of the right to close, and this pass keeps as many. It is unchanged otherwise.
     pub fn pass(&self, pass: &mut Pass<M>) -> Pass<M>
         requires { pass.old.table ≡ self.now.table }
-        ensures same { pass.new ≡ pass.old }
-        ensures table { result.table ≡ self.now.table }
-        ensures given { (n : ℕ) × (result.view ≡ new_pass pass.old.view n)
-            × (calls_by n pass.old.view.seen ≡ []) }
+        ensures table { (pass.new.table ≡ self.now.table) × (result.table ≡ self.now.table) }
+        ensures halved { pass.new.view ≡ halved pass.old.view }
+        ensures given { (n : ℕ) × (result.view ≡ new_pass pass.new.view n)
+            × (calls_by n pass.new.view.seen ≡ []) }
         ensures legal { IsPass M.goes result.view }
     {
-        let mut seat = self.table.shared.split_seat::<GiveNote>(&mut pass.seat);
+        let mut seat = self.table.shared.split_seat::<GivePass>(&mut pass.seat);
         self.table.shared.load::<Become>(&mut seat, 0);
         Pass { seat }
     }
@@ -366,6 +367,11 @@ impl<M: Machine> Turn<M> {
     /// state that the rule of the turn allows, in which a pass knows what this one does: the
     /// history has one call for each served ticket. The turn and the pass are consumed, and a
     /// machine in the slot is dropped.
+    ///
+    /// A pass that has all parts of the right to close is the only one: then no caller waits, and
+    /// the machine is given back. The first pass has all parts, [`Turn::pass`] gives half of them
+    /// away, and [`Turn::end`] takes those of the other. A part that cannot be halved is lost, after
+    /// which no pass has all.
     pub fn close(self, pass: Pass<M>) -> Result<M, Busy>
     where
         M: Drop,
@@ -374,6 +380,7 @@ impl<M: Machine> Turn<M> {
         ensures busy { IfErr result (λ b. b.serving < b.ticket) }
         ensures words { IfErr result (AreWords M.view M.goes self.opening pass.view) }
         ensures mark { IfErr result (MarkShows pass.view) }
+        ensures whole { pass.view.parts ≡ all_parts → IsOk result }
     {
         let Turn { table } = self;
         let Pass { seat } = pass;
