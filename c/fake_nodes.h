@@ -1,23 +1,25 @@
 /*
- * fake_nodes.h: the functions of nodes.h in a few lines of C each, for shards_test.c, which has no proved part. A fake node has frames, each
- * with one byte in place of a page, and in place of a history how many references it took in. It writes to no file: it tells sync_once.h what it
- * would have written, and asks it for syncs. Each call looks whether another call is in the node.
+ * fake_nodes.h: the functions of nodes.h in a few lines of C each, for tests, which have no proved part. A fake node has frames, each
+ * with one byte in place of a page, and in place of a history how many references it took in. It writes pages and asks for syncs as the
+ * proved part does in the end, by devices.h and sync_once.h, and reads no page. Each call looks whether another call is in the node.
  */
 #ifndef FAKE_NODES_H
 #define FAKE_NODES_H
 
+#include "devices.h"
 #include "nodes.h"
 #include "sync_once.h"
 
+#include <errno.h>
 #include <stdatomic.h>
 #include <stdlib.h>
 #include <string.h>
 
-enum { FAKE_DEVICES = 4, FAKE_FRAMES = 8, FAKE_PAGES = 512, FAKE_EMPTY = 23, FAKE_FULL = 44 };
+enum { FAKE_DEVICES = 4, FAKE_FRAMES = 32, FAKE_PAGES = 512, FAKE_EMPTY = 23, FAKE_FULL = 44 };
 
 typedef struct fake_frame {
     bool is_in, is_dirty;
-    warm_page page;
+    node_page page;
     uint64_t generation;
     unsigned pins;
     uint8_t byte;
@@ -26,9 +28,10 @@ typedef struct fake_frame {
 typedef struct fake {
     atomic_int inside; /* how many calls are in it */
     size_t frames, device_count, known;
-    warm_device devices[FAKE_DEVICES];
+    node_device devices[FAKE_DEVICES];
     bool waits[FAKE_DEVICES], has_failed[FAKE_DEVICES];
     uint64_t horizon, writes;
+    node_failure failed;
     fake_frame at[FAKE_FRAMES];
 } fake;
 
@@ -51,7 +54,7 @@ static bool fake_memory(void) {
     return block != NULL;
 }
 
-static uint32_t fake_shard_of(size_t shards, warm_page page) { return (uint32_t)((page.no + page.dev) % 64 % shards); }
+static uint32_t fake_shard_of(size_t shards, node_page page) { return (uint32_t)((page.no + page.dev) % 64 % shards); }
 
 int node_divide(size_t frames, size_t shards, size_t *each) {
     if (shards == 0 || shards > 64 || (shards & (shards - 1)) != 0) return WARM_BAD_SHARDS;
@@ -60,25 +63,25 @@ int node_divide(size_t frames, size_t shards, size_t *each) {
     return WARM_OK;
 }
 
-int node_open(node *of, uint16_t replica, size_t frames, size_t page_size, const warm_device *devices, size_t device_count) {
-    MUST(!of->is_open);
-    if (replica == 0 || replica > 64) return WARM_BAD_REPLICA;
-    if (device_count > FAKE_DEVICES) return WARM_NO_DEVICE;
-    if (frames == 0 || frames > FAKE_FRAMES) return WARM_BAD_FRAMES;
-    if (page_size == 0) return WARM_SIZE_DIFFERS;
+int node_open(node *of, uint16_t replica, size_t frames, size_t page_size, const node_device *devices, size_t device_count) {
+    MUST(!of->is_open && (remembered == 0 || remembered == device_count));
+    MUST(replica > 0 && replica <= 64 && page_size > 0 && frames > 0);
+    if (device_count > FAKE_DEVICES) return WARM_SAME_FILE; /* what a node alone knows */
+    if (frames > FAKE_FRAMES) return WARM_MEMORY;
     fake *made = malloc(sizeof(fake));
     if (made == NULL) return WARM_MEMORY;
     memset(made, 0, sizeof(fake));
     made->frames = frames;
     made->device_count = device_count;
-    memcpy(made->devices, devices, device_count * sizeof(warm_device));
+    memcpy(made->devices, devices, device_count * sizeof(node_device));
     *of = (node){.is_open = true, .at = made};
     return WARM_OK;
 }
 
 static bool fake_flush(fake *its, uint16_t dev) {
-    if (its->waits[dev] && (its->has_failed[dev] || sync_once(its->devices[dev].fd) != 0)) {
+    if (its->waits[dev] && (its->has_failed[dev] || sync_once(device_synced_as(its->devices[dev].number)) != 0)) {
         its->has_failed[dev] = true;
+        its->failed = (node_failure){.dev = dev, .what = WARM_FAILED_FLUSH, .error = errno};
         return false;
     }
     its->waits[dev] = false;
@@ -93,15 +96,27 @@ void node_close(node *of) {
     *of = (node){0};
 }
 
-static void fake_write(fake *its, fake_frame *frame) {
-    its->waits[frame->page.dev] = true;
+/* Whether a page cannot be written: where a test says so. */
+static bool (*is_stuck)(node_page page);
+static int32_t stuck_error = EIO;
+
+static bool fake_unwritten(fake *its, node_page page, int32_t error) {
+    its->failed = (node_failure){.no = page.no, .dev = page.dev, .what = WARM_FAILED_WRITE, .error = error};
+    return false;
+}
+
+static bool fake_write(fake *its, fake_frame *frame) {
+    node_page page = frame->page;
+    if (frame->is_in && is_stuck != NULL && is_stuck(page)) return fake_unwritten(its, page, stuck_error);
+    if (device_write(its->devices[page.dev].number, &frame->byte, 1, (off_t)page.no) != 1) return fake_unwritten(its, page, errno);
+    its->waits[page.dev] = true;
     its->writes++;
     frame->is_dirty = false;
-    sync_wrote(its->devices[frame->page.dev].fd);
+    return true;
 }
 
 /* The frame of a page, or else one for it: an empty one, or one that no page is pinned in. */
-static fake_frame *fake_frame_for(fake *its, warm_page page) {
+static fake_frame *fake_frame_for(fake *its, node_page page) {
     fake_frame *other = NULL;
     for (size_t at = 0; at < its->frames; at++) {
         fake_frame *frame = &its->at[at];
@@ -111,62 +126,85 @@ static fake_frame *fake_frame_for(fake *its, warm_page page) {
     return other;
 }
 
-static int fake_pin(fake *its, warm_page page, warm_slot *slot) {
+/* Whether no page can be read from now on: where a test says so. */
+static bool reads_fail;
+
+static int fake_unread(fake *its, node_page page) {
+    its->failed = (node_failure){.no = page.no, .dev = page.dev, .what = WARM_FAILED_READ, .error = EIO};
+    return WARM_READ_FAULT;
+}
+
+/* Where no byte is given, the page is read. */
+static int fake_pin(fake *its, node_page page, const uint8_t *given, node_slot *slot) {
     if (page.dev >= its->device_count) return WARM_NO_DEVICE;
-    if (page.no >= FAKE_PAGES) return page.no == FAKE_PAGES ? WARM_NO_PAGE : WARM_READ_FAULT;
+    if (page.no == FAKE_PAGES) return WARM_NO_PAGE;
+    if (given == NULL && page.no > FAKE_PAGES) return fake_unread(its, page);
     fake_frame *frame = fake_frame_for(its, page);
-    if (frame == NULL) return WARM_ALL_FIXED;
+    if (frame == NULL) return WARM_ALL_PINNED;
     if (!frame->is_in || frame->page.no != page.no || frame->page.dev != page.dev) {
-        if (frame->is_in && frame->is_dirty) fake_write(its, frame);
-        *frame = (fake_frame){.is_in = true, .page = page, .generation = frame->generation + 1};
+        if (given == NULL && reads_fail) return fake_unread(its, page);
+        if (frame->is_in && frame->is_dirty && !fake_write(its, frame)) return WARM_EVICT_FAULT;
+        uint8_t byte = given == NULL ? 0 : *given;
+        *frame = (fake_frame){.is_in = true, .page = page, .generation = frame->generation + 1, .byte = byte};
     }
     frame->pins++;
-    *slot = (warm_slot){.generation = frame->generation, .index = (uint32_t)(frame - its->at)};
+    *slot = (node_slot){.generation = frame->generation, .index = (uint32_t)(frame - its->at)};
     return WARM_OK;
 }
 
-static fake_frame *fake_pinned(fake *its, warm_slot slot) {
+static fake_frame *fake_pinned(fake *its, node_slot slot) {
     if (slot.index >= its->frames) return NULL;
     fake_frame *frame = &its->at[slot.index];
     return frame->pins > 0 && frame->generation == slot.generation ? frame : NULL;
 }
 
-int node_pin(node *of, warm_page page, warm_slot *slot) { return fake_out(of, fake_pin(fake_in(of), page, slot)); }
+/* Whether each page in a frame has as many pins as it can have: where a test says so. */
+static bool pins_are_full;
 
-int node_pin_zeroed(node *of, warm_page page, warm_slot *slot) { return node_pin(of, page, slot); }
+int node_pin(node *of, node_page page, node_slot *slot) {
+    fake *its = fake_in(of);
+    return fake_out(of, pins_are_full ? WARM_PINS_FULL : fake_pin(its, page, NULL, slot));
+}
 
-int node_lend(node *of, warm_slot slot, const uint8_t **bytes) {
+int node_pin_filled(node *of, node_page page, const uint8_t *bytes, size_t length, node_slot *slot) {
+    fake *its = fake_in(of);
+    return fake_out(of, length != 1 ? WARM_BAD_PAGE_SIZE : fake_pin(its, page, bytes, slot));
+}
+
+int node_pin_zeroed(node *of, node_page page, node_slot *slot) { return node_pin(of, page, slot); }
+
+int node_lend(node *of, node_slot slot, const uint8_t **bytes) {
     fake_frame *frame = fake_pinned(fake_in(of), slot);
     if (frame != NULL) *bytes = &frame->byte;
     return fake_out(of, frame != NULL ? WARM_OK : WARM_STALE_SLOT);
 }
 
-int node_lend_mut(node *of, warm_slot slot, uint8_t **bytes) {
+int node_lend_mut(node *of, node_slot slot, uint8_t **bytes) {
     fake_frame *frame = fake_pinned(fake_in(of), slot);
     if (frame != NULL) *bytes = &frame->byte;
     if (frame != NULL) frame->is_dirty = true;
     return fake_out(of, frame != NULL ? WARM_OK : WARM_STALE_SLOT);
 }
 
-int node_pin_lend(node *of, warm_page page, warm_slot *slot, const uint8_t **bytes) {
+int node_pin_lend(node *of, node_page page, node_slot *slot, const uint8_t **bytes) {
     int status = node_pin(of, page, slot);
     return status == WARM_OK ? node_lend(of, *slot, bytes) : status;
 }
 
-int node_unpin(node *of, warm_slot slot) {
+int node_unpin(node *of, node_slot slot) {
     fake_frame *frame = fake_pinned(fake_in(of), slot);
     if (frame != NULL) frame->pins--;
     return fake_out(of, frame != NULL ? WARM_OK : WARM_STALE_SLOT);
 }
 
-int node_read(node *of, warm_slot slot, size_t at, uint8_t *into, size_t length) {
+int node_read(node *of, node_slot slot, size_t at, uint8_t *into, size_t length) {
     fake_frame *frame = fake_pinned(fake_in(of), slot);
     int status = frame == NULL ? WARM_STALE_SLOT : at + length > 1 ? WARM_OUT_OF_PAGE : WARM_OK;
     if (status == WARM_OK && length == 1) *into = frame->byte;
     return fake_out(of, status);
 }
 
-int node_write(node *of, warm_slot slot, size_t at, const uint8_t *bytes, size_t length) {
+int node_write(node *of, node_slot slot, size_t at, const uint8_t *bytes, size_t length) {
     fake_frame *frame = fake_pinned(fake_in(of), slot);
     int status = frame == NULL ? WARM_STALE_SLOT : at + length > 1 ? WARM_OUT_OF_PAGE : WARM_OK;
     if (status == WARM_OK) {
@@ -176,25 +214,44 @@ int node_write(node *of, warm_slot slot, size_t at, const uint8_t *bytes, size_t
     return fake_out(of, status);
 }
 
-int node_resident(node *of, warm_page page, bool *resident) {
+/* What a test does while a node says whether a page is in a frame: other threads may do that. */
+static void (*at_resident)(void);
+
+int node_resident(node *of, node_page page, bool *resident) {
+    if (at_resident != NULL) at_resident();
     fake_frame *frame = fake_frame_for(fake_in(of), page);
     *resident = frame != NULL && frame->is_in && frame->page.no == page.no && frame->page.dev == page.dev;
     return fake_out(of, WARM_OK);
 }
 
-int node_victim(node *of, bool *found, warm_page *page) {
+/* What a test does while a node says which page would leave: other threads may do that. */
+static void (*at_victim)(void);
+
+int node_victim(node *of, bool *found, node_page *page) {
     fake *its = fake_in(of);
-    *found = its->at[0].is_in && its->at[0].pins == 0;
-    if (*found) *page = its->at[0].page;
+    *found = false;
+    if (at_victim != NULL) at_victim();
+    for (size_t at = 0; at < its->frames && !*found; at++) {
+        *found = its->at[at].is_in && its->at[at].pins == 0;
+        if (*found) *page = its->at[at].page;
+    }
     return fake_out(of, WARM_OK);
 }
 
 /* One page for each reference that it knows, which are all read at once. */
-int node_step(node *of, bool *found, warm_page *page) {
+int node_step(node *of, bool *found, node_page *page) {
     fake *its = fake_in(of);
     if (!fake_memory()) return fake_out(of, WARM_MEMORY);
     *found = its->known > 0;
     if (*found) page->no = its->known--;
+    return fake_out(of, WARM_OK);
+}
+
+int node_next(node *of, bool *found, node_page *page) {
+    fake *its = fake_in(of);
+    if (!fake_memory()) return fake_out(of, WARM_MEMORY);
+    *found = its->known > 0;
+    if (*found) page->no = its->known;
     return fake_out(of, WARM_OK);
 }
 
@@ -203,8 +260,8 @@ int node_write_back_some(node *of, size_t limit, size_t *left) {
     *left = 0;
     for (size_t at = 0; at < its->frames; at++) {
         if (!its->at[at].is_dirty) continue;
-        if (limit > 0) fake_write(its, &its->at[at]);
-        else ++*left;
+        if (limit > 0 && !fake_write(its, &its->at[at])) return fake_out(of, WARM_WRITE_FAULT);
+        if (limit == 0) ++*left;
         if (limit > 0) limit--;
     }
     return fake_out(of, WARM_OK);
@@ -214,12 +271,14 @@ int node_flush(node *of, uint16_t dev) {
     fake *its = fake_in(of);
     if (dev >= its->device_count) return fake_out(of, WARM_NO_DEVICE);
     for (size_t at = 0; at < its->frames; at++)
-        if (its->at[at].is_dirty && its->at[at].page.dev == dev) fake_write(its, &its->at[at]);
-    return fake_out(of, fake_flush(its, dev) ? WARM_OK : WARM_FAULT);
+        if (its->at[at].is_dirty && its->at[at].page.dev == dev && !fake_write(its, &its->at[at])) return fake_out(of, WARM_WRITE_FAULT);
+    return fake_out(of, fake_flush(its, dev) ? WARM_OK : WARM_WRITE_FAULT);
 }
 
+/* All pages first, in the order of frames, up to the first that fails. */
 int node_write_back(node *of) {
-    int status = WARM_OK;
+    size_t left;
+    int status = node_write_back_some(of, SIZE_MAX, &left);
     for (uint16_t dev = 0; status == WARM_OK && dev < ((fake *)of->at)->device_count; dev++) status = node_flush(of, dev);
     return status;
 }
@@ -238,7 +297,7 @@ static void fake_forget(fake *its, uint16_t dev, uint64_t from) {
 int node_forget(node *of, uint16_t dev, uint64_t from) {
     fake *its = fake_in(of);
     if (dev >= its->device_count) return fake_out(of, WARM_NO_DEVICE);
-    if (fake_has_pins(its, dev, from)) return fake_out(of, WARM_FIXED);
+    if (fake_has_pins(its, dev, from)) return fake_out(of, WARM_PINNED);
     fake_forget(its, dev, from);
     return fake_out(of, WARM_OK);
 }
@@ -246,21 +305,22 @@ int node_forget(node *of, uint16_t dev, uint64_t from) {
 int node_may_forget(node *of, uint16_t dev, uint64_t from) {
     fake *its = fake_in(of);
     if (dev >= its->device_count) return fake_out(of, WARM_NO_DEVICE);
-    return fake_out(of, fake_has_pins(its, dev, from) ? WARM_FIXED : WARM_OK);
+    return fake_out(of, fake_has_pins(its, dev, from) ? WARM_PINNED : WARM_OK);
 }
 
-int node_may_replace(node *of, uint16_t dev, const warm_device *device) {
+int node_may_replace(node *of, uint16_t dev, const node_device *device) {
     (void)dev, (void)device;
     fake_in(of);
     return fake_out(of, fake_memory() ? WARM_OK : WARM_MEMORY);
 }
 
-int node_replace(node *of, uint16_t dev, const warm_device *device) {
+int node_replace(node *of, uint16_t dev, const node_device *device) {
+    MUST(remembered == ((fake *)of->at)->device_count);
     fake *its = fake_in(of);
     bool has_memory = fake_memory(), is_pinned = fake_has_pins(its, dev, 0);
     fake_out(of, WARM_OK);
     if (!has_memory) return WARM_MEMORY;
-    if (is_pinned) return WARM_FIXED;
+    if (is_pinned) return WARM_PINNED;
     int status = node_flush(of, dev);
     if (status != WARM_OK) return status;
     fake_forget(its, dev, 0);
@@ -268,48 +328,47 @@ int node_replace(node *of, uint16_t dev, const warm_device *device) {
     return WARM_OK;
 }
 
-int node_counts(node *of, warm_counters *counters) {
+int node_counts(node *of, node_counters *counters) {
     fake *its = fake_in(of);
-    *counters = (warm_counters){.hits = 1, .misses = 2, .evictions = 3, .written_back = its->writes, .resident = 4, .dirty = 5};
+    *counters = (node_counters){.hits = 1, .misses = 2, .evictions = 3, .written_back = its->writes, .resident = 4, .dirty = 5};
     return fake_out(of, WARM_OK);
 }
 
 /* The last device has counted as far as it goes. */
-int node_device_counts(node *of, uint16_t dev, warm_device_counters *counters) {
+int node_device_counts(node *of, uint16_t dev, node_device_counters *counters) {
     fake *its = fake_in(of);
     if (dev >= its->device_count) return fake_out(of, WARM_NO_DEVICE);
     uint64_t many = dev == FAKE_DEVICES - 1 ? UINT64_MAX - 1 : 1;
-    *counters = (warm_device_counters){.reads = many, .writes = 2, .flushes = 3, .failures = many};
+    *counters = (node_device_counters){.reads = many, .writes = 2, .flushes = 3, .failures = many};
     return fake_out(of, WARM_OK);
 }
 
-/* The failure has the node's own horizon in it, so that a test knows whose it is. */
-int node_last_failure(node *of, bool *found, warm_failure *failure) {
+int node_last_failure(node *of, bool *found, node_failure *failure) {
     fake *its = fake_in(of);
-    *found = true;
-    *failure = (warm_failure){.no = its->known, .what = WARM_FAILED_READ};
+    *found = its->failed.what != 0;
+    if (*found) *failure = its->failed;
     return fake_out(of, WARM_OK);
 }
 
 /* ---- histories and frames ---- */
 
-uint64_t node_shards_of(size_t shards, const warm_reference *references, size_t count) {
+uint64_t node_shards_of(size_t shards, const node_reference *references, size_t count) {
     uint64_t set = 0;
-    for (size_t at = 0; at < count; at++) set |= UINT64_C(1) << fake_shard_of(shards, (warm_page){.no = references[at].no, .dev = references[at].dev});
+    for (size_t at = 0; at < count; at++) set |= UINT64_C(1) << fake_shard_of(shards, (node_page){.no = references[at].no, .dev = references[at].dev});
     return set;
 }
 
-int node_absorb_part(node *of, size_t shards, size_t number, const warm_reference *references, size_t count) {
+int node_absorb_part(node *of, size_t shards, size_t number, const node_reference *references, size_t count) {
     fake *its = fake_in(of);
     for (size_t at = 0; at < count; at++)
-        if (references[at].replica == 0) return fake_out(of, WARM_BAD_REPLICA);
+        if (references[at].replica == 0 || references[at].replica > 64) return fake_out(of, WARM_BAD_REPLICA);
     if (!fake_memory()) return fake_out(of, WARM_MEMORY);
     for (size_t at = 0; at < count; at++)
-        its->known += fake_shard_of(shards, (warm_page){.no = references[at].no, .dev = references[at].dev}) == number;
+        its->known += fake_shard_of(shards, (node_page){.no = references[at].no, .dev = references[at].dev}) == number;
     return fake_out(of, WARM_OK);
 }
 
-int node_absorb(node *of, const warm_reference *references, size_t count) { return node_absorb_part(of, 1, 0, references, count); }
+int node_absorb(node *of, const node_reference *references, size_t count) { return node_absorb_part(of, 1, 0, references, count); }
 
 int node_horizon(node *of, uint64_t time, uint64_t *horizon) {
     fake *its = fake_in(of);
@@ -323,11 +382,11 @@ int node_history_length(node *of, size_t *length) {
     return fake_out(of, WARM_OK);
 }
 
-int node_list(node *of, warm_page *pages, size_t room, size_t *count) {
+int node_list(node *of, node_page *pages, size_t room, size_t *count) {
     fake *its = fake_in(of);
     if (!fake_memory()) return fake_out(of, WARM_MEMORY);
     *count = its->known < room ? its->known : room;
-    memset(pages, 0, *count * sizeof(warm_page));
+    for (size_t at = 0; at < *count; at++) pages[at] = (node_page){.no = at + 1, .dev = (uint16_t)(at + 7)};
     return fake_out(of, WARM_OK);
 }
 
@@ -338,16 +397,34 @@ int node_gather(node *into, node *from) {
     return fake_out(into, WARM_OK);
 }
 
-/* A descriptor of 0 or more is written. */
-int node_save(node *of, int fd) {
-    fake_in(of);
-    return fake_out(of, !fake_memory() ? WARM_MEMORY : fd < 0 ? WARM_DUMP_NOT_WRITTEN : WARM_OK);
+/* A dump is two bytes for each reference that is known, in two pieces. It goes to a descriptor of 0 or more. */
+static bool fake_put_dump(int number, size_t known) {
+    const uint8_t piece[2] = {'d', 'u'};
+    if (number < 0 && !is_made_up(number)) return false;
+    for (off_t at = 0; at < 2 * (off_t)known; at += 2) {
+        if (device_write(number, piece, 2, at) != 2) return false;
+    }
+    return sync_once(device_synced_as(number)) == 0;
 }
 
-/* A dump has as many references as its length says. */
-int node_load(node *of, int fd, uint64_t length) {
+int node_save(node *of, int number) {
+    MUST(held == 0); /* nobody waits for a file */
     fake *its = fake_in(of);
-    int status = !fake_memory() ? WARM_MEMORY : fd < 0 ? WARM_DUMP_NOT_READ : WARM_OK;
+    bool has_memory = fake_memory();
+    return fake_out(of, !has_memory ? WARM_MEMORY : fake_put_dump(number, its->known) ? WARM_OK : WARM_DUMP_NOT_WRITTEN);
+}
+
+/* A dump has as many references as its length says; of a device with its own calls its last byte is read. */
+static bool fake_get_dump(int number, uint64_t length) {
+    uint8_t byte;
+    if (number < 0 && !is_made_up(number)) return false;
+    return !is_made_up(number) || device_read(number, &byte, 1, (off_t)length - 1) == 1;
+}
+
+int node_load(node *of, int number, uint64_t length) {
+    MUST(held == 0);
+    fake *its = fake_in(of);
+    int status = !fake_memory() ? WARM_MEMORY : fake_get_dump(number, length) ? WARM_OK : WARM_DUMP_NOT_READ;
     if (status == WARM_OK) its->known += length;
     return fake_out(of, status);
 }
@@ -413,8 +490,8 @@ int node_differing(const node_table *table, const uint8_t *frame, size_t length,
 }
 
 /* Two frames of a bucket of which something is known, the second after page 1; an empty one of any other. */
-int node_send_since(node *of, uint8_t bucket, uint64_t since, bool has_after, warm_page after, uint8_t *frame, size_t room, size_t *length, bool *more,
-    warm_page *last) {
+int node_send_since(node *of, uint8_t bucket, uint64_t since, bool has_after, node_page after, uint8_t *frame, size_t room, size_t *length, bool *more,
+    node_page *last) {
     fake *its = fake_in(of);
     if (bucket > 63) return fake_out(of, WARM_BAD_BUCKET);
     MUST(since == 0 && (!has_after || after.no == 1));
@@ -426,9 +503,9 @@ int node_send_since(node *of, uint8_t bucket, uint64_t since, bool has_after, wa
     return fake_out(of, WARM_OK);
 }
 
-int node_send(node *of, uint8_t bucket, bool has_after, warm_page after, uint8_t *frame, size_t room, size_t *length) {
+int node_send(node *of, uint8_t bucket, bool has_after, node_page after, uint8_t *frame, size_t room, size_t *length) {
     bool more;
-    warm_page last = {0};
+    node_page last = {0};
     return node_send_since(of, bucket, 0, has_after, after, frame, room, length, &more, &last);
 }
 

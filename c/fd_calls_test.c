@@ -1,6 +1,7 @@
 /*
- * Tests fd_calls.c: in place of the proved part this program makes requests, and compares the answers with what the file holds by
- * the system's own calls. It has the code of fd_calls.c and sync_once.c in itself, over calls of the system that can be made to do little at a time.
+ * Tests fd_calls.c, and devices.c where devices are files: in place of the proved part this program makes requests, and compares the answers
+ * with what the file holds by the system's own calls. It has the code of both and of sync_once.c in itself, over calls of the system that can
+ * be made to do little at a time. devices_test.c tests devices with calls of their own.
  */
 #define _GNU_SOURCE /* mkstemp, pipe, ftruncate */
 #define _FILE_OFFSET_BITS 64
@@ -25,7 +26,7 @@
 static struct {
     size_t most;
     bool was_interrupted, puts_nothing, fails_sync, fails_stat, is_direct, has_no_memory, meets_sync, meets_write;
-    int syncs;
+    int syncs, stats;
 } slow;
 
 static bool interrupts(void) {
@@ -68,11 +69,14 @@ static int slow_fsync(int fd) {
 }
 
 static int slow_fstat(int fd, struct stat *file) {
+    slow.stats++;
     if (slow.fails_stat) errno = EIO;
     return slow.fails_stat ? -1 : fstat(fd, file);
 }
 
 static void *slow_realloc(void *old, size_t size) { return slow.has_no_memory ? NULL : realloc(old, size); }
+
+static void *slow_malloc(size_t size) { return slow.has_no_memory ? NULL : malloc(size); }
 
 /* It changes errno, as a call that succeeds may. */
 static int slow_unlock(pthread_mutex_t *of) {
@@ -86,14 +90,17 @@ static int slow_unlock(pthread_mutex_t *of) {
 #define fsync slow_fsync
 #define fstat slow_fstat
 #define realloc slow_realloc
+#define malloc slow_malloc
 #define pthread_mutex_unlock slow_unlock
 #include "sync_once.c"
+#include "devices.c"
 #include "fd_calls.c"
 #undef pread
 #undef pwrite
 #undef fsync
 #undef fstat
 #undef realloc
+#undef malloc
 #undef pthread_mutex_unlock
 
 enum { SIZE = 65536, NO_FILE = 999 };
@@ -230,6 +237,37 @@ static void test_identities(void) {
     close(second);
     close(other);
     close(fd);
+}
+
+/* Each descriptor's file is asked for once while it is remembered, in its place; one that has none is asked for each time. */
+static void test_remembered_identities(void) {
+    const int fds[] = {new_file(), -1, new_file()}, other = new_file();
+    uint8_t first[3][16], again[16];
+    for (int i = 0; i < 3; i += 2) MUST(gets_identity(fds[i], first[i]));
+    fd_calls_remember(3);
+    slow.stats = 0;
+    for (int i = 0; i < 9; i++) {
+        MUST(gets_identity(fds[i % 3], again) == (i % 3 != 1) && (i % 3 == 1 || memcmp(again, first[i % 3], 16) == 0));
+    }
+    MUST(slow.stats == 5);
+    MUST(gets_identity(other, again) && memcmp(again, first[0], 16) != 0 && slow.stats == 6); /* in the place of another */
+    MUST(!gets_identity(-1, again) && gets_identity(fds[2], again) && slow.stats == 7);
+    MUST(gets_identity(fds[0], again) && memcmp(again, first[0], 16) == 0 && slow.stats == 8);
+    fd_calls_remember(1);
+    for (int i = 0; i < 2; i++) MUST(gets_identity(fds[2], again) && memcmp(again, first[2], 16) == 0 && slow.stats == 9);
+    fd_calls_forget();
+    fd_calls_forget();
+    slow.has_no_memory = true;
+    fd_calls_remember(1);
+    slow.has_no_memory = false;
+    for (int i = 0; i < 2; i++) MUST(gets_identity(fds[2], again) && memcmp(again, first[2], 16) == 0 && slow.stats == 10 + i);
+    fd_calls_remember(0);
+    MUST(gets_identity(fds[2], again) && slow.stats == 12);
+    fd_calls_remember(SIZE_MAX / 8 + 1); /* whose identities would have a multiple of 2^64 bytes */
+    MUST(gets_identity(fds[2], again) && slow.stats == 13);
+    close(fds[0]);
+    close(fds[2]);
+    close(other);
 }
 
 /* A sync that fails once is a flush that fails, and what the next one says is the system's word again: the proved part remembers. */
@@ -443,173 +481,13 @@ static void test_failures(void) {
     close(fd);
 }
 
-/* ---- what is asked before a write ---- */
-
-/* What a callback was asked for last, and what it answers. */
-typedef struct asked_for {
-    int calls, answer;
-    uint64_t at;
-    const uint8_t *bytes;
-    size_t length;
-} asked_for;
-
-static int answer_it(void *context, uint64_t at, const uint8_t *bytes, size_t length) {
-    asked_for *it = context;
-    *it = (asked_for){it->calls + 1, it->answer, at, bytes, length};
-    errno = ENOMEM; /* of its own calls: it means nothing */
-    return it->answer;
-}
-
-static bool was_asked(asked_for *it, int calls, uint64_t at, size_t length) {
-    return it->calls == calls && it->at == at && it->bytes == page && it->length == length;
-}
-
-/* A write that it does not let go fails by name, and the file is as it was; the next one is asked for again. */
-static void test_before_write(void) {
-    int fd = new_file(), copy = dup(fd);
-    asked_for log = {.answer = 1};
-    MUST(copy >= 0 && warm_before_write(fd, answer_it, &log) == WARM_OK);
-    FAILS(write_at(fd, 100, SIZE), EAGAIN);
-    MUST(was_asked(&log, 1, 100, SIZE) && lseek(fd, 0, SEEK_END) == 0 && failure_at(fd) == EAGAIN);
-    FAILS(fd_calls_write(fd, page, 512), EINVAL); /* no request is left */
-    log.answer = -1;
-    FAILS(write_at(fd, 0, 9), EAGAIN); /* a page as long as a request */
-    MUST(was_asked(&log, 2, 0, 9));
-    log.answer = 0;
-    slow.most = 1000; /* a write in parts is asked for once */
-    MUST(write_at(fd, 100, SIZE) == SIZE && was_asked(&log, 3, 100, SIZE) && holds(fd, 100, page, SIZE));
-    slow.most = 0;
-    MUST(read_at(fd, 0, 512) == 512 && ask(fd, 3, 0) == 9 && failure_at(fd) == EAGAIN && log.calls == 3);
-    slow.puts_nothing = true;
-    FAILS(write_at(fd, 0, 512), EIO);
-    FAILS(write_at(fd, 0, 512), EIO); /* what failed is asked for again */
-    slow.puts_nothing = false;
-    MUST(log.calls == 5 && write_at(copy, 0, 512) == 512 && log.calls == 5);
-    MUST(warm_before_write(fd, NULL, NULL) == WARM_OK && write_at(fd, 0, 512) == 512 && log.calls == 5);
-    MUST(warm_before_write(fd, NULL, NULL) == WARM_OK); /* there is none */
-    close(copy);
-    close(fd);
-}
-
-/* Each descriptor has its own, and the later one of a descriptor stands. */
-static void test_two_callbacks(void) {
-    int fd = new_file(), other = new_file();
-    asked_for first = {.answer = 1}, second = {.answer = 0}, third = {.answer = 0};
-    MUST(warm_before_write(fd, answer_it, &first) == WARM_OK && warm_before_write(other, answer_it, &second) == WARM_OK);
-    FAILS(write_at(fd, 0, 512), EAGAIN);
-    MUST(write_at(other, 512, 512) == 512 && was_asked(&first, 1, 0, 512) && was_asked(&second, 1, 512, 512));
-    MUST(warm_before_write(fd, answer_it, &third) == WARM_OK);
-    MUST(write_at(fd, 7, 512) == 512 && first.calls == 1 && was_asked(&third, 1, 7, 512));
-    MUST(warm_before_write(fd, NULL, &third) == WARM_OK && write_at(fd, 0, 512) == 512 && third.calls == 1);
-    MUST(write_at(other, 0, 512) == 512 && second.calls == 2);
-    MUST(warm_before_write(-1, answer_it, &first) == WARM_OK); /* no file has it */
-    FAILS(write_at(-1, 0, 512), EAGAIN);
-    MUST(first.calls == 2 && warm_before_write(-1, NULL, NULL) == WARM_OK && warm_before_write(other, NULL, NULL) == WARM_OK);
-    MUST(callbacks == NULL);
-    close(other);
-    close(fd);
-}
-
-/* Descriptors in no order: each is found, and one that is taken away takes no other with it. */
-static void test_many_callbacks(void) {
-    enum { MANY = 1000, STEP = 617 };
-    static asked_for logs[MANY];
-    for (int i = 0, at = 0; i < MANY; i++, at = (at + STEP) % MANY) {
-        logs[at].answer = 1;
-        MUST(warm_before_write(INT32_MIN + at, answer_it, &logs[at]) == WARM_OK);
-    }
-    for (int i = 0, at = 0; i < MANY; i++, at = (at + 3 * STEP) % MANY) {
-        FAILS(write_at(INT32_MIN + at, 0, 512), EAGAIN);
-        MUST(logs[at].calls == 1 && warm_before_write(INT32_MIN + at, NULL, NULL) == WARM_OK);
-        FAILS(write_at(INT32_MIN + at, 0, 512), EBADF);
-        MUST(logs[at].calls == 1);
-    }
-    MUST(callbacks == NULL && callback_count == 0);
-}
-
-/* Where there is no room for one more, nothing changes; and none is needed to replace one or to take one away. */
-static void test_no_memory(void) {
-    asked_for log = {.answer = 1}, later = {.answer = 1};
-    int fd = new_file();
-    slow.has_no_memory = true;
-    MUST(warm_before_write(fd, answer_it, &log) == WARM_MEMORY && write_at(fd, 0, 512) == 512 && log.calls == 0);
-    slow.has_no_memory = false;
-    for (int i = 0; i < 4; i++) MUST(warm_before_write(NO_FILE + i, answer_it, &log) == WARM_OK);
-    slow.has_no_memory = true;
-    MUST(warm_before_write(fd, answer_it, &later) == WARM_MEMORY && write_at(fd, 0, 512) == 512);
-    MUST(warm_before_write(NO_FILE, answer_it, &later) == WARM_OK);
-    FAILS(write_at(NO_FILE, 0, 512), EAGAIN);
-    FAILS(write_at(NO_FILE + 3, 0, 512), EAGAIN);
-    MUST(later.calls == 1 && log.calls == 1);
-    for (int i = 0; i < 4; i++) MUST(warm_before_write(NO_FILE + i, NULL, NULL) == WARM_OK);
-    slow.has_no_memory = false;
-    MUST(callbacks == NULL);
-    close(fd);
-}
-
-/* A callback that writes and syncs a file of its own by whole requests, as calls of another handle do, and takes itself away. */
-static int write_log(void *context, uint64_t at, const uint8_t *bytes, size_t length) {
-    const int *fds = context;
-    MUST(at == 512 && bytes == page && length == 512 && lseek(fds[1], 0, SEEK_END) == 0);
-    FAILS(read_at(NO_FILE, 0, 512), EBADF);
-    MUST(write_at(fds[0], 0, 100) == 100 && ask(fds[0], 3, 0) == 9 && failure_at(fds[0]) == EBADF);
-    return warm_before_write(fds[1], NULL, NULL);
-}
-
-static void test_calls_inside(void) {
-    int fds[] = {new_file(), new_file()};
-    MUST(warm_before_write(fds[1], write_log, fds) == WARM_OK);
-    MUST(write_at(fds[1], 512, 512) == 512 && holds(fds[1], 512, page, 512) && holds(fds[0], 0, page, 100));
-    is_as_ever(fds[1]);
-    MUST(callbacks == NULL);
-    close(fds[0]);
-    close(fds[1]);
-}
-
-enum { THREADS = 4, ROUNDS = 300 };
-
-static int count_it(void *context, uint64_t at, const uint8_t *bytes, size_t length) {
-    (void)bytes;
-    MUST(length == 512);
-    ++*(int *)context;
-    return at != 0;
-}
-
-/* Each thread has a file with its callback, and sets and takes away others. */
-static void *thread_with_callback(void *of) {
-    int number = *(int *)of, fd = new_file(), calls = 0, others = 0;
-    MUST(warm_before_write(fd, count_it, &calls) == WARM_OK);
-    for (int i = 0; i < ROUNDS; i++) {
-        int other = NO_FILE + number + THREADS * i;
-        MUST(warm_before_write(other, count_it, &others) == WARM_OK);
-        MUST(write_at(fd, 0, 512) == 512);
-        FAILS(write_at(fd, 512, 512), EAGAIN);
-        if (i % 2 == 0) MUST(warm_before_write(other, NULL, NULL) == WARM_OK);
-    }
-    MUST(calls == 2 * ROUNDS && others == 0);
-    for (int i = 1; i < ROUNDS; i += 2) MUST(warm_before_write(NO_FILE + number + THREADS * i, NULL, NULL) == WARM_OK);
-    MUST(warm_before_write(fd, NULL, NULL) == WARM_OK);
-    close(fd);
-    return NULL;
-}
-
-static void test_callbacks_of_threads(void) {
-    pthread_t threads[THREADS];
-    int numbers[THREADS];
-    for (int i = 0; i < THREADS; i++) {
-        numbers[i] = i;
-        MUST(pthread_create(&threads[i], NULL, thread_with_callback, &numbers[i]) == 0);
-    }
-    for (int i = 0; i < THREADS; i++) MUST(pthread_join(threads[i], NULL) == 0);
-    MUST(callbacks == NULL);
-}
-
 int main(void) {
     for (size_t at = 0; at < SIZE; at++) page[at] = (uint8_t)(at % 251 + 1);
     test_file();
     test_slow_calls();
     test_direct();
     test_identities();
+    test_remembered_identities();
     test_failed_sync();
     test_counted_syncs();
     test_met_syncs();
@@ -619,12 +497,6 @@ int main(void) {
     test_places();
     test_threads();
     test_failures();
-    test_before_write();
-    test_two_callbacks();
-    test_many_callbacks();
-    test_no_memory();
-    test_calls_inside();
-    test_callbacks_of_threads();
     puts("fd_calls_test: as expected");
     return 0;
 }

@@ -2,7 +2,10 @@
  * heap.c: the memory of the library, as heap.h says. Nothing here is proved; c/check tests it.
  *
  * Blocks of whole units are cut from runs. A run is 256 units that the system maps, for blocks of
- * one size, and is given back with the last of them. aligned_alloc is no help: with glibc's a block
+ * one size, and is given back with the last of them. Where there are many runs, as for a pool of
+ * more than 48 megabytes, the next ones are of 8,192 units in huge pages: a pin of a page that was
+ * not used lately misses one look at the processor's table of addresses, where small pages miss two
+ * and more. aligned_alloc is no help: with glibc's a block
  * of one unit takes two, since what it keeps before the block is in the unit before.
  */
 #define _DEFAULT_SOURCE 1 /* pthread_mutex_t, MAP_ANONYMOUS, madvise */
@@ -17,8 +20,15 @@
 /* Behind the last block of a run is a unit that nobody writes to: it takes addresses and no memory. */
 enum { RUN_BYTES = 256 * HEAP_UNIT, MAPPED_BYTES = RUN_BYTES + HEAP_UNIT };
 
+/* From how many runs on they are great ones. These begin at a multiple of a huge page: what is mapped
+ * before that, and behind them, takes addresses alone, too. */
+enum { MANY_RUNS = 48, HUGE_BYTES = 2 << 20, GREAT_BYTES = 8192 * HEAP_UNIT, GREAT_MAPPED = GREAT_BYTES + HUGE_BYTES };
+
 typedef struct run {
     uint8_t *at; /* its first block */
+    size_t bytes; /* that blocks are cut from */
+    void *mapped;
+    size_t mapped_bytes;
     size_t size; /* of each block */
     size_t cut;  /* how many blocks were ever in use: those behind them were not touched */
     size_t used; /* how many are in use */
@@ -56,7 +66,7 @@ static size_t runs_until(const void *p) {
 /* The run that a block was cut from. */
 static run *run_of(const void *p) {
     size_t until = runs_until(p);
-    if (until == 0 || (uintptr_t)p - (uintptr_t)runs[until - 1]->at >= RUN_BYTES) return NULL;
+    if (until == 0 || (uintptr_t)p - (uintptr_t)runs[until - 1]->at >= runs[until - 1]->bytes) return NULL;
     return runs[until - 1];
 }
 
@@ -77,7 +87,7 @@ static void free_if_none(void) {
     run_room = 0;
 }
 
-static bool has_room(const run *it) { return it->used < RUN_BYTES / it->size; }
+static bool has_room(const run *it) { return it->used < it->bytes / it->size; }
 
 /* Puts a run first among those of its size that have room. */
 static void link_run(run *it) {
@@ -92,17 +102,34 @@ static void unlink_run(const run *it) {
     if (it->next != NULL) it->next->link = it->link;
 }
 
+static bool map(run *its, size_t bytes, size_t mapped_bytes) {
+    void *at = mmap(NULL, mapped_bytes, PROT_READ | PROT_WRITE, MAP_PRIVATE | MAP_ANONYMOUS, -1, 0);
+    if (at == MAP_FAILED) return false;
+    its->at = its->mapped = at;
+    its->mapped_bytes = mapped_bytes;
+    its->bytes = bytes;
+    return true;
+}
+
+/* Small pages do where the system has no huge ones. */
+static bool map_great(run *its) {
+    if (!map(its, GREAT_BYTES, GREAT_MAPPED)) return false;
+    its->at += -(uintptr_t)its->mapped % HUGE_BYTES;
+#ifdef MADV_HUGEPAGE
+    madvise(its->at, GREAT_BYTES, MADV_HUGEPAGE);
+#endif
+    return true;
+}
+
 /* A run that the system maps, or NULL. */
 static run *mapped_run(size_t size) {
     run *made = malloc(sizeof(run));
     if (made == NULL) return NULL;
-    void *at = mmap(NULL, MAPPED_BYTES, PROT_READ | PROT_WRITE, MAP_PRIVATE | MAP_ANONYMOUS, -1, 0);
-    if (at == MAP_FAILED) {
-        free(made);
-        return NULL;
-    }
-    *made = (run){.at = at, .size = size};
-    return made;
+    *made = (run){.size = size};
+    if (run_count >= MANY_RUNS && map_great(made)) return made;
+    if (map(made, RUN_BYTES, MAPPED_BYTES)) return made;
+    free(made);
+    return NULL;
 }
 
 static run *new_run(size_t size) {
@@ -123,14 +150,14 @@ static run *new_run(size_t size) {
 /* A run whose addresses the system does not take back, as it has too many mappings. It is used
  * again as if it were new; until then the system has its memory. */
 static void keep_run(run *empty) {
-    if (madvise(empty->at, MAPPED_BYTES, MADV_DONTNEED) != 0) return;
+    if (madvise(empty->mapped, empty->mapped_bytes, MADV_DONTNEED) != 0) return;
     empty->cut = 0;
     empty->freed = NULL;
 }
 
 static void free_run(run *empty) {
     run **place = runs + runs_until(empty->at) - 1;
-    if (munmap(empty->at, MAPPED_BYTES) != 0) {
+    if (munmap(empty->mapped, empty->mapped_bytes) != 0) {
         keep_run(empty);
         return;
     }

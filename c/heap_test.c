@@ -202,6 +202,28 @@ static void test_holes(void) {
     MUST(in_use == 0 && runs == NULL && mapped == 0);
 }
 
+/* Many runs, and then great ones, in huge pages; where the system maps none of these, small ones go on. */
+static void test_great_runs(void) {
+    enum { SMALL = MANY_RUNS * RUN_BYTES / UNIT, GREAT = GREAT_BYTES / UNIT, ALL = SMALL + GREAT + 1 };
+    block *all = calloc(ALL, sizeof(block));
+    MUST(all != NULL);
+    for (uint32_t at = 0; at < SMALL; at++) all[at] = take(UNIT, at);
+    size_t before = mapped;
+    MUST(run_count == MANY_RUNS && before == (size_t)MANY_RUNS * MAPPED_BYTES);
+    fails_at = 2; /* a run, its mapping */
+    block other = take(UNIT, 7);
+    MUST(fails_at == 0 && run_count == MANY_RUNS + 1 && mapped == before + MAPPED_BYTES);
+    drop(&other);
+    MUST(mapped == before);
+    for (uint32_t at = SMALL; at < ALL - 1; at++) all[at] = take(UNIT, at);
+    MUST((uintptr_t)all[SMALL].p % HUGE_BYTES == 0 && run_count == MANY_RUNS + 1 && mapped == before + GREAT_MAPPED);
+    all[ALL - 1] = take(UNIT, 9);
+    MUST(run_count == MANY_RUNS + 2 && mapped == before + 2 * (size_t)GREAT_MAPPED);
+    for (uint32_t at = 0; at < ALL; at++) drop(&all[(at * 7919ull) % ALL]);
+    free(all);
+    MUST(in_use == 0 && runs == NULL && mapped == 0);
+}
+
 /* Each call of malloc or mmap refused in turn: the answer says so, and what is there stays. */
 static void test_refusals(void) {
     for (long at = 1; at < 120; at++) {
@@ -331,6 +353,7 @@ int main(int count, char **words) {
     test_aligned_malloc();
     test_kept();
     test_holes();
+    test_great_runs();
     test_refusals();
     test_no_run();
     test_churn();

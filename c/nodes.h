@@ -1,19 +1,56 @@
 /*
- * nodes.h: the proved part of the library, for c/shards.c alone. It is not installed.
+ * nodes.h: the proved part of the library, for the files of c/ alone. It is not installed.
  *
  * A replica has one node for each shard. Each function below is proved of one node, or of no node at
- * all; the locks of shards, and which node is asked, are in c/shards.c. Each function above "Parts" is
- * named as one of include/warm.h, with node_ for warm_, and does of a node what the header says there
- * of a replica. What the header says of statuses, of refused
+ * all; the locks of shards, and which node is asked, are in shards.h. What a function above "Parts"
+ * does of a node, include/warm.h says of a replica: proved.h has the names that differ, and how the
+ * types here become those there. Statuses have the same numbers, and what the header says of refused
  * calls and of pointers holds for all of them.
  *
  * One call at a time uses a node. The shard of a slot that a function writes is 0; that of a slot that
- * is passed is not looked at.
+ * is passed is not looked at. A message is called a frame here, as the proved part calls it.
  */
 #ifndef NODES_H
 #define NODES_H
 
-#include "warm.h"
+#include <stdbool.h>
+#include <stddef.h>
+#include <stdint.h>
+
+typedef struct node_page {
+    uint64_t no;
+    uint16_t dev;
+} node_page;
+
+typedef struct node_reference {
+    uint64_t time, no;
+    uint16_t dev, replica;
+} node_reference;
+
+typedef struct node_slot {
+    uint64_t generation;
+    uint32_t index, shard;
+} node_slot;
+
+/* The number of a device is a descriptor, or a made-up one of devices.h. */
+typedef struct node_device {
+    uint64_t pages;
+    int32_t number;
+} node_device;
+
+typedef struct node_counters {
+    uint64_t hits, misses, evictions, written_back, resident, dirty;
+} node_counters;
+
+typedef struct node_device_counters {
+    uint64_t reads, writes, flushes, failures;
+} node_device_counters;
+
+typedef struct node_failure {
+    uint64_t no;
+    uint16_t dev, what;
+    int32_t error;
+} node_failure;
 
 /* A handle of a node. All zeros is a closed one. It does not move while it is open. */
 typedef struct node {
@@ -21,34 +58,34 @@ typedef struct node {
     void *at;
 } node;
 
-int node_open(node *handle, uint16_t replica, size_t frames, size_t page_size, const warm_device *devices,
+int node_open(node *handle, uint16_t replica, size_t frames, size_t page_size, const node_device *devices,
     size_t device_count);
 void node_close(node *handle);
-int node_absorb(node *handle, const warm_reference *references, size_t count);
-int node_pin(node *handle, warm_page page, warm_slot *slot);
-int node_pin_zeroed(node *handle, warm_page page, warm_slot *slot);
-int node_unpin(node *handle, warm_slot slot);
-int node_read(node *handle, warm_slot slot, size_t at, uint8_t *into, size_t length);
-int node_write(node *handle, warm_slot slot, size_t at, const uint8_t *bytes, size_t length);
-int node_lend(node *handle, warm_slot slot, const uint8_t **bytes);
-int node_lend_mut(node *handle, warm_slot slot, uint8_t **bytes);
-int node_resident(node *handle, warm_page page, bool *resident);
-int node_victim(node *handle, bool *found, warm_page *page);
-int node_list(node *handle, warm_page *pages, size_t room, size_t *count);
-int node_step(node *handle, bool *found, warm_page *page);
-int node_send(node *handle, uint8_t bucket, bool has_after, warm_page after, uint8_t *frame, size_t room,
+int node_absorb(node *handle, const node_reference *references, size_t count);
+int node_pin(node *handle, node_page page, node_slot *slot);
+int node_pin_zeroed(node *handle, node_page page, node_slot *slot);
+int node_unpin(node *handle, node_slot slot);
+int node_read(node *handle, node_slot slot, size_t at, uint8_t *into, size_t length);
+int node_write(node *handle, node_slot slot, size_t at, const uint8_t *bytes, size_t length);
+int node_lend(node *handle, node_slot slot, const uint8_t **bytes);
+int node_lend_mut(node *handle, node_slot slot, uint8_t **bytes);
+int node_resident(node *handle, node_page page, bool *resident);
+int node_victim(node *handle, bool *found, node_page *page);
+int node_list(node *handle, node_page *pages, size_t room, size_t *count);
+int node_step(node *handle, bool *found, node_page *page);
+int node_send(node *handle, uint8_t bucket, bool has_after, node_page after, uint8_t *frame, size_t room,
     size_t *length);
-int node_send_since(node *handle, uint8_t bucket, uint64_t since, bool has_after, warm_page after, uint8_t *frame,
-    size_t room, size_t *length, bool *more, warm_page *last);
+int node_send_since(node *handle, uint8_t bucket, uint64_t since, bool has_after, node_page after, uint8_t *frame,
+    size_t room, size_t *length, bool *more, node_page *last);
 int node_horizon(node *handle, uint64_t time, uint64_t *horizon);
 int node_write_back(node *handle);
 int node_write_back_some(node *handle, size_t limit, size_t *left);
 int node_flush(node *handle, uint16_t dev);
 int node_forget(node *handle, uint16_t dev, uint64_t from);
-int node_replace(node *handle, uint16_t dev, const warm_device *device);
-int node_counts(node *handle, warm_counters *counters);
-int node_device_counts(node *handle, uint16_t dev, warm_device_counters *counters);
-int node_last_failure(node *handle, bool *found, warm_failure *failure);
+int node_replace(node *handle, uint16_t dev, const node_device *device);
+int node_counts(node *handle, node_counters *counters);
+int node_device_counts(node *handle, uint16_t dev, node_device_counters *counters);
+int node_last_failure(node *handle, bool *found, node_failure *failure);
 int node_history_length(node *handle, size_t *length);
 int node_save(node *handle, int fd);
 int node_load(node *handle, int fd, uint64_t length);
@@ -65,15 +102,26 @@ int node_status_name(int status, uint8_t *name, size_t room, size_t *length);
 int node_divide(size_t frames, size_t shards, size_t *each);
 
 /* Which shards a batch is for: bit i where a reference is to a page of shard i. 0 where there cannot be this many shards. */
-uint64_t node_shards_of(size_t shards, const warm_reference *references, size_t count);
+uint64_t node_shards_of(size_t shards, const node_reference *references, size_t count);
 
 /* Absorbs those references of the batch whose pages are of the shard, all of them or none.
  * Refused: WARM_BAD_REPLICA where any reference of the whole batch has a bad replica; WARM_MEMORY. */
-int node_absorb_part(node *handle, size_t shards, size_t shard, const warm_reference *references, size_t count);
+int node_absorb_part(node *handle, size_t shards, size_t shard, const node_reference *references, size_t count);
 
 /* Pins a page as node_pin does, and writes where its bytes lie, as node_lend does.
  * Refused: what node_pin is refused with; the slot and the pointer are then as they were. */
-int node_pin_lend(node *handle, warm_page page, warm_slot *slot, const uint8_t **bytes);
+int node_pin_lend(node *handle, node_page page, node_slot *slot, const uint8_t **bytes);
+
+/* Pins a page as node_pin does, but with these bytes in place of a read, and writes its slot. They are the page as its device has
+ * it now, whole: that is believed. No device is read. Of a page that is in a frame the bytes are not looked at.
+ * Refused: WARM_BAD_PAGE_SIZE where they are not as many as a page has; what node_pin is refused with, but WARM_READ_FAULT. The
+ * slot is then as it was. */
+int node_pin_filled(node *handle, node_page page, const uint8_t *bytes, size_t length, node_slot *slot);
+
+/* Writes whether there is a page that node_step would load, and which. Nothing is loaded. If the page is then pinned by
+ * node_pin_filled and unpinned, with no call in between, that was the step.
+ * Refused: WARM_MEMORY. */
+int node_next(node *handle, bool *found, node_page *page);
 
 /* The digests of all buckets, that of bucket 0 first. */
 typedef struct node_table {
@@ -128,6 +176,6 @@ int node_may_forget(node *handle, uint16_t dev, uint64_t from);
 
 /* Whether node_replace would be refused for what the new device is: with WARM_NO_DEVICE or WARM_SAME_FILE. Nothing changes.
  * Refused: these; WARM_MEMORY. */
-int node_may_replace(node *handle, uint16_t dev, const warm_device *device);
+int node_may_replace(node *handle, uint16_t dev, const node_device *device);
 
 #endif

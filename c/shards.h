@@ -1,35 +1,51 @@
 /*
- * shards.h: what is behind a handle of include/warm.h, for c/shards.c (handles and pages) and c/whole_calls.c (all else). Not installed.
+ * shards.h: what is behind a handle of include/warm.h, for c/opening.c (handles), c/shards.c (pages) and c/whole_calls.c (all else). Not
+ * installed.
  *
  * A replica has one node of the proved part for each shard, and a lock for each. Whoever is in a shard, between enter and leave, has its node to
  * itself: by its lock, or since no other handle is open. No call is in two shards at once but those that are in all, which enter them in
- * their order.
+ * their order. A pin of a page that has a record, and its unpin, are in no shard: holds.h.
  */
 #ifndef SHARDS_H
 #define SHARDS_H
 
-#include "nodes.h"
+#include "devices.h"
+#include "holds.h"
+#include "proved.h"
 
 #include <pthread.h>
 #include <stdatomic.h>
 
-/* Bytes that a processor takes from another one as a whole. No two shards share any, and no two handles. */
-enum { LINE = 64 };
-
 typedef struct shard {
     _Alignas(LINE) pthread_mutex_t lock;
     node node;
+    _Alignas(LINE) table table;
 } shard;
+
+/* What is known of a device beside its number. Its counts have, beside those of the nodes, flushes
+ * that were refused by what is remembered of one before, and those that failed, of all that are made
+ * outside of the nodes: a device that has any is replaced by none, so they begin with warm_open. And
+ * they have not the writes of pages that were passed over, which the nodes take for made. */
+typedef struct known_device {
+    int synced_as; /* see devices.h; who is in a shard reads it, who is in all changes it */
+    _Atomic uint64_t flushes, failures, passed;
+} known_device;
 
 typedef struct replica {
     uint16_t number;
     size_t count; /* of shards */
-    warm_device *devices;
-    size_t device_count;
+    size_t frames, page_size;
+    node_device *devices; /* their numbers */
+    known_device *known;
+    size_t device_count, synced_count; /* how many were numbered, and how many of these are counted by sync_once.h */
     atomic_size_t handles;   /* how many are open */
-    _Atomic uint64_t limit;  /* of times in frames */
-    atomic_size_t failed_in; /* the shard in which a call of a device failed last */
+    _Atomic uint64_t limit, horizon_limit; /* of times in frames */
+    atomic_size_t page_limit;              /* of pages known */
+    _Atomic uint64_t passed; /* writes that nodes took for made */
+    atomic_size_t hand;      /* the shard with which the next warm_write_back_some begins */
     void *block;
+    _Atomic(holds *) holds;     /* of all handles that are open or were */
+    atomic_size_t holds_count; /* how many these are, and are about to be */
     shard shards[];
 } replica;
 
@@ -38,28 +54,38 @@ typedef struct answers {
     uint64_t buckets; /* bit i: entries of bucket i are still to be sent */
     uint64_t wanted;  /* the buckets that are asked for after that; 0 where nothing is */
     uint64_t horizon; /* of that request */
-    warm_page after;  /* the last page of the lowest of these buckets that was sent, where has_after */
+    node_page after;  /* the last page of the lowest of these buckets that was sent, where has_after */
     bool has_after;
 } answers;
 
+/* What a handle alone knows of a hold: the slot of its page, index and shard in one, and how often it has pinned the page so. */
+typedef struct own_hold {
+    uint64_t generation, place, pins;
+} own_hold;
+
 /* What an open handle points to. */
 typedef struct opened {
-    /* The node of a replica of one shard, while no other handle is open: calls on a page then go to it at once. The calls of this handle alone
-     * read and change it. In any other handle it is NULL. */
-    _Alignas(LINE) node *alone;
-    replica *of;
+    _Alignas(LINE) replica *of;
     shard *shards; /* those of the replica, and how many they are: a pin finds them sooner here */
     size_t count;
-    uint64_t pins; /* means something in an attached handle alone */
+    uint64_t pins; /* in nodes */
+    holds *holds;
+    uint32_t used; /* bit i: hold i names a record */
+    own_hold own[HOLDS];
     size_t turn; /* the shard with which the next warm_step begins */
     bool is_first; /* whether it opened the replica */
+    bool has_failed;
+    node_failure failure; /* the call of a device that failed last in a call of the handle, where has_failed */
     answers waiting;
     void *block;
+    uint8_t unwritten[]; /* bit i: in the call that is made, a write to device i has failed; 0 between calls */
 } opened;
+
+static inline size_t bytes_of_devices(const replica *of) { return (of->device_count + 7) / 8; }
 
 static inline size_t open_handles(replica *of) { return atomic_load_explicit(&of->handles, memory_order_acquire); }
 
-/* Returns whether the shard was locked. Who finds one handle open is in a call of it, and no other thread can be in another: warm_thread is a call
+/* Returns whether the shard was locked. Who finds one handle open is in a call of it, and no other thread can be in another: warm_attach is a call
  * of it, too, and the last call of a handle that was closed since has ended before that. */
 static inline bool enter(opened *its, shard *in) {
     if (open_handles(its->of) == 1) return false;
@@ -71,10 +97,21 @@ static inline void leave(shard *in, bool is_locked) {
     if (is_locked) pthread_mutex_unlock(&in->lock);
 }
 
-/* Notes the shard where a call of a device failed in it, and returns the status. */
+/* Notes which call of a device failed in the shard, which is entered, and returns the status. */
 static inline int noted(opened *its, shard *in, int status) {
-    if (status == WARM_READ_FAULT || status == WARM_WRITE_BACK || status == WARM_FAULT) atomic_store(&its->of->failed_in, (size_t)(in - its->shards));
+    if (status == WARM_READ_FAULT || status == WARM_EVICT_FAULT || status == WARM_WRITE_FAULT) {
+        node_last_failure(&in->node, &its->has_failed, &its->failure);
+    }
     return status;
 }
+
+/* Whether a device may be one of a replica of this page size: WARM_OK, WARM_BAD_DEVICE or WARM_APPENDS. */
+int may_be_device(const warm_device *device, size_t page_size);
+
+/* Returns how many pages of all shards are dirty. */
+size_t dirty_pages(opened *its);
+
+/* Syncs each device where that waits, with no shard entered, and returns WARM_OK or WARM_WRITE_FAULT. */
+int sync_devices(opened *its);
 
 #endif

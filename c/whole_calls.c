@@ -3,14 +3,16 @@
  * counted. Each makes calls of the proved part (nodes.h), in one shard at a time. Nothing here is proved; c/check tests it.
  */
 #define _POSIX_C_SOURCE 200809L /* pthread_mutex_t */
+#include "fd_calls.h"
 #include "shards.h"
 #include "sync_once.h"
 
+#include <errno.h>
 #include <stdlib.h>
 #include <string.h>
 
-/* The length of a frame of entries that has none, and at least that of any frame; how many buckets there are (docs/FORMATS.md). */
-enum { EMPTY_FRAME = 23, FRAME_ROOM = 32768, BUCKETS = 64 };
+/* The length of a message of entries that has none (docs/FORMATS.md). */
+enum { EMPTY_MESSAGE = 23 };
 
 static unsigned lowest(uint64_t set) { return (unsigned)__builtin_ctzll(set); }
 
@@ -18,20 +20,69 @@ static uint64_t without_lowest(uint64_t set) { return set & (set - 1); }
 
 /* ---- history ---- */
 
-/* A batch of one shard is taken in as it is. */
+/* How many references are copied without an allocation. */
+enum { BATCH_ROOM = 256 };
+
+static bool have_replicas(const warm_reference *references, size_t count) {
+    for (size_t at = 0; at < count; at++) {
+        if (references[at].replica < 1 || references[at].replica > 64) return false;
+    }
+    return true;
+}
+
+static size_t shard_of_reference(const opened *its, const warm_reference *it) {
+    return (it->dev + it->no) & (its->count - 1);
+}
+
+/* How many references are of each shard. */
+static void count_each(const opened *its, const warm_reference *references, size_t count, size_t each[WARM_MAX_SHARDS]) {
+    memset(each, 0, its->count * sizeof *each);
+    for (size_t at = 0; at < count; at++) each[shard_of_reference(its, &references[at])]++;
+}
+
+/* Copies the references, as the proved part has them, so that those of a shard follow each other, those of shard 0 first. */
+static void group(const opened *its, const warm_reference *references, size_t count, const size_t each[WARM_MAX_SHARDS], node_reference *grouped) {
+    size_t next[WARM_MAX_SHARDS], before = 0;
+    for (size_t number = 0; number < its->count; number++) {
+        next[number] = before;
+        before += each[number];
+    }
+    for (size_t at = 0; at < count; at++) {
+        const warm_reference *it = &references[at];
+        grouped[next[shard_of_reference(its, it)]++] = reference_in(it);
+    }
+}
+
+static int absorb_in(opened *its, shard *in, const node_reference *references, size_t count) {
+    bool is_locked = enter(its, in);
+    int status = node_absorb(&in->node, references, count);
+    leave(in, is_locked);
+    return status;
+}
+
+/* Each shard that has references takes its own in. */
+static int absorb_grouped(opened *its, const node_reference *grouped, const size_t each[WARM_MAX_SHARDS]) {
+    int status = WARM_OK;
+    for (size_t number = 0; number < its->count && status == WARM_OK; number++) {
+        if (each[number] > 0) status = absorb_in(its, &its->shards[number], grouped, each[number]);
+        grouped += each[number];
+    }
+    return status;
+}
+
 int warm_absorb(warm *handle, const warm_reference *references, size_t count) {
     opened *its = handle->at;
-    int status = WARM_OK;
+    size_t each[WARM_MAX_SHARDS];
+    node_reference room[BATCH_ROOM], *grouped = room;
     if (its == NULL) return WARM_CLOSED;
-    uint64_t shards = its->count == 1 ? 1 : node_shards_of(its->count, references, count);
-    bool is_of_one = without_lowest(shards) == 0;
-    for (; shards != 0 && status == WARM_OK; shards = without_lowest(shards)) {
-        size_t number = lowest(shards);
-        shard *in = &its->shards[number];
-        bool is_locked = enter(its, in);
-        status = is_of_one ? node_absorb(&in->node, references, count) : node_absorb_part(&in->node, its->count, number, references, count);
-        leave(in, is_locked);
-    }
+    if (!have_replicas(references, count)) return WARM_BAD_REPLICA;
+    if (count > SIZE_MAX / sizeof *grouped) return WARM_MEMORY;
+    if (count > BATCH_ROOM) grouped = malloc(count * sizeof *grouped);
+    if (grouped == NULL) return WARM_MEMORY;
+    count_each(its, references, count, each);
+    group(its, references, count, each, grouped);
+    int status = absorb_grouped(its, grouped, each);
+    if (grouped != room) free(grouped);
     return status;
 }
 
@@ -48,7 +99,7 @@ static void raise_all(opened *its, uint64_t time, uint64_t *horizon) {
     }
 }
 
-int warm_horizon(warm *handle, uint64_t time, uint64_t *horizon) {
+int warm_raise(warm *handle, uint64_t time, uint64_t *horizon) {
     opened *its = handle->at;
     if (its == NULL) return WARM_CLOSED;
     raise_all(its, time, horizon);
@@ -73,7 +124,7 @@ int warm_history_length(warm *handle, size_t *length) {
 
 /* Opens a history alone. */
 static int open_alone(opened *its, node *alone) {
-    const warm_device none = {0};
+    const node_device none = {0};
     return node_open(alone, its->of->number, 1, 1, &none, 0);
 }
 
@@ -90,6 +141,13 @@ static int gather(opened *its, node *all) {
     return status;
 }
 
+/* A page of the caller's is as large as one of the proved part, which writes into its place. */
+static int list_of(node *from, warm_page *pages, size_t room, size_t *count) {
+    int status = node_list(from, (node_page *)pages, room, count);
+    if (status == WARM_OK) pages_out(pages, *count);
+    return status;
+}
+
 int warm_list(warm *handle, warm_page *pages, size_t room, size_t *count) {
     opened *its = handle->at;
     node all = {0};
@@ -97,61 +155,77 @@ int warm_list(warm *handle, warm_page *pages, size_t room, size_t *count) {
     if (its->count == 1) {
         shard *in = &its->shards[0];
         bool is_locked = enter(its, in);
-        int status = node_list(&in->node, pages, room, count);
+        int status = list_of(&in->node, pages, room, count);
         leave(in, is_locked);
         return status;
     }
     int status = gather(its, &all);
     if (status != WARM_OK) return status;
-    status = node_list(&all, pages, room, count);
+    status = list_of(&all, pages, room, count);
+    node_close(&all);
+    return status;
+}
+
+/* Whether the one shard of a replica is the handle's alone, so that nobody waits while it reads or writes a file. */
+static bool has_one_alone(const opened *its) { return its->count == 1 && open_handles(its->of) == 1; }
+
+/* Writes a dump to a descriptor, or to a device that has a number. */
+static int save_to(opened *its, int number) {
+    node all = {0};
+    if (has_one_alone(its)) return node_save(&its->shards[0].node, number);
+    int status = gather(its, &all);
+    if (status != WARM_OK) return status;
+    status = node_save(&all, number);
     node_close(&all);
     return status;
 }
 
 int warm_save(warm *handle, int fd) {
-    opened *its = handle->at;
-    node all = {0};
-    if (its == NULL) return WARM_CLOSED;
-    if (its->count == 1) {
-        shard *in = &its->shards[0];
-        bool is_locked = enter(its, in);
-        int status = node_save(&in->node, fd);
-        leave(in, is_locked);
-        return status;
-    }
-    int status = gather(its, &all);
-    if (status != WARM_OK) return status;
-    status = node_save(&all, fd);
-    node_close(&all);
+    if (handle->at == NULL) return WARM_CLOSED;
+    return is_made_up(fd) ? WARM_DUMP_NOT_WRITTEN : save_to(handle->at, fd);
+}
+
+/* Of a device for a dump the pages have one byte: so their numbers are places. */
+int warm_save_to(warm *handle, const warm_device *file) {
+    int32_t number;
+    if (handle->at == NULL) return WARM_CLOSED;
+    if (!device_is_good(file)) return WARM_BAD_DEVICE;
+    if (!device_add(file, 1, &number)) return WARM_MEMORY;
+    int status = save_to(handle->at, number);
+    device_drop(number);
     return status;
 }
 
-/* Sends a bucket of one history to another, in frames, and the horizon with it. */
-static int send_bucket(node *from, uint8_t bucket, node *to, uint8_t *frame) {
+/* Sends a bucket of one history to another, in messages, and the horizon with it. */
+static int send_bucket(node *from, uint8_t bucket, node *to, uint8_t *message) {
     int status = WARM_OK;
     bool more = true, has_after = false;
-    warm_page after = {0}, last = {0};
+    node_page after = {0}, last = {0};
     while (more && status == WARM_OK) {
         size_t length;
-        status = node_send_since(from, bucket, 0, has_after, after, frame, FRAME_ROOM, &length, &more, &last);
-        if (status == WARM_OK) status = node_receive_part(to, 1, 0, frame, length);
+        status = node_send_since(from, bucket, 0, has_after, after, message, WARM_MESSAGE_ROOM, &length, &more, &last);
+        if (status == WARM_OK) status = node_receive_part(to, 1, 0, message, length);
         has_after = true;
         after = last;
     }
     return status;
 }
 
+/* Joins a history to that of a shard. */
+static int join_one(opened *its, shard *in, node *all) {
+    bool is_locked = enter(its, in);
+    int status = node_gather(&in->node, all);
+    leave(in, is_locked);
+    return status;
+}
+
 /* Joins what a history has of a shard's buckets to the shard, by way of a history of these alone, so that the shard gets all of them or none. */
-static int join_shard(opened *its, size_t number, node *all, uint8_t *frame) {
+static int join_shard(opened *its, size_t number, node *all, uint8_t *message) {
     node part = {0};
     shard *in = &its->shards[number];
     int status = open_alone(its, &part);
-    for (size_t bucket = number; bucket < BUCKETS && status == WARM_OK; bucket += its->count) status = send_bucket(all, (uint8_t)bucket, &part, frame);
-    if (status == WARM_OK) {
-        bool is_locked = enter(its, in);
-        status = node_gather(&in->node, &part);
-        leave(in, is_locked);
-    }
+    for (size_t bucket = number; bucket < WARM_BUCKETS && status == WARM_OK; bucket += its->count) status = send_bucket(all, (uint8_t)bucket, &part, message);
+    if (status == WARM_OK) status = join_one(its, in, &part);
     node_close(&part);
     return status;
 }
@@ -159,33 +233,41 @@ static int join_shard(opened *its, size_t number, node *all, uint8_t *frame) {
 /* Joins a history to those of all shards. */
 static int join_all(opened *its, node *all) {
     int status = WARM_OK;
-    uint8_t *frame = malloc(FRAME_ROOM);
-    if (frame == NULL) return WARM_MEMORY;
-    for (size_t number = 0; number < its->count && status == WARM_OK; number++) status = join_shard(its, number, all, frame);
-    free(frame);
+    if (its->count == 1) return join_one(its, &its->shards[0], all);
+    uint8_t *message = malloc(WARM_MESSAGE_ROOM);
+    if (message == NULL) return WARM_MEMORY;
+    for (size_t number = 0; number < its->count && status == WARM_OK; number++) status = join_shard(its, number, all, message);
+    free(message);
     return status;
 }
 
-int warm_load(warm *handle, int fd, uint64_t length) {
-    opened *its = handle->at;
+static int load_from(opened *its, int number, uint64_t length) {
     node all = {0};
-    if (its == NULL) return WARM_CLOSED;
-    if (its->count == 1) {
-        shard *in = &its->shards[0];
-        bool is_locked = enter(its, in);
-        int status = node_load(&in->node, fd, length);
-        leave(in, is_locked);
-        return status;
-    }
+    if (has_one_alone(its)) return node_load(&its->shards[0].node, number, length);
     int status = open_alone(its, &all);
     if (status != WARM_OK) return status;
-    status = node_load(&all, fd, length);
+    status = node_load(&all, number, length);
     if (status == WARM_OK) status = join_all(its, &all);
     node_close(&all);
     return status;
 }
 
-/* ---- frames of messages ---- */
+int warm_load(warm *handle, int fd, uint64_t length) {
+    if (handle->at == NULL) return WARM_CLOSED;
+    return is_made_up(fd) ? WARM_DUMP_NOT_READ : load_from(handle->at, fd, length);
+}
+
+int warm_load_from(warm *handle, const warm_device *file, uint64_t length) {
+    int32_t number;
+    if (handle->at == NULL) return WARM_CLOSED;
+    if (!device_is_good(file)) return WARM_BAD_DEVICE;
+    if (!device_add(file, 1, &number)) return WARM_MEMORY;
+    int status = load_from(handle->at, number, length);
+    device_drop(number);
+    return status;
+}
+
+/* ---- messages ---- */
 
 /* The digests of all buckets, of each by its shard, and the latest horizon of a shard. */
 static int gather_digests(opened *its, node_table *table, uint64_t *horizon) {
@@ -200,35 +282,31 @@ static int gather_digests(opened *its, node_table *table, uint64_t *horizon) {
     return status;
 }
 
-int warm_offer(warm *handle, uint8_t *frame, size_t room, size_t *length) {
+int warm_offer(warm *handle, void *message, size_t room, size_t *length) {
     opened *its = handle->at;
     node_table table = {0};
     uint64_t horizon;
     if (its == NULL) return WARM_CLOSED;
     int status = gather_digests(its, &table, &horizon);
     if (status != WARM_OK) return status;
-    return node_offer_frame(its->of->number, horizon, &table, frame, room, length);
+    return node_offer_frame(its->of->number, horizon, &table, message, room, length);
 }
 
-int warm_send(warm *handle, uint8_t bucket, bool has_after, warm_page after, uint8_t *frame, size_t room, size_t *length) {
+/* A message without entries leaves the place as it was: the page of the last entry is then as it was, too. */
+int warm_send(warm *handle, warm_sending *sending, void *message, size_t room, size_t *length) {
     opened *its = handle->at;
+    bool more = false;
+    node_page after = page_in(sending->after), last = after;
     if (its == NULL) return WARM_CLOSED;
-    shard *in = &its->shards[bucket % its->count];
+    shard *in = &its->shards[sending->bucket % its->count];
     bool is_locked = enter(its, in);
-    int status = node_send(&in->node, bucket, has_after, after, frame, room, length);
+    int status = node_send_since(&in->node, sending->bucket, sending->since, sending->has_after, after, message, room, length, &more, &last);
     leave(in, is_locked);
-    return status;
-}
-
-int warm_send_since(warm *handle, uint8_t bucket, uint64_t since, bool has_after, warm_page after, uint8_t *frame, size_t room, size_t *length,
-    bool *more, warm_page *last) {
-    opened *its = handle->at;
-    if (its == NULL) return WARM_CLOSED;
-    shard *in = &its->shards[bucket % its->count];
-    bool is_locked = enter(its, in);
-    int status = node_send_since(&in->node, bucket, since, has_after, after, frame, room, length, more, last);
-    leave(in, is_locked);
-    return status;
+    if (status != WARM_OK) return status;
+    if (*length > EMPTY_MESSAGE) sending->has_after = true;
+    sending->after = page_out(last);
+    sending->more = more;
+    return WARM_OK;
 }
 
 int warm_limit(warm *handle, uint64_t time) {
@@ -238,86 +316,113 @@ int warm_limit(warm *handle, uint64_t time) {
     return WARM_OK;
 }
 
-/* Each shard takes the horizon of a frame of entries, and those of its pages. */
-static int take_entries(opened *its, const node_frame *what, const uint8_t *frame, size_t length) {
+int warm_limit_history(warm *handle, uint64_t horizon, size_t pages) {
+    opened *its = handle->at;
+    if (its == NULL) return WARM_CLOSED;
+    atomic_store(&its->of->horizon_limit, horizon);
+    atomic_store(&its->of->page_limit, pages);
+    return WARM_OK;
+}
+
+/* How many entries a message of entries has: its count is the first number behind its header, which has a horizon in one of the two formats
+ * (docs/FORMATS.md). It was read before, so that it is there. */
+static size_t entries_in(const uint8_t *message) {
+    const uint8_t *at = message + (message[3] == '1' ? 11 : 19);
+    return (size_t)at[0] << 24 | (size_t)at[1] << 16 | (size_t)at[2] << 8 | at[3];
+}
+
+/* Whether a message that was read keeps the limits of the history, or which one not. */
+static int keeps_limits(warm *handle, const node_frame *what, const uint8_t *message) {
+    replica *of = ((opened *)handle->at)->of;
+    size_t known, limit = atomic_load(&of->page_limit);
+    if (what->horizon > atomic_load(&of->horizon_limit)) return WARM_LATE_HORIZON;
+    if (limit == SIZE_MAX || what->kind != NODE_ENTRIES) return WARM_OK;
+    warm_history_length(handle, &known);
+    size_t more = entries_in(message);
+    return more == 0 || (known <= limit && more <= limit - known) ? WARM_OK : WARM_TOO_MANY_PAGES;
+}
+
+/* Each shard takes the horizon of a message of entries, and those of its pages. */
+static int take_entries(opened *its, const node_frame *what, const uint8_t *message, size_t length) {
     int status = WARM_OK;
     for (size_t number = 0; number < its->count && status == WARM_OK; number++) {
         uint64_t horizon;
         bool has_entries = (what->shards >> number & 1) != 0;
         shard *in = &its->shards[number];
         bool is_locked = enter(its, in);
-        status = has_entries ? node_receive_part(&in->node, its->count, number, frame, length) : node_horizon(&in->node, what->horizon, &horizon);
+        status = has_entries ? node_receive_part(&in->node, its->count, number, message, length) : node_horizon(&in->node, what->horizon, &horizon);
         leave(in, is_locked);
     }
     return status;
 }
 
-/* What a frame of digests is answered with: the entries of the buckets that differ, and a request for those of the other. */
-static int compare(opened *its, const uint8_t *frame, size_t length, answers *given) {
+/* What a message of digests is answered with: the entries of the buckets that differ, and a request for those of the other. */
+static int compare(opened *its, const uint8_t *message, size_t length, answers *given) {
     node_table table = {0};
     int status = gather_digests(its, &table, &given->horizon);
-    if (status == WARM_OK) status = node_differing(&table, frame, length, &given->buckets);
+    if (status == WARM_OK) status = node_differing(&table, message, length, &given->buckets);
     given->wanted = given->buckets;
     return status;
 }
 
-/* Takes in a frame that may be taken in, and says what it is answered with. */
-static int take_in(opened *its, const node_frame *what, const uint8_t *frame, size_t length, answers *given) {
+/* Takes in a message that may be taken in, and says what it is answered with. */
+static int take_in(opened *its, const node_frame *what, const uint8_t *message, size_t length, answers *given) {
     uint64_t horizon;
     *given = (answers){0};
-    if (what->kind == NODE_ENTRIES) return take_entries(its, what, frame, length);
+    if (what->kind == NODE_ENTRIES) return take_entries(its, what, message, length);
     raise_all(its, what->horizon, &horizon);
-    if (what->kind == NODE_DIGESTS) return compare(its, frame, length, given);
+    if (what->kind == NODE_DIGESTS) return compare(its, message, length, given);
     given->buckets = what->buckets;
     return WARM_OK;
 }
 
-int warm_receive(warm *handle, const uint8_t *frame, size_t length) {
+int warm_receive(warm *handle, const void *message, size_t length) {
     opened *its = handle->at;
     node_frame what;
     answers given;
     if (its == NULL) return WARM_CLOSED;
-    int status = node_read_frame(its->count, atomic_load(&its->of->limit), frame, length, &what);
-    if (status == WARM_OK) status = take_in(its, &what, frame, length, &given);
+    int status = node_read_frame(its->count, atomic_load(&its->of->limit), message, length, &what);
+    if (status == WARM_OK) status = keeps_limits(handle, &what, message);
+    if (status == WARM_OK) status = take_in(its, &what, message, length, &given);
     if (status == WARM_OK) its->waiting = given;
     return status;
 }
 
 /* Goes on behind what was sent of the lowest bucket of the answers. */
-static void go_on(answers *waiting, bool more, warm_page last) {
+static void go_on(answers *waiting, bool more, node_page last) {
     waiting->has_after = more;
     waiting->after = last;
     if (!more) waiting->buckets = without_lowest(waiting->buckets);
 }
 
-/* Writes the frame of the next entries of the lowest bucket, and its length. A bucket without any is passed over, with a length of 0, and
- * nothing is written to the frame then. */
-static int next_entries(opened *its, uint8_t *frame, size_t room, size_t *length) {
+/* Writes the message of the next entries of the lowest bucket, and its length. A bucket without any is passed over, with a length of 0, and
+ * nothing is written to the message then. */
+static int next_entries(opened *its, uint8_t *message, size_t room, size_t *length) {
     answers *waiting = &its->waiting;
-    uint8_t bucket = (uint8_t)lowest(waiting->buckets), before[EMPTY_FRAME];
-    size_t kept = room < EMPTY_FRAME ? room : EMPTY_FRAME, needed = 0;
-    warm_page last = waiting->after;
+    uint8_t bucket = (uint8_t)lowest(waiting->buckets), before[EMPTY_MESSAGE];
+    size_t kept = room < EMPTY_MESSAGE ? room : EMPTY_MESSAGE, needed = 0;
+    node_page last = waiting->after;
     bool more = false;
-    memcpy(before, frame, kept);
+    memcpy(before, message, kept);
     shard *in = &its->shards[bucket % its->count];
     bool is_locked = enter(its, in);
-    int status = node_send_since(&in->node, bucket, 0, waiting->has_after, waiting->after, frame, room, &needed, &more, &last);
+    int status = node_send_since(&in->node, bucket, 0, waiting->has_after, waiting->after, message, room, &needed, &more, &last);
     leave(in, is_locked);
     if (status != WARM_OK && status != WARM_BUFFER_TOO_SMALL) return status;
-    bool is_empty = needed == EMPTY_FRAME;
-    if (is_empty) memcpy(frame, before, kept);
+    bool is_empty = needed == EMPTY_MESSAGE;
+    if (is_empty) memcpy(message, before, kept);
     *length = is_empty ? 0 : needed;
     if (!is_empty && status != WARM_OK) return status;
     go_on(waiting, more, last);
     return WARM_OK;
 }
 
-int warm_next_answer(warm *handle, uint8_t *frame, size_t room, size_t *length) {
+int warm_next_answer(warm *handle, void *message, size_t room, size_t *length) {
     opened *its = handle->at;
     if (its == NULL) return WARM_CLOSED;
     size_t written = 0;
     while (its->waiting.buckets != 0) {
-        int status = next_entries(its, frame, room, &written);
+        int status = next_entries(its, message, room, &written);
         if (status == WARM_MEMORY) return status;
         if (written != 0) *length = written;
         if (status != WARM_OK || written != 0) return status;
@@ -326,172 +431,58 @@ int warm_next_answer(warm *handle, uint8_t *frame, size_t room, size_t *length) 
         *length = 0;
         return WARM_OK;
     }
-    int status = node_want_frame(its->of->number, its->waiting.horizon, its->waiting.wanted, frame, room, length);
+    int status = node_want_frame(its->of->number, its->waiting.horizon, its->waiting.wanted, message, room, length);
     if (status == WARM_OK) its->waiting.wanted = 0;
-    return status;
-}
-
-/* ---- devices ---- */
-
-int warm_write_back_some(warm *handle, size_t limit, size_t *left) {
-    opened *its = handle->at;
-    size_t all = 0;
-    if (its == NULL) return WARM_CLOSED;
-    for (size_t number = 0; number < its->count; number++) {
-        size_t before = 0, after = 0;
-        bool is_last = number + 1 == its->count; /* how many the last one writes, none has to know */
-        shard *in = &its->shards[number];
-        bool is_locked = enter(its, in);
-        int status = is_last ? WARM_OK : node_write_back_some(&in->node, 0, &before);
-        if (status == WARM_OK) status = node_write_back_some(&in->node, limit, &after);
-        leave(in, is_locked);
-        if (status != WARM_OK) return noted(its, in, status);
-        if (!is_last) limit -= before - after;
-        all += after;
-    }
-    *left = all;
-    return WARM_OK;
-}
-
-/* Writes what waits in a shard and flushes its devices, or leaves the flushes for later. */
-static int write_shard(opened *its, shard *in, bool flushes) {
-    size_t left;
-    bool is_locked = enter(its, in);
-    int status = flushes ? node_write_back(&in->node) : node_write_back_some(&in->node, SIZE_MAX, &left);
-    leave(in, is_locked);
-    return noted(its, in, status);
-}
-
-/* All pages are written before the first flush: so a file that all shards have written to is synced once. One shard does both itself. */
-int warm_write_back(warm *handle) {
-    opened *its = handle->at;
-    int status = WARM_OK;
-    if (its == NULL) return WARM_CLOSED;
-    for (size_t number = 0; number < its->count && its->count > 1 && status == WARM_OK; number++) status = write_shard(its, &its->shards[number], false);
-    for (size_t number = 0; number < its->count && status == WARM_OK; number++) status = write_shard(its, &its->shards[number], true);
-    return status;
-}
-
-int warm_flush(warm *handle, uint16_t dev) {
-    opened *its = handle->at;
-    int status = WARM_OK;
-    if (its == NULL) return WARM_CLOSED;
-    for (size_t number = 0; number < its->count && status == WARM_OK; number++) {
-        shard *in = &its->shards[number];
-        bool is_locked = enter(its, in);
-        status = node_flush(&in->node, dev);
-        leave(in, is_locked);
-        noted(its, in, status);
-    }
-    return status;
-}
-
-/* Returns whether the shards were locked, which is decided once for all of them. */
-static bool enter_all(opened *its) {
-    if (open_handles(its->of) == 1) return false;
-    for (size_t number = 0; number < its->count; number++) pthread_mutex_lock(&its->shards[number].lock);
-    return true;
-}
-
-static void leave_all(opened *its, bool are_locked) {
-    for (size_t number = its->count; number-- > 0;) leave(&its->shards[number], are_locked);
-}
-
-/* Whether no shard would be refused to forget these pages, or why one is. All shards are entered. */
-static int may_all_forget(opened *its, uint16_t dev, uint64_t from) {
-    int status = WARM_OK;
-    for (size_t number = 0; number < its->count && status == WARM_OK; number++) status = node_may_forget(&its->shards[number].node, dev, from);
-    return status;
-}
-
-/* All shards are asked before the first one forgets: after that none is refused. */
-int warm_forget(warm *handle, uint16_t dev, uint64_t from) {
-    opened *its = handle->at;
-    if (its == NULL) return WARM_CLOSED;
-    bool are_locked = enter_all(its);
-    int status = may_all_forget(its, dev, from);
-    for (size_t number = 0; number < its->count && status == WARM_OK; number++) status = node_forget(&its->shards[number].node, dev, from);
-    leave_all(its, are_locked);
-    return status;
-}
-
-/* What may refuse a shard to replace a device, and is not memory, is met before the first one does: what the new device is, a pinned page, a
- * write or a flush that fails. All shards are entered. */
-static int settle_in_all(opened *its, uint16_t dev, const warm_device *device) {
-    int status = node_may_replace(&its->shards[0].node, dev, device);
-    if (status == WARM_OK) status = may_all_forget(its, dev, 0);
-    for (size_t number = 0; number < its->count && status == WARM_OK; number++) {
-        shard *in = &its->shards[number];
-        status = noted(its, in, node_flush(&in->node, dev));
-    }
-    return status;
-}
-
-/* Gives the first shards the device again that the replica has. */
-static void put_back(opened *its, uint16_t dev, size_t count) {
-    for (size_t number = 0; number < count; number++) node_replace(&its->shards[number].node, dev, &its->of->devices[dev]);
-}
-
-/* Replaces the device in each shard, or goes back. All shards are entered. */
-static int replace_in_all(opened *its, uint16_t dev, const warm_device *device) {
-    int status = its->count == 1 ? WARM_OK : settle_in_all(its, dev, device);
-    if (status != WARM_OK) return status;
-    for (size_t number = 0; number < its->count; number++) {
-        shard *in = &its->shards[number];
-        status = noted(its, in, node_replace(&in->node, dev, device));
-        if (status == WARM_OK) continue;
-        put_back(its, dev, number);
-        return status;
-    }
-    return WARM_OK;
-}
-
-int warm_replace(warm *handle, uint16_t dev, const warm_device *device) {
-    opened *its = handle->at;
-    if (its == NULL) return WARM_CLOSED;
-    if (dev >= its->of->device_count) return WARM_NO_DEVICE;
-    if (!sync_add(device->fd)) return WARM_MEMORY;
-    bool are_locked = enter_all(its);
-    int status = replace_in_all(its, dev, device);
-    int let_go = status == WARM_OK ? its->of->devices[dev].fd : device->fd;
-    if (status == WARM_OK) its->of->devices[dev] = *device;
-    leave_all(its, are_locked);
-    sync_drop(let_go);
     return status;
 }
 
 /* ---- counts ---- */
 
+/* Pages are counted as passed over before the nodes take them for written: where a thread is about to
+ * pass over one, no count falls below 0. */
+static void take_from(uint64_t *count, uint64_t passed) { *count -= passed < *count ? passed : *count; }
+
 int warm_counts(warm *handle, warm_counters *counters) {
     opened *its = handle->at;
     warm_counters all = {0};
     if (its == NULL) return WARM_CLOSED;
+    all.hits = hits_of_holds(its->of);
     for (size_t number = 0; number < its->count; number++) {
-        warm_counters part = {0};
+        node_counters part = {0};
         shard *in = &its->shards[number];
         bool is_locked = enter(its, in);
         node_counts(&in->node, &part);
+        all.hits += part.hits - in->table.pins;
         leave(in, is_locked);
-        all.hits += part.hits;
         all.misses += part.misses;
         all.evictions += part.evictions;
         all.written_back += part.written_back;
         all.resident += part.resident;
         all.dirty += part.dirty;
     }
+    take_from(&all.written_back, atomic_load(&its->of->passed));
     *counters = all;
     return WARM_OK;
 }
 
 /* A count that reaches the greatest number stays there. */
-static void add_to(uint64_t *count, uint64_t more) { *count = more > UINT64_MAX - *count ? UINT64_MAX : *count + more; }
+static void add_to(uint64_t *count, uint64_t more) {
+    *count = more > UINT64_MAX - *count ? UINT64_MAX : *count + more;
+}
+
+/* What was counted beside the nodes. */
+static void add_known(const known_device *known, warm_device_counters *all) {
+    add_to(&all->flushes, atomic_load(&known->flushes));
+    add_to(&all->failures, atomic_load(&known->failures));
+    if (all->writes != UINT64_MAX) take_from(&all->writes, atomic_load(&known->passed));
+}
 
 int warm_device_counts(warm *handle, uint16_t dev, warm_device_counters *counters) {
     opened *its = handle->at;
     warm_device_counters all = {0};
     if (its == NULL) return WARM_CLOSED;
     for (size_t number = 0; number < its->count; number++) {
-        warm_device_counters part = {0};
+        node_device_counters part = {0};
         shard *in = &its->shards[number];
         bool is_locked = enter(its, in);
         int status = node_device_counts(&in->node, dev, &part);
@@ -502,6 +493,7 @@ int warm_device_counts(warm *handle, uint16_t dev, warm_device_counters *counter
         add_to(&all.flushes, part.flushes);
         add_to(&all.failures, part.failures);
     }
+    add_known(&its->of->known[dev], &all);
     *counters = all;
     return WARM_OK;
 }
@@ -509,11 +501,9 @@ int warm_device_counts(warm *handle, uint16_t dev, warm_device_counters *counter
 int warm_last_failure(warm *handle, bool *found, warm_failure *failure) {
     opened *its = handle->at;
     if (its == NULL) return WARM_CLOSED;
-    shard *in = &its->shards[atomic_load(&its->of->failed_in)];
-    bool is_locked = enter(its, in);
-    int status = node_last_failure(&in->node, found, failure);
-    leave(in, is_locked);
-    return status;
+    const node_failure *last = &its->failure;
+    *found = its->has_failed;
+    if (!its->has_failed) return WARM_OK;
+    *failure = (warm_failure){.dev = last->dev, .what = last->what, .error = last->error, .no = last->no};
+    return WARM_OK;
 }
-
-int warm_status_name(int status, uint8_t *name, size_t room, size_t *length) { return node_status_name(status, name, room, length); }

@@ -5,7 +5,7 @@
 
 version=15
 folder_of_library=$(dirname "$(dirname "$library")")
-"$here/../scripts/need" gcc:gcc make:make prlimit:util-linux runuser:util-linux
+"$here/../scripts/need" gcc:gcc make:make prlimit:util-linux runuser:util-linux prove:perl /usr/share/perl5/IPC/Run.pm:libipc-run-perl
 [ -n "${PG_CONFIG:-}" ] || "$here/../scripts/need" "/usr/lib/postgresql/$version/bin/postgres:postgresql-$version" \
     "/usr/include/postgresql/$version/server/postgres.h:postgresql-server-dev-$version"
 config=${PG_CONFIG:-/usr/lib/postgresql/$version/bin/pg_config}
@@ -34,7 +34,7 @@ make_work() {
     copy_folder "$("$config" --bindir)"
     copy_folder "$("$config" --sharedir)"
     copy_libraries
-    cp -r "$here"/*.[ch] "$here"/*.sql "$here"/*.control "$here/Makefile" "$here/test" "$here/sql" "$here/expected" "$work/build/"
+    cp -r "$here"/*.[ch] "$here"/*.sql "$here"/*.control "$here/Makefile" "$here/test" "$here/sql" "$here/expected" "$here/t" "$work/build/"
     if [ "$(id -u)" = 0 ]; then chown -R postgres "$work"; fi
 }
 
@@ -107,9 +107,9 @@ make_primary() {
         "fsync = off" "jit = off" "max_parallel_workers_per_gather = 0" "max_wal_senders = 12" "wal_keep_size = 1GB" "max_wal_size = 4GB" \
         "max_standby_streaming_delay = -1" "max_worker_processes = 16" "max_connections = 40" "log_min_messages = info" \
         "track_io_timing = on" "autovacuum_naptime = 1h" "dynamic_shared_memory_type = mmap" \
-        "shared_preload_libraries = 'pg_stat_statements,pg_prewarm,warm_standby'" "pg_prewarm.autoprewarm = off" \
-        "pg_stat_statements.save = off" "warm_standby.sample_interval = 200ms" "warm_standby.publish_interval = 1s" \
-        "warm_standby.full_interval = 10s" "warm_standby.load_interval = 500ms" "warm_standby.load_rate = 4000" "${@:3}"
+        "shared_preload_libraries = 'pg_stat_statements,pg_prewarm,standby_prewarm'" "pg_prewarm.autoprewarm = off" \
+        "pg_stat_statements.save = off" "standby_prewarm.sample_interval = 200ms" "standby_prewarm.publish_interval = 1s" \
+        "standby_prewarm.full_interval = 10s" "standby_prewarm.load_interval = 500ms" "standby_prewarm.load_rate = 4000" "standby_prewarm.fraction = 0.8" "${@:3}"
     start "$1"
 }
 
@@ -123,6 +123,22 @@ make_standby() {
     start "$name"
 }
 
+# follow SERVER OF: a server that was stopped becomes a standby of OF, and starts.
+follow() {
+    as touch "$work/$1/standby.signal"
+    printf '%s\n' "primary_conninfo = 'host=$work/run port=$(port "$2") user=postgres'" "primary_slot_name = ''" |
+        as tee -a "$work/$1/postgresql.auto.conf" > /dev/null
+    start "$1"
+}
+
+# rewind SERVER OF: pg_rewind, which copies the configuration of OF, too: the server keeps its own.
+rewind() {
+    as cp "$work/$1/postgresql.conf" "$work/$1/postgresql.auto.conf" "$work/run/"
+    as "$bin/pg_rewind" -D "$work/$1" --source-server="host=$work/run port=$(port "$2") user=postgres dbname=postgres" --no-sync > "$work/rewind.log" 2>&1 ||
+        fail "pg_rewind of $1: $(tail -n 3 "$work/rewind.log")"
+    as cp "$work/run/postgresql.conf" "$work/run/postgresql.auto.conf" "$work/$1/"
+}
+
 # until_true SECONDS SERVER QUERY: waits until it gives t.
 until_true() {
     local end=$((SECONDS + $1))
@@ -132,12 +148,28 @@ until_true() {
     done
 }
 
-# The standby has replayed what the primary has written: a commit writes what was only inserted, as the record of a lock.
+# flush SERVER: all WAL that was inserted, as the record of a lock or a message, is written and flushed. A commit does that where its transaction
+# wrote something else; txid_current alone is not enough.
+flush() { sql "$1" "select pg_logical_emit_message(true, 'flush', '')" > /dev/null; }
+
+# caught_up STANDBY PRIMARY [SECONDS]: the standby has replayed what was inserted on the primary. Where it does not, what it waits for is said.
 caught_up() {
     local lsn
-    sql "$2" "select txid_current()" > /dev/null
+    flush "$2"
     lsn=$(sql "$2" "select pg_current_wal_lsn()")
-    until_true 60 "$1" "select pg_last_wal_replay_lsn() >= '$lsn'"
+    until_true "${3:-60}" "$1" "select pg_last_wal_replay_lsn() >= '$lsn'" || { explain "$1" "$lsn"; return 1; }
+}
+
+# explain STANDBY LSN: why it does not replay up to there.
+explain() {
+    {
+        echo "$1 does not replay up to $2:"
+        sql "$1" "select 'received ' || coalesce(pg_last_wal_receive_lsn()::text, 'nothing') || ', replayed ' || pg_last_wal_replay_lsn() || ', ' ||
+                         pg_get_wal_replay_pause_state() || ', receiver ' || coalesce((select status || ' ' || latest_end_lsn from pg_stat_wal_receiver), 'none')"
+        sql "$1" "select backend_type, pid, wait_event_type, wait_event, state from pg_stat_activity where backend_type <> 'client backend'"
+        sql "$1" "select locktype, relation, pid, mode, granted from pg_locks where pid <> pg_backend_pid()"
+        tail -n 12 "$work/$1.log"
+    } >&2
 }
 
 # load SERVER TRANSACTIONS SEED SEED2 [RATE]: by four clients. Rows are drawn by Zipf's law; seed2 says which are hot for a third of them.
@@ -151,4 +183,46 @@ load() {
 misses() {
     sql "$1" "select coalesce(sum(shared_blks_read), 0) from pg_stat_statements
               where query like 'SELECT abalance%' or query like 'UPDATE pgbench%'"
+}
+
+tests=0
+
+ok() {
+    tests=$((tests + 1))
+    echo "ok $tests - $1 (${SECONDS}s)"
+}
+
+# stat SERVER COLUMN: of its view.
+stat() { sql "$1" "select $2 from pg_stat_standby_prewarm"; }
+
+# is SERVER CONDITION NAME [SECONDS]: a test that the condition on the view comes to hold. Limits of time are those of a busy machine.
+is() {
+    until_true "${4:-60}" "$1" "select $2 from pg_stat_standby_prewarm" ||
+        fail "$3: not $2 on $1: $(stat "$1" "pg_stat_standby_prewarm")"
+    ok "$3"
+}
+
+logged() {
+    local end=$((SECONDS + 60))
+    until grep -q "$2" "$work/$1.log"; do
+        [ $SECONDS -lt $end ] || fail "$3: $1 does not say '$2': $(tail -n 5 "$work/$1.log")"
+        sleep 0.1
+    done
+    ok "$3"
+}
+
+worker() { sql "$1" "select pid from pg_stat_activity where backend_type = '$2' limit 1"; }
+
+# Ends a server by kill -9, and waits until its processes, whose parent it is, have ended too.
+kill_server() {
+    local pid children
+    pid=$(head -n 1 "$work/$1/postmaster.pid")
+    children=$(ps -o pid= --ppid "$pid")
+    kill -9 "$pid"
+    for _ in $(seq 200); do
+        # shellcheck disable=SC2086
+        kill -0 $children 2> /dev/null || return 0
+        sleep 0.05
+    done
+    fail "processes of $1 go on after its end"
 }

@@ -2,11 +2,15 @@
  * compat.h
  *		What differs between the versions of PostgreSQL, 15 to 18.
  *
- * All tests of the version are here.  Tried with 15 and 18; the names of 16
- * and 17 are as their headers have them.
+ * All tests of the version are here.  Tried with 15; an earlier state was
+ * with 18, and the names of 16 and 17 are as their headers have them.
  */
-#ifndef WARM_STANDBY_COMPAT_H
-#define WARM_STANDBY_COMPAT_H
+#ifndef STANDBY_PREWARM_COMPAT_H
+#define STANDBY_PREWARM_COMPAT_H
+
+#if PG_VERSION_NUM < 150000 || PG_VERSION_NUM >= 190000
+#error "standby_prewarm is for PostgreSQL 15 to 18"
+#endif
 
 #include "storage/buf_internals.h"
 #include "utils/rel.h"
@@ -29,4 +33,4 @@
 #define RelidOfFile(space, file) RelidByRelfilenode(space, file)
 #endif
 
-#endif							/* WARM_STANDBY_COMPAT_H */
+#endif							/* STANDBY_PREWARM_COMPAT_H */

@@ -9,54 +9,54 @@
 #include "postgres.h"
 
 #include "utils/memutils.h"
-#include "warm_standby.h"
-
-#define MOST_DEVICES 65536
+#include "standby_prewarm.h"
 
 typedef struct Number
 {
-	WsDevice	device;			/* the key */
+	SpDevice	device;			/* the key */
 	uint16		number;
 } Number;
 
-int			ws_device_count = 0;	/* the greatest number given, plus 1 */
+int			sp_device_count = 0;	/* the greatest number given, plus 1 */
 
 static HTAB *numbers = NULL;
 static Number *last = NULL;		/* the one that was looked for last, often also the next */
-static WsDevice devices[MOST_DEVICES];	/* by number; fork -1: not given */
+static SpDevice devices[SP_MOST_DEVICES];	/* by number; fork -1: not given */
 
 /* Forgets all numbers. */
 void
-ws_directory_reset(void)
+sp_directory_reset(void)
 {
-	HASHCTL		control = {.keysize = sizeof(WsDevice), .entrysize = sizeof(Number),
-	.hcxt = TopMemoryContext};
+	HASHCTL		control = {0};
 
+	control.keysize = sizeof(SpDevice);
+	control.entrysize = sizeof(Number);
+	control.hcxt = TopMemoryContext;
 	if (numbers != NULL)
 		hash_destroy(numbers);
-	numbers = hash_create("warm_standby devices", 64, &control,
+	numbers = hash_create("standby_prewarm devices", 64, &control,
 						  HASH_ELEM | HASH_BLOBS | HASH_CONTEXT);
 	last = NULL;
-	ws_device_count = 0;
+	sp_device_count = 0;
 }
 
 /* The device of a number, or NULL. */
-static const WsDevice *
+static const SpDevice *
 device_of(int number)
 {
-	return number < ws_device_count && devices[number].fork >= 0 ? &devices[number] : NULL;
+	return number < sp_device_count && devices[number].fork >= 0 ? &devices[number] : NULL;
 }
 
 /* Notes that a device has a number; false where it has another, or the number another device. */
 static bool
-put(uint16 number, const WsDevice *device)
+put_number(uint16 number, const SpDevice *device)
 {
 	Number	   *entry = hash_search(numbers, device, HASH_FIND, NULL);
 
 	if (entry != NULL || device_of(number) != NULL)
 		return entry != NULL && entry->number == number;
-	while (ws_device_count <= number)
-		devices[ws_device_count++].fork = -1;
+	while (sp_device_count <= number)
+		devices[sp_device_count++].fork = -1;
 	devices[number] = *device;
 	entry = hash_search(numbers, device, HASH_ENTER, NULL);
 	entry->number = number;
@@ -68,10 +68,9 @@ put(uint16 number, const WsDevice *device)
  * device has no number.  With give, it is given one, where there are any.
  */
 bool
-ws_page_of(const BufferTag *tag, bool give, warm_page *page)
+sp_page_of(const BufferTag *tag, bool give, warm_page *page)
 {
-	WsDevice	device = {.space = TagSpace(tag), .database = TagDatabase(tag),
-	.fork = tag->forkNum};
+	SpDevice	device = {TagSpace(tag), TagDatabase(tag), tag->forkNum};
 
 	if (tag->forkNum < MAIN_FORKNUM || tag->forkNum > MAX_FORKNUM)
 		return false;
@@ -80,40 +79,42 @@ ws_page_of(const BufferTag *tag, bool give, warm_page *page)
 		last = hash_search(numbers, &device, HASH_FIND, NULL);
 	if (last != NULL)
 		page->dev = last->number;
-	else if (give && ws_device_count < MOST_DEVICES)
+	else if (give && sp_device_count < SP_MOST_DEVICES)
 	{
-		page->dev = (uint16) ws_device_count;
-		put(page->dev, &device);
+		page->dev = (uint16) sp_device_count;
+		put_number(page->dev, &device);
 	}
 	else
 		return false;
 	return true;
 }
 
-/* Writes the names of a page of the history; false where its device is not known. */
+/* Writes the names of a page of the history; false where there is no such file. */
 bool
-ws_names_of(warm_page page, WsPage *names)
+sp_names_of(warm_page page, SpPage *names)
 {
-	const WsDevice *device = device_of(page.dev);
+	const SpDevice *device = device_of(page.dev);
 
-	if (device != NULL)
-		*names = (WsPage) {.device = *device, .file = (Oid) (page.no >> 32),
-	.block = (BlockNumber) page.no};
-	return device != NULL;
+	if (device == NULL || page.no >> 32 == InvalidOid)
+		return false;
+	names->device = *device;
+	names->file = (Oid) (page.no >> 32);
+	names->block = (BlockNumber) page.no;
+	return true;
 }
 
 /* Writes the numbers from *next to below end, at most that many; returns the end of the bytes. */
 uint8 *
-ws_directory_encode(int *next, int end, int most, uint8 *to)
+sp_directory_encode(int *next, int end, int most, uint8 *to)
 {
 	for (; most > 0 && *next < end; ++*next)
 	{
-		const WsDevice *device = device_of(*next);
+		const SpDevice *device = device_of(*next);
 
 		if (device == NULL)
 			continue;
-		to = ws_put(ws_put(to, *next, 2), device->space, 4);
-		to = ws_put(ws_put(to, device->database, 4), device->fork, 1);
+		to = sp_put(sp_put(to, *next, 2), device->space, 4);
+		to = sp_put(sp_put(to, device->database, 4), device->fork, 1);
 		most--;
 	}
 	return to;
@@ -121,19 +122,18 @@ ws_directory_encode(int *next, int end, int most, uint8 *to)
 
 /* Takes numbers in, up to the first that is refused. */
 int
-ws_directory_decode(const uint8 *bytes, Size length)
+sp_directory_decode(const uint8 *bytes, Size length)
 {
-	if (length % WS_DEVICE_BYTES != 0)
-		return WS_BAD_DIRECTORY;
-	for (const uint8 *at = bytes; at < bytes + length; at += WS_DEVICE_BYTES)
+	if (length % SP_DEVICE_BYTES != 0)
+		return SP_BAD_DIRECTORY;
+	for (const uint8 *at = bytes; at < bytes + length; at += SP_DEVICE_BYTES)
 	{
-		WsDevice	device = {.space = (Oid) ws_get(at + 2, 4), .database = (Oid) ws_get(at + 6, 4),
-		.fork = at[10]};
+		SpDevice	device = {sp_get(at + 2, 4), sp_get(at + 6, 4), at[10]};
 
 		if (device.fork > MAX_FORKNUM || !OidIsValid(device.space))
-			return WS_BAD_DIRECTORY;
-		if (!put((uint16) ws_get(at, 2), &device))
-			return WS_OTHER_DIRECTORY;
+			return SP_BAD_DIRECTORY;
+		if (!put_number((uint16) sp_get(at, 2), &device))
+			return SP_OTHER_DIRECTORY;
 	}
 	return WARM_OK;
 }

@@ -12,79 +12,105 @@
 #include "access/xlog.h"
 #include "miscadmin.h"
 #include "port/pg_crc32c.h"
+#include "postmaster/interrupt.h"
 #include "storage/fd.h"
-#include "warm_standby.h"
+#include "storage/procsignal.h"
+#include "standby_prewarm.h"
 
-#define HISTORY_FILE "warm_standby.history"
-#define DIRECTORY_FILE "warm_standby.directory"
-#define DRAFT_FILE "warm_standby.tmp"
-#define DIRECTORY_MAGIC UINT64CONST(0x5741524d44495231)	/* WARMDIR1 */
-#define DIRECTORY_HEADER 24		/* magic, system identifier, latest time */
-#define MOST_DIRECTORY_BYTES (DIRECTORY_HEADER + 65536 * WS_DEVICE_BYTES + 4)
+#define HISTORY_FILE "standby_prewarm.history"
+#define DIRECTORY_FILE "standby_prewarm.directory"
+#define DRAFT_FILE "standby_prewarm.tmp"
+#define DIRECTORY_MAGIC UINT64CONST(0x5741524d44495232)	/* WARMDIR2 */
+#define DIRECTORY_HEADER 32		/* magic, system, latest time, position */
+#define MOST_DIRECTORY_BYTES \
+	(DIRECTORY_HEADER + SP_MOST_DEVICES * SP_DEVICE_BYTES + 4)
 
-#define REFERENCES 1024
-#define BOUND_US (60 * US_PER_S)
+#define REFERENCES		1024
+#define BOUND_US		(60 * US_PER_S)
+#define DAY_US			(86400 * US_PER_S)
+#define MOST_KNOWN		10000000	/* by default: some 0.7 GB */
+#define STOP_US			(US_PER_S / 2)	/* for a save at a stop */
 
-uint64		ws_changed_buckets = 0;
-uint64		ws_latest = 0;	/* the latest time given or heard of */
+uint64		sp_changed_buckets = 0;
+uint64		sp_latest = 0;		/* the latest time given or heard of */
+
+/* The saved history has all that WAL says before this. */
+XLogRecPtr	sp_saved_position = InvalidXLogRecPtr;
 
 static warm history = {0};
 static uint16 replica = 1;		/* of a primary, by its timeline */
-/* References that wait, by bucket: the history takes a run of one bucket in fastest. */
-static warm_reference references[WS_BUCKETS][REFERENCES];
-static int	reference_counts[WS_BUCKETS];
 
-static const char *own_names[] = {"BadMessage", "BadVersion", "BadDirectory", "OtherDirectory",
-"LateMessage"};
+/* References wait by bucket: the history takes a run of one bucket fastest. */
+static warm_reference references[SP_BUCKETS][REFERENCES];
+static int	reference_counts[SP_BUCKETS];
+
+/* When a save at a stop is given up; 0: it is another save. */
+static uint64 save_until;
+static bool save_ended;
 
 /* The name of a status, until the next call. */
 const char *
-ws_status_name(int status)
+sp_status_name(int status)
 {
+	static const char *own[] = {"BadMessage", "BadVersion", "BadDirectory",
+	"OtherDirectory", "LateMessage"};
 	static char name[32];
-	Size		length;
+	const char *from = warm_strerror(status);
+	bool		is_first = true;
+	int			length = 0;
 
-	if (status >= WS_BAD_MESSAGE && status <= WS_LATE_MESSAGE)
-		return own_names[status - WS_BAD_MESSAGE];
-	warm_status_name(status, (uint8 *) name, sizeof name - 1, &length);
+	if (status >= SP_BAD_MESSAGE && status <= SP_LATE_MESSAGE)
+		return own[status - SP_BAD_MESSAGE];
+	/* of "WARM_LATE_STAMP: .." LateStamp */
+	if (strncmp(from, "WARM_", 5) != 0)
+		return "Unknown";
+	for (from += 5; *from != ':' && length < (int) sizeof name - 1; from++)
+	{
+		if (*from != '_')
+			name[length++] = is_first ? *from : pg_tolower((unsigned char) *from);
+		is_first = *from == '_';
+	}
+	name[length] = 0;
 	return name;
 }
 
 /* Opens an empty history. */
 static void
-open_history(void)
+history_open(void)
 {
-	warm_device none = {0};
-	int			status = warm_open(&history, 1, 1, 1, 1, &none, 0);
+	const warm_options options = {.size = sizeof options, .replica = 1, .page_size = 1};
+	int			status = warm_open(&history, &options);
 
 	if (status != WARM_OK)
 		ereport(ERROR,
 				(errcode(ERRCODE_OUT_OF_MEMORY),
-				 errmsg("warm_standby could not open its history: %s", ws_status_name(status))));
+				 errmsg("standby_prewarm could not open its history: %s",
+						sp_status_name(status))));
 	memset(reference_counts, 0, sizeof reference_counts);
-	ws_changed_buckets = 0;
+	sp_changed_buckets = 0;
 }
 
 /* Forgets everything: history, directory, clock, files. */
 void
-ws_history_reset(const char *why)
+sp_history_reset(const char *why)
 {
-	ereport(LOG, (errmsg("warm_standby begins a new history: %s", why)));
+	ereport(LOG, (errmsg("standby_prewarm begins a new history: %s", why)));
 	warm_close(&history);
 	(void) unlink(HISTORY_FILE);
 	(void) unlink(DIRECTORY_FILE);
-	ws_directory_reset();
-	open_history();
-	ws_latest = 0;
-	ws_publish_reset();			/* the numbers are given, saved and sent again */
-	ws_stats.resets++;
+	sp_directory_reset();
+	history_open();
+	sp_latest = 0;
+	sp_saved_position = InvalidXLogRecPtr;
+	sp_publish_reset();			/* the numbers are given and sent again */
+	sp_stats.resets++;
 }
 
 /* The limit of times that are believed, in microseconds since 2000. */
 static uint64
-time_limit(void)
+history_time_limit(void)
 {
-	return (uint64) GetCurrentTimestamp() + (uint64) ws_clock_tolerance * US_PER_S;
+	return GetCurrentTimestamp() + sp_clock_tolerance * US_PER_S;
 }
 
 /*
@@ -93,54 +119,89 @@ time_limit(void)
  * standby would refuse the new references: then a new history begins.
  */
 uint64
-ws_clock(void)
+sp_clock(void)
 {
-	uint64		now = (uint64) GetCurrentTimestamp();
-
-	if (ws_latest > time_limit())
-		ws_history_reset("the clock was set back");
-	ws_latest = Max(now, ws_latest + 1);
+	if (sp_latest > history_time_limit())
+		sp_history_reset("the clock was set back");
+	sp_latest = Max((uint64) GetCurrentTimestamp(), sp_latest + 1);
 	/* Timelines differ, so two primaries do. */
 	replica = (uint16) ((GetWALInsertionTimeLine() - 1) % 64 + 1);
-	return ws_latest;
+	return sp_latest;
 }
 
-/* Counts a call of the library that is refused; returns its status. */
-static int
-note(int status)
+/* What an operator can do where this is refused, or NULL. */
+static const char *
+history_hint(int status)
 {
-	if (status != WARM_OK && status >= 0 && status < WS_STATUSES)
-		ws_refused[status]++;
+	switch (status)
+	{
+		case SP_BAD_VERSION:
+			return "Upgrade this server to the version of its primary.";
+		case SP_OTHER_DIRECTORY:
+			return "Find out whether two servers were primaries at the same time.";
+		case SP_LATE_MESSAGE:
+		case WARM_LATE_STAMP:
+		case WARM_LATE_HORIZON:
+			return "Compare the clocks of the servers. They may differ by \"standby_prewarm.clock_tolerance\".";
+		default:
+			return NULL;
+	}
+}
+
+/*
+ * Counts what is refused, a message or a call of the library, and warns of it;
+ * returns its status.
+ */
+int
+sp_note(int status, const char *what)
+{
+	const char *hint = history_hint(status);
+
+	if (status == WARM_OK || status < 0 || status >= SP_STATUSES)
+		return status;
+	sp_refused[status]++;
+	if (sp_may_log(status))
+		ereport(WARNING,
+				(errcode(status == WARM_MEMORY ? ERRCODE_OUT_OF_MEMORY :
+						 ERRCODE_PROTOCOL_VIOLATION),
+				 errmsg("standby_prewarm refused %s: %s", what,
+						sp_status_name(status)),
+				 hint != NULL ? errhint("%s", hint) : 0));
 	return status;
 }
 
 static void
-absorb(int bucket)
+history_absorb_bucket(int bucket)
 {
-	note(warm_absorb(&history, references[bucket], reference_counts[bucket]));
+	sp_note(warm_absorb(&history, references[bucket],
+						reference_counts[bucket]),
+			"references of a sample");
 	reference_counts[bucket] = 0;
 }
 
-/* Hands in what ws_reference has kept. */
+/* Hands the references that wait to the history. */
 void
-ws_references_end(void)
+sp_references_end(void)
 {
-	for (int bucket = 0; bucket < WS_BUCKETS; bucket++)
-		absorb(bucket);
+	for (int bucket = 0; bucket < SP_BUCKETS; bucket++)
+		history_absorb_bucket(bucket);
 }
 
-/* Hands in one reference, with others of its bucket. */
+/* Keeps a reference for the history, with others of its bucket. */
 void
-ws_reference(warm_page page, uint64 time)
+sp_reference(warm_page page, uint64 time)
 {
-	int			bucket = (page.dev + page.no) % WS_BUCKETS;
+	int			bucket = (page.dev + page.no) % SP_BUCKETS;
+	warm_reference *at = &references[bucket][reference_counts[bucket]++];
 
-	references[bucket][reference_counts[bucket]++] = (warm_reference) {.time = time, .no = page.no,
-	.dev = page.dev, .replica = replica};
-	ws_changed_buckets |= UINT64CONST(1) << bucket;
-	ws_stats.page_references++;
+	at->time = time;
+	at->no = page.no;
+	at->dev = page.dev;
+	at->replica = replica;
+	sp_changed_buckets |= UINT64CONST(1) << bucket;
+	sp_stats.page_references++;
 	if (reference_counts[bucket] == REFERENCES)
-		absorb(bucket);
+		history_absorb_bucket(bucket);
 }
 
 /*
@@ -148,43 +209,51 @@ ws_reference(warm_page page, uint64 time)
  * its horizon may be later than all that comes: then a new history begins.
  */
 int
-ws_history_receive(const uint8 *frame, Size length)
+sp_history_receive(const uint8 *frame, Size length)
 {
-	if (ws_latest > time_limit())
-		ws_history_reset("the clock was set back");
-	warm_limit(&history, time_limit());
-	return note(warm_receive(&history, frame, length));
+	if (sp_latest > history_time_limit())
+		sp_history_reset("the clock was set back");
+	warm_limit(&history, history_time_limit());
+	return sp_note(warm_receive(&history, frame, length),
+				   "a message of its primary");
 }
 
 /*
  * Writes the frame of a bucket's next entries with a stamp since then, at most
- * WS_FRAME_ROOM bytes; the page of its last entry; and whether more follow.
+ * SP_FRAME_ROOM bytes; the page of its last entry; and whether more follow.
  */
 bool
-ws_history_piece(uint8 bucket, uint64 since, bool has_after, warm_page *after, uint8 *frame,
-				 Size *length, bool *more)
+sp_history_piece(uint8 bucket, uint64 since, bool has_after, warm_page *after,
+				 uint8 *frame, Size *length, bool *more)
 {
-	return note(warm_send_since(&history, bucket, since, has_after, *after, frame, WS_FRAME_ROOM,
-								length, more, after)) == WARM_OK;
+	warm_sending sending = {.since = since, .after = *after, .bucket = bucket, .has_after = has_after};
+
+	if (sp_note(warm_send(&history, &sending, frame, SP_FRAME_ROOM, length),
+				   "a publication") != WARM_OK)
+		return false;
+	*after = sending.after;
+	*more = sending.more;
+	return true;
 }
 
-/* The hottest pages, hottest first. */
+/* Lists the hottest pages, the hottest first. */
 Size
-ws_history_list(warm_page *pages, Size room)
+sp_history_list(warm_page *pages, Size room)
 {
 	Size		count = 0;
 
 	if (room > 0)
-		note(warm_list(&history, pages, room, &count));
+		sp_note(warm_list(&history, pages, room, &count), "a ranking");
 	return count;
 }
 
+/* Counts the pages known, and lets interrupts in between walks. */
 static Size
-known(void)
+history_length(void)
 {
 	Size		length = 0;
 
-	CHECK_FOR_INTERRUPTS();		/* between steps that walk the history */
+	CHECK_FOR_INTERRUPTS();
 	warm_history_length(&history, &length);
 	return length;
 }
@@ -192,62 +261,79 @@ known(void)
 /*
  * Forgets pages without a reference for too long; and where there are too many,
  * the older references of all, in steps of a quarter of the time that is left.
- * It walks the history, so it is done once a minute, or where there are an eighth
- * too many pages.  A standby has its primary's horizon, and goes by its clock.
+ * It walks the history, so it is done once a minute, or where there are an
+ * eighth too many pages.  A standby has its primary's horizon, and goes by its
+ * clock.
  */
 void
-ws_history_bound(void)
+sp_history_bound(void)
 {
 	static uint64 bound_at = 0;
 	bool		is_standby = RecoveryInProgress();
-	Size		usual = is_standby ? PG_INT32_MAX : (Size) NBuffers * 4;
-	Size		most = ws_history_pages > 0 ? ws_history_pages : usual;
-	uint64		now = Max(is_standby ? 0 : (uint64) GetCurrentTimestamp(), ws_latest);
-	uint64		age = (uint64) ws_history_age * 60 * US_PER_S;
+	Size		usual = is_standby ? PG_INT32_MAX :
+		Min((Size) NBuffers * 4, MOST_KNOWN);
+	Size		most = sp_history_pages > 0 ? sp_history_pages : usual;
+	uint64		now = Max(is_standby ? 0 : GetCurrentTimestamp(), sp_latest);
+	uint64		age = sp_history_age * 60 * US_PER_S;
 	uint64		horizon = 0;
 
-	ws_stats.known = known();
-	ws_stats.devices = ws_device_count;
-	if (ws_stats.known <= most + most / 8 && ws_us() < bound_at)
+	sp_stats.known = history_length();
+	sp_stats.devices = sp_device_count;
+	if (sp_stats.known <= most + most / 8 && sp_us() < bound_at)
 		return;
-	bound_at = ws_us() + BOUND_US;
-	warm_horizon(&history, age > 0 && age < now ? now - age : 0, &horizon);
-	if (horizon == 0 && known() > most)
-		warm_horizon(&history, now - Min(now, UINT64CONST(86400) * US_PER_S), &horizon);
-	while (known() > most && horizon < now)
-		warm_horizon(&history, horizon + (now - horizon) / 4 + 1, &horizon);
-	ws_stats.known = known();
+	if (sp_device_count == SP_MOST_DEVICES && !is_standby &&
+		sp_may_log(SP_FAULT_DEVICES))
+		ereport(WARNING,
+				(errcode(ERRCODE_PROGRAM_LIMIT_EXCEEDED),
+				 errmsg("standby_prewarm has no number for the pages of further databases and tablespaces"),
+				 errhint("Call standby_prewarm_reset() to begin a new history.")));
+	bound_at = sp_us() + BOUND_US;
+	warm_raise(&history, age > 0 && age < now ? now - age : 0, &horizon);
+	if (horizon == 0 && history_length() > most)
+		warm_raise(&history, now - Min(now, DAY_US), &horizon);
+	while (history_length() > most && horizon < now)
+		warm_raise(&history, horizon + (now - horizon) / 4 + 1, &horizon);
+	sp_stats.known = history_length();
 }
 
-/* Makes the draft of a file; -1, and a line in the log, where that fails. */
+/* Says that a file could not be saved, as errno says; drops its draft. */
+static void
+history_save_failed(const char *path)
+{
+	if (sp_may_log(SP_FAULT_SAVE))
+		ereport(WARNING,
+				(errcode_for_file_access(),
+				 errmsg("could not write file \"%s\" for \"%s\": %m",
+						DRAFT_FILE, path)));
+	(void) unlink(DRAFT_FILE);
+}
+
+/* Makes the draft of a file; -1 where that fails. */
 static int
-open_draft(const char *path)
+history_open_draft(const char *path)
 {
 	int			fd;
 
 	(void) unlink(DRAFT_FILE);
 	fd = OpenTransientFile(DRAFT_FILE, O_CREAT | O_EXCL | O_WRONLY | PG_BINARY);
 	if (fd < 0)
-		ereport(LOG, (errmsg("warm_standby could not write \"%s\": %m", path)));
+		history_save_failed(path);
 	return fd;
 }
 
-/* Puts the draft into a file's place; where there was a fault, says so and drops it. */
+/* Puts the draft that was written into a file's place. */
 static bool
-end_draft(int fd, const char *path, const char *fault)
+history_end_draft(int fd, const char *path)
 {
-	if (CloseTransientFile(fd) != 0 && fault == NULL)
-		fault = strerror(errno);
-	if (fault == NULL && durable_rename(DRAFT_FILE, path, LOG) == 0)
+	if (CloseTransientFile(fd) == 0 &&
+		durable_rename(DRAFT_FILE, path, DEBUG1) == 0)
 		return true;
-	if (fault != NULL)
-		ereport(LOG, (errmsg("warm_standby could not write \"%s\": %s", path, fault)));
-	(void) unlink(DRAFT_FILE);
+	history_save_failed(path);
 	return false;
 }
 
 static pg_crc32c
-checksum(const uint8 *bytes, Size length)
+history_checksum(const uint8 *bytes, Size length)
 {
 	pg_crc32c	crc;
 
@@ -257,108 +343,178 @@ checksum(const uint8 *bytes, Size length)
 	return crc;
 }
 
-/* Saves the directory, and the latest time. */
+/* Saves the directory, the latest time, and the position of the saved history. */
 bool
-ws_directory_save(void)
+sp_directory_save(void)
 {
-	uint8	   *bytes = palloc(DIRECTORY_HEADER + ws_device_count * WS_DEVICE_BYTES + 4);
-	const char *fault = NULL;
+	uint8	   *bytes = palloc(MOST_DIRECTORY_BYTES);
+	uint8	   *end = sp_put(bytes, DIRECTORY_MAGIC, 8);
 	int			next = 0;
-	int			fd = open_draft(DIRECTORY_FILE);
+	int			fd = history_open_draft(DIRECTORY_FILE);
 	Size		length;
 
 	if (fd < 0)
 		return false;
-	ws_put(ws_put(ws_put(bytes, DIRECTORY_MAGIC, 8), GetSystemIdentifier(), 8), ws_latest, 8);
-	length = ws_directory_encode(&next, ws_device_count, ws_device_count,
-								 bytes + DIRECTORY_HEADER) - bytes;
-	ws_put(bytes + length, checksum(bytes, length), 4);
-	length += 4;
+	end = sp_put(end, GetSystemIdentifier(), 8);
+	end = sp_put(sp_put(end, sp_latest, 8), sp_saved_position, 8);
+	end = sp_directory_encode(&next, sp_device_count, sp_device_count, end);
+	end = sp_put(end, history_checksum(bytes, end - bytes), 4);
+	length = end - bytes;
 	errno = ENOSPC;				/* a write that is short says nothing */
-	if (write(fd, bytes, length) != (ssize_t) length || pg_fsync(fd) != 0)
-		fault = strerror(errno);
-	return end_draft(fd, DIRECTORY_FILE, fault);
+	if (write(fd, bytes, length) == (ssize_t) length && pg_fsync(fd) == 0)
+		return history_end_draft(fd, DIRECTORY_FILE);
+	history_save_failed(DIRECTORY_FILE);
+	CloseTransientFile(fd);
+	return false;
 }
 
 /*
- * Saves directory and history, each whole or not at all.  The directory comes
- * first: it never changes a number, so a newer one fits an older history.
+ * Asked before each piece of a dump is written: 1 ends the save.  It ends where
+ * the server is to stop; one that the stop makes has a while, as it holds up a
+ * switchover.  What waits for all processes, as DROP DATABASE, does not wait
+ * for the save.  No error may leave this.
+ */
+static int
+history_before_piece(void *context, uint64_t no, const void *bytes,
+					 size_t length)
+{
+	MemoryContext old = CurrentMemoryContext;
+
+	PG_TRY();
+	{
+		if (ProcSignalBarrierPending)
+			ProcessProcSignalBarrier();
+	}
+	PG_CATCH();
+	{
+		MemoryContextSwitchTo(old);
+		FlushErrorState();		/* it is processed at the next chance */
+	}
+	PG_END_TRY();
+	save_ended = save_until > 0 ? sp_us() > save_until : ShutdownRequestPending;
+	return save_ended;
+}
+
+/* Saves the history into its file, whole or not at all. */
+static bool
+history_save_dump(void)
+{
+	static const warm_device_ops calls = {.size = sizeof calls, .before_write = history_before_piece};
+	int			fd = history_open_draft(HISTORY_FILE);
+	int			status;
+	warm_device file = {.ops = &calls};
+
+	if (fd < 0)
+		return false;
+	file.fd = fd;
+	status = warm_save_to(&history, &file);
+	if (status == WARM_OK)
+		return history_end_draft(fd, HISTORY_FILE);
+	if (save_ended)
+		(void) unlink(DRAFT_FILE);
+	else
+	{
+		history_save_failed(HISTORY_FILE);
+		sp_note(status, "a save");
+	}
+	CloseTransientFile(fd);
+	return false;
+}
+
+/*
+ * Saves directory and history.  The directory comes first: it never changes a
+ * number, so a newer one fits an older history.  The position, up to which the
+ * history has what WAL says, comes last.
  */
 void
-ws_history_save(void)
+sp_history_save(XLogRecPtr position)
 {
-	int			fd = ws_directory_save() ? open_draft(HISTORY_FILE) : -1;
-	int			status = fd >= 0 ? note(warm_save(&history, fd)) : WARM_OK;
+	static uint64 cost = 0;		/* of the last save */
+	uint64		begun = sp_us();
 
-	if (fd >= 0 &&
-		end_draft(fd, HISTORY_FILE, status == WARM_OK ? NULL : ws_status_name(status)))
-		ws_stats.saves++;
-	else
-		ws_stats.save_failures++;
+	save_ended = false;
+	save_until = !ShutdownRequestPending ? 0 :
+		cost < STOP_US ? begun + STOP_US : 1;
+	if (sp_directory_save() && history_save_dump())
+	{
+		cost = sp_us() - begun;
+		sp_stats.saves++;
+		sp_saved_position = position;
+		(void) sp_directory_save();
+	}
+	else if (!save_ended)
+		sp_stats.save_failures++;
 }
 
 /* Opens a file for reading; -1 where there is none. */
 static int
-open_saved(const char *path, Size *length)
+history_open_saved(const char *path, Size *length)
 {
 	struct stat st = {0};
 	int			fd = OpenTransientFile(path, O_RDONLY | PG_BINARY);
 
 	if (fd < 0 ? errno != ENOENT : fstat(fd, &st) != 0)
-		ereport(LOG, (errcode_for_file_access(),
-					  errmsg("warm_standby could not read \"%s\": %m", path)));
+		ereport(LOG,
+				(errcode_for_file_access(),
+				 errmsg("could not open file \"%s\": %m", path)));
 	*length = st.st_size;
 	return fd;
 }
 
 static bool
-load_directory(void)
+history_load_directory(void)
 {
+	uint8	   *bytes = palloc(MOST_DIRECTORY_BYTES);
 	Size		length;
-	int			fd = open_saved(DIRECTORY_FILE, &length);
-	uint8	   *bytes;
+	int			fd = history_open_saved(DIRECTORY_FILE, &length);
 	bool		good;
 
 	if (fd < 0)
 		return false;
 	length = Min(length, MOST_DIRECTORY_BYTES);
-	bytes = palloc(length + 1);
-	good = length >= DIRECTORY_HEADER + 4 && read(fd, bytes, length) == (ssize_t) length &&
-		ws_get(bytes, 8) == DIRECTORY_MAGIC && ws_get(bytes + 8, 8) == GetSystemIdentifier();
+	good = length >= DIRECTORY_HEADER + 4 &&
+		read(fd, bytes, length) == (ssize_t) length &&
+		sp_get(bytes, 8) == DIRECTORY_MAGIC &&
+		sp_get(bytes + 8, 8) == GetSystemIdentifier() &&
+		history_checksum(bytes, length - 4) == sp_get(bytes + length - 4, 4) &&
+		sp_directory_decode(bytes + DIRECTORY_HEADER,
+							length - 4 - DIRECTORY_HEADER) == WARM_OK;
 	CloseTransientFile(fd);
 	if (good)
 	{
-		length -= 4;
-		ws_latest = ws_get(bytes + 16, 8);
-		good = checksum(bytes, length) == ws_get(bytes + length, 4) &&
-			ws_directory_decode(bytes + DIRECTORY_HEADER, length - DIRECTORY_HEADER) == WARM_OK;
+		sp_latest = sp_get(bytes + 16, 8);
+		sp_saved_position = sp_get(bytes + 24, 8);
+		return true;
 	}
-	if (!good)
-	{
-		ereport(LOG, (errmsg("warm_standby does not use \"%s\": damaged, or of another cluster",
-							 DIRECTORY_FILE)));
-		ws_directory_reset();
-		ws_latest = 0;
-	}
-	return good;
+	ereport(LOG,
+			(errmsg("standby_prewarm does not use \"%s\": damaged, or of another cluster",
+					DIRECTORY_FILE)));
+	sp_directory_reset();
+	return false;
 }
 
 /* Begins with what was saved.  Files that are damaged are left alone. */
 void
-ws_history_start(void)
+sp_history_start(void)
 {
 	Size		length;
-	int			fd, status;
+	int			fd,
+				status;
 
-	open_history();
-	ws_directory_reset();
-	if (load_directory() && (fd = open_saved(HISTORY_FILE, &length)) >= 0)
+	history_open();
+	sp_directory_reset();
+	if (history_load_directory() &&
+		(fd = history_open_saved(HISTORY_FILE, &length)) >= 0)
 	{
-		status = note(warm_load(&history, fd, length));
+		status = sp_note(warm_load(&history, fd, length), "a saved history");
 		CloseTransientFile(fd);
 		if (status != WARM_OK)
-			ereport(LOG, (errmsg("warm_standby does not use \"%s\": %s", HISTORY_FILE,
-								 ws_status_name(status))));
+		{
+			ereport(LOG,
+					(errmsg("standby_prewarm does not use \"%s\": %s",
+							HISTORY_FILE, sp_status_name(status))));
+			sp_saved_position = InvalidXLogRecPtr;
+		}
 	}
-	ws_history_bound();
+	sp_history_bound();
 }

@@ -1,10 +1,12 @@
 /*
  * loader.c
- *		The worker that reads the pages of one database of a standby.
+ *		The worker that reads the pages of one database of a standby, or of a
+ *		primary that started.
  *
  * A loader reads its batch file by file, in short transactions of some pages
- * each, under AccessShareLock, which no drop or truncation passes.  It waits for no
- * lock but those of catalogs, and replay waits for these few reads at most.
+ * each, under AccessShareLock, which no drop or truncation passes.  It waits
+ * for no lock but those of catalogs, and for these a second, and replay waits
+ * for these few reads at most.
  */
 #include "postgres.h"
 
@@ -17,232 +19,299 @@
 #include "storage/ipc.h"
 #include "storage/lmgr.h"
 #include "tcop/tcopprot.h"
+#include "utils/guc.h"
 #include "utils/memutils.h"
 #include "utils/snapmgr.h"
-#include "warm_standby.h"
+#include "standby_prewarm.h"
 
 #define PAGES_A_LOCK	32
 #define IDLE_MS			1000
 #define IDLE_TURNS		10
+#define LOCK_TIMEOUT_MS "1000"
 
-PGDLLEXPORT void warm_standby_loader_main(Datum main_arg);
+PGDLLEXPORT void standby_prewarm_loader_main(Datum main_arg);
 
-static WsLoader *slot;
+static SpLoader *slot;
 static uint64 epoch;
-static bool is_connected = false;
-static WsRequest *reading;		/* the page that is read, NULL where none is */
-static WsRequest batch[WS_BATCH];
+static SpRequest *reading;		/* the page that is read, NULL where none is */
+static SpRequest batch[SP_BATCH];
+
+static bool
+loader_same_file(const SpRequest *a, const SpRequest *b)
+{
+	return memcmp(&a->page, &b->page, offsetof(SpPage, block)) == 0;
+}
 
 /* By device and file, in any order, and then by block. */
 static int
-by_page(const void *a, const void *b)
+loader_by_page(const void *a, const void *b)
 {
-	const WsPage *x = &((const WsRequest *) a)->page;
-	const WsPage *y = &((const WsRequest *) b)->page;
-	int			order = memcmp(x, y, offsetof(WsPage, block));
+	const SpPage *x = &((const SpRequest *) a)->page;
+	const SpPage *y = &((const SpRequest *) b)->page;
+	int			order = memcmp(x, y, offsetof(SpPage, block));
 
 	return order != 0 ? order : x->block < y->block ? -1 : x->block > y->block;
 }
 
-/* Reads pages of one fork of a relation that is locked. */
+/*
+ * Reads pages of one fork of a relation that is locked.  The system is asked
+ * for as many of the next ones as maintenance_io_concurrency says: storage
+ * takes them together.
+ */
 static void
-read_pages(Relation relation, WsRequest *some, int count)
+loader_read_pages(Relation relation, SpRequest *some, int count)
 {
 	ForkNumber	fork = some->page.device.fork;
 	BlockNumber blocks = 0;
+	int			asked = 0;
 
 	if (smgrexists(RelationGetSmgr(relation), fork))
 		blocks = smgrnblocks(RelationGetSmgr(relation), fork);
 	for (int i = 0; i < count; i++)
 	{
-		if (some[i].page.block >= blocks)
+		BlockNumber block = some[i].page.block;
+
+		for (; asked < count && asked <= i + maintenance_io_concurrency; asked++)
+			if (some[asked].page.block < blocks)
+				(void) PrefetchBuffer(relation, fork, some[asked].page.block);
+		if (block >= blocks)
 		{
-			some[i].outcome = WS_NO_BLOCK;
+			some[i].outcome = SP_NO_BLOCK;
 			continue;
 		}
 		reading = &some[i];
-		if (some[i].prefetch)
-			(void) PrefetchBuffer(relation, fork, some[i].page.block);
-		else
-			ReleaseBuffer(ReadBufferExtended(relation, fork, some[i].page.block, RBM_NORMAL, NULL));
-		some[i].outcome = WS_LOADED;
+		ReleaseBuffer(ReadBufferExtended(relation, fork, block, RBM_NORMAL,
+										 NULL));
+		some[i].outcome = SP_LOADED;
+		reading = NULL;
 		CHECK_FOR_INTERRUPTS();
 	}
 }
 
 /* Reads pages of one file, in a transaction; returns why those fail that were not looked at. */
-static WsOutcome
-read_file(WsRequest *some, int count)
+static SpOutcome
+loader_read_file(SpRequest *some, int count)
 {
 	Oid			relid = RelidOfFile(some->page.device.space, some->page.file);
 	Relation	relation;
 
 	if (!OidIsValid(relid))
-		return WS_NO_FILE;
+		return SP_NO_FILE;
 	if (!ConditionalLockRelationOid(relid, AccessShareLock))
-		return WS_BUSY;
+		return SP_BUSY;
 	relation = try_relation_open(relid, NoLock);
 	if (relation == NULL)
 	{
 		UnlockRelationOid(relid, AccessShareLock);
-		return WS_NO_FILE;
+		return SP_NO_FILE;
 	}
-	InvalidateCatalogSnapshotConditionally();	/* by which reads would conflict with replay */
-	/* It may have got another file before it was locked. */
+	/* Reads under the catalogs' snapshot would conflict with replay. */
+	InvalidateCatalogSnapshotConditionally();
+	/* The relation may have got another file before it was locked. */
 	if (RelationFile(relation) == some->page.file &&
 		RelationSpace(relation) == some->page.device.space)
-		read_pages(relation, some, count);
+		loader_read_pages(relation, some, count);
 	relation_close(relation, AccessShareLock);
-	return WS_NO_FILE;
+	return SP_NO_FILE;
+}
+
+/* Says why a page was not read, unless the read was a conflict with replay. */
+static void
+loader_log_error(const ErrorData *error, bool cancelled, const SpPage *page)
+{
+	ereport(!cancelled && sp_may_log(SP_FAULT_READ) ? WARNING : DEBUG1,
+			(errcode(error->sqlerrcode),
+			 errmsg("standby_prewarm could not read a page: %s", error->message),
+			 errdetail("It is block %u of fork %d of file %u in tablespace %u and database %u.",
+					   page->block, page->device.fork, page->file,
+					   page->device.space, page->device.database)));
 }
 
 /* The same, where an error costs these pages and nothing else. */
 static void
-try_file(WsRequest *some, int count)
+loader_try_file(SpRequest *some, int count)
 {
 	MemoryContext context = CurrentMemoryContext;
-	volatile WsOutcome rest = WS_FAILED;
+	volatile SpOutcome rest = SP_FAILED;
 
 	reading = NULL;
 	PG_TRY();
 	{
 		SetCurrentStatementStartTimestamp();
 		StartTransactionCommand();
-		rest = read_file(some, count);
+		rest = loader_read_file(some, count);
 		CommitTransactionCommand();
 	}
 	PG_CATCH();
 	{
 		ErrorData  *error;
+		bool		cancelled;
 
 		MemoryContextSwitchTo(context);
 		error = CopyErrorData();
 		FlushErrorState();
 		AbortCurrentTransaction();
-		if (reading != NULL)
-			reading->outcome = WS_FAILED;
-		if (reading || ERRCODE_TO_CATEGORY(error->sqlerrcode) == ERRCODE_TRANSACTION_ROLLBACK)
-			rest = WS_WAITING;	/* they are handed out again */
-		ereport(DEBUG1, (errmsg_internal("warm_standby could not read file %u: %s", some->page.file,
-										 error->message)));
+		cancelled = error->sqlerrcode == ERRCODE_LOCK_NOT_AVAILABLE ||
+			ERRCODE_TO_CATEGORY(error->sqlerrcode) == ERRCODE_TRANSACTION_ROLLBACK;
+		if (reading != NULL && !cancelled)
+			reading->outcome = SP_FAILED;
+		if (error->sqlerrcode == ERRCODE_LOCK_NOT_AVAILABLE)
+			rest = SP_BUSY;
+		else if (reading != NULL || cancelled)
+			rest = SP_WAITING;	/* they are handed out again */
+		loader_log_error(error, cancelled,
+						 reading != NULL ? &reading->page : &some->page);
 		FreeErrorData(error);
 	}
 	PG_END_TRY();
-	QueryCancelPending = false; /* a late one is of the transaction that has ended */
+	QueryCancelPending = false; /* a late one is of the transaction that ended */
 	MemoryContextSwitchTo(context);
 	for (int i = 0; i < count; i++)
-		if (some[i].outcome == WS_WAITING)
+		if (some[i].outcome == SP_WAITING)
 			some[i].outcome = rest;
 }
 
-/* Whether the worker that started this loader is there, on a standby, and wants it. */
+/* Whether the worker that started this loader is there, and wants it. */
 static bool
-is_needed(void)
+loader_is_needed(void)
 {
 	bool		needed;
 
-	LWLockAcquire(ws_shared->lock, LW_SHARED);
-	needed = ws_shared->epoch == epoch && !slot->leave;
-	LWLockRelease(ws_shared->lock);
-	return needed && RecoveryInProgress();
+	LWLockAcquire(sp_shared->lock, LW_SHARED);
+	needed = sp_shared->epoch == epoch &&
+		(sp_shared->is_warming || RecoveryInProgress());
+	LWLockRelease(sp_shared->lock);
+	return needed;
 }
 
 static void
-load(uint32 count)
+loader_read_batch(uint32 count)
 {
-	qsort(batch, count, sizeof(WsRequest), by_page);
-	for (uint32 i = 0, k; i < count; i = k)
+	qsort(batch, count, sizeof(SpRequest), loader_by_page);
+	for (uint32 i = 0, next; i < count && loader_is_needed(); i = next)
 	{
-		for (k = i + 1; k < count && k - i < PAGES_A_LOCK; k++)
-			if (memcmp(&batch[k].page, &batch[i].page, offsetof(WsPage, block)) != 0)
-				break;
+		next = i + 1;
+		while (next < count && next - i < PAGES_A_LOCK &&
+			   loader_same_file(&batch[i], &batch[next]))
+			next++;
 		CHECK_FOR_INTERRUPTS();
-		if (!is_needed())
-			return;
-		try_file(&batch[i], k - i);
+		loader_try_file(&batch[i], next - i);
 	}
 }
 
 /* Takes the batch of the slot, where there is one. */
 static uint32
-take_batch(void)
+loader_take_batch(void)
 {
-	uint32		count = 0;
+	bool		has_batch;
 
-	LWLockAcquire(ws_shared->lock, LW_SHARED);
-	if (ws_shared->epoch == epoch && slot->state == WS_SLOT_FULL)
-	{
-		count = slot->count;
-		memcpy(batch, slot->pages, count * sizeof(WsRequest));
-	}
-	LWLockRelease(ws_shared->lock);
-	return count;
+	LWLockAcquire(sp_shared->lock, LW_SHARED);
+	has_batch = sp_shared->epoch == epoch && slot->state == SP_SLOT_FULL;
+	if (has_batch)
+		memcpy(batch, slot->pages, slot->count * sizeof(SpRequest));
+	LWLockRelease(sp_shared->lock);
+	return has_batch ? slot->count : 0;
 }
 
 static void
-give_outcomes(uint32 count, uint64 took_us)
+loader_give_outcomes(uint32 count, uint64 took_us)
 {
-	LWLockAcquire(ws_shared->lock, LW_EXCLUSIVE);
-	if (ws_shared->epoch == epoch)
+	LWLockAcquire(sp_shared->lock, LW_EXCLUSIVE);
+	if (sp_shared->epoch == epoch)
 	{
-		memcpy(slot->pages, batch, count * sizeof(WsRequest));
+		memcpy(slot->pages, batch, count * sizeof(SpRequest));
 		slot->took_us = took_us;
-		slot->state = WS_SLOT_DONE;
+		slot->state = SP_SLOT_DONE;
 	}
-	LWLockRelease(ws_shared->lock);
+	LWLockRelease(sp_shared->lock);
 }
 
-/* Gives the slot back.  Where it could not connect its batch stays, by which the worker sees it. */
-static void
-leave(int code, Datum arg)
+/*
+ * Whether to wait for a further batch.  A primary's loader does not: DROP
+ * DATABASE waits for a while until nobody is connected.
+ */
+static bool
+loader_stays(int idle)
 {
-	LWLockAcquire(ws_shared->lock, LW_EXCLUSIVE);
-	if (ws_shared->epoch == epoch)
-		slot->latch = NULL;
-	if (ws_shared->epoch == epoch && is_connected)
+	bool		stays;
+
+	LWLockAcquire(sp_shared->lock, LW_SHARED);
+	stays = idle < IDLE_TURNS && !sp_shared->others_wait;
+	LWLockRelease(sp_shared->lock);
+	return stays && RecoveryInProgress();
+}
+
+/*
+ * Gives the slot back.  Where the loader could not connect its batch stays, by
+ * which the worker sees it, and so do outcomes that were not read yet.
+ */
+static void
+loader_release_slot(int code, Datum arg)
+{
+	LWLockAcquire(sp_shared->lock, LW_EXCLUSIVE);
+	if (sp_shared->epoch == epoch)
 	{
-		slot->state = WS_SLOT_IDLE;
-		slot->database = InvalidOid;
+		slot->latch = NULL;
+		if (slot->was_connected && slot->state != SP_SLOT_DONE)
+			slot->state = SP_SLOT_IDLE;
+		slot->database = InvalidOid;	/* it gets no further batch */
 	}
-	LWLockRelease(ws_shared->lock);
+	LWLockRelease(sp_shared->lock);
+}
+
+/* Connects to the database of the slot. */
+static void
+loader_begin(int number)
+{
+	Oid			database;
+
+	memcpy(&epoch, MyBgworkerEntry->bgw_extra, sizeof epoch);
+	slot = &sp_shared->loaders[number];
+	before_shmem_exit(loader_release_slot, (Datum) 0);
+	LWLockAcquire(sp_shared->lock, LW_EXCLUSIVE);
+	database = sp_shared->epoch == epoch ? slot->database : InvalidOid;
+	if (OidIsValid(database))
+		slot->latch = MyLatch;
+	LWLockRelease(sp_shared->lock);
+	if (!OidIsValid(database))
+		proc_exit(0);			/* the slot is another's by now */
+	/* A catalog that is locked is waited for no longer than this. */
+	SetConfigOption("lock_timeout", LOCK_TIMEOUT_MS, PGC_SUSET, PGC_S_OVERRIDE);
+	BackgroundWorkerInitializeConnectionByOid(database, InvalidOid,
+											  BGWORKER_BYPASS_ALLOWCONN);
+	LWLockAcquire(sp_shared->lock, LW_EXCLUSIVE);
+	if (sp_shared->epoch == epoch)
+		slot->was_connected = true;
+	LWLockRelease(sp_shared->lock);
 }
 
 void
-warm_standby_loader_main(Datum main_arg)
+standby_prewarm_loader_main(Datum main_arg)
 {
-	Oid			database;
 	int			idle = 0;
 
 	pqsignal(SIGTERM, die);
 	pqsignal(SIGHUP, SignalHandlerForConfigReload);
 	BackgroundWorkerUnblockSignals();
-	memcpy(&epoch, MyBgworkerEntry->bgw_extra, sizeof epoch);
-	slot = &ws_shared->loaders[DatumGetInt32(main_arg)];
-	before_shmem_exit(leave, (Datum) 0);
-	LWLockAcquire(ws_shared->lock, LW_EXCLUSIVE);
-	database = ws_shared->epoch == epoch ? slot->database : InvalidOid;
-	if (OidIsValid(database))
-		slot->latch = MyLatch;
-	LWLockRelease(ws_shared->lock);
-	if (!OidIsValid(database))
-		proc_exit(0);			/* the slot is another's by now */
-	BackgroundWorkerInitializeConnectionByOid(database, InvalidOid, BGWORKER_BYPASS_ALLOWCONN);
-	is_connected = true;
-
-	while (is_needed() && idle < IDLE_TURNS)
+	loader_begin(DatumGetInt32(main_arg));
+	while (loader_is_needed())
 	{
-		uint32		count = take_batch();
-		uint64		begun = ws_us();
+		uint32		count = loader_take_batch();
+		uint64		begun = sp_us();
 
 		idle++;
 		if (count > 0)
 		{
-			load(count);
-			give_outcomes(count, ws_us() - begun);
+			pgstat_report_activity(STATE_RUNNING, "standby_prewarm reads pages");
+			loader_read_batch(count);
+			pgstat_report_activity(STATE_IDLE, NULL);
+			loader_give_outcomes(count, sp_us() - begun);
 			(void) pgstat_report_stat(false);
 			idle = 0;
 		}
-		(void) ws_wait(IDLE_MS);
+		if (!loader_stays(idle))
+			break;
+		(void) sp_wait(IDLE_MS);
 	}
 	proc_exit(0);
 }

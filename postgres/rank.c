@@ -2,442 +2,529 @@
  * rank.c
  *		Which pages a standby wants, has, touches and loads.
  *
- * A round ranks the history, walks the buffer descriptors once, and hands the
- * hottest pages that are missing to the loaders.  A touch gives one that is resident
- * a usage count by its rank, below the descriptor's lock: no page is pinned.
+ * A round ranks the history, looks which of the pages are in the buffers, and
+ * goes through them, the hottest first.  One that is resident gets a usage
+ * count by its rank, below the lock of its descriptor: no page is pinned.  One
+ * that is missing goes to the loader of its database.
  */
 #include "postgres.h"
 
+#include <sys/stat.h>
+
+#include "common/relpath.h"
 #include "miscadmin.h"
+#include "port/pg_bitutils.h"
 #include "utils/memutils.h"
-#include "warm_standby.h"
+#include "standby_prewarm.h"
 
-#define FORGIVE_US		(300 * US_PER_S)	/* for which a page that cannot be read is left alone */
-#define BUSY_US			(10 * US_PER_S) /* and a file that is locked */
+/* For how long a page that cannot be read is left alone, and a locked file. */
+#define FORGIVE_US		(300 * US_PER_S)
+#define BUSY_US			(10 * US_PER_S)
 #define MOST_UNLOADABLE 65536
-#define TERM_US			(5 * US_PER_S)	/* a loader's, where another database waits for one */
+#define LEAST_RATE		2000	/* pages a second that are read by default */
+#define BUFFERS_OF_REPLAY 256	/* that are kept for it at least */
 
-typedef struct Wanted
-{
-	warm_page	page;			/* the key */
-	uint32		rank;
-	char		status;			/* simplehash's */
-} Wanted;
-
-#define SH_PREFIX wanted
-#define SH_ELEMENT_TYPE Wanted
-#define SH_KEY_TYPE warm_page
-#define SH_KEY page
-#define SH_HASH_KEY(tb, key) \
-	((uint32) (((key).no * 31 + (key).dev + 1) * UINT64CONST(0x9e3779b97f4a7c15) >> 32))
-#define SH_EQUAL(tb, a, b) ((a).no == (b).no && (a).dev == (b).dev)
-#define SH_SCOPE static inline
-#define SH_DECLARE
-#define SH_DEFINE
-#include "lib/simplehash.h"
-
-/* Pages; without a block whole files; and without a file too, databases. */
+/* Pages; without a block whole files; and without a file too, all of a device. */
 typedef struct Unloadable
 {
-	WsPage		page;			/* the key */
+	SpPage		page;			/* the key */
 	uint64		until;
 } Unloadable;
 
 static HTAB *unloadable = NULL;
-static uint64 unloadable_until; /* the latest of them */
-static MemoryContext round_context = NULL;
-static BackgroundWorkerHandle *handles[WS_MOST_LOADERS];
-static uint64 started_at[WS_MOST_LOADERS];
-static Oid	next_of[WS_MOST_LOADERS];	/* the database that gets a slot next */
-static Oid	waiting;			/* the one that found no slot, whose page is hottest */
 static uint64 round_at;			/* when the last round began */
 static double load_allowance;	/* pages that may be read now */
-static uint64 complained_at = 0;
 static bool is_warm;
-static Size prefetched;			/* ranks beyond the wanted, prefetched since then: */
-static uint64 prefetched_since = 0;
 
-/* One round. */
-static warm_page *pages;
-static Size page_count, wanted_count;	/* how many, and how many of these are wanted */
-static bool *resident;
+/* The ranking: it is made again where the history has changed. */
+static MemoryContext ranking = NULL;
+static warm_page *listed;		/* the hottest first */
+static Size listed_count,
+			listed_room;
+static int64 listed_frames,
+			listed_resets;		/* of the history that was ranked */
+static uint32 *places;			/* a hash table: ranks plus 1; 0 is free */
+static uint64 places_mask;
+static int *buffers;			/* by rank: the page's buffer plus 1; 0: missing */
+
+/* The worker's side of a loader's slot. */
+typedef struct Slot
+{
+	BackgroundWorkerHandle *handle; /* of its loader, NULL where none runs */
+	Oid			database;		/* InvalidOid: the slot is vacant */
+	Oid			left_by;		/* the database whose loader ended last */
+	bool		takes;			/* it gets pages in this round */
+	uint32		count;			/* that it has got */
+} Slot;
+
+static Slot slots[SP_MOST_LOADERS];
+static bool others_wait;		/* a database has found no slot */
+static bool others_waited;		/* in the round before */
 
 static void
-forgive(void)
+rank_forget_unloadable(void)
 {
-	HASHCTL		control = {.keysize = sizeof(WsPage), .entrysize = sizeof(Unloadable),
-	.hcxt = TopMemoryContext};
+	HASHCTL		control = {0};
 
+	control.keysize = sizeof(SpPage);
+	control.entrysize = sizeof(Unloadable);
+	control.hcxt = TopMemoryContext;
 	if (unloadable != NULL)
 		hash_destroy(unloadable);
-	unloadable = hash_create("warm_standby unloadable pages", 256, &control,
+	unloadable = hash_create("standby_prewarm unloadable pages", 256, &control,
 							 HASH_ELEM | HASH_BLOBS | HASH_CONTEXT);
 }
 
 static void
-leave_alone(const WsPage *page, uint64 us)
+rank_leave_alone(const SpPage *page, uint64 us)
 {
+	Unloadable *entry;
+
 	if (hash_get_num_entries(unloadable) >= MOST_UNLOADABLE)
-		forgive();
-	((Unloadable *) hash_search(unloadable, page, HASH_ENTER, NULL))->until = round_at + us;
-	unloadable_until = Max(unloadable_until, round_at + us);
+		rank_forget_unloadable();
+	entry = hash_search(unloadable, page, HASH_ENTER, NULL);
+	entry->until = round_at + us;
 }
 
+/* Whether a page is left alone, or its file, or its device. */
 static bool
-is_unloadable(const WsPage *page)
+rank_is_unloadable(const SpPage *page)
 {
-	WsPage		keys[] = {*page, {page->device, page->file, InvalidBlockNumber},
-	{.device.database = page->device.database, .block = InvalidBlockNumber}};
-	const Unloadable *found = NULL;
+	SpPage		key = *page;
 
-	for (int i = 0; i < lengthof(keys) && (found == NULL || found->until <= round_at); i++)
-		found = hash_search(unloadable, &keys[i], HASH_FIND, NULL);
-	return found != NULL && found->until > round_at;
+	for (int i = 0; i < 3 && hash_get_num_entries(unloadable) > 0; i++)
+	{
+		const Unloadable *found;
+
+		if (i > 0)
+			key.block = InvalidBlockNumber;
+		if (i > 1)
+			key.file = InvalidOid;
+		found = hash_search(unloadable, &key, HASH_FIND, NULL);
+		if (found != NULL && found->until > round_at)
+			return true;
+		if (found != NULL)
+			hash_search(unloadable, &key, HASH_REMOVE, NULL);
+	}
+	return false;
 }
 
-/* Notes what a loader read, and could not; of one that ended and left its batch, its database. */
+/* Leaves the devices of a batch alone, those of its database: nobody can load them. */
 static void
-note_outcomes(const WsLoader *loader, bool ended)
+rank_leave_batch_alone(int i)
 {
-	WsPage		key = {.device.database = loader->database, .block = InvalidBlockNumber};
+	const SpLoader *loader = &sp_shared->loaders[i];
 
-	if (ended && loader->state == WS_SLOT_FULL)
-		leave_alone(&key, FORGIVE_US);
-	if (loader->state != WS_SLOT_DONE)
-		return;
-	ws_stats.read_us += loader->took_us;
-	for (const WsRequest *at = loader->pages; at < loader->pages + loader->count; at++)
+	for (uint32 k = 0; k < loader->count; k++)
 	{
-		ws_stats.pages_read += at->outcome == WS_LOADED && !at->prefetch;
-		ws_stats.pages_prefetched += at->outcome == WS_LOADED && at->prefetch;
-		ws_stats.pages_failed += at->outcome == WS_FAILED;
-		key = at->page;
-		if (at->outcome == WS_NO_FILE || at->outcome == WS_BUSY)
-			key.block = InvalidBlockNumber;
-		if (at->outcome >= WS_BUSY)
-			leave_alone(&key, at->outcome == WS_BUSY ? BUSY_US : FORGIVE_US);
+		SpPage		key = loader->pages[k].page;
+
+		key.file = InvalidOid;
+		key.block = InvalidBlockNumber;
+		if (key.device.database == slots[i].database)
+			rank_leave_alone(&key, FORGIVE_US);
 	}
 }
 
-/* Makes a slot empty; with ended, of the database that waits for it, or of none. */
+/* Notes what a loader read, and what it could not read. */
 static void
-clear_slot(int slot, bool ended)
+rank_note_outcomes(const SpLoader *loader)
 {
-	WsLoader   *loader = &ws_shared->loaders[slot];
+	sp_stats.read_us += loader->took_us;
+	for (uint32 i = 0; i < loader->count; i++)
+	{
+		uint8		outcome = loader->pages[i].outcome;
+		SpPage		key = loader->pages[i].page;
 
-	loader->state = WS_SLOT_IDLE;
+		sp_stats.pages_read += outcome == SP_LOADED;
+		sp_stats.pages_failed += outcome == SP_FAILED;
+		if (outcome == SP_NO_FILE || outcome == SP_BUSY)
+			key.block = InvalidBlockNumber;
+		if (outcome >= SP_BUSY)
+			rank_leave_alone(&key, outcome == SP_BUSY ? BUSY_US : FORGIVE_US);
+	}
+}
+
+/* Empties a slot; with ended, it is vacant, too. */
+static void
+rank_clear_slot(int i, bool ended)
+{
+	SpLoader   *loader = &sp_shared->loaders[i];
+
+	LWLockAcquire(sp_shared->lock, LW_EXCLUSIVE);
+	loader->state = SP_SLOT_IDLE;
 	loader->count = 0;
 	if (ended)
 	{
-		loader->database = next_of[slot];
-		next_of[slot] = InvalidOid;
-		loader->leave = false;
+		slots[i].left_by = slots[i].database;
+		slots[i].database = loader->database = InvalidOid;
+		loader->was_connected = false;
 		loader->latch = NULL;
 	}
+	LWLockRelease(sp_shared->lock);
 }
 
 /* Forgets what an earlier worker left: its loaders end by the new epoch. */
 void
-ws_rank_reset(void)
+sp_rank_reset(void)
 {
-	memset(next_of, 0, sizeof next_of);
-	LWLockAcquire(ws_shared->lock, LW_EXCLUSIVE);
-	for (int i = 0; i < ws_shared->loader_count; i++)
-		clear_slot(i, true);
-	LWLockRelease(ws_shared->lock);
-	memset(handles, 0, sizeof handles);
-	if (round_context == NULL)
-		round_context = AllocSetContextCreate(TopMemoryContext, "warm_standby round",
-											  ALLOCSET_DEFAULT_SIZES);
-	forgive();
-	round_at = ws_us();
+	memset(slots, 0, sizeof slots);
+	for (int i = 0; i < sp_shared->loader_count; i++)
+		rank_clear_slot(i, true);
+	if (ranking == NULL)
+		ranking = AllocSetContextCreate(TopMemoryContext, "standby_prewarm ranking",
+										ALLOCSET_DEFAULT_SIZES);
+	MemoryContextReset(ranking);
+	listed = NULL;
+	rank_forget_unloadable();
+	round_at = sp_us();
 	load_allowance = 0;
 	is_warm = false;
 }
 
-static bool
-start_loader(int slot)
-{
-	MemoryContext old = MemoryContextSwitchTo(TopMemoryContext);
-	BackgroundWorker worker;
-	bool		started;
-
-	ws_describe_worker(&worker, "warm_standby_loader_main", "warm_standby loader");
-	worker.bgw_restart_time = BGW_NEVER_RESTART;
-	worker.bgw_main_arg = Int32GetDatum(slot);
-	memcpy(worker.bgw_extra, &ws_shared->epoch, sizeof ws_shared->epoch);
-	started = RegisterDynamicBackgroundWorker(&worker, &handles[slot]);
-	started_at[slot] = round_at;
-	MemoryContextSwitchTo(old);
-	if (!started && round_at - complained_at > FORGIVE_US)
-	{
-		ereport(LOG, (errmsg("warm_standby has no worker process for a loader"),
-					  errhint("Raise max_worker_processes.")));
-		complained_at = round_at;
-	}
-	return started;
-}
-
-/* Frees the slots of loaders that have ended, and notes what others answered. */
+/*
+ * Notes what the loader of a slot answered, and whether the slot takes pages.
+ * A batch is the worker's but while its slot is full.  Where a loader ended
+ * without having connected, its pages are left alone.
+ */
 static void
-reap_loaders(void)
+rank_open_slot(int i)
 {
-	for (int i = 0; i < ws_shared->loader_count; i++)
-	{
-		WsLoader   *loader = &ws_shared->loaders[i];
-		bool		ended = false;
-		pid_t		pid;
+	SpLoader   *loader = &sp_shared->loaders[i];
+	SpSlotState state;
+	bool		ended = false;
+	pid_t		pid;
 
-		if (handles[i] != NULL && GetBackgroundWorkerPid(handles[i], &pid) == BGWH_STOPPED)
-		{
-			pfree(handles[i]);
-			handles[i] = NULL;
-			ended = true;
-		}
-		LWLockAcquire(ws_shared->lock, LW_EXCLUSIVE);
-		note_outcomes(loader, ended);
-		if (loader->state == WS_SLOT_DONE || ended)
-			clear_slot(i, ended);
-		LWLockRelease(ws_shared->lock);
+	if (slots[i].handle != NULL &&
+		GetBackgroundWorkerPid(slots[i].handle, &pid) == BGWH_STOPPED)
+	{
+		pfree(slots[i].handle);
+		slots[i].handle = NULL;
+		ended = true;
 	}
+	LWLockAcquire(sp_shared->lock, LW_SHARED);
+	state = loader->state;
+	LWLockRelease(sp_shared->lock);
+	if (state == SP_SLOT_DONE)
+		rank_note_outcomes(loader);
+	else if (ended && !loader->was_connected)
+		rank_leave_batch_alone(i);
+	if (state == SP_SLOT_DONE || ended)
+		rank_clear_slot(i, ended);
+	slots[i].takes = state != SP_SLOT_FULL || ended;
+	slots[i].count = 0;
 }
 
-/* The slot of a database, one that is free, or -1.  A shared catalog's pages may go to any. */
+/*
+ * The slot of a database, or one that is vacant, or -1.  Where databases wait,
+ * one does not get the slot again that it has just left.  Pages of shared
+ * catalogs may go to any loader.
+ */
 static int
-slot_of(Oid database)
+rank_slot_of(Oid database)
 {
 	int			vacant = -1;
 
-	for (int i = 0; i < ws_shared->loader_count; i++)
+	for (int i = 0; i < sp_shared->loader_count; i++)
 	{
-		Oid			of = ws_shared->loaders[i].database;
+		Oid			of = slots[i].database;
 
 		if (OidIsValid(of) && (of == database || !OidIsValid(database)))
 			return i;
-		if (!OidIsValid(of) && handles[i] == NULL && vacant < 0)
+		if (!OidIsValid(of) && slots[i].handle == NULL && vacant < 0 &&
+			!(others_waited && slots[i].left_by == database))
 			vacant = i;
 	}
 	return OidIsValid(database) ? vacant : -1;
 }
 
-/* Keeps a page for a loader; false where none takes it now.  Under the lock. */
+/* Keeps a page for a loader; false where none takes it now. */
 static bool
-hand_out(warm_page page, bool prefetch)
+rank_hand_out(const SpPage *page)
 {
-	WsRequest	request = {.prefetch = prefetch, .outcome = WS_WAITING};
-	bool		named = ws_names_of(page, &request.page);
-	int			slot = named ? slot_of(request.page.device.database) : -1;
-	WsLoader   *loader = &ws_shared->loaders[Max(slot, 0)];
+	int			i = rank_slot_of(page->device.database);
+	SpRequest  *request;
 
-	if (named && slot < 0 && !OidIsValid(waiting) && !prefetch)
-		waiting = request.page.device.database;
-	if (slot < 0 || loader->state != WS_SLOT_IDLE || loader->count == WS_BATCH)
-		return slot < 0 && prefetch;	/* without a loader it is passed over */
-	if (!OidIsValid(loader->database))
-		loader->database = request.page.device.database;
-	loader->pages[loader->count++] = request;
+	if (i < 0)
+		others_wait |= OidIsValid(page->device.database);
+	if (i < 0 || !slots[i].takes)
+		return false;
+	if (!OidIsValid(slots[i].database))
+		slots[i].database = page->device.database;
+	request = &sp_shared->loaders[i].pages[slots[i].count++];
+	request->page = *page;
+	request->outcome = SP_WAITING;
+	slots[i].takes = slots[i].count < SP_BATCH;
 	return true;
 }
 
-/* Ends a loader for the database that waits: one that is idle, or has worked for long. */
-static void
-make_room(void)
+/* Whether there is a folder of the database: else a loader would fail. */
+static bool
+rank_has_database(const SpLoader *loader)
 {
-	for (int i = 0; i < ws_shared->loader_count; i++)
-	{
-		WsLoader   *loader = &ws_shared->loaders[i];
-		bool		is_idle = loader->state == WS_SLOT_IDLE && loader->count == 0;
+	Oid			seen = InvalidOid;
 
-		if (next_of[i] == waiting)
-			return;
-		if (handles[i] == NULL || loader->leave ||
-			!(is_idle || round_at - started_at[i] >= TERM_US))
+	for (uint32 i = 0; i < loader->count; i++)
+	{
+		const SpDevice *device = &loader->pages[i].page.device;
+		struct stat st;
+
+		if (device->database != loader->database || device->space == seen)
 			continue;
-		loader->leave = true;
+		seen = device->space;
+		if (stat(GetDatabasePath(device->database, seen), &st) == 0)
+			return true;
+	}
+	return false;
+}
+
+/* Starts the loader of a slot; false where there is no process for it. */
+static bool
+rank_start_loader(int i)
+{
+	MemoryContext old = MemoryContextSwitchTo(TopMemoryContext);
+	BackgroundWorker worker;
+	bool		started;
+
+	sp_describe_worker(&worker, "standby_prewarm_loader_main",
+					   "standby_prewarm loader");
+	worker.bgw_restart_time = BGW_NEVER_RESTART;
+	worker.bgw_main_arg = Int32GetDatum(i);
+	memcpy(worker.bgw_extra, &sp_shared->epoch, sizeof sp_shared->epoch);
+	started = RegisterDynamicBackgroundWorker(&worker, &slots[i].handle);
+	MemoryContextSwitchTo(old);
+	if (!started && sp_may_log(SP_FAULT_WORKERS))
+		ereport(WARNING,
+				(errcode(ERRCODE_CONFIGURATION_LIMIT_EXCEEDED),
+				 errmsg("standby_prewarm has no worker process for a loader"),
+				 errhint("You might need to increase \"max_worker_processes\".")));
+	return started;
+}
+
+/* Lets a loader have its batch.  One that ended meanwhile has left its slot. */
+static void
+rank_send_batch(int i)
+{
+	SpLoader   *loader = &sp_shared->loaders[i];
+	bool		starts = slots[i].handle == NULL;
+	bool		sent;
+
+	LWLockAcquire(sp_shared->lock, LW_EXCLUSIVE);
+	sent = starts || loader->database == slots[i].database;
+	if (sent)
+	{
+		loader->database = slots[i].database;
+		loader->count = slots[i].count;
+		loader->state = SP_SLOT_FULL;
 		if (loader->latch != NULL)
 			SetLatch(loader->latch);
-		next_of[i] = waiting;
+	}
+	LWLockRelease(sp_shared->lock);
+	if (!sent || !starts)
 		return;
-	}
+	if (!rank_has_database(loader))
+		rank_leave_batch_alone(i);
+	else if (rank_start_loader(i))
+		return;
+	rank_clear_slot(i, true);
 }
 
-/* Lets the loaders have their batches.  A slot whose next database wants nothing is free. */
+/* How many pages are to be kept warm.  The smallest pools have no room for it. */
+static Size
+rank_most_wanted(void)
+{
+	double		fraction = sp_warming ? 1.0 : sp_fraction;
+
+	return Min((Size) (fraction * NBuffers),
+			   (Size) Max(NBuffers - BUFFERS_OF_REPLAY, 0));
+}
+
+static inline uint64
+rank_hash(warm_page page)
+{
+	return ((page.no * 31 + page.dev + 1) * UINT64CONST(0x9e3779b97f4a7c15)) >> 31;
+}
+
+/* Where a page has its place in the table, or may have it. */
+static inline uint32 *
+rank_place_of(warm_page page)
+{
+	uint64		at = rank_hash(page) & places_mask;
+
+	while (places[at] != 0 && (listed[places[at] - 1].no != page.no ||
+							   listed[places[at] - 1].dev != page.dev))
+		at = (at + 1) & places_mask;
+	return &places[at];
+}
+
+static void *
+rank_allocate(Size count, Size size)
+{
+	return MemoryContextAllocExtended(ranking, Max(count, 1) * size,
+									  MCXT_ALLOC_HUGE | MCXT_ALLOC_ZERO);
+}
+
+/* Lists the hottest pages, where the history has changed since the last time. */
 static void
-send_batches(void)
+rank_list_pages(void)
 {
-	for (int i = 0; i < ws_shared->loader_count; i++)
-	{
-		WsLoader   *loader = &ws_shared->loaders[i];
-		bool		has_work;
+	Size		room = Min(rank_most_wanted() * 2, (Size) sp_stats.known);
 
-		LWLockAcquire(ws_shared->lock, LW_EXCLUSIVE);
-		has_work = loader->state == WS_SLOT_IDLE && loader->count > 0 &&
-			OidIsValid(loader->database);
-		if (has_work)
-			loader->state = WS_SLOT_FULL;
-		if (has_work && loader->latch != NULL)
-			SetLatch(loader->latch);
-		if (!has_work && handles[i] == NULL)
-			loader->database = InvalidOid;
-		LWLockRelease(ws_shared->lock);
-		if (has_work && handles[i] == NULL && !start_loader(i))
-			clear_slot(i, true);	/* nobody else knows of it */
-	}
+	if (listed != NULL && room == listed_room &&
+		sp_stats.frames_received == listed_frames &&
+		sp_stats.resets == listed_resets)
+		return;
+	MemoryContextReset(ranking);
+	listed = NULL;
+	listed = rank_allocate(room, sizeof(warm_page));
+	listed_count = sp_history_list(listed, room);
+	places_mask = pg_nextpower2_64(Max(listed_count, 1) * 2) - 1;
+	places = rank_allocate(places_mask + 1, sizeof(uint32));
+	buffers = rank_allocate(listed_count, sizeof(int));
+	for (Size i = 0; i < listed_count; i++)
+		*rank_place_of(listed[i]) = (uint32) i + 1;
+	listed_room = room;
+	listed_frames = sp_stats.frames_received;
+	listed_resets = sp_stats.resets;
+	sp_stats.rankings++;
 }
 
-/* Ranks: pages that have a device and can be loaded, hottest first. */
+/* Looks in which buffers the listed pages are. */
 static void
-rank_pages(void)
+rank_find_buffers(void)
 {
-	Size		limit = (Size) (ws_fraction * NBuffers);
-	Size		room = Min(limit * 2 + ws_prefetch_pages, (Size) ws_stats.known);
-	Size		listed;
-
-	pages = MemoryContextAllocHuge(round_context, sizeof(warm_page) * Max(room, 1));
-	listed = ws_history_list(pages, room);
-	page_count = 0;
-	ws_stats.unloadable = 0;
-	for (Size i = 0; i < listed; i++)
-	{
-		WsPage		names;
-
-		if (!ws_names_of(pages[i], &names))
-			continue;
-		if (hash_get_num_entries(unloadable) > 0 && is_unloadable(&names))
-			ws_stats.unloadable++;
-		else
-			pages[page_count++] = pages[i];
-	}
-	wanted_count = Min(page_count, limit);
-	page_count = Min(page_count, limit + ws_prefetch_pages);
-	resident = MemoryContextAllocExtended(round_context, Max(wanted_count, 1),
-										  MCXT_ALLOC_HUGE | MCXT_ALLOC_ZERO);
-}
-
-/* The usage count that a rank deserves. */
-static inline uint32
-usage_of(Size rank)
-{
-	return rank < wanted_count / 4 ? 3 : rank < wanted_count / 2 ? 2 : 1;
-}
-
-/* Raises a usage count, where the buffer has that page still. */
-static void
-touch(int buffer, const BufferTag *tag, uint32 usage)
-{
-	BufferDesc *descriptor = GetBufferDescriptor(buffer);
-	uint32		state = LockBufHdr(descriptor);
-	uint32		has = BUF_STATE_GET_USAGECOUNT(state);
-
-	if (has < usage && (state & BM_VALID) != 0 &&
-		memcmp(&descriptor->tag, tag, sizeof *tag) == 0)
-	{
-		state += (usage - has) * BUF_USAGECOUNT_ONE;
-		ws_stats.pages_touched++;
-	}
-	UnlockBufHdr(descriptor, state);
-}
-
-/* Marks the wanted pages that are resident, and touches them. */
-static void
-walk_buffers(void)
-{
-	wanted_hash *ranks = wanted_create(round_context, (uint32) Max(wanted_count, 1), NULL);
-
-	for (Size i = 0; i < wanted_count; i++)
-	{
-		bool		found;
-
-		wanted_insert(ranks, pages[i], &found)->rank = (uint32) i;
-	}
-	ws_stats.resident = 0;
+	memset(buffers, 0, sizeof(int) * Max(listed_count, 1));
 	for (int i = 0; i < NBuffers; i++)
 	{
 		BufferTag	tag;
 		uint32		state;
 		warm_page	page;
-		Wanted	   *entry;
 
-		if (!ws_look(i, &tag, &state) || !ws_page_of(&tag, false, &page) ||
-			(entry = wanted_lookup(ranks, page)) == NULL)
-			continue;
-		resident[entry->rank] = true;
-		ws_stats.resident++;
-		if (ws_load && BUF_STATE_GET_USAGECOUNT(state) < usage_of(entry->rank))
-			touch(i, &tag, usage_of(entry->rank));
+		if (sp_look(i, &tag, &state) && sp_page_of(&tag, false, &page))
+		{
+			uint32		place = *rank_place_of(page);
+
+			if (place != 0)
+				buffers[place - 1] = i + 1;
+		}
 	}
-	ws_stats.wanted = wanted_count;
 }
 
-/* Hands out the hottest pages that are missing, then those to prefetch. */
+/* Raises the usage count of a buffer, where it has that page still. */
 static void
-load_pages(void)
+rank_touch_buffer(int buffer, const SpPage *page, uint32 usage)
 {
-	LWLockAcquire(ws_shared->lock, LW_EXCLUSIVE);
-	waiting = InvalidOid;
-	for (Size i = 0; i < wanted_count && load_allowance >= 1; i++)
-		if (!resident[i] && hand_out(pages[i], false))
-			load_allowance--;
-	if (OidIsValid(waiting))
-		make_room();
-	if (round_at - prefetched_since > FORGIVE_US)
+	BufferDesc *descriptor = GetBufferDescriptor(buffer);
+	const BufferTag *tag = &descriptor->tag;
+	uint32		state = pg_atomic_read_u32(&descriptor->state);
+
+	if (BUF_STATE_GET_USAGECOUNT(state) >= usage)
+		return;
+	state = LockBufHdr(descriptor);
+	if (BUF_STATE_GET_USAGECOUNT(state) < usage && (state & BM_VALID) != 0 &&
+		tag->blockNum == page->block && TagFile(tag) == page->file &&
+		tag->forkNum == page->device.fork &&
+		TagDatabase(tag) == page->device.database &&
+		TagSpace(tag) == page->device.space)
 	{
-		prefetched = 0;
-		prefetched_since = round_at;
+		state += (usage - BUF_STATE_GET_USAGECOUNT(state)) * BUF_USAGECOUNT_ONE;
+		sp_stats.pages_touched++;
 	}
-	for (Size i = wanted_count + prefetched; i < page_count && load_allowance >= 1; i++)
-	{
-		if (!hand_out(pages[i], true))
-			break;
-		prefetched++;
-		load_allowance--;
-	}
-	LWLockRelease(ws_shared->lock);
-	send_batches();
+	UnlockBufHdr(descriptor, state);
 }
 
-/* A round of a standby. */
-void
-ws_round(void)
+/*
+ * Goes through the wanted pages, the hottest first, touches those that are
+ * resident, and hands out those that are missing.  A touch of a primary's would
+ * be a reference at its next sample.
+ */
+static void
+rank_visit_pages(void)
 {
-	uint64		begun = ws_us();
+	Size		most = rank_most_wanted();
+	Size		part = Min(most, listed_count) / 4;
+	Size		wanted = 0;
+
+	sp_stats.resident = sp_stats.unloadable = 0;
+	for (Size i = 0; i < listed_count && wanted < most; i++)
+	{
+		SpPage		page;
+
+		if (i % 65536 == 0)
+			CHECK_FOR_INTERRUPTS();
+		if (!sp_names_of(listed[i], &page))
+			continue;
+		if (buffers[i] != 0)
+		{
+			sp_stats.resident++;
+			if (sp_load && !sp_warming)
+				rank_touch_buffer(buffers[i] - 1, &page,
+								  wanted < part ? 3 : wanted < part * 2 ? 2 : 1);
+		}
+		else if (rank_is_unloadable(&page))
+		{
+			sp_stats.unloadable++;
+			continue;
+		}
+		else if (sp_load && load_allowance >= 1 && rank_hand_out(&page))
+			load_allowance--;
+		wanted++;
+	}
+	/* One that lacks a part of its primary's history wants that part, too. */
+	sp_stats.wanted = Min((int64) most, (int64) wanted +
+						  Max(sp_stats.primary_known - sp_stats.known, 0));
+}
+
+/* How many pages may be read in a second: by default a hundredth of the buffers. */
+static double
+rank_load_rate(void)
+{
+	return sp_load_rate >= 0 ? sp_load_rate : Max(LEAST_RATE, NBuffers / 100);
+}
+
+/* Says once that a standby is warm, and again where it was not for a while. */
+static void
+rank_note_warmth(void)
+{
+	double		share = is_warm ? 0.9 : 0.99;
+	bool		now = sp_stats.wanted > 0 &&
+		sp_stats.resident >= sp_stats.wanted * share;
+
+	if (now && !is_warm && sp_last_frame != 0 && !sp_warming &&
+		sp_may_log(SP_FAULT_WARM))
+		ereport(LOG,
+				(errmsg("standby_prewarm is warm: " INT64_FORMAT " of " INT64_FORMAT
+						" wanted pages are resident",
+						sp_stats.resident, sp_stats.wanted)));
+	is_warm = now;
+}
+
+/* A round of a standby, or of a primary that has just started. */
+void
+sp_round(void)
+{
+	uint64		begun = sp_us();
 	double		passed = (begun - round_at) / 1e6;
+	double		rate = rank_load_rate();
 
 	round_at = begun;
-	if (begun > unloadable_until && hash_get_num_entries(unloadable) > 0)
-		forgive();				/* so that ranking looks for none */
-	load_allowance = Min(load_allowance + passed * ws_load_rate,
-						 Max(2.0 * ws_load_rate * ws_load_interval / 1000, 1));
-	reap_loaders();
-	rank_pages();
-	walk_buffers();
-	if (ws_load)
-		load_pages();
-	MemoryContextReset(round_context);
-	if (!is_warm && ws_stats.wanted > 0 && ws_stats.resident >= ws_stats.wanted * 0.99)
-		ereport(LOG, (errmsg("warm_standby is warm: " INT64_FORMAT " of " INT64_FORMAT
-							 " wanted pages are resident", ws_stats.resident, ws_stats.wanted)));
-	is_warm = ws_stats.resident >= ws_stats.wanted * (is_warm ? 0.9 : 0.99) && ws_stats.wanted > 0;
-	ws_stats.rounds++;
-	ws_stats.round_us = ws_us() - begun;
-}
-
-/* Puts the hottest pages where SQL finds them. */
-void
-ws_make_list(void)
-{
-	Size		count;
-
-	pages = MemoryContextAllocHuge(round_context, sizeof(warm_page) * WS_LISTED);
-	count = ws_history_list(pages, WS_LISTED);
-	LWLockAcquire(ws_shared->lock, LW_EXCLUSIVE);
-	ws_shared->list_count = 0;
-	for (Size i = 0; i < count; i++)
-		if (ws_names_of(pages[i], &ws_shared->list[ws_shared->list_count]))
-			ws_shared->list_count++;
-	ws_shared->list_made++;
-	ws_shared->list_wanted = false;
-	LWLockRelease(ws_shared->lock);
-	MemoryContextReset(round_context);
-	ConditionVariableBroadcast(&ws_shared->list_ready);
+	load_allowance = Min(load_allowance + passed * rate,
+						 Max(2.0 * rate * sp_load_interval / 1000, 1));
+	others_waited = others_wait;
+	others_wait = false;
+	for (int i = 0; i < sp_shared->loader_count; i++)
+		rank_open_slot(i);
+	rank_list_pages();
+	rank_find_buffers();
+	rank_visit_pages();
+	for (int i = 0; i < sp_shared->loader_count; i++)
+		if (slots[i].count > 0)
+			rank_send_batch(i);
+	LWLockAcquire(sp_shared->lock, LW_EXCLUSIVE);
+	sp_shared->others_wait = others_wait;
+	LWLockRelease(sp_shared->lock);
+	rank_note_warmth();
+	sp_stats.rounds++;
+	sp_stats.round_us = sp_us() - begun;
+	sp_last_round = GetCurrentTimestamp();
 }

@@ -3,9 +3,11 @@
  *		Messages out of the WAL of a standby.
  *
  * The worker reads the WAL that was replayed, from pg_wal, by an XLogReader of
- * its own.  Nothing is hooked, so no message makes replay wait or fail.  Where a
- * segment is gone, or a record cannot be read, it goes on at the end of what was
- * replayed, and counts the bytes that it skipped.
+ * its own.  One that starts on a primary reads what was written since its
+ * history was saved: what a crash or a promotion left there.  Nothing is hooked,
+ * so no message makes replay wait or fail.  Where a segment is gone, or a record
+ * cannot be read, it goes on at the end of what was replayed, and counts the
+ * bytes that it skipped.
  */
 #include "postgres.h"
 
@@ -16,7 +18,7 @@
 #include "replication/message.h"
 #include "storage/fd.h"
 #include "utils/memutils.h"
-#include "warm_standby.h"
+#include "standby_prewarm.h"
 
 /* Most WAL that one turn reads, so that other work gets its turn too. */
 #define BYTES_A_TURN	(16 * 1024 * 1024)
@@ -27,6 +29,18 @@ static int	segment = -1;
 static XLogSegNo segment_number;
 static TimeLineID segment_timeline;
 static XLogRecPtr position;		/* where the next record begins */
+static XLogRecPtr own_end;		/* of the WAL that a primary begins with; of a standby invalid */
+static TimeLineID own_timeline;
+
+/* Where WAL ends for now: a standby's at what was replayed. */
+static XLogRecPtr
+wal_end(TimeLineID *timeline)
+{
+	if (XLogRecPtrIsInvalid(own_end))
+		return GetXLogReplayRecPtr(timeline);
+	*timeline = own_timeline;
+	return own_end;
+}
 
 static void
 close_segment(void)
@@ -57,12 +71,12 @@ open_segment(XLogSegNo number, TimeLineID timeline)
 	return segment >= 0;
 }
 
-/* Reads a page of WAL, as far as it was replayed.  A segment that is gone is no error. */
+/* Reads a page of WAL, as far as there is any.  A segment that is gone is no error. */
 static int
 read_page(XLogReaderState *state, XLogRecPtr page, int wanted, XLogRecPtr record, char *into)
 {
 	TimeLineID	timeline;
-	XLogRecPtr	end = GetXLogReplayRecPtr(&timeline);
+	XLogRecPtr	end = wal_end(&timeline);
 	XLogSegNo	number;
 	int			length = XLOG_BLCKSZ;
 
@@ -79,26 +93,37 @@ read_page(XLogReaderState *state, XLogRecPtr page, int wanted, XLogRecPtr record
 	return length;
 }
 
-/* Begins at the redo point of the last restartpoint, whose WAL is kept. */
+/*
+ * Begins with the WAL from a place on.  A standby goes on with what is replayed;
+ * of a primary it is what was written before its worker started.
+ */
 void
-ws_receive_start(void)
+sp_receive_start(XLogRecPtr from, bool is_standby)
 {
 	MemoryContext old;
 
-	ws_receive_stop();
-	reader_context = AllocSetContextCreate(TopMemoryContext, "warm_standby WAL reader",
+	sp_receive_stop();
+	reader_context = AllocSetContextCreate(TopMemoryContext, "standby_prewarm WAL reader",
 										   ALLOCSET_DEFAULT_SIZES);
 	old = MemoryContextSwitchTo(reader_context);
 	reader = XLogReaderAllocate(wal_segment_size, NULL, XL_ROUTINE(.page_read = read_page), NULL);
 	MemoryContextSwitchTo(old);
 	if (reader == NULL)
 		ereport(ERROR, (errcode(ERRCODE_OUT_OF_MEMORY), errmsg("out of memory")));
-	position = GetRedoRecPtr();
+	own_end = is_standby ? InvalidXLogRecPtr : GetFlushRecPtr(&own_timeline);
+	position = from;
 	XLogBeginRead(reader, position);
 }
 
+/* Up to where messages were taken in; invalid where none are. */
+XLogRecPtr
+sp_receive_position(void)
+{
+	return reader != NULL ? position : InvalidXLogRecPtr;
+}
+
 void
-ws_receive_stop(void)
+sp_receive_stop(void)
 {
 	if (reader_context != NULL)
 		MemoryContextDelete(reader_context);
@@ -107,18 +132,26 @@ ws_receive_stop(void)
 	close_segment();
 }
 
-/* What a message that begins so is refused for, or WARM_OK. */
+static Size
+header_length(const uint8 *bytes)
+{
+	return bytes[0] == 1 ? SP_HEADER_1 : SP_HEADER;
+}
+
+/* What a message is refused for by its header, or WARM_OK. */
 static int
 header_status(const uint8 *bytes, Size length)
 {
-	if (length < WS_HEADER)
-		return WS_BAD_MESSAGE;
-	if (bytes[0] != WS_MESSAGE_VERSION)
-		return WS_BAD_VERSION;
-	if (bytes[1] != WS_MESSAGE_FRAME && bytes[1] != WS_MESSAGE_DIRECTORY)
-		return WS_BAD_MESSAGE;
-	if (ws_get(bytes + 2, 8) > (uint64) GetCurrentTimestamp() + ws_clock_tolerance * US_PER_S)
-		return WS_LATE_MESSAGE;
+	if (length < SP_HEADER_1)
+		return SP_BAD_MESSAGE;
+	if (bytes[0] != SP_MESSAGE_VERSION && bytes[0] != SP_MESSAGE_VERSION - 1)
+		return SP_BAD_VERSION;
+	if (length < header_length(bytes))
+		return SP_BAD_MESSAGE;
+	if (bytes[1] != SP_MESSAGE_FRAME && bytes[1] != SP_MESSAGE_DIRECTORY)
+		return SP_BAD_MESSAGE;
+	if (sp_get(bytes + 2, 8) > (uint64) GetCurrentTimestamp() + sp_clock_tolerance * US_PER_S)
+		return SP_LATE_MESSAGE;
 	return WARM_OK;
 }
 
@@ -130,27 +163,27 @@ static void
 take_message(const uint8 *bytes, Size length)
 {
 	int			status = header_status(bytes, length);
+	Size		header = status == WARM_OK ? header_length(bytes) : 0;
 	uint64		time;
 
-	if (status == WARM_OK && bytes[1] == WS_MESSAGE_DIRECTORY)
+	if (status == WARM_OK && bytes[1] == SP_MESSAGE_DIRECTORY)
 	{
-		status = ws_directory_decode(bytes + WS_HEADER, length - WS_HEADER);
-		if (status == WS_OTHER_DIRECTORY)
+		status = sp_directory_decode(bytes + header, length - header);
+		if (status == SP_OTHER_DIRECTORY)
 		{
-			ws_history_reset("another primary gave the numbers of devices");
-			(void) ws_directory_decode(bytes + WS_HEADER, length - WS_HEADER);
+			sp_history_reset("another primary gave the numbers of devices");
+			(void) sp_directory_decode(bytes + header, length - header);
 		}
 	}
-	else if (status == WARM_OK &&
-			 ws_history_receive(bytes + WS_HEADER, length - WS_HEADER) == WARM_OK)
+	else if (status == WARM_OK && sp_history_receive(bytes + header, length - header) == WARM_OK)
 	{
-		time = ws_get(bytes + 2, 8);
-		ws_latest = Max(ws_latest, time);
-		ws_last_frame = Max(ws_last_frame, (TimestampTz) time);
-		ws_stats.frames_received++;
+		time = sp_get(bytes + 2, 8);
+		sp_latest = Max(sp_latest, time);
+		sp_last_frame = Max(sp_last_frame, (TimestampTz) time);
+		sp_stats.primary_known = header == SP_HEADER ? sp_get(bytes + SP_HEADER_1, 8) : -1;
+		sp_stats.frames_received++;
 	}
-	if (status != WARM_OK)
-		ws_refused[status]++;
+	(void) sp_note(status, "a message of its primary");
 }
 
 /* Hands on the message of a record, where it is one of ours. */
@@ -162,20 +195,42 @@ look_at_record(void)
 
 	if (XLogRecGetRmid(reader) != RM_LOGICALMSG_ID ||
 		(XLogRecGetInfo(reader) & ~XLR_INFO_MASK) != XLOG_LOGICAL_MESSAGE ||
-		length < SizeOfLogicalMessage + sizeof WS_NAME ||
-		message->dbId != InvalidOid || message->prefix_size != sizeof WS_NAME ||
-		memcmp(message->message, WS_NAME, sizeof WS_NAME) != 0 ||
-		message->message_size != length - SizeOfLogicalMessage - sizeof WS_NAME)
+		length < SizeOfLogicalMessage + sizeof SP_NAME ||
+		message->dbId != InvalidOid || message->prefix_size != sizeof SP_NAME ||
+		memcmp(message->message, SP_NAME, sizeof SP_NAME) != 0 ||
+		message->message_size != length - SizeOfLogicalMessage - sizeof SP_NAME)
 		return;
-	take_message((const uint8 *) message->message + sizeof WS_NAME, message->message_size);
+	take_message((const uint8 *) message->message + sizeof SP_NAME, message->message_size);
 }
 
-/* Reads what was replayed; true where there is more than a turn of it. */
+/*
+ * Warns that WAL is skipped up to end, for what the reader says: it says nothing
+ * of a file that is gone.
+ */
+static void
+log_skipped(XLogRecPtr end, const char *why)
+{
+	char		path[MAXPGPATH];
+
+	if (!sp_may_log(SP_FAULT_WAL))
+		return;
+	XLogFilePath(path, segment_timeline, segment_number, wal_segment_size);
+	/* A crash or a promotion is followed by a checkpoint, after which WAL is recycled. */
+	ereport(XLogRecPtrIsInvalid(own_end) ? WARNING : LOG,
+			(errcode(why != NULL ? ERRCODE_DATA_CORRUPTED : ERRCODE_UNDEFINED_FILE),
+			 errmsg("standby_prewarm skipped WAL from %X/%X to %X/%X, last of file \"%s\": %s",
+					LSN_FORMAT_ARGS(position), LSN_FORMAT_ARGS(end), path,
+					why != NULL ? why : "it is gone"),
+			 errdetail("What was published in it is known once it is published or referenced again.")));
+}
+
+/* Reads the WAL that there is; true where it is more than a turn of it. */
 bool
-ws_receive(void)
+sp_receive(void)
 {
 	XLogRecPtr	begun = position;
-	XLogRecPtr	end = GetXLogReplayRecPtr(NULL);
+	TimeLineID	timeline;
+	XLogRecPtr	end = wal_end(&timeline);
 	MemoryContext old = MemoryContextSwitchTo(reader_context);	/* its buffers grow */
 
 	while (position < end && position - begun < BYTES_A_TURN)
@@ -185,11 +240,9 @@ ws_receive(void)
 		CHECK_FOR_INTERRUPTS();
 		if (XLogReadRecord(reader, &message) == NULL)
 		{
-			ereport(DEBUG1, (errmsg_internal("warm_standby skips WAL from %X/%X to %X/%X: %s",
-											 LSN_FORMAT_ARGS(position), LSN_FORMAT_ARGS(end),
-											 message != NULL ? message : "it is gone")));
-			ws_stats.wal_skipped += end - position;
-			ws_stats.wal_read -= end - position;
+			log_skipped(end, message);
+			sp_stats.wal_skipped += end - position;
+			sp_stats.wal_read -= end - position;
 			position = end;
 			/* A record does not begin at a page, but behind its header. */
 			if (XLogSegmentOffset(end, wal_segment_size) == 0)
@@ -204,6 +257,6 @@ ws_receive(void)
 	}
 	close_segment();			/* one from the archive may take its place */
 	MemoryContextSwitchTo(old);
-	ws_stats.wal_read += position - begun;
+	sp_stats.wal_read += position - begun;
 	return position < end;
 }

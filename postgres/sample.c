@@ -2,18 +2,19 @@
  * sample.c
  *		References, from the buffer descriptors of a primary.
  *
- * A page is referenced at the time of a sample where it came in since the sample
- * before, or its usage count rose: at most once a sample, which is LRU-2's
- * correlated reference period.  A count at its greatest cannot rise: where it stays,
- * the page is taken as referenced at the next sample, so that it has two
- * references, and then once a minute, so that the horizon does not forget it.
+ * A page is referenced at the time of a sample where it came in since the
+ * sample before, or its usage count rose: at most once a sample, which is
+ * LRU-2's correlated reference period.  A count at its greatest cannot rise: a
+ * page that has it is taken as referenced once a minute, so that the horizon
+ * does not forget it, and no sooner: a page that rows were only inserted into
+ * has it at once.
  */
 #include "postgres.h"
 
 #include "common/hashfn.h"
 #include "miscadmin.h"
 #include "utils/memutils.h"
-#include "warm_standby.h"
+#include "standby_prewarm.h"
 
 #define SATURATED_US	(60 * US_PER_S)
 #define SEEN_NONE		UINT64CONST(15)
@@ -32,7 +33,7 @@ static uint64 cost;				/* of it so far */
  * within these few instructions may give a tag of both, which does no harm.
  */
 bool
-ws_look(int buffer, BufferTag *tag, uint32 *state)
+sp_look(int buffer, BufferTag *tag, uint32 *state)
 {
 	BufferDesc *descriptor = GetBufferDescriptor(buffer);
 	uint32		before = pg_atomic_read_u32(&descriptor->state);
@@ -57,12 +58,12 @@ ws_look(int buffer, BufferTag *tag, uint32 *state)
 
 /* The next sample is the first: it only notes what is there. */
 void
-ws_sample_reset(void)
+sp_sample_reset(void)
 {
 	if (seen == NULL)
 		seen = MemoryContextAllocHuge(TopMemoryContext, sizeof(uint64) * (Size) NBuffers);
 	is_first = true;
-	saturated_at = ws_us();
+	saturated_at = sp_us();
 	next_buffer = 0;
 }
 
@@ -78,17 +79,17 @@ sample_buffer(int i, uint64 time, bool saturated)
 	bool		is_new, is_hotter;
 
 	/* Pages of unlogged relations are not on a standby. */
-	if (ws_look(i, &tag, &state) && (state & BM_PERMANENT) != 0)
+	if (sp_look(i, &tag, &state) && (state & BM_PERMANENT) != 0)
 	{
 		mark = hash_bytes_extended((const unsigned char *) &tag, sizeof tag, 0);
 		mark = (mark & ~SEEN_NONE) | BUF_STATE_GET_USAGECOUNT(state);
-		if (BUF_STATE_GET_USAGECOUNT(state) == BM_MAX_USAGE_COUNT && before - mark <= 1)
-			mark++;				/* for the second time at least */
-		is_new = (before ^ mark) > SEEN_NONE || (before & SEEN_NONE) == SEEN_NONE;
-		is_hotter = mark > before ||
-			(saturated && (mark & SEEN_NONE) >= BM_MAX_USAGE_COUNT);
-		if (!is_first && (is_new || is_hotter) && ws_page_of(&tag, true, &page))
-			ws_reference(page, time);
+		/* While a primary loads pages, one that comes in is not referenced. */
+		is_new = !sp_warming &&
+			((before ^ mark) > SEEN_NONE || (before & SEEN_NONE) == SEEN_NONE);
+		is_hotter = ((before ^ mark) <= SEEN_NONE && mark > before) ||
+			(saturated && BUF_STATE_GET_USAGECOUNT(state) == BM_MAX_USAGE_COUNT);
+		if (!is_first && (is_new || is_hotter) && sp_page_of(&tag, true, &page))
+			sp_reference(page, time);
 	}
 	seen[i] = mark;
 }
@@ -98,12 +99,12 @@ sample_buffer(int i, uint64 time, bool saturated)
  * Each piece has a time of its own, as what is new since a time may be published.
  */
 bool
-ws_sample(void)
+sp_sample(void)
 {
 	static bool saturated;
-	uint64		time = ws_clock();
-	uint64		begun = ws_us();
-	int64		most = ws_stats.page_references + REFERENCES_A_TURN;
+	uint64		time = sp_clock();
+	uint64		begun = sp_us();
+	int64		most = sp_stats.page_references + REFERENCES_A_TURN;
 
 	if (next_buffer == 0)
 	{
@@ -112,15 +113,15 @@ ws_sample(void)
 			saturated_at = begun;
 		cost = 0;
 	}
-	while (next_buffer < NBuffers && ws_stats.page_references < most)
+	while (next_buffer < NBuffers && sp_stats.page_references < most)
 		sample_buffer(next_buffer++, time, saturated);
-	ws_references_end();
-	cost += ws_us() - begun;
+	sp_references_end();
+	cost += sp_us() - begun;
 	if (next_buffer < NBuffers)
 		return false;
 	next_buffer = 0;
 	is_first = false;
-	ws_stats.samples++;
-	ws_stats.sample_us = cost;
+	sp_stats.samples++;
+	sp_stats.sample_us = cost;
 	return true;
 }

@@ -1,146 +1,131 @@
 /*
  * status.c
- *		What SQL sees: pg_stat_warm_standby and its functions.
+ *		What SQL sees: the row of pg_stat_standby_prewarm, and a reset.
  */
 #include "postgres.h"
 
 #include "funcapi.h"
+#include "lib/stringinfo.h"
 #include "miscadmin.h"
-#include "pgstat.h"
 #include "utils/builtins.h"
-#include "warm_standby.h"
+#include "utils/fmgrprotos.h"
+#include "standby_prewarm.h"
 
-#define STATS			(sizeof(WsStats) / sizeof(int64))
-#define STATUS_COLUMNS	(4 + STATS)
-#define LIST_COLUMNS	6
-#define LIST_WAITS		100		/* of 100 ms */
+#define STATS			(sizeof(SpStats) / sizeof(int64))
+#define OWN_COLUMNS		7
 
-PG_FUNCTION_INFO_V1(warm_standby_status);
-PG_FUNCTION_INFO_V1(warm_standby_refused);
-PG_FUNCTION_INFO_V1(warm_standby_hottest);
+PG_FUNCTION_INFO_V1(standby_prewarm_status);
+PG_FUNCTION_INFO_V1(standby_prewarm_reset);
 
 static void
-need_shared(void)
+status_need_shared(void)
 {
-	if (ws_shared == NULL)
+	if (sp_shared == NULL)
 		ereport(ERROR,
 				(errcode(ERRCODE_OBJECT_NOT_IN_PREREQUISITE_STATE),
-				 errmsg("warm_standby must be loaded via shared_preload_libraries")));
+				 errmsg("standby_prewarm must be loaded via \"shared_preload_libraries\"")));
 }
 
-/* The row of pg_stat_warm_standby: four columns, then the counts in their order. */
-Datum
-warm_standby_status(PG_FUNCTION_ARGS)
+/* Whether a count says something only where pages are loaded. */
+static bool
+status_is_of_loading(int count)
 {
-	TupleDesc	desc;
-	Datum		values[STATUS_COLUMNS];
-	bool		nulls[STATUS_COLUMNS] = {false};
-	int64		counts[STATS];
-	int64		refused = 0, loaders = 0;
+	Size		at = count * sizeof(int64);
 
-	need_shared();
-	if (get_call_result_type(fcinfo, NULL, &desc) != TYPEFUNC_COMPOSITE ||
-		desc->natts != STATUS_COLUMNS)
-		elog(ERROR, "return type must be a row type");
-	LWLockAcquire(ws_shared->lock, LW_SHARED);
-	memcpy(counts, &ws_shared->stats, sizeof(WsStats));
-	for (int i = 0; i < WS_STATUSES; i++)
-		refused += ws_shared->refused[i];
-	for (int i = 0; i < ws_shared->loader_count; i++)
-		loaders += ws_shared->loaders[i].latch != NULL;
-	values[0] = CStringGetTextDatum(ws_shared->latch == NULL ? "none" :
-									ws_shared->is_standby ? "standby" : "primary");
-	values[1] = TimestampTzGetDatum(ws_shared->last_frame);
-	nulls[1] = ws_shared->last_frame == 0;
-	LWLockRelease(ws_shared->lock);
-	values[2] = Int64GetDatum(refused);
-	values[3] = Int32GetDatum(loaders);
-	for (int i = 0; i < STATS; i++)
-		values[4 + i] = Int64GetDatum(counts[i]);
-	PG_RETURN_DATUM(HeapTupleGetDatum(heap_form_tuple(BlessTupleDesc(desc), values, nulls)));
+	return at == offsetof(SpStats, wanted) ||
+		at == offsetof(SpStats, resident) ||
+		at == offsetof(SpStats, unloadable) ||
+		at == offsetof(SpStats, primary_known);
 }
 
-/* What was refused, by name: messages, frames, and calls of the library. */
-Datum
-warm_standby_refused(PG_FUNCTION_ARGS)
+/* What was refused, by name, as JSON, and its sum. */
+static char *
+status_refused(const int64 *refused, int64 *sum)
 {
-	ReturnSetInfo *result = (ReturnSetInfo *) fcinfo->resultinfo;
-	int64		refused[WS_STATUSES];
+	StringInfoData text;
 
-	need_shared();
-	InitMaterializedSRF(fcinfo, 0);
-	LWLockAcquire(ws_shared->lock, LW_SHARED);
-	memcpy(refused, ws_shared->refused, sizeof refused);
-	LWLockRelease(ws_shared->lock);
-	for (int i = 0; i < WS_STATUSES; i++)
+	initStringInfo(&text);
+	*sum = 0;
+	for (int i = 0; i < SP_STATUSES; i++)
 	{
-		Datum		values[2];
-		bool		nulls[2] = {false, false};
-
 		if (refused[i] == 0)
 			continue;
-		values[0] = CStringGetTextDatum(ws_status_name(i));
-		values[1] = Int64GetDatum(refused[i]);
-		tuplestore_putvalues(result->setResult, result->setDesc, values, nulls);
+		appendStringInfo(&text, "%s\"%s\": " INT64_FORMAT,
+						 *sum == 0 ? "{" : ", ", sp_status_name(i), refused[i]);
+		*sum += refused[i];
 	}
-	return (Datum) 0;
+	appendStringInfoChar(&text, '}');
+	return text.data;
 }
 
-/* Asks the worker for a list, and waits for it. */
-static void
-ask_for_list(void)
-{
-	uint64		before, made;
-
-	LWLockAcquire(ws_shared->lock, LW_EXCLUSIVE);
-	before = made = ws_shared->list_made;
-	ws_shared->list_wanted = true;
-	if (ws_shared->latch != NULL)
-		SetLatch(ws_shared->latch);
-	LWLockRelease(ws_shared->lock);
-	ConditionVariablePrepareToSleep(&ws_shared->list_ready);
-	for (int i = 0; i < LIST_WAITS && made == before; i++)
-	{
-		(void) ConditionVariableTimedSleep(&ws_shared->list_ready, 100, PG_WAIT_EXTENSION);
-		LWLockAcquire(ws_shared->lock, LW_SHARED);
-		made = ws_shared->list_made;
-		LWLockRelease(ws_shared->lock);
-	}
-	ConditionVariableCancelSleep();
-	if (made == before)
-		ereport(ERROR,
-				(errcode(ERRCODE_OBJECT_NOT_IN_PREREQUISITE_STATE),
-				 errmsg("the warm_standby worker does not answer")));
-}
-
-/* The hottest pages, hottest first, in the columns of pg_buffercache. */
+/*
+ * The row of pg_stat_standby_prewarm: own columns, then the counts in their order.
+ * The extension of another version may have fewer columns, or more, which are
+ * null then: new ones come last, so the library may be newer than the extension,
+ * and older.
+ */
 Datum
-warm_standby_hottest(PG_FUNCTION_ARGS)
+standby_prewarm_status(PG_FUNCTION_ARGS)
 {
-	int32		most = PG_GETARG_INT32(0);
-	ReturnSetInfo *result = (ReturnSetInfo *) fcinfo->resultinfo;
-	WsPage	   *list = palloc(sizeof(WsPage) * WS_LISTED);
-	uint32		count;
+	TupleDesc	desc;
+	Datum		values[MaxTupleAttributeNumber];
+	bool		nulls[MaxTupleAttributeNumber];
+	SpShared	now;
+	const int64 *counts = (const int64 *) &now.stats;
+	int64		refused;
+	int			loaders = 0;
+	bool		runs,
+				loads;
+	char	   *by_name;
 
-	need_shared();
-	InitMaterializedSRF(fcinfo, 0);
-	ask_for_list();
-	LWLockAcquire(ws_shared->lock, LW_SHARED);
-	count = ws_shared->list_count;
-	memcpy(list, ws_shared->list, sizeof(WsPage) * count);
-	LWLockRelease(ws_shared->lock);
-	for (uint32 i = 0; i < count && (int64) i < most; i++)
+	status_need_shared();
+	if (get_call_result_type(fcinfo, NULL, &desc) != TYPEFUNC_COMPOSITE)
+		elog(ERROR, "return type must be a row type");
+	LWLockAcquire(sp_shared->lock, LW_SHARED);
+	memcpy(&now, sp_shared, offsetof(SpShared, loaders));
+	for (int i = 0; i < now.loader_count; i++)
+		loaders += sp_shared->loaders[i].latch != NULL;
+	LWLockRelease(sp_shared->lock);
+
+	runs = now.latch != NULL && sp_enabled;
+	loads = runs && (now.is_standby || now.is_warming);
+	by_name = status_refused(now.refused, &refused);
+	memset(nulls, false, sizeof nulls);
+	values[0] = CStringGetTextDatum(now.latch == NULL ? "none" :
+									!sp_enabled ? "disabled" :
+									now.is_standby ? "standby" : "primary");
+	values[1] = Int64GetDatum(refused);
+	values[2] = refused == 0 ? (Datum) 0 :
+		DirectFunctionCall1(jsonb_in, CStringGetDatum(by_name));
+	nulls[2] = refused == 0;
+	values[3] = Int32GetDatum(loaders);
+	values[4] = TimestampTzGetDatum(now.last_frame);
+	nulls[4] = now.last_frame == 0;
+	values[5] = TimestampTzGetDatum(now.last_round);
+	nulls[5] = now.last_round == 0 || !loads;
+	values[6] = TimestampTzGetDatum(now.stats_reset);
+	nulls[6] = now.stats_reset == 0;
+	for (int i = 0; i < STATS; i++)
 	{
-		Datum		values[LIST_COLUMNS];
-		bool		nulls[LIST_COLUMNS] = {false};
-
-		values[0] = Int32GetDatum(i + 1);
-		values[1] = ObjectIdGetDatum(list[i].device.database);
-		values[2] = ObjectIdGetDatum(list[i].device.space);
-		values[3] = ObjectIdGetDatum(list[i].file);
-		values[4] = Int16GetDatum(list[i].device.fork);
-		values[5] = Int64GetDatum(list[i].block);
-		tuplestore_putvalues(result->setResult, result->setDesc, values, nulls);
+		values[OWN_COLUMNS + i] = Int64GetDatum(counts[i]);
+		nulls[OWN_COLUMNS + i] = status_is_of_loading(i) &&
+			(!loads || counts[i] < 0);
 	}
-	return (Datum) 0;
+	memset(nulls + OWN_COLUMNS + STATS, true,
+		   MaxTupleAttributeNumber - OWN_COLUMNS - STATS);
+	PG_RETURN_DATUM(HeapTupleGetDatum(heap_form_tuple(BlessTupleDesc(desc),
+													  values, nulls)));
+}
+
+/* Lets the worker begin a new history, soon. */
+Datum
+standby_prewarm_reset(PG_FUNCTION_ARGS)
+{
+	status_need_shared();
+	LWLockAcquire(sp_shared->lock, LW_EXCLUSIVE);
+	sp_shared->reset_wanted = true;
+	if (sp_shared->latch != NULL)
+		SetLatch(sp_shared->latch);
+	LWLockRelease(sp_shared->lock);
+	PG_RETURN_VOID();
 }

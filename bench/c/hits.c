@@ -69,12 +69,14 @@ int main(int count, char **words) {
     }
     warm pool = {0};
     warm_device device = {.pages = frames, .fd = fileno(file)};
-    ok(warm_open(&pool, 1, 1, (size_t)frames, PAGE_SIZE, &device, 1), "warm_open");
+    const warm_options options = {.size = sizeof options, .replica = 1, .frames = (size_t)frames, .page_size = PAGE_SIZE, .devices = &device,
+        .device_count = 1};
+    ok(warm_open(&pool, &options), "warm_open");
     for (uint64_t no = 0; no < frames; no++) put_number(&pool, no);
     uint64_t start = now();
     uint64_t checksum = hit_often(&pool, frames - 1, hits);
     uint64_t spent = now() - start;
-    warm_close(&pool);
+    warm_abandon(&pool); /* its pages are written back by nobody */
     fclose(file);
     printf("%" PRIu64 "\n%" PRIu64 " ns\n", checksum, spent);
     return 0;

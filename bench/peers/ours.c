@@ -76,7 +76,9 @@ void *open_pool(const struct load *load, uint64_t drawn) {
     pool->refers_to_each = strcmp(load->kind, kinds[1]) == 0;
     pool->is_of_misses = load->is_of_misses;
     pool->is_alone = load->threads == 1 && getenv("OURS_ATTACHED") == NULL;
-    ok(warm_open(&pool->handle, 1, shards, load->pages, PAGE_SIZE, &device, 1), "warm_open");
+    const warm_options options = {.size = sizeof options, .replica = 1, .shards = shards, .frames = load->pages, .page_size = PAGE_SIZE,
+        .devices = &device, .device_count = 1};
+    ok(warm_open(&pool->handle, &options), "warm_open");
     know_file(pool, load, drawn);
     return pool;
 }
@@ -87,7 +89,7 @@ void *join_pool(void *at) {
     struct joined *joined = calloc(1, sizeof *joined);
     if (joined == NULL) ok(WARM_MEMORY, "calloc");
     joined->handle = pool->is_alone ? &pool->handle : &joined->attached;
-    if (!pool->is_alone) ok(warm_thread(&pool->handle, &joined->attached), "warm_thread");
+    if (!pool->is_alone) ok(warm_attach(&pool->handle, &joined->attached), "warm_attach");
     joined->pool = pool;
     uint64_t before = atomic_fetch_add(&pool->threads, 1); /* know_file is the first */
     joined->replica = (uint16_t)(1 + before % 64);
@@ -117,7 +119,7 @@ uint64_t play_slice(void *at, const uint32_t *pages, size_t count) {
         uint64_t number;
         warm_slot slot;
         if (joined->pool->refers_to_each) refer_once(joined, pages[i]);
-        ok(warm_pin_lend(joined->handle, (warm_page){.no = pages[i]}, &slot, &bytes), "warm_pin_lend");
+        ok(warm_pin_bytes(joined->handle, (warm_page){.no = pages[i]}, &slot, &bytes), "warm_pin_bytes");
         memcpy(&number, bytes, sizeof number);
         ok(warm_unpin(joined->handle, slot), "warm_unpin");
         checksum = added(checksum, number);

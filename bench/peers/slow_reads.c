@@ -72,11 +72,13 @@ int main(int count, char **words) {
     }
     reads_each = (unsigned)strtoul(words[3], NULL, 10);
     warm_device device = {.pages = PAGES, .fd = memfd_create("pages", 0)};
-    ok(warm_open(&first, 1, strtoul(words[1], NULL, 10), FRAMES, PAGE_SIZE, &device, 1), "warm_open");
+    const warm_options options = {.size = sizeof options, .replica = 1, .shards = strtoul(words[1], NULL, 10), .frames = FRAMES,
+        .page_size = PAGE_SIZE, .devices = &device, .device_count = 1};
+    ok(warm_open(&first, &options), "warm_open");
     uint64_t start = now();
     for (unsigned i = 0; i < threads; i++) {
         readers[i].drawn = (uint64_t)i << 32 | 1;
-        ok(warm_thread(&first, &readers[i].handle), "warm_thread");
+        ok(warm_attach(&first, &readers[i].handle), "warm_attach");
         if (pthread_create(&readers[i].thread, NULL, read_pages, &readers[i]) != 0) ok(WARM_MEMORY, "pthread_create");
     }
     for (unsigned i = 0; i < threads; i++) {

@@ -4,7 +4,8 @@ thread has for itself and beside plain Rust with a Mutex around each shard; prin
 
 usage: measure.py [HITS [ROUNDS]]      HITS of each thread, 1,000,000 where it is not given; ROUNDS, 7
 
-A hit is a pin, a read of eight bytes and an unpin of a resident page of 4,096 bytes, drawn evenly. It needs the proved program (`rt run` in
+A hit is a pin, a read of eight bytes and an unpin of a resident page of 4,096 bytes, drawn evenly; by `SharedShards::look` all three are one
+turn, as is one lock for a hit in plain Rust. It needs the proved program (`rt run` in
 crates/bench_threads leaves it as crates/bench_threads/out/bench_threads; the variable BENCHES names another), `rustc`, valgrind, 1 GB of memory and four processors
 that nothing else uses. Each round runs all in a drawn order, and of all rounds the fastest run counts: the time from the first thread's begin
 to the last thread's end, by the hits of one thread. Programs that draw the same pages must print the same sum. Instructions are those of one
@@ -43,6 +44,8 @@ ROWS = {
     "`Shards`, 16 shards": Row("ours", ["alone", str(SHARDS)]),
     "`SharedShards`, one shard": Row("ours", ["1", "THREADS"]),
     "`SharedShards`, 16 shards": Row("ours", [str(SHARDS), "THREADS"]),
+    "`SharedShards::look`, one shard": Row("ours", ["look", "1", "THREADS"]),
+    "`SharedShards::look`, 16 shards": Row("ours", ["look", str(SHARDS), "THREADS"]),
     "plain Rust, one shard": Row("plain", ["1", "alone"]),
     "plain Rust, 16 shards": Row("plain", [str(SHARDS), "alone"]),
     "plain Rust, one Mutex": Row("plain", ["1", "THREADS"]),

@@ -10,6 +10,9 @@ the proved program (`rt run` in crates/bench_threads leaves it as crates/bench_t
 turn, nine times, and the median run of each counts, and its median processor time: the fastest run would be one in which the
 threads hardly contended. The longest wait is that of all calls of nine further runs, in which each call is timed; of a counter that
 sleeps each call is timed in all runs. Every total must be the requested one.
+
+The first lines are the instructions of a call and of a visit by one thread, counted by callgrind (it needs valgrind): what a run of twice
+as many turns takes more.
 """
 
 import os
@@ -28,6 +31,7 @@ from busy import all_processors_busy  # noqa: E402
 TURN = [HERE.parent.parent / "crates/bench_threads/out/bench_threads", "turn"]
 RUNS = 9
 CROWDS = [1, 2, 4, 8]
+COUNTED_TURNS = 20_000
 LINE = re.compile(r"(\d) threads?: (\d+) in (\d+) ns(?:, (\d+) ns)?")
 
 
@@ -35,6 +39,18 @@ class Ran(NamedTuple):
     speed: float  # turns a second
     used: float  # nanoseconds of processor time a turn, the user's and the system's
     longest: float  # nanoseconds of the longest call, where each was timed
+
+
+def counted(turns: int, kind: list[str]) -> int:
+    command = ["valgrind", "--tool=callgrind", "--callgrind-out-file=/dev/null", *TURN, "1", str(turns), *kind]
+    said = subprocess.run(command, stdout=subprocess.DEVNULL, stderr=subprocess.PIPE, check=True, text=True).stderr
+    collected = re.search(r"Collected : (\d+)", said)
+    assert collected, said
+    return int(collected[1])
+
+
+def instructions(kind: list[str]) -> float:
+    return (counted(2 * COUNTED_TURNS, kind) - counted(COUNTED_TURNS, kind)) / COUNTED_TURNS
 
 
 def one_run(command: list, threads: int, turns: int, kind: list[str]) -> Ran:
@@ -78,6 +94,7 @@ def main() -> None:
     when = sys.argv[1] if len(sys.argv) > 1 else "both"
     assert when in ["idle", "busy", "both"], __doc__
     turns = int(sys.argv[2]) if len(sys.argv) > 2 else 2_000_000
+    print(f"instructions of a call: {instructions([]):.0f}, of a visit: {instructions(['visits']):.0f}", flush=True)
     with tempfile.TemporaryDirectory() as folder:
         mutex = Path(folder) / "mutex"
         subprocess.run(["rustc", "-O", "--edition", "2024", "-o", mutex, HERE / "mutex.rs"], check=True)

@@ -1,4 +1,4 @@
-"""Worlds by their definitions (docs/DEFINITIONS.md): which answer each line of a schedule has to get.
+"""Worlds by their definitions (scripts/definitions prints them): which answer each line of a schedule has to get.
 
 The model keeps every reference for good. What a replica holds is computed from all of them: those that are not before its horizon. It ranks
 pages by counting later references, and compares buckets by what they hold, and not by digests. It knows nothing of bytes: lines `put`

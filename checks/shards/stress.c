@@ -1,16 +1,21 @@
 /*
  * stress.c: threads that share one replica in shards, against a model: stress SHARDS THREADS SECONDS SEED.
  *
- * Each thread has a handle of its own, and makes calls that are drawn: pins, reads, writes through the library and in place, references,
- * checkpoints, horizons, gossip with a second replica of one shard, detaching and attaching again, and calls that must be refused. The model
- * knows what is in each page, how many pins it has, and the two latest references to it of each thread. What a page holds is compared at
- * each pin; and at the end, by one thread: that no pin is left (each shard takes as many pages as it has frames), what is in the files, and
- * the histories of both replicas, whose frames this program reads by itself. Prints how many calls were made.
+ * Each thread has a handle of its own, and makes calls that are drawn: pins, reads, writes through
+ * the library and in place, references, checkpoints, horizons, gossip with a second replica of one
+ * shard, detaching and attaching again, and calls that must be refused. The model knows what is in
+ * each page, how many pins it has, and the two latest references to it of each thread. What a page
+ * holds is compared at each pin; and at the end, by one thread: that no pin is left (each shard
+ * takes as many pages as it has frames), what is in the files, and the histories of both replicas,
+ * whose frames this program reads by itself. Each pin of a pinned page gives the same slot and
+ * address. The horizon of each shard is the latest time that a thread asked for. A list has each
+ * page that is known, once. Prints how many calls were made.
  *
- * Latches on pages are the caller's (warm.h): a page's latch is held while its bytes are read or written, the checkpoint's latch while bytes are
- * written in place or written back.
+ * Latches on pages are the caller's (docs/C.md): a page's latch is held while its bytes are read or written. There is no other: before a page is
+ * written to its file the device tries the page's latch, and skips the page where another thread has it to write.
  */
-#define _GNU_SOURCE /* mkstemp, rwlocks */
+#define _GNU_SOURCE /* mkstemp */
+#include <errno.h>
 #include <pthread.h>
 #include <stdatomic.h>
 #include <stdbool.h>
@@ -42,9 +47,48 @@ static void is(int wanted, int status, const char *call, int line) {
 
 /* ---- the model ---- */
 
+/* A latch of several readers or one writer, whose lock is held while nothing is waited for but itself: so who is in a shard may try it, and no order of
+ * locks is turned round. */
+typedef struct latch {
+    pthread_mutex_t lock;
+    pthread_cond_t freed;
+    unsigned readers;
+    bool has_writer;
+} latch;
+
+static bool try_shared(latch *of) {
+    pthread_mutex_lock(&of->lock);
+    bool is_free = !of->has_writer;
+    if (is_free) of->readers++;
+    pthread_mutex_unlock(&of->lock);
+    return is_free;
+}
+
+static void latch_shared(latch *of) {
+    pthread_mutex_lock(&of->lock);
+    while (of->has_writer) pthread_cond_wait(&of->freed, &of->lock);
+    of->readers++;
+    pthread_mutex_unlock(&of->lock);
+}
+
+static void latch_alone(latch *of) {
+    pthread_mutex_lock(&of->lock);
+    while (of->has_writer || of->readers > 0) pthread_cond_wait(&of->freed, &of->lock);
+    of->has_writer = true;
+    pthread_mutex_unlock(&of->lock);
+}
+
+static void unlatch(latch *of) {
+    pthread_mutex_lock(&of->lock);
+    if (of->has_writer) of->has_writer = false;
+    else of->readers--;
+    pthread_cond_broadcast(&of->freed);
+    pthread_mutex_unlock(&of->lock);
+}
+
 /* What a page holds, under its latch; and its pins. */
 static struct page {
-    pthread_rwlock_t latch;
+    latch latch;
     uint64_t version; /* 0: zeros */
     uint64_t writes;  /* how often a version was given */
     atomic_uint pins;
@@ -76,7 +120,6 @@ struct player {
 static struct player players[MOST_THREADS], peer_player; /* those of the peer's own references */
 static warm first, peer;                                 /* of one thread at a time, by these locks */
 static pthread_mutex_t first_lock = PTHREAD_MUTEX_INITIALIZER, peer_lock = PTHREAD_MUTEX_INITIALIZER;
-static pthread_rwlock_t checkpoint = PTHREAD_RWLOCK_INITIALIZER;
 static size_t shards;
 static int files[DEVICES], dump; /* that of the peer's lock */
 static atomic_uint_fast64_t now = 1, horizon;
@@ -110,6 +153,33 @@ static void check_bytes(const uint8_t *bytes, warm_page page) {
     MUST(memcmp(bytes, words, PAGE_SIZE) == 0);
 }
 
+/* ---- devices ---- */
+
+static atomic_uint_fast64_t skipped;
+
+static int try_latch(void *context, uint64_t no, const void *bytes, size_t length) {
+    struct page *of = context;
+    (void)bytes;
+    MUST(no < PAGES && length == PAGE_SIZE);
+    if (try_shared(&of[no].latch)) return 0;
+    atomic_fetch_add(&skipped, 1);
+    return EAGAIN;
+}
+
+static void release_latch(void *context, uint64_t no, int error) {
+    struct page *of = context;
+    MUST(error == 0);
+    unlatch(&of[no].latch);
+}
+
+static const warm_device_ops latching = {.size = sizeof latching, .before_write = try_latch, .after_write = release_latch};
+
+static warm_device device_of(uint16_t dev) {
+    return (warm_device){.pages = PAGES, .fd = files[dev], .ops = &latching, .context = pages[dev]};
+}
+
+/* ---- references of the model ---- */
+
 static void note(struct latest *latest, uint64_t time) {
     if (time == latest->last || time == latest->prev) return;
     if (time > latest->last) *latest = (struct latest){.last = time, .prev = latest->last};
@@ -123,13 +193,17 @@ static void raise_to(atomic_uint_fast64_t *number, uint64_t value) {
 
 /* ---- pages ---- */
 
-/* Whether the page could be pinned: each frame of its shard may have a pinned page. */
+static bool is_same_slot(warm_slot slot, warm_slot other) {
+    return slot.generation == other.generation && slot.index == other.index && slot.shard == other.shard;
+}
+
+/* Whether the page could be pinned: each frame of its shard may have a pinned page, or one whose latch another thread has. */
 static bool pins(struct player *player, warm_page page, warm_slot *slot, const uint8_t **bytes) {
     bool is_one_call = draw(player) % 2 == 0;
-    int status = is_one_call ? warm_pin_lend(&player->handle, page, slot, bytes) : warm_pin(&player->handle, page, slot);
-    if (status == WARM_ALL_FIXED) return false;
+    int status = is_one_call ? warm_pin_bytes(&player->handle, page, slot, bytes) : warm_pin(&player->handle, page, slot);
+    if (status == WARM_ALL_PINNED || status == WARM_EVICT_FAULT) return false;
     OK(status);
-    if (!is_one_call) OK(warm_lend(&player->handle, *slot, bytes));
+    if (!is_one_call) OK(warm_bytes(&player->handle, *slot, bytes));
     MUST(slot->shard == (page.dev + page.no) % BUCKETS % shards && slot->index < FRAMES / shards);
     atomic_fetch_add(&model_of(page)->pins, 1);
     return true;
@@ -147,27 +221,26 @@ static void hold_or_unpin(struct player *player, struct held held) {
 
 static void read_page(struct player *player) {
     struct held held = {.page = draw_page(player)};
-    pthread_rwlock_rdlock(&model_of(held.page)->latch);
+    latch_shared(&model_of(held.page)->latch);
     if (pins(player, held.page, &held.slot, &held.bytes)) {
         uint64_t words[WORDS];
         check_bytes(held.bytes, held.page);
         size_t at = draw(player) % PAGE_SIZE;
-        OK(warm_read(&player->handle, held.slot, at, (uint8_t *)words, PAGE_SIZE - at));
+        OK(warm_read(&player->handle, held.slot, at, words, PAGE_SIZE - at));
         MUST(memcmp(words, held.bytes + at, PAGE_SIZE - at) == 0);
         hold_or_unpin(player, held);
     }
-    pthread_rwlock_unlock(&model_of(held.page)->latch);
+    unlatch(&model_of(held.page)->latch);
 }
 
 static void write_in_place(struct player *player, struct held held, uint64_t version) {
     uint8_t *bytes;
     uint64_t words[WORDS];
     fill(words, held.page, version);
-    pthread_rwlock_rdlock(&checkpoint);
-    OK(warm_lend_mut(&player->handle, held.slot, &bytes));
+    OK(warm_bytes_mut(&player->handle, held.slot, &bytes));
     MUST(bytes == held.bytes);
     memcpy(bytes, words, PAGE_SIZE);
-    pthread_rwlock_unlock(&checkpoint);
+    if (draw(player) % 2 == 0) OK(warm_mark_dirty(&player->handle, held.slot)); /* once more */
 }
 
 /* Under the page's latch. */
@@ -178,12 +251,12 @@ static void give_version(struct player *player, struct held held, uint64_t versi
     if (kind == 0) {
         warm_slot slot;
         OK(warm_pin_zeroed(&player->handle, held.page, &slot));
-        MUST(memcmp(&slot, &held.slot, sizeof slot) == 0);
+        MUST(is_same_slot(slot, held.slot) && slot.hit == 1);
         OK(warm_unpin(&player->handle, slot));
         version = 0;
     } else if (kind == 1) {
-        OK(warm_write(&player->handle, held.slot, 0, (uint8_t *)words, PAGE_SIZE / 2));
-        OK(warm_write(&player->handle, held.slot, PAGE_SIZE / 2, (uint8_t *)words + PAGE_SIZE / 2, PAGE_SIZE / 2));
+        OK(warm_write(&player->handle, held.slot, 0, words, PAGE_SIZE / 2));
+        OK(warm_write(&player->handle, held.slot, PAGE_SIZE / 2, words + WORDS / 2, PAGE_SIZE / 2));
     } else {
         write_in_place(player, held, version);
     }
@@ -194,13 +267,13 @@ static void give_version(struct player *player, struct held held, uint64_t versi
 static void write_page(struct player *player) {
     struct held held = {.page = draw_page(player)};
     struct page *model = model_of(held.page);
-    pthread_rwlock_wrlock(&model->latch);
+    latch_alone(&model->latch);
     if (pins(player, held.page, &held.slot, &held.bytes)) {
         check_bytes(held.bytes, held.page);
         give_version(player, held, ++model->writes);
         hold_or_unpin(player, held);
     }
-    pthread_rwlock_unlock(&model->latch);
+    unlatch(&model->latch);
 }
 
 /* A page that is pinned is where it was, in memory, whatever other threads did. */
@@ -210,14 +283,14 @@ static void look_at_held(struct player *player) {
     warm_slot slot;
     const uint8_t *bytes;
     bool resident = false;
-    pthread_rwlock_rdlock(&model_of(held.page)->latch);
+    latch_shared(&model_of(held.page)->latch);
     MUST(atomic_load(&model_of(held.page)->pins) > 0);
     check_bytes(held.bytes, held.page);
     OK(warm_resident(&player->handle, held.page, &resident));
     MUST(resident && pins(player, held.page, &slot, &bytes));
-    MUST(memcmp(&slot, &held.slot, sizeof slot) == 0 && bytes == held.bytes);
+    MUST(is_same_slot(slot, held.slot) && slot.hit == 1 && bytes == held.bytes);
     unpin(player, held.page, slot);
-    pthread_rwlock_unlock(&model_of(held.page)->latch);
+    unlatch(&model_of(held.page)->latch);
 }
 
 static void release(struct player *player, int left) {
@@ -227,23 +300,25 @@ static void release(struct player *player, int left) {
     }
 }
 
+/* While other threads write in place. */
 static void write_back(struct player *player) {
-    size_t left;
-    pthread_rwlock_wrlock(&checkpoint);
+    size_t left = 0;
+    int status;
     switch (draw(player) % 4) {
-    case 0: OK(warm_write_back(&player->handle)); break;
-    case 1: OK(warm_flush(&player->handle, draw(player) % DEVICES)); break;
-    default: OK(warm_write_back_some(&player->handle, 8, &left)); MUST(left <= FRAMES);
+    case 0: status = warm_write_back_all(&player->handle); break;
+    case 1: status = warm_flush_device(&player->handle, draw(player) % DEVICES); break;
+    default: status = warm_write_back_some(&player->handle, 8, &left);
     }
-    pthread_rwlock_unlock(&checkpoint);
+    MUST((status == WARM_OK || status == WARM_SKIPPED) && left <= FRAMES);
 }
 
-/* The file of a device in place of itself: where no page of it is pinned, all of them leave their frames, and are written. */
+/* The file of a device in place of itself: where no page of it is pinned or is skipped, all of them leave their frames, and are written. */
 static void replace(struct player *player) {
     uint16_t dev = draw(player) % DEVICES;
-    int status = warm_replace(&player->handle, dev, &(warm_device){.pages = PAGES, .fd = files[dev]});
-    MUST(status == WARM_OK || status == WARM_FIXED);
-    OK(warm_forget(&player->handle, dev, PAGES)); /* a device has no such page */
+    const warm_device itself = device_of(dev);
+    int status = warm_replace(&player->handle, dev, &itself);
+    MUST(status == WARM_OK || status == WARM_PINNED || status == WARM_WRITE_FAULT);
+    OK(warm_forget_pages(&player->handle, dev, PAGES)); /* a device has no such page */
 }
 
 /* ---- references and gossip ---- */
@@ -268,7 +343,7 @@ static void absorb(struct player *player) {
 static void forget_old(struct player *player) {
     uint64_t time = atomic_load(&now), new = 0;
     if (time <= WINDOW) return;
-    OK(warm_horizon(&player->handle, time - WINDOW, &new));
+    OK(warm_raise(&player->handle, time - WINDOW, &new));
     MUST(new >= time - WINDOW);
     raise_to(&horizon, time - WINDOW);
 }
@@ -319,27 +394,29 @@ static void gossip(struct player *player) {
 static void look(struct player *player) {
     warm_page page, list[8];
     warm_counters counters;
-    size_t count;
+    size_t count, shard = draw(player) % shards;
     bool found;
-    OK(warm_victim(&player->handle, draw(player) % shards, &found, &page));
+    OK(warm_victims(&player->handle, shard, list, 8, &count));
+    MUST(count <= 8);
+    for (size_t at = 0; at < count; at++) MUST((list[at].dev + list[at].no) % BUCKETS % shards == shard);
     OK(warm_list(&player->handle, list, 8, &count));
     MUST(count <= 8);
     OK(warm_counts(&player->handle, &counters));
     MUST(counters.resident <= FRAMES && counters.dirty <= counters.resident);
     int status = warm_step(&player->handle, &found, &page);
-    MUST(status == WARM_OK || status == WARM_ALL_FIXED);
+    MUST(status == WARM_OK || status == WARM_ALL_PINNED || status == WARM_EVICT_FAULT);
 }
 
 /* What must be refused, and changes nothing. */
 static void misuse(struct player *player) {
     warm *handle = &player->handle;
     uint8_t byte;
-    bool found;
+    size_t count;
     warm_page page = draw_page(player);
-    warm_slot slot = {.generation = 1, .shard = (uint32_t)shards};
+    warm_slot slot = {.generation = 1, .shard = (uint16_t)shards};
     IS(WARM_STALE_SLOT, warm_read(handle, slot, 0, &byte, 1));
-    IS(WARM_NO_SHARD, warm_victim(handle, shards, &found, &page));
-    IS(WARM_ALREADY_OPEN, warm_thread(handle, handle));
+    IS(WARM_NO_SHARD, warm_victims(handle, shards, &page, 1, &count));
+    IS(WARM_ALREADY_OPEN, warm_attach(handle, handle));
     if (player->held_count > 0) {
         slot = player->held[0].slot;
         IS(WARM_PINS_LEFT, warm_close(handle));
@@ -352,7 +429,7 @@ static void misuse(struct player *player) {
 
 static void attach(struct player *player) {
     pthread_mutex_lock(&first_lock);
-    OK(warm_thread(&first, &player->handle));
+    OK(warm_attach(&first, &player->handle));
     IS(WARM_ATTACHED, warm_close(&first));
     pthread_mutex_unlock(&first_lock);
 }
@@ -397,7 +474,7 @@ static void check_frames(size_t shard) {
     for (uint64_t no = 0; no < PAGES; no++) {
         if (no % BUCKETS % shards != shard) continue;
         if (taken == fit) {
-            IS(WARM_ALL_FIXED, warm_pin(&first, (warm_page){.no = no}, &more));
+            IS(WARM_ALL_PINNED, warm_pin(&first, (warm_page){.no = no}, &more));
             break;
         }
         OK(warm_pin(&first, (warm_page){.no = no}, &slots[taken++]));
@@ -408,9 +485,9 @@ static void check_frames(size_t shard) {
 /* What is in the files once all was written back; and that no pin is left, as all pages may leave their frames. */
 static void check_files(void) {
     uint8_t bytes[PAGE_SIZE];
-    OK(warm_write_back(&first));
+    OK(warm_write_back_all(&first));
     for (uint16_t dev = 0; dev < DEVICES; dev++) {
-        OK(warm_forget(&first, dev, 0));
+        OK(warm_forget_pages(&first, dev, 0));
         for (uint64_t no = 0; no < PAGES; no++) {
             memset(bytes, 0, sizeof bytes); /* past the end of the file are zeros */
             MUST(pread(files[dev], bytes, PAGE_SIZE, (off_t)(no * PAGE_SIZE)) >= 0);
@@ -448,7 +525,7 @@ static struct latest expected(warm_page page) {
 
 /* Reads the frame of a bucket: its entries are all in it, since a bucket has at most 16 pages. */
 static size_t check_bucket(warm *handle, unsigned bucket, const uint8_t *frame, size_t length) {
-    OK(warm_send(handle, (uint8_t)bucket, false, (warm_page){0}, players[0].frame, FRAME_ROOM, &length));
+    OK(warm_send(handle, &(warm_sending){.bucket = (uint8_t)bucket}, players[0].frame, FRAME_ROOM, &length));
     size_t count = (size_t)number(frame + 19, 4);
     MUST(number(frame + 7, 8) == atomic_load(&horizon));
     const uint8_t *at = frame + FRAME_ENTRIES;
@@ -470,7 +547,7 @@ static void check_horizons(void) {
     uint8_t *frame = players[0].frame;
     size_t length;
     for (unsigned bucket = 0; bucket < BUCKETS; bucket++) {
-        OK(warm_send(&first, (uint8_t)bucket, false, (warm_page){0}, frame, FRAME_ROOM, &length));
+        OK(warm_send(&first, &(warm_sending){.bucket = (uint8_t)bucket}, frame, FRAME_ROOM, &length));
         MUST(number(frame + 7, 8) == atomic_load(&horizon));
     }
 }
@@ -514,14 +591,20 @@ static int temporary(void) {
 
 static void open_all(void) {
     warm_device devices[DEVICES];
-    for (int dev = 0; dev < DEVICES; dev++) {
+    const warm_options options = {.size = sizeof options, .replica = 1, .shards = shards, .frames = FRAMES, .page_size = PAGE_SIZE,
+        .devices = devices, .device_count = DEVICES};
+    const warm_options alone = {.size = sizeof alone, .replica = 2};
+    for (uint16_t dev = 0; dev < DEVICES; dev++) {
         files[dev] = temporary();
-        devices[dev] = (warm_device){.pages = PAGES, .fd = files[dev]};
-        for (int no = 0; no < PAGES; no++) MUST(pthread_rwlock_init(&pages[dev][no].latch, NULL) == 0);
+        devices[dev] = device_of(dev);
+        for (int no = 0; no < PAGES; no++) {
+            latch *of = &pages[dev][no].latch;
+            MUST(pthread_mutex_init(&of->lock, NULL) == 0 && pthread_cond_init(&of->freed, NULL) == 0);
+        }
     }
     dump = temporary();
-    OK(warm_open(&first, 1, shards, FRAMES, PAGE_SIZE, devices, DEVICES));
-    OK(warm_open(&peer, 2, 1, 1, 1, devices, 0));
+    OK(warm_open(&first, &options));
+    OK(warm_open(&peer, &alone));
 }
 
 static void check_end(void) {
@@ -561,6 +644,7 @@ int main(int count, char **words) {
     check_end();
     for (int dev = 0; dev < DEVICES; dev++) close(files[dev]);
     close(dump);
-    printf("stress: %zu shards, %u threads, %llu calls as expected\n", shards, threads, (unsigned long long)calls);
+    printf("stress: %zu shards, %u threads, %llu calls as expected, %llu pages skipped\n", shards, threads, (unsigned long long)calls,
+        (unsigned long long)atomic_load(&skipped));
     return 0;
 }

@@ -12,13 +12,10 @@
 
 enum { FRAMES = 4, PAGE_SIZE = 512, PAGES = 32 };
 
-/* Ends the program with the name of a status that is not Ok, and with the call that answered it. */
+/* Ends the program with a status that is not WARM_OK, and with the call that answered it. */
 static void check(int status, const char *call) {
-    char name[32] = "";
-    size_t length;
     if (status == WARM_OK) return;
-    warm_status_name(status, (uint8_t *)name, sizeof name - 1, &length);
-    fprintf(stderr, "%s: %s\n", call, name);
+    fprintf(stderr, "%s: %s\n", call, warm_strerror(status));
     exit(1);
 }
 #define DO(call) check(call, #call)
@@ -27,37 +24,38 @@ static int open_replica(warm *handle, uint16_t number) {
     char path[] = "/tmp/warm-caller-XXXXXX";
     int fd = mkstemp(path);
     warm_device device = {.pages = PAGES, .fd = fd};
+    warm_options options = {.size = sizeof options, .replica = number, .frames = FRAMES, .page_size = PAGE_SIZE, .devices = &device, .device_count = 1};
     if (fd < 0 || unlink(path) != 0) exit(1);
-    DO(warm_open(handle, number, 1, FRAMES, PAGE_SIZE, &device, 1));
+    DO(warm_open(handle, &options));
     return fd;
 }
 
 /* Carries every answer that waits at one replica to another. The transport is yours: here it is a buffer. */
-static void carry_answers(warm *from, warm *to, uint8_t *frame, size_t room) {
+static void carry_answers(warm *from, warm *to, uint8_t *message, size_t room) {
     size_t length;
     for (;;) {
-        DO(warm_next_answer(from, frame, room, &length));
+        DO(warm_next_answer(from, message, room, &length));
         if (length == 0) return;
-        DO(warm_receive(to, frame, length));
+        DO(warm_receive(to, message, length));
     }
 }
 
 /* One round of gossip: the first offers its digests, the second answers with what differs and a request, the first answers that. */
 static void gossip(warm *first, warm *second) {
-    static uint8_t frame[32768]; /* no frame is larger than 31,023 bytes */
+    static uint8_t message[WARM_MESSAGE_ROOM];
     size_t length;
-    DO(warm_offer(first, frame, sizeof frame, &length));
-    DO(warm_receive(second, frame, length));
-    carry_answers(second, first, frame, sizeof frame); /* the last of these is the request, and its answers wait at first */
-    carry_answers(first, second, frame, sizeof frame);
+    DO(warm_offer(first, message, sizeof message, &length));
+    DO(warm_receive(second, message, length));
+    carry_answers(second, first, message, sizeof message); /* the last of these is the request, and its answers wait at first */
+    carry_answers(first, second, message, sizeof message);
 }
 
 static void must_be_equal(warm *first, warm *second) {
-    uint8_t frame[4096];
+    uint8_t message[4096];
     size_t length;
-    DO(warm_offer(first, frame, sizeof frame, &length));
-    DO(warm_receive(second, frame, length));
-    DO(warm_next_answer(second, frame, sizeof frame, &length));
+    DO(warm_offer(first, message, sizeof message, &length));
+    DO(warm_receive(second, message, length));
+    DO(warm_next_answer(second, message, sizeof message, &length));
     if (length != 0) exit(1); /* equal digests get no answer */
 }
 
@@ -76,10 +74,10 @@ static void write_a_page(warm *handle, int fd) {
     char back[sizeof text];
     warm_slot slot;
     DO(warm_pin(handle, (warm_page){.no = 7}, &slot));
-    DO(warm_write(handle, slot, 100, (const uint8_t *)text, sizeof text));
-    DO(warm_read(handle, slot, 100, (uint8_t *)back, sizeof back));
+    DO(warm_write(handle, slot, 100, text, sizeof text));
+    DO(warm_read(handle, slot, 100, back, sizeof back));
     DO(warm_unpin(handle, slot));
-    DO(warm_write_back(handle));
+    DO(warm_write_back_all(handle));
     printf("%s\n", back);
     if (pread(fd, back, sizeof back, 7 * PAGE_SIZE + 100) != sizeof back || memcmp(back, text, sizeof text) != 0) exit(1);
 }
@@ -104,18 +102,18 @@ static void load_history(warm *handle, int folder) {
 static void restart(warm *handle) {
     char path[] = "/tmp/warm-history-XXXXXX";
     warm restarted = {0};
-    warm_device none = {0};
+    warm_options alone = {.size = sizeof alone, .replica = 2}; /* no device: a history alone */
     size_t pages;
     int folder = mkdtemp(path) == NULL ? -1 : open(path, O_RDONLY | O_DIRECTORY);
     if (folder < 0) exit(1);
     save_history(handle, folder);
     save_history(handle, folder);
-    DO(warm_open(&restarted, 2, 1, FRAMES, PAGE_SIZE, &none, 0));
+    DO(warm_open(&restarted, &alone));
     load_history(&restarted, folder);
     must_be_equal(handle, &restarted);
     DO(warm_history_length(&restarted, &pages));
     printf("restored %zu pages\n", pages);
-    warm_close(&restarted);
+    DO(warm_close(&restarted));
     if (unlinkat(folder, "history", 0) != 0 || rmdir(path) != 0) exit(1);
     close(folder);
 }
@@ -123,8 +121,8 @@ static void restart(warm *handle) {
 int main(void) {
     warm first = {0}, second = {0};
     /* A pin is no reference: whoever pins a page also absorbs one. dev is 0 throughout. */
-    const warm_reference at_first[] = {{.time = 10, .no = 7, .replica = 1}, {.time = 20, .no = 7, .replica = 1}, {.time = 30, .no = 3, .replica = 1}};
-    const warm_reference at_second[] = {{.time = 15, .no = 9, .replica = 2}, {.time = 25, .no = 9, .replica = 2}};
+    const warm_reference at_first[] = {{.replica = 1, .no = 7, .time = 10}, {.replica = 1, .no = 7, .time = 20}, {.replica = 1, .no = 3, .time = 30}};
+    const warm_reference at_second[] = {{.replica = 2, .no = 9, .time = 15}, {.replica = 2, .no = 9, .time = 25}};
     int first_fd = open_replica(&first, 1), second_fd = open_replica(&second, 2);
     DO(warm_absorb(&first, at_first, 3));
     DO(warm_absorb(&second, at_second, 2));
@@ -133,7 +131,7 @@ int main(void) {
     warm_up(&second);
     write_a_page(&second, second_fd);
     restart(&second);
-    warm_close(&first);
-    warm_close(&second);
+    DO(warm_close(&first));
+    DO(warm_close(&second));
     return close(first_fd) != 0 || close(second_fd) != 0;
 }

@@ -57,7 +57,7 @@ static void two_files(void) {
     warm handle = {0};
     warm_slot slot;
     MUST(pwrite(second, "s", 1, 5 * PAGE_SIZE) == 1);
-    OK(warm_open(&handle, 1, 1, 1, PAGE_SIZE, devices, 2));
+    OK(open_with(&handle, 1, 1, 1, PAGE_SIZE, devices, 2));
     write_to(&handle, (warm_page){.dev = 0, .no = 0}, 'a');
     write_to(&handle, (warm_page){.dev = 1, .no = 0}, 'b');
     MUST(read_from(&handle, (warm_page){.dev = 0, .no = 0}) == 'a');
@@ -66,10 +66,10 @@ static void two_files(void) {
     EXPECT(WARM_NO_PAGE, warm_pin(&handle, (warm_page){.dev = 0, .no = 5}, &slot));
     EXPECT(WARM_NO_PAGE, warm_pin(&handle, (warm_page){.dev = 1, .no = 8}, &slot));
     EXPECT(WARM_NO_DEVICE, warm_pin(&handle, (warm_page){.dev = 2, .no = 0}, &slot));
-    OK(warm_write_back(&handle));
+    OK(warm_write_back_all(&handle));
     MUST(byte_at(first, 0) == 'a' && byte_at(second, 0) == 'b');
     MUST(lseek(first, 0, SEEK_END) == PAGE_SIZE && lseek(second, 0, SEEK_END) == 5 * PAGE_SIZE + 1);
-    warm_close(&handle);
+    OK(warm_abandon(&handle));
     close(first);
     close(second);
 }
@@ -77,9 +77,9 @@ static void two_files(void) {
 static void open_two(int wanted, int first, int second) {
     const warm_device devices[] = {{.pages = 8, .fd = first}, {.pages = 8, .fd = second}};
     warm handle = {0};
-    expect(wanted, warm_open(&handle, 1, 1, 1, PAGE_SIZE, devices, 2), "warm_open of two devices");
+    expect(wanted, open_with(&handle, 1, 1, 1, PAGE_SIZE, devices, 2), "warm_open of two devices");
     MUST((handle.at != NULL) == (wanted == WARM_OK));
-    warm_close(&handle);
+    OK(warm_abandon(&handle));
 }
 
 /* One file under two descriptors: the same, a copy, another one by the same path, and by a hard link. */
@@ -97,14 +97,15 @@ static void same_file(void) {
     open_two(WARM_OK, fd, other);
     const warm_device three[] = {{.pages = 1, .fd = fd}, {.pages = 1, .fd = other}, {.pages = 1, .fd = linked}};
     warm handle = {0};
-    EXPECT(WARM_SAME_FILE, warm_open(&handle, 1, 1, 1, PAGE_SIZE, three, 3));
-    OK(warm_open(&handle, 1, 1, 1, PAGE_SIZE, three, 2));
-    warm_close(&handle);
+    EXPECT(WARM_SAME_FILE, open_with(&handle, 1, 1, 1, PAGE_SIZE, three, 3));
+    OK(open_with(&handle, 1, 1, 1, PAGE_SIZE, three, 2));
+    OK(warm_abandon(&handle));
     /* A descriptor without a file is the same as itself alone. */
     MUST(close(copy) == 0);
     open_two(WARM_OK, fd, copy);
     open_two(WARM_OK, copy, -1);
-    open_two(WARM_OK, -1, INT32_MIN);
+    open_two(WARM_OK, -1, INT32_MIN + (1 << 20));
+    open_two(WARM_BAD_DEVICE, -1, INT32_MIN); /* the library's own numbers begin there */
     open_two(WARM_SAME_FILE, copy, copy);
     open_two(WARM_SAME_FILE, -1, -1);
     open_two(WARM_OK, ends[0], fd);
@@ -123,11 +124,14 @@ static void order_of_refusals(void) {
     warm handle = {0};
     const warm_device twice[] = {{.pages = 8, .fd = fd}, {.pages = 8, .fd = fd}};
     const warm_device large[] = {{.pages = 8, .fd = fd}, {.pages = UINT64_MAX, .fd = fd}};
-    EXPECT(WARM_BAD_REPLICA, warm_open(&handle, 0, 1, 0, 0, large, 2));
-    EXPECT(WARM_NO_DEVICE, warm_open(&handle, 1, 1, 0, PAGE_SIZE, large, 2));
-    EXPECT(WARM_SAME_FILE, warm_open(&handle, 1, 1, 0, 0, twice, 2));
-    EXPECT(WARM_BAD_FRAMES, warm_open(&handle, 1, 1, 0, 0, twice, 1));
-    EXPECT(WARM_SIZE_DIFFERS, warm_open(&handle, 1, 1, 1, 0, twice, 1));
+    EXPECT(WARM_BAD_REPLICA, open_with(&handle, 0, 1, 65537, 65537, large, 2));
+    EXPECT(WARM_BAD_FRAMES, open_with(&handle, 1, 1, 65537, 65537, large, 2));
+    EXPECT(WARM_BAD_PAGE_SIZE, open_with(&handle, 1, 1, 1, 65537, large, 2));
+    EXPECT(WARM_BAD_DEVICE, open_with(&handle, 1, 1, 1, PAGE_SIZE, large, 2));
+    MUST(fcntl(fd, F_SETFL, O_APPEND) == 0);
+    EXPECT(WARM_APPENDS, open_with(&handle, 1, 1, 1, PAGE_SIZE, twice, 2));
+    MUST(fcntl(fd, F_SETFL, 0) == 0);
+    EXPECT(WARM_SAME_FILE, open_with(&handle, 1, 1, 1, PAGE_SIZE, twice, 2));
     close(fd);
 }
 
@@ -136,11 +140,11 @@ static void many_devices(void) {
     static warm_device devices[MANY + 1];
     warm handle = {0};
     for (int at = 0; at <= MANY; at++) devices[at] = (warm_device){.pages = 1, .fd = -1 - at};
-    OK(warm_open(&handle, 1, 1, 1, PAGE_SIZE, devices, MANY));
-    warm_close(&handle);
+    OK(open_with(&handle, 1, 1, 1, PAGE_SIZE, devices, MANY));
+    OK(warm_abandon(&handle));
     devices[MANY - 1].fd = devices[0].fd;
-    EXPECT(WARM_SAME_FILE, warm_open(&handle, 1, 1, 1, PAGE_SIZE, devices, MANY));
-    EXPECT(WARM_NO_DEVICE, warm_open(&handle, 1, 1, 1, PAGE_SIZE, devices, MANY + 1));
+    EXPECT(WARM_SAME_FILE, open_with(&handle, 1, 1, 1, PAGE_SIZE, devices, MANY));
+    EXPECT(WARM_BAD_DEVICE, open_with(&handle, 1, 1, 1, PAGE_SIZE, devices, MANY + 1));
 }
 
 /* A sync that fails once: the system may have dropped what was written, so no later flush says that all is well. */
@@ -148,25 +152,25 @@ static void failed_sync(void) {
     int first = temporary(), second = temporary();
     const warm_device devices[] = {{.pages = 8, .fd = first}, {.pages = 8, .fd = second}};
     warm handle = {0};
-    OK(warm_open(&handle, 1, 1, 2, PAGE_SIZE, devices, 2));
-    OK(warm_write_back(&handle)); /* nothing was written, and nothing is synced */
+    OK(open_with(&handle, 1, 1, 2, PAGE_SIZE, devices, 2));
+    OK(warm_write_back_all(&handle)); /* nothing was written, and nothing is synced */
     MUST(syncs.calls == 0);
     write_to(&handle, (warm_page){.no = 1}, 'c');
     syncs.fails_next = true;
-    EXPECT(WARM_FAULT, warm_write_back(&handle));
+    EXPECT(WARM_WRITE_FAULT, warm_write_back_all(&handle));
     MUST(syncs.calls == 1 && syncs.last == first);
-    EXPECT(WARM_FAULT, warm_write_back(&handle)); /* a sync would succeed now */
+    EXPECT(WARM_WRITE_FAULT, warm_write_back_all(&handle)); /* a sync would succeed now */
     write_to(&handle, (warm_page){.no = 2}, 'd');
-    EXPECT(WARM_FAULT, warm_write_back(&handle));
+    EXPECT(WARM_WRITE_FAULT, warm_write_back_all(&handle));
     MUST(syncs.calls == 1 && read_from(&handle, (warm_page){.no = 2}) == 'd');
-    EXPECT(WARM_FAULT, warm_replace(&handle, 0, &(warm_device){.pages = 8, .fd = -1})); /* nor is it got rid of by another file */
-    warm_close(&handle);
+    EXPECT(WARM_WRITE_FAULT, warm_replace(&handle, 0, &(warm_device){.pages = 8, .fd = -1})); /* nor is it got rid of by another file */
+    OK(warm_abandon(&handle));
     MUST(syncs.calls == 1);
-    OK(warm_open(&handle, 1, 1, 2, PAGE_SIZE, devices, 2)); /* it knows nothing of what failed before */
+    OK(open_with(&handle, 1, 1, 2, PAGE_SIZE, devices, 2)); /* it knows nothing of what failed before */
     write_to(&handle, (warm_page){.no = 1}, 'e');
-    OK(warm_write_back(&handle));
+    OK(warm_write_back_all(&handle));
     MUST(syncs.calls == 2 && byte_at(first, PAGE_SIZE) == 'e');
-    warm_close(&handle);
+    OK(warm_abandon(&handle));
     close(first);
     close(second);
 }
@@ -176,18 +180,18 @@ static void close_syncs(void) {
     int first = temporary(), second = temporary();
     const warm_device devices[] = {{.pages = 8, .fd = first}, {.pages = 8, .fd = second}};
     warm handle = {0};
-    OK(warm_open(&handle, 1, 1, 1, PAGE_SIZE, devices, 2));
+    OK(open_with(&handle, 1, 1, 1, PAGE_SIZE, devices, 2));
     write_to(&handle, (warm_page){.dev = 1, .no = 1}, 'f');
     syncs.calls = 0;
     MUST(read_from(&handle, (warm_page){.dev = 0, .no = 1}) == 0); /* 1:1 leaves */
     MUST(byte_at(second, PAGE_SIZE) == 'f' && syncs.calls == 0);
-    warm_close(&handle);
+    OK(warm_abandon(&handle));
     MUST(syncs.calls == 1 && syncs.last == second);
-    OK(warm_open(&handle, 1, 1, 1, PAGE_SIZE, devices, 2));
+    OK(open_with(&handle, 1, 1, 1, PAGE_SIZE, devices, 2));
     write_to(&handle, (warm_page){.dev = 1, .no = 1}, 'g');
-    OK(warm_write_back(&handle));
+    OK(warm_write_back_all(&handle));
     MUST(syncs.calls == 2);
-    warm_close(&handle); /* nothing waits */
+    OK(warm_abandon(&handle)); /* nothing waits */
     MUST(syncs.calls == 2);
     close(first);
     close(second);
@@ -198,7 +202,7 @@ static void replace_syncs(void) {
     int first = temporary(), second = temporary(), third = temporary();
     const warm_device devices[] = {{.pages = 8, .fd = first}, {.pages = 8, .fd = second}};
     warm handle = {0};
-    OK(warm_open(&handle, 1, 1, 2, PAGE_SIZE, devices, 2));
+    OK(open_with(&handle, 1, 1, 2, PAGE_SIZE, devices, 2));
     write_to(&handle, (warm_page){.dev = 0, .no = 1}, 'h');
     write_to(&handle, (warm_page){.dev = 1, .no = 1}, 'i');
     syncs.calls = 0;
@@ -206,7 +210,7 @@ static void replace_syncs(void) {
     MUST(syncs.calls == 1 && syncs.last == second && byte_at(second, PAGE_SIZE) == 'i');
     OK(warm_replace(&handle, 1, &devices[1])); /* nothing was written to the third */
     MUST(syncs.calls == 1);
-    warm_close(&handle);
+    OK(warm_abandon(&handle));
     MUST(syncs.calls == 1); /* page 0:1 was never written back */
     close(first);
     close(second);
@@ -219,7 +223,7 @@ static void tell_all(warm *first, warm *second) {
     const warm_page none = {0};
     size_t length;
     for (uint8_t bucket = 0; bucket < 64; bucket++) {
-        OK(warm_send(first, bucket, false, none, frame, sizeof frame, &length));
+        OK(send_behind(first, bucket, false, none, frame, sizeof frame, &length));
         OK(warm_receive(second, frame, length));
     }
     OK(warm_offer(first, frame, sizeof frame, &length));
@@ -241,9 +245,9 @@ static void has_no_pages(warm *handle, warm_page known) {
     OK(warm_step(handle, &found, &page));
     MUST(!found);
     found = true;
-    OK(warm_victim(handle, 0, &found, &page));
+    OK(next_victim(handle, 0, &found, &page));
     MUST(!found && page.no == 99 && page.dev == 9 && byte == 'h' && slot.generation == 1);
-    OK(warm_write_back(handle));
+    OK(warm_write_back_all(handle));
 }
 
 /* No device, and one frame of one byte: a history alone, which hears of pages, lists them, passes them on, is saved and loaded. */
@@ -256,9 +260,9 @@ static void history_alone(void) {
     size_t count = 0;
     uint64_t horizon = 0;
     int fd = temporary();
-    OK(warm_open(&first, 1, 1, 1, 1, &none, 0));
-    OK(warm_open(&second, 2, 1, 1, 1, &none, 0));
-    OK(warm_open(&restarted, 2, 1, 1, 1, &none, 0));
+    OK(open_with(&first, 1, 1, 1, 1, &none, 0));
+    OK(open_with(&second, 2, 1, 1, 1, &none, 0));
+    OK(open_with(&restarted, 2, 1, 1, 1, &none, 0));
     OK(warm_absorb(&first, references, 3));
     tell_all(&first, &second);
     OK(warm_list(&second, listed, 4, &count));
@@ -269,12 +273,12 @@ static void history_alone(void) {
     OK(warm_history_length(&restarted, &count));
     MUST(count == 2);
     tell_all(&restarted, &first);
-    OK(warm_horizon(&restarted, 25, &horizon));
+    OK(warm_raise(&restarted, 25, &horizon));
     OK(warm_history_length(&restarted, &count));
     MUST(horizon == 25 && count == 1);
-    warm_close(&first);
-    warm_close(&second);
-    warm_close(&restarted);
+    OK(warm_abandon(&first));
+    OK(warm_abandon(&second));
+    OK(warm_abandon(&restarted));
     close(fd);
 }
 

@@ -52,23 +52,23 @@ static void pages_of(size_t page_size) {
     const warm_device device = {.pages = PAGES, .fd = direct};
     const off_t cut = (off_t)(9 * page_size + 1000);
     warm handle = {0};
-    OK(warm_open(&handle, 1, 1, FRAMES, page_size, &device, 1));
+    OK(open_with(&handle, 1, 1, FRAMES, page_size, &device, 1));
     for (uint8_t no = 0; no < PAGES - 1; no++) put(&handle, no, no, page_size);
     for (uint8_t no = PAGES - 1; no-- > 0;) must_have(&handle, no, no, page_size, page_size);
     must_have(&handle, PAGES - 1, 0, 0, page_size); /* past the end of the file */
-    OK(warm_write_back(&handle));
+    OK(warm_write_back_all(&handle));
     for (uint8_t no = 0; no < PAGES - 1; no++) MUST(holds((off_t)(no * page_size), no, page_size));
-    warm_close(&handle);
+    OK(warm_abandon(&handle));
     /* a file that ends within a page, at no place that O_DIRECT takes */
     MUST(ftruncate(plain, cut) == 0);
-    OK(warm_open(&handle, 1, 1, FRAMES, page_size, &device, 1));
+    OK(open_with(&handle, 1, 1, FRAMES, page_size, &device, 1));
     must_have(&handle, 9, 9, 1000, page_size);
     must_have(&handle, 10, 0, 0, page_size);
     must_have(&handle, 8, 8, page_size, page_size);
     put(&handle, 9, 77, page_size);
-    OK(warm_write_back(&handle));
+    OK(warm_write_back_all(&handle));
     MUST(holds((off_t)(9 * page_size), 77, page_size) && lseek(plain, 0, SEEK_END) == (off_t)(10 * page_size));
-    warm_close(&handle);
+    OK(warm_abandon(&handle));
     MUST(ftruncate(plain, 0) == 0);
 }
 
@@ -97,21 +97,22 @@ static double resident(void) {
     return (double)kilobytes * 1024;
 }
 
-/* What the process has more with a pool, and what it keeps. All was used once before, so that its code is there. */
+/* What the process has more with a pool, and what it keeps. All was used once before, so that its code is there. Beside the frames there
+ * are the node's tables, and the records of c/holds.h, which take 64 bytes for each frame, as many as a power of two. */
 static void memory(void) {
     const warm_device none = {0};
     const double whole = (double)MANY * UNIT;
     warm handle = {0};
-    OK(warm_open(&handle, 1, 1, 1, UNIT, &none, 0));
-    warm_close(&handle);
+    OK(open_with(&handle, 1, 1, 1, UNIT, &none, 0));
+    OK(warm_abandon(&handle));
     resident();
     double before = resident();
-    OK(warm_open(&handle, 1, 1, MANY, UNIT, &none, 0));
+    OK(open_with(&handle, 1, 1, MANY, UNIT, &none, 0));
     double with = (resident() - before) / whole;
-    warm_close(&handle);
+    OK(warm_abandon(&handle));
     double after = (resident() - before) / whole;
     printf("direct: %d frames of %d bytes take %.4f of their bytes; %.4f after the close\n", MANY, UNIT, with, after);
-    MUST(with <= 1.05 && after < 0.01);
+    MUST(with <= 1.08 && after < 0.01);
 }
 
 /* A process that may have no more memory than half of the pool: the call is refused, nothing is kept, and with more it succeeds. */
@@ -124,11 +125,11 @@ static void little_memory(void) {
     half = all;
     half.rlim_cur = (rlim_t)MANY * UNIT / 2;
     MUST(setrlimit(RLIMIT_AS, &half) == 0);
-    EXPECT(WARM_MEMORY, warm_open(&handle, 1, 1, MANY, UNIT, &none, 0));
+    EXPECT(WARM_MEMORY, open_with(&handle, 1, 1, MANY, UNIT, &none, 0));
     MUST(setrlimit(RLIMIT_AS, &all) == 0);
     MUST(handle.at == NULL && resident() - before < 0.05 * MANY * UNIT);
-    OK(warm_open(&handle, 1, 1, MANY, UNIT, &none, 0));
-    warm_close(&handle);
+    OK(open_with(&handle, 1, 1, MANY, UNIT, &none, 0));
+    OK(warm_abandon(&handle));
 }
 
 int main(int count, char **words) {

@@ -26,7 +26,7 @@ static warm_device device_of(int fd) { return (warm_device){.pages = DEVICE_PAGE
 
 static void open_two(warm *handle, size_t frames, int first, int second) {
     const warm_device devices[] = {device_of(first), device_of(second)};
-    OK(warm_open(handle, 1, shards, frames * shards, PAGE_SIZE, devices, 2));
+    OK(open_with(handle, 1, shards, frames * shards, PAGE_SIZE, devices, 2));
 }
 
 static warm_slot pinned(warm *handle, warm_page page) {
@@ -84,7 +84,7 @@ static void resident_pages(void) {
     MUST(read_from(&handle, page_of(0, 4)) == 0);
     MUST(is_resident(&handle, page_of(0, 4)) && !is_resident(&handle, page_of(0, 3)));
     MUST(!is_resident(&handle, (warm_page){.no = UINT64_MAX, .dev = 65535}));
-    warm_close(&handle);
+    OK(warm_abandon(&handle));
     close(first);
     close(second);
 }
@@ -100,9 +100,9 @@ static void move_other_pages(warm *handle, int file) {
     OK(warm_absorb(handle, &seen, 1));
     OK(warm_step(handle, &found, &page));
     MUST(found && is_page(page, 0, 7));
-    OK(warm_write_back(handle));
-    OK(warm_flush(handle, 0));
-    OK(warm_forget(handle, 0, page_of(0, 3).no));
+    OK(warm_write_back_all(handle));
+    OK(warm_flush_device(handle, 0));
+    OK(warm_forget_pages(handle, 0, page_of(0, 3).no));
     OK(warm_replace(handle, 1, &(warm_device){.pages = DEVICE_PAGES, .fd = file}));
 }
 
@@ -114,29 +114,29 @@ static void lent_pages(void) {
     const uint8_t *bytes = whole, *again;
     for (int at = 0; at < PAGE_SIZE; at++) whole[at] = (uint8_t)(at * 7 + 1);
     MUST(pwrite(first, whole, PAGE_SIZE, place_of(0, 2)) == PAGE_SIZE);
-    EXPECT(WARM_CLOSED, warm_lend(&handle, (warm_slot){0}, &bytes));
+    EXPECT(WARM_CLOSED, warm_bytes(&handle, (warm_slot){0}, &bytes));
     open_two(&handle, 2, first, second);
-    EXPECT(WARM_STALE_SLOT, warm_lend(&handle, (warm_slot){0}, &bytes));
-    EXPECT(WARM_STALE_SLOT, warm_lend(&handle, (warm_slot){.index = UINT32_MAX, .generation = 1}, &bytes));
+    EXPECT(WARM_STALE_SLOT, warm_bytes(&handle, (warm_slot){0}, &bytes));
+    EXPECT(WARM_STALE_SLOT, warm_bytes(&handle, (warm_slot){.index = UINT32_MAX, .generation = 1}, &bytes));
     MUST(bytes == whole); /* it is as it was */
     warm_slot slot = pinned(&handle, page_of(0, 2));
-    OK(warm_lend(&handle, slot, &bytes));
+    OK(warm_bytes(&handle, slot, &bytes));
     MUST(bytes != whole && memcmp(bytes, whole, PAGE_SIZE) == 0);
     move_other_pages(&handle, third);
-    OK(warm_lend(&handle, slot, &again));
+    OK(warm_bytes(&handle, slot, &again));
     MUST(again == bytes && memcmp(bytes, whole, PAGE_SIZE) == 0);
     OK(warm_read(&handle, slot, 0, copy, PAGE_SIZE));
     MUST(memcmp(copy, bytes, PAGE_SIZE) == 0);
     OK(warm_write(&handle, slot, PAGE_SIZE - 1, (const uint8_t *)"!", 1));
     MUST(bytes[PAGE_SIZE - 1] == '!'); /* a write is seen */
     warm_slot other = pinned(&handle, page_of(0, 5));
-    OK(warm_lend(&handle, other, &again));
+    OK(warm_bytes(&handle, other, &again));
     MUST((uintptr_t)again >= (uintptr_t)bytes + PAGE_SIZE || (uintptr_t)again + PAGE_SIZE <= (uintptr_t)bytes);
     OK(warm_unpin(&handle, slot));
     again = whole;
-    EXPECT(WARM_STALE_SLOT, warm_lend(&handle, slot, &again));
+    EXPECT(WARM_STALE_SLOT, warm_bytes(&handle, slot, &again));
     MUST(again == whole);
-    warm_close(&handle);
+    OK(warm_abandon(&handle));
     close(first);
     close(second);
     close(third);
@@ -148,26 +148,26 @@ static void pages_written_in_place(void) {
     uint8_t none = 0, filled[PAGE_SIZE], *bytes = &none, *again;
     const uint8_t *same;
     warm handle = {0};
-    EXPECT(WARM_CLOSED, warm_lend_mut(&handle, (warm_slot){0}, &bytes));
+    EXPECT(WARM_CLOSED, warm_bytes_mut(&handle, (warm_slot){0}, &bytes));
     open_two(&handle, 1, first, second);
-    EXPECT(WARM_STALE_SLOT, warm_lend_mut(&handle, (warm_slot){.generation = 1}, &bytes));
+    EXPECT(WARM_STALE_SLOT, warm_bytes_mut(&handle, (warm_slot){.generation = 1}, &bytes));
     MUST(bytes == &none);
     warm_slot slot = pinned(&handle, page_of(0, 2));
-    OK(warm_lend_mut(&handle, slot, &bytes));
-    OK(warm_lend(&handle, slot, &same));
+    OK(warm_bytes_mut(&handle, slot, &bytes));
+    OK(warm_bytes(&handle, slot, &same));
     MUST(same == bytes);
     memset(bytes, 'p', PAGE_SIZE);
     memset(filled, 'p', PAGE_SIZE);
-    OK(warm_write_back(&handle));
+    OK(warm_write_back_all(&handle));
     MUST(byte_at(first, place_of(0, 2)) == 'p' && byte_at(first, place_of(0, 2) + PAGE_SIZE - 1) == 'p');
-    OK(warm_lend_mut(&handle, slot, &again));
+    OK(warm_bytes_mut(&handle, slot, &again));
     MUST(again == bytes && memcmp(bytes, filled, PAGE_SIZE) == 0); /* lending changes no byte */
     bytes[PAGE_SIZE - 1] = 'q';
     OK(warm_unpin(&handle, slot));
     MUST(read_from(&handle, page_of(0, 3)) == 0); /* page 2 leaves, and is written */
     MUST(byte_at(first, place_of(0, 2)) == 'p' && byte_at(first, place_of(0, 2) + PAGE_SIZE - 1) == 'q');
-    EXPECT(WARM_STALE_SLOT, warm_lend_mut(&handle, slot, &bytes));
-    warm_close(&handle);
+    EXPECT(WARM_STALE_SLOT, warm_bytes_mut(&handle, slot, &bytes));
+    OK(warm_abandon(&handle));
     close(first);
     close(second);
 }
@@ -189,19 +189,19 @@ static void zeroed_pages(void) {
     OK(warm_pin_zeroed(&handle, page_of(0, 1), &other));
     OK(warm_read(&handle, other, 0, bytes, PAGE_SIZE));
     for (int at = 0; at < PAGE_SIZE; at++) MUST(bytes[at] == 0);
-    EXPECT(WARM_ALL_FIXED, warm_pin_zeroed(&handle, page_of(0, 2), &slot));
+    EXPECT(WARM_ALL_PINNED, warm_pin_zeroed(&handle, page_of(0, 2), &slot));
     OK(warm_write(&handle, other, 0, (const uint8_t *)"y", 1));
     MUST(byte_at(first, place_of(0, 1)) == 'z');
-    OK(warm_flush(&handle, 0));
+    OK(warm_flush_device(&handle, 0));
     OK(warm_pin_zeroed(&handle, page_of(0, 1), &other)); /* it is in a frame, and has one pin more */
     OK(warm_read(&handle, other, 0, bytes, 1));
     MUST(bytes[0] == 0 && byte_at(first, place_of(0, 1)) == 'y');
     OK(warm_unpin(&handle, other));
     OK(warm_unpin(&handle, other));
     OK(warm_unpin(&handle, slot));
-    OK(warm_flush(&handle, 0));
+    OK(warm_flush_device(&handle, 0));
     MUST(byte_at(first, place_of(0, 1)) == 0 && byte_at(first, place_of(0, 1) + 2) == 0);
-    warm_close(&handle);
+    OK(warm_abandon(&handle));
     close(first);
     close(second);
 }
@@ -219,27 +219,27 @@ static void portions(void) {
     size_t left = 99;
     warm handle = {0};
     EXPECT(WARM_CLOSED, warm_write_back_some(&handle, 1, &left));
-    EXPECT(WARM_CLOSED, warm_flush(&handle, 0));
+    EXPECT(WARM_CLOSED, warm_flush_device(&handle, 0));
     MUST(left == 99);
     open_dirty(&handle, first, second);
     OK(warm_write_back_some(&handle, 0, &left));
     MUST(left == 6 && lseek(first, 0, SEEK_END) == 0);
     OK(warm_write_back_some(&handle, 2, &left));
     MUST(left == 4 && lseek(first, 0, SEEK_END) == place_of(0, 1) + PAGE_SIZE && lseek(second, 0, SEEK_END) == 0);
-    OK(warm_flush(&handle, 1));
-    EXPECT(WARM_NO_DEVICE, warm_flush(&handle, 2));
+    OK(warm_flush_device(&handle, 1));
+    EXPECT(WARM_NO_DEVICE, warm_flush_device(&handle, 2));
     MUST(lseek(first, 0, SEEK_END) == place_of(0, 1) + PAGE_SIZE && byte_at(second, place_of(1, 2)) == 'b');
     OK(warm_write_back_some(&handle, SIZE_MAX, &left));
     MUST(left == 0 && byte_at(first, place_of(0, 2)) == 'a');
     write_to(&handle, page_of(0, 0), 'd');
     put_null_under(first, O_RDONLY); /* the file takes no byte for a time */
     left = 99;
-    EXPECT(WARM_FAULT, warm_write_back_some(&handle, 1, &left));
-    EXPECT(WARM_FAULT, warm_flush(&handle, 0));
+    EXPECT(WARM_WRITE_FAULT, warm_write_back_some(&handle, 1, &left));
+    EXPECT(WARM_WRITE_FAULT, warm_flush_device(&handle, 0));
     MUST(left == 99 && dup2(kept, first) == first);
-    OK(warm_flush(&handle, 0));
+    OK(warm_flush_device(&handle, 0));
     MUST(byte_at(first, place_of(0, 0)) == 'd');
-    warm_close(&handle);
+    OK(warm_abandon(&handle));
     close(kept);
     close(first);
     close(second);
@@ -249,21 +249,21 @@ static void portions(void) {
 static void forgotten_pages(void) {
     int first = temporary(), second = temporary();
     warm handle = {0};
-    EXPECT(WARM_CLOSED, warm_forget(&handle, 0, 0));
+    EXPECT(WARM_CLOSED, warm_forget_pages(&handle, 0, 0));
     open_dirty(&handle, first, second);
-    OK(warm_write_back(&handle));
+    OK(warm_write_back_all(&handle));
     write_to(&handle, page_of(0, 1), 'c');
     write_to(&handle, page_of(0, 0), 'd');
-    EXPECT(WARM_NO_DEVICE, warm_forget(&handle, 2, 0));
+    EXPECT(WARM_NO_DEVICE, warm_forget_pages(&handle, 2, 0));
     warm_slot slot = pinned(&handle, page_of(0, 2));
-    EXPECT(WARM_FIXED, warm_forget(&handle, 0, page_of(0, 1).no));
+    EXPECT(WARM_PINNED, warm_forget_pages(&handle, 0, page_of(0, 1).no));
     MUST(is_resident(&handle, page_of(0, 1)));
     OK(warm_unpin(&handle, slot));
-    OK(warm_forget(&handle, 0, page_of(0, 1).no));
+    OK(warm_forget_pages(&handle, 0, page_of(0, 1).no));
     MUST(!is_resident(&handle, page_of(0, 1)) && !is_resident(&handle, page_of(0, 2)));
     MUST(is_resident(&handle, page_of(0, 0)) && is_resident(&handle, page_of(1, 2)));
     MUST(read_from(&handle, page_of(0, 1)) == 'a' && read_from(&handle, page_of(0, 0)) == 'd');
-    warm_close(&handle);
+    OK(warm_abandon(&handle));
     close(first);
     close(second);
 }
@@ -301,8 +301,8 @@ static void replaced_file(void) {
     OK(warm_replace(&handle, 1, &(warm_device){.pages = DEVICE_PAGES + 1, .fd = second})); /* the same file, which may have more pages now */
     OK(warm_replace(&handle, 0, &(warm_device){.pages = DEVICE_PAGES, .fd = third}));  /* a file that no device has any more */
     MUST(byte_at(first, place_of(0, 1)) == 'f' && read_from(&handle, (warm_page){.no = page_of(1, 1).no}) == 'u');
-    OK(warm_write_back(&handle));
-    warm_close(&handle);
+    OK(warm_write_back_all(&handle));
+    OK(warm_abandon(&handle));
     close(first);
     close(second);
     close(third);
@@ -318,20 +318,20 @@ static void not_replaced(void) {
     EXPECT(WARM_NO_DEVICE, warm_replace(&handle, 2, &(warm_device){.pages = DEVICE_PAGES, .fd = first}));
     EXPECT(WARM_NO_DEVICE, warm_replace(&handle, 65535, &in_place));
     warm_slot slot = pinned(&handle, page_of(1, 1));
-    EXPECT(WARM_NO_DEVICE, warm_replace(&handle, 1, &large)); /* it is too large, of the other's file, and a page is pinned */
+    EXPECT(WARM_BAD_DEVICE, warm_replace(&handle, 1, &large)); /* it is too large, of the other's file, and a page is pinned */
     EXPECT(WARM_SAME_FILE, warm_replace(&handle, 1, &(warm_device){.pages = DEVICE_PAGES, .fd = first}));
     EXPECT(WARM_SAME_FILE, warm_replace(&handle, 1, &(warm_device){.pages = DEVICE_PAGES, .fd = copy}));
-    EXPECT(WARM_FIXED, warm_replace(&handle, 1, &in_place));
+    EXPECT(WARM_PINNED, warm_replace(&handle, 1, &in_place));
     OK(warm_replace(&handle, 0, &(warm_device){.pages = DEVICE_PAGES, .fd = copy})); /* no page of this one is pinned */
     OK(warm_unpin(&handle, slot));
     int kept = dup(second);
     put_null_under(second, O_RDONLY); /* the file takes no byte for a time */
-    EXPECT(WARM_FAULT, warm_replace(&handle, 1, &in_place));
+    EXPECT(WARM_WRITE_FAULT, warm_replace(&handle, 1, &in_place));
     MUST(read_from(&handle, page_of(1, 1)) == 'a');
     MUST(dup2(kept, second) == second);
     OK(warm_replace(&handle, 1, &in_place));
     MUST(byte_at(kept, place_of(1, 1)) == 'a' && read_from(&handle, page_of(1, 1)) == 0);
-    warm_close(&handle);
+    OK(warm_abandon(&handle));
     close(kept);
     close(copy);
     close(first);
@@ -341,59 +341,56 @@ static void not_replaced(void) {
 
 /* Sends what is new of bucket 7 since a time to who knows none of it, and counts the entries: each comes once. */
 static size_t sent_since(warm *from, uint64_t since, warm *to) {
-    static uint8_t frame[65536];
-    size_t length, before, known, frames = 0, entries = 0;
-    bool more, has_after = false;
+    static uint8_t message[WARM_MESSAGE_ROOM];
+    warm_sending sending = {.bucket = 7, .since = since};
+    size_t length, before, known, messages = 0, entries = 0;
     uint8_t byte;
-    warm_page last = {.no = 99, .dev = 9}, after = {0};
     OK(warm_history_length(to, &before));
     do {
-        OK(warm_send_since(from, 7, since, has_after, after, frame, sizeof frame, &length, &more, &last));
-        memcpy(&byte, &more, 1);
-        MUST(byte <= 1 && ++frames <= MANY);
-        entries += (size_t)frame[21] << 8 | frame[22]; /* a frame has 1000 at most: the lower half of their count */
-        OK(warm_receive(to, frame, length));
-        has_after = true;
-        after = last;
-    } while (more);
+        OK(warm_send(from, &sending, message, sizeof message, &length));
+        memcpy(&byte, &sending.more, 1);
+        MUST(byte <= 1 && ++messages <= MANY && sending.bucket == 7 && sending.since == since);
+        entries += (size_t)message[21] << 8 | message[22]; /* a message has 1000 at most: the lower half of their count */
+        OK(warm_receive(to, message, length));
+    } while (sending.more);
     OK(warm_history_length(to, &known));
-    MUST(known - before == entries);
-    MUST(known > before || (last.no == 99 && last.dev == 9)); /* a frame without an entry has no last one */
+    MUST(known - before == entries && sending.has_after == (entries > 0));
+    MUST(entries > 0 || (sending.after.no == 0 && sending.after.dev == 0)); /* a message without an entry has no last one */
     return entries;
 }
 
 static void open_history(warm *handle, uint16_t replica) {
     const warm_device none = {0};
-    OK(warm_open(handle, replica, shards, shards, 1, &none, 0));
+    OK(open_with(handle, replica, shards, shards, 1, &none, 0));
 }
 
-/* More entries than a frame has, of one bucket; those since a time; and none. */
+/* More entries than a message has, of one bucket; those since a time; and none. */
 static void what_is_new(void) {
     static warm_reference seen[MANY];
-    uint8_t frame[64] = {0}, place = 7;
-    bool more;
+    uint8_t message[64] = {0};
     size_t length = 0;
-    warm_page last = {.no = 99, .dev = 9};
+    warm_sending sending = {.bucket = 64, .since = MANY - 1, .after = {.no = 99, .dev = 9}}, before;
     warm from = {0}, all = {0}, late = {0};
-    memcpy(&more, &place, 1); /* no bool of C, and a refused call leaves it */
-    EXPECT(WARM_CLOSED, warm_send_since(&from, 7, 0, false, last, frame, sizeof frame, &length, &more, &last));
+    EXPECT(WARM_CLOSED, warm_send(&from, &sending, message, sizeof message, &length));
     open_history(&from, 1);
     open_history(&all, 2);
     open_history(&late, 3);
     for (uint64_t at = 0; at < MANY; at++) seen[at] = (warm_reference){.time = at, .no = 64 * at + 7, .replica = 1};
     OK(warm_absorb(&from, seen, MANY));
-    EXPECT(WARM_BAD_BUCKET, warm_send_since(&from, 64, 0, false, last, frame, sizeof frame, &length, &more, &last));
+    EXPECT(WARM_BAD_BUCKET, warm_send(&from, &sending, message, sizeof message, &length));
     MUST(length == 0);
-    EXPECT(WARM_BUFFER_TOO_SMALL, warm_send_since(&from, 7, MANY - 1, false, last, frame, 43, &length, &more, &last));
-    MUST(memcmp(&more, &place, 1) == 0 && last.no == 99 && last.dev == 9 && length == 44 && frame[0] == 0);
-    OK(warm_send_since(&from, 7, MANY - 1, false, last, frame, 44, &length, &more, &last));
-    MUST(!more && last.no == 64 * (MANY - 1) + 7 && last.dev == 0 && length == 44);
+    sending.bucket = 7;
+    before = sending;
+    EXPECT(WARM_BUFFER_TOO_SMALL, warm_send(&from, &sending, message, 43, &length));
+    MUST(memcmp(&sending, &before, sizeof before) == 0 && length == 44 && message[0] == 0);
+    OK(warm_send(&from, &sending, message, 44, &length));
+    MUST(!sending.more && sending.has_after && sending.after.no == 64 * (MANY - 1) + 7 && sending.after.dev == 0 && length == 44);
     MUST(sent_since(&from, 0, &all) == MANY);
     MUST(sent_since(&from, MANY - 1200, &late) == 1200);
     MUST(sent_since(&from, MANY, &late) == 0);
-    warm_close(&from);
-    warm_close(&all);
-    warm_close(&late);
+    OK(warm_close(&from));
+    OK(warm_close(&all));
+    OK(warm_close(&late));
 }
 
 /* ---- what was counted, and what failed ---- */
@@ -440,7 +437,7 @@ static void counts_refused(void) {
     OK(warm_last_failure(&handle, &found, &failure));
     memcpy(&place, &found, 1);
     MUST(place == 0 && failure.no == 9 && of_device.reads == 9);
-    warm_close(&handle);
+    OK(warm_abandon(&handle));
     close(first);
     close(second);
 }
@@ -463,20 +460,20 @@ static void counted_calls(void) {
     MUST(device_has_counted(&handle, 0, (warm_device_counters){.reads = 1, .writes = 1}));
     OK(warm_pin_zeroed(&handle, page_of(0, 2), &slot)); /* a miss that reads nothing */
     OK(warm_unpin(&handle, slot));
-    OK(warm_write_back(&handle));
+    OK(warm_write_back_all(&handle));
     MUST(device_has_counted(&handle, 0, (warm_device_counters){.reads = 1, .writes = 2, .flushes = 1}));
     OK(warm_absorb(&handle, &seen, 1));
     OK(warm_step(&handle, &found, &page)); /* 1:5 comes in place of 0:2, which is no miss */
     EXPECT(WARM_NO_PAGE, warm_pin(&handle, page_of(0, 8), &slot));
     MUST(found && is_page(page, 1, 5));
     MUST(has_counted(&handle, (warm_counters){.hits = 1, .misses = 3, .evictions = 3, .written_back = 2, .resident = 1}));
-    OK(warm_forget(&handle, 1, 0)); /* which is no eviction for another page */
+    OK(warm_forget_pages(&handle, 1, 0)); /* which is no eviction for another page */
     MUST(has_counted(&handle, (warm_counters){.hits = 1, .misses = 3, .evictions = 3, .written_back = 2}));
     MUST(device_has_counted(&handle, 1, (warm_device_counters){.reads = 2}));
-    warm_close(&handle);
+    OK(warm_abandon(&handle));
     open_two(&handle, 1, first, second);
     MUST(has_counted(&handle, (warm_counters){0}) && device_has_counted(&handle, 0, (warm_device_counters){0}));
-    warm_close(&handle);
+    OK(warm_abandon(&handle));
     close(first);
     close(second);
 }
@@ -488,13 +485,13 @@ static int flush_at_limit(warm *handle) {
     MUST(getrlimit(RLIMIT_FSIZE, &old) == 0);
     none = (struct rlimit){.rlim_cur = 0, .rlim_max = old.rlim_max};
     MUST(setrlimit(RLIMIT_FSIZE, &none) == 0);
-    int status = warm_flush(handle, 1);
+    int status = warm_flush_device(handle, 1);
     MUST(setrlimit(RLIMIT_FSIZE, &old) == 0); /* before a word is printed: that is a file, too */
     return status;
 }
 
 /* Pages that are written in portions, by a flush or as their device is replaced are counted as written; those that leave by warm_replace or
- * warm_forget were not evicted. A pin that fills with zeros is a hit where the page is in a frame. */
+ * warm_forget_pages were not evicted. A pin that fills with zeros is a hit where the page is in a frame. */
 static void counted_changes(void) {
     int first = temporary(), second = temporary(), third = temporary();
     size_t left;
@@ -505,16 +502,16 @@ static void counted_changes(void) {
     OK(warm_write_back_some(&handle, 2, &left));
     MUST(has_counted(&handle, (warm_counters){.misses = 6, .written_back = 2, .resident = 6, .dirty = 4}));
     MUST(device_has_counted(&handle, 0, (warm_device_counters){.reads = 3, .writes = 2}));
-    OK(warm_flush(&handle, 0));
+    OK(warm_flush_device(&handle, 0));
     MUST(has_counted(&handle, (warm_counters){.misses = 6, .written_back = 3, .resident = 6, .dirty = 3}));
     MUST(device_has_counted(&handle, 0, (warm_device_counters){.reads = 3, .writes = 3, .flushes = 1}));
     OK(warm_replace(&handle, 1, &(warm_device){.pages = DEVICE_PAGES, .fd = third}));
     MUST(has_counted(&handle, (warm_counters){.misses = 6, .written_back = 6, .resident = 3}));
-    OK(warm_forget(&handle, 0, page_of(0, 2).no));
+    OK(warm_forget_pages(&handle, 0, page_of(0, 2).no));
     OK(warm_pin_zeroed(&handle, page_of(0, 0), &slot));
     MUST(has_counted(&handle, (warm_counters){.hits = 1, .misses = 6, .written_back = 6, .resident = 2, .dirty = 1}));
     MUST(device_has_counted(&handle, 0, (warm_device_counters){.reads = 3, .writes = 3, .flushes = 1}));
-    warm_close(&handle);
+    OK(warm_abandon(&handle));
     close(first);
     close(second);
     close(third);
@@ -531,63 +528,65 @@ static void failed_calls(void) {
     MUST(failed_last(&handle, (warm_failure){.no = page_of(0, 5).no, .dev = 0, .what = WARM_FAILED_READ, .error = EBADF}));
     MUST(device_has_counted(&handle, 0, (warm_device_counters){.reads = 1, .failures = 1}) && dup2(kept, first) == first);
     write_to(&handle, page_of(1, 2), 'b');
-    EXPECT(WARM_FAULT, flush_at_limit(&handle));
+    EXPECT(WARM_WRITE_FAULT, flush_at_limit(&handle));
     MUST(failed_last(&handle, (warm_failure){.no = page_of(1, 2).no, .dev = 1, .what = WARM_FAILED_WRITE, .error = EFBIG}));
     put_null_under(second, O_RDONLY);
-    EXPECT(WARM_WRITE_BACK, warm_pin(&handle, page_of(0, 3), &slot)); /* 0:3 is read, and 1:2 not written */
+    EXPECT(WARM_EVICT_FAULT, warm_pin(&handle, page_of(0, 3), &slot)); /* 0:3 is read, and 1:2 not written */
     MUST(failed_last(&handle, (warm_failure){.no = page_of(1, 2).no, .dev = 1, .what = WARM_FAILED_WRITE, .error = EBADF}));
     MUST(device_has_counted(&handle, 0, (warm_device_counters){.reads = 2, .failures = 1}));
     MUST(device_has_counted(&handle, 1, (warm_device_counters){.reads = 1, .writes = 2, .failures = 2}));
     MUST(has_counted(&handle, (warm_counters){.misses = 1, .resident = 1, .dirty = 1}));
     put_null_under(second, O_RDWR); /* it takes the page, and cannot be synced */
-    EXPECT(WARM_FAULT, warm_flush(&handle, 1));
+    EXPECT(WARM_WRITE_FAULT, warm_flush_device(&handle, 1));
     MUST(failed_last(&handle, (warm_failure){.no = 0, .dev = 1, .what = WARM_FAILED_FLUSH, .error = EINVAL}));
     put_null_under(second, O_WRONLY);
     EXPECT(WARM_READ_FAULT, warm_pin(&handle, page_of(1, 6), &slot));
     MUST(failed_last(&handle, (warm_failure){.no = page_of(1, 6).no, .dev = 1, .what = WARM_FAILED_READ, .error = EBADF}));
-    EXPECT(WARM_FAULT, warm_flush(&handle, 1)); /* since one failed before, with the errno of that one */
+    EXPECT(WARM_WRITE_FAULT, warm_flush_device(&handle, 1)); /* since one failed before, with the errno of that one */
     MUST(failed_last(&handle, (warm_failure){.no = 0, .dev = 1, .what = WARM_FAILED_FLUSH, .error = EINVAL}));
     MUST(device_has_counted(&handle, 1, (warm_device_counters){.reads = 2, .writes = 3, .flushes = 2, .failures = 5}));
     MUST(has_counted(&handle, (warm_counters){.misses = 1, .written_back = 1, .resident = 1}));
-    warm_close(&handle);
+    OK(warm_abandon(&handle));
     close(kept);
     close(first);
     close(second);
 }
 
-static int not_yet(void *context, uint64_t at, const uint8_t *bytes, size_t length) {
-    (void)context;
-    (void)at;
-    (void)bytes;
-    (void)length;
-    return 1;
+/* The errno that a device answers before each write. */
+static int answered(void *context, uint64_t no, const void *bytes, size_t length) {
+    (void)no, (void)bytes, (void)length;
+    return *(int *)context;
 }
 
-/* A write that its callback holds back has failed, with EAGAIN. What failed is remembered while all goes well, and its errno until the device
- * is replaced. */
+/* A page that is skipped was not written, with EAGAIN. What failed is remembered while all goes well, also where its device is replaced. */
 static void remembered_failure(void) {
-    int first = temporary(), second = temporary(), third = temporary(), kept = dup(first);
+    static const warm_device_ops asks = {.size = sizeof asks, .before_write = answered};
+    int first = temporary(), second = temporary(), third = temporary(), kept = dup(first), answer = EAGAIN;
+    const warm_device devices[] = {{.pages = DEVICE_PAGES, .fd = first, .ops = &asks, .context = &answer}, device_of(second)};
     warm handle = {0};
     warm_slot slot;
-    open_two(&handle, 1, first, second);
-    OK(warm_before_write(first, not_yet, NULL));
+    OK(open_with(&handle, 1, shards, shards, PAGE_SIZE, devices, 2));
     write_to(&handle, page_of(0, 1), 'c');
-    EXPECT(WARM_FAULT, warm_write_back(&handle));
+    EXPECT(WARM_SKIPPED, warm_write_back_all(&handle));
     MUST(failed_last(&handle, (warm_failure){.no = page_of(0, 1).no, .dev = 0, .what = WARM_FAILED_WRITE, .error = EAGAIN}));
-    OK(warm_before_write(first, NULL, NULL));
-    OK(warm_write_back(&handle));
+    MUST(has_counted(&handle, (warm_counters){.misses = 1, .resident = 1, .dirty = 1}));
+    answer = ENOSPC;
+    EXPECT(WARM_WRITE_FAULT, warm_flush_device(&handle, 0));
+    MUST(failed_last(&handle, (warm_failure){.no = page_of(0, 1).no, .dev = 0, .what = WARM_FAILED_WRITE, .error = ENOSPC}));
+    answer = 0;
+    OK(warm_write_back_all(&handle));
     EXPECT(WARM_DUMP_NOT_WRITTEN, warm_save(&handle, -1)); /* its file is no device */
-    MUST(failed_last(&handle, (warm_failure){.no = page_of(0, 1).no, .dev = 0, .what = WARM_FAILED_WRITE, .error = EAGAIN}));
-    MUST(device_has_counted(&handle, 0, (warm_device_counters){.reads = 1, .writes = 2, .flushes = 1, .failures = 1}));
+    MUST(failed_last(&handle, (warm_failure){.no = page_of(0, 1).no, .dev = 0, .what = WARM_FAILED_WRITE, .error = ENOSPC}));
+    MUST(device_has_counted(&handle, 0, (warm_device_counters){.reads = 1, .writes = 3, .flushes = 2, .failures = 2}));
     put_null_under(first, O_WRONLY);
     EXPECT(WARM_READ_FAULT, warm_pin(&handle, page_of(0, 7), &slot));
     MUST(dup2(kept, first) == first);
     OK(warm_replace(&handle, 1, &(warm_device){.pages = DEVICE_PAGES, .fd = third})); /* another device */
     MUST(failed_last(&handle, (warm_failure){.no = page_of(0, 7).no, .dev = 0, .what = WARM_FAILED_READ, .error = EBADF}));
     OK(warm_replace(&handle, 0, &(warm_device){.pages = DEVICE_PAGES, .fd = second}));
-    MUST(failed_last(&handle, (warm_failure){.no = page_of(0, 7).no, .dev = 0, .what = WARM_FAILED_READ, .error = 0}));
+    MUST(failed_last(&handle, (warm_failure){.no = page_of(0, 7).no, .dev = 0, .what = WARM_FAILED_READ, .error = EBADF}));
     MUST(device_has_counted(&handle, 0, (warm_device_counters){0}));
-    warm_close(&handle);
+    OK(warm_close(&handle));
     close(kept);
     close(first);
     close(second);

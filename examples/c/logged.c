@@ -1,6 +1,6 @@
-/* The log before the page: warm_before_write. A callback that says "not yet" for ever, one that syncs a log and then lets go, one for each of two
- * descriptors, one over a second handle, and one that is taken away. And kill -9 at any moment: no page is in its file before its log record
- * is in the log. */
+/* The log before the page: before_write of a device. One that skips pages for ever, one that syncs a log and then lets go, one for each of two
+ * devices, and one over a second handle. Pages that are skipped keep back no other. And kill -9 at any moment: no page is in its file before its log
+ * record is in the log. */
 #define _GNU_SOURCE /* mkstemp, fork */
 #include <errno.h>
 #include <fcntl.h>
@@ -15,19 +15,31 @@ enum { PAGE_SIZE = 512, PAGES = 40, KILLS = 50, MOST_KILLS = 10 * KILLS, RECORDS
 
 /* ---- what is asked, and what it does ---- */
 
-/* A callback's answer, and what it was asked for last. */
+/* What is answered, and what was asked for last, and told. */
 typedef struct gate {
-    int answer, calls;
-    uint64_t at;
+    int answer, calls, told;
+    uint64_t no;
     size_t length;
     uint8_t first;
 } gate;
 
-static int ask_gate(void *context, uint64_t at, const uint8_t *bytes, size_t length) {
+static int ask_gate(void *context, uint64_t no, const void *bytes, size_t length) {
     gate *it = context;
-    *it = (gate){it->answer, it->calls + 1, at, length, bytes[0]};
+    *it = (gate){it->answer, it->calls + 1, it->told, no, length, *(const uint8_t *)bytes};
     errno = EBADF; /* of its own calls: it means nothing */
     return it->answer;
+}
+
+static void tell_gate(void *context, uint64_t no, int error) {
+    gate *it = context;
+    MUST(no == it->no && error == 0);
+    it->told++;
+}
+
+static const warm_device_ops gate_calls = {.size = sizeof gate_calls, .before_write = ask_gate, .after_write = tell_gate};
+
+static warm_device device_with(int fd, const warm_device_ops *ops, void *context) {
+    return (warm_device){.pages = PAGES, .fd = fd, .ops = ops, .context = context};
 }
 
 static int status_of_write(warm *handle, warm_page page, uint8_t byte) {
@@ -60,101 +72,141 @@ static off_t size_of(int fd) {
     return about.st_size;
 }
 
-/* ---- "not yet" ---- */
+/* ---- pages that are skipped ---- */
 
-/* Each eviction and each write-back is refused by name, as often as it is tried, and nothing is lost; once it gives in all is written. */
+/* Each eviction and each write-back is refused by name, as often as it is tried, and nothing is lost; once it gives in all is written. Each asks for
+ * both pages. */
 static void never_lets_go(void) {
     int fd = temporary();
-    const warm_device device = {.pages = PAGES, .fd = fd};
+    gate log = {.answer = EAGAIN};
+    const warm_device device = device_with(fd, &gate_calls, &log);
     const warm_reference hot = {.time = 1, .no = 9, .replica = 1};
-    gate log = {.answer = 1};
     warm handle = {0};
     warm_page page = {.no = 77};
     bool found = false;
-    OK(warm_before_write(fd, ask_gate, &log));
-    OK(warm_open(&handle, 1, 1, 2, PAGE_SIZE, &device, 1));
+    OK(open_with(&handle, 1, 1, 2, PAGE_SIZE, &device, 1));
     OK(status_of_write(&handle, (warm_page){.no = 0}, 'a'));
     OK(status_of_write(&handle, (warm_page){.no = 1}, 'b'));
     OK(warm_absorb(&handle, &hot, 1));
     for (int tries = 1; tries <= 20; tries++) {
-        EXPECT(WARM_WRITE_BACK, status_of_write(&handle, (warm_page){.no = 2}, 'c'));
-        MUST(log.at <= PAGE_SIZE && log.length == PAGE_SIZE && log.first == (log.at == 0 ? 'a' : 'b'));
-        EXPECT(WARM_WRITE_BACK, warm_step(&handle, &found, &page));
-        EXPECT(WARM_FAULT, warm_write_back(&handle));
-        MUST(log.calls == 3 * tries && size_of(fd) == 0 && page.no == 77);
+        EXPECT(WARM_EVICT_FAULT, status_of_write(&handle, (warm_page){.no = 2}, 'c'));
+        MUST(log.no <= 1 && log.length == PAGE_SIZE && log.first == (log.no == 0 ? 'a' : 'b'));
+        EXPECT(WARM_EVICT_FAULT, warm_step(&handle, &found, &page));
+        EXPECT(WARM_SKIPPED, warm_write_back_all(&handle));
+        MUST(log.calls == 6 * tries && log.told == 0 && size_of(fd) == 0 && page.no == 77);
         MUST(read_from(&handle, (warm_page){.no = 0}) == 'a' && read_from(&handle, (warm_page){.no = 1}) == 'b');
     }
     log.answer = 0;
     OK(status_of_write(&handle, (warm_page){.no = 2}, 'c'));
-    OK(warm_write_back(&handle));
-    MUST(byte_in(fd, 0) == 'a' && byte_in(fd, 1) == 'b' && byte_in(fd, 2) == 'c' && size_of(fd) == 3 * PAGE_SIZE && log.calls == 63);
-    log.answer = -1;
+    OK(warm_write_back_all(&handle));
+    MUST(byte_in(fd, 0) == 'a' && byte_in(fd, 1) == 'b' && byte_in(fd, 2) == 'c' && size_of(fd) == 3 * PAGE_SIZE && log.calls == 123 && log.told == 3);
+    log.answer = ENOSPC;
     OK(status_of_write(&handle, (warm_page){.no = 2}, 'd'));
-    warm_close(&handle); /* what is dirty is lost, as without a callback, and nothing is asked */
-    MUST(byte_in(fd, 2) == 'c' && log.calls == 63);
-    OK(warm_before_write(fd, NULL, NULL));
+    EXPECT(WARM_WRITE_FAULT, warm_write_back_all(&handle));
+    EXPECT(WARM_DIRTY, warm_close(&handle));
+    OK(warm_abandon(&handle)); /* what is dirty is lost, and nothing is asked */
+    MUST(byte_in(fd, 2) == 'c' && log.calls == 124);
     close(fd);
 }
 
-/* Of two devices one is held back; the other's pages leave. Then neither is. */
-static void two_descriptors(void) {
+static int hold_first_back(void *context, uint64_t no, const void *bytes, size_t length) {
+    (void)bytes, (void)length;
+    *(int *)context += no == 0 && *(int *)context >= 0;
+    return no == 0 && *(int *)context >= 0 ? EAGAIN : 0;
+}
+
+static const warm_device_ops holding_back = {.size = sizeof holding_back, .before_write = hold_first_back};
+
+/* One page is held back, and would leave next: it stays, other pages leave for those that come, and all others are written back. */
+static void one_held_back(void) {
+    for (size_t shards = 1; shards <= 4; shards *= 4) {
+        int fd = temporary(), calls = 0;
+        const warm_device device = device_with(fd, &holding_back, &calls);
+        warm handle = {0};
+        warm_counters counters;
+        warm_device_counters of_device;
+        warm_failure failure;
+        bool found;
+        size_t left;
+        OK(open_with(&handle, 1, shards, 4 * shards, PAGE_SIZE, &device, 1));
+        OK(status_of_write(&handle, (warm_page){.no = 0}, 'a'));
+        for (uint64_t no = 1; no < PAGES; no++) OK(status_of_write(&handle, (warm_page){.no = no}, 'b'));
+        MUST(calls > 0 && read_from(&handle, (warm_page){.no = 0}) == 'a' && byte_in(fd, 0) == 0);
+        OK(warm_last_failure(&handle, &found, &failure));
+        MUST(found && failure.no == 0 && failure.what == WARM_FAILED_WRITE && failure.error == EAGAIN);
+        EXPECT(WARM_SKIPPED, warm_write_back_some(&handle, 1, &left));
+        EXPECT(WARM_SKIPPED, warm_write_back_all(&handle));
+        for (uint64_t no = 1; no < PAGES; no++) MUST(byte_in(fd, no) == 'b');
+        MUST(byte_in(fd, 0) == 0);
+        OK(warm_counts(&handle, &counters)); /* what is passed over is no hit, and was not written */
+        MUST(counters.hits == 1 && counters.misses == PAGES && counters.dirty == 1 && counters.written_back == PAGES - 1);
+        OK(warm_device_counts(&handle, 0, &of_device));
+        MUST(of_device.writes == PAGES - 1 + (uint64_t)calls && of_device.failures == (uint64_t)calls);
+        calls = -1;
+        OK(warm_write_back_all(&handle));
+        for (uint64_t no = 0; no < PAGES; no++) MUST(byte_in(fd, no) == (no == 0 ? 'a' : 'b'));
+        OK(warm_close(&handle));
+        close(fd);
+    }
+}
+
+/* Of two devices one skips its pages; the other's pages leave. Then neither does. */
+static void two_devices(void) {
     int fds[] = {temporary(), temporary()};
-    const warm_device devices[] = {{.pages = PAGES, .fd = fds[0]}, {.pages = PAGES, .fd = fds[1]}};
-    gate logs[] = {{.answer = 0}, {.answer = 1}};
+    gate logs[] = {{.answer = 0}, {.answer = EAGAIN}};
+    const warm_device devices[] = {device_with(fds[0], &gate_calls, &logs[0]), device_with(fds[1], &gate_calls, &logs[1])};
     warm handle = {0};
-    OK(warm_open(&handle, 1, 1, 4, PAGE_SIZE, devices, 2));
-    for (int dev = 0; dev < 2; dev++) OK(warm_before_write(fds[dev], ask_gate, &logs[dev]));
+    OK(open_with(&handle, 1, 1, 4, PAGE_SIZE, devices, 2));
     OK(status_of_write(&handle, (warm_page){.no = 3, .dev = 0}, 'e'));
     OK(status_of_write(&handle, (warm_page){.no = 5, .dev = 1}, 'f'));
-    EXPECT(WARM_FAULT, warm_write_back(&handle));
-    MUST(logs[1].calls == 1 && logs[1].at == 5 * PAGE_SIZE && size_of(fds[1]) == 0);
-    OK(warm_before_write(fds[1], NULL, &logs[1]));
-    OK(warm_write_back(&handle));
-    MUST(logs[0].calls == 1 && logs[0].at == 3 * PAGE_SIZE && logs[1].calls == 1);
-    MUST(byte_in(fds[0], 3) == 'e' && byte_in(fds[1], 5) == 'f');
-    OK(warm_before_write(fds[0], NULL, NULL));
-    warm_close(&handle);
+    EXPECT(WARM_SKIPPED, warm_write_back_all(&handle));
+    MUST(logs[1].calls == 1 && logs[1].no == 5 && size_of(fds[1]) == 0 && byte_in(fds[0], 3) == 'e');
+    OK(warm_flush_device(&handle, 0));
+    EXPECT(WARM_WRITE_FAULT, warm_replace(&handle, 1, &devices[1])); /* what it skips would be lost */
+    logs[1].answer = 0;
+    OK(warm_write_back_all(&handle));
+    MUST(logs[0].calls == 1 && logs[0].no == 3 && logs[1].calls == 3 && logs[1].told == 1 && byte_in(fds[1], 5) == 'f');
+    const warm_device alone = {.pages = PAGES, .fd = fds[1]};
+    OK(warm_replace(&handle, 1, &alone)); /* the same file, which is asked for no more */
+    OK(status_of_write(&handle, (warm_page){.no = 6, .dev = 1}, 'g'));
+    OK(warm_write_back_all(&handle));
+    MUST(logs[1].calls == 3 && byte_in(fds[1], 6) == 'g');
+    OK(warm_close(&handle));
     close(fds[1]);
     close(fds[0]);
 }
 
-/* Taken away before its descriptor is closed, it is not asked for the next file that has the number. */
-static void reused_number(void) {
-    int fd = temporary();
-    gate log = {.answer = 1};
-    warm handle = {0};
-    OK(warm_before_write(fd, ask_gate, &log));
-    OK(warm_before_write(fd, NULL, NULL));
-    MUST(close(fd) == 0);
-    int again = temporary();
-    const warm_device device = {.pages = PAGES, .fd = again};
-    MUST(again == fd);
-    OK(warm_open(&handle, 1, 1, 1, PAGE_SIZE, &device, 1));
-    OK(status_of_write(&handle, (warm_page){.no = 0}, 'g'));
-    OK(warm_write_back(&handle));
-    MUST(log.calls == 0 && byte_in(again, 0) == 'g');
-    warm_close(&handle);
-    close(again);
+/* The pieces of a dump are asked for, where somebody has set that: a save may end before its time. */
+static int end_save(void *context, uint64_t no, const void *bytes, size_t length) {
+    gate *it = context;
+    (void)bytes;
+    MUST(it->answer != 0 || no == it->no + it->length);
+    it->calls++;
+    it->no = no;
+    it->length = length;
+    return it->answer;
 }
 
-/* The pieces of a dump are asked for, where somebody has set that. */
 static void asked_for_dump(void) {
+    static const warm_device_ops asks = {.size = sizeof asks, .before_write = end_save};
     int fd = temporary();
-    const warm_device none = {0};
     const warm_reference reference = {.time = 1, .no = 7, .replica = 1};
     gate log = {.answer = 1};
+    const warm_device file = {.fd = fd, .ops = &asks, .context = &log};
     warm handle = {0};
-    OK(warm_open(&handle, 1, 1, 1, 1, &none, 0));
+    size_t known;
+    OK(open_with(&handle, 1, 1, 1, 1, NULL, 0));
     OK(warm_absorb(&handle, &reference, 1));
-    OK(warm_before_write(fd, ask_gate, &log));
-    EXPECT(WARM_DUMP_NOT_WRITTEN, warm_save(&handle, fd));
-    MUST(log.calls == 1 && log.at == 0 && size_of(fd) == 0);
-    log.answer = 0;
-    OK(warm_save(&handle, fd));
-    MUST(log.calls > 1 && (off_t)(log.at + log.length) == size_of(fd));
-    OK(warm_before_write(fd, NULL, NULL));
+    EXPECT(WARM_DUMP_NOT_WRITTEN, warm_save_to(&handle, &file));
+    MUST(log.calls == 1 && log.no == 0 && size_of(fd) == 0);
+    log = (gate){.answer = 0};
+    OK(warm_save_to(&handle, &file));
+    MUST(log.calls > 1 && (off_t)(log.no + log.length) == size_of(fd));
     OK(warm_load(&handle, fd, (uint64_t)size_of(fd)));
-    warm_close(&handle);
+    OK(warm_load_from(&handle, &file, (uint64_t)size_of(fd)));
+    OK(warm_history_length(&handle, &known));
+    MUST(known == 1);
+    OK(warm_close(&handle));
     close(fd);
 }
 
@@ -167,29 +219,31 @@ typedef struct log_pool {
 } log_pool;
 
 /* Writes a page of the log through a pool of its own, in the midst of the other handle's call, and writes it back and syncs it. */
-static int log_by_handle(void *context, uint64_t at, const uint8_t *bytes, size_t length) {
+static int log_by_handle(void *context, uint64_t no, const void *bytes, size_t length) {
     log_pool *log = context;
-    MUST(length == PAGE_SIZE && byte_in(log->data, at / PAGE_SIZE) != bytes[0]);
-    OK(status_of_write(&log->handle, (warm_page){.no = log->next}, bytes[0]));
-    OK(warm_write_back(&log->handle));
-    MUST(byte_in(log->fd, log->next++) == bytes[0]);
+    uint8_t first = *(const uint8_t *)bytes;
+    MUST(length == PAGE_SIZE && byte_in(log->data, no) != first);
+    OK(status_of_write(&log->handle, (warm_page){.no = log->next}, first));
+    OK(warm_write_back_all(&log->handle));
+    MUST(byte_in(log->fd, log->next++) == first);
     return 0;
 }
 
+static const warm_device_ops logging = {.size = sizeof logging, .before_write = log_by_handle};
+
 static void other_handle(void) {
     log_pool log = {.fd = temporary(), .data = temporary()};
-    const warm_device log_device = {.pages = PAGES, .fd = log.fd}, device = {.pages = PAGES, .fd = log.data};
+    const warm_device log_device = {.pages = PAGES, .fd = log.fd}, device = device_with(log.data, &logging, &log);
     warm handle = {0};
-    OK(warm_open(&log.handle, 1, 1, 2, PAGE_SIZE, &log_device, 1));
-    OK(warm_open(&handle, 1, 1, 2, PAGE_SIZE, &device, 1));
-    OK(warm_before_write(log.data, log_by_handle, &log));
+    OK(open_with(&log.handle, 1, 1, 2, PAGE_SIZE, &log_device, 1));
+    OK(open_with(&handle, 1, 1, 2, PAGE_SIZE, &device, 1));
     for (uint64_t no = 0; no < 10; no++) OK(status_of_write(&handle, (warm_page){.no = no}, (uint8_t)('a' + no)));
     MUST(log.next == 8); /* two are still in frames */
-    OK(warm_write_back(&handle));
+    OK(warm_write_back_all(&handle));
     for (uint64_t no = 0; no < 10; no++) MUST(byte_in(log.data, no) == 'a' + no);
-    MUST(log.next == 10 && warm_before_write(log.data, NULL, NULL) == WARM_OK);
-    warm_close(&handle);
-    warm_close(&log.handle);
+    MUST(log.next == 10);
+    OK(warm_close(&handle));
+    OK(warm_close(&log.handle));
     close(log.data);
     close(log.fd);
 }
@@ -207,7 +261,7 @@ typedef struct engine {
     uint64_t synced;
     size_t waiting;
     record records[RECORDS];
-    bool is_eager; /* its callback syncs the log, and else says "not yet" */
+    bool is_eager; /* its callback syncs the log, and else skips the page */
 } engine;
 
 static void sync_log(engine *it) {
@@ -218,14 +272,16 @@ static void sync_log(engine *it) {
     it->waiting = 0;
 }
 
-static int after_log(void *context, uint64_t at, const uint8_t *bytes, size_t length) {
+static int after_log(void *context, uint64_t no, const void *bytes, size_t length) {
     engine *it = context;
     record page;
     memcpy(&page, bytes, sizeof page);
-    MUST(length == PAGE_SIZE && at == page.no * PAGE_SIZE);
+    MUST(length == PAGE_SIZE && no == page.no);
     if (page.version > it->synced && it->is_eager) sync_log(it);
-    return page.version > it->synced;
+    return page.version > it->synced ? EAGAIN : 0;
 }
+
+static const warm_device_ops after_the_log = {.size = sizeof after_the_log, .before_write = after_log};
 
 /* Refused calls are made again once the log is synced. */
 static void change_page(engine *it, warm *handle, record change) {
@@ -233,7 +289,7 @@ static void change_page(engine *it, warm *handle, record change) {
     if (it->waiting == RECORDS) sync_log(it);
     it->records[it->waiting++] = change;
     int status = warm_pin(handle, (warm_page){.no = change.no}, &slot);
-    if (status == WARM_WRITE_BACK && !it->is_eager) {
+    if (status == WARM_EVICT_FAULT && !it->is_eager) {
         sync_log(it);
         status = warm_pin(handle, (warm_page){.no = change.no}, &slot);
     }
@@ -244,19 +300,18 @@ static void change_page(engine *it, warm *handle, record change) {
 
 /* Changes pages until it is killed; by itself, where the parent was killed first. */
 static void change_pages(int fd, int log, uint64_t version, unsigned seed) {
-    const warm_device device = {.pages = PAGES, .fd = fd};
     engine it = {.log = log, .synced = version, .is_eager = seed % 2 == 0};
+    const warm_device device = device_with(fd, &after_the_log, &it);
     warm handle = {0};
     alarm(MOST_SECONDS);
     srand(seed);
-    OK(warm_before_write(fd, after_log, &it));
-    OK(warm_open(&handle, 1, 1, 4, PAGE_SIZE, &device, 1));
+    OK(open_with(&handle, 1, 1, 4, PAGE_SIZE, &device, 1));
     for (;;) {
         record change = {.version = ++version, .no = (uint64_t)rand() % PAGES};
         change_page(&it, &handle, change);
         if (rand() % 50 > 0) continue;
         sync_log(&it);
-        OK(warm_write_back(&handle));
+        OK(warm_write_back_all(&handle));
     }
 }
 
@@ -303,8 +358,8 @@ static void killed(void) {
 
 int main(void) {
     never_lets_go();
-    two_descriptors();
-    reused_number();
+    one_held_back();
+    two_devices();
     asked_for_dump();
     other_handle();
     killed();

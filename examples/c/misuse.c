@@ -28,7 +28,7 @@ static off_t place_of(uint64_t n) { return (off_t)(number_of(n) * PAGE_SIZE); }
 
 static void open_over(warm *handle, int fd, size_t frames) {
     warm_device device = {.pages = DEVICE_PAGES, .fd = fd};
-    OK(warm_open(handle, 1, shards, frames * shards, PAGE_SIZE, &device, 1));
+    OK(open_with(handle, 1, shards, frames * shards, PAGE_SIZE, &device, 1));
 }
 
 /* Page 1 gets a byte at its start. */
@@ -53,6 +53,8 @@ static void closed_handle(void) {
     warm_slot slot = {0};
     warm_page page = {0};
     warm_reference reference = {.time = 1, .replica = 1};
+    warm_sending sending = {.bucket = 1};
+    warm_options options = {.size = sizeof options};
     uint8_t byte = 0;
     const uint8_t *lent = &byte;
     bool found;
@@ -63,57 +65,87 @@ static void closed_handle(void) {
     EXPECT(WARM_CLOSED, warm_unpin(&handle, slot));
     EXPECT(WARM_CLOSED, warm_read(&handle, slot, 0, &byte, 1));
     EXPECT(WARM_CLOSED, warm_write(&handle, slot, 0, &byte, 1));
-    EXPECT(WARM_CLOSED, warm_pin_lend(&handle, page, &slot, &lent));
-    EXPECT(WARM_CLOSED, warm_thread(&handle, &attached));
-    EXPECT(WARM_CLOSED, warm_thread(&handle, &handle));
+    EXPECT(WARM_CLOSED, warm_pin_bytes(&handle, page, &slot, &lent));
+    EXPECT(WARM_CLOSED, warm_attach(&handle, &attached));
+    EXPECT(WARM_CLOSED, warm_attach(&handle, &handle));
     MUST(attached.at == NULL && lent == &byte);
-    EXPECT(WARM_CLOSED, warm_victim(&handle, 0, &found, &page));
+    EXPECT(WARM_CLOSED, warm_mark_dirty(&handle, slot));
+    EXPECT(WARM_CLOSED, warm_settings(&handle, &options));
+    EXPECT(WARM_CLOSED, warm_victims(&handle, 0, &page, 1, &length));
     EXPECT(WARM_CLOSED, warm_list(&handle, &page, 1, &length));
     EXPECT(WARM_CLOSED, warm_step(&handle, &found, &page));
     EXPECT(WARM_CLOSED, warm_offer(&handle, &byte, 1, &length));
-    EXPECT(WARM_CLOSED, warm_send(&handle, 0, false, page, &byte, 1, &length));
+    EXPECT(WARM_CLOSED, warm_send(&handle, &sending, &byte, 1, &length));
     EXPECT(WARM_CLOSED, warm_limit(&handle, 1));
+    EXPECT(WARM_CLOSED, warm_limit_history(&handle, 1, 1));
     EXPECT(WARM_CLOSED, warm_receive(&handle, &byte, 1));
     EXPECT(WARM_CLOSED, warm_next_answer(&handle, &byte, 1, &length));
-    EXPECT(WARM_CLOSED, warm_horizon(&handle, 1, &horizon));
-    EXPECT(WARM_CLOSED, warm_write_back(&handle));
+    EXPECT(WARM_CLOSED, warm_raise(&handle, 1, &horizon));
+    EXPECT(WARM_CLOSED, warm_write_back_all(&handle));
     EXPECT(WARM_CLOSED, warm_history_length(&handle, &length));
     EXPECT(WARM_CLOSED, warm_save(&handle, STDOUT_FILENO));
     EXPECT(WARM_CLOSED, warm_load(&handle, STDIN_FILENO, 1));
     OK(warm_close(&handle));
-    OK(warm_close(&handle));
+    OK(warm_abandon(&handle));
+}
+
+/* A handle with a dirty page is closed when nothing would be lost. */
+static void closing(warm *handle) {
+    warm_slot slot;
+    EXPECT(WARM_DIRTY, warm_close(handle));
+    OK(warm_write_back_all(handle));
+    OK(warm_pin(handle, page_of(1), &slot));
+    EXPECT(WARM_PINS_LEFT, warm_close(handle));
+    OK(warm_mark_dirty(handle, slot));
+    OK(warm_unpin(handle, slot));
+    EXPECT(WARM_DIRTY, warm_close(handle));
+    MUST(read_one(handle) == 'a'); /* it stayed open */
+    OK(warm_write_back_all(handle));
+    OK(warm_close(handle));
+    MUST(handle->at == NULL);
 }
 
 static void opening(void) {
     int fd = temporary();
     warm_device device = {.pages = DEVICE_PAGES, .fd = fd}, too_large = {.pages = UINT64_MAX / PAGE_SIZE, .fd = fd};
+    warm_options options = {.size = sizeof options, .replica = 1, .shards = shards, .frames = shards, .devices = &device, .device_count = 1, .flags = 1};
     warm handle = {0};
-    EXPECT(WARM_BAD_SHARDS, warm_open(&handle, 1, 0, 64, PAGE_SIZE, &device, 1));
-    EXPECT(WARM_BAD_SHARDS, warm_open(&handle, 1, 3, 3, PAGE_SIZE, &device, 1));
-    EXPECT(WARM_BAD_SHARDS, warm_open(&handle, 1, 63, 63, PAGE_SIZE, &device, 1));
-    EXPECT(WARM_BAD_SHARDS, warm_open(&handle, 1, 128, 128, PAGE_SIZE, &device, 1));
-    EXPECT(WARM_BAD_SHARDS, warm_open(&handle, 0, SIZE_MAX, 1, 0, &device, 1)); /* which is checked first */
-    EXPECT(WARM_UNEVEN_FRAMES, warm_open(&handle, 0, 2, 3, 0, &device, 1));
-    EXPECT(WARM_UNEVEN_FRAMES, warm_open(&handle, 1, 64, 63, PAGE_SIZE, &device, 1));
-    EXPECT(WARM_BAD_REPLICA, warm_open(&handle, 0, shards, shards, PAGE_SIZE, &device, 1));
-    EXPECT(WARM_BAD_REPLICA, warm_open(&handle, 65, shards, shards, PAGE_SIZE, &device, 1));
-    EXPECT(WARM_BAD_FRAMES, warm_open(&handle, 1, shards, 0, PAGE_SIZE, &device, 1));
-    EXPECT(WARM_BAD_FRAMES, warm_open(&handle, 1, shards, 65537 * shards, PAGE_SIZE, &device, 1));
-    EXPECT(WARM_SIZE_DIFFERS, warm_open(&handle, 1, shards, shards, 0, &device, 1));
-    EXPECT(WARM_SIZE_DIFFERS, warm_open(&handle, 1, shards, shards, 65537, &device, 1));
-    EXPECT(WARM_NO_DEVICE, warm_open(&handle, 1, shards, shards, PAGE_SIZE, &too_large, 1));
+    EXPECT(WARM_BAD_OPTIONS, warm_open(&handle, &options));
+    options.flags = 0;
+    options.size = 0;
+    EXPECT(WARM_BAD_OPTIONS, warm_open(&handle, &options));
+    EXPECT(WARM_BAD_SHARDS, open_with(&handle, 1, 3, 3, PAGE_SIZE, &device, 1));
+    EXPECT(WARM_BAD_SHARDS, open_with(&handle, 1, 63, 63, PAGE_SIZE, &device, 1));
+    EXPECT(WARM_BAD_SHARDS, open_with(&handle, 1, 128, 128, PAGE_SIZE, &device, 1));
+    EXPECT(WARM_BAD_SHARDS, open_with(&handle, 0, SIZE_MAX, 1, 65537, &device, 1)); /* which is checked first */
+    EXPECT(WARM_UNEVEN_FRAMES, open_with(&handle, 0, 2, 3, 65537, &device, 1));
+    EXPECT(WARM_UNEVEN_FRAMES, open_with(&handle, 1, 64, 63, PAGE_SIZE, &device, 1));
+    EXPECT(WARM_BAD_REPLICA, open_with(&handle, 0, shards, shards, PAGE_SIZE, &device, 1));
+    EXPECT(WARM_BAD_REPLICA, open_with(&handle, 65, shards, 65537 * shards, PAGE_SIZE, &device, 1));
+    EXPECT(WARM_BAD_FRAMES, open_with(&handle, 1, shards, 65537 * shards, 65537, &device, 1));
+    EXPECT(WARM_BAD_PAGE_SIZE, open_with(&handle, 1, shards, shards, 65537, &too_large, 1));
+    EXPECT(WARM_BAD_DEVICE, open_with(&handle, 1, shards, shards, PAGE_SIZE, &too_large, 1));
+    EXPECT(WARM_BAD_DEVICE, open_with(&handle, 1, shards, shards, PAGE_SIZE, &device, WARM_MAX_DEVICES + 1));
     MUST(handle.at == NULL);
-    OK(warm_open(&handle, 1, shards, 2 * shards, PAGE_SIZE, &device, 1));
+    OK(open_with(&handle, 1, shards, 2 * shards, PAGE_SIZE, &device, 1));
     write_one(&handle, 'a');
-    EXPECT(WARM_ALREADY_OPEN, warm_open(&handle, 1, shards, 2 * shards, PAGE_SIZE, &device, 1));
+    EXPECT(WARM_ALREADY_OPEN, open_with(&handle, 1, shards, 2 * shards, PAGE_SIZE, &device, 1));
     MUST(read_one(&handle) == 'a'); /* the second open took nothing from the first */
-    warm_close(&handle);
-    MUST(handle.at == NULL);
-    OK(warm_open(&handle, 1, shards, shards, PAGE_SIZE, &device, 0)); /* a node without a device: a history alone */
+    EXPECT(WARM_BAD_OPTIONS, warm_settings(&handle, &options));
+    options.size = sizeof options;
+    OK(warm_settings(&handle, &options));
+    MUST(options.replica == 1 && options.shards == shards && options.frames == 2 * shards && options.page_size == PAGE_SIZE);
+    MUST(options.device_count == 1 && options.devices == NULL && options.flags == 0);
+    closing(&handle);
+    OK(open_with(&handle, 1, shards, 0, 0, &device, 1)); /* the defaults */
+    OK(warm_settings(&handle, &options));
+    MUST(options.frames == 1024 && options.page_size == 4096);
+    OK(warm_close(&handle));
+    OK(open_with(&handle, 1, shards, shards, PAGE_SIZE, NULL, 0)); /* without a device: a history alone */
     warm_slot slot;
     EXPECT(WARM_NO_DEVICE, warm_pin(&handle, (warm_page){0}, &slot));
-    OK(warm_write_back(&handle));
-    warm_close(&handle);
+    OK(warm_write_back_all(&handle));
+    OK(warm_close(&handle));
     close(fd);
 }
 
@@ -128,7 +160,7 @@ static uint8_t found_by(int call(warm *, bool *, warm_page *), warm *handle, war
     return byte;
 }
 
-static int victim_of_last(warm *handle, bool *found, warm_page *page) { return warm_victim(handle, shards - 1, found, page); }
+static int victim_of_last(warm *handle, bool *found, warm_page *page) { return next_victim(handle, shards - 1, found, page); }
 
 static void found_pages(void) {
     const warm_reference seen[] = {{.time = 20, .no = number_of(5), .replica = 1}, {.time = 10, .no = number_of(3), .replica = 1}};
@@ -149,25 +181,55 @@ static void found_pages(void) {
     OK(warm_pin(&handle, page_of(5), &slot));
     MUST(found_by(victim_of_last, &handle, &page) == 0); /* all are pinned */
     bool found = true;
-    EXPECT(WARM_NO_SHARD, warm_victim(&handle, shards, &found, &page));
-    EXPECT(WARM_NO_SHARD, warm_victim(&handle, SIZE_MAX, &found, &page));
+    EXPECT(WARM_NO_SHARD, next_victim(&handle, shards, &found, &page));
+    EXPECT(WARM_NO_SHARD, next_victim(&handle, SIZE_MAX, &found, &page));
     MUST(found);
-    warm_close(&handle);
+    OK(warm_abandon(&handle));
+    close(fd);
+}
+
+/* More pages that may leave than a call says: it says 64, each once, and all are there. */
+static void many_victims(void) {
+    enum { MANY = 100, SAID = 64 };
+    int fd = temporary();
+    const warm_device device = {.pages = MANY, .fd = fd};
+    warm_page said[MANY];
+    bool is_said[MANY] = {false}, resident;
+    warm handle = {0};
+    warm_slot slot;
+    size_t count;
+    OK(open_with(&handle, 1, 1, MANY, PAGE_SIZE, &device, 1));
+    for (uint64_t no = 0; no < MANY; no++) {
+        OK(warm_pin(&handle, (warm_page){.no = no}, &slot));
+        OK(warm_unpin(&handle, slot));
+    }
+    OK(warm_victims(&handle, 0, said, MANY, &count));
+    MUST(count == SAID);
+    for (size_t at = 0; at < count; at++) {
+        OK(warm_resident(&handle, said[at], &resident));
+        MUST(resident && !is_said[said[at].no]);
+        is_said[said[at].no] = true;
+    }
+    OK(warm_pin(&handle, said[0], &slot));
+    OK(warm_victims(&handle, 0, &said[MANY - 1], 1, &count));
+    MUST(count == 1 && said[MANY - 1].no == said[1].no);
+    OK(warm_unpin(&handle, slot));
+    OK(warm_close(&handle));
     close(fd);
 }
 
 /* A slot of a handle that was closed since is stale to it once it is open again, until its frame has taken as many pages as it had then: then it is
  * the slot of the page that is there. Slots that no call wrote are stale. */
 static void slots_of_before(void) {
-    const uint32_t last = (uint32_t)shards - 1, none = (uint32_t)shards;
-    const warm_slot made_up[] = {{0, 0, last}, {1, 0, last}, {UINT64_MAX, 0, last}, {1, 2, last}, {1, UINT32_MAX, last}, {1, 0, none}, {1, 0, UINT32_MAX}};
+    const uint16_t last = (uint16_t)(shards - 1), none = (uint16_t)shards;
+    const warm_slot made_up[] = {{0, 0, last, 0}, {1, 0, last, 1}, {UINT64_MAX, 0, last, 0}, {1, 2, last, 0}, {1, UINT32_MAX, last, 1}, {1, 0, none, 0}, {1, 0, UINT16_MAX, 9}};
     int fd = temporary();
     warm handle = {0};
     warm_slot slot;
     uint8_t byte = 0;
     open_over(&handle, fd, 2);
     OK(warm_pin(&handle, page_of(1), &slot));
-    warm_close(&handle);
+    OK(warm_abandon(&handle));
     EXPECT(WARM_CLOSED, warm_read(&handle, slot, 0, &byte, 1));
     open_over(&handle, fd, 2);
     EXPECT(WARM_STALE_SLOT, warm_read(&handle, slot, 0, &byte, 1));
@@ -187,13 +249,13 @@ static void slots_of_before(void) {
     MUST(byte == written); /* of page 2, and the slot was given for page 1 */
     OK(warm_unpin(&handle, slot));
     EXPECT(WARM_STALE_SLOT, warm_unpin(&handle, again));
-    warm_close(&handle);
+    OK(warm_abandon(&handle));
     close(fd);
 }
 
 /* A slot that was given for its own shard means nothing in any other. */
 static void other_shards(warm *handle, warm_slot slot) {
-    const uint32_t own = slot.shard, others[] = {own + 1, own - 1, 0, (uint32_t)shards, UINT32_MAX};
+    const uint16_t own = slot.shard, others[] = {(uint16_t)(own + 1), (uint16_t)(own - 1), 0, (uint16_t)shards, UINT16_MAX};
     const uint8_t *lent = NULL;
     uint8_t byte = 'u', *lent_mut = NULL;
     for (size_t at = 0; at < sizeof others / sizeof *others; at++) {
@@ -201,8 +263,8 @@ static void other_shards(warm *handle, warm_slot slot) {
         if (slot.shard == own) continue;
         EXPECT(WARM_STALE_SLOT, warm_read(handle, slot, 0, &byte, 1));
         EXPECT(WARM_STALE_SLOT, warm_write(handle, slot, 0, &byte, 1));
-        EXPECT(WARM_STALE_SLOT, warm_lend(handle, slot, &lent));
-        EXPECT(WARM_STALE_SLOT, warm_lend_mut(handle, slot, &lent_mut));
+        EXPECT(WARM_STALE_SLOT, warm_bytes(handle, slot, &lent));
+        EXPECT(WARM_STALE_SLOT, warm_bytes_mut(handle, slot, &lent_mut));
         EXPECT(WARM_STALE_SLOT, warm_unpin(handle, slot));
     }
     MUST(byte == 'u' && lent == NULL && lent_mut == NULL);
@@ -219,7 +281,7 @@ static void slots(void) {
     OK(warm_pin(&handle, page_of(1), &slot));
     MUST(slot.shard == shards - 1 && slot.index == 0);
     other_shards(&handle, slot);
-    EXPECT(WARM_ALL_FIXED, warm_pin(&handle, page_of(2), &other));
+    EXPECT(WARM_ALL_PINNED, warm_pin(&handle, page_of(2), &other));
     EXPECT(WARM_OUT_OF_PAGE, warm_read(&handle, slot, 0, bytes, PAGE_SIZE + 1));
     EXPECT(WARM_OUT_OF_PAGE, warm_read(&handle, slot, PAGE_SIZE + 1, bytes, 0));
     EXPECT(WARM_OUT_OF_PAGE, warm_write(&handle, slot, PAGE_SIZE, bytes, 1));
@@ -233,7 +295,7 @@ static void slots(void) {
     EXPECT(WARM_STALE_SLOT, warm_write(&handle, slot, 0, bytes, 1));
     EXPECT(WARM_STALE_SLOT, warm_write(&handle, (warm_slot){.index = 1, .generation = 1, .shard = slot.shard}, 0, bytes, 1)); /* no such frame */
     OK(warm_unpin(&handle, other));
-    warm_close(&handle);
+    OK(warm_abandon(&handle));
     close(fd);
 }
 
@@ -243,7 +305,7 @@ static void answers(warm *handle) {
     warm_device none = {0};
     uint8_t frame[4096];
     size_t length, count;
-    OK(warm_open(&other, 2, shards, shards, PAGE_SIZE, &none, 0));
+    OK(open_with(&other, 2, shards, shards, PAGE_SIZE, &none, 0));
     OK(warm_offer(&other, frame, sizeof frame, &length));
     OK(warm_receive(handle, frame, length));
     EXPECT(WARM_BUFFER_TOO_SMALL, warm_next_answer(handle, frame, 0, &length));
@@ -256,38 +318,16 @@ static void answers(warm *handle) {
     MUST(count == 1);
     OK(warm_next_answer(&other, frame, 0, &length)); /* no answer needs no room */
     MUST(length == 0);
-    warm_close(&other);
+    OK(warm_abandon(&other));
 }
 
-/* A name is cut to its room, and its whole length is written. */
-static void names(void) {
-    uint8_t name[16];
-    size_t length = 0;
-    memset(name, 'x', sizeof name);
-    OK(warm_status_name(WARM_CLOSED, name, 0, &length));
-    MUST(length == 6 && name[0] == 'x');
-    OK(warm_status_name(WARM_CLOSED, name, 3, &length));
-    MUST(length == 6 && memcmp(name, "Clox", 4) == 0);
-    OK(warm_status_name(WARM_CLOSED, name, sizeof name, &length));
-    MUST(length == 6 && memcmp(name, "Closed", 7) == 0);
-    OK(warm_status_name(WARM_DIGESTS_DIFFER, name, sizeof name, &length));
-    MUST(length == 13 && memcmp(name, "DigestsDiffer", 14) == 0);
-    OK(warm_status_name(WARM_BAD_SHARDS, name, sizeof name, &length));
-    MUST(length == 9 && memcmp(name, "BadShards", 10) == 0);
-    OK(warm_status_name(WARM_UNEVEN_FRAMES, name, sizeof name, &length));
-    MUST(length == 12 && memcmp(name, "UnevenFrames", 13) == 0);
-    OK(warm_status_name(WARM_ATTACHED, name, sizeof name, &length));
-    MUST(length == 8 && memcmp(name, "Attached", 9) == 0);
-    OK(warm_status_name(WARM_PINS_LEFT, name, sizeof name, &length));
-    MUST(length == 8 && memcmp(name, "PinsLeft", 9) == 0);
-    OK(warm_status_name(WARM_NO_SHARD, name, sizeof name, &length));
-    MUST(length == 7 && memcmp(name, "NoShard", 8) == 0);
-    OK(warm_status_name(WARM_DUMP_NOT_WRITTEN + 1, name, sizeof name, &length));
-    MUST(length == 7 && memcmp(name, "Unknown", 8) == 0);
-    OK(warm_status_name(WARM_BAD_ORDER + 1, name, sizeof name, &length)); /* no status, though a decoder of a stream has such a fault */
-    MUST(length == 7 && memcmp(name, "Unknown", 8) == 0);
-    OK(warm_status_name(-1, name, sizeof name, &length));
-    MUST(length == 7 && memcmp(name, "Unknown", 8) == 0);
+/* A status begins with its constant. Other numbers are said to be none. */
+static void worded(void) {
+    MUST(strcmp(warm_strerror(WARM_CLOSED), "WARM_CLOSED: the handle is closed") == 0);
+    MUST(strncmp(warm_strerror(WARM_DIGESTS_DIFFER), "WARM_DIGESTS_DIFFER: ", 21) == 0);
+    MUST(strcmp(warm_strerror(WARM_SKIPPED + 1), "there is no such status") == 0);
+    MUST(warm_strerror(WARM_BAD_ORDER + 1) == warm_strerror(-1)); /* no status, though a decoder of a stream has such a fault */
+    MUST(strcmp(warm_version(), WARM_VERSION) == 0);
 }
 
 static void buffers(void) {
@@ -312,17 +352,17 @@ static void buffers(void) {
     EXPECT(WARM_BUFFER_TOO_SMALL, warm_offer(&handle, frame, length - 1, &length));
     OK(warm_offer(&handle, frame, sizeof frame, &length));
     MUST(memcmp(frame + 19 + 7 * 32, "\x57\x8d\x81\xdb\xdf\x5f\xd3\xe0", 8) == 0); /* the digest of bucket 7 begins so, docs/FORMATS.md says */
-    EXPECT(WARM_BAD_BUCKET, warm_send(&handle, 64, false, page, frame, sizeof frame, &length));
-    EXPECT(WARM_BAD_BUCKET, warm_send(&handle, 255, true, page, frame, 0, &length));
-    EXPECT(WARM_BUFFER_TOO_SMALL, warm_send(&handle, 7, false, page, frame, 0, &length));
+    EXPECT(WARM_BAD_BUCKET, send_behind(&handle, 64, false, page, frame, sizeof frame, &length));
+    EXPECT(WARM_BAD_BUCKET, send_behind(&handle, 255, true, page, frame, 0, &length));
+    EXPECT(WARM_BUFFER_TOO_SMALL, send_behind(&handle, 7, false, page, frame, 0, &length));
     MUST(length == 54);
-    EXPECT(WARM_BUFFER_TOO_SMALL, warm_send(&handle, 7, false, page, frame, 53, &length));
+    EXPECT(WARM_BUFFER_TOO_SMALL, send_behind(&handle, 7, false, page, frame, 53, &length));
     MUST(length == 54);
     answers(&handle);
-    OK(warm_horizon(&handle, 15, &horizon));
-    OK(warm_horizon(&handle, 3, &horizon));
+    OK(warm_raise(&handle, 15, &horizon));
+    OK(warm_raise(&handle, 3, &horizon));
     MUST(horizon == 15); /* a horizon does not fall */
-    warm_close(&handle);
+    OK(warm_abandon(&handle));
     close(fd);
 }
 
@@ -346,7 +386,7 @@ static void damaged_frames(void) {
     size_t count;
     warm_device none = {0};
     warm handle = {0};
-    OK(warm_open(&handle, 2, shards, shards, PAGE_SIZE, &none, 0));
+    OK(open_with(&handle, 2, shards, shards, PAGE_SIZE, &none, 0));
     EXPECT(WARM_TRUNCATED, warm_receive(&handle, good, 0));
     EXPECT(WARM_TRUNCATED, warm_receive(&handle, good, sizeof good - 1));
     for (size_t at = 0; at < sizeof cases / sizeof *cases; at++) {
@@ -360,7 +400,7 @@ static void damaged_frames(void) {
     OK(warm_receive(&handle, narrow, sizeof narrow));
     OK(warm_history_length(&handle, &count));
     MUST(count == 2);
-    warm_close(&handle);
+    OK(warm_abandon(&handle));
 }
 
 static size_t pages_of(warm *handle) {
@@ -371,7 +411,7 @@ static size_t pages_of(warm *handle) {
 
 static void open_alone(warm *handle, uint16_t replica) {
     warm_device none = {0};
-    OK(warm_open(handle, replica, shards, shards, PAGE_SIZE, &none, 0));
+    OK(open_with(handle, replica, shards, shards, PAGE_SIZE, &none, 0));
 }
 
 /* A frame of one entry with two stamps has 54 bytes, one of digests 2,067: docs/FORMATS.md says so. */
@@ -387,7 +427,7 @@ static int dump_of_one(void) {
     OK(warm_absorb(&handle, seen, 2));
     OK(warm_save(&handle, fd));
     MUST(fstat(fd, &file) == 0 && file.st_size == DUMP_SIZE);
-    warm_close(&handle);
+    OK(warm_abandon(&handle));
     return fd;
 }
 
@@ -415,7 +455,7 @@ static void damaged_dumps(void) {
     }
     OK(warm_load(&handle, fd, DUMP_SIZE));
     MUST(pages_of(&handle) == 2);
-    warm_close(&handle);
+    OK(warm_abandon(&handle));
     close(fd);
 }
 
@@ -439,7 +479,7 @@ static void wrong_lengths(void) {
     MUST(ftruncate(fd, 0) == 0);
     EXPECT(WARM_CUT_SHORT, warm_load(&handle, fd, 0));
     EXPECT(WARM_BAD_MAGIC, warm_load(&handle, fd, 1 << 20));
-    warm_close(&handle);
+    OK(warm_abandon(&handle));
     close(fd);
 }
 
@@ -456,26 +496,57 @@ static void joined_dumps(void) {
     OK(warm_absorb(&handle, &own, 1));
     OK(warm_offer(&other, frame, sizeof frame, &length));
     OK(warm_receive(&handle, frame, length));
-    OK(warm_horizon(&handle, 15, &horizon));
+    OK(warm_raise(&handle, 15, &horizon));
     OK(warm_load(&handle, fd, DUMP_SIZE));
-    OK(warm_horizon(&handle, 0, &horizon));
+    OK(warm_raise(&handle, 0, &horizon));
     MUST(horizon == 15 && pages_of(&handle) == 2);
     OK(warm_next_answer(&handle, frame, sizeof frame, &length));
     MUST(length == 44); /* page 0:8 with one stamp, as it was before the load */
-    OK(warm_send(&handle, 7, false, (warm_page){0}, frame, sizeof frame, &length));
+    OK(send_behind(&handle, 7, false, (warm_page){0}, frame, sizeof frame, &length));
     MUST(length == 44 && frame[33] == 1 && frame[41] == 20); /* of page 0:7 only 20@1 is left */
     OK(warm_load(&handle, fd, DUMP_SIZE));
-    OK(warm_send(&handle, 7, false, (warm_page){0}, again, sizeof again, &length));
+    OK(send_behind(&handle, 7, false, (warm_page){0}, again, sizeof again, &length));
     MUST(length == 44 && memcmp(frame, again, 44) == 0 && pages_of(&handle) == 2);
-    warm_close(&handle);
-    warm_close(&other);
+    OK(warm_abandon(&handle));
+    OK(warm_abandon(&other));
     close(fd);
 }
 
 static void knows(warm *handle, size_t pages, uint64_t horizon) {
     uint64_t kept;
-    OK(warm_horizon(handle, 0, &kept)); /* the horizon is not raised by this */
+    OK(warm_raise(handle, 0, &kept)); /* the horizon is not raised by this */
     MUST(pages_of(handle) == pages && kept == horizon);
+}
+
+/* Frames of more pages than there may be, or of a horizon that is too late, change nothing; in both formats. */
+static void limited_frames(void) {
+    uint8_t frame[4096];
+    uint64_t horizon;
+    size_t length;
+    warm handle = {0}, other = {0};
+    open_alone(&handle, 2);
+    open_alone(&other, 3);
+    OK(warm_limit_history(&handle, 11, SIZE_MAX));
+    EXPECT(WARM_LATE_HORIZON, warm_receive(&handle, good, sizeof good)); /* its horizon is 12 */
+    OK(warm_raise(&other, 12, &horizon));
+    OK(warm_offer(&other, frame, sizeof frame, &length));
+    EXPECT(WARM_LATE_HORIZON, warm_receive(&handle, frame, length));
+    OK(warm_limit_history(&handle, 12, 0));
+    EXPECT(WARM_TOO_MANY_PAGES, warm_receive(&handle, good, sizeof good));
+    EXPECT(WARM_TOO_MANY_PAGES, warm_receive(&handle, narrow, sizeof narrow));
+    EXPECT(WARM_TRUNCATED, warm_receive(&handle, good, sizeof good - 1));
+    knows(&handle, 0, 0);
+    OK(warm_receive(&handle, frame, length)); /* it has no entries */
+    OK(warm_limit_history(&handle, 12, 1));
+    OK(warm_receive(&handle, good, sizeof good));
+    EXPECT(WARM_TOO_MANY_PAGES, warm_receive(&handle, good, sizeof good)); /* though its page is known */
+    EXPECT(WARM_TOO_MANY_PAGES, warm_receive(&handle, narrow, sizeof narrow));
+    knows(&handle, 1, 12);
+    OK(warm_limit_history(&handle, 12, 2));
+    OK(warm_receive(&handle, narrow, sizeof narrow));
+    knows(&handle, 2, 12);
+    OK(warm_close(&handle));
+    OK(warm_close(&other));
 }
 
 /* Frames that speak of times later than the limit of a handle change nothing, and those of the limit itself are taken. */
@@ -498,7 +569,7 @@ static void late_frames(void) {
     knows(&handle, 0, 0);
     OK(warm_offer(&other, frame, sizeof frame, &length)); /* a frame of digests has a horizon alone */
     OK(warm_receive(&handle, frame, length));
-    OK(warm_horizon(&other, 20, &horizon));
+    OK(warm_raise(&other, 20, &horizon));
     OK(warm_offer(&other, frame, sizeof frame, &length));
     EXPECT(WARM_LATE_HORIZON, warm_receive(&handle, frame, length));
     knows(&handle, 0, 0);
@@ -510,7 +581,7 @@ static void late_frames(void) {
     OK(warm_receive(&handle, narrow, sizeof narrow));
     knows(&handle, 2, 12);
     OK(warm_limit(&handle, 0));
-    warm_close(&handle);
+    OK(warm_abandon(&handle));
     open_alone(&handle, 2);
     OK(warm_receive(&handle, good, sizeof good)); /* a handle that was just opened has no limit */
     knows(&handle, 1, 12);
@@ -518,8 +589,8 @@ static void late_frames(void) {
     memset(frame + 7, 0xff, 8);
     OK(warm_receive(&handle, frame, sizeof good));
     knows(&handle, 0, UINT64_MAX); /* the greatest horizon empties it */
-    warm_close(&handle);
-    warm_close(&other);
+    OK(warm_abandon(&handle));
+    OK(warm_abandon(&other));
     close(fd);
 }
 
@@ -552,7 +623,7 @@ static void dumps_of_wrong_descriptors(void) {
     close(reader);
     close(ends[0]);
     close(ends[1]);
-    warm_close(&handle);
+    OK(warm_abandon(&handle));
     close(fd);
 }
 
@@ -576,11 +647,11 @@ static void dumps_without_room(const char *folder) {
         open_alone(&other, 2);
         EXPECT(WARM_CUT_SHORT, warm_load(&other, fd, (uint64_t)file.st_size));
         MUST(pages_of(&other) == 0);
-        warm_close(&other);
+        OK(warm_abandon(&other));
         close(fd);
     }
     MUST(pages_of(&handle) == MANY);
-    warm_close(&handle);
+    OK(warm_abandon(&handle));
 }
 
 /* Descriptors that were never good: none, of a pipe, for reading alone. */
@@ -591,24 +662,46 @@ static void wrong_descriptors(void) {
     warm_slot slot;
     open_over(&handle, -1, 1);
     EXPECT(WARM_READ_FAULT, warm_pin(&handle, page_of(1), &slot));
-    warm_close(&handle);
+    OK(warm_abandon(&handle));
     MUST(pipe(ends) == 0);
     open_over(&handle, ends[0], 1);
     EXPECT(WARM_READ_FAULT, warm_pin(&handle, page_of(1), &slot));
-    warm_close(&handle);
+    OK(warm_abandon(&handle));
     snprintf(link, sizeof link, "/proc/self/fd/%d", fd);
     int reader = open(link, O_RDONLY);
     MUST(reader >= 0);
     open_over(&handle, reader, 1);
     write_one(&handle, 'r');
-    EXPECT(WARM_FAULT, warm_write_back(&handle));
-    EXPECT(WARM_WRITE_BACK, warm_pin(&handle, page_of(2), &slot));
+    EXPECT(WARM_WRITE_FAULT, warm_write_back_all(&handle));
+    EXPECT(WARM_EVICT_FAULT, warm_pin(&handle, page_of(2), &slot));
     MUST(read_one(&handle) == 'r');
-    warm_close(&handle);
+    OK(warm_abandon(&handle));
     close(reader);
     close(ends[0]);
     close(ends[1]);
     close(fd);
+}
+
+/* Descriptors by which each write would go to the end of the file: no replica has one. */
+static void appending(void) {
+    int fd = temporary(), other = temporary();
+    const warm_device device = {.pages = DEVICE_PAGES, .fd = fd}, next = {.pages = DEVICE_PAGES, .fd = other};
+    warm handle = {0};
+    MUST(fcntl(fd, F_SETFL, O_APPEND) == 0 && fcntl(other, F_SETFL, O_APPEND) == 0);
+    EXPECT(WARM_BAD_PAGE_SIZE, open_with(&handle, 1, shards, shards, 65537, &device, 1));
+    EXPECT(WARM_APPENDS, open_with(&handle, 1, shards, shards, PAGE_SIZE, &device, 1));
+    MUST(handle.at == NULL && fcntl(fd, F_SETFL, 0) == 0);
+    open_over(&handle, fd, 1);
+    write_one(&handle, 'a');
+    EXPECT(WARM_APPENDS, warm_replace(&handle, 0, &next));
+    OK(warm_write_back_all(&handle));
+    uint8_t byte = 0;
+    MUST(pread(fd, &byte, 1, place_of(1)) == 1 && byte == 'a' && lseek(other, 0, SEEK_END) == 0);
+    MUST(fcntl(other, F_SETFL, 0) == 0);
+    OK(warm_replace(&handle, 0, &next));
+    OK(warm_close(&handle));
+    close(fd);
+    close(other);
 }
 
 static void descriptor_closed(void) {
@@ -620,12 +713,12 @@ static void descriptor_closed(void) {
     write_one(&handle, 'b');
     close(fd);
     EXPECT(WARM_READ_FAULT, warm_pin(&handle, page_of(2), &slot));
-    EXPECT(WARM_FAULT, warm_write_back(&handle));
+    EXPECT(WARM_WRITE_FAULT, warm_write_back_all(&handle));
     MUST(read_one(&handle) == 'b'); /* it is still in its frame */
     MUST(dup2(kept, fd) == fd);     /* the same file under the same number */
-    OK(warm_write_back(&handle));
+    OK(warm_write_back_all(&handle));
     MUST(pread(kept, &byte, 1, place_of(1)) == 1 && byte == 'b');
-    warm_close(&handle);
+    OK(warm_abandon(&handle));
     close(fd);
     close(kept);
 }
@@ -641,10 +734,10 @@ static void always_full(void) {
     warm_slot slot;
     open_over(&handle, fd, 1);
     write_one(&handle, 'c');
-    EXPECT(WARM_WRITE_BACK, warm_pin(&handle, page_of(2), &slot)); /* page 1 would leave, and cannot be written */
-    EXPECT(WARM_FAULT, warm_write_back(&handle));
+    EXPECT(WARM_EVICT_FAULT, warm_pin(&handle, page_of(2), &slot)); /* page 1 would leave, and cannot be written */
+    EXPECT(WARM_WRITE_FAULT, warm_write_back_all(&handle));
     MUST(read_one(&handle) == 'c');
-    warm_close(&handle);
+    OK(warm_abandon(&handle));
     close(fd);
 }
 
@@ -661,14 +754,14 @@ static void full_for_a_time(void) {
     MUST(getrlimit(RLIMIT_FSIZE, &old) == 0);
     none = (struct rlimit){(rlim_t)place_of(1), old.rlim_max};
     MUST(setrlimit(RLIMIT_FSIZE, &none) == 0);
-    int pinned = warm_pin(&handle, page_of(2), &slot), written = warm_write_back(&handle);
+    int pinned = warm_pin(&handle, page_of(2), &slot), written = warm_write_back_all(&handle);
     MUST(setrlimit(RLIMIT_FSIZE, &old) == 0); /* before a word is printed: that is a file, too */
-    expect(WARM_WRITE_BACK, pinned, "warm_pin while the file may not grow");
-    expect(WARM_FAULT, written, "warm_write_back while the file may not grow");
+    expect(WARM_EVICT_FAULT, pinned, "warm_pin while the file may not grow");
+    expect(WARM_WRITE_FAULT, written, "warm_write_back_all while the file may not grow");
     MUST(read_one(&handle) == 'd');
-    OK(warm_write_back(&handle));
+    OK(warm_write_back_all(&handle));
     MUST(pread(fd, &byte, 1, place_of(1)) == 1 && byte == 'd');
-    warm_close(&handle);
+    OK(warm_abandon(&handle));
     close(fd);
 }
 
@@ -702,13 +795,13 @@ static void disk_full(const char *folder) {
     uint8_t byte = 0;
     warm_device device = {.pages = PAGES + 1, .fd = fd};
     MUST(pwrite(other, block, BLOCK, 0) == BLOCK);
-    OK(warm_open(&handle, 1, shards, PAGES * shards, BLOCK, &device, 1));
+    OK(open_with(&handle, 1, shards, PAGES * shards, BLOCK, &device, 1));
     write_all(&handle, PAGES);
-    EXPECT(WARM_FAULT, warm_write_back(&handle));
-    EXPECT(WARM_FAULT, warm_write_back(&handle));
+    EXPECT(WARM_WRITE_FAULT, warm_write_back_all(&handle));
+    EXPECT(WARM_WRITE_FAULT, warm_write_back_all(&handle));
     for (uint64_t no = 0; no < PAGES; no++) MUST(read_of(&handle, no) == 'A' + no);
     MUST(ftruncate(other, 0) == 0);
-    EXPECT(WARM_FAULT, warm_write_back(&handle)); /* four pages fit now */
+    EXPECT(WARM_WRITE_FAULT, warm_write_back_all(&handle)); /* four pages fit now */
     for (uint64_t no = 0; no < PAGES; no++) MUST(read_of(&handle, no) == 'A' + no);
     /* The file moves to a disk with room, under the same number. */
     int larger = temporary();
@@ -718,10 +811,10 @@ static void disk_full(const char *folder) {
         MUST(length >= 0 && pwrite(larger, page, (size_t)length, (off_t)(no * BLOCK)) == length);
     }
     MUST(dup2(larger, fd) == fd);
-    OK(warm_write_back(&handle));
+    OK(warm_write_back_all(&handle));
     OK(warm_pin(&handle, (warm_page){.no = PAGES}, &slot));
     for (uint64_t no = 0; no < PAGES; no++) MUST(pread(larger, &byte, 1, (off_t)(no * BLOCK + 4095)) == 1 && byte == 'A' + no);
-    warm_close(&handle);
+    OK(warm_abandon(&handle));
     close(larger);
     close(other);
     close(fd);
@@ -736,10 +829,12 @@ int main(int count, char **words) {
     slots();
     slots_of_before();
     found_pages();
+    many_victims();
     buffers();
-    names();
+    worded();
     damaged_frames();
     wrong_descriptors();
+    appending();
     descriptor_closed();
     always_full();
     full_for_a_time();
@@ -747,6 +842,7 @@ int main(int count, char **words) {
     wrong_lengths();
     joined_dumps();
     late_frames();
+    limited_frames();
     dumps_of_wrong_descriptors();
     dumps_without_room(folder);
     if (folder != NULL) disk_full(folder);

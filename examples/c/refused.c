@@ -6,6 +6,7 @@
 #define PROGRAM "refused"
 #include "expect.h"
 
+#include <errno.h>
 #include <sys/mman.h>
 
 enum { PAGE_SIZE = 512, FRAMES = 4, SEEN = 200, FRAME_ROOM = 40000, MOST_GRANTS = 100000 };
@@ -89,8 +90,8 @@ static size_t known(warm *handle) {
 static uint8_t first_byte(warm *handle, warm_page page) {
     const uint8_t *bytes;
     warm_slot slot;
-    UNREFUSED(warm_pin_lend(handle, page, &slot, &bytes));
-    UNREFUSED(warm_lend(handle, slot, &bytes));
+    UNREFUSED(warm_pin_bytes(handle, page, &slot, &bytes));
+    UNREFUSED(warm_bytes(handle, slot, &bytes));
     uint8_t byte = bytes[0];
     UNREFUSED(warm_unpin(handle, slot));
     return byte;
@@ -98,7 +99,7 @@ static uint8_t first_byte(warm *handle, warm_page page) {
 
 static void opened(warm *handle, uint16_t replica, int fd) {
     warm_device device = {.pages = 16, .fd = fd};
-    EACH_REFUSED(warm_open(handle, replica, shards, FRAMES * shards, PAGE_SIZE, &device, 1), handle->at == NULL);
+    EACH_REFUSED(open_with(handle, replica, shards, FRAMES * shards, PAGE_SIZE, &device, 1), handle->at == NULL);
 }
 
 /* Frames of whole pages of the system, whose memory is mapped. Nothing is left of a refused call, nor after the close. */
@@ -106,7 +107,7 @@ static void mapped(void) {
     for (size_t size = 4096; size <= 16384; size *= 4) {
         warm_device device = {.pages = 1000, .fd = temporary()};
         warm handle = {0};
-        EACH_REFUSED(warm_open(&handle, 1, shards, 600, size, &device, 1), handle.at == NULL && blocks == 0 && mappings == 0);
+        EACH_REFUSED(open_with(&handle, 1, shards, 600, size, &device, 1), handle.at == NULL && blocks == 0 && mappings == 0);
         MUST(mappings > 0);
         UNREFUSED(warm_close(&handle));
         MUST(blocks == 0 && mappings == 0);
@@ -116,7 +117,7 @@ static void mapped(void) {
 
 static void attached(warm *handle) {
     warm other = {0};
-    EACH_REFUSED(warm_thread(handle, &other), other.at == NULL);
+    EACH_REFUSED(warm_attach(handle, &other), other.at == NULL);
     EXPECT(WARM_ATTACHED, warm_close(handle));
     UNREFUSED(warm_close(&other));
 }
@@ -127,23 +128,73 @@ static bool knows(warm *handle, size_t before, size_t after) {
     return length == before || (shards > 1 && length > before && length <= after);
 }
 
+/* ---- devices with calls of their own ---- */
+
+static uint8_t in_memory[16][PAGE_SIZE];
+static uint64_t skipping = UINT64_MAX; /* the page that is skipped */
+
+static int read_page(void *context, uint64_t no, void *into, size_t length) {
+    (void)context;
+    memcpy(into, in_memory[no], length);
+    return 0;
+}
+
+static int write_page(void *context, uint64_t no, const void *bytes, size_t length) {
+    (void)context;
+    memcpy(in_memory[no], bytes, length);
+    return 0;
+}
+
+static int sync_pages(void *context) { return context == NULL; }
+
+static int skip_page(void *context, uint64_t no, const void *bytes, size_t length) {
+    (void)context, (void)bytes, (void)length;
+    return no == skipping ? EAGAIN : 0;
+}
+
+static const warm_device_ops calls = {.size = sizeof calls, .read = read_page, .write = write_page, .sync = sync_pages, .before_write = skip_page};
+
+/* One that is in memory: opened, written back past a page that is skipped, replaced by itself. */
+static void own_device(void) {
+    const warm_device device = {.pages = 16, .ops = &calls, .context = in_memory};
+    warm handle = {0};
+    warm_slot slot;
+    size_t left;
+    EACH_REFUSED(open_with(&handle, 1, shards, FRAMES * shards, PAGE_SIZE, &device, 1), handle.at == NULL && blocks == 0 && mappings == 0);
+    for (uint64_t no = 0; no < 2; no++) {
+        UNREFUSED(warm_pin_zeroed(&handle, (warm_page){.no = no}, &slot));
+        UNREFUSED(warm_write(&handle, slot, 0, "m", 1));
+        UNREFUSED(warm_unpin(&handle, slot));
+    }
+    skipping = 0;
+    granted = 0;
+    EXPECT(WARM_SKIPPED, warm_write_back_all(&handle));
+    EXPECT(WARM_SKIPPED, warm_write_back_some(&handle, 1, &left));
+    granted = SIZE_MAX;
+    MUST(in_memory[0][0] == 0 && in_memory[1][0] == 'm');
+    skipping = UINT64_MAX;
+    EACH_REFUSED(warm_replace(&handle, 0, &device), shards > 1 || first_byte(&handle, (warm_page){.no = 0}) == 'm');
+    MUST(in_memory[0][0] == 'm' && first_byte(&handle, (warm_page){.no = 0}) == 'm');
+    UNREFUSED(warm_close(&handle));
+    MUST(blocks == 0 && mappings == 0);
+}
+
 /* Histories: absorbed, sent, received, listed, saved and loaded. */
 static void histories(warm *from, warm *to) {
     static warm_reference seen[SEEN];
     static uint8_t frame[FRAME_ROOM];
-    warm_page pages[SEEN], last = {.no = 99, .dev = 9};
+    warm_sending sending = {.since = 5};
+    warm_page pages[SEEN], last = {0};
     size_t length = 77, count = 77;
-    bool more = true;
     for (uint64_t at = 0; at < SEEN; at++) seen[at] = (warm_reference){.time = at + 1, .no = at / 2 * 64 + at % 2, .replica = 1};
     EACH_REFUSED(warm_absorb(from, seen, SEEN), knows(from, 0, SEEN));
     MUST(known(from) == SEEN);
-    EACH_REFUSED(warm_send_since(from, 0, 5, false, last, frame, sizeof frame, &length, &more, &last),
-        length == 77 && more && last.no == 99 && last.dev == 9);
-    MUST(!more && last.no == (SEEN / 2 - 1) * 64 && last.dev == 0);
+    EACH_REFUSED(warm_send(from, &sending, frame, sizeof frame, &length), length == 77 && !sending.more && !sending.has_after);
+    MUST(!sending.more && sending.has_after && sending.after.no == (SEEN / 2 - 1) * 64 && sending.after.dev == 0);
     EACH_REFUSED(warm_receive(to, frame, length), known(to) == 0);
     MUST(known(to) == SEEN / 2 - 2); /* those at times from 5 on */
     length = 77;
-    EACH_REFUSED(warm_send(from, 1, false, last, frame, sizeof frame, &length), length == 77);
+    EACH_REFUSED(send_behind(from, 1, false, last, frame, sizeof frame, &length), length == 77);
     EACH_REFUSED(warm_receive(to, frame, length), known(to) == SEEN / 2 - 2);
     length = 77;
     EACH_REFUSED(warm_offer(from, frame, sizeof frame, &length), length == 77);
@@ -162,6 +213,9 @@ static void histories(warm *from, warm *to) {
     off_t end = lseek(dump, 0, SEEK_END);
     EACH_REFUSED(warm_load(to, dump, (uint64_t)end), knows(to, SEEN - 2, SEEN));
     MUST(known(to) == SEEN);
+    const warm_device file = {.fd = dump};
+    EACH_REFUSED(warm_save_to(from, &file), known(from) == SEEN);
+    EACH_REFUSED(warm_load_from(to, &file, (uint64_t)end), known(to) == SEEN);
     close(dump);
 }
 
@@ -195,7 +249,7 @@ static void unrefused_evictions(warm *handle) {
         UNREFUSED(warm_unpin(handle, slot));
         MUST(byte == no + 1);
     }
-    UNREFUSED(warm_write_back(handle));
+    UNREFUSED(warm_write_back_all(handle));
 }
 
 /* What allocates nothing. */
@@ -203,31 +257,36 @@ static void unrefused(warm *handle) {
     uint8_t *bytes, read;
     size_t left;
     uint64_t horizon;
-    bool found, resident, has_failed;
+    bool resident, has_failed;
     warm_page page;
+    size_t count;
+    warm_options options = {.size = sizeof options};
     warm_slot slot;
     warm_counters counters;
     warm_device_counters device_counters;
     warm_failure failure;
     UNREFUSED(warm_pin_zeroed(handle, (warm_page){.no = 3}, &slot));
-    UNREFUSED(warm_lend_mut(handle, slot, &bytes));
+    UNREFUSED(warm_bytes_mut(handle, slot, &bytes));
     bytes[PAGE_SIZE - 1] = 'z';
+    UNREFUSED(warm_mark_dirty(handle, slot));
     UNREFUSED(warm_read(handle, slot, PAGE_SIZE - 1, &read, 1));
     MUST(read == 'z');
     UNREFUSED(warm_resident(handle, (warm_page){.no = 3}, &resident));
     UNREFUSED(warm_write_back_some(handle, 1, &left));
     MUST(resident && left == 0);
-    UNREFUSED(warm_flush(handle, 0));
+    UNREFUSED(warm_flush_device(handle, 0));
     UNREFUSED(warm_unpin(handle, slot));
-    UNREFUSED(warm_victim(handle, 0, &found, &page));
-    UNREFUSED(warm_forget(handle, 0, 3));
+    UNREFUSED(warm_victims(handle, 0, &page, 1, &count));
+    UNREFUSED(warm_settings(handle, &options));
+    UNREFUSED(warm_forget_pages(handle, 0, 3));
     UNREFUSED(warm_counts(handle, &counters));
     UNREFUSED(warm_device_counts(handle, 0, &device_counters));
     UNREFUSED(warm_last_failure(handle, &has_failed, &failure));
-    MUST(found && !has_failed && counters.dirty == 0 && device_counters.failures == 0);
+    MUST(count == 1 && options.page_size == PAGE_SIZE && !has_failed && counters.dirty == 0 && device_counters.failures == 0);
     UNREFUSED(warm_limit(handle, UINT64_MAX));
-    UNREFUSED(warm_horizon(handle, 1, &horizon));
-    UNREFUSED(warm_write_back(handle));
+    UNREFUSED(warm_limit_history(handle, UINT64_MAX, SIZE_MAX));
+    UNREFUSED(warm_raise(handle, 1, &horizon));
+    UNREFUSED(warm_write_back_all(handle));
     MUST(known(handle) == SEEN);
 }
 
@@ -237,6 +296,7 @@ int main(int count, char **words) {
     int fds[] = {temporary(), temporary(), temporary()};
     warm from = {0}, to = {0};
     mapped();
+    own_device();
     opened(&from, 1, fds[0]);
     opened(&to, 2, fds[1]);
     attached(&from);

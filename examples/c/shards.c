@@ -46,8 +46,8 @@ typedef struct pair {
 
 static void open_pair(pair *its, uint16_t replica) {
     const warm_device none = {0};
-    OK(warm_open(&its->one, replica, 1, 1, 1, &none, 0));
-    OK(warm_open(&its->several, replica, shards, shards, 1, &none, 0));
+    OK(open_with(&its->one, replica, 1, 1, 1, &none, 0));
+    OK(open_with(&its->several, replica, shards, shards, 1, &none, 0));
 }
 
 static void close_pair(pair *its) {
@@ -89,24 +89,18 @@ static void same_offer(pair *its) {
 
 /* Each bucket, until no more follow. */
 static void same_sends(pair *its, uint64_t since) {
-    for (uint8_t bucket = 0; bucket < 64; bucket++) {
-        bool more[2] = {true, true}, has_after = false;
-        warm_page last[2] = {{0}, {0}}, after = {0};
-        while (more[0]) {
-            OK(warm_send_since(&its->one, bucket, since, has_after, after, frames[0], FRAME_ROOM, &lengths[0], &more[0], &last[0]));
-            OK(warm_send_since(&its->several, bucket, since, has_after, after, frames[1], FRAME_ROOM, &lengths[1], &more[1], &last[1]));
+    for (uint8_t bucket = 0; bucket < WARM_BUCKETS; bucket++) {
+        warm_sending places[2] = {{.bucket = bucket, .since = since}, {.bucket = bucket, .since = since}};
+        do {
+            OK(warm_send(&its->one, &places[0], frames[0], FRAME_ROOM, &lengths[0]));
+            OK(warm_send(&its->several, &places[1], frames[1], FRAME_ROOM, &lengths[1]));
             must_equal("what is sent since a time");
-            MUST(more[0] == more[1] && last[0].no == last[1].no && last[0].dev == last[1].dev);
-            if (since == 0) {
-                OK(warm_send(&its->several, bucket, has_after, after, frames[1], FRAME_ROOM, &lengths[1]));
-                must_equal("what is sent");
-            }
-            has_after = true;
-            after = last[0];
-        }
+            MUST(places[0].more == places[1].more && places[0].has_after == places[1].has_after);
+            MUST(places[0].after.no == places[1].after.no && places[0].after.dev == places[1].after.dev);
+        } while (places[0].more);
     }
-    EXPECT(WARM_BAD_BUCKET, warm_send(&its->several, 64, false, (warm_page){0}, frames[1], FRAME_ROOM, &lengths[1]));
-    EXPECT(WARM_BAD_BUCKET, warm_send(&its->several, 255, false, (warm_page){0}, frames[1], FRAME_ROOM, &lengths[1]));
+    EXPECT(WARM_BAD_BUCKET, warm_send(&its->several, &(warm_sending){.bucket = 64}, frames[1], FRAME_ROOM, &lengths[1]));
+    EXPECT(WARM_BAD_BUCKET, warm_send(&its->several, &(warm_sending){.bucket = 255}, frames[1], FRAME_ROOM, &lengths[1]));
 }
 
 static void same_list(pair *its, size_t room) {
@@ -195,8 +189,8 @@ static void same_bytes(void) {
     same_all(&first);
     gossip(&third, &first); /* the one has nothing */
     absorb_drawn(&second, 2);
-    OK(warm_horizon(&second.one, 20000, &horizons[0]));
-    OK(warm_horizon(&second.several, 20000, &horizons[1]));
+    OK(warm_raise(&second.one, 20000, &horizons[0]));
+    OK(warm_raise(&second.several, 20000, &horizons[1]));
     MUST(horizons[0] == 20000 && horizons[1] == 20000);
     gossip(&first, &second);
     same_all(&first);
@@ -208,7 +202,7 @@ static void same_bytes(void) {
     OK(warm_load(&third.one, dump, (uint64_t)lseek(dump, 0, SEEK_END)));
     OK(warm_load(&third.several, dump, (uint64_t)lseek(dump, 0, SEEK_END)));
     same_all(&third);
-    OK(warm_horizon(&third.several, 0, &horizons[1]));
+    OK(warm_raise(&third.several, 0, &horizons[1]));
     MUST(horizons[1] == 20000);
     close(dump);
     close_pair(&first);
@@ -221,7 +215,7 @@ static void same_bytes(void) {
 static void open_over(warm *handle, size_t frames_each, const int *fds, size_t count) {
     warm_device devices[2];
     for (size_t dev = 0; dev < count; dev++) devices[dev] = (warm_device){.pages = PAGES, .fd = fds[dev]};
-    OK(warm_open(handle, 1, shards, frames_each * shards, PAGE_SIZE, devices, count));
+    OK(open_with(handle, 1, shards, frames_each * shards, PAGE_SIZE, devices, count));
 }
 
 static void write_to(warm *handle, warm_page page, uint8_t byte) {
@@ -235,7 +229,7 @@ static void write_to(warm *handle, warm_page page, uint8_t byte) {
 static uint8_t read_from(warm *handle, warm_page page) {
     const uint8_t *bytes;
     warm_slot slot;
-    OK(warm_pin_lend(handle, page, &slot, &bytes));
+    OK(warm_pin_bytes(handle, page, &slot, &bytes));
     uint8_t byte = bytes[0];
     OK(warm_unpin(handle, slot));
     return byte;
@@ -255,19 +249,19 @@ static void attached_handles(void) {
     const uint8_t *bytes, *again;
     void *was;
     open_over(&first, 2, &fd, 1);
-    EXPECT(WARM_ALREADY_OPEN, warm_thread(&first, &first));
-    OK(warm_thread(&first, &second));
+    EXPECT(WARM_ALREADY_OPEN, warm_attach(&first, &first));
+    OK(warm_attach(&first, &second));
     was = second.at;
-    EXPECT(WARM_ALREADY_OPEN, warm_thread(&first, &second));
-    EXPECT(WARM_ALREADY_OPEN, warm_open(&second, 1, 1, 1, 1, &(warm_device){0}, 0));
+    EXPECT(WARM_ALREADY_OPEN, warm_attach(&first, &second));
+    EXPECT(WARM_ALREADY_OPEN, open_with(&second, 1, 1, 1, 1, &(warm_device){0}, 0));
     MUST(second.at == was);
-    OK(warm_thread(&second, &third));
+    OK(warm_attach(&second, &third));
     write_to(&second, (warm_page){.no = 5}, 'a');
     OK(warm_pin(&first, (warm_page){.no = 5}, &slot));
     EXPECT(WARM_STALE_SLOT, warm_unpin(&second, slot)); /* it has no pin */
-    OK(warm_pin_lend(&second, (warm_page){.no = 5}, &same, &bytes));
+    OK(warm_pin_bytes(&second, (warm_page){.no = 5}, &same, &bytes));
     MUST(same.shard == slot.shard && same.index == slot.index && same.generation == slot.generation && bytes[0] == 'a');
-    OK(warm_lend(&first, slot, &again));
+    OK(warm_bytes(&first, slot, &again));
     MUST(bytes == again);
     EXPECT(WARM_PINS_LEFT, warm_close(&second));
     EXPECT(WARM_ATTACHED, warm_close(&first));
@@ -278,17 +272,21 @@ static void attached_handles(void) {
     EXPECT(WARM_PINS_LEFT, warm_close(&second));
     OK(warm_unpin(&second, other));
     EXPECT(WARM_STALE_SLOT, warm_unpin(&first, slot)); /* no handle pins the page */
-    EXPECT(WARM_NO_PAGE, warm_pin_lend(&second, (warm_page){.no = PAGES}, &other, &bytes)); /* which is no pin */
+    EXPECT(WARM_NO_PAGE, warm_pin_bytes(&second, (warm_page){.no = PAGES}, &other, &bytes)); /* which is no pin */
     OK(warm_close(&second));
     MUST(second.at == NULL);
     EXPECT(WARM_CLOSED, warm_pin(&second, (warm_page){.no = 5}, &slot));
     EXPECT(WARM_ATTACHED, warm_close(&first));
     MUST(read_from(&third, (warm_page){.no = 5}) == 'a' && read_from(&first, (warm_page){.no = 5}) == 'a');
     OK(warm_close(&third));
-    OK(warm_thread(&first, &second)); /* again */
+    OK(warm_attach(&first, &second)); /* again */
     OK(warm_close(&second));
-    OK(warm_pin(&first, (warm_page){.no = 5}, &slot)); /* who opened it may close it with pins */
-    OK(warm_close(&first));
+    OK(warm_pin(&first, (warm_page){.no = 5}, &slot));
+    EXPECT(WARM_PINS_LEFT, warm_close(&first));
+    OK(warm_attach(&first, &second));
+    EXPECT(WARM_ATTACHED, warm_abandon(&first));
+    OK(warm_abandon(&second)); /* as of a thread that has ended */
+    OK(warm_abandon(&first));  /* who opened it may end it with pins, and with what is dirty */
     MUST(first.at == NULL);
     close(fd);
 }
@@ -300,9 +298,9 @@ static void answers_of_handles(void) {
     static uint8_t frame[FRAME_ROOM];
     size_t length;
     warm first = {0}, second = {0}, other = {0};
-    OK(warm_open(&first, 1, shards, shards, 1, &none, 0));
-    OK(warm_open(&other, 2, 1, 1, 1, &none, 0));
-    OK(warm_thread(&first, &second));
+    OK(open_with(&first, 1, shards, shards, 1, &none, 0));
+    OK(open_with(&other, 2, 1, 1, 1, &none, 0));
+    OK(warm_attach(&first, &second));
     OK(warm_absorb(&second, &seen, 1));
     OK(warm_offer(&other, frame, FRAME_ROOM, &length));
     OK(warm_receive(&second, frame, length));
@@ -313,7 +311,7 @@ static void answers_of_handles(void) {
     OK(warm_history_length(&other, &length));
     MUST(length == 1);
     OK(warm_limit(&second, 5));
-    OK(warm_send(&other, 3, false, (warm_page){0}, frame, FRAME_ROOM, &length));
+    OK(send_behind(&other, 3, false, (warm_page){0}, frame, FRAME_ROOM, &length));
     EXPECT(WARM_LATE_STAMP, warm_receive(&first, frame, length));
     OK(warm_close(&second));
     OK(warm_close(&first));
@@ -333,27 +331,28 @@ static void synced_once(void) {
     warm_counters counted;
     open_over(&handle, 2 * PAGES / shards, fds, 2);
     syncs.calls = 0;
-    OK(warm_write_back(&handle));
+    OK(warm_write_back_all(&handle));
     MUST(syncs.calls == 0);
     write_all(&handle, 2, PAGES, 'a');
     OK(warm_counts(&handle, &counted));
     MUST(counted.misses == 2 * PAGES && counted.dirty == 2 * PAGES && counted.resident == 2 * PAGES);
-    OK(warm_write_back(&handle));
+    OK(warm_write_back_all(&handle));
     MUST(syncs.calls == 2);
     for (uint64_t no = 0; no < PAGES; no++) MUST(byte_of(fds[0], no) == 'a' && byte_of(fds[1], no) == 'a');
     OK(warm_device_counts(&handle, 1, &counters));
     MUST(counters.writes == PAGES && counters.flushes == shards && counters.failures == 0);
     EXPECT(WARM_NO_DEVICE, warm_device_counts(&handle, 2, &counters));
-    OK(warm_write_back(&handle));
+    OK(warm_write_back_all(&handle));
     MUST(syncs.calls == 2);
     write_to(&handle, (warm_page){.no = 9, .dev = 1}, 'b');
-    OK(warm_write_back(&handle));
+    OK(warm_write_back_all(&handle));
     MUST(syncs.calls == 3 && byte_of(fds[1], 9) == 'b');
     OK(warm_close(&handle)); /* nothing waits */
     MUST(syncs.calls == 3);
     open_over(&handle, 1, fds, 1);
     write_all(&handle, 1, 2 * shards, 'c'); /* the first half of these pages leave their frames, and are written */
-    OK(warm_close(&handle));
+    EXPECT(WARM_DIRTY, warm_close(&handle));
+    OK(warm_abandon(&handle));
     MUST(syncs.calls == 4 && byte_of(fds[0], 0) == 'c' && byte_of(fds[0], 2 * shards - 1) == 'a');
     close(fds[0]);
     close(fds[1]);
@@ -366,29 +365,32 @@ static void failed_sync(void) {
     warm_failure failure;
     bool found;
     open_over(&handle, 2 * PAGES / shards, fds, 2);
-    OK(warm_thread(&handle, &attached));
+    OK(warm_attach(&handle, &attached));
     write_all(&attached, 2, shards, 'a');
     syncs.calls = 0;
     syncs.fails_next = true;
-    EXPECT(WARM_FAULT, warm_write_back(&attached));
-    OK(warm_last_failure(&handle, &found, &failure));
+    EXPECT(WARM_WRITE_FAULT, warm_write_back_all(&attached));
+    OK(warm_last_failure(&handle, &found, &failure)); /* the other handle has met none */
+    MUST(!found);
+    OK(warm_last_failure(&attached, &found, &failure));
     MUST(found && failure.dev == 0 && failure.what == WARM_FAILED_FLUSH && failure.error == EIO);
-    MUST(syncs.calls == 1);
-    for (size_t round = 0; round < shards + 1; round++) EXPECT(WARM_FAULT, warm_write_back(&handle));
-    EXPECT(WARM_FAULT, warm_flush(&handle, 0));
-    OK(warm_flush(&handle, 1));
+    MUST(syncs.calls == 2); /* the other device is synced all the same */
+    for (size_t round = 0; round < shards + 1; round++) EXPECT(WARM_WRITE_FAULT, warm_write_back_all(&handle));
+    EXPECT(WARM_WRITE_FAULT, warm_flush_device(&handle, 0));
+    OK(warm_flush_device(&handle, 1));
     MUST(syncs.calls == 2);
     for (uint64_t no = 0; no < shards; no++) { /* a page of one shard each */
         write_to(&attached, (warm_page){.no = no}, 'b');
-        EXPECT(WARM_FAULT, warm_flush(&handle, 0));
+        EXPECT(WARM_WRITE_FAULT, warm_flush_device(&handle, 0));
     }
-    EXPECT(WARM_FAULT, warm_replace(&handle, 0, &(warm_device){.pages = PAGES, .fd = -1}));
+    EXPECT(WARM_WRITE_FAULT, warm_replace(&handle, 0, &(warm_device){.pages = PAGES, .fd = -1}));
     OK(warm_close(&attached));
-    OK(warm_close(&handle));
+    EXPECT(WARM_WRITE_FAULT, warm_close(&handle)); /* nor does a close forget it */
+    OK(warm_abandon(&handle));
     MUST(syncs.calls == 2);
     open_over(&handle, 2, fds, 2); /* it knows nothing of what failed before */
     write_all(&handle, 1, shards, 'c');
-    OK(warm_write_back(&handle));
+    OK(warm_write_back_all(&handle));
     MUST(syncs.calls == 3 && byte_of(fds[0], shards - 1) == 'c');
     OK(warm_close(&handle));
     close(fds[0]);
@@ -401,7 +403,7 @@ static void must_have_failed(warm *handle, uint64_t no, uint16_t what) {
     bool found;
     OK(warm_last_failure(handle, &found, &failure));
     MUST(found && failure.no == no && failure.dev == 0 && failure.what == what && failure.error == EBADF);
-    OK(warm_forget(handle, 0, 0));
+    OK(warm_forget_pages(handle, 0, 0));
 }
 
 static void make_dirty(warm *handle, uint64_t no) {
@@ -420,28 +422,30 @@ static void last_failures(void) {
     warm_slot slot;
     size_t left;
     bool found;
-    OK(warm_open(&handle, 1, shards, shards, PAGE_SIZE, &none, 1));
+    OK(open_with(&handle, 1, shards, shards, PAGE_SIZE, &none, 1));
     EXPECT(WARM_READ_FAULT, warm_pin(&handle, (warm_page){.no = 1}, &slot));
     must_have_failed(&handle, 1, WARM_FAILED_READ);
     OK(warm_absorb(&handle, &seen, 1));
     EXPECT(WARM_READ_FAULT, warm_step(&handle, &found, &page));
     must_have_failed(&handle, 2, WARM_FAILED_READ);
-    EXPECT(WARM_READ_FAULT, warm_pin_lend(&handle, (warm_page){.no = 3}, &slot, &bytes));
+    EXPECT(WARM_READ_FAULT, warm_pin_bytes(&handle, (warm_page){.no = 3}, &slot, &bytes));
     must_have_failed(&handle, 3, WARM_FAILED_READ);
     make_dirty(&handle, 1);
-    EXPECT(WARM_WRITE_BACK, warm_pin_zeroed(&handle, (warm_page){.no = 1 + shards}, &slot));
+    EXPECT(WARM_EVICT_FAULT, warm_pin_zeroed(&handle, (warm_page){.no = 1 + shards}, &slot));
     must_have_failed(&handle, 1, WARM_FAILED_WRITE);
     make_dirty(&handle, 2);
-    EXPECT(WARM_FAULT, warm_write_back_some(&handle, 1, &left));
+    EXPECT(WARM_WRITE_FAULT, warm_write_back_some(&handle, 1, &left));
     must_have_failed(&handle, 2, WARM_FAILED_WRITE);
     make_dirty(&handle, 1);
-    EXPECT(WARM_FAULT, warm_flush(&handle, 0));
+    EXPECT(WARM_WRITE_FAULT, warm_flush_device(&handle, 0));
     must_have_failed(&handle, 1, WARM_FAILED_WRITE);
     make_dirty(&handle, 3);
-    EXPECT(WARM_FAULT, warm_write_back(&handle));
+    EXPECT(WARM_WRITE_FAULT, warm_write_back_all(&handle));
     must_have_failed(&handle, 3, WARM_FAILED_WRITE);
-    EXPECT(WARM_FAULT, warm_replace(&handle, 0, &other));
-    must_have_failed(&handle, 0, WARM_FAILED_FLUSH); /* of the shard of page 1: a write that failed may have written a part */
+    make_dirty(&handle, 1);
+    EXPECT(WARM_WRITE_FAULT, warm_replace(&handle, 0, &other));
+    must_have_failed(&handle, 1, WARM_FAILED_WRITE);
+    OK(warm_replace(&handle, 0, &other)); /* without a file nothing was written that waits for a sync */
     OK(warm_close(&handle));
 }
 
@@ -484,7 +488,7 @@ static void warmed_up(void) {
         MUST(found);
     }
     for (size_t shard = 0; shard < shards; shard++) { /* the page of the shard that was referenced first */
-        OK(warm_victim(&handle, shard, &found, &page));
+        OK(next_victim(&handle, shard, &found, &page));
         MUST(found && page.no == shard);
     }
     OK(warm_close(&handle));
@@ -498,21 +502,21 @@ static void replaced_in_all(void) {
     warm handle = {0}, attached = {0};
     warm_slot slot;
     open_over(&handle, 4, fds, 2);
-    OK(warm_thread(&handle, &attached));
+    OK(warm_attach(&handle, &attached));
     write_all(&handle, 2, 2 * shards, 'o');
     MUST(pwrite(third, "n", 1, 0) == 1);
     OK(warm_pin(&attached, (warm_page){.no = shards - 1}, &slot));
     EXPECT(WARM_NO_DEVICE, warm_replace(&handle, 2, &in_place));
-    EXPECT(WARM_NO_DEVICE, warm_replace(&handle, 0, &(warm_device){.pages = UINT64_MAX, .fd = third}));
+    EXPECT(WARM_BAD_DEVICE, warm_replace(&handle, 0, &(warm_device){.pages = UINT64_MAX, .fd = third}));
     EXPECT(WARM_SAME_FILE, warm_replace(&handle, 0, &(warm_device){.pages = PAGES, .fd = fds[1]}));
-    EXPECT(WARM_FIXED, warm_replace(&handle, 0, &in_place));
+    EXPECT(WARM_PINNED, warm_replace(&handle, 0, &in_place));
     for (uint64_t no = 0; no < 2 * shards; no++) MUST(read_from(&attached, (warm_page){.no = no}) == 'o');
     OK(warm_unpin(&attached, slot));
     OK(warm_replace(&handle, 0, &in_place));
     for (uint64_t no = 0; no < 2 * shards; no++) MUST(read_from(&attached, (warm_page){.no = no}) == (no == 0 ? 'n' : 0) && byte_of(fds[0], no) == 'o');
     write_all(&handle, 1, shards, 'p');
     syncs.calls = 0;
-    OK(warm_write_back(&handle)); /* of the other device, too */
+    OK(warm_write_back_all(&handle)); /* of the other device, too */
     MUST(syncs.calls == 2 && byte_of(third, shards - 1) == 'p' && byte_of(fds[1], 2 * shards - 1) == 'o');
     OK(warm_close(&attached));
     OK(warm_close(&handle));
@@ -527,16 +531,16 @@ static void forgotten_in_all(void) {
     warm_slot slot;
     open_over(&handle, PAGES / shards, &fd, 1);
     write_all(&handle, 1, PAGES, 'a');
-    OK(warm_write_back(&handle));
+    OK(warm_write_back_all(&handle));
     write_all(&handle, 1, PAGES, 'b');
-    EXPECT(WARM_NO_DEVICE, warm_forget(&handle, 1, 0));
+    EXPECT(WARM_NO_DEVICE, warm_forget_pages(&handle, 1, 0));
     OK(warm_pin(&handle, (warm_page){.no = PAGES - shards}, &slot)); /* of the first shard */
-    EXPECT(WARM_FIXED, warm_forget(&handle, 0, PAGES / 2));
+    EXPECT(WARM_PINNED, warm_forget_pages(&handle, 0, PAGES / 2));
     for (uint64_t no = 0; no < PAGES; no++) MUST(read_from(&handle, (warm_page){.no = no}) == 'b');
     OK(warm_unpin(&handle, slot));
-    OK(warm_forget(&handle, 0, PAGES / 2));
+    OK(warm_forget_pages(&handle, 0, PAGES / 2));
     for (uint64_t no = 0; no < PAGES; no++) MUST(read_from(&handle, (warm_page){.no = no}) == (no < PAGES / 2 ? 'b' : 'a'));
-    OK(warm_close(&handle));
+    OK(warm_abandon(&handle));
     close(fd);
 }
 
@@ -548,18 +552,18 @@ static void many_frames(void) {
     warm handle = {0};
     warm_slot slot;
     MUST(is_taken != NULL);
-    EXPECT(WARM_BAD_FRAMES, warm_open(&handle, 1, 1, all, 16, &device, 1));
-    EXPECT(WARM_BAD_FRAMES, warm_open(&handle, 1, 2, all + 2, 16, &device, 1));
-    OK(warm_open(&handle, 1, 2, all, 16, &device, 1));
+    EXPECT(WARM_BAD_FRAMES, open_with(&handle, 1, 1, all, 16, &device, 1));
+    EXPECT(WARM_BAD_FRAMES, open_with(&handle, 1, 2, all + 2, 16, &device, 1));
+    OK(open_with(&handle, 1, 2, all, 16, &device, 1));
     for (uint64_t no = 0; no < all; no++) {
         MUST(warm_pin_zeroed(&handle, (warm_page){.no = no}, &slot) == WARM_OK);
         size_t number = (size_t)slot.shard * LARGE_SHARD + slot.index;
         MUST(number < all && !is_taken[number]);
         is_taken[number] = 1;
     }
-    EXPECT(WARM_ALL_FIXED, warm_pin(&handle, (warm_page){.no = all}, &slot));
-    EXPECT(WARM_ALL_FIXED, warm_pin(&handle, (warm_page){.no = all + 1}, &slot));
-    OK(warm_close(&handle));
+    EXPECT(WARM_ALL_PINNED, warm_pin(&handle, (warm_page){.no = all}, &slot));
+    EXPECT(WARM_ALL_PINNED, warm_pin(&handle, (warm_page){.no = all + 1}, &slot));
+    OK(warm_abandon(&handle));
     close(device.fd);
     free(is_taken);
 }

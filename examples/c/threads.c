@@ -21,7 +21,7 @@ static void add_to(uint64_t no, uint64_t time) {
     warm_slot slot;
     OK(warm_absorb(&shared, &seen, 1));
     OK(warm_pin(&shared, (warm_page){.no = no}, &slot));
-    OK(warm_lend(&shared, slot, &bytes));
+    OK(warm_bytes(&shared, slot, &bytes));
     memcpy(&count, bytes, sizeof count);
     count++;
     OK(warm_write(&shared, slot, 0, (const uint8_t *)&count, sizeof count));
@@ -38,13 +38,13 @@ static void *work(void *number) {
         read_lent();
         MUST(pthread_mutex_lock(&lock) == 0);
         add_to((round + *(uint64_t *)number) % PAGES, round);
-        if (round % 50 == 0) OK(warm_write_back(&shared));
+        if (round % 50 == 0) OK(warm_write_back_all(&shared));
         MUST(pthread_mutex_unlock(&lock) == 0);
     }
     MUST(pthread_mutex_lock(&lock) == 0);
     if (--left == 0) { /* the others read no more */
-        OK(warm_write_back(&shared));
-        warm_close(&shared);
+        OK(warm_write_back_all(&shared));
+        OK(warm_abandon(&shared));
     }
     MUST(pthread_mutex_unlock(&lock) == 0);
     return NULL;
@@ -57,9 +57,9 @@ static void open_shared(int fd) {
     warm_slot slot;
     for (int at = 0; at < PAGE_SIZE; at++) bytes[at] = (uint8_t)at;
     MUST(pwrite(fd, bytes, PAGE_SIZE, LENT * PAGE_SIZE) == PAGE_SIZE);
-    OK(warm_open(&shared, 1, 1, FRAMES, PAGE_SIZE, &device, 1));
+    OK(open_with(&shared, 1, 1, FRAMES, PAGE_SIZE, &device, 1));
     OK(warm_pin(&shared, (warm_page){.no = LENT}, &slot));
-    OK(warm_lend(&shared, slot, &lent));
+    OK(warm_bytes(&shared, slot, &lent));
 }
 
 int main(void) {

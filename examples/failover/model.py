@@ -5,7 +5,7 @@ usage: model.py TRACE FRAMES INTERVAL ACCESSES HABITS TAKEOVER..
 
 HABITS are ONCE-IN/HOLD, parted by commas. It prints ratios.csv, and then costs.csv without its last column, which is
 a time. No code is shared with the report or with warmplay: histories are dictionaries of the two latest times, pools
-are sets, and a victim is found by comparing all resident pages, by the definitions of docs/DEFINITIONS.md (the
+are sets, and a victim is found by comparing all resident pages, by the definitions that scripts/definitions prints (the
 greatest backward 2-distance leaves first, then the older latest reference, then the lesser page).
 """
 

@@ -1,7 +1,7 @@
 /*
  * Gossip by retained messages. A replica publishes its history bucket by bucket, in pieces of up to 1000 entries. A piece is the retained
  * message of a topic of its own, as warm/1/17/0: replica, bucket, piece. So the broker keeps the newest state, and a subscriber that comes
- * late, or again, gets it at once. Frames that are lost, repeated or out of order do no harm, so QoS 0 is enough.
+ * late, or again, gets it at once. Messages that are lost, repeated or out of order do no harm, so QoS 0 is enough.
  *
  * warm/1/state is "here", and by the client's last will "gone". That says that a connection ended, not that the primary is dead: a
  * standby does not take over by it.
@@ -28,7 +28,7 @@ enum { TOPIC_ROOM = 64, KEEPALIVE = 10, RETRY_MILLISECONDS = 200 };
 static void state_topic(char topic[TOPIC_ROOM], unsigned replica) { snprintf(topic, TOPIC_ROOM, "warm/%u/state", replica); }
 
 static void forget_published(gossip *g) {
-    for (int at = 0; at < BUCKETS; at++) g->buckets[at].count = 0;
+    for (int at = 0; at < WARM_BUCKETS; at++) g->buckets[at].count = 0;
 }
 
 /* A broker may have come back without the messages that it retained: all is published again. */
@@ -52,7 +52,7 @@ static void on_disconnect(struct mosquitto *client, void *data, int code) {
     ((gossip *)data)->is_connected = false;
 }
 
-/* A frame that is damaged, or of another format, is refused whole, and its status counted. One of the replica itself brings nothing that it
+/* A message that is damaged, or of another format, is refused whole, and its status counted. One of the replica itself brings nothing that it
  * does not know, or, after a restart, what it has forgotten. */
 static void on_message(struct mosquitto *client, void *data, const struct mosquitto_message *message) {
     gossip *g = data;
@@ -65,10 +65,10 @@ static void on_message(struct mosquitto *client, void *data, const struct mosqui
         return;
     }
     static const uint8_t no_bytes[1];
-    const uint8_t *frame = length > 0 ? message->payload : no_bytes; /* a pointer is not null, also where there is no byte */
-    int status = pool_file_receive(g->file, frame, length);
+    const uint8_t *bytes = length > 0 ? message->payload : no_bytes; /* a pointer is not null, also where there is no byte */
+    int status = pool_file_receive(g->file, bytes, length);
     if (status >= 0 && status < GOSSIP_STATUSES) g->statuses[status]++;
-    if (status == WARM_OK && frame_sender(frame, length) == g->file->replica) g->own++;
+    if (status == WARM_OK && message_sender(bytes, length) == g->file->replica) g->own++;
 }
 
 /* Begins to connect, now and then. mosquitto_loop says whether it came to pass; where it cannot even begin, it is tried again. */
@@ -126,12 +126,12 @@ static uint64_t *hash_place(published *bucket, size_t piece) {
     return &bucket->hashes[piece];
 }
 
-static void publish_piece(gossip *g, unsigned bucket, size_t piece, const uint8_t *frame, size_t length) {
+static void publish_piece(gossip *g, unsigned bucket, size_t piece, const uint8_t *message, size_t length) {
     char topic[TOPIC_ROOM];
-    uint64_t hash = fnv_add(FNV_START, frame, length), *known = hash_place(&g->buckets[bucket], piece);
+    uint64_t hash = fnv_add(FNV_START, message, length), *known = hash_place(&g->buckets[bucket], piece);
     if (known != NULL && *known == hash) return;
     snprintf(topic, sizeof topic, "warm/%u/%u/%zu", g->file->replica, bucket, piece);
-    if (mosquitto_publish(g->client, NULL, topic, (int)length, frame, 0, true) != MOSQ_ERR_SUCCESS) {
+    if (mosquitto_publish(g->client, NULL, topic, (int)length, message, 0, true) != MOSQ_ERR_SUCCESS) {
         g->unsent++;
         return;
     }
@@ -139,17 +139,15 @@ static void publish_piece(gossip *g, unsigned bucket, size_t piece, const uint8_
     if (known != NULL) *known = hash;
 }
 
-static void publish_bucket(gossip *g, uint8_t bucket, uint8_t *frame) {
-    warm_page after = {0};
+static void publish_bucket(gossip *g, uint8_t bucket, uint8_t *message) {
+    warm_sending sending = {.bucket = bucket};
     size_t piece = 0;
-    bool is_later = false;
     do {
         size_t length;
         /* Without memory the rest of the bucket is published next time. */
-        if (warm_send(pool_file_handle(g->file), bucket, is_later, after, frame, FRAME_ROOM, &length) != WARM_OK) return;
-        publish_piece(g, bucket, piece++, frame, length);
-        is_later = frame_is_full(frame, &after);
-    } while (is_later);
+        if (warm_send(pool_file_handle(g->file), &sending, message, WARM_MESSAGE_ROOM, &length) != WARM_OK) return;
+        publish_piece(g, bucket, piece++, message, length);
+    } while (sending.more);
 }
 
 /* Gives what was published to the system, as far as it takes it in time. */
@@ -163,33 +161,31 @@ void gossip_publish(gossip *g) {
         g->skipped++;
         return;
     }
-    uint8_t *frame = malloc(FRAME_ROOM);
-    if (frame == NULL) return;
+    uint8_t *message = malloc(WARM_MESSAGE_ROOM);
+    if (message == NULL) return;
     pool_file_absorb(g->file);
-    for (uint8_t bucket = 0; bucket < BUCKETS; bucket++) publish_bucket(g, bucket, frame);
-    free(frame);
+    for (uint8_t bucket = 0; bucket < WARM_BUCKETS; bucket++) publish_bucket(g, bucket, message);
+    free(message);
     flush(g);
 }
 
 void gossip_print(const gossip *g, FILE *to) {
     uint64_t all = 0;
     for (int status = 0; status < GOSSIP_STATUSES; status++) all += g->statuses[status];
-    fprintf(to, "gossip: %llu frames came", (unsigned long long)all);
+    fprintf(to, "gossip: %llu messages came", (unsigned long long)all);
     for (int status = 0; status < GOSSIP_STATUSES; status++) {
-        uint8_t name[32] = {0};
-        size_t length;
+        const char *words = warm_strerror(status);
         if (g->statuses[status] == 0) continue;
-        warm_status_name(status, name, sizeof name - 1, &length);
-        fprintf(to, ", %llu %s", (unsigned long long)g->statuses[status], (const char *)name);
+        fprintf(to, ", %llu %.*s", (unsigned long long)g->statuses[status], (int)strcspn(words, ":"), words);
     }
     fprintf(to, ", %llu of the replica itself\n", (unsigned long long)g->own);
-    fprintf(to, "gossip: %llu frames sent, %llu refused, %llu times without a broker that takes them\n", (unsigned long long)g->sent,
+    fprintf(to, "gossip: %llu messages sent, %llu refused, %llu times without a broker that takes them\n", (unsigned long long)g->sent,
         (unsigned long long)g->unsent, (unsigned long long)g->skipped);
     fflush(to);
 }
 
 void gossip_close(gossip *g) {
     mosquitto_destroy(g->client);
-    for (int at = 0; at < BUCKETS; at++) free(g->buckets[at].hashes);
+    for (int at = 0; at < WARM_BUCKETS; at++) free(g->buckets[at].hashes);
     mosquitto_lib_cleanup();
 }

@@ -6,7 +6,7 @@
 #include <stdbool.h>
 #include <stdio.h>
 
-#include "frames.h"
+#include "messages.h"
 #include "pool_file.h"
 
 /* What was last published of a bucket: a hash of each piece. */
@@ -29,7 +29,7 @@ typedef struct gossip {
     unsigned peer;
     bool is_connected, peer_is_gone;
     uint64_t retry_at; /* when to connect again, in milliseconds */
-    published buckets[BUCKETS];
+    published buckets[WARM_BUCKETS];
     uint64_t sent, unsent;                   /* frames that the client took, and that it refused */
     uint64_t skipped;                        /* calls of gossip_publish without a broker, or while it took nothing */
     uint64_t statuses[GOSSIP_STATUSES];      /* of frames that came */
@@ -47,7 +47,7 @@ void gossip_poll(gossip *g, int milliseconds);
  * before, nothing is: so what waits here is never more than one history. */
 void gossip_publish(gossip *g);
 
-/* Two lines: how many frames came, by the name of their status, and how many were sent. */
+/* Two lines: how many messages came, by the name of their status, and how many were sent. */
 void gossip_print(const gossip *g, FILE *to);
 
 void gossip_close(gossip *g);

@@ -14,7 +14,7 @@
  *    is deleted only when the file has the whole transaction.
  * One thing differs from a file: what a process wrote outlives its kill -9 in the system's cache, and what is in a frame does not.
  * So even with synchronous=OFF, where SQLite does not call xSync, the pages are written back where it would have: at
- * SQLITE_FCNTL_SYNC, which comes before the journal is deleted. (Then they are also synced, since warm_write_back does both.)
+ * SQLITE_FCNTL_SYNC, which comes before the journal is deleted. (Then they are also synced, since warm_write_back_all does both.)
  *
  * warm_open asks that nothing else writes to a page of the file that may be in a frame. Twice something does, and no frame's bytes are used
  * after it. Other connections commit while this one has no lock: pool_file_enter then makes a new pool before a page is read, and the old
@@ -41,7 +41,7 @@
 #include <unistd.h>
 
 #include "clock.h"
-#include "frames.h"
+#include "messages.h"
 
 enum { DEFAULT_PAGE_SIZE = 4096, SMALLEST_PAGE = 512, LENT_UNIT = 4096, SIZE_AT = 16, COUNTER_AT = 24, HEADER_PART = COUNTER_AT + POOL_COUNTER };
 
@@ -54,7 +54,7 @@ warm *pool_file_handle(pool_file *file) { return &file->handles[file->current]; 
 
 /* The page size in the two bytes of a database's header, or 0 where they are not that. */
 static size_t page_size_in(const uint8_t *bytes) {
-    size_t size = frame_number(bytes, 2);
+    size_t size = message_number(bytes, 2);
     if (size == 1) return 65536;
     return size >= SMALLEST_PAGE && (size & (size - 1)) == 0 ? size : 0;
 }
@@ -86,17 +86,19 @@ void pool_file_heard(pool_file *file, uint64_t time) {
     if (time >= file->time && time <= nanoseconds(CLOCK_REALTIME) + SKEW) file->time = time + 1;
 }
 
-int pool_file_receive(pool_file *file, const uint8_t *frame, size_t length) {
+int pool_file_receive(pool_file *file, const uint8_t *message, size_t length) {
     int status = warm_limit(pool_file_handle(file), nanoseconds(CLOCK_REALTIME) + SKEW);
-    if (status == WARM_OK) status = warm_receive(pool_file_handle(file), frame, length);
-    if (status == WARM_OK) pool_file_heard(file, frame_latest(frame, length));
+    if (status == WARM_OK) status = warm_receive(pool_file_handle(file), message, length);
+    if (status == WARM_OK) pool_file_heard(file, message_latest(message, length));
     return status;
 }
 
 /* Opens one of the two handles, with frames that are all empty, and makes it the current one. */
 static int open_handle(pool_file *file, int which, size_t page_size) {
     warm_device device = {.pages = MOST_PAGES, .fd = file->fd};
-    int status = warm_open(&file->handles[which], file->replica, 1, file->frames, page_size, &device, 1);
+    warm_options options = {.size = sizeof options, .replica = file->replica, .frames = file->frames, .page_size = page_size,
+        .devices = &device, .device_count = 1};
+    int status = warm_open(&file->handles[which], &options);
     if (status != WARM_OK) return status;
     file->current = which;
     file->page_size = page_size;
@@ -120,8 +122,8 @@ int pool_file_open(pool_file *file, int fd, uint16_t replica, size_t frames) {
 }
 
 void pool_file_close(pool_file *file) {
-    warm_close(&file->handles[0]);
-    warm_close(&file->handles[1]);
+    warm_abandon(&file->handles[0]);
+    warm_abandon(&file->handles[1]);
     residents_close(&file->residents);
     held_close(&file->held);
 }
@@ -152,8 +154,9 @@ static int pin(pool_file *file, uint64_t no, warm_slot *slot) {
     int status = residents_have(&file->residents, no) ? WARM_OK : held_drop(&file->held, pool_file_handle(file));
     if (status == WARM_OK) status = warm_pin(pool_file_handle(file), (warm_page){.no = no}, slot);
     if (status != WARM_OK) return status;
+    residents_note(&file->residents, *slot, no);
     /* A page beyond the end of the file is made of zeros, and read from no device. */
-    if (residents_note(&file->residents, *slot, no) && no * file->page_size < file->size) file->device_reads++;
+    if (!slot->hit && no * file->page_size < file->size) file->device_reads++;
     return WARM_OK;
 }
 
@@ -163,7 +166,7 @@ static int hold_new(pool_file *file, uint64_t no, held_page **page) {
     warm_slot slot;
     int status = pin(file, no, &slot);
     if (status != WARM_OK) return status;
-    status = warm_lend(pool_file_handle(file), slot, &bytes);
+    status = warm_bytes(pool_file_handle(file), slot, &bytes);
     if (status == WARM_OK) *page = held_add(&file->held, slot, bytes);
     else warm_unpin(pool_file_handle(file), slot);
     return status;
@@ -343,19 +346,26 @@ int pool_file_truncate(pool_file *file, uint64_t size) {
     return status;
 }
 
+static bool sync_file(int fd) {
+    int status;
+    do status = fsync(fd);
+    while (status != 0 && errno == EINTR);
+    return status == 0;
+}
+
 /* Once pages were written back the file may be longer than it should: a page of the pool is written whole where SQLite's are smaller, and
  * one beyond the end after a truncation. */
 static bool cut_to_size(pool_file *file) {
     struct stat about;
     if (fstat(file->fd, &about) != 0) return false;
     if ((uint64_t)about.st_size == file->size) return true;
-    return ftruncate(file->fd, (off_t)file->size) == 0 && fsync(file->fd) == 0;
+    return ftruncate(file->fd, (off_t)file->size) == 0 && sync_file(file->fd);
 }
 
-/* Where something is dirty the flush in warm_write_back comes after all writes past the pool, and is one of the same file. */
+/* Where something is dirty the flush in warm_write_back_all comes after all writes past the pool, and is one of the same file. */
 static int write_and_sync(pool_file *file) {
-    if (file->is_dirty) return warm_write_back(pool_file_handle(file));
-    return fsync(file->fd) == 0 ? WARM_OK : POOL_IO;
+    if (file->is_dirty) return warm_write_back_all(pool_file_handle(file));
+    return sync_file(file->fd) ? WARM_OK : POOL_IO;
 }
 
 int pool_file_sync(pool_file *file) {
@@ -373,19 +383,17 @@ int pool_file_sync(pool_file *file) {
 
 /* Sends the whole history of one handle to the other. */
 static int hand_history_over(warm *from, warm *to) {
-    uint8_t *frame = malloc(FRAME_ROOM);
-    int status = frame == NULL ? WARM_MEMORY : WARM_OK;
-    for (uint8_t bucket = 0; bucket < BUCKETS && status == WARM_OK; bucket++) {
-        warm_page after = {0};
-        bool is_later = false;
+    uint8_t *message = malloc(WARM_MESSAGE_ROOM);
+    int status = message == NULL ? WARM_MEMORY : WARM_OK;
+    for (uint8_t bucket = 0; bucket < WARM_BUCKETS && status == WARM_OK; bucket++) {
+        warm_sending sending = {.bucket = bucket};
         do {
             size_t length;
-            status = warm_send(from, bucket, is_later, after, frame, FRAME_ROOM, &length);
-            if (status == WARM_OK) status = warm_receive(to, frame, length);
-            is_later = status == WARM_OK && frame_is_full(frame, &after);
-        } while (is_later);
+            status = warm_send(from, &sending, message, WARM_MESSAGE_ROOM, &length);
+            if (status == WARM_OK) status = warm_receive(to, message, length);
+        } while (status == WARM_OK && sending.more);
     }
-    free(frame);
+    free(message);
     return status;
 }
 
@@ -400,7 +408,7 @@ static int reload(pool_file *file, size_t new_size) {
     if (status == WARM_OK && keeps_history) status = hand_history_over(&file->handles[old], &file->handles[new]);
     /* Without memory for it the history is lost, and the file still right. */
     if (status != WARM_OK && file->handles[new].at == NULL) return status;
-    warm_close(&file->handles[old]);
+    warm_abandon(&file->handles[old]); /* pages are pinned in it, and none is dirty */
     file->reloads++;
     return WARM_OK;
 }

@@ -22,7 +22,7 @@ enum {
 enum { POOL_COUNTER = 16 };
 
 /* So far may a time that is heard be ahead of this clock. Clocks that are set by NTP differ by less than a second, and a machine that was just
- * started by some. A frame that claims more could do harm for as long: each history that hears a horizon forgets what is earlier. */
+ * started by some. A message that claims more could do harm for as long: each history that hears a horizon forgets what is earlier. */
 enum { POOL_SKEW_SECONDS = 60 };
 
 typedef struct pool_file {
@@ -90,10 +90,10 @@ void pool_file_absorb(pool_file *file);
 /* Loads one page of the warm-up, and writes whether there was one. */
 int pool_file_step(pool_file *file, bool *found);
 
-/* Takes in a frame from a peer, of any bytes, as warm_receive does, and hears its times. One that speaks of a time more than POOL_SKEW_SECONDS
+/* Takes in a message from a peer, of any bytes, as warm_receive does, and hears its times. One that speaks of a time more than POOL_SKEW_SECONDS
  * ahead of the clock is refused (WARM_LATE_HORIZON, WARM_LATE_STAMP): its horizon would empty the history, or its pages would rank as hottest
  * until then. */
-int pool_file_receive(pool_file *file, const uint8_t *frame, size_t length);
+int pool_file_receive(pool_file *file, const uint8_t *message, size_t length);
 
 /* A peer's reference or its horizon has this time: references that follow here are later. A time that is more than POOL_SKEW_SECONDS ahead of
  * the clock is not believed. */

@@ -29,7 +29,7 @@
 enum { FOLLOW_MILLISECONDS = 250, SLICE_MILLISECONDS = 50, HEARD = 64 };
 
 static volatile sig_atomic_t takes_over, ends, is_called; /* the last: either of both */
-static volatile uint64_t takeover_at;                     /* written before takes_over, and read after it */
+static _Atomic uint64_t takeover_at;                      /* written before takes_over, and read after it */
 
 static void on_signal(int number) {
     if (number != SIGUSR1) ends = 1;
@@ -76,7 +76,7 @@ static void say_changes(const gossip *g, said *last) {
     if (g->is_connected != last->is_connected) printf("standby: broker %s\n", g->is_connected ? "there" : "gone");
     if (g->peer_is_gone != last->is_gone) printf("standby: primary's connection %s\n", g->peer_is_gone ? "gone" : "there");
     if (is_late && !last->is_late)
-        printf("standby: frames are refused: they speak of a time more than %d s ahead of this clock\n", POOL_SKEW_SECONDS);
+        printf("standby: messages are refused: they speak of a time more than %d s ahead of this clock\n", POOL_SKEW_SECONDS);
     *last = (said){g->is_connected, g->peer_is_gone, is_late};
     fflush(stdout);
 }

@@ -53,7 +53,7 @@ static bool are_two_files(int one, int other) {
 char *take_copy_path(const char *db) {
     char *copy = joined(db, ".copy");
     must_not_be_there(db);
-    int fd = open(copy, O_RDWR | O_CREAT | O_NOFOLLOW | O_CLOEXEC, 0666);
+    int fd = open(copy, O_RDWR | O_CREAT | O_NOFOLLOW | O_CLOEXEC, 0600); /* DB gets the mode of the primary's file */
     take_must(fd >= 0 && flock(fd, LOCK_EX | LOCK_NB) == 0, copy);
     return copy;
 }
@@ -178,14 +178,47 @@ bool take_source(source *primary, const char *from) {
 
 /* ---- files ---- */
 
-/* Copies a whole file, which is on its disk then. The target is cut once it is known to be another file. */
+/* The last bytes of a journal of a transaction over several databases: the length of a name, which is before them, a sum of its bytes,
+ * and what a journal begins with, too. */
+enum { MAGIC = 8, NAMED = 16 };
+
+static const uint8_t journal_magic[MAGIC] = {0xd9, 0xd5, 0x05, 0xf9, 0x20, 0xa1, 0x63, 0xd7};
+
+/* Whether a journal that is in use names a super-journal. Its end alone does not say so: one that is used no more may still have it. */
+static bool names_super_journal(int journal, const char *path) {
+    uint8_t first[MAGIC], last[NAMED];
+    struct stat about;
+    take_must(fstat(journal, &about) == 0, path);
+    if (pread(journal, first, MAGIC, 0) != MAGIC || memcmp(first, journal_magic, MAGIC) != 0) return false;
+    if (about.st_size < MAGIC + NAMED || pread(journal, last, NAMED, about.st_size - NAMED) != NAMED) return false;
+    uint32_t length = (uint32_t)last[0] << 24 | (uint32_t)last[1] << 16 | (uint32_t)last[2] << 8 | last[3];
+    return memcmp(last + NAMED - MAGIC, journal_magic, MAGIC) == 0 && length > 0 && length <= about.st_size - NAMED;
+}
+
+/* SQLite rolls such a journal back only where the super-journal is, by the name that the primary's machine has for it. Elsewhere it would leave
+ * a part of the transaction in DB. */
+static void must_name_no_super_journal(const char *from) {
+    char *path = joined(from, "-journal");
+    int journal = open(path, O_RDONLY | O_CLOEXEC);
+    take_must(journal >= 0 || errno == ENOENT, path);
+    if (journal >= 0 && names_super_journal(journal, path)) {
+        fprintf(stderr, "standby: %s names a super-journal: its transaction is over several databases, of which this is one alone\n", path);
+        exit(1);
+    }
+    if (journal >= 0) close(journal);
+    sqlite3_free(path);
+}
+
+/* Copies a whole file, which is on its disk then, with its mode. The target is cut once it is known to be another file. */
 static void copy_file(int source, const char *to) {
     ssize_t copied;
-    int target = open(to, O_WRONLY | O_CREAT | O_NOFOLLOW | O_CLOEXEC, 0666);
+    struct stat about;
+    int target = open(to, O_WRONLY | O_CREAT | O_NOFOLLOW | O_CLOEXEC, 0600);
     take_must(target >= 0 && are_two_files(source, target) && ftruncate(target, 0) == 0, to);
     do copied = sendfile(target, source, NULL, 1 << 30);
     while (copied > 0 || (copied < 0 && errno == EINTR));
-    take_must(copied == 0 && fsync(target) == 0 && close(target) == 0, to);
+    take_must(copied == 0 && fstat(source, &about) == 0 && fchmod(target, about.st_mode & 0777) == 0, to);
+    take_must(fsync(target) == 0 && close(target) == 0, to);
 }
 
 static void sync_folder_of(const char *path) {
@@ -222,8 +255,10 @@ static void put_in_place(const char *copy_path, const char *db) {
 
 static taken take_database(pool_file *copy, const source *primary, const char *copy_path) {
     taken counts = {0};
+    struct stat about;
     if (copy != NULL) {
         take_must(take_pages(copy, primary->fd, &counts), primary->path);
+        take_must(fstat(primary->fd, &about) == 0 && fchmod(copy->fd, about.st_mode & 0777) == 0, copy_path);
         /* What stood in the copy before this program may not be on its disk, so it is synced also where nothing differed. */
         take_must(pool_file_leave(copy) == WARM_OK && fsync(copy->fd) == 0, copy_path);
     } else {
@@ -236,6 +271,7 @@ static taken take_database(pool_file *copy, const source *primary, const char *c
 taken take_files(pool_file *copy, source *primary, const char *db) {
     char *copy_path = joined(db, ".copy");
     must_not_be_there(db);
+    must_name_no_super_journal(primary->path);
     taken counts = take_database(copy, primary, copy_path);
     take_beside(primary->path, db, "-journal");
     take_beside(primary->path, db, "-wal");

@@ -63,7 +63,7 @@ typedef struct shared_fd {
 
 static shared_fd *shared_fds;
 
-static sqlite3_mutex *list_mutex(void) { return sqlite3_mutex_alloc(SQLITE_MUTEX_STATIC_VFS1); }
+static sqlite3_mutex *list_mutex(void) { return sqlite3_mutex_alloc(SQLITE_MUTEX_STATIC_VFS3); }
 
 static shared_fd *find_shared(const struct stat *about) {
     shared_fd *at = shared_fds;
@@ -157,16 +157,18 @@ static char *full_path(const char *path) {
 
 int pool_vfs_prepare(const char *now_at, const char *path, pool_file **pool) {
     if (prepared != NULL) return SQLITE_MISUSE;
-    prepared_path = full_path(path);
-    if (prepared_path == NULL) return SQLITE_CANTOPEN;
-    int result = open_pool(now_at, &prepared);
-    if (result == SQLITE_OK) {
-        *pool = prepared;
-        return SQLITE_OK;
+    char *full = full_path(path);
+    if (full == NULL) return SQLITE_CANTOPEN;
+    int result = open_pool(now_at, pool);
+    if (result != SQLITE_OK) {
+        free(full);
+        return result;
     }
-    free(prepared_path);
-    prepared_path = NULL;
-    return result;
+    sqlite3_mutex_enter(list_mutex());
+    prepared = *pool;
+    prepared_path = full;
+    sqlite3_mutex_leave(list_mutex());
+    return SQLITE_OK;
 }
 
 /* The pool that was prepared for this path, once. */

@@ -12,7 +12,7 @@
 #include <sys/wait.h>
 #include <unistd.h>
 
-#include "frames.h"
+#include "messages.h"
 #include "vfs.h"
 
 static const char *folder;
@@ -302,12 +302,12 @@ static void absorb_batch(warm *handle, batch *waiting) {
 /* A history is the same whether it gets each reference, or of each batch two a page: equal digests. */
 static void batches(uint64_t seed) {
     warm each = {0}, batched = {0};
-    warm_device none = {0};
+    const warm_options alone = {.size = sizeof alone, .replica = 1, .page_size = 512};
     batch waiting = {0};
     static uint8_t one[4096], other[4096];
     size_t length;
     random_state = seed;
-    MUST(warm_open(&each, 1, 1, 1, 512, &none, 0) == WARM_OK && warm_open(&batched, 1, 1, 1, 512, &none, 0) == WARM_OK);
+    MUST(warm_open(&each, &alone) == WARM_OK && warm_open(&batched, &alone) == WARM_OK);
     for (uint64_t time = 1; time < 3000; time++) {
         warm_reference reference = {.time = time, .no = draw(3) == 0 ? draw(1000) : draw(20), .replica = 1};
         MUST(warm_absorb(&each, &reference, 1) == WARM_OK);
@@ -376,7 +376,7 @@ static void taken_again(void) {
 
 /* A bucket of more pages than a frame carries is handed over in pieces: as the pool is opened again, and as gossip publishes it. */
 static void many_pages(void) {
-    enum { PAGES = 2 * FRAME_ENTRIES + 500 };
+    enum { PAGES = 2 * WARM_MAX_ENTRIES + 500 };
     static pool_file file;
     size_t known;
     uint8_t header[40] = {[24] = 1};
@@ -384,7 +384,7 @@ static void many_pages(void) {
     MUST(fd >= 0 && pool_file_open(&file, fd, 1, 4) == WARM_OK);
     for (uint64_t at = 0; at < 2 * PAGES; at++) {
         /* each third page has one stamp, and each other one has two, so that entries differ in length */
-        warm_reference reference = {.time = at + 1, .no = BUCKETS * (at % PAGES), .replica = 1};
+        warm_reference reference = {.time = at + 1, .no = WARM_BUCKETS * (at % PAGES), .replica = 1};
         if (at < PAGES || at % 3 != 0) MUST(warm_absorb(pool_file_handle(&file), &reference, 1) == WARM_OK);
     }
     MUST(pwrite(fd, header, sizeof header, 0) == sizeof header);
@@ -413,10 +413,10 @@ static void heard_times(void) {
     size_t known;
     int fd = open(path_of("heard"), O_RDWR | O_CREAT | O_TRUNC, 0666);
     MUST(fd >= 0 && pool_file_open(&file, fd, 1, 4) == WARM_OK);
-    MUST(warm_receive(pool_file_handle(&file), two, sizeof two - 1) == WARM_OK && frame_latest(two, sizeof two - 1) == 260);
-    MUST(warm_receive(pool_file_handle(&file), old, sizeof old - 1) == WARM_OK && frame_latest(old, sizeof old - 1) == 512);
+    MUST(warm_receive(pool_file_handle(&file), two, sizeof two - 1) == WARM_OK && message_latest(two, sizeof two - 1) == 260);
+    MUST(warm_receive(pool_file_handle(&file), old, sizeof old - 1) == WARM_OK && message_latest(old, sizeof old - 1) == 512);
     request_with(request, 258);
-    MUST(frame_latest(request, sizeof request) == 258);
+    MUST(message_latest(request, sizeof request) == 258);
     uint64_t now = file.time;
     pool_file_heard(&file, now - second);
     MUST(file.time == now);

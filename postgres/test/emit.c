@@ -15,12 +15,12 @@ Datum
 emit_message(PG_FUNCTION_ARGS)
 {
 	bytea	   *bytes = PG_GETARG_BYTEA_PP(0);
-	xl_logical_message record = {.dbId = InvalidOid, .prefix_size = sizeof "warm_standby",
+	xl_logical_message record = {.dbId = InvalidOid, .prefix_size = sizeof "standby_prewarm",
 	.message_size = VARSIZE_ANY_EXHDR(bytes)};
 
 	XLogBeginInsert();
 	XLogRegisterData((char *) &record, SizeOfLogicalMessage);
-	XLogRegisterData((char *) "warm_standby", sizeof "warm_standby");
+	XLogRegisterData((char *) "standby_prewarm", sizeof "standby_prewarm");
 	XLogRegisterData(VARDATA_ANY(bytes), VARSIZE_ANY_EXHDR(bytes));
 	XLogFlush(XLogInsert(RM_LOGICALMSG_ID, XLOG_LOGICAL_MESSAGE));
 	PG_RETURN_VOID();

@@ -1,10 +1,11 @@
-//! The measurements of `docs/PERFORMANCE.md` of turns, of threads, and of shards, run by the scripts
-//! in `bench/`: turn, replica, hits, shards and shared. `benches` has those of the layers below.
+//! The measurements of `docs/PERFORMANCE.md` of turns, of threads, and of shards, run by the
+//! scripts in `bench/`: turn, replica, hits, shards and shared. `benches` has those of the layers
+//! below.
 //!
 //! `bench_threads NAME WORDS..` runs the bench of that name with these arguments, and prints
 //! nanoseconds; its module documents the arguments. `bench_threads NAME` does a little of all that
-//! the bench measures, and prints the results. `bench_threads` does so for each bench, one after the
-//! other, under its name.
+//! the bench measures, and prints the results. `bench_threads` does so for each bench, one after
+//! the other, under its name.
 #![tactic(auto)]
 
 mod numbered;

@@ -10,8 +10,8 @@ use warm_pool::Pool;
 use warm_shards::{Shards, frames_of_shard};
 use warm_stamps::ReplicaId;
 
-/// A device whose pages begin with their number, in eight bytes, the lowest first; all further bytes
-/// are 0. It is declared not honest: writes to it are not stored.
+/// A device whose pages begin with their number, in eight bytes, the lowest first; all further
+/// bytes are 0. It is declared not honest: writes to it are not stored.
 #[derive(Drop)]
 pub(crate) struct Numbered {
     pages: u64,

@@ -3,9 +3,9 @@
 //!
 //! Four numbers are taken: of shards, or 0 for a plain node; of frames in all, a power of two up to
 //! 65,536; of hits; and of batches. Each frame has a page of 16 bytes. A hit pins a page that is
-//! drawn evenly, reads eight bytes of it, and unpins it. A batch has 64 references to pages that are
-//! drawn evenly. With no word a little of both is made with a node, one shard and four shards, which
-//! print the same.
+//! drawn evenly, reads eight bytes of it, and unpins it. A batch has 64 references to pages that
+//! are drawn evenly. With no word a little of both is made with a node, one shard and four shards,
+//! which print the same.
 //!
 //! `hits` takes the numbers of frames and of hits alone, for `bench/c/measure.py`, which measures
 //! the same from C, and makes the hits in a plain node. With no word it makes a few.

@@ -7,6 +7,7 @@
 //! thread come last; the pages are a power of two up to 65,536.
 //!
 //! - `SHARDS THREADS PAGES HITS`: 1, 2 or 4 threads over shared shards.
+//! - `look SHARDS THREADS PAGES HITS`: the same, where a hit is a look at the bytes where they lie.
 //! - `alone SHARDS PAGES HITS`: one thread over shards that no thread shares, without turns.
 //! - `node PAGES HITS`: one thread over a node.
 //!
@@ -62,13 +63,16 @@ enum Kind {
     Node,
     Alone { shards: usize },
     Shared { shards: usize, crowd: Crowd },
+    Looked { shards: usize, crowd: Crowd },
 }
 
-// How many pages there are, and how many hits each thread makes.
+// How many pages there are, how many hits each thread makes, and whether a hit in shared shards is
+// a look.
 #[derive(Clone, Copy)]
 struct Load {
     pages: u64,
     hits: u64,
+    looks: bool,
 }
 
 impl Load {
@@ -76,6 +80,7 @@ impl Load {
         Ok(Load {
             pages: pages.parse::<u64>().context("the number of pages")?,
             hits: hits.parse::<u64>().context("the number of hits")?,
+            looks: false,
         })
     }
 
@@ -123,6 +128,38 @@ fn number_in<R: Wait>(
     Ok(number_of(bytes.as_slice()))
 }
 
+// The number in a page, which is looked at where it lies.
+fn number_seen<R: Wait>(
+    rt: &R,
+    shared: &SharedShards<Numbered>,
+    attached: &mut Attached<Numbered>,
+    no: u64,
+) -> Result<u64, SharedFault>
+    requires { AreOf shared.now attached.old.passes }
+    ensures { AreOf shared.now attached.new.passes }
+{
+    let page = PageId { dev: 0, no };
+    let number = shared.look(rt, attached, page, |bytes: &[u8]| number_of(bytes))?;
+    Ok(number)
+}
+
+// The number in a page, by a look or by a pin, a read and an unpin.
+fn number_hit<R: Wait>(
+    rt: &R,
+    shared: &SharedShards<Numbered>,
+    attached: &mut Attached<Numbered>,
+    no: u64,
+    looks: bool,
+) -> Result<u64, SharedFault>
+    requires { AreOf shared.now attached.old.passes }
+    ensures { AreOf shared.now attached.new.passes }
+{
+    if looks {
+        return number_seen(rt, shared, attached, no);
+    }
+    number_in(rt, shared, attached, no)
+}
+
 // Loads each page into a frame.
 fn load_shared<R: Wait>(
     rt: &R,
@@ -155,7 +192,8 @@ fn hit_shared<R: Wait>(
     let mut checksum = 0u64;
     for _ in 0..load.hits {
         drawn = next(drawn);
-        let number = number_in(rt, shared, attached, (drawn >> 48) & load.mask())?;
+        let no = (drawn >> 48) & load.mask();
+        let number = number_hit(rt, shared, attached, no, load.looks)?;
         checksum = added(checksum, number);
     }
     Ok(checksum)
@@ -287,9 +325,9 @@ fn opened<R: Wait>(
     let Ok((shared, mut attached)) = sharing.share() else {
         bail!("no memory")
     };
-    let Ok(()) = load_shared(rt, &shared, &mut attached, load.pages) else {
-        bail!("a page was not loaded")
-    };
+    if let Err(fault) = load_shared(rt, &shared, &mut attached, load.pages) {
+        bail!("a page was not loaded: {} {}", fault.code(), fault.name())
+    }
     Ok((shared, attached))
 }
 
@@ -344,6 +382,18 @@ fn run_of<R: Threads + Wait + Clock + AllocGlobal + Sync>(
             load,
         ),
         Kind::Shared { shards, crowd } => timed_shared(rt, alloc, shards, crowd, load),
+        Kind::Looked { shards, crowd } => {
+            timed_shared(
+                rt,
+                alloc,
+                shards,
+                crowd,
+                Load {
+                    looks: true,
+                    ..load
+                },
+            )
+        }
     }
 }
 
@@ -352,6 +402,7 @@ fn play_small<R: Threads + Wait + Clock + Print + AllocGlobal + Sync>(rt: &R) ->
     let load = Load {
         pages: 64,
         hits: 100,
+        looks: false,
     };
     let node = run_of(rt, Kind::Node, load)?;
     println!(rt; "node: {}", node.sum)?;
@@ -361,6 +412,8 @@ fn play_small<R: Threads + Wait + Clock + Print + AllocGlobal + Sync>(rt: &R) ->
         for crowd in [Crowd::One, Crowd::Two, Crowd::Four] {
             let run = run_of(rt, Kind::Shared { shards, crowd }, load)?;
             println!(rt; "shards {shards}, {}: {}", crowd.name(), run.sum)?;
+            let run = run_of(rt, Kind::Looked { shards, crowd }, load)?;
+            println!(rt; "shards {shards}, {}, looks: {}", crowd.name(), run.sum)?;
         }
     }
     Ok(())
@@ -374,12 +427,19 @@ fn asked(words: &[String]) -> Result<(Kind, Load)> {
             let shards = shards.parse::<usize>().context("the number of shards")?;
             Ok((Kind::Alone { shards }, Load::of(pages, hits)?))
         }
+        [word, shards, threads, pages, hits] if word.as_str() == "look" => {
+            let shards = shards.parse::<usize>().context("the number of shards")?;
+            let crowd = Crowd::of(threads)?;
+            Ok((Kind::Looked { shards, crowd }, Load::of(pages, hits)?))
+        }
         [shards, threads, pages, hits] => {
             let shards = shards.parse::<usize>().context("the number of shards")?;
             let crowd = Crowd::of(threads)?;
             Ok((Kind::Shared { shards, crowd }, Load::of(pages, hits)?))
         }
-        _ => bail!("shared takes the numbers of shards, threads, pages and hits, or alone or node"),
+        _ => bail!(
+            "shared takes the numbers of shards, threads, pages and hits, or look, alone or node"
+        ),
     }
 }
 

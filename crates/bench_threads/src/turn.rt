@@ -5,18 +5,19 @@
 //! `THREADS TURNS`, 1, 2, 4 or 8 threads take that many turns each, and the nanoseconds are printed
 //! too, for `bench/turn/measure.py`; with the word `waits` after them also the nanoseconds of the
 //! longest call; and with `slow` the same of a counter that sleeps for a millisecond in each call,
-//! as a machine over a slow device does.
+//! as a machine over a slow device does. With `visits` one thread adds by visits in place of calls.
 ghost use Rattle.std.specs.Prelude.{◌≡◌};
 ghost use Rattle.std.specs.Thread.{IsSend, IsSync};
 
 use anyhow::{Context, Result, bail};
 use std::alloc::Global;
 use std::io::Print;
+use std::snapshot::Snapshot;
 use std::sync::Wait;
 use std::thread::{Threads, join};
 use std::time::{Clock, Duration, Instant};
 use std::{io, thread};
-use warm_turn::{Add, Added, Counter, Machine, Pass, Turn};
+use warm_turn::{Add, Added, CallMade, Counter, Machine, Pass, Turn, Visit, Visited};
 
 // A counter that sleeps for a millisecond in each call.
 #[derive(Drop)]
@@ -41,6 +42,36 @@ impl Machine for SlowCounter {
     fn call(&mut self, call: Add) -> Added {
         thread::sleep(&self.clock, Duration::from_millis(1));
         self.counter.call(call)
+    }
+}
+
+// Adds one to a counter where it lies.
+#[derive(Drop)]
+struct AddOne;
+
+impl Visit<Counter> for AddOne {
+    ghost use Rattle.std.specs.Prelude.{◌≡◌, ⊤};
+    ghost use Rattle.warm_turn.specs.declared.counter.Add.{Add};
+
+    type Output = Added;
+
+    ghost ready = { λ _. ⊤ };
+
+    ghost makes = { λ _ output call reply. (call.0 ≡ 1) × (reply ≡ output) };
+
+    fn visit(self, counter: &mut Counter) -> Visited<Add, Added, Added> {
+        let output = match counter.total.checked_add(1) {
+            Some(total) => {
+                counter.total = total;
+                Added::Total(total)
+            }
+            None => Added::Overflow,
+        };
+        let made = CallMade {
+            call: Snapshot::of(&Add(1)),
+            reply: Snapshot::of(&output),
+        };
+        Visited { made, output }
     }
 }
 
@@ -78,6 +109,22 @@ fn add_ones<M: Machine<Call = Add, Reply = Added>, R: Wait + Clock>(
         }
     }
     (pass, longest)
+}
+
+// Takes this many turns, each for a visit.
+fn visit_often<R: Wait>(
+    rt: &R,
+    turn: &Turn<Counter>,
+    mut pass: Pass<Counter>,
+    turns: u64,
+) -> Pass<Counter>
+    requires { pass.table ≡ turn.now.table }
+    ensures { result.table ≡ turn.now.table }
+{
+    for _ in 0..turns {
+        let _ = turn.visit(rt, &mut pass, AddOne);
+    }
+    pass
 }
 
 // This many threads take this many turns each, and their passes are ended into this one.
@@ -156,13 +203,14 @@ impl Crowd {
     }
 }
 
-// The kind of a run: plain, with each call timed, or with a machine that sleeps and each call
-// timed.
+// The kind of a run: plain, with each call timed, with a machine that sleeps and each call timed,
+// or of one thread with visits in place of calls.
 #[derive(Clone, Copy)]
 enum Kind {
     Plain,
     Timed,
     Slow,
+    Visits,
 }
 
 // The total that the crowd counts to from 0, and the nanoseconds of the longest call.
@@ -183,7 +231,22 @@ fn count<R: Threads + Wait + Clock + Sync>(
     Ok((counter.total, longest))
 }
 
-// The same, for a machine that sleeps.
+// The total that one thread counts to from 0 by visits.
+fn count_by_visits<R: Wait>(rt: &R, alloc: Global, crowd: Crowd, turns: u64) -> Result<u64> {
+    let Crowd::One = crowd else {
+        bail!("visits are those of 1 thread")
+    };
+    let Ok((turn, pass)) = Turn::new(alloc, Counter { total: 0 }) else {
+        bail!("no memory")
+    };
+    let pass = visit_often(rt, &turn, pass, turns);
+    let Ok(counter) = turn.close(pass) else {
+        bail!("a ticket was not passed on")
+    };
+    Ok(counter.total)
+}
+
+// The same as `count`, for a machine that sleeps.
 fn count_slowly<R: Threads + Wait + Clock + Sync>(
     rt: &R,
     alloc: Global,
@@ -216,10 +279,13 @@ fn time<R: Threads + Wait + Clock + Print + AllocGlobal + Sync>(
         Kind::Plain => count(rt, rt.alloc(), crowd, turns, false)?,
         Kind::Timed => count(rt, rt.alloc(), crowd, turns, true)?,
         Kind::Slow => count_slowly(rt, rt.alloc(), clock, crowd, turns)?,
+        Kind::Visits => (count_by_visits(rt, rt.alloc(), crowd, turns)?, 0),
     };
     let spent = start.elapsed(rt)?.as_nanos();
     match kind {
-        Kind::Plain => println!(rt; "{}: {} in {} ns", crowd.name(), total, spent)?,
+        Kind::Plain | Kind::Visits => {
+            println!(rt; "{}: {} in {} ns", crowd.name(), total, spent)?
+        }
         Kind::Timed | Kind::Slow => {
             println!(rt;
                 "{}: {} in {} ns, {} ns",
@@ -242,10 +308,11 @@ fn kind_of(words: &[String]) -> Result<Kind> {
         match word.as_str() {
             "waits" => return Ok(Kind::Timed),
             "slow" => return Ok(Kind::Slow),
+            "visits" => return Ok(Kind::Visits),
             _ => {}
         }
     }
-    bail!("turn takes two numbers, of threads and of the turns of each, and waits or slow")
+    bail!("turn takes two numbers, of threads and of the turns of each, and waits, slow or visits")
 }
 
 pub(crate) fn play<R: Threads + Wait + Clock + Print + AllocGlobal + Sync>(
@@ -260,7 +327,9 @@ pub(crate) fn play<R: Threads + Wait + Clock + Print + AllocGlobal + Sync>(
         return time(rt, clock, kind_of(rest)?, Crowd::of(threads)?, turns);
     }
     if !words.is_empty() {
-        bail!("turn takes two numbers, of threads and of the turns of each, and waits or slow")
+        bail!(
+            "turn takes two numbers, of threads and of the turns of each, and waits, slow or visits"
+        )
     }
     for crowd in CROWDS {
         let (total, _) = count(rt, rt.alloc(), crowd, 1_000, false)?;

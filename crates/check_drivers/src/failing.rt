@@ -2,8 +2,8 @@
 //! and a flush are calls, counted from 1.
 //!
 //! - `play CALL FRAMES`: a schedule, as `warmplay` plays it, over one replica with one worker and
-//!   this many frames, on a device in memory of 8 pages of 16 bytes whose call of that number fails.
-//!   With 0 none does.
+//!   this many frames, on a device in memory of 8 pages of 16 bytes whose call of that number
+//!   fails. With 0 none does.
 //! - `pools`: calls of pools, each with its answer. Pools are separated by blank lines;
 //!   `src/failing/line.rt` defines a pool's first line, which describes its frames and devices, and
 //!   the syntax of calls.

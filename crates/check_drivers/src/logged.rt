@@ -3,9 +3,9 @@
 //!
 //! Each step puts its number into a page of a pool of few frames, so that pages leave and are
 //! written. Before each of these writes the log appends the page's number and bytes to a file; each
-//! fifth time it answers "not yet" instead, and the call is made again. After each hundredth step all
-//! is written back and flushed, and then the number of the step is printed. The files are `log` and
-//! `pages`, in the folder that it runs in.
+//! fifth time it answers "not yet" instead, and the call is made again. After each hundredth step
+//! all is written back and flushed, and then the number of the step is printed. The files are `log`
+//! and `pages`, in the folder that it runs in.
 
 use anyhow::{Result, bail};
 use std::fs::{File, OpenOptions};
@@ -80,8 +80,8 @@ fn page_of(step: u64) -> PageId {
     PageId { dev: 0, no }
 }
 
-// Pins a page. A pin that the log holds up, since a page that is to leave may not be written yet, is
-// made again.
+// Pins a page. A pin that the log holds up, since a page that is to leave may not be written yet,
+// is made again.
 fn pinned(node: &mut LoggedNode, page: PageId) -> Result<Slot> {
     for _try in 0..TRIES {
         match node.pin(page) {

@@ -3,12 +3,12 @@
 //!
 //! - `digests`: calls of a history with cached digests, from standard input;
 //! - `frames`: bytes that may be frames, from standard input;
-//! - `play CALL FRAMES` and `pools`: a schedule and calls of pools from standard input, over devices
-//!   of which one call fails;
+//! - `play CALL FRAMES` and `pools`: a schedule and calls of pools from standard input, over
+//!   devices of which one call fails;
 //! - `logged`: pages that are written over a log.
 //!
-//! With no word standard input has parts for all of these. A part begins with a line of `==` and the
-//! words; the line is printed, and then what these words print with the rest of the part.
+//! With no word standard input has parts for all of these. A part begins with a line of `==` and
+//! the words; the line is printed, and then what these words print with the rest of the part.
 #![tactic(auto)]
 
 mod digests;

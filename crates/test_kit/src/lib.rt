@@ -1,11 +1,13 @@
 //! What the tests of several crates share: values and lists made from plain numbers, bytes of
-//! frames, what is displayed, readers and writers, devices, and a device that calls back a test.
+//! frames, what is displayed, readers and writers, devices, and a device that calls back a test. And
+//! what the programs of allocation cases share ([`cases`]).
 //!
 //! Nothing here may end a process, since only tests may: a function whose allocation can fail
 //! returns an error, and the test decides.
 #![tactic(auto)]
 
 mod bytes;
+pub mod cases;
 mod devices;
 mod hooked;
 mod lists;
@@ -17,7 +19,9 @@ mod values;
 pub use bytes::{NARROW, WIDE};
 pub use devices::{alone, both, flaky, memory};
 pub use hooked::{HookedDevice, Hooks};
-pub use lists::{SeenAt, history_of, references};
+pub use lists::{
+    SeenAt, are_equal, history_of, history_of_pages, references, references_to, spread_references,
+};
 pub use note::{Found, Note, Noting, noting};
 pub use streams::{BrokenReader, CountingReader, FullWriter, MarkingWriter, TrickleReader};
 pub use text::displays;

@@ -1,13 +1,13 @@
 //! Dumps that are cut, changed or put together otherwise: which fault is found, and where, or that
 //! the history is the same.
-use crate::bytes::row_holds;
 use crate::dumps::{
     FIRST, FRAME_1, REQUEST, SECOND, WHOLE, dump_of_four, dump_with, four_pages, put, read,
 };
-use crate::histories::are_equal;
+use crate::rows::row_holds;
 use std::alloc::Global;
 use std::fmt;
 use std::process::Abort;
+use test_kit::are_equal;
 use warm_dump::{DumpError, DumpFault};
 use warm_frames::{DIGEST_SIZE, FrameFault};
 use warm_history::History;

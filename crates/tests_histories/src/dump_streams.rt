@@ -1,11 +1,12 @@
 //! Readers that give bytes one by one, are interrupted or fail, and writers that take few bytes or
 //! fail: what a dump makes of them.
-use crate::bytes::row_holds;
 use crate::dumps::{FIRST, SECOND, WHOLE, dump_of_four, four_pages};
-use crate::histories::are_equal;
+use crate::rows::row_holds;
 use std::alloc::Global;
 use std::process::Abort;
-use test_kit::{BrokenReader, CountingReader, FullWriter, MarkingWriter, TrickleReader, replica};
+use test_kit::{
+    BrokenReader, CountingReader, FullWriter, MarkingWriter, TrickleReader, are_equal, replica,
+};
 use warm_dump::{DumpError, DumpFault, READ_SIZE, read_dump, write_dump};
 
 #[test]

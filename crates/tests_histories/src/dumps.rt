@@ -1,11 +1,10 @@
 //! Dumps: their bytes, as a program apart spells them (`checks/dumps/vectors`), and which bytes are
 //! dumps of one history.
 use crate::digests::FOUR_PAGES;
-use crate::histories::are_equal;
 use sha2::{Digest, Sha256};
 use std::alloc::Global;
 use std::process::Abort;
-use test_kit::{history_of, page_on, replica, seen};
+use test_kit::{are_equal, history_of, page_on, replica, seen};
 use warm_dump::{DumpError, read_dump, write_dump};
 use warm_history::History;
 use warm_stamps::BUCKETS;

@@ -2,29 +2,15 @@
 //! after an allocation failure is tested by the program `memory_cases`.
 use std::alloc::Global;
 use std::process::Abort;
-use test_kit::{SeenAt, bucket, entry, history_of, once, page, page_on, seen, twice};
+use test_kit::{SeenAt, are_equal, bucket, entry, history_of, once, page, page_on, seen, twice};
 use warm_history::{Entries, Entry, History, PageHist};
-use warm_stamps::{BUCKETS, PageId, Reference};
+use warm_stamps::{PageId, Reference};
 
 // The history of references, with this horizon.
 fn history_since(rt: &impl Abort, alloc: Global, horizon: u64, given: &[SeenAt]) -> History {
     let mut history = history_of(alloc, given).expect(rt, "memory for a history");
     history.raise(horizon);
     history
-}
-
-// Whether two histories have one horizon and the same entries: bucket by bucket, since an iterator
-// over one bucket is cheaper to prove than one over all in page order.
-pub fn are_equal(a: &History, b: &History) -> bool {
-    if a.horizon() != b.horizon() {
-        return false;
-    }
-    for number in 0..BUCKETS {
-        if !a.bucket(bucket(number)).eq(b.bucket(bucket(number))) {
-            return false;
-        }
-    }
-    true
 }
 
 fn is_known(history: &History, page: PageId, hist: PageHist) -> bool {

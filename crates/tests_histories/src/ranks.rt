@@ -3,7 +3,7 @@
 ghost use Rattle.std.specs.Prelude.{◌≡◌, ◌<◌, ◌≤◌, length};
 ghost use Rattle.warm_rank.specs.declared.TheConstants.{MAX_FRAMES};
 
-use crate::bytes::row_holds;
+use crate::rows::row_holds;
 use std::alloc::Global;
 use std::cmp::Ordering;
 use std::process::Abort;

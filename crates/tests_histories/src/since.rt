@@ -1,7 +1,6 @@
 //! What a bucket has since a time, in portions.
-use crate::histories::are_equal;
 use std::process::Abort;
-use test_kit::{SeenAt, bucket, history_of, page_on, seen};
+use test_kit::{SeenAt, are_equal, bucket, history_of, page_on, seen};
 use warm_history::{Entry, History};
 use warm_stamps::{BUCKETS, PageId, Reference};
 
@@ -132,9 +131,9 @@ fn take_bucket(
     0
 }
 
-// A receiver that has all from before a time, and takes in what every bucket of the sender has since
-// then, has all that the sender has. Since 13,600 the pages from 0:3,600 on were referenced: 43 or
-// 44 of each bucket, so two portions.
+// A receiver that has all from before a time, and takes in what every bucket of the sender has
+// since then, has all that the sender has. Since 13,600 the pages from 0:3,600 on were referenced:
+// 43 or 44 of each bucket, so two portions.
 #[test]
 fn who_has_all_from_before_then_has_all(rt: HostRuntime) {
     let mut sender = History::new(rt.alloc());

@@ -1,16 +1,9 @@
-//! Tests of one replica, over only public calls: what devices store and record, where pages go in a
-//! pool, which are evicted, what is refused, the contents of a device when its pool is dropped, and
-//! the replies of a node (warm_devices, test_kit, warm_pool, warm_gossip). Allocations that fail are
-//! in memory_cases.
+//! Tests of a node, over only public calls: its replies, what it sends and takes in, what its calls
+//! refuse, and what its pool's devices hold (warm_gossip). Allocations that fail are in
+//! node_memory_cases.
 #![tactic(auto)]
 
 #[cfg(test)]
-mod devices;
-#[cfg(test)]
-mod faults;
+mod filled;
 #[cfg(test)]
 mod node;
-#[cfg(test)]
-mod notes;
-#[cfg(test)]
-mod pool;

@@ -1,9 +1,8 @@
 //! Tests of the simulator, over only public calls: the answers of a world of nodes to lists of
 //! events, the output of schedules and how a play ends, also one by threads, the meanings of words
 //! and setup files, how a run ends, and what their faults display (warm_world, warm_player,
-//! warm_threads, warm_setup). The expected texts were derived by hand from docs/FORMATS.md. And the
-//! call that each README shows (`readmes`), and each call of the specification by its own name
-//! (`names`). Allocations that fail are in memory_cases.
+//! warm_threads, warm_setup). The expected texts were derived by hand from docs/FORMATS.md.
+//! Allocations that fail are in world_memory_cases.
 #![tactic(auto)]
 
 #[cfg(test)]
@@ -11,13 +10,9 @@ mod command;
 #[cfg(test)]
 mod faults;
 #[cfg(test)]
-mod names;
-#[cfg(test)]
 mod outcome;
 #[cfg(test)]
 mod player;
-#[cfg(test)]
-mod readmes;
 #[cfg(test)]
 mod schedules;
 #[cfg(test)]

@@ -1,5 +1,5 @@
-//! Whole schedules and what they print: gossip, refused and failing devices, long lines, buffers and
-//! buckets, the largest worlds, and schedules drawn at random. What short schedules print is in
+//! Whole schedules and what they print: gossip, refused and failing devices, long lines, buffers
+//! and buckets, the largest worlds, and schedules drawn at random. What short schedules print is in
 //! checks/rows, whose files the proved program plays.
 use crate::player::{add, answers_of, default_setup, each_alone, ended_over, line_holds, texts_of};
 use std::alloc::Global;

@@ -81,7 +81,7 @@ fn a_read_asks_for_65_536_bytes(rt: HostRuntime) {
 }
 
 // The first lines of the schedule of seed 7 for one replica with one worker, as the independent
-// program of tests_histories gives them: 32 bytes.
+// program of tests_values gives them: 32 bytes.
 const DRAWN: &str = "ref 1 1 0:95 1\nsend 1 23\nshow 1\n";
 
 // Draws that many lines of it.

@@ -18,8 +18,8 @@ use warm_stamps::{ByteList, PageId};
 
 type Device = Flaky<MemDevice>;
 
-// Shared shards over devices whose calls of these numbers fail, 0 for none, with a frame for each of
-// eight threads; and what the first thread has of them.
+// Shared shards over devices whose calls of these numbers fail, 0 for none, with a frame for each
+// of eight threads; and what the first thread has of them.
 fn shared_over(
     rt: &impl Abort,
     alloc: Global,

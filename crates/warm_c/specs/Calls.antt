@@ -63,6 +63,7 @@ BatchRefused batch (Node Memory) = Unit {0}
 BatchRefused batch BadReplica = HasBadReplica batch
 BatchRefused batch why = ⊥
 
+-- the node absorbs the references, or says why not
 abbrev pub Absorbs : List WarmReference → OpenNode → Ending → OpenNode → Type 0
 Absorbs batch old (Ok given) new = Replies (Absorb (map reference_of batch)) old Done new
 Absorbs batch old (Err BadReplica) new = HasBadReplica batch × (new ≡ old)
@@ -86,12 +87,14 @@ CountsPages number old new = (number ≡ length (entries_of old.node.history)) �
 
 -- The pool
 
+-- the node pins the page, or says why not
 abbrev pub Pins : WarmPage → PinnedSlot → PinnedSlot → OpenNode → Ending → OpenNode → Type 0
 Pins page before after old (Ok given) new =
     Replies (Pin (page_of_c page)) old (Pinned (pinned_slot after)) new
 Pins page before after old (Err why) new = RefusedByNode (Pin (page_of_c page)) old why new
     × (after ≡ before)
 
+-- the node takes one pin of the slot back, or says why not
 abbrev pub Unpins : WarmSlot → OpenNode → Ending → OpenNode → Type 0
 Unpins slot old (Ok given) new = Replies (Unpin (slot_of_c slot)) old Done new
 Unpins slot old (Err why) new = RefusedByNode (Unpin (slot_of_c slot)) old why new
@@ -104,14 +107,17 @@ ReadsPage slot at before after old (Err (Node Memory)) new = ⊥
 ReadsPage slot at before after old (Err why) new =
     RefusedByNode (Read (slot_of_c slot) at (length before)) old why new × (after ≡ before)
 
+-- the node writes the bytes into the page of the slot, or says why not
 abbrev pub Writes : WarmSlot → ℕ → List ℕ → OpenNode → Ending → OpenNode → Type 0
 Writes slot at bytes old (Ok given) new = Replies (Write (slot_of_c slot) at bytes) old Done new
 Writes slot at bytes old (Err why) new = RefusedByNode (Write (slot_of_c slot) at bytes) old why new
 
+-- the node names the victim, if there is one
 abbrev pub Names : WarmPage → ℕ → WarmPage → OpenNode → OpenNode → Type 0
 Names before found page old new = (named : Option PageId) × Replies Victim old (Page named) new
     × IsOptionalPage named before found page
 
+-- the node loads the next page of the warm-up list, if there is one, or says why not
 abbrev pub StepsWarmUp : ℕ → WarmPage → ℕ → WarmPage → OpenNode → Ending → OpenNode → Type 0
 StepsWarmUp found page found' page' old (Ok given) new = (loaded : Option PageId)
     × Replies WarmStep old (Loaded loaded) new × IsOptionalPage loaded page found' page'
@@ -123,6 +129,7 @@ abbrev pub SaysResident : WarmPage → ℕ → OpenNode → OpenNode → Type 0
 SaysResident page number old new =
     IsBool number (IsResident (view_of old.node.pool) (page_of_c page)) × (new ≡ old)
 
+-- the node writes all dirty pages back and flushes its devices, or says why not
 abbrev pub WritesBack : OpenNode → Ending → OpenNode → Type 0
 WritesBack old (Ok given) new = SameView old.node new.node × IsSettled new.node.pool
     × SameDevices old new

@@ -57,6 +57,7 @@ ReplaceRefused dev d old (Node (Pool why)) new = MayStand dev d old
     × KeepsHistory old new × SameDevices old new
 ReplaceRefused dev d old why new = ⊥
 
+-- the device is replaced, or the call says why not
 abbrev pub Replaces : ℕ → WarmDevice → OpenNode → Ending → OpenNode → Type 0
 Replaces dev d old (Ok given) new = Replaced dev d old new
 Replaces dev d old (Err why) new = ReplaceRefused dev d old why new

@@ -31,6 +31,7 @@ pub record PinnedWithZeros (page : WarmPage) (slot : PinnedSlot) (old new : Open
   pub frame : TakesZeroed old.node.pool (page_of_c page) (pinned_slot slot) new.node.pool
   pub rest : SameButPool old new
 
+-- the page is pinned so, or the call says why not
 abbrev pub PinsZeroed : WarmPage → PinnedSlot → PinnedSlot → OpenNode → Ending → OpenNode → Type 0
 PinsZeroed page before after old (Ok given) new = PinnedWithZeros page after old new
 PinsZeroed page before after old (Err (Node (Pool why))) new =
@@ -51,6 +52,7 @@ WritesSome limit before left old (Err (Node (Pool Fault))) new =
     SomeFails limit old.node.pool new.node.pool × SameButPool old new × (left ≡ before)
 WritesSome limit before left old (Err why) new = ⊥
 
+-- the pages of one device are written back and it is flushed, or the call says why not
 abbrev pub FlushesDevice : ℕ → OpenNode → Ending → OpenNode → Type 0
 FlushesDevice dev old (Ok given) new = SameView old.node new.node × IsSettledOn dev new.node.pool
     × SameDevices old new
@@ -60,6 +62,7 @@ FlushesDevice dev old (Err why) new = ⊥
 
 -- Forgetting pages
 
+-- the pages of a device from a number on leave their frames unwritten, or the call says why not
 abbrev pub ForgetsPages : ℕ → ℕ → OpenNode → Ending → OpenNode → Type 0
 ForgetsPages dev from old (Ok given) new = Forgets old.node.pool dev from new.node.pool
     × SameButPool old new

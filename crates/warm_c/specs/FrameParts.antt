@@ -27,8 +27,8 @@ request_in (Entries sender horizon entries) = 0
 request_in (Digest sender horizon digests) = 0
 request_in (Want sender horizon request) = request
 
--- what is said of a message: its kind, its horizon, the requested buckets, and of which shards there
--- are entries
+-- what is said of a message: its kind, its horizon, the requested buckets, and of which shards
+-- there are entries
 pub record IsFrameOf (count : ℕ) (message : Message) (what : NodeFrame) : Type 0 where
   pub kind : what.kind ≡ kind_in message
   pub horizon : what.horizon ≡ horizon_in message
@@ -55,6 +55,7 @@ abbrev pub Differ : List (List ℕ) → Message → ℕ → Type 0
 Differ table (Digest sender horizon digests) buckets = MarksDiffering buckets digests table
 Differ table message buckets = buckets ≡ 0
 
+-- the bytes are a frame, and these buckets differ; or the call says why they are none
 abbrev pub FindsDiffering : List (List ℕ) → List ℕ → ℕ → ℕ → Ending → Type 0
 FindsDiffering table bytes before buckets (Ok given) =
     (message : Message) × Encodes bytes message × Differ table message buckets

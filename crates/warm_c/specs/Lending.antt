@@ -18,8 +18,8 @@ LendRefused slot old new h (Node StaleSlot) = (Holds (view_of h.node.pool) (slot
     × (new ≡ old)
 LendRefused slot old new h why = ⊥
 
--- The slot holds its page, and the handle is as it was. That the address is that of the page's bytes,
--- and that they stay there, is nothing that a clause can say: the header says it.
+-- The slot holds its page, and the handle is as it was. That the address is that of the page's
+-- bytes, and that they stay there, is nothing that a clause can say: the header says it.
 abbrev pub Lends : WarmSlot → Ptr → Ptr → OpenNode → Ending → OpenNode → Type 0
 Lends slot before after old (Ok given) new = Holds (view_of old.node.pool) (slot_of_c slot)
     × (new ≡ old)

@@ -3,6 +3,7 @@ pub mod Counters
 pub mod Counting
 pub mod Devices
 pub mod Engine
+pub mod Filling
 pub mod FdParts
 pub mod FrameParts
 pub mod Handles

@@ -20,8 +20,8 @@ use Rattle.warm_c.specs.Calls.{Ending, HasBadReplica, Pins, RefusedByNode, Repli
 use Rattle.warm_c.specs.Parts.{AreReplicas, OfPart, part_of_batch, part_of_message}
 use Rattle.warm_c.specs.Statuses.{code_of, status_of}
 
--- the node has absorbed the references of the batch to pages of the shard, and no others; no reference
--- of the whole batch has a number that is no replica's
+-- the node has absorbed the references of the batch to pages of the shard, and no others; no
+-- reference of the whole batch has a number that is no replica's
 abbrev pub AbsorbsThose : ℕ → ℕ → List WarmReference → OpenNode → Ending → OpenNode → Type 0
 AbsorbsThose shards shard batch old (Ok given) new = AreReplicas batch
     × Replies (Absorb (part_of_batch shards shard batch)) old Done new
@@ -29,6 +29,7 @@ AbsorbsThose shards shard batch old (Err BadReplica) new = HasBadReplica batch �
 AbsorbsThose shards shard batch old (Err why) new =
     RefusedByNode (Absorb (part_of_batch shards shard batch)) old why new
 
+-- the same for one shard of many; numbers that are no shard's are refused
 abbrev pub AbsorbsPart : ℕ → ℕ → List WarmReference → OpenNode → Ending → OpenNode → Type 0
 AbsorbsPart shards shard batch old ending new =
     OfPart shards shard ending (new ≡ old) (AbsorbsThose shards shard batch old ending new)
@@ -41,9 +42,9 @@ PinsAndLends page before after at at' old (Ok given) new = Pins page before afte
 PinsAndLends page before after at at' old (Err why) new =
     Pins page before after old (Err why) new × (at' ≡ at)
 
--- Of a frame of a message, the node has received what that brings to the shard: its horizon, and the
--- entries of pages of the shard; nothing is answered. Or it refuses that; or the bytes are no frame,
--- and nothing has changed.
+-- Of a frame of a message, the node has received what that brings to the shard: its horizon, and
+-- the entries of pages of the shard; nothing is answered. Or it refuses that; or the bytes are no
+-- frame, and nothing has changed.
 abbrev pub ReceivesThose : ℕ → ℕ → List ℕ → OpenNode → Ending → OpenNode → Type 0
 ReceivesThose shards shard bytes old (Ok given) new = (message : Message) × Encodes bytes message
     × Replies (Receive (part_of_message shards shard message)) old (Answers []) new
@@ -54,6 +55,7 @@ ReceivesThose shards shard bytes old (Err (Frame fault)) new =
     GivesReading (Err fault) (read_frame bytes) (reserved_by bytes) × (new ≡ old)
 ReceivesThose shards shard bytes old (Err why) new = ⊥
 
+-- the same for one shard of many; numbers that are no shard's are refused
 abbrev pub ReceivesPart : ℕ → ℕ → List ℕ → OpenNode → Ending → OpenNode → Type 0
 ReceivesPart shards shard bytes old ending new =
     OfPart shards shard ending (new ≡ old) (ReceivesThose shards shard bytes old ending new)
@@ -78,6 +80,7 @@ pub record TakesDigests (shards shard : ℕ) (before after : Gathered) (h : Hist
 abbrev pub SameOpen : OpenNode → OpenNode → Type 0
 SameOpen old new = SameView old.node new.node × SameDevices old new
 
+-- the digests and the horizon of the node went into those gathered, or memory failed
 abbrev pub GivesThose : ℕ → ℕ → Gathered → Gathered → OpenNode → Ending → OpenNode → Type 0
 GivesThose shards shard before after old (Ok given) new =
     TakesDigests shards shard before after old.node.history × SameOpen old new
@@ -85,6 +88,7 @@ GivesThose shards shard before after old (Err (Node Memory)) new =
     (after ≡ before) × SameOpen old new
 GivesThose shards shard before after old (Err why) new = ⊥
 
+-- the same for one shard of many; numbers that are no shard's are refused
 abbrev pub GivesDigests : ℕ → ℕ → Gathered → Gathered → OpenNode → Ending → OpenNode → Type 0
 GivesDigests shards shard before after old ending new =
     OfPart shards shard ending ((after ≡ before) × (new ≡ old))
@@ -92,16 +96,16 @@ GivesDigests shards shard before after old ending new =
 
 -- Joining what another node holds
 
--- the node has joined the history of the other node; or an allocation failed, and nothing has changed
--- that a caller sees
+-- the node has joined the history of the other node; or an allocation failed, and nothing has
+-- changed that a caller sees
 abbrev pub Gathers : OpenNode → OpenNode → Ending → OpenNode → Type 0
 Gathers other old (Ok given) new =
     Joins old.node other.node.history new.node × SameDevices old new
 Gathers other old (Err (Node Memory)) new = SameOpen old new
 Gathers other old (Err why) new = ⊥
 
--- A call on two handles. Where one of them is closed, it says so, and both are as they were. Else the
--- first stays open, and its node goes so beside what the second holds, which is as it was.
+-- A call on two handles. Where one of them is closed, it says so, and both are as they were. Else
+-- the first stays open, and its node goes so beside what the second holds, which is as it was.
 abbrev pub CalledWith : (OpenNode → OpenNode → Ending → OpenNode → Type 0) → Option OpenNode
     → Option OpenNode → ℤ → Option OpenNode → Option OpenNode → Type 0
 CalledWith goes None from status into' from' =

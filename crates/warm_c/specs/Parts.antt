@@ -34,8 +34,8 @@ abbrev pub IsNoPart : ℕ → ℕ → Refusal → Type 0
 IsNoPart shards shard why = ((why ≡ BadShards) × (IsShardCount shards → ⊥))
     ⊎ ((why ≡ NoShard) × IsShardCount shards × (shards ≤ shard))
 
--- A call for one shard. Where there cannot be this many shards, or this is none of them, it is refused,
--- and all is the same; else it goes so.
+-- A call for one shard. Where there cannot be this many shards, or this is none of them, it is
+-- refused, and all is the same; else it goes so.
 abbrev pub OfPart : ℕ → ℕ → Ending → Type 0 → Type 0 → Type 0
 OfPart shards shard ending same goes =
     ((why : Refusal) × (ending ≡ Err why) × IsNoPart shards shard why × same)

@@ -32,6 +32,7 @@ abbrev pub dump_code_of : DumpFault → ℕ
 dump_code_of (dump.Frame fault) = frame_code_of fault
 dump_code_of fault = 64 + dump_faults.dump_fault_code fault
 
+-- the number of each refusal
 abbrev pub code_of : Refusal → ℕ
 code_of (Node fault) = node_faults.code_of fault
 code_of (NewPool fault) = pool_faults.new_code_of fault
@@ -50,6 +51,7 @@ code_of PinsLeft = 75
 code_of NoShard = 76
 code_of (Dump fault) = dump_code_of fault
 
+-- the name of each refusal
 abbrev pub name_of : Refusal → List ℕ
 name_of (Node fault) = node_faults.name_of fault
 name_of (NewPool fault) = pool_faults.new_name_of fault

@@ -15,8 +15,8 @@ use warm_gossip::NodeFault;
 use warm_pool::PoolFault;
 use warm_stamps::Items;
 
-// Creates the device over a descriptor. `None` exactly where its pages do not fit into what a file's
-// offsets can name.
+// Creates the device over a descriptor. `None` exactly where its pages do not fit into what a
+// file's offsets can name.
 fn device_of(device: &WarmDevice, page_size: usize) -> Option<FdDevice>
     ensures made { IfSome result (λ made.
         fd_state made ≡ fd_opened device.now.fd device.now.pages page_size) }
@@ -34,8 +34,8 @@ struct Replacement {
 }
 
 impl OpenNode {
-    // Creates the device that could stand in the place of one, before any page of that one is looked
-    // at. Its errors are those of `replace` that are not the node's own, in its order.
+    // Creates the device that could stand in the place of one, before any page of that one is
+    // looked at. Its errors are those of `replace` that are not the node's own, in its order.
     fn replacement(
         &self,
         alloc: Global,

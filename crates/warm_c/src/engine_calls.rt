@@ -1,10 +1,18 @@
 //! The calls on an open handle by which an engine holds its pages, beside pins, reads and writes.
+ghost use Rattle.std.specs.Prelude.{◌≡◌, IfErr, IfOk};
 ghost use Rattle.warm_c.specs.Engine.{FlushesDevice, ForgetsPages, PinsZeroed, SaysMayForget};
 ghost use Rattle.warm_c.specs.Engine.{WritesSome};
+ghost use Rattle.warm_c.specs.Filling.{PinsFilled};
+ghost use Rattle.warm_c.specs.declared.status.Refusal.TheVariants.{Node};
+ghost use Rattle.warm_gossip.specs.State.{node_view};
+ghost use Rattle.warm_gossip.specs.Step.{IsNextWarm};
+ghost use Rattle.warm_gossip.specs.declared.fault.NodeFault.TheVariants.{Memory};
 
 use crate::open_node::OpenNode;
 use crate::status::Refusal;
 use crate::values::{PinnedSlot, WarmPage};
+use warm_pool::NewPoolFault;
+use warm_stamps::PageId;
 
 impl OpenNode {
     /// Calls [`warm_gossip::Node::pin_zeroed`], and writes the slot.
@@ -17,6 +25,42 @@ impl OpenNode {
         let given = self.node.pin_zeroed(page.page())?;
         *slot = PinnedSlot::of(given);
         Ok(())
+    }
+
+    /// Calls [`warm_gossip::Node::pin_filled`], and writes the slot.
+    ///
+    /// # Errors
+    /// `NewPool(SizeDiffers)`: the bytes are not as many as a page has; nothing has changed. `Node`:
+    /// the node's own. The slot is unchanged.
+    pub fn pin_filled(
+        &mut self,
+        page: WarmPage,
+        bytes: &[u8],
+        slot: &mut PinnedSlot,
+    ) -> Result<(), Refusal>
+        ensures { PinsFilled page bytes.now slot.old slot.new self.old result self.new }
+    {
+        if bytes.len() != self.node.pool().page_size() {
+            return Err(Refusal::NewPool(NewPoolFault::SizeDiffers));
+        }
+        // No device over a descriptor claims anything of its bytes: so any bytes are allowed.
+        let _devices = self.node.pool().devices();
+        let filled = self.node.pin_filled(page.page(), bytes)?;
+        *slot = PinnedSlot::of(filled);
+        Ok(())
+    }
+
+    /// Calls [`warm_gossip::Node::warm_next`].
+    ///
+    /// # Errors
+    /// `Node(Memory)`: an allocation failed.
+    pub fn next(&mut self) -> Result<Option<PageId>, Refusal>
+        ensures same { self.new ≡ self.old }
+        ensures next { IfOk result (λ page. IsNextWarm (node_view self.old.node) page) }
+        ensures refused { IfErr result (λ why. why ≡ Node Memory) }
+    {
+        let next = self.node.warm_next()?;
+        Ok(next)
     }
 
     /// Calls [`warm_gossip::Node::write_back_some`], and writes how many pages are still dirty.

@@ -107,8 +107,8 @@ fn differing_in(table: &NodeTable, message: &Message) -> u64
     differing(digests, &DigestTable::of(table.digests)).bits()
 }
 
-/// Decodes a frame, and writes which buckets have other digests in it than in the table; none, where
-/// it is no frame of digests.
+/// Decodes a frame, and writes which buckets have other digests in it than in the table; none,
+/// where it is no frame of digests.
 ///
 /// # Errors
 /// `Frame`: the bytes are no frame; `buckets` is unchanged.

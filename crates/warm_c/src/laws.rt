@@ -24,8 +24,8 @@ pub fn parts_are_the_whole()
     ensures history { HistoryIsOfParts }
 {}
 
-/// What is gathered shard by shard is that of all shards together: a history that joins those of the
-/// shards, and a table with the digests of each.
+/// What is gathered shard by shard is that of all shards together: a history that joins those of
+/// the shards, and a table with the digests of each.
 pub fn gathered_is_whole()
     ensures history { GatheredIsWhole }
     ensures digests { DigestsAreGathered }

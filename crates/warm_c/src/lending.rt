@@ -44,7 +44,8 @@ impl OpenNode {
         Ok(())
     }
 
-    /// Writes the address of the bytes of the slot's page, to be written to. The page becomes dirty.
+    /// Writes the address of the bytes of the slot's page, to be written to. The page becomes
+    /// dirty.
     ///
     /// # Errors
     /// `Node`, with `StaleSlot`: the slot does not hold its page. The pointer is unchanged.

@@ -6,8 +6,9 @@
 //!
 //! Most functions, `node_NAME`, make the node's call `Node::NAME`. The others are:
 //!
-//! - [`node_list`] makes `Node::warm_list`, [`node_step`] makes `Node::warm_step`, [`node_read`]
-//!   makes `Node::read_into`, and [`node_horizon`] makes `Node::raise`.
+//! - [`node_list`] makes `Node::warm_list`, [`node_step`] makes `Node::warm_step`, [`node_next`]
+//!   makes `Node::warm_next`, [`node_read`] makes `Node::read_into`, and [`node_horizon`] makes
+//!   `Node::raise`.
 //! - [`node_history_length`] counts the pages of the node's history, [`node_save`] writes a dump of
 //!   it, and [`node_load`] joins the history of a dump (`Node::join`).
 //! - [`node_resident`], [`node_lend`], [`node_counts`], [`node_device_counts`] and
@@ -33,6 +34,7 @@ ghost use Rattle.warm_c.specs.Calls.{Unpins, Writes, WritesBack};
 ghost use Rattle.warm_c.specs.Counting.{CountsDevice, CountsPool, SaysFailure};
 ghost use Rattle.warm_c.specs.Devices.{Replaces};
 ghost use Rattle.warm_c.specs.Engine.{FlushesDevice, ForgetsPages, PinsZeroed, WritesSome};
+ghost use Rattle.warm_c.specs.Filling.{NamesNext, PinsFilled};
 ghost use Rattle.warm_c.specs.Handles.{Called, Opens, Surely, open_request};
 ghost use Rattle.warm_c.specs.Lending.{Lends, LendsMut};
 ghost use Rattle.warm_c.specs.Since.{SendsSince, send_buffers};
@@ -193,6 +195,33 @@ pub extern "C" fn node_pin_zeroed(
         return closed();
     };
     let done = node.pin_zeroed(page, slot);
+    put_back(handle, node, done)
+}
+
+/// Pins a page as [`node_pin`] does, but with these bytes in place of a read, and writes its slot. No
+/// device is read. `bytes` is the page as its device has it now, whole, which is believed; of a page
+/// that is in a frame it is not looked at. Allocation-free.
+///
+/// # Errors
+/// In this order; the slot is unchanged, and of the node only counts of failures have changed.
+/// - 3: the bytes are not as many as a page has.
+/// - 4 to 6, 8 and 9, in the order of [`warm_pool::Pool::pin_filled`].
+#[unsafe(no_mangle)]
+pub extern "C" fn node_pin_filled(
+    alloc: Global,
+    handle: &mut Handle,
+    page: WarmPage,
+    bytes: &[u8],
+    slot: &mut PinnedSlot,
+) -> i32
+    ensures called { Called (PinsFilled page bytes.now slot.old slot.new) handle.old.held.node
+        result handle.new.held.node }
+    ensures closed { handle.old.held.node ≡ None → slot.new ≡ slot.old }
+{
+    let Some(mut node) = handle.take(alloc) else {
+        return closed();
+    };
+    let done = node.pin_filled(page, bytes, slot);
     put_back(handle, node, done)
 }
 
@@ -391,6 +420,35 @@ pub extern "C" fn node_step(
     }
 }
 
+/// Writes whether there is a page that [`node_step`] would load, 1 or 0, and which; `page` is
+/// unchanged where there is none. Nothing is loaded: C reads the page, and pins it by
+/// [`node_pin_filled`].
+///
+/// # Errors
+/// 1: an allocation failed. `found` and `page` are unchanged.
+#[unsafe(no_mangle)]
+pub extern "C" fn node_next(
+    alloc: Global,
+    handle: &mut Handle,
+    found: &mut u8,
+    page: &mut WarmPage,
+) -> i32
+    ensures called { Called (NamesNext found.old page.old found.new page.new)
+        handle.old.held.node result handle.new.held.node }
+    ensures closed { handle.old.held.node ≡ None → (found.new ≡ found.old) × (page.new ≡ page.old) }
+{
+    let Some(mut node) = handle.take(alloc) else {
+        return closed();
+    };
+    match node.next() {
+        Ok(next) => {
+            put_page(next, found, page);
+            put_back(handle, node, Ok(()))
+        }
+        Err(why) => put_back(handle, node, Err(why)),
+    }
+}
+
 /// Writes the frame with the first 1000 entries of a bucket, or, where `has_after`, of its entries
 /// whose page is greater than `after`; and its length.
 ///
@@ -423,8 +481,8 @@ pub extern "C" fn node_send(
 
 /// Writes the frame with the first 1000 entries of a bucket, of those whose latest stamp is not
 /// before the time `since`, and, where `has_after`, whose page is greater than `after`; its length;
-/// whether more of them follow, 1 or 0; and the page of the last one, after which to go on. `last` is
-/// unchanged where there is none.
+/// whether more of them follow, 1 or 0; and the page of the last one, after which to go on. `last`
+/// is unchanged where there is none.
 ///
 /// # Errors
 /// The buffer, `more` and `last` are unchanged.

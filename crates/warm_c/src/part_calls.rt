@@ -90,8 +90,8 @@ impl OpenNode {
         Ok(())
     }
 
-    /// Calls [`warm_gossip::Node::pin`], and writes the slot and the address of the page's bytes, which
-    /// stay there as [`OpenNode::lend`] says.
+    /// Calls [`warm_gossip::Node::pin`], and writes the slot and the address of the page's bytes,
+    /// which stay there as [`OpenNode::lend`] says.
     ///
     /// # Errors
     /// `Node`: the node's own. The slot and the pointer are unchanged.

@@ -34,8 +34,8 @@ pub extern "C" fn node_divide(frames: usize, shards: usize, each: &mut usize) ->
     status_of(divide(frames, shards, each))
 }
 
-/// Returns which shards have a page to which there is a reference in the batch, bit i for shard i; 0
-/// where there cannot be this many shards.
+/// Returns which shards have a page to which there is a reference in the batch, bit i for shard i;
+/// 0 where there cannot be this many shards.
 #[unsafe(no_mangle)]
 pub extern "C" fn node_shards_of(shards: usize, references: &[WarmReference]) -> u64
     ensures bits { IsShardCount shards
@@ -77,8 +77,8 @@ pub extern "C" fn node_absorb_part(
 /// Pins a page as [`crate::node_pin`] does, and writes the address of its bytes, to be read.
 ///
 /// # Errors
-/// 4 to 9, in the order of [`warm_pool::Pool::pin`]. The slot and the pointer are unchanged, and of the
-/// node only counts of failures have changed.
+/// 4 to 9, in the order of [`warm_pool::Pool::pin`]. The slot and the pointer are unchanged, and of
+/// the node only counts of failures have changed.
 #[unsafe(no_mangle)]
 pub extern "C" fn node_pin_lend(
     alloc: Global,
@@ -99,8 +99,8 @@ pub extern "C" fn node_pin_lend(
     put_back(handle, node, done)
 }
 
-/// Writes what a frame is: its kind, its horizon, of which shards it has entries, and which buckets it
-/// requests.
+/// Writes what a frame is: its kind, its horizon, of which shards it has entries, and which buckets
+/// it requests.
 ///
 /// # Errors
 /// In this order, and 1 at any point where an allocation failed; `what` is unchanged.
@@ -148,8 +148,8 @@ pub extern "C" fn node_receive_part(
     put_back(handle, node, done)
 }
 
-/// Writes the digests of the shard's buckets into the table, and the later one of the horizon and the
-/// node's. The digests of other buckets are unchanged.
+/// Writes the digests of the shard's buckets into the table, and the later one of the horizon and
+/// the node's. The digests of other buckets are unchanged.
 ///
 /// # Errors
 /// In this order; the table and the horizon are unchanged.
@@ -200,8 +200,8 @@ pub extern "C" fn node_offer_frame(
     status_of(offer_frame(alloc, replica, horizon, table, frame, len))
 }
 
-/// Writes which buckets have other digests in a frame of digests than in the table, bit i for bucket
-/// i; 0 of a frame of another kind.
+/// Writes which buckets have other digests in a frame of digests than in the table, bit i for
+/// bucket i; 0 of a frame of another kind.
 ///
 /// # Errors
 /// 1 where an allocation failed. `buckets` is unchanged.
@@ -265,8 +265,8 @@ pub extern "C" fn node_gather(alloc: Global, into: &mut Handle, from: &mut Handl
     put_back(into, node, done)
 }
 
-/// Returns whether [`crate::node_forget`] would forget these pages: so several nodes forget together
-/// or not at all.
+/// Returns whether [`crate::node_forget`] would forget these pages: so several nodes forget
+/// together or not at all.
 ///
 /// # Errors
 /// Those of `node_forget`. Nothing changes in any case.
@@ -281,8 +281,8 @@ pub extern "C" fn node_may_forget(alloc: Global, handle: &mut Handle, dev: u16, 
     put_back(handle, node, done)
 }
 
-/// Returns whether a device over another descriptor could stand in the place of one, before any page
-/// of that one is looked at: so several nodes replace a device together or not at all.
+/// Returns whether a device over another descriptor could stand in the place of one, before any
+/// page of that one is looked at: so several nodes replace a device together or not at all.
 ///
 /// # Errors
 /// Those of [`crate::node_replace`] that come before 11, in its order. Nothing changes in any case.

@@ -135,8 +135,8 @@ pub fn page_if(is_there: bool, page: WarmPage) -> Option<PageId>
 
 /// Returns a bool of C.
 ///
-/// It is a number here, and not a `bool`, where a call writes it: what a caller of C never wrote may
-/// be none, and is none of what this reads.
+/// It is a number here, and not a `bool`, where a call writes it: what a caller of C never wrote
+/// may be none, and is none of what this reads.
 pub fn c_bool(holds: bool) -> u8
     ensures { IsBool result (IsTrue holds) }
 {

@@ -1,4 +1,5 @@
--- The bytes of a page of a node's pool are lent, and whatever is left in them is the page's content.
+-- The bytes of a page of a node's pool are lent, and whatever is left in them is the page's
+-- content.
 use Rattle.std.proofs.Common.{◌≡◌, ℕ, true, List, length, set, refl, ap, subst, ◌∙◌}
 use Rattle.warm_history.specs.Histories.{HistoryView}
 use Rattle.warm_pool.specs.declared.slot.Slot.{Slot}

@@ -22,7 +22,7 @@ use Rattle.warm_pool.specs.View.{PoolView, frame_at}
 use Rattle.warm_pool.specs.Pinning.{IsPlaced, Pinned, PutsIn}
 use Rattle.warm_gossip.specs.declared.warm_step.WarmUp.{WarmUp}
 use Rattle.warm_gossip.specs.Step.{IsFirstLoadable, IsLoadable, nth_page}
-use Rattle.warm_gossip.specs.WarmingUp.{IsNoneBefore, IsPast, IsUnderWay, IsWarming, PassedAtLoad, PassedAtPin}
+use Rattle.warm_gossip.specs.WarmingUp.{IsNoneBefore, IsPast, IsUnderWay, IsWarming, PassedAtFill, PassedAtLoad, PassedAtNext, PassedAtPin}
 use Rattle.warm_gossip.proofs.HottestLemmas.{all_has, contains_has}
 use Rattle.warm_gossip.proofs.VictimLemmas.{frames_after}
 use Rattle.warm_gossip.proofs.WarmUpLemmas.{came_in, frames_count, has_same, resident_or_absent}
@@ -96,11 +96,11 @@ leaves_later S n ps is j i before there =
     rises_at falls ps (record { dev = 0; no = 0 }) (subst (IsAscending falls) (sym is) rising) j i before there
 
 -- a page that is loaded is passed too, where it evicted none of those before it
-pub loaded : (h : HistoryView) (v w : PoolView) (ps : List PageId) (slot : Slot)
+pub loaded : {fixes : ℕ} (h : HistoryView) (v w : PoolView) (ps : List PageId) (slot : Slot)
     (evicted : Option PageId) (at n : ℕ) → IsHistory h → at < length ps → IsUnderWay h v ps at
-    → PutsIn h v (nth_page ps at) 0 slot w → evicted ≡ (frame_at v slot.index).page
+    → PutsIn h v (nth_page ps at) fixes slot w → evicted ≡ (frame_at v slot.index).page
     → PassedAtLoad h (nth_page ps at) evicted at n → IsUnderWay h w ps n
-loaded h v w ps slot evicted at n whole there under puts is moves = record {
+loaded {fixes} h v w ps slot evicted at n whole there under puts is moves = record {
   hottest = subst (λ k. IsWarmUp h k ps) (sym (frames_count puts)) under.hottest;
   past = elim moves [ inl none ↦ λ j before. absurd (omega (arith, none, before)) | inr (next, none_before) ↦ past next none_before ];
 }
@@ -131,6 +131,38 @@ loaded h v w ps slot evicted at n whole there under puts is moves = record {
       )
       | inr (inr after) ↦ absurd (omega (arith, next, after, before))
     ]
+
+-- ---- pins of pages whose bytes are given
+
+-- the pin evicted a page
+at_fill : (h : HistoryView) (v w : PoolView) (p e : PageId) (placed : Placed) (ps : List PageId)
+    (m n : ℕ) → IsHistory h → placed.evicted ≡ Some e → Pinned h v p placed.slot w
+    → IsPlaced v p placed w → PassedAtNext h ps m p e n → IsUnderWay h v ps m → IsUnderWay h w ps n
+at_fill h v w p e placed ps m n whole was (has, inl adds) is moves under =
+    let none : placed.evicted ≡ None = is.resident (record { frame = placed.slot.index; there = adds.there; holds = adds.resident }) in
+    let no : None ≡ Some e = sym none ∙ was in
+    absurd (cc)
+at_fill h v w p e placed ps m n whole was (has, inr puts) is (inl none) under = record {
+  hottest = subst (λ k. IsWarmUp h k ps) (sym (frames_count puts)) under.hottest;
+  past = λ j before. absurd (omega (arith, none, before));
+}
+at_fill h v w p e placed ps m n whole was (has, inr puts) is (inr (there, next, moves)) under =
+    loaded h v w ps placed.slot (Some e) m n whole there under
+    (subst (λ q. PutsIn h v q 1 placed.slot w) (sym next) puts) (sym was ∙ is.absent puts.absent)
+    (subst (λ q. PassedAtLoad h q (Some e) m n) (sym next) moves)
+
+pub filled : (h : HistoryView) (v w : PoolView) (p : PageId) (placed : Placed) (x : WarmUp) (n : ℕ)
+    → IsHistory h → PassedAtFill h x p placed.evicted n → Pinned h v p placed.slot w
+    → IsPlaced v p placed w → IsWarming h v x → IsWarming h w (record x { passed = n })
+filled h v w p placed x n whole passed pins is under =
+    elim placed.evicted as (λ o. placed.evicted ≡ o → PassedAtFill h x p o n → IsWarming h w (record x { passed = n })) [
+      | None ↦ λ was same. pinned h v w p placed x n (inr (was, same)) pins is under
+      | Some e ↦ λ was moves.
+          elim x.pages as (λ o. IfSome o (λ ps. PassedAtNext h ps.items x.passed p e n) → IfSome o (λ ps. IsUnderWay h v ps.items x.passed) → IfSome o (λ ps. IsUnderWay h w ps.items n)) [
+            | None ↦ λ _ none. none
+            | Some ps ↦ λ next u. at_fill h v w p e placed ps.items x.passed n whole was pins is next u
+          ] moves under
+    ] refl passed
 
 -- ---- the page to load next
 

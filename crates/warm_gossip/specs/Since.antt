@@ -11,8 +11,8 @@ use Rattle.warm_frames.specs.declared.message.Message.{Message}
 use Rattle.warm_frames.specs.declared.message.Message.TheVariants.{Entries}
 use Rattle.warm_gossip.specs.Answers.{refs_in}
 
--- the message of the first entries of the bucket, up to MAX_ENTRIES, of those whose page comes after
--- the given one and whose latest stamp is not before the time
+-- the message of the first entries of the bucket, up to MAX_ENTRIES, of those whose page comes
+-- after the given one and whose latest stamp is not before the time
 abbrev pub sent_since : ℕ → HistoryView → ℕ → ℕ → Option PageId → Message
 sent_since id h bucket since after = Entries id h.horizon
     (entries_of (history (carried_since (references_of h) bucket since after MAX_ENTRIES)))

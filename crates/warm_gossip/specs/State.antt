@@ -16,6 +16,7 @@ pub record NodeView : Type 0 where
   pub history : HistoryView
   pub pool : PoolView
 
+-- what a caller sees of a node
 abbrev pub node_view : NodeState → NodeView
 node_view s = record { id = s.id; history = s.history; pool = view_of s.pool }
 

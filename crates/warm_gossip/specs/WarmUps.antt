@@ -5,11 +5,12 @@ use Rattle.warm_history.specs.ReferenceSets.{ReferenceSet}
 use Rattle.warm_history.specs.Histories.{StandsFor}
 use Rattle.warm_rank.specs.Ranking.{hottest_pages}
 use Rattle.warm_pool.specs.View.{PoolView, frame_at, HasPage, IsResident, IsUnfixed}
-use Rattle.warm_gossip.specs.declared.call.Call.TheVariants.{WarmStep}
+use Rattle.warm_pool.specs.declared.slot.Slot.{Slot}
+use Rattle.warm_gossip.specs.declared.call.Call.TheVariants.{Pin, Unpin, WarmStep}
 use Rattle.warm_gossip.specs.declared.call.Reply.{Reply}
-use Rattle.warm_gossip.specs.declared.call.Reply.TheVariants.{Loaded}
+use Rattle.warm_gossip.specs.declared.call.Reply.TheVariants.{Done, Loaded, Pinned}
 use Rattle.warm_gossip.specs.State.{NodeView}
-use Rattle.warm_gossip.specs.Step.{Step}
+use Rattle.warm_gossip.specs.Step.{IsNextWarm, Step}
 use Rattle.warm_gossip.specs.Victims.{IsEvicted}
 
 -- no page is in two frames
@@ -51,3 +52,9 @@ NodeWarmUpLoads = (S : ReferenceSet) (old new : NodeView) → StandsFor old.hist
 abbrev pub NodeWarmsUp : NodeView → Type 0
 NodeWarmsUp old = (S : ReferenceSet) (new : NodeView) → StandsFor old.history S → IsUnfixed old.pool
     → StepsLoad S old new
+
+-- the page to load next is pinned, and then unpinned: the warm-up step that loads it
+abbrev pub FilledPinIsWarmStep : Type 0
+FilledPinIsWarmStep = (old between new : NodeView) (p : PageId) (slot : Slot)
+    → IsNextWarm old (Some p) → Step old (Pin p) (Pinned slot) between
+    → Step between (Unpin slot) Done new → Step old WarmStep (Loaded (Some p)) new

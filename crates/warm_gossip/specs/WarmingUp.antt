@@ -36,3 +36,14 @@ IsNoneBefore h p (Some evicted) = IsBefore (references_of h) evicted p
 -- the loaded page is passed too, unless the page that it evicted may be among those before it
 abbrev pub PassedAtLoad : HistoryView → PageId → Option PageId → ℕ → ℕ → Type 0
 PassedAtLoad h p evicted at new = (new ≡ 0) ⊎ ((new ≡ at + 1) × IsNoneBefore h p evicted)
+
+-- the pinned page was the next one of the list, and is passed as after a load; or none is passed
+abbrev pub PassedAtNext : HistoryView → List PageId → ℕ → PageId → PageId → ℕ → Type 0
+PassedAtNext h pages at p evicted new = (new ≡ 0) ⊎ ((at < length pages) × (nth_page pages at ≡ p)
+    × PassedAtLoad h p (Some evicted) at new)
+
+-- after a pin of a page whose bytes were given
+abbrev pub PassedAtFill : HistoryView → WarmUp → PageId → Option PageId → ℕ → Type 0
+PassedAtFill h warm_up p None new = new ≡ warm_up.passed
+PassedAtFill h warm_up p (Some evicted) new =
+    IfSome warm_up.pages (λ pages. PassedAtNext h pages.items warm_up.passed p evicted new)

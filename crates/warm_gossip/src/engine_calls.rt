@@ -1,25 +1,31 @@
 //! What an engine that holds a node asks of its pool beside the calls.
 //!
-//! None of these is a [`crate::Call`]. The relation `Step` of calls is over what a caller sees of a
-//! pool, in which no page is dirty, and no device has bytes of its own: it cannot say how many
-//! dirty pages are left, nor what a page contains once it is forgotten. A page with zeros is pinned
-//! by a program that fills it through bytes that it is lent.
-ghost use Rattle.std.specs.Prelude.{◌≡◌, IfErr, IfOk, OnErr, OnOk};
-ghost use Rattle.warm_pool.specs.declared.fault.PoolFault.TheVariants.{Fault};
+//! None of these is a [`crate::Call`], though [`Node::pin_filled`] goes as the call `Pin` does. The
+//! relation `Step` of calls is over what a caller sees of a pool, in which no page is dirty, and no
+//! device has bytes of its own: it cannot say how many dirty pages are left, nor what a page
+//! contains once it is forgotten. A page with zeros is pinned by a program that fills it through
+//! bytes that it is lent.
+ghost use Rattle.std.specs.Prelude.{◌≡◌, ◌≢◌, IfErr, IfOk, OnErr, OnOk, length};
+ghost use Rattle.warm_pool.specs.declared.fault.PoolFault.TheVariants.{Fault, ReadFault};
+ghost use Rattle.warm_pool.specs.Filling.{AreFromDevice, TakesFilled};
 ghost use Rattle.warm_pool.specs.Forgetting.{ForgetRefused, Forgets, MayForget};
 ghost use Rattle.warm_pool.specs.Keeping.{KeepsFrames, KeepsRanks, SameButFailures};
-ghost use Rattle.warm_pool.specs.Calls.{FlushesNone, FlushesOnce};
+ghost use Rattle.warm_pool.specs.Calls.{FlushesNone, FlushesOnce, ReadsNone};
 ghost use Rattle.warm_pool.specs.Retiring.{KeepsElsewhere};
 ghost use Rattle.warm_pool.specs.View.{view_of, Holds};
 ghost use Rattle.warm_pool.specs.WritingSome.{FlushRefused, IsSettledOn, KeepsOtherDevices};
 ghost use Rattle.warm_pool.specs.WritingSome.{SomeFails, WritesBackSome};
 ghost use Rattle.warm_pool.specs.Zeroing.{LeavesUnread, PinnedZeroed, TakesZeroed, ZeroedRefused};
 ghost use Rattle.warm_gossip.specs.declared.fault.NodeFault.TheVariants.{Pool};
-ghost use Rattle.warm_gossip.specs.Clauses.{OfPool, SameView};
+ghost use Rattle.warm_gossip.specs.declared.call.Call.TheVariants.{Pin};
+ghost use Rattle.warm_gossip.specs.declared.call.Reply.TheVariants.{Pinned};
+ghost use Rattle.warm_gossip.specs.Clauses.{Answered, OfPool, SameView};
 
 use crate::fault::NodeFault;
 use crate::node::Node;
+use crate::warm_step::passed_at_fill;
 use warm_devices::PageDevice;
+use warm_history::laws::prove_is_history;
 use warm_pool::Slot;
 use warm_stamps::PageId;
 
@@ -56,6 +62,41 @@ impl<D: PageDevice> Node<D> {
         let slot = self.pool.pin_zeroed(page, self.history.history())?;
         self.warm_up.passed = 0;
         Ok(slot)
+    }
+
+    /// Pins a page as [`Node::pin`] does, but with the bytes given in place of a read, as
+    /// [`warm_pool::Pool::pin_filled`] does: the step of the call `Pin`. No device is read. `bytes`
+    /// is the page as its device has it now, whole: that is required of an honest device, and
+    /// believed of another. If the page is resident, `bytes` is ignored. Allocation-free.
+    ///
+    /// **A pin is not a reference**: a caller that pins a page also absorbs a reference to it.
+    ///
+    /// # Errors
+    /// `Pool`, with the fault and the order of [`warm_pool::Pool::pin_filled`], and with the same
+    /// effects: those of a pin but `ReadFault`, which doesn't occur. Pages, pin counts and contents
+    /// are unchanged.
+    pub fn pin_filled(&mut self, page: PageId, bytes: &[u8]) -> Result<Slot, NodeFault>
+        requires size { length bytes.now ≡ self.old.pool.page_size }
+        requires given { AreFromDevice (view_of self.old.pool) page bytes.now }
+        ensures step { Answered self.old (Pin page) Pinned result self.new }
+        ensures holds { IfOk result (λ slot. Holds (view_of self.new.pool) slot) }
+        ensures frame { IfOk result (λ slot. TakesFilled
+            self.old.pool page bytes.now slot self.new.pool) }
+        ensures no_read_fault { IfErr result (OfPool (λ fault. fault ≢ ReadFault)) }
+        ensures stays { OnErr result (SameButFailures
+            (view_of self.old.pool) (view_of self.new.pool)) }
+        ensures frames { OnErr result (KeepsFrames self.old.pool self.new.pool) }
+        ensures devices { IfErr result (OfPool (λ fault. LeavesUnread self.old.history
+            self.old.pool fault self.new.pool)) }
+        ensures unread { ReadsNone self.old.pool.devices self.new.pool.devices }
+        ensures unflushed { FlushesNone self.old.pool.devices self.new.pool.devices }
+    {
+        let filled = self.pool.pin_filled(page, self.history.history(), bytes)?;
+        // The order of the list is over the references that the history holds.
+        prove_is_history(self.history.history());
+        let history = self.history.history();
+        self.warm_up.passed = passed_at_fill(history, &self.warm_up, page, filled.evicted);
+        Ok(filled.slot)
     }
 
     /// Writes back at most `limit` dirty pages, and returns how many pages are still dirty, as

@@ -17,7 +17,7 @@ ghost use Rattle.warm_gossip.specs.State.{node_view};
 ghost use Rattle.warm_gossip.specs.Given.{HistoryIsOfGiven};
 ghost use Rattle.warm_gossip.specs.Victims.{RepliesAreOverReferences, VictimsAreFarthest};
 ghost use Rattle.warm_gossip.specs.WarmUps.{NodeWarmsUp, PagesDiffer, WarmStepKeepsHottest};
-ghost use Rattle.warm_gossip.specs.WarmUps.{NodeWarmUpLoads};
+ghost use Rattle.warm_gossip.specs.WarmUps.{FilledPinIsWarmStep, NodeWarmUpLoads};
 
 use crate::node::Node;
 use warm_devices::PageDevice;
@@ -82,6 +82,13 @@ pub fn warm_step_keeps_hottest()
 /// evicted for another.
 pub fn warm_up_loads()
     ensures { NodeWarmUpLoads }
+{}
+
+/// A pin of the page that a warm-up step would load next, and then its unpin, are that step: so
+/// where [`Node::pin_filled`] pins the page that [`Node::warm_next`] named, and the pin is removed,
+/// with no call in between.
+pub fn filled_pin_is_a_warm_step()
+    ensures { FilledPinIsWarmStep }
 {}
 
 /// What is left in the bytes of a page that [`Node::bytes_mut`] lent is as after the call `Write`

@@ -152,9 +152,9 @@ impl<D: PageDevice> Node<D> {
     }
 
     /// Replaces a device with another and returns the old one, as [`warm_pool::Pool::replace`]
-    /// does: its dirty pages are written back, it is flushed, and its pages are evicted. The history
-    /// is kept, with its horizon: pages of the new device that it knows are ranked by it, and warmed
-    /// up.
+    /// does: its dirty pages are written back, it is flushed, and its pages are evicted. The
+    /// history is kept, with its horizon: pages of the new device that it knows are ranked by it,
+    /// and warmed up.
     ///
     /// The next warm-up step begins with the hottest page again.
     ///

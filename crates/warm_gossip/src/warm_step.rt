@@ -1,12 +1,14 @@
 //! Warming up a node's pool, a page at a time.
-ghost use Rattle.std.specs.Prelude.{◌≡◌, ◌↔◌, ◌<◌, length, None, IfOk, IsTrue};
+ghost use Rattle.std.specs.Prelude.{◌≡◌, ◌↔◌, ◌<◌, length, None, IfOk, IfErr, IsTrue};
 ghost use Rattle.warm_gossip.specs.declared.call.Call.TheVariants.{WarmStep};
 ghost use Rattle.warm_gossip.specs.declared.call.Reply.TheVariants.{Loaded};
 ghost use Rattle.warm_pool.specs.View.{view_of};
 ghost use Rattle.warm_gossip.specs.Clauses.{Answered, DevicesAnswered};
-ghost use Rattle.warm_gossip.specs.Step.{IsLoadable, nth_page};
+ghost use Rattle.warm_gossip.specs.declared.fault.NodeFault.TheVariants.{Memory};
+ghost use Rattle.warm_gossip.specs.State.{node_view};
+ghost use Rattle.warm_gossip.specs.Step.{IsLoadable, IsNextWarm, nth_page};
 ghost use Rattle.warm_gossip.specs.WarmingUp.{IsPast, IsUnderWay, IsWarming, PassedAtLoad};
-ghost use Rattle.warm_gossip.specs.WarmingUp.{PassedAtPin};
+ghost use Rattle.warm_gossip.specs.WarmingUp.{PassedAtFill, PassedAtNext, PassedAtPin};
 
 use crate::fault::NodeFault;
 use crate::node::Node;
@@ -81,6 +83,41 @@ impl<D: PageDevice> Node<D> {
         self.warm_up.passed = passed_at_load(self.history.history(), at, page, placed.evicted);
         Ok(Some(page))
     }
+
+    /// The page that [`Node::warm_step`] would load now; `None` where there is none. Nothing is
+    /// loaded. So a program that reads pages by itself warms the pool up: it reads this page, pins
+    /// it by [`Node::pin_filled`], and removes the pin. That is the warm-up step, unless another
+    /// call came in between ([`crate::laws::filled_pin_is_a_warm_step`]).
+    ///
+    /// The list of pages is made and kept as for `warm_step`.
+    ///
+    /// # Errors
+    /// `Memory`: the allocation of the list of the hottest pages failed; the next call tries again.
+    pub fn warm_next(&mut self) -> Result<Option<PageId>, NodeFault>
+        ensures same { self.new ≡ self.old }
+        ensures next { IfOk result (λ page. IsNextWarm (node_view self.old) page) }
+        ensures refused { IfErr result (λ why. why ≡ Memory) }
+    {
+        // The list is over the references that the history holds: their history is this history.
+        prove_is_history(self.history.history());
+        let history = self.history.history();
+        let pages = take_pages(self.alloc, &mut self.warm_up, history, &self.pool)?;
+        let passed = self.warm_up.passed;
+        let at = first_loadable(&self.pool, &pages, passed);
+        if at >= pages.len() {
+            self.warm_up = WarmUp {
+                pages: Some(pages),
+                passed: at,
+            };
+            return Ok(None);
+        }
+        let next = pages[at];
+        self.warm_up = WarmUp {
+            pages: Some(pages),
+            passed: at,
+        };
+        Ok(Some(next))
+    }
 }
 
 // The pages of the warm-up: the cached list, or else a new one, of which none is passed.
@@ -152,4 +189,42 @@ pub(crate) fn passed_at_pin(passed: usize, evicted: Option<PageId>) -> usize
         Some(_) => 0,
         None => passed,
     }
+}
+
+/// The number of pages that are still passed after a pin of a page whose bytes were given. A program
+/// that warms the pool up pins the next page of the list so: it is then passed, as after a load.
+pub(crate) fn passed_at_fill(
+    history: &History,
+    warm_up: &WarmUp,
+    page: PageId,
+    evicted: Option<PageId>,
+) -> usize
+    ensures { PassedAtFill history.now warm_up.now page evicted result }
+{
+    let Some(evicted) = evicted else {
+        return warm_up.passed;
+    };
+    match &warm_up.pages {
+        Some(pages) => passed_at_next(history, pages, warm_up.passed, page, evicted),
+        None => 0,
+    }
+}
+
+// The same of a pin that evicted a page, where a list is kept, of which `at` pages are passed.
+fn passed_at_next(
+    history: &History,
+    pages: &[PageId],
+    at: usize,
+    page: PageId,
+    evicted: PageId,
+) -> usize
+    ensures { PassedAtNext history.now pages.now at page evicted result }
+{
+    if at >= pages.len() {
+        return 0;
+    }
+    if pages[at] != page {
+        return 0;
+    }
+    passed_at_load(history, at, page, Some(evicted))
 }

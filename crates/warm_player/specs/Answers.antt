@@ -31,6 +31,7 @@ page_text page = decimal page.dev ++ codes ":" ++ decimal page.no
 abbrev pub stamp_text : Stamp → List ℕ
 stamp_text stamp = decimal stamp.time ++ codes "@" ++ decimal stamp.replica
 
+-- the stamps of a page
 abbrev pub hist_text : PageHist → List ℕ
 hist_text (Once last) = codes " last " ++ stamp_text last
 hist_text (Twice two) = codes " last " ++ stamp_text two.last ++ codes " prev "
@@ -44,6 +45,7 @@ entry_text entry = page_text entry.page ++ hist_text entry.hist ++ codes "\n"
 abbrev pub end_text : ℕ → List ℕ
 end_text count = codes "end " ++ decimal count ++ codes "\n"
 
+-- a history: a line for each page, and the last line
 abbrev pub shown_text : List Entry → List ℕ
 shown_text entries = flat_map entry_text entries ++ end_text (length entries)
 
@@ -57,6 +59,7 @@ took_text (suc n) first = codes "took " ++ decimal (suc n) ++ codes " from " ++ 
 abbrev pub listed_text : PageId → List ℕ
 listed_text page = codes " " ++ page_text page
 
+-- the pages of a list
 abbrev pub pages_text : List PageId → List ℕ
 pages_text pages = flat_map listed_text pages
 
@@ -82,10 +85,12 @@ abbrev pub page_if_any : List ℕ → Option PageId → List ℕ
 page_if_any word None = codes "none\n"
 page_if_any word (Some page) = word ++ page_text page ++ codes "\n"
 
+-- a fault: its number and its name
 abbrev pub refused_text : WorldFault → List ℕ
 refused_text fault =
     codes "refused " ++ decimal (code_of fault) ++ codes " " ++ name_of fault ++ codes "\n"
 
+-- the text of an answer
 abbrev pub answer_text : Answer → List ℕ
 answer_text Done = codes "ok\n"
 answer_text (Shown history) = shown_text (entries_of history)

@@ -7,11 +7,13 @@ use Rattle.warm_pool.specs.declared.slot.Slot.{Slot}
 use Rattle.warm_player.specs.Text.{split}
 
 infixl 10 ◌>>=◌
+-- the next reader gets the value, if there is one
 abbrev pub ◌>>=◌ : {A B : Type 0} → Option A → (A → Option B) → Option B
 o >>= f = option_and_then f o
 
 -- ---- numbers and pages
 
+-- the value of a decimal digit
 abbrev pub digit_of : ℕ → Option ℕ
 digit_of c = if nat_le 48 c && nat_le c 57 then Some (c - 48) else None
 
@@ -25,10 +27,12 @@ abbrev pub number_of : List ℕ → Option ℕ
 number_of [] = None
 number_of (c ∷ cs) = digits_after 0 (c ∷ cs)
 
+-- the number, if it is at most the limit
 abbrev pub up_to : ℕ → Option ℕ → Option ℕ
 up_to limit None = None
 up_to limit (Some n) = if nat_le n limit then Some n else None
 
+-- the number that a word spells, at most the limit
 unfoldable pub number_up_to : ℕ → List ℕ → Option ℕ
 number_up_to limit word = up_to limit (number_of word)
 
@@ -58,6 +62,7 @@ slot_of_parts parts = None
 unfoldable pub slot_of_word : List ℕ → Option Slot
 slot_of_word word = slot_of_parts (split 46 word)
 
+-- whether a byte is from the least to the greatest
 abbrev pub is_from : ℕ → ℕ → ℕ → Bool
 is_from least most c = nat_le least c && nat_le c most
 
@@ -84,12 +89,14 @@ bytes_of_hex (c ∷ cs) = hex_pairs (c ∷ cs)
 
 -- ---- a field, and the words after it
 
+-- a number up to a limit, and the words after it
 unfoldable pub number_field : ℕ → List (List ℕ) → Option (ℕ × List (List ℕ))
 number_field limit [] = None
 number_field limit (word ∷ rest) = do
   n ← number_up_to limit word
   Some (n, rest)
 
+-- a page, and the words after it
 unfoldable pub page_field : List (List ℕ) → Option (PageId × List (List ℕ))
 page_field [] = None
 page_field (word ∷ rest) = do
@@ -103,12 +110,14 @@ after_field (word ∷ rest) = do
   page ← page_of_word word
   Some (Some page, rest)
 
+-- a slot, and the words after it
 unfoldable pub slot_field : List (List ℕ) → Option (Slot × List (List ℕ))
 slot_field [] = None
 slot_field (word ∷ rest) = do
   slot ← slot_of_word word
   Some (slot, rest)
 
+-- bytes, and the words after them
 unfoldable pub bytes_field : List (List ℕ) → Option (List ℕ × List (List ℕ))
 bytes_field [] = None
 bytes_field (word ∷ rest) = do
@@ -119,9 +128,11 @@ bytes_field (word ∷ rest) = do
 abbrev pub replica_field : List (List ℕ) → Option (ℕ × List (List ℕ))
 replica_field fields = number_field 65535 fields
 
+-- a worker's number, and the words after it
 abbrev pub worker_field : List (List ℕ) → Option (ℕ × List (List ℕ))
 worker_field fields = number_field 65535 fields
 
+-- a bucket's number, and the words after it
 abbrev pub bucket_field : List (List ℕ) → Option (ℕ × List (List ℕ))
 bucket_field fields = number_field (BUCKETS - 1) fields
 

@@ -158,9 +158,11 @@ abbrev pub looked_up : {A : Type 0} → List (List ℕ × A) → List ℕ → Op
 looked_up [] word = None
 looked_up (row ∷ rows) word = if bytes_eq word row.0 then Some row.1 else looked_up rows word
 
+-- the event of a line, by its first word and the other words
 abbrev pub event_of : List ℕ → List (List ℕ) → Option Event
 event_of word fields = option_and_then (λ reader. reader fields) (looked_up commands word)
 
+-- whether the first byte is this one
 abbrev pub begins_with : ℕ → List ℕ → Bool
 begins_with c [] = false
 begins_with c (x ∷ xs) = x == c

@@ -7,6 +7,7 @@ use Rattle.warm_pool.specs.declared.slot.Slot.{Slot}
 use Rattle.warm_player.specs.Text.{words}
 use Rattle.warm_player.specs.Fields.{◌>>=◌, is_from, number_up_to}
 
+-- whether a byte is a decimal digit
 abbrev pub is_digit : ℕ → Bool
 is_digit c = is_from 48 57 c
 

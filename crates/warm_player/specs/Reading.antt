@@ -13,6 +13,7 @@ abbrev pub Reads : {A : Type 0} → (A → Type 0) → Option A → Result A Lin
 Reads Takes said (Err Memory) = MatchOption said ⊥ Takes
 Reads Takes said read = read ≡ ok_or said Bad
 
+-- the event writes bytes into a page
 abbrev pub IsPut : Event → Type 0
 IsPut (Put i slot at bytes) = Unit {0}
 IsPut event = ⊥
@@ -26,10 +27,12 @@ PutsBytes (meant.Act event) = IsPut event
 abbrev pub TakesMemory : List ℕ → Type 0
 TakesMemory bytes = Unit {0}
 
+-- the number of each fault of a line
 abbrev pub line_fault_code : LineFault → ℕ
 line_fault_code Memory = 1
 line_fault_code Bad = 2
 
+-- the name of each fault of a line
 abbrev pub line_fault_name : LineFault → List ℕ
 line_fault_name Memory = codes "Memory"
 line_fault_name Bad = codes "Bad"

@@ -21,6 +21,7 @@ IsLine line = AllByRecursion (λ c. c ≢ 10) line
 abbrev pub lines : List ℕ → List (List ℕ)
 lines text = split 10 text
 
+-- whether there is a byte
 abbrev pub has_bytes : List ℕ → Bool
 has_bytes [] = false
 has_bytes (c ∷ cs) = true

@@ -14,6 +14,7 @@ worker_request_of (Refer i w page time) = Some (request.Reference i w page time)
 worker_request_of (Flush i w) = Some (request.Flush i w)
 worker_request_of event = None
 
+-- the request, or the fault that there is none
 abbrev pub or_not_for_worker : Option WorkerRequest → Result (Option WorkerRequest) NotForWorker
 or_not_for_worker None = Err (record {})
 or_not_for_worker (Some asked) = Ok (Some asked)

@@ -28,8 +28,8 @@ use warm_gossip::NodeFault;
 use warm_world::{BadWorld, PlayFault, Setup, World, WorldFault};
 
 // Prints that the line of this number is bad. Out of line, as the next one, so that other lines
-// clear nothing for it. Errors are returned by `?` before an `Ok(())`, here and below: a clause that
-// speaks of `Ok` alone is proved so, and not of a `map_err` as the last expression.
+// clear nothing for it. Errors are returned by `?` before an `Ok(())`, here and below: a clause
+// that speaks of `Ok` alone is proved so, and not of a `map_err` as the last expression.
 #[cold]
 #[inline(never)]
 fn say_bad<W: Write>(writer: &mut W, number: u64) -> Result<(), PlayFault>

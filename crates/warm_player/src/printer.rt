@@ -21,8 +21,8 @@ use warm_world::{Answer, WorldFault};
 // The most bytes of two numbers with a byte between them.
 const TWO_NUMBERS: usize = 41;
 
-// Two numbers with a byte between them, put before this end; where they begin. A number's last digit
-// is found first, so a text is put together from its end.
+// Two numbers with a byte between them, put before this end; where they begin. A number's last
+// digit is found first, so a text is put together from its end.
 #[inline(always)]
 fn put_two(line: &mut [u8], end: usize, first: u64, between: u8, last: u64) -> usize
     requires { (TWO_NUMBERS ≤ end) × (end ≤ length line.old) }
@@ -254,8 +254,8 @@ fn put_slot_word(line: &mut [u8], end: usize) -> usize
 // generation and the line's end.
 const SLOT_LINE: usize = 37;
 
-// The line of a slot whose page was pinned, FRAME.GENERATION after the word, by one write. It is put
-// together from its end, since a number's last digit is found first.
+// The line of a slot whose page was pinned, FRAME.GENERATION after the word, by one write. It is
+// put together from its end, since a number's last digit is found first.
 #[inline(never)]
 fn print_pinned<W: Write>(writer: &mut W, slot: Slot) -> io::Result<()>
     ensures { Prints result (W.contents writer.old) (W.contents writer.new)

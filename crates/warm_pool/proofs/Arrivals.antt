@@ -154,8 +154,8 @@ module _ {s : PoolState} {ds : List DeviceState} {i : ℕ} {p : PageId} {bytes :
           arrived_pool e = subst (λ x. IsPool (pool_from x k es)) (sym is)
               (spare_keeps (pool_from (record fs { frames = set fs.frames i (arrival fs.frames i p key fixes b) }) m es) k e (put_pool (pool_from fs m es) i (arrival fs.frames i p key fixes b) p w puts))
 
-          pub loads_into : LoadsInto s i p key fixes (pool_from gs k es)
-          loads_into = subst (λ x. LoadsInto s i p key fixes (pool_from x k es)) (sym is) (record {
+          pub loads_into : LoadsInto s (read_at p.dev s.devices) i p key fixes (pool_from gs k es)
+          loads_into = subst (λ x. LoadsInto s (read_at p.dev s.devices) i p key fixes (pool_from x k es)) (sym is) (record {
             bytes = b;
             frames = ap (λ l. set l i (arrival fs.frames i p key fixes b)) c.frames
                 ∙ set-set s.frames i (cleaned (nth_frame s.frames i)) (arrival fs.frames i p key fixes b)

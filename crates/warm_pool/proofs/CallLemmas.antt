@@ -1,4 +1,4 @@
--- How often devices are flushed.
+-- How often devices are flushed, and that none is read.
 use Rattle.std.proofs.Common.{◌≡◌, ℕ, ◌+◌, ◌<◌, ◌≤◌, cond, Bool, true, false, List, length, set, Result, Ok, Err, IfOk, IfErr, refl, sym, ap, subst, inl, inr, arith}
 use Rattle.std.proofs.lemmas.Bool.{cases_eq, cases_lt}
 use Rattle.warm_devices.specs.Calls.{DeviceCalls, one_call}
@@ -6,7 +6,7 @@ use Rattle.warm_devices.specs.Device.{DeviceState, CountsSettle}
 use Rattle.warm_devices.specs.declared.fault.DeviceFault.{DeviceFault}
 use Rattle.warm_devices.specs.declared.fault.DeviceFault.TheVariants.{Flush}
 use Rattle.warm_pool.specs.State.{PoolState, nth_device, no_device}
-use Rattle.warm_pool.specs.Calls.{FlushesNone, FlushesOnce}
+use Rattle.warm_pool.specs.Calls.{FlushesNone, FlushesOnce, ReadsNone}
 use Rattle.warm_pool.specs.DeviceCalls.{PageRead, PageWrite}
 use Rattle.warm_pool.specs.Flushes.{FlushedTo, FlushStops}
 use Rattle.warm_pool.specs.Pinning.{FixRefused}
@@ -20,23 +20,34 @@ use Rattle.warm_pool.proofs.Slots.{at_set}
 pub same_none : {old new : List DeviceState} → new ≡ old → FlushesNone old new
 same_none is k = ap (λ ds. (nth_device ds k).calls.flushes) is
 
--- one device changed, and it was not flushed
-one_none : (old new : List DeviceState) (k : ℕ) (after : DeviceState) → k < length old
-    → new ≡ set old k after → after.calls.flushes ≡ (nth_device old k).calls.flushes
-    → FlushesNone old new
-one_none old new k after there is same j =
-    subst (λ ds. (nth_device ds j).calls.flushes ≡ (nth_device old j).calls.flushes) (sym is)
-    (at_set no_device (λ i d. d.calls.flushes ≡ (nth_device old i).calls.flushes) old k after there same (λ i ne. refl) j)
+-- one device changed, but not its count of these calls
+one_none : (count : DeviceCalls → ℕ) (old new : List DeviceState) (k : ℕ) (after : DeviceState)
+    → k < length old → new ≡ set old k after
+    → count after.calls ≡ count (nth_device old k).calls
+    → (j : ℕ) → count (nth_device new j).calls ≡ count (nth_device old j).calls
+one_none count old new k after there is same j =
+    subst (λ ds. count (nth_device ds j).calls ≡ count (nth_device old j).calls) (sym is)
+    (at_set no_device (λ i d. count d.calls ≡ count (nth_device old i).calls) old k after there same (λ i ne. refl) j)
 
 pub read_none : (old new : List DeviceState) (k n : ℕ) (bytes : List ℕ)
     (result : Result (Unit {0}) DeviceFault) → k < length old
     → PageRead old new k n bytes result → FlushesNone old new
-read_none old new k n bytes result there r = one_none old new k r.after there r.becomes (ap (λ calls. calls.flushes) r.call.calls)
+read_none old new k n bytes result there r = one_none (λ calls. calls.flushes) old new k r.after there r.becomes (ap (λ calls. calls.flushes) r.call.calls)
 
 pub write_none : (old new : List DeviceState) (k n : ℕ) (bytes : List ℕ)
     (result : Result (Unit {0}) DeviceFault) → k < length old
     → PageWrite old new k n bytes result → FlushesNone old new
-write_none old new k n bytes result there r = one_none old new k r.after there r.becomes (ap (λ calls. calls.flushes) r.call.calls)
+write_none old new k n bytes result there r = one_none (λ calls. calls.flushes) old new k r.after there r.becomes (ap (λ calls. calls.flushes) r.call.calls)
+
+-- No device is read
+
+pub same_unread : {old new : List DeviceState} → new ≡ old → ReadsNone old new
+same_unread is k = ap (λ ds. (nth_device ds k).calls.reads) is
+
+pub write_unread : (old new : List DeviceState) (k n : ℕ) (bytes : List ℕ)
+    (result : Result (Unit {0}) DeviceFault) → k < length old
+    → PageWrite old new k n bytes result → ReadsNone old new
+write_unread old new k n bytes result there r = one_none (λ calls. calls.reads) old new k r.after there r.becomes (ap (λ calls. calls.reads) r.call.calls)
 
 -- a resident page was pinned and filled with zeros, or was not
 pub zeros_none : (s t : PoolState) (i : ℕ) (r : Result Slot PoolFault)

@@ -4,10 +4,10 @@ use Rattle.std.proofs.lemmas.Bool.{eq-eqb, cases_lt}
 use Rattle.std.proofs.lemmas.List.{get_or_past}
 use Rattle.warm_stamps.specs.declared.PageId.{PageId}
 use Rattle.warm_devices.specs.Device.{DeviceState, SameShape, page_at}
-use Rattle.warm_pool.specs.Frames.{FrameState, nth_frame}
+use Rattle.warm_pool.specs.Frames.{nth_frame}
 use Rattle.warm_pool.specs.State.{PoolState, IsPool, nth_device, no_device}
-use Rattle.warm_pool.specs.View.{stored, bytes_of, contents_at, view_of}
-use Rattle.warm_pool.specs.WritingBack.{WritesBack, WritesBackAll, is_on, cleaned_selected}
+use Rattle.warm_pool.specs.View.{stored, bytes_of, contents_at}
+use Rattle.warm_pool.specs.WritingBack.{WritesBackAll, is_on}
 use Rattle.warm_pool.specs.WritingSome.{StopsAtFlush}
 use Rattle.warm_pool.specs.Retiring.{AreClean}
 use Rattle.warm_pool.specs.Flushes.{FlushFails, NoneWaits}
@@ -15,7 +15,7 @@ use Rattle.warm_pool.specs.HandingBack.{HandsBack, HandsBackOne}
 use Rattle.warm_pool.proofs.Bytes.{where_is, contents_seen}
 use Rattle.warm_pool.proofs.Keeps.{stored_honest}
 use Rattle.warm_pool.proofs.FlushLemmas.{same_shape}
-use Rattle.warm_pool.proofs.SettleLemmas.{all_clean, count_at, counts, down_view}
+use Rattle.warm_pool.proofs.SettleLemmas.{all_clean, count_at, down_view}
 use Rattle.warm_pool.proofs.RetireLemmas.{down_there, flush_one_fails}
 use Rattle.warm_pool.specs.declared.selection.Devices.{Devices}
 use Rattle.warm_pool.specs.declared.selection.Devices.TheVariants.{All, One}

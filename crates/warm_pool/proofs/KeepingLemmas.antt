@@ -41,7 +41,7 @@ stays_in_frame s t i p slot holds others kept = record {
 
 -- a page was loaded into a frame
 pub loaded_takes : (s t : PoolState) (i : ℕ) (p : PageId) (key : RankKey) (n : ℕ)
-    → LoadsInto s i p key n t → i < length s.frames → IsNowhere s.frames p
+    → LoadsInto s (read_at p.dev s.devices) i p key n t → i < length s.frames → IsNowhere s.frames p
     → FlushesNone s.devices t.devices → (slot : Slot) → slot.index ≡ i → TakesFrame s p slot t
 loaded_takes s t i p key n l there away none slot at =
     let came : FrameState = record { page = Some p; key = Some key; generation = (nth_frame s.frames i).generation + 1; fixes = n; dirty = false; bytes = l.bytes } in record {

@@ -16,11 +16,14 @@ pub mod Lagging
 pub mod Lents
 pub mod Loads
 pub mod MoveLemmas
+pub mod OnePin
 pub mod Opens
 pub mod Pins
+pub mod PinsAdded
 pub mod OtherDevices
 pub mod PlacedLemmas
 pub mod PlaceLemmas
+pub mod Places
 pub mod PoolSteps
 pub mod RelinkLemmas
 pub mod Renewals
@@ -33,3 +36,4 @@ pub mod WriteBacks
 pub mod Writes
 pub mod KeepingLemmas
 pub mod Zeroes
+pub mod Fills

@@ -48,15 +48,15 @@ failed_ranked s before t i p why l h r =
     subst (λ fs. (j : ℕ) → (nth_frame fs j).key ≡ option_map (λ q. rank_key q (hist (references_of h) q)) (nth_frame fs j).page) (sym (same_frames s before t i p why l)) r
 
 -- a page that was put into a frame
-pub loaded_ranked : (s t : PoolState) (i : ℕ) (p : PageId) (key : RankKey) (n : ℕ)
-    → LoadsInto s i p key n t → i < length s.frames
+pub loaded_ranked : {before : List DeviceState} (s t : PoolState) (i : ℕ) (p : PageId)
+    (key : RankKey) (n : ℕ) → LoadsInto s before i p key n t → i < length s.frames
     → (h : HistoryView) → key ≡ rank_key p (hist (references_of h) p) → RankedBy s h → RankedBy t h
 loaded_ranked s t i p key n l there h is r =
     subst (λ fs. (j : ℕ) → (nth_frame fs j).key ≡ option_map (λ q. rank_key q (hist (references_of h) q)) (nth_frame fs j).page) (sym l.frames)
     (ranked_set s i (record { page = Some p; key = Some key; generation = (nth_frame s.frames i).generation + 1; fixes = n; dirty = false; bytes = l.bytes }) h there (ap Some is) r)
 
-pub loaded_puts : (s t : PoolState) (i : ℕ) (p : PageId) (key : RankKey) (n : ℕ)
-    → LoadsInto s i p key n t → (h : HistoryView)
+pub loaded_puts : {before : List DeviceState} (s t : PoolState) (i : ℕ) (p : PageId)
+    (key : RankKey) (n : ℕ) → LoadsInto s before i p key n t → (h : HistoryView)
     → IsNowhere s.frames p → IsFrameToLoad h (view_of s) (Some i) → (gen : ℕ)
     → gen ≡ (nth_frame s.frames i).generation → gen < 2 ^ 64 - 1
     → PutsIn h (view_of s) p n (record { index = i; generation = gen + 1 }) (view_of t)
@@ -79,8 +79,8 @@ pub fixed_slot : {s t : PoolState} {slot : Slot} (v : PoolView) (i : ℕ) → s 
 fixed_slot {s} v i seen is p adds = subst (λ x. AddsFix (view_of s) p x v) (sym (slot_seen i seen is)) adds
 
 -- the slot of a frame into which a page was loaded
-pub loaded_slot : (s t : PoolState) (i : ℕ) (p : PageId) (key : RankKey) (n : ℕ)
-    → LoadsInto s i p key n t → i < length s.frames
+pub loaded_slot : {before : List DeviceState} (s t : PoolState) (i : ℕ) (p : PageId)
+    (key : RankKey) (n : ℕ) → LoadsInto s before i p key n t → i < length s.frames
     → (slot : Slot) → slot ≡ current_slot t i
     → (gen : ℕ) → gen ≡ (nth_frame s.frames i).generation
     → slot ≡ record { index = i; generation = gen + 1 }

@@ -47,10 +47,10 @@ placed_fixed v w p placed adds none =
     (fix_keeps v w p placed.slot adds)
 
 -- a page is in one frame at most, as a caller sees it
-abbrev IsOnce : PoolView → Type 0
+abbrev pub IsOnce : PoolView → Type 0
 IsOnce v = (i j : ℕ) (q : PageId) → (frame_at v i).page ≡ Some q → (frame_at v j).page ≡ Some q → i ≡ j
 
-once_seen : {s : PoolState} → IsPool s → IsOnce (view_of s)
+pub once_seen : {s : PoolState} → IsPool s → IsOnce (view_of s)
 once_seen {s} w i j q e f = w.once i j q (sym (ap (λ x. x.page) (frame_seen s i)) ∙ e) (sym (ap (λ x. x.page) (frame_seen s j)) ∙ f)
 
 -- the page in the frame is evicted for one that is in none

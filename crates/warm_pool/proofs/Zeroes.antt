@@ -146,7 +146,7 @@ module _ {s : PoolState} (w : IsPool s) (i : ℕ) (there : i < length s.frames) 
     (device : p.dev < length s.devices) (number : p.no < (nth_device s.devices p.dev).pages)
     (nowhere : IsNowhere s.frames p) (key : RankKey) {m : ℕ} {es : List DeviceState}
     (fs : FramesState) (v : IsPool (pool_from fs m es)) (c : Cleans s i (pool_from fs m es)) where
-  nth_old : nth_frame fs.frames i ≡ cleaned (nth_frame s.frames i)
+  pub nth_old : nth_frame fs.frames i ≡ cleaned (nth_frame s.frames i)
   nth_old = ap (λ l. nth_frame l i) c.frames ∙ get_or-set_same s.frames i (cleaned (nth_frame s.frames i)) (fresh_frame []) there
 
   pub zero_there : i < length fs.frames
@@ -159,7 +159,7 @@ module _ {s : PoolState} (w : IsPool s) (i : ℕ) (there : i < length s.frames) 
   pub zero_size : length (nth_frame fs.frames i).bytes ≡ fs.page_size
   zero_size = v.frame_size i zero_there
 
-  still_nowhere : IsNowhere fs.frames p
+  pub still_nowhere : IsNowhere fs.frames p
   still_nowhere = subst (λ l. IsNowhere l p) (sym c.frames)
       (at_set (fresh_frame []) (λ _ f. f.page ≢ Some p) s.frames i (cleaned (nth_frame s.frames i)) there (nowhere i) (λ j ne. nowhere j))
 

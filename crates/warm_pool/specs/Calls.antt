@@ -1,4 +1,4 @@
--- How often a pool flushes its devices.
+-- How often a pool flushes its devices, and whether it reads them.
 use Rattle.std.specs.Prelude.{◌≡◌, ◌≤◌, ◌+◌, ℕ, List}
 use Rattle.warm_devices.specs.Device.{DeviceState}
 use Rattle.warm_pool.specs.State.{nth_device}
@@ -12,3 +12,8 @@ FlushesNone old new =
 abbrev pub FlushesOnce : List DeviceState → List DeviceState → Type 0
 FlushesOnce old new =
     (k : ℕ) → (nth_device new k).calls.flushes ≤ (nth_device old k).calls.flushes + 1
+
+-- no device was read
+abbrev pub ReadsNone : List DeviceState → List DeviceState → Type 0
+ReadsNone old new =
+    (k : ℕ) → (nth_device new k).calls.reads ≡ (nth_device old k).calls.reads

@@ -8,16 +8,19 @@ use Rattle.warm_pool.specs.declared.fault.PoolFault.TheVariants.{SizeDiffers, No
 use Rattle.warm_pool.specs.declared.fault.PoolFault.TheVariants.{AllFixed, ReadFault, WriteBack}
 use Rattle.warm_pool.specs.declared.fault.PoolFault.TheVariants.{FixesFull, OutOfPage, Fixed, Fault}
 
+-- the number of each reason why a pool was not made
 abbrev pub new_code_of : NewPoolFault → ℕ
 new_code_of new.Memory = 1
 new_code_of new.BadFrames = 2
 new_code_of new.SizeDiffers = 3
 
+-- the name of each reason why a pool was not made
 abbrev pub new_name_of : NewPoolFault → List ℕ
 new_name_of new.Memory = codes "Memory"
 new_name_of new.BadFrames = codes "BadFrames"
 new_name_of new.SizeDiffers = codes "SizeDiffers"
 
+-- the number of each fault of a call of a pool
 abbrev pub code_of : PoolFault → ℕ
 code_of SizeDiffers = 3
 code_of NoDevice = 4
@@ -30,6 +33,7 @@ code_of OutOfPage = 10
 code_of Fixed = 11
 code_of Fault = 12
 
+-- the name of each fault of a call of a pool
 abbrev pub name_of : PoolFault → List ℕ
 name_of SizeDiffers = codes "SizeDiffers"
 name_of NoDevice = codes "NoDevice"

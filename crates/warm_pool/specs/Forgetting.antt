@@ -48,6 +48,7 @@ ForgetRefused old dev from why new = ⊥
 
 -- The steps
 
+-- the frames, those of selected pages clean
 abbrev pub selected_cleaned : Devices → FramesState → FramesState
 selected_cleaned which s =
     record s { frames = cleaned_selected which (length s.frames) s.frames }

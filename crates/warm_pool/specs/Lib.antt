@@ -16,6 +16,7 @@ pub mod Pinning
 pub mod PageBytes
 pub mod Lending
 pub mod Zeroing
+pub mod Filling
 pub mod Refreshing
 pub mod Retiring
 pub mod HandingBack

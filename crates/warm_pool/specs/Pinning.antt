@@ -29,6 +29,7 @@ pub record IsLeastFree (v : PoolView) (i : ℕ) : Type 0 where
   pub free : (frame_at v i).page ≡ None
   pub least : (j : ℕ) → j < i → (frame_at v j).page ≢ None
 
+-- each frame has a page
 abbrev pub HasNoFreeFrame : PoolView → Type 0
 HasNoFreeFrame v = (i : ℕ) → i < length v.frames → (frame_at v i).page ≢ None
 
@@ -91,9 +92,11 @@ pub record PutsIn (h : HistoryView) (old : PoolView) (p : PageId) (fixes : ℕ) 
   }
   pub contents : KeepsContents old new
 
+-- the page is in the slot: it was there and has one more pin, or it was loaded with one
 abbrev pub Pinned : HistoryView → PoolView → PageId → Slot → PoolView → Type 0
 Pinned h old p slot new = HasPage old p × (AddsFix old p slot new ⊎ PutsIn h old p 1 slot new)
 
+-- the page is in the slot: it was there, or it was loaded without a pin
 abbrev pub Loaded : HistoryView → PoolView → PageId → Slot → PoolView → Type 0
 Loaded h old p slot new = HasPage old p × (StaysIn old p slot new ⊎ PutsIn h old p 0 slot new)
 
@@ -113,10 +116,10 @@ unpinned old slot =
           (record (frame_at old slot.index) { fixes = (frame_at old slot.index).fixes - 1 });
     }
 
--- A page that was resident leaves all bytes unchanged, and no device is called. A page that is loaded
--- changes only the slot's frame, which is then clean. It is read once, and no other call of a device
--- is made unless that frame was dirty: then its page was written back, and its device is unflushed.
--- No device is flushed.
+-- A page that was resident leaves all bytes unchanged, and no device is called. A page that is
+-- loaded changes only the slot's frame, which is then clean. It is read once, and no other call of
+-- a device is made unless that frame was dirty: then its page was written back, and its device is
+-- unflushed. No device is flushed.
 pub record TakesFrame (old : PoolState) (p : PageId) (slot : Slot) (new : PoolState) : Type 0 where
   pub others : KeepsOthers slot.index old new
   pub resident : IsResident (view_of old) p → KeepsBytes old new
@@ -152,12 +155,14 @@ pub record IsFixesFull (old : PoolView) (p : PageId) : Type 0 where
   pub resident : (frame_at old frame).page ≡ Some p
   pub full : (frame_at old frame).fixes ≡ 2 ^ 32 - 1
 
+-- why a page is not loaded, and what has then changed
 abbrev pub LoadRefused : HistoryView → PoolView → PageId → PoolFault → PoolView → Type 0
 LoadRefused h old p NoDevice new = (length old.devices ≤ p.dev) × (new ≡ old)
 LoadRefused h old p NoPage new = (p.dev < length old.devices) × ((device_at old p.dev).pages ≤ p.no)
     × (new ≡ old)
 LoadRefused h old p why new = HasPage old p × IsAbsent old p × PutRefused h old p why new
 
+-- why a page is not pinned, and what has then changed
 abbrev pub PinRefused : HistoryView → PoolView → PageId → PoolFault → PoolView → Type 0
 PinRefused h old p FixesFull new = (HasPage old p × IsFixesFull old p × (new ≡ old))
     ⊎ LoadRefused h old p FixesFull new
@@ -177,8 +182,8 @@ pub record IsUnwritten (h : HistoryView) (old : PoolState) (before : List Device
   pub others : (k : ℕ) → k ≢ page.dev → nth_device new.devices k ≡ nth_device before k
   pub unflushed : FlushesNone old.devices new.devices
 
--- The devices after a refused pin or load. A page is read, once, before the victim is written: where
--- the read fails, a failure is counted, and nothing else has changed.
+-- The devices after a refused pin or load. A page is read, once, before the victim is written:
+-- where the read fails, a failure is counted, and nothing else has changed.
 abbrev pub LeavesDevices : HistoryView → PoolState → PageId → PoolFault → PoolState → Type 0
 LeavesDevices h old p ReadFault new = new.devices ≡ failed_at p.dev old.devices
 LeavesDevices h old p WriteBack new = IsUnwritten h old (read_at p.dev old.devices) new
@@ -200,9 +205,10 @@ FixRefused old i fault new = (fault ≡ FixesFull) × ((nth_frame old.frames i).
 abbrev pub IsNextFrameToLoad : PoolState → Option ℕ → Type 0
 IsNextFrameToLoad s frame = (h : HistoryView) → RankedBy s h → IsFrameToLoad h (view_of s) frame
 
--- the page is in the frame, with its device's bytes, this rank and this pin count
-pub record LoadsInto (old : PoolState) (i : ℕ) (p : PageId) (key : RankKey) (n : ℕ)
-    (new : PoolState) : Type 0 where
+-- The page is in the frame, with its device's bytes, this rank and this pin count. Before the write
+-- of the page that was in the frame, the devices were so.
+pub record LoadsInto (old : PoolState) (before : List DeviceState) (i : ℕ) (p : PageId)
+    (key : RankKey) (n : ℕ) (new : PoolState) : Type 0 where
   pub bytes : List ℕ
   pub frames : new.frames
       ≡ set old.frames i (record {
@@ -213,7 +219,7 @@ pub record LoadsInto (old : PoolState) (i : ℕ) (p : PageId) (key : RankKey) (n
         dirty = false;
         bytes = bytes;
       })
-  pub devices : (nth_frame old.frames i).dirty ≡ false → new.devices ≡ read_at p.dev old.devices
+  pub devices : (nth_frame old.frames i).dirty ≡ false → new.devices ≡ before
   pub waits : WaitsFor old i new.devices
   pub rest : view_of new
       ≡ record (view_of old) { frames = (view_of new).frames; contents = (view_of new).contents }

@@ -49,6 +49,7 @@ pub record MayRetire (v : PoolView) (dev : ℕ) (device : DeviceState) : Type 0 
   pub size : device.page_size ≡ v.page_size
   pub unfixed : (i : ℕ) → IsTrue (is_on dev (frame_at v i).page) → (frame_at v i).fixes ≡ 0
 
+-- why it may not, or was not written back, and what is then unchanged
 abbrev pub RetireRefused : PoolView → ℕ → DeviceState → PoolFault → PoolView → Type 0
 RetireRefused old dev device NoDevice new = (length old.devices ≤ dev) × (new ≡ old)
 RetireRefused old dev device SizeDiffers new = (dev < length old.devices)
@@ -80,6 +81,7 @@ KeepsElsewhere dev old new = (i : ℕ) → is_on dev (nth_frame old.frames i).pa
 
 -- The steps of both
 
+-- the frame; without its page, if that is selected
 abbrev pub vacate_if : Devices → FrameState → FrameState
 vacate_if which f = if selects which f.page then vacated f else f
 

@@ -73,12 +73,15 @@ contents_of frames devices =
     (range_with_len 0 (nth_device devices k).pages))
     (range_with_len 0 (length devices))
 
+-- what a caller sees of a frame
 abbrev pub frame_view : FrameState → FrameView
 frame_view f = record { page = f.page; generation = f.generation; fixes = f.fixes }
 
+-- what a caller sees of a device
 abbrev pub device_view : DeviceState → DeviceView
 device_view d = record { pages = d.pages; honest = d.honest; unfailing = d.unfailing }
 
+-- what a caller sees of a pool
 abbrev pub view_of : PoolState → PoolView
 view_of s = record {
   page_size = s.page_size;
@@ -123,5 +126,6 @@ pub record IsFixed (v : PoolView) : Type 0 where
   pub there : frame < length v.frames
   pub fixed : 0 < (frame_at v frame).fixes
 
+-- no page is pinned
 abbrev pub IsUnfixed : PoolView → Type 0
 IsUnfixed v = (i : ℕ) → (frame_at v i).fixes ≡ 0

@@ -58,8 +58,8 @@ pub record Cleans (old : PoolState) (i : ℕ) (new : PoolState) : Type 0 where
   pub failures : map (λ d. d.failures) new.devices ≡ map (λ d. d.failures) old.devices
   pub same : (new.page_size ≡ old.page_size) × (new.spare ≡ old.spare)
 
--- The write-back of the frame's page failed. Of the devices as they were before the write, only that
--- of the page has changed, and it is unflushed.
+-- The write-back of the frame's page failed. Of the devices as they were before the write, only
+-- that of the page has changed, and it is unflushed.
 pub record WriteFails (old : PoolState) (before : List DeviceState) (i : ℕ) (new : PoolState)
     : Type 0 where
   pub page : PageId
@@ -103,6 +103,7 @@ KeepsUnselected which old new =
     (k : ℕ) → ((p : PageId) → p.dev ≡ k → selects which (Some p) ≡ false)
     → nth_device new.devices k ≡ nth_device old.devices k
 
+-- the frame; clean, if its page is selected
 abbrev pub clean_if : Devices → FrameState → FrameState
 clean_if which f = if selects which f.page then cleaned f else f
 

@@ -14,6 +14,7 @@ use Rattle.warm_pool.specs.declared.selection.Devices.TheVariants.{One}
 
 -- The dirty pages
 
+-- 1 if true, else 0
 abbrev pub one_if : Bool → ℕ
 one_if true = 1
 one_if false = 0

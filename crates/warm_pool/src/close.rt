@@ -122,9 +122,9 @@ impl<D: PageDevice> Pool<D> {
     }
 
     /// Replaces a device with another, and returns the old one. The dirty pages of the old device
-    /// are written back, it is flushed, and its pages are evicted. An honest one then has every page
-    /// as the pool had it. The new device may have another number of pages. Frames of other devices
-    /// are unchanged, whether the call is refused or not.
+    /// are written back, it is flushed, and its pages are evicted. An honest one then has every
+    /// page as the pool had it. The new device may have another number of pages. Frames of other
+    /// devices are unchanged, whether the call is refused or not.
     ///
     /// # Errors
     /// In this order; each gives the new device back, and leaves pages, pin counts and contents

@@ -151,8 +151,8 @@ impl<D: PageDevice> fmt::Debug for NewPoolError<D> {
     }
 }
 
-/// Why a device was not replaced, and the device that was to replace it. As an error it displays the
-/// fault.
+/// Why a device was not replaced, and the device that was to replace it. As an error it displays
+/// the fault.
 #[derive(Drop, Error)]
 #[error("{fault}")]
 pub struct RetireError<D: PageDevice> {

@@ -9,18 +9,18 @@
 //! No call changes a byte of a page but [`Pool::write`], [`Pool::bytes_mut`] and
 //! [`Pool::pin_zeroed`], of one page, [`Pool::replace`] and [`Pool::retire`], which replace all
 //! pages of a device with those of another, and [`Pool::forget_pages`], which gives up what was not
-//! written back. That is proved of each page of an honest device, which gives back what was written to it, and otherwise
-//! of pages that are resident before and after a call. The pin count of a page is called its fixes,
-//! and a pinned page is fixed.
+//! written back. That is proved of each page of an honest device, which gives back what was written
+//! to it, and otherwise of pages that are resident before and after a call. The pin count of a page
+//! is called its fixes, and a pinned page is fixed.
 //!
 //! Contracts see a pool as plain data, a `PoolState`, and `view_of` gives what a caller sees of it.
 //! They are defined in `specs/State.antt` and `specs/View.antt`, and the effects of the calls in
-//! `Opening.antt`, `Pinning.antt`, `Zeroing.antt`, `PageBytes.antt`, `Lending.antt`,
-//! `Refreshing.antt`, `WritingBack.antt`, `WritingSome.antt`, `Retiring.antt`, `HandingBack.antt` and
-//! `Forgetting.antt` beside them. What a pool counts ([`Pool::counts`], [`Pool::last_failure`]) is no part of it.
-//! `IsPool` is the invariant of the type, which each call keeps. The devices come from the caller,
-//! and are of one type. [`Pool::into_devices`] and [`Pool::replace`] give them back, flushed and with
-//! all that was written.
+//! `Opening.antt`, `Pinning.antt`, `Zeroing.antt`, `Filling.antt`, `PageBytes.antt`, `Lending.antt`,
+//! `Refreshing.antt`, `WritingBack.antt`, `WritingSome.antt`, `Retiring.antt`, `HandingBack.antt`
+//! and `Forgetting.antt` beside them. What a pool counts ([`Pool::counts`], [`Pool::last_failure`])
+//! is no part of it. `IsPool` is the invariant of the type, which each call keeps. The devices come
+//! from the caller, and are of one type. [`Pool::into_devices`] and [`Pool::replace`] give them
+//! back, flushed and with all that was written.
 #![tactic(auto)]
 
 mod close;
@@ -28,6 +28,7 @@ mod competing;
 mod counting;
 mod device_list;
 mod fault;
+mod filled;
 mod flush;
 mod forget;
 mod frame;

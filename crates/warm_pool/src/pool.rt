@@ -12,7 +12,7 @@ ghost use Rattle.warm_pool.specs.State.{IsNowhere, fresh_pool, nth_device};
 ghost use Rattle.warm_pool.specs.View.{view_of, HasPage, IsResident, Holds};
 ghost use Rattle.warm_pool.specs.Keeping.{SameButFailures, KeepsRanks, KeepsBytes, KeepsFrames};
 ghost use Rattle.warm_pool.specs.Keeping.{KeepsOthers};
-ghost use Rattle.warm_pool.specs.Calls.{FlushesNone};
+ghost use Rattle.warm_pool.specs.Calls.{FlushesNone, ReadsNone};
 ghost use Rattle.warm_pool.specs.DeviceCalls.{read_at};
 ghost use Rattle.warm_pool.specs.Opening.{IsUpTo, IsSize, NewPoolRefused};
 ghost use Rattle.warm_pool.specs.WritingBack.{Cleans, CleanFails, KeepsDevicesBut};
@@ -610,8 +610,8 @@ impl<D: PageDevice> Pool<D> {
         requires device { page.dev < length self.old.devices }
         requires known { page.no < (nth_device self.old.devices page.dev).pages }
         requires absent { IsNowhere self.old.frames page }
-        ensures put { OnOk result (LoadsInto self.old at page key fixes
-            self.new) }
+        ensures put { OnOk result (LoadsInto self.old
+            (read_at page.dev self.old.devices) at page key fixes self.new) }
         ensures refused { IfErr result (λ fault. LoadFails self.old
             (read_at page.dev self.old.devices) at page fault self.new) }
         ensures unflushed { FlushesNone self.old.devices self.new.devices }
@@ -652,6 +652,8 @@ pub(crate) fn write_back<D: PageDevice>(
         (pool_over D.state frames.old frames.old.page_size devices.old.items)
         (pool_over D.state frames.new frames.old.page_size devices.new.items) }
     ensures unflushed { FlushesNone (map D.state devices.old.items)
+        (map D.state devices.new.items) }
+    ensures unread { ReadsNone (map D.state devices.old.items)
         (map D.state devices.new.items) }
 {
     let Some(page) = frames.page(at) else {

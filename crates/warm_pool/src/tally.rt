@@ -12,7 +12,8 @@ use warm_stamps::PageId;
 pub struct PoolCounts {
     /// The pins of a page that was resident.
     pub hits: u64,
-    /// The pins of a page that was in no frame, whether it was read or filled with zeros.
+    /// The pins of a page that was in no frame, whether it was read, or filled with zeros or with
+    /// bytes that were given.
     pub misses: u64,
     /// The pages that were evicted for another one, by a pin or a load.
     pub evictions: u64,

@@ -40,6 +40,7 @@ module _ {X : Type 0} where
       (more : List (EndedPass Call Reply)) × Widened v more w
       × OnOk result (Triples PreparedJobWentAs jobs replies more)
 
+  -- the same, of a result that has the replies
   abbrev pub Fanned : View X Call Reply → List PreparedJob → Result (Vec Replied) NoThread
       → View X Call Reply → Type 0
   Fanned v jobs result w =

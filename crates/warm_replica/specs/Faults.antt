@@ -5,19 +5,23 @@ use Rattle.warm_replica.specs.declared.fault.FlushFault.TheVariants as flush
 use Rattle.warm_replica.specs.declared.fault.RunFault.{RunFault}
 use Rattle.warm_replica.specs.declared.fault.RunFault.TheVariants as run
 
+-- the number of each reason why a buffer was not flushed
 abbrev pub flush_code : FlushFault → ℕ
 flush_code flush.Memory = 1
 flush_code flush.TurnsSpent = 2
 
+-- the name of each reason why a buffer was not flushed
 abbrev pub flush_name : FlushFault → List ℕ
 flush_name flush.Memory = codes "Memory"
 flush_name flush.TurnsSpent = codes "TurnsSpent"
 
+-- the number of each reason why jobs did not run
 abbrev pub run_code : RunFault → ℕ
 run_code run.Memory = 1
 run_code run.NoThread = 2
 run_code run.BadCapacity = 3
 
+-- the name of each reason why jobs did not run
 abbrev pub run_name : RunFault → List ℕ
 run_name run.Memory = codes "Memory"
 run_name run.NoThread = codes "NoThread"

@@ -24,6 +24,7 @@ use Rattle.warm_replica.specs.Pairs.{Triples}
 use Rattle.warm_replica.specs.Replied.{Replied}
 use Rattle.warm_replica.specs.Working.{Working}
 
+-- calls of a node, each with its reply, in their order
 abbrev pub Calls : Type 0
 Calls = List (Entry Call Reply)
 
@@ -94,6 +95,7 @@ abbrev pub WentAs : ℕ → List Step → List StepReply → EndedPass Call Repl
 WentAs capacity steps replies e = (after : Bool) × (held : List Reference)
     × AllGave capacity e.number false [] steps replies after held e.calls
 
+-- the same of a job
 abbrev pub JobWentAs : Job → Replied → EndedPass Call Reply → Type 0
 JobWentAs job replies e = WentAs job.cap job.steps.items replies.items e
 

@@ -25,5 +25,6 @@ IsTaken Touched = Unit {0}
 IsTaken Flushed = Unit {0}
 IsTaken reply = ⊥
 
+-- each step was taken so
 abbrev pub AreTaken : Replied → Type 0
 AreTaken replies = All IsTaken replies.items

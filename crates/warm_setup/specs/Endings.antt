@@ -20,6 +20,7 @@ status_of_kind DisplayHelp = 0
 status_of_kind DisplayVersion = 0
 status_of_kind _ = 2
 
+-- the exit status for a refused command line
 abbrev pub status_of_command : CmdFault → ℕ
 status_of_command command.Memory = 1
 status_of_command (command.Refused error) = status_of_kind (kind_of error)
@@ -32,6 +33,7 @@ exit_status (Err (CannotOpen name)) = 1
 exit_status (Err (Setup fault)) = 2
 exit_status (Err (Play fault)) = 1
 
+-- the byte that ends a line
 abbrev pub line_end : List ℕ
 line_end = 10 ∷ []
 
@@ -61,10 +63,12 @@ error_line (Err (Play fault)) = codes "warmplay: " ++ play_fault_name fault
 
 -- ---- the faults of a command line, by number and name
 
+-- the number of each reason why a command line was refused
 abbrev pub command_fault_code : CmdFault → ℕ
 command_fault_code command.Memory = 1
 command_fault_code (command.Refused error) = 2
 
+-- the name of each reason why a command line was refused
 abbrev pub command_fault_name : CmdFault → List ℕ
 command_fault_name command.Memory = codes "Memory"
 command_fault_name (command.Refused error) = codes "Refused"

@@ -6,12 +6,14 @@ use Rattle.warm_setup.specs.declared.setup.SetupFault.{SetupFault}
 use Rattle.warm_setup.specs.declared.setup.SetupFault.TheVariants.{Memory, NotToml, BadKey}
 use Rattle.warm_setup.specs.declared.setup.SetupFault.TheVariants.{BadValue}
 
+-- the number of each fault of a setup
 abbrev pub code_of : SetupFault → ℕ
 code_of Memory = 1
 code_of NotToml = 2
 code_of BadKey = 3
 code_of BadValue = 4
 
+-- the name of each fault of a setup
 abbrev pub name_of : SetupFault → List ℕ
 name_of Memory = codes "Memory"
 name_of NotToml = codes "NotToml"

@@ -7,9 +7,11 @@ use Rattle.warm_setup.specs.declared.setup.SetupKeys.{SetupKeys}
 use Rattle.warm_setup.specs.declared.setup.DeviceSpec.{DeviceSpec}
 use Rattle.warm_setup.specs.Setups.{DeviceFields, Settings}
 
+-- the fields of a device's table that the reader has read
 abbrev pub fields_of : DeviceKeys → DeviceFields
 fields_of keys = record { pages = keys.pages; path = keys.path }
 
+-- the settings that the reader has read
 abbrev pub settings_of : SetupKeys → Settings
 settings_of keys = record {
   sizes = record {

@@ -18,6 +18,7 @@ use Rattle.warm_setup.specs.declared.setup.SetupFault.{SetupFault}
 use Rattle.warm_setup.specs.declared.setup.SetupFault.TheVariants.{NotToml, BadKey, BadValue}
 
 infixl 10 ◌>>=◌
+-- the next reader gets the value that was read; the first fault ends the reading
 abbrev pub ◌>>=◌ : {A B : Type 0} → Result A SetupFault → (A → Result B SetupFault)
     → Result B SetupFault
 (Ok value) >>= next = next value
@@ -29,6 +30,7 @@ abbrev pub ◌>>=◌ : {A B : Type 0} → Result A SetupFault → (A → Result 
 abbrev pub within : ℕ → ℤ → Result ℕ SetupFault
 within limit z = if int_le (pos 1) z && int_le z (pos limit) then Ok (nat_abs z) else Err BadValue
 
+-- a value that is such an integer
 unfoldable pub number_to : ℕ → Data → Result ℕ SetupFault
 number_to limit found = ok_or (as_integer found) BadKey >>= within limit
 
@@ -37,6 +39,7 @@ abbrev pub at_least_a_byte : List ℕ → Result (List ℕ) SetupFault
 at_least_a_byte [] = Err BadValue
 at_least_a_byte (byte ∷ bytes) = Ok (byte ∷ bytes)
 
+-- a value that is such a text
 unfoldable pub text_in : Data → Result (List ℕ) SetupFault
 text_in found = ok_or (as_str found) BadKey >>= at_least_a_byte
 
@@ -49,6 +52,7 @@ key_by_key take so_far no_members = Ok so_far
 key_by_key take so_far (member key found rest) =
     take so_far key found >>= λ next. key_by_key take next rest
 
+-- the elements of an array
 abbrev pub list_of : Items → List Data
 list_of no_items = []
 list_of (item found rest) = found ∷ list_of rest
@@ -66,6 +70,7 @@ pub record DeviceFields : Type 0 where
   pub pages : Option ℕ
   pub path : Option (List ℕ)
 
+-- the fields after one more key
 unfoldable pub with_device_key : DeviceFields → List ℕ → Data → Result DeviceFields SetupFault
 with_device_key fields key found =
     if bytes_eq key (codes "pages")
@@ -74,6 +79,7 @@ with_device_key fields key found =
     then (text_in found >>= λ text. Ok (record fields { path = Some text }))
     else Err BadKey)
 
+-- no field was read
 abbrev pub no_fields : DeviceFields
 no_fields = record { pages = None; path = None }
 
@@ -81,11 +87,13 @@ no_fields = record { pages = None; path = None }
 abbrev pub finished : DeviceFields → Result DeviceSpec SetupFault
 finished fields = ok_or fields.pages BadKey >>= λ n. Ok (record { pages = n; path = fields.path })
 
+-- a value that is the table of a device
 unfoldable pub device_in : Data → Result DeviceSpec SetupFault
 device_in found =
     ok_or (as_table found) BadKey >>= λ table. key_by_key with_device_key no_fields table
     >>= finished
 
+-- whether a value is a table
 abbrev pub is_table : Data → Bool
 is_table found = is_some (as_table found)
 
@@ -98,11 +106,13 @@ devices_of found =
     else Err BadValue)
     else Err BadKey
 
+-- a value that is a list of devices
 unfoldable pub devices_in : Data → Result (List DeviceSpec) SetupFault
 devices_in found = ok_or (as_array found) BadKey >>= λ items. devices_of (list_of items)
 
 -- ---- the settings
 
+-- a setup's numbers and devices
 pub record Settings : Type 0 where
   pub sizes : Sizes
   pub devices : List DeviceSpec
@@ -136,6 +146,7 @@ defaults = record {
   devices = record { pages = 256; path = None } ∷ [];
 }
 
+-- the setup that a table of settings stands for
 abbrev pub setup_of : Members → Result Settings SetupFault
 setup_of table = key_by_key with_key defaults table
 

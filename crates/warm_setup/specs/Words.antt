@@ -17,6 +17,7 @@ use Rattle.warm_setup.specs.declared.command.CmdFault.{CmdFault}
 use Rattle.warm_setup.specs.declared.command.CmdFault.TheVariants.{Memory, Refused}
 
 infixl 10 ◌>>=◌
+-- the next reader gets the value, if there is one
 abbrev pub ◌>>=◌ : {A B : Type 0} → Option A → (A → Option B) → Option B
 o >>= f = option_and_then f o
 
@@ -54,6 +55,7 @@ random =
 abbrev pub threads : App
 threads = with_rule (with_rule (new_app (codes "threads")) (record file { required = true })) setup
 
+-- a command line that requires a command
 abbrev pub wants_command : Shape → Shape
 wants_command top = record top { subcommand_required = true }
 
@@ -80,17 +82,20 @@ number_in most text =
 abbrev pub argument_number : ℕ → Text → List Row → Option ℕ
 argument_number most id rows = option_and_then (number_in most) (one_of id rows)
 
+-- `random`, by the values of its arguments
 abbrev pub random_by : List Row → Option Cmd
 random_by rows = do
   seed ← argument_number (2 ^ 64 - 1) (codes "seed") rows
   events ← argument_number (2 ^ 32 - 1) (codes "events") rows
   Some (Random seed events (first_of (codes "setup") rows))
 
+-- `threads`, by the values of its arguments
 abbrev pub threads_by : List Row → Option Cmd
 threads_by rows = do
   file ← first_of (codes "file") rows
   Some (Threads file (first_of (codes "setup") rows))
 
+-- a command, by its name and the values of its arguments
 abbrev pub command_by : Text × List Row → Option Cmd
 command_by found =
     if bytes_eq found.0 (codes "play")

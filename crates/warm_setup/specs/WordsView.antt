@@ -10,6 +10,7 @@ use Rattle.warm_setup.specs.declared.command.Cmd.TheVariants.{Play, Random, Thre
 use Rattle.warm_setup.specs.declared.command.CmdFault.{CmdFault}
 use Rattle.warm_setup.specs.declared.command.CmdFault.TheVariants.{Memory, Refused}
 
+-- the command that the arguments stand for
 abbrev pub command_for : Asked → Cmd
 command_for (asked.Play file setup) =
     Play (option_map (λ text. text.now) file) (option_map (λ text. text.now) setup)

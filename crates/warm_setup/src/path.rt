@@ -19,7 +19,7 @@ impl Model for PathText {
 }
 
 impl PathText {
-    ghost use Rattle.std.specs.Prelude.{◌≡◌, ◌++◌, IfOk, codes, decimal, string_bytes};
+    ghost use Rattle.std.specs.Prelude.{◌≡◌, ◌++◌, IfOk, codes, decimal};
 
     /// A copy of the text. `AllocError` where its allocation fails.
     pub fn copied_from(alloc: Global, text: &str) -> Result<PathText, AllocError>
@@ -37,21 +37,6 @@ impl PathText {
         let path = self.as_str();
         let text = format!(in alloc; "{path}.{replica}")?;
         Ok(PathText { text })
-    }
-
-    /// The path. Allocation-free.
-    pub fn from_string(string: String) -> PathText
-        ensures { result ≡ string_bytes string }
-    {
-        PathText { text: string }
-    }
-
-    /// The text. Allocation-free.
-    pub fn into_string(self) -> String
-        ensures { string_bytes result ≡ self }
-    {
-        let PathText { text } = self;
-        text
     }
 
     /// The text.

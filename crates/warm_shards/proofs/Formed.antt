@@ -1,5 +1,5 @@
--- Shards of nodes that have run: each is raised to the latest horizon, and all together are what the
--- nodes were.
+-- Shards of nodes that have run: each is raised to the latest horizon, and all together are what
+-- the nodes were.
 use Rattle.std.proofs.Common.{◌≡◌, ℕ, zero, suc, ◌<◌, ◌≤◌, List, [], ◌∷◌, length, max, take, refl, sym, ap, subst, ◌∙◌, arith}
 use Rattle.warm_history.specs.ReferenceSets.{ReferenceSet, with_horizon, ◌∪◌}
 use Rattle.warm_history.specs.Histories.{HistoryView, IsHistory, history, references_of}

@@ -23,10 +23,11 @@ module _ (D : RattleType) (ghosts : Ghosts D.Denot) where
   LendsShardPage s i frame r =
       Lends (the_row D ghosts) (Array u8 0) s r (λ w. relent_shards s.now i frame w)
 
-  -- the same of the nodes
+  -- a vector of nodes, as a type of Rattle
   abbrev pub nodes_row : RattleType
   nodes_row = vec_row (node_row D ghosts) global_row heap
 
+  -- the same, of a vector of nodes
   abbrev pub LendsPageIn : MutBor nodes_row.Denot → ℕ → ℕ → MutBor (List ℕ) → Fml
   LendsPageIn s i frame r = Lends nodes_row (Array u8 0) s r
       (λ w. with_item s.now i (relent_node (shard_at s.now.items i) frame w))

@@ -46,11 +46,13 @@ pub record StopsAt (done fails left : NodeState → NodeState → Type 0) (old n
   pub at : fails (shard_at old shard) (shard_at new shard)
   pub after : (i : ℕ) → shard < i → i < length old → left (shard_at old i) (shard_at new i)
 
+-- the shard is unchanged
 abbrev pub IsUnchanged : NodeState → NodeState → Type 0
 IsUnchanged old new = new ≡ old
 
 -- Forgetting pages
 
+-- the shard forgot the pages of a device from a number on; its history is unchanged
 abbrev pub ForgetsPages : ℕ → ℕ → NodeState → NodeState → Type 0
 ForgetsPages dev from old new = KeepsKnown old new × Forgets old.pool dev from new.pool
 
@@ -104,6 +106,7 @@ WriteBackStops old new = StopsAt IsWritten WriteFails IsUnchanged old new
 
 -- Restarting
 
+-- the shard restarted: no frame of it is dirty, and no device unflushed
 abbrev pub Restarts : NodeState → NodeState → Type 0
 Restarts old new = Goes old Restart Done new × IsSettled new.pool
 

@@ -1,16 +1,19 @@
 //! What an engine asks of the pool of one shard beside the calls.
-ghost use Rattle.std.specs.Prelude.{◌≡◌, ◌<◌, length, IfErr, IfOk, OnErr, OnOk};
-ghost use Rattle.warm_gossip.specs.Clauses.{OfPool, SameView};
+ghost use Rattle.std.specs.Prelude.{◌≡◌, ◌≢◌, ◌<◌, length, IfErr, IfOk, OnErr, OnOk};
+ghost use Rattle.warm_gossip.specs.Clauses.{Answered, OfPool, SameView};
+ghost use Rattle.warm_gossip.specs.declared.call.Call.TheVariants.{Pin};
+ghost use Rattle.warm_gossip.specs.declared.call.Reply.TheVariants.{Pinned};
 ghost use Rattle.warm_gossip.specs.declared.fault.NodeFault.TheVariants.{Pool};
 ghost use Rattle.warm_pool.specs.HandingBack.{HandsBackOne};
 ghost use Rattle.warm_pool.specs.Keeping.{KeepsFrames, SameButFailures};
-ghost use Rattle.warm_pool.specs.Calls.{FlushesNone, FlushesOnce};
+ghost use Rattle.warm_pool.specs.Calls.{FlushesNone, FlushesOnce, ReadsNone};
+ghost use Rattle.warm_pool.specs.Filling.{AreFromDevice, TakesFilled};
 ghost use Rattle.warm_pool.specs.Retiring.{KeepsElsewhere, RetireRefused, Retired};
 ghost use Rattle.warm_pool.specs.View.{Holds, view_of};
 ghost use Rattle.warm_pool.specs.WritingSome.{FlushRefused, IsSettledOn, KeepsOtherDevices};
 ghost use Rattle.warm_pool.specs.WritingSome.{SomeFails, StopsAtDevice, WritesBackSome};
 ghost use Rattle.warm_pool.specs.Zeroing.{LeavesUnread, PinnedZeroed, TakesZeroed, ZeroedRefused};
-ghost use Rattle.warm_pool.specs.declared.fault.PoolFault.TheVariants.{Fault};
+ghost use Rattle.warm_pool.specs.declared.fault.PoolFault.TheVariants.{Fault, ReadFault};
 ghost use Rattle.warm_shards.specs.Clauses.{KeepsKnown, KeepsOthers};
 ghost use Rattle.warm_shards.specs.Shards.{shard_at, shard_of};
 
@@ -62,6 +65,53 @@ impl<D: PageDevice> Shards<D> {
         let shard = self.shard_of(page);
         let slot = self.nodes[shard].pin_zeroed(page)?;
         Ok(ShardSlot { shard, slot })
+    }
+
+    /// Pins a page in its shard, with the bytes given in place of a read: as
+    /// [`warm_gossip::Node::pin_filled`] of the shard, the call `Pin` of it. No device is read.
+    /// `bytes` is the page as its device has it now, whole: that is required of an honest device,
+    /// and believed of another. If the page is resident, `bytes` is ignored. Allocation-free.
+    ///
+    /// **A pin is not a reference**: a caller that pins a page also absorbs a reference to it.
+    ///
+    /// # Errors
+    /// Those of [`warm_gossip::Node::pin_filled`] of the shard, with the same effects.
+    pub fn pin_filled(&mut self, page: PageId, bytes: &[u8]) -> Result<ShardSlot, NodeFault>
+        requires size { let i = shard_of (length self.old) page in
+            length bytes.now ≡ (shard_at self.old i).pool.page_size }
+        requires given { let i = shard_of (length self.old) page in
+            AreFromDevice (view_of (shard_at self.old i).pool) page bytes.now }
+        ensures shard { IfOk result (λ at. at.shard ≡ shard_of (length self.old) page) }
+        ensures step { let i = shard_of (length self.old) page in
+            Answered (shard_at self.old i) (Pin page) (λ at. Pinned at.slot) result
+            (shard_at self.new i) }
+        ensures holds { let i = shard_of (length self.old) page in
+            IfOk result (λ at. Holds (view_of (shard_at self.new i).pool) at.slot) }
+        ensures frame { let i = shard_of (length self.old) page in
+            IfOk result (λ at. TakesFilled (shard_at self.old i).pool page bytes.now at.slot
+            (shard_at self.new i).pool) }
+        ensures no_read_fault { IfErr result (OfPool (λ fault. fault ≢ ReadFault)) }
+        ensures stays { let i = shard_of (length self.old) page in
+            OnErr result (SameButFailures (view_of (shard_at self.old i).pool)
+            (view_of (shard_at self.new i).pool)) }
+        ensures frames { let i = shard_of (length self.old) page in
+            OnErr result (KeepsFrames (shard_at self.old i).pool (shard_at self.new i).pool) }
+        ensures devices { let i = shard_of (length self.old) page in
+            let old = shard_at self.old i in
+            IfErr result (OfPool (λ fault. LeavesUnread old.history old.pool fault
+            (shard_at self.new i).pool)) }
+        ensures unread { let i = shard_of (length self.old) page in
+            ReadsNone (shard_at self.old i).pool.devices (shard_at self.new i).pool.devices }
+        ensures unflushed { let i = shard_of (length self.old) page in
+            FlushesNone (shard_at self.old i).pool.devices (shard_at self.new i).pool.devices }
+        ensures others { KeepsOthers self.old (shard_of (length self.old) page) self.new }
+    {
+        let shard = self.shard_of(page);
+        let filled = self.nodes[shard].pin_filled(page, bytes)?;
+        Ok(ShardSlot {
+            shard,
+            slot: filled,
+        })
     }
 
     /// Writes back at most `limit` dirty pages of a shard, and returns how many of its pages are

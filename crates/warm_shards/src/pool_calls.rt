@@ -5,6 +5,9 @@ ghost use Rattle.warm_gossip.specs.Clauses.{ReadIntoFails, SameView, done};
 ghost use Rattle.warm_gossip.specs.declared.call.Call.TheVariants.{Pin, Read, Unpin, Victim};
 ghost use Rattle.warm_gossip.specs.declared.call.Call.TheVariants.{WarmStep, Write};
 ghost use Rattle.warm_gossip.specs.declared.call.Reply.TheVariants.{Bytes, Loaded, Page, Pinned};
+ghost use Rattle.warm_gossip.specs.declared.fault.NodeFault.TheVariants.{Memory};
+ghost use Rattle.warm_gossip.specs.State.{node_view};
+ghost use Rattle.warm_gossip.specs.Step.{IsNextWarm};
 ghost use Rattle.warm_history.specs.Histories.{references_of};
 ghost use Rattle.warm_pool.specs.State.{IsSettled};
 ghost use Rattle.warm_pool.specs.View.{unfixed_pages, view_of};
@@ -169,5 +172,19 @@ impl<D: PageDevice> Shards<D> {
         ensures others { KeepsOthers self.old shard self.new }
     {
         self.nodes[shard].warm_step()
+    }
+
+    /// The page that [`Shards::warm_step`] of the shard would load now; `None` where there is none:
+    /// as [`warm_gossip::Node::warm_next`] of the shard. Nothing is loaded.
+    ///
+    /// # Errors
+    /// Those of [`warm_gossip::Node::warm_next`] of the shard.
+    pub fn warm_next(&mut self, shard: usize) -> Result<Option<PageId>, NodeFault>
+        requires there { shard < length self.old }
+        ensures same { self.new ≡ self.old }
+        ensures next { IfOk result (λ page. IsNextWarm (node_view (shard_at self.old shard)) page) }
+        ensures refused { IfErr result (λ why. why ≡ Memory) }
+    {
+        self.nodes[shard].warm_next()
     }
 }

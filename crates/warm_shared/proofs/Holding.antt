@@ -5,6 +5,7 @@ use Rattle.warm_turn.specs.declared.table.Entry.{Entry}
 use Rattle.warm_turn.specs.CallHistories.{Runs}
 use Rattle.warm_gossip.specs.declared.call.Call.{Call}
 use Rattle.warm_gossip.specs.declared.call.Reply.{Reply}
+use Rattle.warm_gossip.specs.declared.call.Call.TheVariants as node_call
 use Rattle.warm_gossip.specs.declared.call.Reply.TheVariants as node_reply
 use Rattle.warm_gossip.specs.declared.fault.NodeFault.TheVariants.{Pool}
 use Rattle.warm_gossip.specs.State.{NodeState, NodeView, node_view}
@@ -12,13 +13,13 @@ use Rattle.warm_shards.specs.Laws.{BringsOwn}
 use Rattle.warm_shards.specs.Shards.{AreShards, HoldsPagesOf, shard_at}
 use Rattle.warm_shards.proofs.Staying.{failures_stay, steps_stay}
 use Rattle.warm_shared.specs.declared.call.ShardCall.{ShardCall}
-use Rattle.warm_shared.specs.declared.call.ShardCall.TheVariants.{Absorb, Pin}
+use Rattle.warm_shared.specs.declared.call.ShardCall.TheVariants.{Absorb, Change, Look, Pin}
 use Rattle.warm_shared.specs.declared.call.ShardReply.{ShardReply}
-use Rattle.warm_shared.specs.declared.call.ShardReply.TheVariants.{Foreign}
+use Rattle.warm_shared.specs.declared.call.ShardReply.TheVariants.{Changed, Foreign, Looked, Refused}
 use Rattle.warm_shared.specs.Attached.{Known, ShardTurn}
 use Rattle.warm_shared.specs.Laws.{ShardsHoldTheirPages}
 use Rattle.warm_shared.specs.Opening.{ClosesShard, shards_from, shards_over, view_at}
-use Rattle.warm_shared.specs.ShardSteps.{IsOwn, NodeStep, ShardStep, ShardView, WritesBack, node_call_of, node_reply_of, shard_view}
+use Rattle.warm_shared.specs.ShardSteps.{Asked, of_node, writing_back, looking, changing, IsOwn, NodeGoes, NodeStep, ShardStep, ShardView, WritesBack, asked_of, node_reply_of, shard_view}
 use Rattle.warm_shared.proofs.Steps.{runs_keep}
 
 -- ---- a node after one step
@@ -35,16 +36,41 @@ module _ (count i : ℕ) where
   BringsAny None = Unit {0}
   BringsAny (Some c) = BringsOwn count i c
 
-  own_brings : (c : ShardCall) → IsOwn count i c → BringsAny (node_call_of c)
-  own_brings (Absorb batch) own = own
-  own_brings (Pin p) own = own
-  own_brings c own = tt
-
   node_step_own : (o y : NodeView) (c : Option Call) (r : Option Reply) → BringsAny c
       → HoldsPagesOf count i o → NodeStep o c r y → HoldsPagesOf count i y
   node_step_own o y c None brings own step = absurd step
   node_step_own o y (Some c) (Some r) brings own step = steps_stay count i o y c r brings own step
   node_step_own o y None (Some r) brings own step = written_own o y r own step
+
+  -- so does all that a shard asks of its node for a call of own pages
+  abbrev BringsAsked : Asked → Type 0
+  BringsAsked (of_node c) = BringsOwn count i c
+  BringsAsked writing_back = Unit {0}
+  BringsAsked (looking p) = BringsOwn count i (node_call.Pin p)
+  BringsAsked (changing p) = BringsOwn count i (node_call.Pin p)
+
+  own_brings : (c : ShardCall) → IsOwn count i c → BringsAsked (asked_of c)
+  own_brings (Absorb batch) own = own
+  own_brings (Pin p) own = own
+  own_brings (Look p) own = own
+  own_brings (Change p) own = own
+  own_brings c own = tt
+
+  goes_own : (o y : NodeView) (a : Asked) (r : ShardReply) → BringsAsked a
+      → HoldsPagesOf count i o → NodeGoes o a r y → HoldsPagesOf count i y
+  goes_own o y (of_node c) r brings own step = node_step_own o y (Some c) (node_reply_of r) brings own step
+  goes_own o y writing_back r brings own step = node_step_own o y None (node_reply_of r) tt own step
+  goes_own o y (looking p) (Looked slot bytes) brings own step =
+      let pinned = steps_stay count i o step.mid (node_call.Pin p) (node_reply.Pinned slot) brings own step.pins in
+      steps_stay count i step.mid y (node_call.Unpin slot) node_reply.Done tt pinned step.unpins
+  goes_own o y (looking p) (Refused why) brings own step = steps_stay count i o y (node_call.Pin p) (node_reply.Refused why) brings own step
+  goes_own o y (looking p) r brings own step = absurd step
+  goes_own o y (changing p) (Changed slot before after) brings own step =
+      let pinned = steps_stay count i o step.mid (node_call.Pin p) (node_reply.Pinned slot) brings own step.pins in
+      let written = steps_stay count i step.mid step.left (node_call.Write slot 0 after.numbers) node_reply.Done tt pinned step.writes in
+      steps_stay count i step.left y (node_call.Unpin slot) node_reply.Done tt written step.unpins
+  goes_own o y (changing p) (Refused why) brings own step = steps_stay count i o y (node_call.Pin p) (node_reply.Refused why) brings own step
+  goes_own o y (changing p) r brings own step = absurd step
 
 -- ---- a shard after a run
 
@@ -55,7 +81,7 @@ shard_step_own : (o y : ShardView) (c : ShardCall) (r : ShardReply) → Holds o 
     → Holds y
 shard_step_own o y c Foreign own step = subst Holds (sym step.1) own
 shard_step_own o y c r own step =
-    subst Holds (sym step.1) (node_step_own o.count o.number o.node y.node (node_call_of c) (node_reply_of r) (own_brings o.count o.number c step.0) own step.2)
+    subst Holds (sym step.1) (goes_own o.count o.number o.node y.node (asked_of c) r (own_brings o.count o.number c step.0) own step.2)
 
 runs_own : (o z : ShardView) (es : List (Entry ShardCall ShardReply)) → Holds o
     → Runs ShardStep o es z → Holds z

@@ -21,34 +21,58 @@ use Rattle.warm_stamps.specs.declared.Reference.{Reference}
 use Rattle.warm_shared.specs.declared.call.ShardCall.{ShardCall}
 use Rattle.warm_shared.specs.declared.call.ShardCall.TheVariants.{Absorb, Answer, Offer}
 use Rattle.warm_shared.specs.declared.call.ShardReply.{ShardReply}
-use Rattle.warm_shared.specs.declared.call.ShardReply.TheVariants.{Done, Kept, Pinned, Bytes, Page, Loaded, Sent, Answers, Foreign, Refused}
+use Rattle.warm_shared.specs.declared.call.ShardReply.TheVariants.{Answers, Changed, Done, Foreign, Kept, Looked, Refused}
 use Rattle.warm_shared.specs.Answering.{AnswersPart, Offers, offer_at, offer_reply}
 use Rattle.warm_shared.specs.Attached.{Known, ShardPass, known_of, no_pass, shard_pass}
 use Rattle.warm_shared.specs.Clauses.{Answered, Got}
-use Rattle.warm_shared.specs.Laws.{CallsAreANodes, OnlySeesMore, SeesMore, ShardIsOfGiven, StepOrWriteBack, TogetherAreOfGiven, all_of, held_by, node_calls, node_entries, node_steps}
-use Rattle.warm_shared.specs.ShardSteps.{NodeStep, ShardStep, ShardView, node_call_of, node_reply_of}
+use Rattle.warm_shared.specs.Laws.{CallsAreANodes, OnlySeesMore, SeesMore, ShardIsOfGiven, StepOrWriteBack, TogetherAreOfGiven, all_of, asked_steps, call_entries, calls_in, held_by, node_steps, step_entries}
+use Rattle.warm_shared.specs.ShardSteps.{Asked, of_node, writing_back, looking, changing, NodeGoes, NodeStep, ShardStep, ShardView, asked_of, node_reply_of}
 use Rattle.warm_shared.specs.Whole.{AbsorbsPart, Does, First, Raises, part_of}
 use Rattle.warm_shared.proofs.Places.{at_each}
 
-next : (o y z : ShardView) (e : Entry ShardCall ShardReply) (es : List (Entry ShardCall ShardReply))
-    → ShardStep o e.call e.reply y → Runs StepOrWriteBack y.node (node_steps es) z.node
-    → (r : ShardReply) → e.reply ≡ r → Runs StepOrWriteBack o.node (node_steps (e ∷ es)) z.node
-next o y z e es step rest Foreign is =
-    let same : y ≡ o = (subst (λ r. ShardStep o e.call r y) is step).1 in
-    rw is (subst (λ (x : ShardView). Runs StepOrWriteBack x.node (node_steps es) z.node) same rest)
-next o y z e es step rest Done is = rw is (y.node, (subst (λ r. ShardStep o e.call r y) is step).2, rest)
-next o y z e es step rest (Kept h) is = rw is (y.node, (subst (λ r. ShardStep o e.call r y) is step).2, rest)
-next o y z e es step rest (Pinned s) is = rw is (y.node, (subst (λ r. ShardStep o e.call r y) is step).2, rest)
-next o y z e es step rest (Bytes b) is = rw is (y.node, (subst (λ r. ShardStep o e.call r y) is step).2, rest)
-next o y z e es step rest (Page p) is = rw is (y.node, (subst (λ r. ShardStep o e.call r y) is step).2, rest)
-next o y z e es step rest (Loaded p) is = rw is (y.node, (subst (λ r. ShardStep o e.call r y) is step).2, rest)
-next o y z e es step rest (Sent m) is = rw is (y.node, (subst (λ r. ShardStep o e.call r y) is step).2, rest)
-next o y z e es step rest (Answers ms) is = rw is (y.node, (subst (λ r. ShardStep o e.call r y) is step).2, rest)
-next o y z e es step rest (Refused w) is = rw is (y.node, (subst (λ r. ShardStep o e.call r y) is step).2, rest)
+-- ---- the steps of a shard are a node's
+
+of_reply : (x y : NodeView) (by : ℕ) (c : Option Call) (k : Option Reply) → NodeStep x c k y
+    → Runs StepOrWriteBack x (step_entries by c k) y
+of_reply x y by c None step = absurd step
+of_reply x y by c (Some r) step = (y, step, refl)
+
+asked_run : (x y : NodeView) (by : ℕ) (a : Asked) (r : ShardReply) → NodeGoes x a r y
+    → Runs StepOrWriteBack x (asked_steps by a r) y
+asked_run x y by (of_node c) r step = of_reply x y by (Some c) (node_reply_of r) step
+asked_run x y by writing_back r step = of_reply x y by None (node_reply_of r) step
+asked_run x y by (looking p) (Looked slot bytes) step = (step.mid, step.pins, (y, step.unpins, refl))
+asked_run x y by (looking p) (Refused why) step = (y, step, refl)
+asked_run x y by (looking p) r step = absurd step
+asked_run x y by (changing p) (Changed slot before after) step = (step.mid, step.pins, (step.left, step.writes, (y, step.unpins, refl)))
+asked_run x y by (changing p) (Refused why) step = (y, step, refl)
+asked_run x y by (changing p) r step = absurd step
+
+foreign_none : (by : ℕ) (a : Asked) → asked_steps by a Foreign ≡ []
+foreign_none by (of_node c) = refl
+foreign_none by writing_back = refl
+foreign_none by (looking p) = refl
+foreign_none by (changing p) = refl
+
+shard_run : (o y : ShardView) (by : ℕ) (c : ShardCall) (r : ShardReply) → ShardStep o c r y
+    → Runs StepOrWriteBack o.node (asked_steps by (asked_of c) r) y.node
+shard_run o y by c Foreign step =
+    subst (λ (es : List (Entry (Option Call) Reply)). Runs StepOrWriteBack o.node es y.node) (sym (foreign_none by (asked_of c))) (ap (λ (s : ShardView). s.node) (sym step.1))
+shard_run o y by c r step = asked_run o.node y.node by (asked_of c) r step.2
+
+-- one run after another
+runs_on : {X C R : Type 0} (goes : X → C → R → X → Type 0) (x y z : X) (xs ys : List (Entry C R))
+    → Runs goes x xs y → Runs goes y ys z → Runs goes x (xs ++ ys) z
+runs_on goes x y z [] ys one rest = subst (λ w. Runs goes w ys z) (sym one) rest
+runs_on goes x y z (e ∷ xs) ys one rest = (one.0, one.1, runs_on goes one.0 y z xs ys one.2 rest)
 
 pub calls_are_a_nodes : CallsAreANodes
 calls_are_a_nodes o z [] runs = ap (λ (s : ShardView). s.node) runs
-calls_are_a_nodes o z (e ∷ es) runs = next o runs.0 z e es runs.1 (calls_are_a_nodes runs.0 z es runs.2) e.reply refl
+calls_are_a_nodes o z (e ∷ es) runs =
+    runs_on StepOrWriteBack o.node runs.0.node z.node (asked_steps e.by (asked_of e.call) e.reply) (node_steps es)
+    (shard_run o runs.0 e.by e.call e.reply runs.1) (calls_are_a_nodes runs.0 z es runs.2)
+
+-- ---- what a shard was given
 
 given_after : (S : ReferenceSet) (xs ys : List (Entry Call Reply))
     → given_by_calls (given_by_calls S xs) ys ≡ given_by_calls S (xs ++ ys)
@@ -58,32 +82,24 @@ given_after S (e ∷ xs) ys = given_after (given_by_call S e.call e.reply) xs ys
 -- after one call, or one write-back, a node has the history of what it was given
 one_given : (S : ReferenceSet) (o y : NodeView) (by : ℕ) (c : Option Call) (r : Reply)
     → o.history ≡ history S → NodeStep o c (Some r) y
-    → y.history ≡ history (given_by_calls S (node_entries by c (Some r)))
+    → y.history ≡ history (given_by_calls S (call_entries by c r))
 one_given S o y by (Some c) r stands step = told_is_history S o y (entry by c r ∷ []) stands (y, step, refl)
 one_given S o y by None node_reply.Done stands step = ap (λ (n : NodeView). n.history) step ∙ stands
 one_given S o y by None (node_reply.Refused (node_fault.Pool pool_fault.Fault)) stands step = ap (λ (n : NodeView). n.history) step.0 ∙ stands
 one_given S o y by None r stands step = absurd step
 
-call_given : (S : ReferenceSet) (o y : ShardView) (by : ℕ) (c : ShardCall) (r : ShardReply)
-    → o.node.history ≡ history S → ShardStep o c r y
-    → y.node.history ≡ history (given_by_calls S (node_entries by (node_call_of c) (node_reply_of r)))
-call_given S o y by c Foreign stands step = ap (λ (s : ShardView). s.node.history) step.1 ∙ stands
-call_given S o y by c Done stands step = one_given S o.node y.node by (node_call_of c) node_reply.Done stands step.2
-call_given S o y by c (Kept h) stands step = one_given S o.node y.node by (node_call_of c) (node_reply.Kept h) stands step.2
-call_given S o y by c (Pinned s) stands step = one_given S o.node y.node by (node_call_of c) (node_reply.Pinned s) stands step.2
-call_given S o y by c (Bytes b) stands step = one_given S o.node y.node by (node_call_of c) (node_reply.Bytes b) stands step.2
-call_given S o y by c (Page p) stands step = one_given S o.node y.node by (node_call_of c) (node_reply.Page p) stands step.2
-call_given S o y by c (Loaded p) stands step = one_given S o.node y.node by (node_call_of c) (node_reply.Loaded p) stands step.2
-call_given S o y by c (Sent m) stands step = one_given S o.node y.node by (node_call_of c) (node_reply.Sent m) stands step.2
-call_given S o y by c (Answers ms) stands step = one_given S o.node y.node by (node_call_of c) (node_reply.Answers ms) stands step.2
-call_given S o y by c (Refused w) stands step = one_given S o.node y.node by (node_call_of c) (node_reply.Refused w) stands step.2
+-- and so after many
+steps_given : (S : ReferenceSet) (o z : NodeView) (es : List (Entry (Option Call) Reply))
+    → o.history ≡ history S → Runs StepOrWriteBack o es z
+    → z.history ≡ history (given_by_calls S (calls_in es))
+steps_given S o z [] stands runs = ap (λ (n : NodeView). n.history) (sym runs) ∙ stands
+steps_given S o z (e ∷ es) stands runs =
+    let one = call_entries e.by e.call e.reply in
+    steps_given (given_by_calls S one) runs.0 z es (one_given S o runs.0 e.by e.call e.reply stands runs.1) runs.2
+    ∙ ap history (given_after S one (calls_in es))
 
 pub shard_is_of_given : ShardIsOfGiven
-shard_is_of_given S o z [] stands runs = ap (λ (s : ShardView). s.node.history) (sym runs) ∙ stands
-shard_is_of_given S o z (e ∷ es) stands runs =
-    let one = node_entries e.by (node_call_of e.call) (node_reply_of e.reply) in
-    shard_is_of_given (given_by_calls S one) runs.0 z es (call_given S o runs.0 e.by e.call e.reply stands runs.1) runs.2
-    ∙ ap history (given_after S one (node_calls es))
+shard_is_of_given S o z es stands runs = steps_given S o.node z.node (node_steps es) stands (calls_are_a_nodes o z es runs)
 
 pub together_are_of_given : TogetherAreOfGiven
 together_are_of_given [] [] stand = refl

@@ -10,3 +10,4 @@ pub mod Requests
 pub mod LawsHold
 pub mod Sent
 pub mod Holding
+pub mod Lends

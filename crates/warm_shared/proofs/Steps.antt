@@ -5,10 +5,10 @@ use Rattle.warm_turn.specs.declared.table.Entry.{Entry}
 use Rattle.warm_turn.specs.CallHistories.{Called, Runs, entry}
 use Rattle.warm_shared.specs.declared.call.ShardCall.{ShardCall}
 use Rattle.warm_shared.specs.declared.call.ShardReply.{ShardReply}
-use Rattle.warm_shared.specs.declared.call.ShardReply.TheVariants.{Done, Kept, Pinned, Bytes, Page, Loaded, Sent, Answers, Foreign, Refused}
+use Rattle.warm_shared.specs.declared.call.ShardReply.TheVariants.{Foreign}
 use Rattle.warm_shared.specs.Attached.{Known}
 use Rattle.warm_shared.specs.Clauses.{MayAnswer}
-use Rattle.warm_shared.specs.ShardSteps.{IsOwn, NodeStep, ShardStep, ShardView, node_call_of, node_reply_of}
+use Rattle.warm_shared.specs.ShardSteps.{IsOwn, NodeGoes, ShardStep, ShardView, asked_of}
 
 -- the shard is the same one
 abbrev pub SameShard : ShardView → ShardView → Type 0
@@ -20,15 +20,7 @@ only_node x y is = (ap (λ (s : ShardView). s.count) is, ap (λ (s : ShardView).
 pub step_keeps : (x y : ShardView) (c : ShardCall) (r : ShardReply) → ShardStep x c r y
     → SameShard x y
 step_keeps x y c Foreign step = (ap (λ (s : ShardView). s.count) step.1, ap (λ (s : ShardView). s.number) step.1)
-step_keeps x y c Done step = only_node x y step.1
-step_keeps x y c (Kept h) step = only_node x y step.1
-step_keeps x y c (Pinned s) step = only_node x y step.1
-step_keeps x y c (Bytes b) step = only_node x y step.1
-step_keeps x y c (Page p) step = only_node x y step.1
-step_keeps x y c (Loaded p) step = only_node x y step.1
-step_keeps x y c (Sent m) step = only_node x y step.1
-step_keeps x y c (Answers ms) step = only_node x y step.1
-step_keeps x y c (Refused w) step = only_node x y step.1
+step_keeps x y c r step = only_node x y step.1
 
 pub runs_keep : (x z : ShardView) (es : List (Entry ShardCall ShardReply)) → Runs ShardStep x es z
     → SameShard x z
@@ -49,17 +41,9 @@ last_of goes x z (f ∷ fs) e runs =
 
 -- a call of own pages is answered as a node answers it
 pub own_step : (x y : ShardView) (c : ShardCall) (r : ShardReply) → IsOwn x.count x.number c
-    → ShardStep x c r y → NodeStep x.node (node_call_of c) (node_reply_of r) y.node
+    → ShardStep x c r y → NodeGoes x.node (asked_of c) r y.node
 own_step x y c Foreign own step = absurd (step.0 own)
-own_step x y c Done own step = step.2
-own_step x y c (Kept h) own step = step.2
-own_step x y c (Pinned s) own step = step.2
-own_step x y c (Bytes b) own step = step.2
-own_step x y c (Page p) own step = step.2
-own_step x y c (Loaded p) own step = step.2
-own_step x y c (Sent m) own step = step.2
-own_step x y c (Answers ms) own step = step.2
-own_step x y c (Refused w) own step = step.2
+own_step x y c r own step = step.2
 
 pub may_answer : (v w : Known) (c : ShardCall) (r : ShardReply) (o : ShardView)
     → v.opening ≡ Some o → Called ShardStep v c r w → MayAnswer o.count o.number c r

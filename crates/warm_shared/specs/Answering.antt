@@ -39,6 +39,7 @@ offer_reply offer = Sent (offer_message offer)
 abbrev pub Offers : Offered → ℕ → ShardPass → ShardPass → Type 0
 Offers offer i old new = Got old.view Offer (offer_reply offer) new.view
 
+-- an offer without digests
 abbrev pub no_offer : Offered
 no_offer = record { sender = 0; horizon = 0; digests = [] }
 

@@ -12,7 +12,7 @@ use Rattle.warm_shared.specs.declared.call.ShardReply.TheVariants.{Done, Refused
 use Rattle.warm_shared.specs.declared.fault.SharedFault.{SharedFault}
 use Rattle.warm_shared.specs.declared.fault.SharedFault.TheVariants.{Node, TurnsSpent}
 use Rattle.warm_shared.specs.Attached.{KeepsOthers, Known, ShardPass, known_of}
-use Rattle.warm_shared.specs.ShardSteps.{IsOwn, NodeStep, ShardStep, node_call_of, node_reply_of}
+use Rattle.warm_shared.specs.ShardSteps.{IsOwn, NodeGoes, ShardStep, asked_of}
 
 -- Calls of one shard
 
@@ -56,7 +56,7 @@ done given = Done
 -- a node could give this reply to the call, if all its pages are of this shard
 abbrev pub MayAnswer : ℕ → ℕ → ShardCall → ShardReply → Type 0
 MayAnswer count i call reply = IsOwn count i call
-    → (x : NodeView) × (y : NodeView) × NodeStep x (node_call_of call) (node_reply_of reply) y
+    → (x : NodeView) × (y : NodeView) × NodeGoes x (asked_of call) reply y
 
 -- a call of own pages that has no result: a node answers it `Done`, or refuses it
 abbrev pub IsDoneCall : ℕ → ℕ → ShardCall → Type 0

@@ -6,6 +6,7 @@ use Rattle.warm_shared.specs.declared.fault.SharedFault.{SharedFault}
 use Rattle.warm_shared.specs.declared.fault.SharedFault.TheVariants.{Node, TurnsSpent, PinsFull}
 use Rattle.warm_shared.specs.declared.fault.SharedFault.TheVariants.{NoPins, PinsHeld}
 
+-- the number of each fault of a call of shared shards
 abbrev pub code_of : SharedFault → ℕ
 code_of (Node why) = node_faults.code_of why
 code_of TurnsSpent = 18
@@ -13,6 +14,7 @@ code_of PinsFull = 19
 code_of NoPins = 20
 code_of PinsHeld = 21
 
+-- the name of each fault of a call of shared shards
 abbrev pub name_of : SharedFault → List ℕ
 name_of (Node why) = node_faults.name_of why
 name_of TurnsSpent = codes "TurnsSpent"

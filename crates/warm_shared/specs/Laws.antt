@@ -7,7 +7,9 @@ use Rattle.warm_turn.specs.declared.table.Entry.{Entry}
 use Rattle.warm_turn.specs.CallHistories.{Runs, entry}
 use Rattle.warm_frames.specs.declared.message.Message.{Message}
 use Rattle.warm_gossip.specs.declared.call.Call.{Call}
+use Rattle.warm_gossip.specs.declared.call.Call.TheVariants as node_call
 use Rattle.warm_gossip.specs.declared.call.Reply.{Reply}
+use Rattle.warm_gossip.specs.declared.call.Reply.TheVariants as node_reply
 use Rattle.warm_gossip.specs.Given.{given_by_calls}
 use Rattle.warm_gossip.specs.State.{NodeState, NodeView, node_view}
 use Rattle.warm_shards.specs.Shards.{AreShards, HoldsPagesOf}
@@ -15,12 +17,14 @@ use Rattle.warm_stamps.specs.declared.Reference.{Reference}
 use Rattle.warm_shared.specs.declared.answering.Offered.{Offered}
 use Rattle.warm_shared.specs.declared.call.ShardCall.{ShardCall}
 use Rattle.warm_shared.specs.declared.call.ShardReply.{ShardReply}
+use Rattle.warm_shared.specs.declared.call.ShardReply.TheVariants.{Refused}
 use Rattle.warm_shared.specs.Answering.{AnswersFirst, OffersFirst}
 use Rattle.warm_shared.specs.Attached.{Known, ShardPass, ShardTurn, known_of}
 use Rattle.warm_shared.specs.Clauses.{Answered}
 use Rattle.warm_shared.specs.Opening.{AreJoined, ClosesShard, shards_over, view_at}
-use Rattle.warm_shared.specs.ShardSteps.{NodeStep, ShardStep, ShardView, node_call_of}
-use Rattle.warm_shared.specs.ShardSteps.{node_reply_of}
+use Rattle.warm_shared.specs.declared.call.ShardReply.TheVariants.{Changed, Looked}
+use Rattle.warm_shared.specs.ShardSteps.{Asked, of_node, writing_back, looking, changing, NodeStep}
+use Rattle.warm_shared.specs.ShardSteps.{ShardStep, ShardView, asked_of, node_reply_of}
 use Rattle.warm_shared.specs.Whole.{AbsorbsFirst, DoneFirst, RaisesFirst}
 
 -- One shard
@@ -30,28 +34,46 @@ abbrev pub step_entries : ℕ → Option Call → Option Reply → List (Entry (
 step_entries by call None = []
 step_entries by call (Some reply) = entry by call reply ∷ []
 
--- the calls of the node and the write-backs, in their order: all but the calls that brought pages of
--- another shard
+-- The calls of the node and the write-backs that an entry of a shard stands for: of a look a pin and
+-- an unpin, of a change a write between them, and of either a pin where it was refused.
+abbrev pub asked_steps : ℕ → Asked → ShardReply → List (Entry (Option Call) Reply)
+asked_steps by (of_node call) reply = step_entries by (Some call) (node_reply_of reply)
+asked_steps by writing_back reply = step_entries by None (node_reply_of reply)
+asked_steps by (looking page) (Looked slot bytes) =
+    entry by (Some (node_call.Pin page)) (node_reply.Pinned slot)
+    ∷ entry by (Some (node_call.Unpin slot)) node_reply.Done ∷ []
+asked_steps by (changing page) (Changed slot before after) =
+    entry by (Some (node_call.Pin page)) (node_reply.Pinned slot)
+    ∷ entry by (Some (node_call.Write slot 0 after.numbers)) node_reply.Done
+    ∷ entry by (Some (node_call.Unpin slot)) node_reply.Done ∷ []
+asked_steps by (looking page) (Refused why) =
+    entry by (Some (node_call.Pin page)) (node_reply.Refused why) ∷ []
+asked_steps by (changing page) (Refused why) =
+    entry by (Some (node_call.Pin page)) (node_reply.Refused why) ∷ []
+asked_steps by asked reply = []
+
+-- the calls of the node and the write-backs, in their order: all but those for calls that brought
+-- pages of another shard
 abbrev pub node_steps : List (Entry ShardCall ShardReply) → List (Entry (Option Call) Reply)
 node_steps [] = []
-node_steps (e ∷ es) = step_entries e.by (node_call_of e.call) (node_reply_of e.reply)
-    ++ node_steps es
+node_steps (e ∷ es) = asked_steps e.by (asked_of e.call) e.reply ++ node_steps es
 
 -- a step of the node, or a write-back
 abbrev pub StepOrWriteBack : NodeView → Option Call → Reply → NodeView → Type 0
 StepOrWriteBack old call reply new = NodeStep old call (Some reply) new
 
--- the call of a node with its reply, where both are of a node
-abbrev pub node_entries : ℕ → Option Call → Option Reply → List (Entry Call Reply)
-node_entries by call None = []
-node_entries by (Some call) (Some reply) = entry by call reply ∷ []
-node_entries by None (Some reply) = []
+-- the calls of the node among these
+abbrev pub call_entries : ℕ → Option Call → Reply → List (Entry Call Reply)
+call_entries by None reply = []
+call_entries by (Some call) reply = entry by call reply ∷ []
+
+abbrev pub calls_in : List (Entry (Option Call) Reply) → List (Entry Call Reply)
+calls_in [] = []
+calls_in (e ∷ es) = call_entries e.by e.call e.reply ++ calls_in es
 
 -- the calls of the node, in their order
 abbrev pub node_calls : List (Entry ShardCall ShardReply) → List (Entry Call Reply)
-node_calls [] = []
-node_calls (e ∷ es) = node_entries e.by (node_call_of e.call) (node_reply_of e.reply)
-    ++ node_calls es
+node_calls calls = calls_in (node_steps calls)
 
 -- a legal list of calls of a shard is one of its node, with the write-backs between
 abbrev pub CallsAreANodes : Type 0

@@ -7,3 +7,4 @@ pub mod Whole
 pub mod Laws
 pub mod Answering
 pub mod Gossip
+pub mod Visits

@@ -27,6 +27,7 @@ shards_over nodes = shards_from (length nodes) 0 nodes
 abbrev pub openings : List ShardTurn → List ShardView
 openings turns = map (λ t. t.opening) turns
 
+-- the shard of this number, from 0
 abbrev pub view_at : List ShardView → ℕ → ShardView
 view_at views i = slice_index_or views i no_shard_view
 

@@ -1,5 +1,5 @@
 -- A shard as a machine: the calls of a node that it answers, and its steps.
-use Rattle.std.specs.Prelude.{◌≡◌, ℕ, ◌%◌, ◌<◌, length, Option, Some, None, Result, Ok, Err}
+use Rattle.std.specs.Prelude.{◌≡◌, ℕ, ◌%◌, ◌<◌, List, length, Option, Some, None, Result, Ok, Err}
 use Rattle.std.specs.Int.{bit_at}
 use Rattle.std.specs.List.{All}
 use Rattle.warm_stamps.specs.declared.TheConstants.{BUCKETS}
@@ -15,17 +15,21 @@ use Rattle.warm_pool.specs.declared.fault.PoolFault.TheVariants.{Fault}
 use Rattle.warm_pool.specs.State.{IsSettled}
 use Rattle.warm_pool.specs.WritingSome.{CleansFirst, SomeFails}
 use Rattle.warm_gossip.specs.State.{NodeState, NodeView, node_view, empty_node}
-use Rattle.warm_gossip.specs.Step.{IsFailed, OnPool, Step}
+use Rattle.warm_gossip.specs.Step.{IsFailed, OnPool, Refuses, Step}
+use Rattle.warm_pool.specs.PageBytes.{IsLent}
+use Rattle.warm_pool.specs.declared.slot.Slot.{Slot}
+use Rattle.warm_stamps.specs.declared.PageId.{PageId}
 use Rattle.warm_shards.specs.Shards.{shard_of}
 use Rattle.warm_shared.specs.declared.call.ShardCall.{ShardCall}
 use Rattle.warm_shared.specs.declared.call.ShardCall.TheVariants.{Absorb, Raise, Pin, Unpin, Read}
 use Rattle.warm_shared.specs.declared.call.ShardCall.TheVariants.{Write, Victim, WarmStep}
 use Rattle.warm_shared.specs.declared.call.ShardCall.TheVariants.{Answer, Offer, Send}
 use Rattle.warm_shared.specs.declared.call.ShardCall.TheVariants.{WritePages, WriteBack}
+use Rattle.warm_shared.specs.declared.call.ShardCall.TheVariants.{Look, Change}
 use Rattle.warm_shared.specs.declared.call.ShardReply.{ShardReply}
 use Rattle.warm_shared.specs.declared.call.ShardReply.TheVariants.{Done, Kept, Pinned, Bytes, Page}
 use Rattle.warm_shared.specs.declared.call.ShardReply.TheVariants.{Loaded, Sent, Answers, Foreign}
-use Rattle.warm_shared.specs.declared.call.ShardReply.TheVariants.{Refused}
+use Rattle.warm_shared.specs.declared.call.ShardReply.TheVariants.{Refused, Looked, Changed}
 
 -- a shard: how many there are, its number, and its node
 pub record ShardState : Type 0 where
@@ -47,6 +51,7 @@ abbrev pub shard_over : ℕ → ℕ → NodeState → ShardView
 shard_over count number node =
     record { count = count; number = number; node = node_view node }
 
+-- no shard
 abbrev pub no_shard_view : ShardView
 no_shard_view = record { count = 0; number = 0; node = empty_node }
 
@@ -56,21 +61,31 @@ no_shard_view = record { count = 0; number = 0; node = empty_node }
 abbrev pub request_for : ℕ → Message
 request_for request = Want 1 0 request
 
--- the call of a node that this is, unless it is one that writes back
-abbrev pub node_call_of : ShardCall → Option Call
-node_call_of (Absorb batch) = Some (node_call.Absorb batch)
-node_call_of (Raise time) = Some (node_call.Horizon time)
-node_call_of (Pin page) = Some (node_call.Pin page)
-node_call_of (Unpin slot) = Some (node_call.Unpin slot)
-node_call_of (Read slot at len) = Some (node_call.Read slot at len)
-node_call_of (Write slot at bytes) = Some (node_call.Write slot at bytes)
-node_call_of Victim = Some node_call.Victim
-node_call_of WarmStep = Some node_call.WarmStep
-node_call_of Offer = Some node_call.Offer
-node_call_of (Send bucket after) = Some (node_call.Send bucket after)
-node_call_of (Answer request) = Some (node_call.Receive (request_for request))
-node_call_of WritePages = None
-node_call_of WriteBack = None
+-- what a shard asks of its node: a call; to write back; or several calls in one turn, of a page that
+-- is looked at, or changed
+pub data Asked : Type 0 where
+  of_node : Call → Asked
+  writing_back : Asked
+  looking : PageId → Asked
+  changing : PageId → Asked
+
+-- what this call asks of the node
+abbrev pub asked_of : ShardCall → Asked
+asked_of (Absorb batch) = of_node (node_call.Absorb batch)
+asked_of (Raise time) = of_node (node_call.Horizon time)
+asked_of (Pin page) = of_node (node_call.Pin page)
+asked_of (Unpin slot) = of_node (node_call.Unpin slot)
+asked_of (Read slot at len) = of_node (node_call.Read slot at len)
+asked_of (Write slot at bytes) = of_node (node_call.Write slot at bytes)
+asked_of Victim = of_node node_call.Victim
+asked_of WarmStep = of_node node_call.WarmStep
+asked_of Offer = of_node node_call.Offer
+asked_of (Send bucket after) = of_node (node_call.Send bucket after)
+asked_of (Answer request) = of_node (node_call.Receive (request_for request))
+asked_of WritePages = writing_back
+asked_of WriteBack = writing_back
+asked_of (Look page) = looking page
+asked_of (Change page) = changing page
 
 -- the reply of a node that this is, if it is one
 abbrev pub node_reply_of : ShardReply → Option Reply
@@ -83,6 +98,8 @@ node_reply_of (Loaded page) = Some (node_reply.Loaded page)
 node_reply_of (Sent message) = Some (node_reply.Sent message)
 node_reply_of (Answers messages) = Some (node_reply.Answers messages)
 node_reply_of (Refused why) = Some (node_reply.Refused why)
+node_reply_of (Looked slot bytes) = None
+node_reply_of (Changed slot before after) = None
 node_reply_of Foreign = None
 
 -- the number of the shard that has the pages of a bucket, of this many shards
@@ -99,6 +116,8 @@ abbrev pub IsOwn : ℕ → ℕ → ShardCall → Type 0
 IsOwn count number (Absorb batch) = All (λ r. shard_of count r.page ≡ number) batch
 IsOwn count number (Pin page) = shard_of count page ≡ number
 IsOwn count number (Answer request) = AreOwnBuckets count number request
+IsOwn count number (Look page) = shard_of count page ≡ number
+IsOwn count number (Change page) = shard_of count page ≡ number
 IsOwn count number call = Unit {0}
 
 -- Steps
@@ -116,25 +135,57 @@ NodeStep old call None new = ⊥
 NodeStep old (Some call) (Some reply) new = Step old call reply new
 NodeStep old None (Some reply) new = WritesBack old reply new
 
+-- A look at a page: the page is pinned, its bytes are lent, and it is unpinned.
+pub record Looks (old : NodeView) (page : PageId) (slot : Slot) (bytes : List ℕ) (new : NodeView)
+    : Type 0 where
+  pub mid : NodeView
+  pub pins : Step old (node_call.Pin page) (node_reply.Pinned slot) mid
+  pub lends : IsLent mid.pool slot bytes
+  pub unpins : Step mid (node_call.Unpin slot) node_reply.Done new
+
+-- A change of a page: the page is pinned, its bytes are lent, what is left in them is written as by a
+-- write of all bytes of the page, and the page is unpinned.
+pub record Changes (old : NodeView) (page : PageId) (slot : Slot) (before after : List ℕ)
+    (new : NodeView) : Type 0 where
+  pub mid : NodeView
+  pub left : NodeView
+  pub pins : Step old (node_call.Pin page) (node_reply.Pinned slot) mid
+  pub lends : IsLent mid.pool slot before
+  pub size : length after ≡ length before
+  pub writes : Step mid (node_call.Write slot 0 after) node_reply.Done left
+  pub unpins : Step left (node_call.Unpin slot) node_reply.Done new
+
+-- The step of a node that was asked so. A look and a change are refused as a pin of the page is.
+abbrev pub NodeGoes : NodeView → Asked → ShardReply → NodeView → Type 0
+NodeGoes old (of_node call) reply new = NodeStep old (Some call) (node_reply_of reply) new
+NodeGoes old writing_back reply new = NodeStep old None (node_reply_of reply) new
+NodeGoes old (looking page) (Looked slot bytes) new = Looks old page slot bytes.numbers new
+NodeGoes old (looking page) (Refused why) new = Refuses old (node_call.Pin page) why new
+NodeGoes old (looking page) reply new = ⊥
+NodeGoes old (changing page) (Changed slot before after) new =
+    Changes old page slot before.numbers after.numbers new
+NodeGoes old (changing page) (Refused why) new = Refuses old (node_call.Pin page) why new
+NodeGoes old (changing page) reply new = ⊥
+
 -- Of a shard's state only the node changes, and it goes as nodes go. A call that brings a page, or
 -- a bucket, of another shard is refused with `Foreign`, and nothing changes.
 abbrev pub ShardStep : ShardView → ShardCall → ShardReply → ShardView → Type 0
 ShardStep old call Foreign new = (IsOwn old.count old.number call → ⊥) × (new ≡ old)
 ShardStep old call reply new = IsOwn old.count old.number call
     × (new ≡ record old { node = new.node })
-    × NodeStep old.node (node_call_of call) (node_reply_of reply) new.node
+    × NodeGoes old.node (asked_of call) reply new.node
 
 -- the result of a node that was asked to answer this call: its reply is one of a node, or it
 -- refused
 abbrev pub AnsweredAs : NodeState → ShardCall → Result ShardReply NodeFault → NodeState → Type 0
 AnsweredAs old call (Ok reply) new =
-    NodeStep (node_view old) (node_call_of call) (node_reply_of reply) (node_view new)
+    NodeGoes (node_view old) (asked_of call) reply (node_view new)
 AnsweredAs old call (Err why) new =
-    NodeStep (node_view old) (node_call_of call) (Some (node_reply.Refused why)) (node_view new)
+    NodeGoes (node_view old) (asked_of call) (Refused why) (node_view new)
 
--- What a caller does not see of a shard that writes back: all its dirty pages were written, since no
--- more are dirty than there are frames; or those before the one whose write failed. After `WriteBack`
--- no page is dirty and no device is unflushed.
+-- What a caller does not see of a shard that writes back: all its dirty pages were written, since
+-- no more are dirty than there are frames; or those before the one whose write failed. After
+-- `WriteBack` no page is dirty and no device is unflushed.
 abbrev pub LeavesWritten : NodeState → ShardCall → ShardReply → NodeState → Type 0
 LeavesWritten old WritePages Done new = CleansFirst (length old.pool.frames) old.pool new.pool
 LeavesWritten old WritePages (Refused why) new =

@@ -13,7 +13,8 @@ use warm_devices::PageDevice;
 use warm_gossip::{Node, NodeFault};
 use warm_turn::{Busy, Pass, Turn};
 
-/// A thread that was not detached, since it holds pins: refusal 17, `PinsHeld`. Nothing has changed.
+/// A thread that was not detached, since it holds pins: refusal 21, `PinsHeld`. Nothing has
+/// changed.
 #[derive(Drop)]
 pub struct NotDetached<D: PageDevice + Send> {
     /// What the thread has, as it was.
@@ -144,11 +145,11 @@ impl<D: PageDevice + Send> SharedShards<D> {
         Ok(())
     }
 
-    /// Takes the shards apart and returns their nodes, that of shard 0 first: each is in a state that
-    /// a legal history of its shard reaches, which begins with what the thread has seen.
+    /// Takes the shards apart and returns their nodes, that of shard 0 first: each is in a state
+    /// that a legal history of its shard reaches, which begins with what the thread has seen.
     ///
-    /// `Busy` in place of a node: fewer calls of the shard were answered than begun, and the node is
-    /// lost. No thread can be in a call while the shards are closed; that is not proved.
+    /// `Busy` in place of a node: fewer calls of the shard were answered than begun, and the node
+    /// is lost. No thread can be in a call while the shards are closed; that is not proved.
     ///
     /// # Errors
     /// In this order: `PinsHeld`, where this thread holds pins; `Node(Memory)`, where an allocation

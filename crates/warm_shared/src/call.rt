@@ -1,12 +1,14 @@
 //! The calls of a shard and its replies. None has space for a message, of 2 KB: a message is in a
 //! box.
 
+use boxcar::tag::Tag;
 use warm_frames::{BoxedMessage, MessageList};
 use warm_gossip::NodeFault;
 use warm_pool::Slot;
 use warm_stamps::{Bucket, BucketSet, ByteList, PageId, RefList};
 
-/// A call of a shard: a call of its node, or one that writes back.
+/// A call of a shard: a call of its node, one that writes back, or one that pins a page, uses its
+/// bytes where they lie, and unpins it.
 #[derive(Drop)]
 pub enum ShardCall {
     /// Add these references to the history. All must be to pages of the shard.
@@ -54,6 +56,10 @@ pub enum ShardCall {
     WritePages,
     /// Write back the dirty pages of the shard, and flush its unflushed devices.
     WriteBack,
+    /// Show the bytes of a page of the shard, and load it where it isn't resident.
+    Look(PageId),
+    /// Let the bytes of a page of the shard be changed, and load it where it isn't resident.
+    Change(PageId),
 }
 
 /// A reply of a shard.
@@ -79,4 +85,21 @@ pub enum ShardReply {
     Foreign,
     /// The node refused the call, or no memory was left for a box.
     Refused(NodeFault),
+    /// The bytes of the page were shown.
+    Looked {
+        /// The slot of the page during the look. It is stale afterwards, unless others pin the page.
+        slot: Slot,
+        /// The bytes, which exist here only in contracts.
+        bytes: Tag,
+    },
+    /// The bytes of the page were changed.
+    Changed {
+        /// The slot of the page during the change. It is stale afterwards, unless others pin the
+        /// page.
+        slot: Slot,
+        /// The bytes before, which exist here only in contracts.
+        before: Tag,
+        /// The bytes afterwards, which exist here only in contracts.
+        after: Tag,
+    },
 }

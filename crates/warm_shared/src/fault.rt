@@ -12,7 +12,8 @@ use warm_turn::TurnsSpent;
 #[derive(Clone, Copy, PartialEq, Eq, Debug, Error)]
 pub enum SharedFault {
     /// 1, or 4 to 13: why the node of the shard refuses. `Memory`, 1, is also an allocation that
-    /// failed before any shard was called; `StaleSlot`, 13, also a slot of a shard that is not there.
+    /// failed before any shard was called; `StaleSlot`, 13, also a slot of a shard that is not
+    /// there.
     #[error(transparent)]
     Node(NodeFault),
     /// 18: no ticket was left for a call of the shard, and none is left for any later call of that

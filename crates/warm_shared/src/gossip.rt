@@ -35,8 +35,8 @@ pub enum NotReceived {
     /// The shards before this one have the horizon of the entries. This one has not, nor have those
     /// after it, and no reference was taken in.
     Raising(Stopped),
-    /// All shards have the horizon. The shards before this one have taken in the references to their
-    /// pages; this one has not, nor have those after it.
+    /// All shards have the horizon. The shards before this one have taken in the references to
+    /// their pages; this one has not, nor have those after it.
     Absorbing(Stopped),
     /// All shards have the horizon of the digests. This shard has not made an offer to compare them
     /// with. Nothing else has changed.
@@ -310,10 +310,10 @@ impl<D: PageDevice + Send> SharedShards<D> {
     /// [`warm_frames::check_times`] before.
     ///
     /// # Errors
-    /// [`NotReceived`] says what the shards have taken in. `Raising` with `TurnsSpent`. `Absorbing`,
-    /// as of `receive_entries`. `Comparing`, as of `offer`. `Answering` with `Node(Memory)`: no
-    /// memory was left for the messages; or with `TurnsSpent`. To take the message in once more
-    /// does no harm.
+    /// [`NotReceived`] says what the shards have taken in. `Raising` with `TurnsSpent`.
+    /// `Absorbing`, as of `receive_entries`. `Comparing`, as of `offer`. `Answering` with
+    /// `Node(Memory)`: no memory was left for the messages; or with `TurnsSpent`. To take the
+    /// message in once more does no harm.
     pub fn receive<R: Wait>(
         &self,
         rt: &R,

@@ -169,9 +169,9 @@ impl<D: PageDevice + Send> SharedShards<D> {
     /// # Errors
     /// `Node(Memory)` at shard 0: no memory was left for the parts; nothing has changed. Else the
     /// shards before the number given have absorbed their parts, and the others have not:
-    /// `Node(Memory)`, where that shard had no memory for its part, or `TurnsSpent`. So a batch whose
-    /// pages are all of one shard is absorbed, or nothing has changed. To absorb the batch once more
-    /// does no harm.
+    /// `Node(Memory)`, where that shard had no memory for its part, or `TurnsSpent`. So a batch
+    /// whose pages are all of one shard is absorbed, or nothing has changed. To absorb the batch
+    /// once more does no harm.
     pub fn absorb<R: Wait>(
         &self,
         rt: &R,

@@ -21,8 +21,8 @@ pub fn shard_is_of_given()
 {}
 
 /// A shard holds the pages of its buckets alone: it knows no other page, and no other is in its
-/// pool. Shards that are to be shared are so, a shard that opened so stays so whatever it is called,
-/// and so is the node that is left of it once it is closed.
+/// pool. Shards that are to be shared are so, a shard that opened so stays so whatever it is
+/// called, and so is the node that is left of it once it is closed.
 pub fn shards_hold_their_pages()
     ensures { ShardsHoldTheirPages }
 {}

@@ -8,10 +8,13 @@ mod fault;
 mod gossip;
 mod history_calls;
 pub mod laws;
+mod lending;
+mod looking;
 mod pool_calls;
 mod shard;
 mod shared;
 mod sharing;
+mod visitors;
 mod writing;
 
 pub use attaching::{NotClosed, NotDetached};

@@ -169,9 +169,9 @@ impl<D: PageDevice + Send> SharedShards<D> {
     /// Removes a pin: one turn of the slot's shard, in which the call `Unpin` is answered.
     ///
     /// # Errors
-    /// In this order: `NoPins`, where this thread holds no pin, and `Node(StaleSlot)`, where there is
-    /// no such shard; no turn was entered. `Node(StaleSlot)` from the shard, where the slot doesn't
-    /// hold its page there. `TurnsSpent`.
+    /// In this order: `NoPins`, where this thread holds no pin, and `Node(StaleSlot)`, where there
+    /// is no such shard; no turn was entered. `Node(StaleSlot)` from the shard, where the slot
+    /// doesn't hold its page there. `TurnsSpent`.
     pub fn unpin<R: Wait>(
         &self,
         rt: &R,
@@ -205,8 +205,8 @@ impl<D: PageDevice + Send> SharedShards<D> {
         Ok(())
     }
 
-    /// Reads `len` bytes of the slot's page, from `at` on: one turn of the slot's shard, in which the
-    /// call `Read` is answered.
+    /// Reads `len` bytes of the slot's page, from `at` on: one turn of the slot's shard, in which
+    /// the call `Read` is answered.
     ///
     /// # Errors
     /// `Node(StaleSlot)`, where there is no such shard; no turn was entered. `Node`, with the fault

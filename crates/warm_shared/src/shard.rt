@@ -8,8 +8,10 @@ ghost use Rattle.warm_gossip.specs.Clauses.{Answered, NodeWriteBackFails, SameVi
 ghost use Rattle.warm_shards.specs.Shards.{IsShardCount, shard_of};
 ghost use Rattle.warm_shared.specs.ShardSteps.{AnsweredAs, AreOwnBuckets, IsOwn, LeavesWritten};
 ghost use Rattle.warm_shared.specs.ShardSteps.{ShardStep, WrittenAs, request_for, shard_view};
+ghost use Rattle.warm_shared.specs.declared.call.ShardCall.TheVariants.{Change, Look};
 
 use crate::call::{ShardCall, ShardReply};
+use crate::lending::{Left, Shown, change_in, look_in};
 use std::alloc::Global;
 use std::marker::Model;
 use warm_devices::PageDevice;
@@ -25,9 +27,9 @@ use warm_turn::Machine;
 /// shard. Contracts see the three.
 pub struct Shard<D: PageDevice> {
     alloc: Global,
-    count: usize,
-    number: usize,
-    node: Node<D>,
+    pub(crate) count: usize,
+    pub(crate) number: usize,
+    pub(crate) node: Node<D>,
 }
 
 // Written by hand, so that an owner makes one call on each exit path.
@@ -55,7 +57,7 @@ impl<D: PageDevice> Model for Shard<D> {
 }
 
 // Whether a page is of the shard of this number.
-fn is_own_page(count: usize, number: usize, page: PageId) -> bool
+pub(crate) fn is_own_page(count: usize, number: usize, page: PageId) -> bool
     requires { IsShardCount count }
     ensures { IsTrue result ↔ (shard_of count page ≡ number) }
 {
@@ -98,7 +100,9 @@ fn is_own(count: usize, number: usize, call: &ShardCall) -> bool
 {
     match call {
         ShardCall::Absorb(batch) => are_own(count, number, batch.as_slice()),
-        ShardCall::Pin(page) => is_own_page(count, number, *page),
+        ShardCall::Pin(page) | ShardCall::Look(page) | ShardCall::Change(page) => {
+            is_own_page(count, number, *page)
+        }
         ShardCall::Answer(request) => are_own_buckets(count, number, *request),
         _ => true,
     }
@@ -203,7 +207,38 @@ fn answer<D: PageDevice>(
             node.write_back()?;
             Ok(ShardReply::Done)
         }
+        ShardCall::Look(page) => looked(node, page),
+        ShardCall::Change(page) => changed(node, page),
     }
+}
+
+// A look by nobody: the page is loaded where it isn't resident.
+fn looked<D: PageDevice>(node: &mut Node<D>, page: PageId) -> Result<ShardReply, NodeFault>
+    ensures { AnsweredAs node.old (Look page) result node.new }
+{
+    let Shown {
+        slot,
+        bytes,
+        output: (),
+    } = look_in(node, page, |_bytes: &[u8]| ())?;
+    Ok(ShardReply::Looked { slot, bytes })
+}
+
+// A change by nobody: the page is loaded where it isn't resident, and is dirty.
+fn changed<D: PageDevice>(node: &mut Node<D>, page: PageId) -> Result<ShardReply, NodeFault>
+    ensures { AnsweredAs node.old (Change page) result node.new }
+{
+    let Left {
+        slot,
+        before,
+        after,
+        output: (),
+    } = change_in(node, page, |_bytes: &mut [u8]| ())?;
+    Ok(ShardReply::Changed {
+        slot,
+        before,
+        after,
+    })
 }
 
 impl<D: PageDevice> Shard<D> {
@@ -221,8 +256,8 @@ impl<D: PageDevice> Shard<D> {
     }
 
     /// Answers a call: `ShardStep`. A call that brings a page, or a bucket, of another shard is
-    /// answered `Foreign`, and nothing has changed. What `WritePages` and `WriteBack` leave of dirty
-    /// pages and unflushed devices, no caller of the shard sees: `LeavesWritten`.
+    /// answered `Foreign`, and nothing has changed. What `WritePages` and `WriteBack` leave of
+    /// dirty pages and unflushed devices, no caller of the shard sees: `LeavesWritten`.
     pub fn call(&mut self, call: ShardCall) -> ShardReply
         ensures step { ShardStep (shard_view self.old) call result (shard_view self.new) }
         ensures written { LeavesWritten self.old.node call result self.new.node }

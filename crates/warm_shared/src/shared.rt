@@ -6,6 +6,8 @@ ghost use Rattle.warm_shared.specs.Clauses.{Answered, Spent};
 ghost use Rattle.warm_shared.specs.declared.fault.SharedFault.TheVariants.{TurnsSpent};
 ghost use Rattle.warm_shared.specs.ShardSteps.{IsOwn};
 ghost use Rattle.warm_shared.specs.Clauses.{MayAnswer};
+ghost use Rattle.warm_shared.specs.declared.call.ShardCall.{ShardCall};
+ghost use Rattle.warm_shared.specs.declared.call.ShardReply.{ShardReply};
 
 use crate::call::{ShardCall, ShardReply};
 use crate::fault::SharedFault;
@@ -13,7 +15,7 @@ use crate::shard::Shard;
 use std::marker::Model;
 use std::sync::Wait;
 use warm_devices::PageDevice;
-use warm_turn::{Pass, Turn};
+use warm_turn::{Pass, Turn, Visit};
 
 /// The shards of one replica, each behind a turn of its own. Threads share them by `&`; each has an
 /// [`Attached`] of its own.
@@ -93,4 +95,28 @@ pub(crate) fn call_shard<D: PageDevice + Send, R: Wait>(
 {
     let reply = turns[shard].call(rt, &mut passes[shard], call)?;
     Ok(reply)
+}
+
+// Lets a visitor have the shard of one turn. It enters no other turn.
+pub(crate) fn visit_shard<D: PageDevice + Send, R: Wait, V: Visit<Shard<D>> + Drop>(
+    rt: &R,
+    turns: &Vec<Turn<Shard<D>>>,
+    passes: &mut Vec<Pass<Shard<D>>>,
+    shard: usize,
+    visitor: V,
+) -> Result<V::Output, SharedFault>
+    requires turns { AreTurns turns.now.items }
+    requires passes { AreOf turns.now.items passes.old.items }
+    requires there { shard < length turns.now.items }
+    requires ready { V.ready visitor }
+    ensures passes { AreOf turns.now.items passes.new.items }
+    ensures visited { IfOk result (λ output. (call : ShardCall) × (reply : ShardReply)
+        × V.makes visitor output call reply
+        × Answered passes.old.items shard call reply passes.new.items
+        × MayAnswer (length turns.now.items) shard call reply) }
+    ensures spent { IfErr result (λ why. (why ≡ TurnsSpent)
+        × Spent passes.old.items shard passes.new.items) }
+{
+    let output = turns[shard].visit(rt, &mut passes[shard], visitor)?;
+    Ok(output)
 }

@@ -144,8 +144,8 @@ impl<D: PageDevice + Send> Sharing<D> {
     /// them.
     ///
     /// # Errors
-    /// Where an allocation fails, the shards are given back. Some may be behind turns then; to share
-    /// them, call this once more.
+    /// Where an allocation fails, the shards are given back. Some may be behind turns then; to
+    /// share them, call this once more.
     pub fn share(self) -> Result<(SharedShards<D>, Attached<D>), Sharing<D>>
         ensures shards { IfOk result (λ r. openings r.0 ≡ self) }
         ensures of { IfOk result (λ r. AreOf r.0 r.1.passes) }

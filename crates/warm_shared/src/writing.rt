@@ -72,10 +72,10 @@ fn flush_each<D: PageDevice + Send, R: Wait>(
 }
 
 impl<D: PageDevice + Send> SharedShards<D> {
-    /// Writes back the dirty pages of all shards, each in one turn of its shard, and then flushes the
-    /// unflushed devices of each, each in one more. So devices that share a file can make it durable
-    /// once. A page that another thread makes dirty in between is written before its shard flushes:
-    /// `Shard::call` says so (`written`), and no clause of this call does.
+    /// Writes back the dirty pages of all shards, each in one turn of its shard, and then flushes
+    /// the unflushed devices of each, each in one more. So devices that share a file can make it
+    /// durable once. A page that another thread makes dirty in between is written before its shard
+    /// flushes: `Shard::call` says so (`written`), and no clause of this call does.
     ///
     /// # Errors
     /// [`NotWritten`] says which shards have written and flushed. `Node(Pool(Fault))`: a device

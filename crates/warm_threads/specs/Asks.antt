@@ -28,9 +28,11 @@ has_worker s i w = is_number i s.replicas && is_number w s.workers
 abbrev pub reference : ℕ → PageId → ℕ → Reference
 reference i page time = record { page = page; stamp = record { time = time; replica = i } }
 
+-- the request of a worker of a replica to do this
 abbrev pub ask : ℕ → ℕ → Task → Ask
 ask i w task = record { replica = i; worker = w; task = task }
 
+-- threads cannot play the line
 abbrev pub not_playable : NotPlayable
 not_playable = record {}
 
@@ -38,11 +40,13 @@ not_playable = record {}
 abbrev pub ask_if : Bool → Ask → Result Ask NotPlayable
 ask_if there a = if there then Ok a else Err not_playable
 
+-- the request of an event, where the worker exists
 abbrev pub ask_in : Sizes → WorkerRequest → Result Ask NotPlayable
 ask_in s (request.Reference i w page time) =
     ask_if (has_worker s i w) (ask i w (task.Reference (reference i page time)))
 ask_in s (request.Flush i w) = ask_if (has_worker s i w) (ask i w task.Flush)
 
+-- the same, of a line that says something
 abbrev pub as_said : Result Ask NotPlayable → Result (Option Ask) NotPlayable
 as_said (Ok a) = Ok (Some a)
 as_said (Err e) = Err e
@@ -59,6 +63,7 @@ asked_in s (Ok (Some said)) = as_said (ask_in s said)
 abbrev pub asked : Sizes → List ℕ → Result (Option Ask) NotPlayable
 asked s line = asked_in s (worker_request_in (meaning line))
 
+-- the number of this line, if threads cannot play it, else that of a later one
 abbrev pub bad_or : Result (Option Ask) NotPlayable → ℕ → Option ℕ → Option ℕ
 bad_or (Err e) number later = Some number
 bad_or (Ok said) number later = later
@@ -69,6 +74,7 @@ abbrev pub bad_from : Sizes → ℕ → List (List ℕ) → Option ℕ
 bad_from s number [] = None
 bad_from s number (line ∷ rest) = bad_or (asked s line) number (bad_from s (number + 1) rest)
 
+-- the number of the first line that threads cannot play, from 1
 abbrev pub first_bad : Sizes → List (List ℕ) → Option ℕ
 first_bad s lines = bad_from s 1 lines
 

@@ -10,6 +10,8 @@
 //!
 //! - [`Turn::new`] gives the turn and its first pass, and [`Turn::pass`] splits a pass off another.
 //! - [`Turn::call`] makes a call. Its list begins with all that the pass had seen and ends with it.
+//! - [`Turn::visit`] lets a [`Visit`] have the machine itself for one turn. The visitor says by a
+//!   call and a reply what it did, and the visit stands in the list as that call.
 //! - By [`Turn::note`] and [`Turn::learn`] one pass learns what another has seen, and [`Turn::end`]
 //!   ends a pass into another. Both lists begin the new one.
 //! - [`Turn::opening_note`] is for code that was given a turn and a pass: contracts then know that
@@ -37,8 +39,12 @@ mod machine;
 mod plays;
 mod table;
 mod turn;
+mod visit;
+mod waiting;
 
 pub use counter::{Add, Added, Counter};
 pub use fault::{Busy, Memory, TurnsSpent};
 pub use machine::Machine;
+pub use table::CallMade;
 pub use turn::{Note, Pass, Turn};
+pub use visit::{Visit, Visited};

@@ -5,6 +5,7 @@ ghost use Rattle.std.specs.Prelude.{◌≡◌, IfOk, IfErr};
 
 use crate::fault::Memory;
 use crate::machine::Machine;
+use crate::visit::{Visit, Visited};
 use atomic_table::{Seat, Shared, Table, TableRule};
 use std::alloc::{AllocFailed, Global};
 use std::collections::LinkedList;
@@ -104,11 +105,15 @@ impl<M> BoxedMachine<M> {
 }
 
 impl<M: Machine> BoxedMachine<M> {
-    // Has the machine answer the call.
-    pub(crate) fn call(&mut self, call: M::Call) -> M::Reply
-        ensures goes { M.goes (M.view self.old) call result (M.view self.new) }
+    // Lets the visitor have the machine.
+    pub(crate) fn admit<V: Visit<M>>(&mut self, visitor: V) -> Visited<M::Call, M::Reply, V::Output>
+        requires ready { V.ready visitor }
+        ensures makes { V.makes visitor result.output result.made.call.value
+            result.made.reply.value }
+        ensures goes { M.goes (M.view self.old) result.made.call.value result.made.reply.value
+            (M.view self.new) }
     {
-        self.machine.call(call)
+        visitor.visit(&mut self.machine)
     }
 }
 
@@ -117,7 +122,7 @@ impl<M: Machine> BoxedMachine<M> {
 pub struct CellContents<M, C, R> {
     /// The machine.
     pub machine: BoxedMachine<M>,
-    /// The last call that it answered, with the reply.
+    /// What the last visitor did, as a call and its reply.
     pub made: Option<CallMade<C, R>>,
 }
 

@@ -1,25 +1,24 @@
 //! The turn, its passes and notes.
-ghost use Rattle.std.specs.Prelude.{◌≡◌, ◌≢◌, ℕ, ◌+◌, ◌<◌, ◌^◌, true, false, [], ◌∷◌, Some};
-ghost use Rattle.std.specs.Prelude.{IfOk, IfErr, IfSome, IfNone, OnOk};
+ghost use Rattle.std.specs.Prelude.{◌≡◌, ◌≢◌, ℕ, ◌<◌, [], ◌∷◌, Some};
+ghost use Rattle.std.specs.Prelude.{IfOk, IfErr, OnOk};
 ghost use Rattle.warm_turn.specs.declared.table.CellContents.{CellContents};
 ghost use Rattle.warm_turn.specs.CallHistories.{calls_by, first_pass, new_pass, note_of, marked};
 ghost use Rattle.warm_turn.specs.CallHistories.{IsPass, IsStep, IsLast, Called, Learned, Joined};
+ghost use Rattle.warm_turn.specs.CallHistories.{MadeVisit};
 ghost use Rattle.warm_turn.specs.Rule.{IsTicketTable, AreWords, MarkShows};
-ghost use Rattle.warm_turn.specs.Steps.{HasTicket, HasMachine, IsMade, Served, HasPassedOn};
+ghost use Rattle.warm_turn.specs.Steps.{IsMade, Served, HasPassedOn};
 
 use crate::fault::{Busy, Memory, TurnsSpent};
 use crate::machine::Machine;
-use crate::plays::{Become, CatchUp, Come, End, GiveNote, Learn, Look, PassOn, Take};
-use crate::table::{
-    BoxedMachine, CallMade, CellContents, MachineCell, SharedTable, TicketTable, TurnSeat,
-};
+use crate::plays::{Become, CatchUp, Come, End, GiveNote, Learn, PassOn};
+use crate::table::{BoxedMachine, CellContents, MachineCell, SharedTable, TicketTable, TurnSeat};
+use crate::visit::{Calling, Visit, Visited};
+use crate::waiting::{take_ticket, wait_turn};
 use atomic_table::{Refused, Table};
 use std::alloc::{AllocFailed, Global};
-use std::hint::spin_loop;
 use std::marker::Model;
 use std::snapshot::Snapshot;
 use std::sync::Wait;
-use std::time::Duration;
 
 /// A machine that threads share: they call it through a `&`, each with a [`Pass`] of its own.
 ///
@@ -90,143 +89,31 @@ impl<M: Machine> Model for Note<M> {
     ghost invariant = { λ p. (p.seat.me.1 ≡ []) × IsNote p.seat.me.0 };
 }
 
-// How often a waiting caller polls before it sleeps between polls. It spins in between, twice as
-// long each time, 255 spin hints in all, which is less than a context switch takes: a poll takes
-// the words' cache line from the caller that is served, so frequent polls would slow down short
-// calls.
-const SPINS: u32 = 8;
-
-// How often a caller sleeps before it takes a ticket that is not served at once, so that it does
-// not starve: with naps of 50 to 800 microseconds, after 6.8 ms.
-const NAPS: u32 = 16;
-
-// How often a caller without a ticket polls. Then it takes one anyway.
-const LOOKS: u32 = SPINS + NAPS;
-
-// The first sleep of a caller between two polls, in microseconds, where the serving word has not
-// changed.
-const NAP: u64 = 50;
-
-// The sleep of a caller without a ticket after this many polls, in microseconds: a little longer
-// each time, so that many waiting callers do not wake too often.
-fn longer_nap(looks: u32) -> u64 {
-    let naps = looks.saturating_sub(SPINS);
-    if naps < NAPS {
-        NAP * u64::from(naps + 1)
-    } else {
-        NAP * u64::from(NAPS)
-    }
-}
-
-// Waits between two polls; `looks` polls were made, and `nap` bounds the sleep. The last poll found
-// that the ticket `served` is served.
-fn pause<M: Machine, R: Wait>(rt: &R, shared: &SharedTable<M>, served: u64, looks: u32, nap: u64)
-    requires { IsTicketTable shared.now.table_id }
-{
-    if looks < SPINS {
-        for _ in 0..1u32 << looks {
-            spin_loop();
-        }
-    } else {
-        let low = (served & 0xFFFF_FFFF) as u32;
-        shared.park_timeout(rt, 1, low, Duration::from_micros(nap));
-    }
-}
-
-// The ticket to try for, where the ticket word was seen to be `next`. The last number is no ticket:
-// then it is 0, with which the exchange fails and finds the last number. A peek is no step at the
-// table, so it proves nothing; the exchange is one, and from it the seat gets its mark.
-fn tried_for(next: u64) -> u64
-    ensures { result + 1 < 2 ^ 64 }
-{
-    if next == u64::MAX { 0 } else { next }
-}
-
-// Takes a ticket, or finds the last number in the ticket word.
-//
-// It waits before it takes a ticket rather than after: a descheduled caller with a ticket delays
-// all callers with later ones, and a caller without a ticket delays nobody. After many polls it
-// takes one anyway, so that it does not starve.
-fn take_ticket<M: Machine, R: Wait>(
-    rt: &R,
+// Lets the visitor have the machine in the slot.
+fn serve<M: Machine, V: Visit<M>>(
     shared: &SharedTable<M>,
     seat: &mut TurnSeat<M>,
-) -> Option<u64>
-    requires table { (seat.old.table_id ≡ shared.now.table_id) × IsTicketTable shared.now.table_id }
-    requires idle { IsPass M.goes seat.old.me.0 }
-    ensures table { (seat.new.table_id ≡ seat.old.table_id) × (seat.new.id ≡ seat.old.id) }
-    ensures some { IfSome result (λ k. HasTicket seat.old.me k seat.new.me) }
-    ensures none { IfNone result (seat.new.me ≡ (marked seat.old.me.0, seat.old.me.1)) }
-{
-    let mut looks = 0;
-    for _ in rt.forever() {
-        let next = shared.peek(0);
-        let served = shared.peek(1);
-        if looks < LOOKS && next != served {
-            pause(rt, shared, served, looks, longer_nap(looks));
-            looks += 1;
-        } else {
-            let expected = tried_for(next);
-            let found = shared.compare_exchange::<Take>(seat, 0, expected, expected + 1);
-            if found == expected {
-                return Some(found);
-            }
-            if found == u64::MAX {
-                return None;
-            }
-        }
-    }
-    unreachable!()
-}
-
-// Waits until the ticket is served. Then the seat has the machine. The next caller sleeps as the
-// others do, and does not yield: on busy processors a yield gives up a whole time slice, for which
-// all callers behind it would wait too.
-fn wait_turn<M: Machine, R: Wait>(
-    rt: &R,
-    shared: &SharedTable<M>,
-    seat: &mut TurnSeat<M>,
-    ticket: u64,
-)
-    requires table { (seat.old.table_id ≡ shared.now.table_id) × IsTicketTable shared.now.table_id }
-    requires waits { (seat.old.me.1 ≡ []) × (seat.old.me.0.waits ≡ true)
-        × (seat.old.me.0.serves ≡ false) × (seat.old.me.0.ticket ≡ ticket) }
-    ensures table { (seat.new.table_id ≡ seat.old.table_id) × (seat.new.id ≡ seat.old.id) }
-    ensures serves { HasMachine M.view seat.old.me.0 seat.new.me }
-{
-    let mut looks = 0u32;
-    for _ in rt.forever() {
-        let served = shared.load::<Look>(seat, 1);
-        if served == ticket {
-            return;
-        }
-        pause(rt, shared, served, looks, NAP);
-        looks = looks.saturating_add(1);
-    }
-}
-
-// Makes the call on the machine in the slot.
-fn serve<M: Machine>(shared: &SharedTable<M>, seat: &mut TurnSeat<M>, call: M::Call) -> M::Reply
+    visitor: V,
+) -> V::Output
     requires table { seat.old.table_id ≡ shared.now.table_id }
     requires has { (h : CellContents M M.Call M.Reply) × (seat.old.me.1 ≡ (0, Some h) ∷ []) }
+    requires ready { V.ready visitor }
     ensures table { (seat.new.table_id ≡ seat.old.table_id) × (seat.new.id ≡ seat.old.id) }
-    ensures made { Served M.view M.goes seat.old.me call result seat.new.me }
+    ensures made { (c : M.Call) × (r : M.Reply) × V.makes visitor result c r
+        × Served M.view M.goes seat.old.me c r seat.new.me }
 {
-    let asked = Snapshot::of(&call);
     let out = shared.exchange(seat, 0, None);
     let Some(held) = out else { unreachable!() };
     let CellContents {
         mut machine,
         made: _,
     } = held;
-    let reply = machine.call(call);
-    let made = Some(CallMade {
-        call: asked,
-        reply: Snapshot::of(&reply),
-    });
+    let visited = machine.admit(visitor);
+    let Visited { made, output } = visited;
+    let made = Some(made);
     let empty = shared.exchange(seat, 0, Some(CellContents { machine, made }));
     let None = empty else { unreachable!() };
-    reply
+    output
 }
 
 // Adds the call to the history, and puts the machine back into the slot for the next ticket.
@@ -241,28 +128,31 @@ fn pass_on<M: Machine>(shared: &SharedTable<M>, seat: &mut TurnSeat<M>)
     shared.fetch_add::<PassOn>(seat, 1, 1);
 }
 
-// Takes a ticket, waits for its turn, makes the call and passes the turn on.
-fn make_call<M: Machine, R: Wait>(
+// Takes a ticket, waits for its turn, lets the visitor have the machine and passes the turn on.
+fn make_visit<M: Machine, R: Wait, V: Visit<M>>(
     rt: &R,
     shared: &SharedTable<M>,
     seat: &mut TurnSeat<M>,
-    call: M::Call,
-) -> Result<M::Reply, TurnsSpent<M::Call>>
+    visitor: V,
+) -> Result<V::Output, TurnsSpent<V>>
     requires table { (seat.old.table_id ≡ shared.now.table_id) × IsTicketTable shared.now.table_id }
     requires idle { (seat.old.me.1 ≡ []) × IsPass M.goes seat.old.me.0 }
+    requires ready { V.ready visitor }
     ensures table { (seat.new.table_id ≡ seat.old.table_id) × (seat.new.id ≡ seat.old.id)
         × (seat.new.me.1 ≡ []) }
-    ensures ok { IfOk result (λ r. Called M.goes seat.old.me.0 call r seat.new.me.0) }
-    ensures step { IfOk result (λ r. IsStep M.goes call r) }
-    ensures err { IfErr result (λ e. (e.call ≡ call) × (seat.new.me.0 ≡ marked seat.old.me.0)) }
+    ensures pass { IsPass M.goes seat.new.me.0 }
+    ensures ok { IfOk result (λ output. MadeVisit M.goes (V.makes visitor output) seat.old.me.0
+        seat.new.me.0) }
+    ensures err { IfErr result (λ e. (e.call ≡ visitor)
+        × (seat.new.me.0 ≡ marked seat.old.me.0)) }
 {
     let Some(ticket) = take_ticket(rt, shared, seat) else {
-        return Err(TurnsSpent { call });
+        return Err(TurnsSpent { call: visitor });
     };
     wait_turn(rt, shared, seat, ticket);
-    let reply = serve(shared, seat, call);
+    let output = serve(shared, seat, visitor);
     pass_on(shared, seat);
-    Ok(reply)
+    Ok(output)
 }
 
 // The machine in the contents of the slot.
@@ -407,17 +297,44 @@ impl<M: Machine> Turn<M> {
         self.table.shared.load::<CatchUp>(&mut pass.seat, 0);
     }
 
-    /// Takes the next ticket, waits until it is served, calls the machine and passes the turn on.
-    /// It does most of its waiting before it takes the ticket, when it delays nobody.
+    /// Takes the next ticket, waits until it is served, lets the visitor have the machine and passes
+    /// the turn on. It does most of its waiting before it takes the ticket, when it delays nobody.
+    ///
+    /// The visit is one entry of the history, by the call and the reply that say what the visitor
+    /// did: the pass's list begins with the list that it had and ends with this entry, which is
+    /// added to its own calls. A pass whose visitor was let in had no mark, and has none.
+    ///
+    /// `TurnsSpent`, which occurs only where this pass found `u64::MAX` in the ticket word, gives
+    /// the visitor back, which has not run, adds no entry and leaves the pass unchanged except for
+    /// the mark. The waiting time is not specified: a visit may wait forever, for example where an
+    /// earlier visitor never returns.
+    pub fn visit<R: Wait, V: Visit<M>>(
+        &self,
+        rt: &R,
+        pass: &mut Pass<M>,
+        visitor: V,
+    ) -> Result<V::Output, TurnsSpent<V>>
+        requires table { pass.old.table ≡ self.now.table }
+        requires ready { V.ready visitor }
+        ensures table { pass.new.table ≡ self.now.table }
+        ensures visited { IfOk result (λ output. MadeVisit M.goes (V.makes visitor output)
+            pass.old.view pass.new.view) }
+        ensures spent { IfErr result (λ e. pass.new.view ≡ marked pass.old.view) }
+        ensures given_back { IfErr result (λ e. e.call ≡ visitor) }
+    {
+        make_visit(rt, &self.table.shared, &mut pass.seat, visitor)
+    }
+
+    /// Makes a call, by a visitor that calls the machine and gives its reply.
     ///
     /// The reply is the machine's at this point of the history: the pass's list begins with the
     /// list that it had and ends with the call and its reply, which is added to its own calls. A
     /// pass that is answered had no mark, and has none.
     ///
-    /// `TurnsSpent`, which occurs only where this pass found `u64::MAX` in the ticket word, gives
-    /// the call back, adds no entry and leaves the pass unchanged except for the mark. The waiting
-    /// time is not specified: a call may wait forever, for example where an earlier call of the
-    /// machine never returns.
+    /// `TurnsSpent` occurs as at [`Turn::visit`]. It gives the call back, which the machine has not
+    /// seen, adds no entry and leaves the pass unchanged except for the mark. The waiting time is
+    /// not specified: a call may wait forever, for example where an earlier call of the machine
+    /// never returns.
     pub fn call<R: Wait>(
         &self,
         rt: &R,
@@ -431,7 +348,14 @@ impl<M: Machine> Turn<M> {
         ensures spent { IfErr result (λ e. pass.new.view ≡ marked pass.old.view) }
         ensures given_back { IfErr result (λ e. e.call ≡ call) }
     {
-        make_call(rt, &self.table.shared, &mut pass.seat, call)
+        match self.visit(rt, pass, Calling { call }) {
+            Ok(reply) => Ok(reply),
+            Err(
+                TurnsSpent {
+                    call: Calling { call },
+                },
+            ) => Err(TurnsSpent { call }),
+        }
     }
 
     /// Gives the machine back. Its state is one that a legal history reaches from the opening

@@ -7,6 +7,7 @@ use Rattle.warm_devices.specs.declared.TheConstants.{MAX_PAGE_SIZE}
 use Rattle.warm_world.specs.declared.TheConstants.{MAX_WORKERS}
 use Rattle.warm_world.specs.Limits.{IsWithin}
 
+-- the numbers of a setup
 pub record Sizes : Type 0 where
   -- the number of replicas
   pub replicas : ℕ

@@ -32,9 +32,11 @@ pub record ModelState : Type 0 where
   pub replicas : List ReplicaState
   pub records : List MessageRecord
 
+-- a pool without frames, devices and pages
 abbrev pub no_pool : PoolView
 no_pool = record { page_size = 0; devices = []; frames = []; contents = []; failures = [] }
 
+-- a replica without a pool, which nothing reached
 abbrev pub no_replica : ReplicaState
 no_replica = record { reach = set_of_list []; pending = []; pool = no_pool }
 

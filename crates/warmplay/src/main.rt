@@ -23,12 +23,13 @@ use warm_world::Setup;
 // The size of the output buffer for answers, in bytes.
 const OUTPUT_BUFFER_SIZE: usize = 65536;
 
-// The stack that is taken as the program starts, in bytes: half as much again as a play was seen to need.
+// The stack that is taken as the program starts, in bytes: half as much again as a play was seen to
+// need.
 const STACK_SIZE: usize = 262_144;
 
-// Uses the stack once, before anything else takes memory. The system gives a program its stack as it
-// is used, and where no address space is left for it ends the program by a signal. A call of its own,
-// so that the program has this room below it afterwards.
+// Uses the stack once, before anything else takes memory. The system gives a program its stack as
+// it is used, and where no address space is left for it ends the program by a signal. A call of its
+// own, so that the program has this room below it afterwards.
 #[inline(never)]
 fn take_stack(rt: &HostRuntime) {
     let room = [0u8; STACK_SIZE];

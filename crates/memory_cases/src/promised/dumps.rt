@@ -1,8 +1,8 @@
 //! Dumps, each written into a list that has room for it, and read: of one bucket, and of all. Each
 //! line has the number of pages of the history.
-use crate::cases::{Ended, Met, is_done, takes};
 use std::alloc::Global;
 use std::io::Print;
+use test_kit::cases::{Ended, Met, is_done, takes};
 use warm_dump::{read_dump, write_dump};
 use warm_history::History;
 use warm_stamps::{PageId, Reference, ReplicaId, Stamp};

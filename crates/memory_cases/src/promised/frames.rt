@@ -1,7 +1,7 @@
 //! Frames whose decoding is allocation-free.
-use crate::cases::{Ended, Met, takes_none};
 use std::alloc::Global;
 use std::io::Print;
+use test_kit::cases::{Ended, Met, takes_none};
 use warm_frames::{Message, decode};
 
 // A frame of no entries by sender 3, with horizon 5.

@@ -1,8 +1,8 @@
 //! Digests of buckets, recomputed and cached.
-use crate::cases::{Ended, Met};
-use crate::refused::histories::{entries_of, history_of_pages};
-use crate::refused::references::references;
+use crate::refused::histories::entries_of;
 use std::alloc::Global;
+use test_kit::cases::{Ended, Met};
+use test_kit::{history_of_pages, references_to};
 use warm_digest::{DigestedHistory, Digests, digests};
 use warm_frames::DigestTable;
 use warm_history::History;
@@ -63,7 +63,7 @@ fn kept(met: &mut Met, history: &mut DigestedHistory) -> Result<DigestTable, End
 fn absorbed(met: &mut Met, alloc: Global, whole: &DigestTable) -> Result<(), Ended> {
     let mut history = DigestedHistory::new(alloc);
     let empty = kept(met, &mut history)?;
-    let batch = references(alloc, 0, 9, 10)?;
+    let batch = references_to(alloc, 0, 9, 10)?;
     if history.absorb(&batch).is_err() {
         let now = kept(met, &mut history)?;
         let same = history.history().len() == 0 && now == empty;
@@ -97,7 +97,7 @@ fn joined(met: &mut Met, alloc: Global, whole: &DigestTable) -> Result<(), Ended
 // A history of nine pages at 10, which caches its digests.
 fn first_known(alloc: Global) -> Result<DigestedHistory, Ended> {
     let mut history = DigestedHistory::new(alloc);
-    history.absorb(&references(alloc, 0, 9, 10)?)?;
+    history.absorb(&references_to(alloc, 0, 9, 10)?)?;
     Ok(history)
 }
 
@@ -165,7 +165,7 @@ fn kept_since(met: &mut Met, history: &mut DigestedHistory) -> Result<DigestTabl
 // Digests at a horizon, and those after a raise to it.
 fn raised(met: &mut Met, alloc: Global, later: &DigestTable) -> Result<(), Ended> {
     let mut history = first_known(alloc)?;
-    history.absorb(&references(alloc, 4, 12, 20)?)?;
+    history.absorb(&references_to(alloc, 4, 12, 20)?)?;
     let then = kept_since(met, &mut history)?;
     met.holds(then == *later, "the digests are those at the horizon")?;
     let _before = kept(met, &mut history)?;

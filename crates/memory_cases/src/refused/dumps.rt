@@ -1,10 +1,9 @@
 //! Dumps of a history, written, and read in one piece and in small ones.
-use crate::cases::{Ended, Met};
-use crate::refused::histories::history_of_pages;
-use crate::refused::references::{references, replica};
 use std::alloc::Global;
 use std::io;
 use std::io::Read;
+use test_kit::cases::{Ended, Met};
+use test_kit::{are_equal, history_of_pages, references_to, replica};
 use warm_dump::{DumpError, DumpFault, read_dump, write_dump};
 use warm_frames::FrameFault;
 use warm_history::History;
@@ -29,27 +28,17 @@ impl Read for Small<'_> {
     }
 }
 
-// Whether two histories have one horizon and the same entries.
-pub(crate) fn are_equal(one: &History, other: &History) -> bool {
-    for place in 0..one.len() {
-        if one.at(place) != other.at(place) {
-            return false;
-        }
-    }
-    one.horizon() == other.horizon() && one.len() == other.len()
-}
-
 // A history of nine pages at the horizon 5, of which the last five have two stamps.
 fn nine_pages(alloc: Global) -> Result<History, Ended> {
     let mut history = history_of_pages(alloc, 0, 9, 10)?;
-    history.absorb(&references(alloc, 4, 9, 20)?)?;
+    history.absorb(&references_to(alloc, 4, 9, 20)?)?;
     history.raise(5);
     Ok(history)
 }
 
 // The dump is written into a list that has room for it, so each allocation is that of the call.
 fn written(met: &mut Met, alloc: Global, history: &History) -> Result<Vec<u8>, Ended> {
-    let sender = replica(3)?;
+    let sender = replica(3);
     let unchanged = nine_pages(alloc)?;
     let mut text = Vec::with_capacity(alloc, DUMP_SIZE)?;
     if let Err(fault) = write_dump(alloc, &mut text, sender, history) {

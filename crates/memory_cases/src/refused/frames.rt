@@ -1,6 +1,6 @@
 //! A frame of one entry, written and read, whole and in pieces.
-use crate::cases::{Ended, Met};
 use std::alloc::Global;
+use test_kit::cases::{Ended, Met};
 use warm_frames::{BoxedMessage, Decoder, Fed, FrameFault, Message, decode, encode};
 
 // A frame of sender 1, with horizon 12 and the entry 0:7 with stamps 20@1 and 10@1.

@@ -1,8 +1,8 @@
 //! Histories of 100 pages that take in 100 new pages and 20 old ones.
 
-use crate::cases::{Ended, Met};
-use crate::refused::references::{reference, references};
 use std::alloc::Global;
+use test_kit::cases::{Ended, Met};
+use test_kit::{entry, history_of_pages, once, page, references_to};
 use warm_history::{Entry, History, PageHist};
 use warm_stamps::Bucket;
 
@@ -20,44 +20,27 @@ const LATER: u64 = 20;
 // A horizon that drops the first references, and keeps the later ones.
 const BETWEEN: u64 = 15;
 
-// A history of the pages from `first` up to but not including `end`, with one stamp each.
-pub(crate) fn history_of_pages(
-    alloc: Global,
-    first: u64,
-    end: u64,
-    time: u64,
-) -> Result<History, Ended> {
-    let mut history = History::new(alloc);
-    history.absorb(&references(alloc, first, end, time)?)?;
-    Ok(history)
-}
-
 // Whether a history has this horizon, and only the pages from `first` up to but not including
 // `end`, with one stamp each. Here and below entries are read by index: a loop over an iterator
 // takes long to prove, since that holds an iterator of each bucket.
-fn knows(history: &History, horizon: u64, first: u64, end: u64, time: u64) -> Result<bool, Ended> {
+fn knows(history: &History, horizon: u64, first: u64, end: u64, time: u64) -> bool {
     let mut place = 0usize;
     for no in first..end {
-        let seen = reference(no, time)?;
-        let known = Entry {
-            page: seen.page,
-            hist: PageHist::Once(seen.stamp),
-        };
-        if history.at(place) != Some(known) {
-            return Ok(false);
+        if history.at(place) != Some(entry(page(no), once(time, 1))) {
+            return false;
         }
         place = place.wrapping_add(1);
     }
-    Ok(history.horizon() == horizon && history.len() == place)
+    history.horizon() == horizon && history.len() == place
 }
 
 // Whether a history of the 100 pages is unchanged.
-fn is_unchanged(history: &History) -> Result<bool, Ended> {
+fn is_unchanged(history: &History) -> bool {
     knows(history, 0, 0, PAGES, FIRST)
 }
 
 // Whether it has taken in the others, and forgotten older stamps.
-fn has_later_alone(history: &History) -> Result<bool, Ended> {
+fn has_later_alone(history: &History) -> bool {
     knows(history, BETWEEN, OLD, MORE, LATER)
 }
 
@@ -76,9 +59,9 @@ fn has_more(history: &History) -> bool {
 
 fn absorb(met: &mut Met, alloc: Global) -> Result<(), Ended> {
     let mut history = history_of_pages(alloc, 0, PAGES, FIRST)?;
-    let batch = references(alloc, OLD, MORE, LATER)?;
+    let batch = references_to(alloc, OLD, MORE, LATER)?;
     if history.absorb(&batch).is_err() {
-        met.refuse(is_unchanged(&history)?, "a refused absorb changes nothing")?;
+        met.refuse(is_unchanged(&history), "a refused absorb changes nothing")?;
         met.holds(history.absorb(&batch).is_ok(), "absorb is refused again")?;
     }
     met.holds(has_more(&history), "absorb takes the batch in")
@@ -88,7 +71,7 @@ fn join(met: &mut Met, alloc: Global) -> Result<(), Ended> {
     let mut history = history_of_pages(alloc, 0, PAGES, FIRST)?;
     let other = history_of_pages(alloc, OLD, MORE, LATER)?;
     if history.join(&other).is_err() {
-        met.refuse(is_unchanged(&history)?, "a refused join changes nothing")?;
+        met.refuse(is_unchanged(&history), "a refused join changes nothing")?;
         met.holds(history.join(&other).is_ok(), "join is refused again")?;
     }
     met.holds(has_more(&history), "join takes the other in")
@@ -100,10 +83,10 @@ fn join_raised(met: &mut Met, alloc: Global) -> Result<(), Ended> {
     let mut other = history_of_pages(alloc, OLD, MORE, LATER)?;
     other.raise(BETWEEN);
     if history.join(&other).is_err() {
-        met.refuse(is_unchanged(&history)?, "a refused join raises nothing")?;
+        met.refuse(is_unchanged(&history), "a refused join raises nothing")?;
         met.holds(history.join(&other).is_ok(), "join is refused again")?;
     }
-    met.holds(has_later_alone(&history)?, "join takes the horizon over")
+    met.holds(has_later_alone(&history), "join takes the horizon over")
 }
 
 // The entries of a history, in the order of its pages.
@@ -119,7 +102,7 @@ fn join_entries(met: &mut Met, alloc: Global) -> Result<(), Ended> {
     let entries = entries_of(alloc, &history_of_pages(alloc, OLD, MORE, LATER)?)?;
     if history.join_entries(0, &entries).is_err() {
         met.refuse(
-            is_unchanged(&history)?,
+            is_unchanged(&history),
             "a refused join_entries changes nothing",
         )?;
         met.holds(
@@ -135,7 +118,7 @@ fn join_entries_raised(met: &mut Met, alloc: Global) -> Result<(), Ended> {
     let entries = entries_of(alloc, &history_of_pages(alloc, OLD, MORE, LATER)?)?;
     if history.join_entries(BETWEEN, &entries).is_err() {
         met.refuse(
-            is_unchanged(&history)?,
+            is_unchanged(&history),
             "a refused join_entries raises nothing",
         )?;
         met.holds(
@@ -144,7 +127,7 @@ fn join_entries_raised(met: &mut Met, alloc: Global) -> Result<(), Ended> {
         )?;
     }
     met.holds(
-        has_later_alone(&history)?,
+        has_later_alone(&history),
         "join_entries takes the horizon over",
     )
 }
@@ -154,14 +137,14 @@ fn copy(met: &mut Met, alloc: Global) -> Result<(), Ended> {
     let copied = match history.copy() {
         Ok(copied) => copied,
         Err(_) => {
-            met.refuse(is_unchanged(&history)?, "a refused copy changes nothing")?;
+            met.refuse(is_unchanged(&history), "a refused copy changes nothing")?;
             let Ok(copied) = history.copy() else {
                 return Err(met.broken("copy is refused again"));
             };
             copied
         }
     };
-    met.holds(is_unchanged(&copied)?, "a copy is equal")
+    met.holds(is_unchanged(&copied), "a copy is equal")
 }
 
 fn entries(met: &mut Met, alloc: Global) -> Result<(), Ended> {
@@ -172,7 +155,7 @@ fn entries(met: &mut Met, alloc: Global) -> Result<(), Ended> {
     let found = match history.entries(bucket, None, 2) {
         Ok(found) => found,
         Err(_) => {
-            met.refuse(is_unchanged(&history)?, "refused entries change nothing")?;
+            met.refuse(is_unchanged(&history), "refused entries change nothing")?;
             let Ok(found) = history.entries(bucket, None, 2) else {
                 return Err(met.broken("entries is refused again"));
             };
@@ -191,7 +174,7 @@ fn list_at_horizon(met: &mut Met, alloc: Global) -> Result<(), Ended> {
     let found = match history.list_at_horizon(bucket, 0) {
         Ok(found) => found,
         Err(_) => {
-            met.refuse(is_unchanged(&history)?, "a refused list changes nothing")?;
+            met.refuse(is_unchanged(&history), "a refused list changes nothing")?;
             let Ok(found) = history.list_at_horizon(bucket, 0) else {
                 return Err(met.broken("a list is refused again"));
             };
@@ -210,7 +193,7 @@ fn entries_since(met: &mut Met, alloc: Global) -> Result<(), Ended> {
     let portion = match history.entries_since(bucket, FIRST, None, 1) {
         Ok(portion) => portion,
         Err(_) => {
-            met.refuse(is_unchanged(&history)?, "a refused portion changes nothing")?;
+            met.refuse(is_unchanged(&history), "a refused portion changes nothing")?;
             let Ok(portion) = history.entries_since(bucket, FIRST, None, 1) else {
                 return Err(met.broken("a portion is refused again"));
             };

@@ -1,12 +1,11 @@
 //! Values that are allocated once in their full size: buffers, contests, devices; and the warm-up
 //! list.
-use crate::cases::{Ended, Met};
-use crate::refused::histories::history_of_pages;
 use std::alloc::Global;
+use test_kit::cases::{Ended, Met};
+use test_kit::{history_of_pages, page};
 use warm_devices::MemDevice;
 use warm_rank::{Contest, warm_list};
 use warm_refbuffer::{BufferFault, RefBuffer};
-use warm_stamps::PageId;
 
 fn buffer(met: &mut Met, alloc: Global) -> Result<(), Ended> {
     let buffer = match RefBuffer::new(alloc, 64) {
@@ -65,7 +64,7 @@ fn warm_up(met: &mut Met, alloc: Global) -> Result<(), Ended> {
             pages
         }
     };
-    let hottest = PageId { dev: 0, no: 8 };
+    let hottest = page(8);
     met.holds(
         pages.len() == 3 && pages.first() == Some(&hottest),
         "0:8 is the hottest of three",

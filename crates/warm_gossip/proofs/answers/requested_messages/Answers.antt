@@ -1,10 +1,8 @@
-use Rattle.std.proofs.Common.{◌≡◌, ◌++◌, ◌∷◌, [], List, flat_map, append_assoc, append-nil, ap, sym, ◌∙◌}
-use Rattle.warm_stamps.specs.Buckets.{buckets_in}
+use Rattle.std.proofs.Common.{◌++◌, ◌∷◌, [], append_assoc, ap, sym, ◌∙◌}
 use Rattle.warm_history.specs.ReferenceSets.{with_horizon}
 use Rattle.warm_history.specs.Histories.{history, references_of}
 use Rattle.warm_history.specs.Losses.{raised}
 use Rattle.warm_history.proofs.HistoryLemmas.{IsHistory-history}
-use Rattle.warm_frames.specs.Chunks.{bucket_messages}
 use Rattle.warm_frames.proofs.ChunkLemmas.{bucket_ascends}
 use Rattle.warm_gossip.proofs.AnswerLemmas.{all_requested, one_bucket_more}
 use Rattle.warm_gossip.proofs.answers.requested_messages.Goals as goal

@@ -2,7 +2,7 @@ use Rattle.std.proofs.Common.{refl, sym, ◌∙◌}
 use Rattle.warm_pool.proofs.FlushLemmas.{on_err}
 use Rattle.warm_pool.proofs.WriteBacks.{already_clean, wrote_back, write_failed, failed_pool, cleaned_to}
 use Rattle.warm_pool.proofs.OtherDevices.{wrote_on}
-use Rattle.warm_pool.proofs.CallLemmas.{write_none}
+use Rattle.warm_pool.proofs.CallLemmas.{write_none, write_unread}
 use Rattle.warm_pool.proofs.pool.write_back.Goals as goal
 
 pub returns-in_err-write_page-clause-others : goal.returns-in_err-write_page-clause-others
@@ -42,3 +42,11 @@ returns-in_err-write_page-clause-unflushed g c =
 pub returns-clause-unflushed : goal.returns-clause-unflushed
 returns-clause-unflushed g c =
     write_none _ _ _ _ _ _ (c.requires.fit.has_device c.args.at _ (sym c.page.ensures ∙ c.in-Some.is)) c.in_ok-write_page.ensures
+
+pub returns-in_err-write_page-clause-unread : goal.returns-in_err-write_page-clause-unread
+returns-in_err-write_page-clause-unread g c =
+    write_unread _ _ _ _ _ _ (c.requires.fit.has_device c.args.at _ (sym c.page.ensures ∙ c.in-Some.is)) c.in_err-write_page.ensures
+
+pub returns-clause-unread : goal.returns-clause-unread
+returns-clause-unread g c =
+    write_unread _ _ _ _ _ _ (c.requires.fit.has_device c.args.at _ (sym c.page.ensures ∙ c.in-Some.is)) c.in_ok-write_page.ensures

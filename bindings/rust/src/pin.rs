@@ -1,0 +1,203 @@
+//! Pins of pages, and the latches that keep readers and writers of their bytes apart.
+use std::fmt;
+use std::ops::{Deref, DerefMut};
+use std::sync::atomic::{AtomicU32, Ordering};
+use std::thread;
+use std::time::{Duration, Instant};
+
+use crate::error::result;
+use crate::{ffi, Handle};
+
+/// A latch of a frame: how many read its bytes, or `WRITER`. The library keeps the bytes of a
+/// pinned page where they are, and changes them in `warm_write` and `warm_pin_zeroed` alone, which
+/// the crate calls for a page with a `WriteLatch`, or where nobody can have a pin.
+#[derive(Default)]
+pub(crate) struct Latch(AtomicU32);
+
+const WRITER: u32 = u32::MAX;
+const MOST_READERS: u32 = WRITER - 1;
+
+/// The longest time between two looks at a latch.
+const NAP: Duration = Duration::from_micros(50);
+
+impl Latch {
+    pub fn read(&self, patience: Duration) -> Option<ReadLatch<'_>> {
+        let add = |readers| {
+            if readers < MOST_READERS {
+                Some(readers + 1)
+            } else {
+                None
+            }
+        };
+        let taken = within(patience, || {
+            self.0.fetch_update(Ordering::Acquire, Ordering::Relaxed, add).is_ok()
+        });
+        taken.then(|| ReadLatch(self))
+    }
+
+    pub fn write(&self, patience: Duration) -> Option<WriteLatch<'_>> {
+        let taken = within(patience, || {
+            self.0.compare_exchange(0, WRITER, Ordering::Acquire, Ordering::Relaxed).is_ok()
+        });
+        taken.then(|| WriteLatch(self))
+    }
+}
+
+/// Whether it succeeds before the time has passed.
+fn within(patience: Duration, mut succeeds: impl FnMut() -> bool) -> bool {
+    if succeeds() {
+        return true;
+    }
+    let begin = Instant::now();
+    while begin.elapsed() < patience {
+        thread::sleep(NAP);
+        if succeeds() {
+            return true;
+        }
+    }
+    false
+}
+
+pub(crate) struct ReadLatch<'a>(&'a Latch);
+
+impl Drop for ReadLatch<'_> {
+    fn drop(&mut self) {
+        self.0 .0.fetch_sub(1, Ordering::Release);
+    }
+}
+
+pub(crate) struct WriteLatch<'a>(&'a Latch);
+
+impl Drop for WriteLatch<'_> {
+    fn drop(&mut self) {
+        self.0 .0.store(0, Ordering::Release);
+    }
+}
+
+/// One pin of a page, which is taken back when it is dropped.
+pub(crate) struct Pinned<'h> {
+    pub handle: &'h Handle,
+    pub slot: ffi::Slot,
+}
+
+impl Drop for Pinned<'_> {
+    fn drop(&mut self) {
+        // in a call of a device the pin stays, and with it the page
+        if let Ok(raw) = self.handle.enter() {
+            // SAFETY: the handle is open, and the pin is its own.
+            let _ = result(unsafe { ffi::warm_unpin(raw, self.slot) });
+        }
+    }
+}
+
+/// A pinned page whose bytes may be read: they stay where they are, and nobody writes to them,
+/// until it is dropped. A pin is no reference: hand one in by [`Handle::absorb`].
+///
+/// It belongs to its handle, and stays in the thread that has the handle. It cannot outlive it:
+///
+/// ```compile_fail,E0515
+/// fn outlives(handle: warm::Handle) -> warm::Pin<'static> {
+///     handle.pin(warm::Page { dev: 0, no: 0 }).unwrap()
+/// }
+/// ```
+///
+/// ```compile_fail,E0277
+/// fn sends(handle: &warm::Handle) {
+///     let pin = handle.pin(warm::Page { dev: 0, no: 0 }).unwrap();
+///     std::thread::scope(|scope| drop(scope.spawn(move || pin.len())));
+/// }
+/// ```
+///
+/// ```compile_fail,E0502
+/// fn fills_with_zeros(handle: &mut warm::Handle) {
+///     let pin = handle.pin(warm::Page { dev: 0, no: 0 }).unwrap();
+///     drop(handle.pin_zeroed(warm::Page { dev: 0, no: 0 }));
+///     println!("{}", pin[0]);
+/// }
+/// ```
+#[must_use]
+pub struct Pin<'h> {
+    // dropped in this order
+    pub(crate) bytes: *const u8,
+    pub(crate) _latch: ReadLatch<'h>,
+    pub(crate) pinned: Pinned<'h>,
+}
+
+impl Pin<'_> {
+    /// Whether the page was in a frame already.
+    pub fn is_hit(&self) -> bool {
+        self.pinned.slot.hit == 1
+    }
+}
+
+impl Deref for Pin<'_> {
+    type Target = [u8];
+
+    fn deref(&self) -> &[u8] {
+        let length = self.pinned.handle.page_size();
+        // SAFETY: the library wrote where the page's bytes are, and they stay there while it is
+        // pinned. With the latch nobody writes to them.
+        unsafe { std::slice::from_raw_parts(self.bytes, length) }
+    }
+}
+
+impl fmt::Debug for Pin<'_> {
+    fn fmt(&self, f: &mut fmt::Formatter<'_>) -> fmt::Result {
+        f.debug_struct("Pin").field("hit", &self.is_hit()).finish_non_exhaustive()
+    }
+}
+
+/// A pinned page that nobody else reads or writes. It is a copy of the page's bytes, which goes
+/// into the page when it is dropped, if it was written to: so a write-back by another thread finds
+/// the page before or after, and needs not wait. The page is dirty then. A panic that drops it
+/// writes what it has by then.
+///
+/// It is dropped where its handle is used. In a call of a device of the replica itself, which may
+/// not use the handle, what was written is lost, and the page stays pinned.
+#[must_use]
+pub struct PinMut<'h> {
+    // dropped in this order, after drop()
+    pub(crate) bytes: Vec<u8>,
+    pub(crate) is_changed: bool,
+    pub(crate) latch: WriteLatch<'h>,
+    pub(crate) pinned: Pinned<'h>,
+}
+
+impl PinMut<'_> {
+    /// Whether the page was in a frame already.
+    pub fn is_hit(&self) -> bool {
+        self.pinned.slot.hit == 1
+    }
+}
+
+impl Deref for PinMut<'_> {
+    type Target = [u8];
+
+    fn deref(&self) -> &[u8] {
+        &self.bytes
+    }
+}
+
+impl DerefMut for PinMut<'_> {
+    fn deref_mut(&mut self) -> &mut [u8] {
+        self.is_changed = true;
+        &mut self.bytes
+    }
+}
+
+impl Drop for PinMut<'_> {
+    fn drop(&mut self) {
+        let handle = self.pinned.handle;
+        if self.is_changed {
+            // it cannot fail otherwise: the page is pinned, and has these many bytes
+            let _ = handle.write_latched(self.pinned.slot, 0, &self.bytes, &self.latch);
+        }
+        handle.keep_buffer(std::mem::take(&mut self.bytes));
+    }
+}
+
+impl fmt::Debug for PinMut<'_> {
+    fn fmt(&self, f: &mut fmt::Formatter<'_>) -> fmt::Result {
+        f.debug_struct("PinMut").field("changed", &self.is_changed).finish_non_exhaustive()
+    }
+}

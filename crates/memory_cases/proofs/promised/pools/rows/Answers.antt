@@ -1,4 +1,0 @@
-use Rattle.memory_cases.proofs.promised.pools.rows.Goals as goal
-
-pub ranked-requires : goal.ranked-requires
-ranked-requires g c = c.requires c.args.history.now

@@ -1,0 +1,286 @@
+//! Two shards of a replica that are shared by turns. A refused batch or message may have been taken
+//! in by the first.
+ghost use Rattle.std.specs.Prelude.{◌≡◌, IfOk};
+ghost use Rattle.warm_shared.specs.Attached.{AreOf};
+
+use crate::refused::nodes::{digest, request};
+use crate::refused::shards::{TwoShards, made};
+use std::alloc::Global;
+use std::sync::Wait;
+use test_kit::cases::{Ended, Met};
+use test_kit::{entry, once, page, references_to};
+use warm_devices::MemDevice;
+use warm_frames::Message;
+use warm_gossip::NodeFault;
+use warm_shared::{Attached, NotReceived, SharedFault, SharedShards, Sharing};
+use warm_stamps::Bucket;
+
+type Shared = SharedShards<MemDevice>;
+
+type Thread = Attached<MemDevice>;
+
+const MEMORY: SharedFault = SharedFault::Node(NodeFault::Memory);
+
+// The shards, of which none is behind a turn. Where they are refused, they are given back.
+fn sharing(met: &mut Met, alloc: Global, shards: TwoShards) -> Result<Sharing<MemDevice>, Ended> {
+    let back = match Sharing::new(alloc, shards) {
+        Ok(sharing) => return Ok(sharing),
+        Err(back) => back,
+    };
+    met.refuse(back.count() == 2, "shards that are not shared come back")?;
+    match Sharing::new(alloc, back) {
+        Ok(sharing) => Ok(sharing),
+        Err(_) => Err(met.broken("shards are refused again")),
+    }
+}
+
+// The shards behind turns. Where one is refused, all are given back, and are shared at the second
+// try.
+fn shared(met: &mut Met, sharing: Sharing<MemDevice>) -> Result<(Shared, Thread), Ended>
+    ensures { IfOk result (λ made. AreOf made.0 made.1.passes) }
+{
+    let back = match sharing.share() {
+        Ok(made) => return Ok(made),
+        Err(back) => back,
+    };
+    met.refuse(true, "")?;
+    match back.share() {
+        Ok(made) => Ok(made),
+        Err(_) => Err(met.broken("turns are refused again")),
+    }
+}
+
+// A further thread is attached, and ended.
+fn attach(met: &mut Met, alloc: Global, shared: &Shared, thread: &mut Thread) -> Result<(), Ended>
+    requires { AreOf shared.now thread.old.passes }
+    ensures { AreOf shared.now thread.new.passes }
+{
+    let more = match shared.attach(alloc, thread) {
+        Ok(more) => more,
+        Err(_) => {
+            met.refuse(
+                thread.pins() == 0,
+                "a thread that is not attached changes nothing",
+            )?;
+            match shared.attach(alloc, thread) {
+                Ok(more) => more,
+                Err(_) => return Err(met.broken("a thread is refused again")),
+            }
+        }
+    };
+    met.holds(
+        shared.detach(thread, more).is_ok(),
+        "a thread without pins is ended",
+    )
+}
+
+// The number of entries that are sent of a bucket. It is asked again where memory is refused.
+fn known_in<R: Wait>(
+    met: &mut Met,
+    rt: &R,
+    shared: &Shared,
+    thread: &mut Thread,
+    bucket: u8,
+) -> Result<usize, Ended>
+    requires { AreOf shared.now thread.old.passes }
+    ensures { AreOf shared.now thread.new.passes }
+{
+    let Some(bucket) = Bucket::new(bucket) else {
+        return Err(met.broken("the number is a bucket's"));
+    };
+    let mut sent = shared.send(rt, thread, bucket, None);
+    if let Err(fault) = sent {
+        met.refuse(fault == MEMORY, "entries are refused for memory alone")?;
+        sent = shared.send(rt, thread, bucket, None);
+    }
+    match sent {
+        Ok(Message::Entries { entries, .. }) => Ok(entries.as_slice().len()),
+        _ => Err(met.broken("entries are refused again")),
+    }
+}
+
+// Whether the shards before this one know their page, that of their number, and the others do not.
+fn is_known_below<R: Wait>(
+    met: &mut Met,
+    rt: &R,
+    shared: &Shared,
+    thread: &mut Thread,
+    shard: usize,
+) -> Result<bool, Ended>
+    requires { AreOf shared.now thread.old.passes }
+    ensures { AreOf shared.now thread.new.passes }
+{
+    let first = known_in(met, rt, shared, thread, 0)?;
+    let second = known_in(met, rt, shared, thread, 1)?;
+    Ok((first == 1) == (shard > 0) && (second == 1) == (shard > 1))
+}
+
+// Pages 0 to 5: three of each shard, of which the first is that of the shard's number.
+fn absorb<R: Wait>(
+    met: &mut Met,
+    rt: &R,
+    alloc: Global,
+    shared: &Shared,
+    thread: &mut Thread,
+) -> Result<(), Ended>
+    requires { AreOf shared.now thread.old.passes }
+    ensures { AreOf shared.now thread.new.passes }
+{
+    let batch = references_to(alloc, 0, 6, 10)?;
+    if let Err(at) = shared.absorb(rt, alloc, thread, &batch) {
+        let is_part = is_known_below(met, rt, shared, thread, at.shard)?;
+        let is_refused = at.fault == MEMORY && at.shard < 2 && is_part;
+        met.refuse(
+            is_refused,
+            "the shards before the one named take a refused batch in",
+        )?;
+        let again = shared.absorb(rt, alloc, thread, &batch).is_ok();
+        met.holds(again, "a batch is refused again by shared shards")?;
+    }
+    let are_known = is_known_below(met, rt, shared, thread, 2)?;
+    met.holds(are_known, "each shared shard has its pages")
+}
+
+// Loads the hottest page of a shard, pins it, and reads of it.
+fn read<R: Wait>(met: &mut Met, rt: &R, shared: &Shared, thread: &mut Thread) -> Result<(), Ended>
+    requires { AreOf shared.now thread.old.passes }
+    ensures { AreOf shared.now thread.new.passes }
+{
+    if shared.count() < 2 {
+        return Err(met.broken("two shards are shared"));
+    }
+    let mut loaded = shared.warm_step(rt, thread, 1);
+    if let Err(fault) = loaded {
+        met.refuse(
+            fault == MEMORY,
+            "a warm-up step is refused for memory alone",
+        )?;
+        loaded = shared.warm_step(rt, thread, 1);
+    }
+    let Ok(Some(page)) = loaded else {
+        return Err(met.broken("a warm-up step is refused again"));
+    };
+    let Ok(at) = shared.pin(rt, thread, page) else {
+        return Err(met.broken("a loaded page is pinned"));
+    };
+    let mut bytes = shared.read(rt, thread, at, 0, 16);
+    if let Err(fault) = bytes {
+        met.refuse(fault == MEMORY, "a read is refused for memory alone")?;
+        bytes = shared.read(rt, thread, at, 0, 16);
+    }
+    met.holds(bytes.is_ok(), "a read is refused again")?;
+    met.holds(
+        shared.unpin(rt, thread, at).is_ok(),
+        "a pinned page is unpinned",
+    )
+}
+
+// Entries of the pages 8 and 9, one of each shard, at the horizon 15, which drops what was known.
+// A refused message has raised the horizon of both shards.
+fn receive<R: Wait>(
+    met: &mut Met,
+    rt: &R,
+    alloc: Global,
+    shared: &Shared,
+    thread: &mut Thread,
+) -> Result<(), Ended>
+    requires { AreOf shared.now thread.old.passes }
+    ensures { AreOf shared.now thread.new.passes }
+{
+    let entries = [entry(page(8), once(20, 1)), entry(page(9), once(20, 1))];
+    if let Err(why) = shared.receive_entries(rt, alloc, thread, 15, &entries) {
+        let NotReceived::Absorbing(at) = why else {
+            return Err(met.broken("a horizon is refused"));
+        };
+        met.refuse(
+            at.fault == MEMORY && at.shard < 2,
+            "entries are refused for memory alone",
+        )?;
+        let again = shared
+            .receive_entries(rt, alloc, thread, 15, &entries)
+            .is_ok();
+        met.holds(again, "entries are refused again by shared shards")?;
+    }
+    let are_dropped = is_known_below(met, rt, shared, thread, 0)?;
+    met.holds(are_dropped, "what is older than the horizon is dropped")
+}
+
+// The digests of both shards are offered. A refused offer changes nothing.
+fn offer<R: Wait>(met: &mut Met, rt: &R, shared: &Shared, thread: &mut Thread) -> Result<(), Ended>
+    requires { AreOf shared.now thread.old.passes }
+    ensures { AreOf shared.now thread.new.passes }
+{
+    if let Err(at) = shared.offer(rt, thread) {
+        let is_refused = at.fault == MEMORY && at.shard < 2;
+        met.refuse(is_refused, "an offer is refused for memory alone")?;
+        let again = shared.offer(rt, thread).is_ok();
+        met.holds(again, "an offer is refused again by shared shards")?;
+    }
+    let is_unchanged = is_known_below(met, rt, shared, thread, 2)?;
+    met.holds(is_unchanged, "an offer changes nothing of shared shards")
+}
+
+// Whether a message that brings nothing was refused for memory, and by which call: while a shard
+// made an offer, or while its answers were taken.
+fn is_refused_answer(why: NotReceived) -> bool {
+    match why {
+        NotReceived::Comparing(at) => at.fault == MEMORY && at.shard < 2,
+        // (the list of answers may be refused after the last shard)
+        NotReceived::Answering(at) => at.fault == MEMORY && at.shard <= 2,
+        _ => false,
+    }
+}
+
+// A message that brings nothing is answered.
+fn answer<R: Wait>(
+    met: &mut Met,
+    rt: &R,
+    alloc: Global,
+    shared: &Shared,
+    thread: &mut Thread,
+    message: &Message,
+) -> Result<(), Ended>
+    requires { AreOf shared.now thread.old.passes }
+    ensures { AreOf shared.now thread.new.passes }
+{
+    if let Err(why) = shared.receive(rt, alloc, thread, message) {
+        met.refuse(
+            is_refused_answer(why),
+            "answers are refused for memory alone",
+        )?;
+        let again = shared.receive(rt, alloc, thread, message).is_ok();
+        met.holds(again, "answers are refused again by shared shards")?;
+    }
+    let is_unchanged = is_known_below(met, rt, shared, thread, 2)?;
+    met.holds(is_unchanged, "answers change nothing of shared shards")
+}
+
+// Closes the shards. Where they are refused, they are given back, and are closed at the second try.
+fn close(met: &mut Met, alloc: Global, shared: Shared, thread: Thread) -> Result<(), Ended>
+    requires { AreOf shared thread.passes }
+{
+    let back = match shared.close(alloc, thread) {
+        Ok(nodes) => return met.holds(nodes.len() == 2, "each shard has a node"),
+        Err(back) => back,
+    };
+    met.refuse(back.fault == MEMORY, "a close is refused for memory alone")?;
+    match back.shared.close(alloc, back.attached) {
+        Ok(nodes) => met.holds(nodes.len() == 2, "each shard has a node"),
+        Err(_) => Err(met.broken("a close is refused again")),
+    }
+}
+
+// All calls on two shared shards, one after the other.
+pub(crate) fn rows<R: Wait>(met: &mut Met, rt: &R, alloc: Global) -> Result<(), Ended> {
+    let shards = made(met, alloc)?;
+    let sharing = sharing(met, alloc, shards)?;
+    let (shared, mut thread) = shared(met, sharing)?;
+    attach(met, alloc, &shared, &mut thread)?;
+    absorb(met, rt, alloc, &shared, &mut thread)?;
+    offer(met, rt, &shared, &mut thread)?;
+    answer(met, rt, alloc, &shared, &mut thread, &digest(0))?;
+    answer(met, rt, alloc, &shared, &mut thread, &request(0))?;
+    read(met, rt, &shared, &mut thread)?;
+    receive(met, rt, alloc, &shared, &mut thread)?;
+    close(met, alloc, shared, thread)
+}

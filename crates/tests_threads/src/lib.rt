@@ -1,0 +1,21 @@
+//! Tests of a replica that threads share, over only public calls: a counter that they share, and a
+//! node with its workers, jobs in threads of their own, and mail (warm_turn, warm_replica).
+//! Allocations that fail are in node_memory_cases.
+#![tactic(auto)]
+
+#[cfg(test)]
+mod crowd;
+#[cfg(test)]
+mod faults;
+#[cfg(test)]
+mod jobs;
+#[cfg(test)]
+mod mail;
+#[cfg(test)]
+mod mail_loops;
+#[cfg(test)]
+mod setup;
+#[cfg(test)]
+mod turns;
+#[cfg(test)]
+mod waiting;

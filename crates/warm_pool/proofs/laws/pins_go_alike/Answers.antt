@@ -1,0 +1,5 @@
+use Rattle.warm_pool.proofs.OnePin.{pins_go_alike}
+use Rattle.warm_pool.proofs.laws.pins_go_alike.Goals as goal
+
+pub returns : goal.returns
+returns c = pins_go_alike

@@ -1,0 +1,90 @@
+use Rattle.std.proofs.Common.{◌≡◌, ◌<◌, ◌∙◌, ℕ, List, ap, refl, length, sym, subst}
+use Rattle.warm_devices.specs.Device.{GivesPage}
+use Rattle.warm_pool.specs.Frames.{nth_frame}
+use Rattle.warm_pool.specs.FrameSteps.{changed_at, loaded_frame}
+use Rattle.warm_pool.specs.State.{PoolState, IsNowhere, nth_device}
+use Rattle.warm_pool.proofs.Loads.{ok_if_no_err, err_if, on_ok, on_err}
+use Rattle.warm_pool.proofs.Arrivals.{spare_keeps}
+use Rattle.warm_pool.proofs.Zeroes.{zero_there, zero_below, zero_size}
+use Rattle.warm_pool.proofs.Fills.{filled_pool, fills_into}
+use Rattle.warm_pool.proofs.pool.Pool.fill_into.Goals as goal
+
+pub write_back-requires-clause-fit : goal.write_back-requires-clause-fit
+write_back-requires-clause-fit g c = spare_keeps _ _ refl c.self.invariant
+
+pub returns-then-is_err-clause-refused : goal.returns-then-is_err-clause-refused
+returns-then-is_err-clause-refused g c = rw (← c.self.view_is) (
+    let x = on_err _ (err_if _ c.if-is_err.ensures.value) c.write_back.ensures.failed in
+    (refl, record { page = x.page; holds = x.holds; dirty = x.dirty; frames = x.frames; waits = x.waits; others = x.others; fails = x.fails }))
+
+pub page-requires : goal.page-requires
+page-requires g c =
+    zero_there (spare_keeps _ _ refl c.self.invariant) c.args.at (subst (λ (s : PoolState). c.args.at < length s.frames) (sym c.self.view_is) c.requires.there) c.args.page
+    (subst (λ (s : PoolState). c.args.page.dev < length s.devices) (sym c.self.view_is) c.requires.device)
+    (subst (λ (s : PoolState). c.args.page.no < (nth_device s.devices c.args.page.dev).pages) (sym c.self.view_is) c.requires.known)
+    (subst (λ (s : PoolState). IsNowhere s.frames c.args.page) (sym c.self.view_is) c.requires.absent) c.args.key
+    c.write_back.new.frames c.write_back.ensures.fit (on_ok _ (ok_if_no_err _ c.if-is_err.ensures.value) c.write_back.ensures.done)
+
+pub install-requires-clause-there : goal.install-requires-clause-there
+install-requires-clause-there g c =
+    zero_there (spare_keeps _ _ refl c.self.invariant) c.args.at (subst (λ (s : PoolState). c.args.at < length s.frames) (sym c.self.view_is) c.requires.there) c.args.page
+    (subst (λ (s : PoolState). c.args.page.dev < length s.devices) (sym c.self.view_is) c.requires.device)
+    (subst (λ (s : PoolState). c.args.page.no < (nth_device s.devices c.args.page.dev).pages) (sym c.self.view_is) c.requires.known)
+    (subst (λ (s : PoolState). IsNowhere s.frames c.args.page) (sym c.self.view_is) c.requires.absent) c.args.key
+    c.write_back.new.frames c.write_back.ensures.fit (on_ok _ (ok_if_no_err _ c.if-is_err.ensures.value) c.write_back.ensures.done)
+
+pub install-requires-clause-below : goal.install-requires-clause-below
+install-requires-clause-below g c =
+    zero_below (spare_keeps _ _ refl c.self.invariant) c.args.at (subst (λ (s : PoolState). c.args.at < length s.frames) (sym c.self.view_is) c.requires.there) c.args.page
+    (subst (λ (s : PoolState). c.args.page.dev < length s.devices) (sym c.self.view_is) c.requires.device)
+    (subst (λ (s : PoolState). c.args.page.no < (nth_device s.devices c.args.page.dev).pages) (sym c.self.view_is) c.requires.known)
+    (subst (λ (s : PoolState). IsNowhere s.frames c.args.page) (sym c.self.view_is) c.requires.absent) c.args.key
+    c.write_back.new.frames c.write_back.ensures.fit (on_ok _ (ok_if_no_err _ c.if-is_err.ensures.value) c.write_back.ensures.done)
+    _ (subst (λ (s : PoolState). (nth_frame s.frames c.args.at).generation < 18446744073709551615) (sym c.self.view_is) c.requires.below)
+
+pub copy_from_slice-requires : goal.copy_from_slice-requires
+copy_from_slice-requires g c = c.self.inside.spare.ok.0 ∙ c.self.invariant.spare_size ∙ ap (λ (s : PoolState). s.page_size) c.self.view_is ∙ sym c.requires.size
+
+pub invariant_of-self-2 : goal.invariant_of-self-2
+invariant_of-self-2 g c =
+    let there = subst (λ (s : PoolState). c.args.at < length s.frames) (sym c.self.view_is) c.requires.there in
+    let device = subst (λ (s : PoolState). c.args.page.dev < length s.devices) (sym c.self.view_is) c.requires.device in
+    let known = subst (λ (s : PoolState). c.args.page.no < (nth_device s.devices c.args.page.dev).pages) (sym c.self.view_is) c.requires.known in
+    let absent = subst (λ (s : PoolState). IsNowhere s.frames c.args.page) (sym c.self.view_is) c.requires.absent in
+    let size = c.requires.size ∙ sym (ap (λ (s : PoolState). s.page_size) c.self.view_is) in
+    let given = subst (λ (s : PoolState). GivesPage (nth_device s.devices c.args.page.dev) c.args.page.no c.args.bytes.now) (sym c.self.view_is) c.requires.given in
+    let cleans = on_ok _ (ok_if_no_err _ c.if-is_err.ensures.value) c.write_back.ensures.done in
+    filled_pool (spare_keeps _ _ refl c.self.invariant) c.args.at there c.args.page device known absent c.args.key
+    c.write_back.new.frames c.write_back.ensures.fit cleans c.args.bytes.now size given c.install.new.self _
+    (subst (λ (bs : List ℕ). c.install.new.self ≡ changed_at c.write_back.new.frames c.args.at (loaded_frame c.args.page c.args.key 1 bs)) c.copy_from_slice.ensures.items c.install.ensures.frames)
+    (ap length c.install.ensures.given ∙ zero_size (spare_keeps _ _ refl c.self.invariant) c.args.at there c.args.page device known absent c.args.key
+    c.write_back.new.frames c.write_back.ensures.fit cleans)
+
+pub returns-clause-put : goal.returns-clause-put
+returns-clause-put g c = rw (← c.self.view_is) (
+    let there = subst (λ (s : PoolState). c.args.at < length s.frames) (sym c.self.view_is) c.requires.there in
+    let device = subst (λ (s : PoolState). c.args.page.dev < length s.devices) (sym c.self.view_is) c.requires.device in
+    let known = subst (λ (s : PoolState). c.args.page.no < (nth_device s.devices c.args.page.dev).pages) (sym c.self.view_is) c.requires.known in
+    let absent = subst (λ (s : PoolState). IsNowhere s.frames c.args.page) (sym c.self.view_is) c.requires.absent in
+    let size = c.requires.size ∙ sym (ap (λ (s : PoolState). s.page_size) c.self.view_is) in
+    let given = subst (λ (s : PoolState). GivesPage (nth_device s.devices c.args.page.dev) c.args.page.no c.args.bytes.now) (sym c.self.view_is) c.requires.given in
+    let x = fills_into (spare_keeps _ _ refl c.self.invariant) c.args.at there c.args.page device known absent c.args.key
+    c.write_back.new.frames c.write_back.ensures.fit (on_ok _ (ok_if_no_err _ c.if-is_err.ensures.value) c.write_back.ensures.done)
+    c.args.bytes.now size given c.install.new.self (length c.install.new.bytes.items)
+    (subst (λ (bs : List ℕ). c.install.new.self ≡ changed_at c.write_back.new.frames c.args.at (loaded_frame c.args.page c.args.key 1 bs)) c.copy_from_slice.ensures.items c.install.ensures.frames) in
+    record {
+      loads = record { bytes = x.loads.bytes; frames = x.loads.frames; devices = x.loads.devices; waits = x.loads.waits; rest = x.loads.rest; contents = x.loads.contents };
+      filled = x.filled;
+    })
+
+pub returns-then-is_err-clause-unread : goal.returns-then-is_err-clause-unread
+returns-then-is_err-clause-unread g c = rw (← c.self.view_is) c.write_back.ensures.unread
+
+pub returns-clause-unread : goal.returns-clause-unread
+returns-clause-unread g c = rw (← c.self.view_is) c.write_back.ensures.unread
+
+pub returns-then-is_err-clause-unflushed : goal.returns-then-is_err-clause-unflushed
+returns-then-is_err-clause-unflushed g c = rw (← c.self.view_is) c.write_back.ensures.unflushed
+
+pub returns-clause-unflushed : goal.returns-clause-unflushed
+returns-clause-unflushed g c = rw (← c.self.view_is) c.write_back.ensures.unflushed
