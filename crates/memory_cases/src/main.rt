@@ -1,5 +1,5 @@
-//! Test cases of values and histories, up to dumps: calls whose allocations may fail, and calls whose
-//! allocations are bounded.
+//! Test cases of values and histories, up to dumps: calls whose allocations may fail, and calls
+//! whose allocations are bounded.
 //!
 //! Which of both is the argument ([`asked`]): `scripts/refuse-allocations` runs one at a time.
 #![tactic(auto)]

@@ -1,5 +1,5 @@
-//! What the programs of allocation cases share: which cases are asked for, how a case ends, and what
-//! was found. `scripts/refuse-allocations` runs these programs.
+//! What the programs of allocation cases share: which cases are asked for, how a case ends, and
+//! what was found. `scripts/refuse-allocations` runs these programs.
 
 ghost use Rattle.std.specs.Prelude.{◌≡◌, Ok, Err, OnOk, OnErr, if◌then◌else◌};
 ghost use Rattle.test_kit.specs.declared.cases.Ended.TheVariants.{NoMemory, Broken};
@@ -16,11 +16,11 @@ pub struct Kinds {
     /// refused call must leave the observable state unchanged, or give back its arguments, and is
     /// then repeated, which must succeed. The output is the line of [`report`].
     pub refused: bool,
-    /// Calls whose allocations are bounded: none, or what their results need. They are played twice.
-    /// First the allocations between the lines of [`takes_none`], [`takes`] and [`is_done`] are
-    /// counted, and those of each call are compared with its bound. Then all allocations fail from
-    /// the first allocation-free call on, and no call may be refused: all that these calls need is
-    /// made before them.
+    /// Calls whose allocations are bounded: none, or what their results need. They are played
+    /// twice. First the allocations between the lines of [`takes_none`], [`takes`] and [`is_done`]
+    /// are counted, and those of each call are compared with its bound. Then all allocations fail
+    /// from the first allocation-free call on, and no call may be refused: all that these calls
+    /// need is made before them.
     pub promised: bool,
 }
 

@@ -1,6 +1,6 @@
 //! What the tests of several crates share: values and lists made from plain numbers, bytes of
-//! frames, what is displayed, readers and writers, devices, and a device that calls back a test. And
-//! what the programs of allocation cases share ([`cases`]).
+//! frames, what is displayed, readers and writers, devices, and a device that calls back a test.
+//! And what the programs of allocation cases share ([`cases`]).
 //!
 //! Nothing here may end a process, since only tests may: a function whose allocation can fail
 //! returns an error, and the test decides.

@@ -137,7 +137,8 @@ fn is_counted<R: Wait>(
     (thread, true)
 }
 
-// Two threads add one to a page 100 times each, at once, and what they have is ended into the first.
+// Two threads add one to a page 100 times each, at once, and what they have is ended into the
+// first.
 fn are_counted<R: Threads + Wait + Abort + Sync>(
     rt: &R,
     shared: &Shared,

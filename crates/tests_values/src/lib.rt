@@ -1,6 +1,6 @@
 //! Tests of values, frames and devices, over only public calls: limits of replicas, buckets and
-//! buffers, the bytes of pages, stamps and frames in both formats, whole and in pieces, the schedules
-//! that seeds give, what devices store and record, and what faults display (warm_stamps,
+//! buffers, the bytes of pages, stamps and frames in both formats, whole and in pieces, the
+//! schedules that seeds give, what devices store and record, and what faults display (warm_stamps,
 //! warm_refbuffer, warm_random, warm_frames, warm_devices, test_kit).
 //!
 //! They have a crate of their own so that the gate proves those libraries once, and not again with

@@ -20,8 +20,8 @@ pub record CallsNone (old new : OpenNode) : Type 0 where
   pub unread : ReadsNone old.node.pool.devices new.node.pool.devices
   pub unflushed : FlushesNone old.node.pool.devices new.node.pool.devices
 
--- The page is pinned as by a pin, but with these bytes where it was in no frame. They are as many as
--- a page has; else nothing has changed.
+-- The page is pinned as by a pin, but with these bytes where it was in no frame. They are as many
+-- as a page has; else nothing has changed.
 abbrev pub PinsFilled : WarmPage → List ℕ → PinnedSlot → PinnedSlot → OpenNode → Ending → OpenNode
     → Type 0
 PinsFilled page bytes before after old (Ok given) new = Pins page before after old (Ok given) new

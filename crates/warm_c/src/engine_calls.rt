@@ -30,8 +30,8 @@ impl OpenNode {
     /// Calls [`warm_gossip::Node::pin_filled`], and writes the slot.
     ///
     /// # Errors
-    /// `NewPool(SizeDiffers)`: the bytes are not as many as a page has; nothing has changed. `Node`:
-    /// the node's own. The slot is unchanged.
+    /// `NewPool(SizeDiffers)`: the bytes are not as many as a page has; nothing has changed.
+    /// `Node`: the node's own. The slot is unchanged.
     pub fn pin_filled(
         &mut self,
         page: WarmPage,

@@ -198,9 +198,9 @@ pub extern "C" fn node_pin_zeroed(
     put_back(handle, node, done)
 }
 
-/// Pins a page as [`node_pin`] does, but with these bytes in place of a read, and writes its slot. No
-/// device is read. `bytes` is the page as its device has it now, whole, which is believed; of a page
-/// that is in a frame it is not looked at. Allocation-free.
+/// Pins a page as [`node_pin`] does, but with these bytes in place of a read, and writes its slot.
+/// No device is read. `bytes` is the page as its device has it now, whole, which is believed; of a
+/// page that is in a frame it is not looked at. Allocation-free.
 ///
 /// # Errors
 /// In this order; the slot is unchanged, and of the node only counts of failures have changed.

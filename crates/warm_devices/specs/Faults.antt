@@ -7,20 +7,24 @@ use Rattle.warm_devices.specs.declared.fault.DeviceFault.TheVariants.{Read, Writ
 use Rattle.warm_devices.specs.declared.fault.OpenFault.{OpenFault}
 use Rattle.warm_devices.specs.declared.fault.OpenFault.TheVariants.{Memory, Open}
 
+-- the number of each fault of a device
 abbrev pub device_fault_code : DeviceFault → ℕ
 device_fault_code Read = 1
 device_fault_code Write = 2
 device_fault_code Flush = 3
 
+-- its name
 abbrev pub device_fault_name : DeviceFault → List ℕ
 device_fault_name Read = codes "Read"
 device_fault_name Write = codes "Write"
 device_fault_name Flush = codes "Flush"
 
+-- the number of each reason for which a file is not opened
 abbrev pub open_fault_code : OpenFault → ℕ
 open_fault_code Memory = 1
 open_fault_code Open = 2
 
+-- its name
 abbrev pub open_fault_name : OpenFault → List ℕ
 open_fault_name Memory = codes "Memory"
 open_fault_name Open = codes "Open"

@@ -5,6 +5,7 @@ use Rattle.warm_devices.specs.Device.{DeviceState, SameWaiting}
 use Rattle.warm_devices.specs.declared.fault.DeviceFault.{DeviceFault}
 use Rattle.warm_devices.specs.declared.file.FileDevice.{FileDevice}
 
+-- what contracts of devices say of a file: its pages and calls are known, its contents are not
 abbrev pub file_state : FileDevice → DeviceState
 file_state f = record {
   pages = f.pages;

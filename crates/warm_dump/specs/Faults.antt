@@ -7,6 +7,7 @@ use Rattle.warm_dump.specs.declared.fault.DumpFault.TheVariants.{Frame, CutShort
 use Rattle.warm_dump.specs.declared.fault.DumpFault.TheVariants.{HorizonsDiffer, MoreFollows}
 use Rattle.warm_dump.specs.declared.fault.DumpFault.TheVariants.{ReadFault, WriteFault}
 
+-- the number of each fault of a dump
 abbrev pub dump_fault_code : DumpFault → ℕ
 dump_fault_code (Frame fault) = fault_code fault
 dump_fault_code CutShort = 13
@@ -16,6 +17,7 @@ dump_fault_code MoreFollows = 16
 dump_fault_code ReadFault = 17
 dump_fault_code WriteFault = 18
 
+-- its name
 abbrev pub dump_fault_name : DumpFault → List ℕ
 dump_fault_name (Frame fault) = fault_name fault
 dump_fault_name CutShort = codes "CutShort"

@@ -9,6 +9,7 @@ use Rattle.warm_frames.specs.declared.fault.FrameFault.TheVariants.{BadOrder, Fa
 use Rattle.warm_frames.specs.declared.limit.TimeFault.{TimeFault}
 use Rattle.warm_frames.specs.declared.limit.TimeFault.TheVariants.{LateHorizon, LateStamp}
 
+-- the number of each reason for which bytes are no frame
 abbrev pub fault_code : FrameFault → ℕ
 fault_code Memory = 1
 fault_code Truncated = 2
@@ -22,6 +23,7 @@ fault_code BadStamp = 9
 fault_code BadOrder = 10
 fault_code Failed = 11
 
+-- its name
 abbrev pub fault_name : FrameFault → List ℕ
 fault_name Memory = codes "Memory"
 fault_name Truncated = codes "Truncated"

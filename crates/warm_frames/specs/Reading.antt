@@ -32,6 +32,7 @@ use Rattle.warm_frames.specs.Encoding.{Encodes}
 use Rattle.warm_frames.specs.Digests.{table_size}
 
 infixl 10 ◌>>=◌
+-- reading goes on with what was read so far; a fault ends it
 abbrev pub ◌>>=◌ : {A B : Type 0} → Result A FrameFault → (A → Result B FrameFault)
     → Result B FrameFault
 (Ok x) >>= f = f x

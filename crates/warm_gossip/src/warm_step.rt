@@ -191,8 +191,9 @@ pub(crate) fn passed_at_pin(passed: usize, evicted: Option<PageId>) -> usize
     }
 }
 
-/// The number of pages that are still passed after a pin of a page whose bytes were given. A program
-/// that warms the pool up pins the next page of the list so: it is then passed, as after a load.
+/// The number of pages that are still passed after a pin of a page whose bytes were given. A
+/// program that warms the pool up pins the next page of the list so: it is then passed, as after a
+/// load.
 pub(crate) fn passed_at_fill(
     history: &History,
     warm_up: &WarmUp,

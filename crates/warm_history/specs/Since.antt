@@ -30,7 +30,8 @@ abbrev pub pages_since : ReferenceSet → ℕ → ℕ → Option PageId → List
 pages_since S bucket since after =
     filter (λ p. is_since since (hist S p)) (filter (is_next_in_bucket bucket after) (pages S))
 
--- the references of S to the first of these pages, at most limit; to each, those before the time too
+-- the references of S to the first of these pages, at most limit; to each, those before the time
+-- too
 abbrev pub carried_since : ReferenceSet → ℕ → ℕ → Option PageId → ℕ → ReferenceSet
 carried_since S bucket since after limit = filter_references
     (λ r. list_any (λ p. is_eq (page_cmp p r.page)) (take limit (pages_since S bucket since after)))
@@ -63,8 +64,8 @@ pub record AreSince (since : ℕ) (h : HistoryView) (es : List Entry) : Type 0 w
   pub own : (e : Entry) → Contains es e → Contains (entries_of h) e
   pub each : (e : Entry) → Contains (entries_of h) e → is_recent since e.hist ≡ true → Contains es e
 
--- who has all that S keeps from before the time, and takes in the entries of its history since then,
--- has all that S keeps
+-- who has all that S keeps from before the time, and takes in the entries of its history since
+-- then, has all that S keeps
 abbrev pub SinceBringsAll : Type 0
 SinceBringsAll = (S T : ReferenceSet) (since : ℕ) (es : List Entry) → HasBefore since S T
     → AreSince since (history S) es

@@ -189,8 +189,8 @@ fn take(
     })
 }
 
-// Notes a change of a page; where it was known, this was known of it. Each arm writes its note right
-// into the list: a note that is made first is copied twice.
+// Notes a change of a page; where it was known, this was known of it. Each arm writes its note
+// right into the list: a note that is made first is copied twice.
 fn push_note(undo: &mut Vec<UndoNote>, page: PageId, change: Change, before: &Packed)
     requires { vec_len undo.old < vec_capacity undo.old }
     ensures { undo.new.items ≡ undo.old.items ++ note_of page change before.now ∷ [] }

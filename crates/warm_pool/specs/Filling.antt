@@ -12,8 +12,8 @@ use Rattle.warm_pool.specs.Keeping.{KeepsBytes, KeepsOthers}
 use Rattle.warm_pool.specs.WritingBack.{WaitsFor}
 use Rattle.warm_pool.specs.Pinning.{LoadsInto}
 
--- These are the bytes that an honest device has of the page. Nothing is asked of the bytes of a page
--- that is resident, nor of one whose device is not honest.
+-- These are the bytes that an honest device has of the page. Nothing is asked of the bytes of a
+-- page that is resident, nor of one whose device is not honest.
 abbrev pub AreFromDevice : PoolView → PageId → List ℕ → Type 0
 AreFromDevice v p bytes = HasPage v p → IsAbsent v p → IsTrue (device_at v p.dev).honest
     → bytes ≡ contents_at v p

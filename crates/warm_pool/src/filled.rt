@@ -23,10 +23,10 @@ use warm_rank::RankKey;
 use warm_stamps::PageId;
 
 impl<D: PageDevice> Pool<D> {
-    /// Pins a page as [`Pool::pin_placed`] does, but with the bytes given in place of a read: frame,
-    /// victim and slot are those of a pin, and a page that is put into a frame is clean. No device
-    /// is read. So a program that reads a page by itself needs the pool only once the bytes are
-    /// there.
+    /// Pins a page as [`Pool::pin_placed`] does, but with the bytes given in place of a read:
+    /// frame, victim and slot are those of a pin, and a page that is put into a frame is clean. No
+    /// device is read. So a program that reads a page by itself needs the pool only once the bytes
+    /// are there.
     ///
     /// `bytes` is the page as its device has it now, whole. That is required of an honest device.
     /// Of another device the pool believes it. If the page is resident, `bytes` is ignored.

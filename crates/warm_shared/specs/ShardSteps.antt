@@ -61,8 +61,8 @@ no_shard_view = record { count = 0; number = 0; node = empty_node }
 abbrev pub request_for : ℕ → Message
 request_for request = Want 1 0 request
 
--- what a shard asks of its node: a call; to write back; or several calls in one turn, of a page that
--- is looked at, or changed
+-- what a shard asks of its node: a call; to write back; or several calls in one turn, of a page
+-- that is looked at, or changed
 pub data Asked : Type 0 where
   of_node : Call → Asked
   writing_back : Asked
@@ -143,8 +143,8 @@ pub record Looks (old : NodeView) (page : PageId) (slot : Slot) (bytes : List �
   pub lends : IsLent mid.pool slot bytes
   pub unpins : Step mid (node_call.Unpin slot) node_reply.Done new
 
--- A change of a page: the page is pinned, its bytes are lent, what is left in them is written as by a
--- write of all bytes of the page, and the page is unpinned.
+-- A change of a page: the page is pinned, its bytes are lent, what is left in them is written as by
+-- a write of all bytes of the page, and the page is unpinned.
 pub record Changes (old : NodeView) (page : PageId) (slot : Slot) (before after : List ℕ)
     (new : NodeView) : Type 0 where
   pub mid : NodeView

@@ -27,8 +27,8 @@ WentAs so (went.Given given) reply = so given reply
 WentAs so (went.Refused why) reply = reply ≡ Refused why
 WentAs so went.Foreign reply = reply ≡ Foreign
 
--- the shard of this number showed bytes of the page of which this is so, in one turn, and no other was
--- entered
+-- the shard of this number showed bytes of the page of which this is so, in one turn, and no other
+-- was entered
 abbrev pub LooksAt : List ShardPass → ℕ → PageId → (List ℕ → Type 0) → List ShardPass → Type 0
 LooksAt old i page so new = (slot : Slot) × (bytes : Tag) × so bytes.numbers
     × Answered old i (Look page) (Looked slot bytes) new

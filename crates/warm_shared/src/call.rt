@@ -87,7 +87,8 @@ pub enum ShardReply {
     Refused(NodeFault),
     /// The bytes of the page were shown.
     Looked {
-        /// The slot of the page during the look. It is stale afterwards, unless others pin the page.
+        /// The slot of the page during the look. It is stale afterwards, unless others pin the
+        /// page.
         slot: Slot,
         /// The bytes, which exist here only in contracts.
         bytes: Tag,

@@ -70,8 +70,8 @@ pub(crate) fn look_in<D: PageDevice, T, F: FnOnce(&[u8]) -> T + Drop>(
     })
 }
 
-// Calls the closure with the bytes of a page, to be written to. What it leaves in them is the page's
-// content, and the page is dirty.
+// Calls the closure with the bytes of a page, to be written to. What it leaves in them is the
+// page's content, and the page is dirty.
 pub(crate) fn change_in<D: PageDevice, T, F: FnOnce(&mut [u8]) -> T + Drop>(
     node: &mut Node<D>,
     page: PageId,

@@ -74,9 +74,9 @@ fn change_at<D: PageDevice + Send, R: Wait, T, F: FnOnce(&mut [u8]) -> T + Drop>
 
 impl<D: PageDevice + Send> SharedShards<D> {
     /// Calls the closure with all bytes of a page where they lie, and returns what it returns: one
-    /// turn of the page's shard, in which the call `Look` is answered. The page is pinned during the
-    /// turn, and loaded first where it isn't resident. No pin is needed before, and none is left.
-    /// Nothing is copied. Allocation-free. A miss holds up callers of this shard alone.
+    /// turn of the page's shard, in which the call `Look` is answered. The page is pinned during
+    /// the turn, and loaded first where it isn't resident. No pin is needed before, and none is
+    /// left. Nothing is copied. Allocation-free. A miss holds up callers of this shard alone.
     ///
     /// The closure has the shard: other callers of the shard wait until it returns, and a closure
     /// that calls these shards waits forever.
@@ -108,16 +108,17 @@ impl<D: PageDevice + Send> SharedShards<D> {
         Ok(given)
     }
 
-    /// Calls the closure with all bytes of a page where they lie, to be written to, and returns what
-    /// it returns: one turn of the page's shard, in which the call `Change` is answered. The page is
-    /// pinned during the turn, and loaded first where it isn't resident. What the closure leaves in
-    /// the bytes is the page's content. The page becomes dirty, even where nothing is written: it is
-    /// written back before it is evicted. Nothing is copied. Allocation-free.
+    /// Calls the closure with all bytes of a page where they lie, to be written to, and returns
+    /// what it returns: one turn of the page's shard, in which the call `Change` is answered. The
+    /// page is pinned during the turn, and loaded first where it isn't resident. What the closure
+    /// leaves in the bytes is the page's content. The page becomes dirty, even where nothing is
+    /// written: it is written back before it is evicted. Nothing is copied. Allocation-free.
     ///
     /// The closure has the shard: other callers of the shard wait until it returns, and a closure
     /// that calls these shards waits forever.
     ///
-    /// **A change is not a reference**: a caller that changes a page also absorbs a reference to it.
+    /// **A change is not a reference**: a caller that changes a page also absorbs a reference to
+    /// it.
     ///
     /// # Errors
     /// `Node`, with the fault and the effects of [`warm_gossip::Node::pin`] in the shard.

@@ -297,8 +297,9 @@ impl<M: Machine> Turn<M> {
         self.table.shared.load::<CatchUp>(&mut pass.seat, 0);
     }
 
-    /// Takes the next ticket, waits until it is served, lets the visitor have the machine and passes
-    /// the turn on. It does most of its waiting before it takes the ticket, when it delays nobody.
+    /// Takes the next ticket, waits until it is served, lets the visitor have the machine and
+    /// passes the turn on. It does most of its waiting before it takes the ticket, when it delays
+    /// nobody.
     ///
     /// The visit is one entry of the history, by the call and the reply that say what the visitor
     /// did: the pass's list begins with the list that it had and ends with this entry, which is
