@@ -3,7 +3,7 @@
 
     at_once.py WARMPLAY
 
-Two replicas have eight workers each, and each worker has 5,000 references to flush one by one. So there is a moment at which all sixteen
+Two replicas have eight workers each, and each worker has 20,000 references to flush one by one. So there is a moment at which all sixteen
 workers have begun and none has ended: then the process has sixteen threads, beside those that started them. Where the workers of a
 replica worked one after another, or the replicas did, it would never have more than ten, however much they have to do.
 """
@@ -13,12 +13,12 @@ import sys
 import tempfile
 from pathlib import Path
 
-REPLICAS, WORKERS, REFERENCES = 2, 8, 5000
+REPLICAS, WORKERS, REFERENCES = 2, 8, 20000
 
 # The moment is missed where this program does not run at it, and there is none where a worker ends
 # before the last one is started, as on a busy machine. Then the workers have more to do, up to so
 # many times as much. A play that never has so many threads fails each time.
-TRIES, MOST_TIMES = 15, 32
+TRIES, MOST_TIMES = 12, 16
 
 
 def write_files(folder: Path, references: int) -> list[str]:
