@@ -6,8 +6,8 @@ import tempfile
 
 HERE = os.path.dirname(os.path.abspath(__file__))
 
-# How many seconds a run may take.
-LIMIT = 60
+# How many seconds a run may take: what hangs ends by it, and a busy machine needs minutes.
+LIMIT = 1800
 
 # The number of an allocation that comes after all others.
 NEVER_LAST = 2**63

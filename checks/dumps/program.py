@@ -5,7 +5,8 @@ import subprocess
 import sys
 from pathlib import Path
 
-LIMIT = 60
+# How many seconds a run may take: what hangs ends by it, and a busy machine needs minutes.
+LIMIT = 1800
 
 
 class Wrong(Exception):

@@ -6,7 +6,8 @@ import signal
 import subprocess
 from pathlib import Path
 
-LIMIT = 30  # how many seconds an answer may take
+# How many seconds an answer may take: what hangs ends by it, and a busy machine needs minutes.
+LIMIT = 1800
 
 CLOSED = "end refused 12 Fault"
 

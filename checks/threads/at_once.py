@@ -3,9 +3,9 @@
 
     at_once.py WARMPLAY
 
-Two replicas have eight workers each, and each worker has 5,000 references to flush one by one. So there is a moment at which all sixteen
+Two replicas have eight workers each, and each worker has 20,000 references to flush one by one. So there is a moment at which all sixteen
 workers have begun and none has ended: then the process has sixteen threads, beside those that started them. Where the workers of a
-replica worked one after another, or the replicas did, it would never have more than ten.
+replica worked one after another, or the replicas did, it would never have more than ten, however much they have to do.
 """
 import os
 import subprocess
@@ -13,18 +13,20 @@ import sys
 import tempfile
 from pathlib import Path
 
-REPLICAS, WORKERS, REFERENCES = 2, 8, 5000
+REPLICAS, WORKERS, REFERENCES = 2, 8, 20000
 
-# The moment is missed where this program does not run at it. A play that never has so many threads fails each time.
-TRIES = 10
+# The moment is missed where this program does not run at it, and there is none where a worker ends
+# before the last one is started, as on a busy machine. Then the workers have more to do, up to so
+# many times as much. A play that never has so many threads fails each time.
+TRIES, MOST_TIMES = 12, 16
 
 
-def write_files(folder: Path) -> list[str]:
-    """A setup and a schedule, and the words that play it."""
+def write_files(folder: Path, references: int) -> list[str]:
+    """A setup, and a schedule of so many references of each worker, and the words that play it."""
     setup, schedule = folder / "setup.toml", folder / "schedule"
     setup.write_text(f"replicas = {REPLICAS}\nworkers = {WORKERS}\nbuffer = 1\n", encoding="ascii")
     with schedule.open("w", encoding="ascii") as out:
-        for time in range(REFERENCES):
+        for time in range(references):
             for i in range(1, REPLICAS + 1):
                 out.writelines(f"ref {i} {w} 0:{w} {time}\n" for w in range(1, WORKERS + 1))
     return ["threads", str(schedule), "--setup", str(setup)]
@@ -53,8 +55,8 @@ def main() -> None:
     # the thread that plays, and one for each worker
     wanted, most = 1 + REPLICAS * WORKERS, 0
     with tempfile.TemporaryDirectory() as folder:
-        words = write_files(Path(folder))
-        for _ in range(TRIES):
+        for at in range(TRIES):
+            words = write_files(Path(folder), REFERENCES * min(2 ** (at // 2), MOST_TIMES))
             most = max(most, most_threads(sys.argv[1], words))
             if most >= wanted:
                 print(f"threads: {REPLICAS} replicas of {WORKERS} workers had {most} threads at once")

@@ -16,6 +16,9 @@ from pathlib import Path
 
 BUCKETS = 64
 
+# How many seconds a play may take: what hangs ends by it, and a busy machine needs minutes.
+LIMIT = 1800
+
 Reference = tuple[int, int, int, int, int]      # replica, worker, device, page, time
 
 
@@ -99,7 +102,7 @@ class Program:
         if setup.text:
             (self.folder / "setup.toml").write_text(setup.text, encoding="ascii")
             options = ["--setup", str(self.folder / "setup.toml")]
-        done = subprocess.run([self.path, command, str(file), *options], capture_output=True, text=True, timeout=60)
+        done = subprocess.run([self.path, command, str(file), *options], capture_output=True, text=True, timeout=LIMIT)
         return done.returncode, done.stdout, done.stderr
 
 

@@ -338,13 +338,14 @@ static void killed(void) {
     uint64_t latest = 0;
     unsigned at = 0;
     MUST(fcntl(log, F_SETFL, O_APPEND) == 0);
-    /* on a busy machine most children do nothing before they are killed: then there are more, of longer lives */
+    /* on a busy machine most children do nothing before they are killed: then there are more, of
+     * lives that are twice as long, and twice as long again */
     for (; at < KILLS || (latest < FEW_CHANGES && at < MOST_KILLS); at++) {
         int status;
         pid_t child = fork();
         MUST(child >= 0);
         if (child == 0) change_pages(fd, log, latest, at);
-        usleep((1 + at / KILLS) * (1000 + (unsigned)rand() % 15000));
+        usleep((1000 + (unsigned)rand() % 15000) << at / KILLS);
         /* no child ended before, by a fault of its own */
         MUST(kill(child, SIGKILL) == 0 && waitpid(child, &status, 0) == child && WIFSIGNALED(status) && WTERMSIG(status) == SIGKILL);
         MUST(ftruncate(log, size_of(log) / (off_t)sizeof(record) * (off_t)sizeof(record)) == 0);

@@ -28,34 +28,54 @@ fail() {
     exit 1
 }
 
-free_port() {
-    python3 -c 'import socket; s = socket.socket(); s.bind(("127.0.0.1", 0)); print(s.getsockname()[1])'
+# free_ports COUNT: ports that nobody has. They are none of those that the system gives to whoever
+# asks for any: a connection of another test would have one before its broker does.
+free_ports() {
+    python3 - "$1" <<'END'
+import random, socket, sys
+with open("/proc/sys/net/ipv4/ip_local_port_range", encoding="ascii") as given:
+    low, high = map(int, given.read().split())
+ports = [port for port in range(10000, 60000) if not low <= port <= high]
+taken = []
+while len(taken) < int(sys.argv[1]):
+    one = socket.socket()
+    try:
+        one.bind(("127.0.0.1", random.choice(ports or [0])))
+    except OSError:
+        continue
+    taken.append(one)
+print(*(one.getsockname()[1] for one in taken))
+END
 }
 
-# A broker that keeps nothing on disk, at $port.
+# A broker that keeps nothing on disk, at $port. It drops nothing, however slow who hears is: by
+# default it does where 1,000 messages wait, and with them that a primary is gone.
 start_broker() {
-    printf 'listener %s 127.0.0.1\nallow_anonymous true\npersistence false\nlog_type error\n' "$port" > "$work/broker-$port.conf"
+    printf '%s\n' "listener $port 127.0.0.1" 'allow_anonymous true' 'persistence false' 'log_type error' 'max_queued_messages 0' \
+        > "$work/broker-$port.conf"
     PATH=$PATH:/usr/sbin mosquitto -c "$work/broker-$port.conf" 2>> "$work/broker-$port.log" &
     broker=$!
     # a broker that is not told of does not print its end
     disown "$broker"
-    for _ in $(seq 100); do
+    for _ in $(seq 6000); do
         mosquitto_pub -h 127.0.0.1 -p "$port" -t ready -m yes 2> /dev/null && return
+        kill -0 "$broker" 2> /dev/null || break
         sleep 0.05
     done
     fail "the broker did not start: $(cat "$work/broker-$port.log")"
 }
 
+# Its port is free then.
 stop_broker() {
     kill -9 "$broker"
+    while kill -0 "$broker" 2> /dev/null; do sleep 0.01; done
     broker=
-    sleep 0.1
 }
 
-# wait_for FILE PATTERN [COUNT]: until so many lines of a file have it, at most 20 seconds.
+# wait_for FILE PATTERN [COUNT]: until so many lines of a file have it. A busy machine needs minutes.
 wait_for() {
     local lines
-    for _ in $(seq 400); do
+    for _ in $(seq 6000); do
         lines=$(grep -c -- "$2" "$1" 2> /dev/null || true) # nothing where the file is not there yet
         [ "${lines:-0}" -ge "${3:-1}" ] && return
         sleep 0.05

@@ -29,7 +29,7 @@ def main() -> None:
     if not is_silent(address):
         raise SystemExit("silent.py: this system answers although the queue is full")
     print(address[1], flush=True)
-    time.sleep(600)
+    time.sleep(86400)
 
 
 main()

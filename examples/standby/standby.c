@@ -53,6 +53,12 @@ static void warm_up(pool_file *file, uint64_t milliseconds, const volatile sig_a
     if (status != WARM_OK) printf("standby: the warm-up ended with status %d\n", status);
 }
 
+static void say_warmed(const pool_file *file, uint64_t before) {
+    if (file->warmed == before) return;
+    printf("standby: loaded ahead so far: %llu\n", (unsigned long long)file->warmed);
+    fflush(stdout);
+}
+
 /* A pass over the primary's file, now and then, a slice of it at a time, and then one of the warm-up. After the last one before the signal,
  * nothing is left to load but what became hot since. */
 static void follow(const options *o, pool_file *file, pass *p, uint64_t *follow_at) {
@@ -62,7 +68,9 @@ static void follow(const options *o, pool_file *file, pass *p, uint64_t *follow_
     if (!is_right) printf("standby: %s is not followed: %s\n", o->from, strerror(errno));
     if (is_right && !is_over) return;
     take_end(p);
+    uint64_t before = file->warmed;
     warm_up(file, SLICE_MILLISECONDS, &is_called);
+    say_warmed(file, before);
     *follow_at = milliseconds_now() + FOLLOW_MILLISECONDS;
 }
 

@@ -2,8 +2,8 @@
 mod common;
 
 use std::fs::File;
-use std::sync::atomic::{AtomicBool, Ordering};
-use std::sync::mpsc::{channel, Receiver, Sender};
+use std::sync::atomic::{AtomicBool, AtomicUsize, Ordering};
+use std::sync::mpsc::{channel, Receiver, RecvTimeoutError, Sender};
 use std::thread;
 use std::time::{Duration, Instant};
 
@@ -11,7 +11,7 @@ use common::{over, page, reference, Memory, Path, PAGES};
 use warm::{Device, Error, Handle, Options, Page, Sending};
 
 fn of_four_shards(device: Device) -> Handle {
-    let options = Options::new(1).shards(4).frames(32).latch_wait(Duration::from_secs(20));
+    let options = Options::new(1).shards(4).frames(32).latch_wait(Duration::from_secs(600));
     Handle::open(options.device(device)).unwrap()
 }
 
@@ -94,7 +94,7 @@ fn waiting_for_a_latch_ends() {
     let reading = handle.pin(page(1)).unwrap();
     let begin = Instant::now();
     assert_eq!(handle.pin_mut(page(1)).unwrap_err(), Error::Latched);
-    assert!(begin.elapsed() >= wait && begin.elapsed() < Duration::from_secs(20));
+    assert!(begin.elapsed() >= wait && begin.elapsed() < Duration::from_secs(600));
     drop(reading);
     handle.pin_mut(page(1)).unwrap()[0] = 1;
     handle.abandon().unwrap();
@@ -121,16 +121,24 @@ fn a_small_stack_is_refused() {
     assert_eq!(read, Ok(0));
 }
 
-/// Offers once, and then answers what comes until nothing comes for a while.
-fn gossip(handle: &Handle, to: &Sender<Vec<u8>>, from: &Receiver<Vec<u8>>) {
+/// Offers once, and then answers what comes, until no message is on its way to either. One is on its
+/// way until its answers are: so however slow a thread is, the other one waits for it.
+fn gossip(handle: &Handle, to: &Sender<Vec<u8>>, from: &Receiver<Vec<u8>>, waiting: &AtomicUsize) {
     let mut message = Vec::new();
     handle.offer(&mut message).unwrap();
     to.send(message.clone()).unwrap();
-    while let Ok(received) = from.recv_timeout(Duration::from_secs(1)) {
+    while waiting.load(Ordering::SeqCst) > 0 {
+        let received = match from.recv_timeout(Duration::from_millis(10)) {
+            Ok(received) => received,
+            Err(RecvTimeoutError::Timeout) => continue,
+            Err(RecvTimeoutError::Disconnected) => return, // the other thread panicked
+        };
         handle.receive(&received).unwrap();
         while handle.next_answer(&mut message).unwrap() {
+            waiting.fetch_add(1, Ordering::SeqCst);
             to.send(message.clone()).unwrap();
         }
+        waiting.fetch_sub(1, Ordering::SeqCst);
     }
 }
 
@@ -147,11 +155,12 @@ fn two_replicas_that_gossip_know_the_same() {
             .unwrap();
     }
     let ((to_second, at_second), (to_first, at_first)) = ends;
+    let waiting = &AtomicUsize::new(2); // the offer of each
     thread::scope(|scope| {
         let handles = [0, 1].map(|at: usize| replicas[at].attach().unwrap());
         let [first, second] = handles;
-        scope.spawn(move || gossip(&first, &to_second, &at_first));
-        scope.spawn(move || gossip(&second, &to_first, &at_second));
+        scope.spawn(move || gossip(&first, &to_second, &at_first, waiting));
+        scope.spawn(move || gossip(&second, &to_first, &at_second, waiting));
     });
     let lists = [0, 1].map(|at: usize| replicas[at].list(1000).unwrap());
     assert_eq!(lists[0], (0..PAGES).rev().map(page).collect::<Vec<Page>>());
