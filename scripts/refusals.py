@@ -21,6 +21,8 @@ NAMES = re.compile(
     r"|expected the end|cannot continue"
     r"|(?:constructor|pattern|clause|variable)s? .*(?:missing|expected|unknown)"
 )
+# An answer of another type than its goal, whose parts may have these words in their names.
+DIFFERS = re.compile(r"`[^`]+`: (?:as printed, the two|the two|expected type) ")
 WAITS = re.compile(r"was not admitted|depends on")
 LIMIT = re.compile(
     r"broke off|gave up|ran out of|took more than \d+ steps|outgrew the memory limit"
@@ -118,6 +120,8 @@ def goals_in(rest, before):
 
 def kind_of(text):
     """What an error in a proof file says of the body that it is of."""
+    if DIFFERS.match(text):
+        return REFUSED, text
     for kind, pattern in ((BAD, NAMES), (WAITING, WAITS), (AT_LIMIT, LIMIT)):
         if pattern.search(text):
             return kind, text
@@ -132,6 +136,8 @@ PRINTED = f"""./proofs/a/T/get/Answers.antt:4:26: error: `returns`: the two type
   expected type `c.min.result`, but this has type `c.self`
 ./proofs/a/next/Answers.antt:6:138: error: `returns`: record `Joined1` has no field `if-contains`
 ./proofs/a/last/Answers.antt:6:1: error: `returns`: `met` was not admitted
+./proofs/a/count/Answers.antt:6:1: error: `returns-clause-kept`: as printed, the two types differ
+  only where one has `old` (expected) and the other has `new` (found)
 struct it::a::T: proved
 fn it::a::T::new: proved
 fn it::a::T::get: not proved
@@ -143,6 +149,7 @@ fn it::a::iter: no proof: `search` did not prove `returns`
 note: src/a.rt:211:5: {ENSURES} (`returns-then-bucket`)
 fn it::a::next: not proved; `search` did not prove `returns-then-bucket`; it calls `it::a::get`
 fn it::a::last: not proved
+fn it::a::count: not proved
 fn it::a::first: no proof: it calls `it::a::T::get`, which is not proved
 fn it::a::turn: could not tell
 logic=not-proved
@@ -154,6 +161,7 @@ READ = {
     "iter": AT_LIMIT,
     "next": BAD,
     "last": WAITING,
+    "count": REFUSED,
     "first": WAITING,
     "turn": AT_LIMIT,
 }
