@@ -75,8 +75,8 @@ class Said:
         verdict, rest, before = self.functions[path]
         if verdict == "proved":
             return PROVED, ""
-        folder = folder_of(path)
-        found = [kind_of(text) for file, _, text in self.errors if file.startswith(folder)]
+        folders = folders_of(path)
+        found = [kind_of(text) for file, _, text in self.errors if file.startswith(folders)]
         # a goal that has another name now is open since its answer has the old one
         is_renamed = any(kind == BAD for kind, _ in found)
         found += [it for it in goals_in(rest, before) if not is_renamed or FALSE in it[1]]
@@ -90,14 +90,16 @@ class Said:
         """What is said of the whole crate: the first of what is said of its functions and of its
         lemmas."""
         found = [self.of(it) for it in self.functions]
-        folders = tuple(folder_of(it) for it in self.functions)
+        folders = tuple(folder for it in self.functions for folder in folders_of(it))
         found += [kind_of(text) for file, _, text in self.errors if not file.startswith(folders)]
         return first_of(found or [(BAD, "the check says nothing of the crate")])
 
 
-def folder_of(path):
-    """The folder with the proof files of the function of this path."""
-    return "proofs/" + "/".join(path.split("::")[1:]) + "/"
+def folders_of(path):
+    """The folder with the proof files of the function of this path, and the one that it has where
+    the function calls itself."""
+    *above, name = path.split("::")[1:]
+    return tuple("/".join(["proofs", *above, it, ""]) for it in (name, f"+{name}"))
 
 
 def goals_in(rest, before):
@@ -136,6 +138,7 @@ PRINTED = f"""./proofs/a/T/get/Answers.antt:4:26: error: `returns`: the two type
   expected type `c.min.result`, but this has type `c.self`
 ./proofs/a/next/Answers.antt:6:138: error: `returns`: record `Joined1` has no field `if-contains`
 ./proofs/a/last/Answers.antt:6:1: error: `returns`: `met` was not admitted
+./proofs/a/+walk/Answers.antt:6:1: error: `returns`: expected type `1`, but this has type `0`
 ./proofs/a/count/Answers.antt:6:1: error: `returns-clause-kept`: as printed, the two types differ
   only where one has `old` (expected) and the other has `new` (found)
 struct it::a::T: proved
@@ -150,6 +153,7 @@ note: src/a.rt:211:5: {ENSURES} (`returns-then-bucket`)
 fn it::a::next: not proved; `search` did not prove `returns-then-bucket`; it calls `it::a::get`
 fn it::a::last: not proved
 fn it::a::count: not proved
+fn it::a::walk: not proved
 fn it::a::first: no proof: it calls `it::a::T::get`, which is not proved
 fn it::a::turn: could not tell
 logic=not-proved
@@ -162,6 +166,7 @@ READ = {
     "next": BAD,
     "last": WAITING,
     "count": REFUSED,
+    "walk": REFUSED,
     "first": WAITING,
     "turn": AT_LIMIT,
 }
