@@ -23,6 +23,8 @@
 #define MOST_UNLOADABLE 65536
 #define LEAST_RATE		2000	/* pages a second that are read by default */
 #define BUFFERS_OF_REPLAY 256	/* that are kept for it at least */
+#define NO_SLOT			(-1)
+#define NOT_AGAIN		(-2)
 
 /* Pages; without a block whole files; and without a file too, all of a device. */
 typedef struct Unloadable
@@ -219,14 +221,15 @@ rank_open_slot(int i)
 }
 
 /*
- * The slot of a database, or one that is vacant, or -1.  Where databases wait,
- * one does not get the slot again that it has just left.  Pages of shared
- * catalogs (of no database) may go to any loader.
+ * The slot of a database, or one that is vacant; else NO_SLOT.  Where databases wait,
+ * one does not get the slot again that it has just left: NOT_AGAIN, for a round.  It
+ * does not wait then, else it would be kept away for ever where no other comes.
+ * Pages of shared catalogs (of no database) may go to any loader.
  */
 static int
 rank_slot_of(Oid database)
 {
-	int			vacant = -1;
+	int			slot = NO_SLOT;
 
 	for (int i = 0; i < sp_shared->loader_count; i++)
 	{
@@ -234,11 +237,10 @@ rank_slot_of(Oid database)
 
 		if (OidIsValid(of) && (of == database || !OidIsValid(database)))
 			return i;
-		if (!OidIsValid(of) && slots[i].handle == NULL && vacant < 0 &&
-			!(others_waited && slots[i].left_by == database))
-			vacant = i;
+		if (!OidIsValid(of) && slots[i].handle == NULL && slot < 0)
+			slot = others_waited && slots[i].left_by == database ? NOT_AGAIN : i;
 	}
-	return vacant;
+	return slot;
 }
 
 /* Keeps a page for a loader; false where none takes it now. */
@@ -249,7 +251,7 @@ rank_hand_out(const SpPage *page)
 	int			i = rank_slot_of(database);
 	SpRequest  *request;
 
-	if (i < 0)
+	if (i == NO_SLOT)
 		others_wait |= OidIsValid(database);
 	if (i < 0 || !slots[i].takes)
 		return false;
