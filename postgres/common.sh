@@ -4,6 +4,9 @@
 # their files beside themselves. They listen on a socket in that folder, and on no address. It is Debian's PostgreSQL 15, or that of PG_CONFIG.
 
 version=15
+# For how many seconds what is to happen is waited for. It happens in a second or two, and far later where a host takes most of two cores.
+limit=300
+export PGCTLTIMEOUT=$limit PG_TEST_TIMEOUT_DEFAULT=$limit
 folder_of_library=$(dirname "$(dirname "$library")")
 "$here/../scripts/need" gcc:gcc make:make prlimit:util-linux runuser:util-linux prove:perl /usr/share/perl5/IPC/Run.pm:libipc-run-perl
 [ -n "${PG_CONFIG:-}" ] || "$here/../scripts/need" "/usr/lib/postgresql/$version/bin/postgres:postgresql-$version" \
@@ -82,7 +85,7 @@ port() {
     fail "there is no server $1"
 }
 
-start() { as "$bin/pg_ctl" -D "$work/$1" -w -s -t 60 -l "$work/$1.log" start > /dev/null 2>&1 || fail "$1 does not start: $(tail -n 20 "$work/$1.log")"; }
+start() { as "$bin/pg_ctl" -D "$work/$1" -w -s -l "$work/$1.log" start > /dev/null 2>&1 || fail "$1 does not start: $(tail -n 20 "$work/$1.log")"; }
 stop() { as "$bin/pg_ctl" -D "$work/$1" -w -s -m "${2:-fast}" stop > /dev/null; }
 promote() { as "$bin/pg_ctl" -D "$work/$1" -w -s promote > /dev/null; }
 
@@ -139,10 +142,10 @@ rewind() {
     as cp "$work/run/postgresql.conf" "$work/run/postgresql.auto.conf" "$work/$1/"
 }
 
-# until_true SECONDS SERVER QUERY: waits until it gives t.
+# until_true SERVER QUERY: waits until it gives t.
 until_true() {
-    local end=$((SECONDS + $1))
-    until [ "$(sql "$2" "$3" 2> /dev/null)" = t ]; do
+    local end=$((SECONDS + limit))
+    until [ "$(sql "$1" "$2" 2> /dev/null)" = t ]; do
         [ $SECONDS -lt $end ] || return 1
         sleep 0.1
     done
@@ -152,12 +155,12 @@ until_true() {
 # wrote something else; txid_current alone is not enough.
 flush() { sql "$1" "select pg_logical_emit_message(true, 'flush', '')" > /dev/null; }
 
-# caught_up STANDBY PRIMARY [SECONDS]: the standby has replayed what was inserted on the primary. Where it does not, what it waits for is said.
+# caught_up STANDBY PRIMARY: the standby has replayed what was inserted on the primary. Where it does not, what it waits for is said.
 caught_up() {
     local lsn
     flush "$2"
     lsn=$(sql "$2" "select pg_current_wal_lsn()")
-    until_true "${3:-60}" "$1" "select pg_last_wal_replay_lsn() >= '$lsn'" || { explain "$1" "$lsn"; return 1; }
+    until_true "$1" "select pg_last_wal_replay_lsn() >= '$lsn'" || { explain "$1" "$lsn"; return 1; }
 }
 
 # explain STANDBY LSN: why it does not replay up to there.
@@ -195,15 +198,15 @@ ok() {
 # stat SERVER COLUMN: of its view.
 stat() { sql "$1" "select $2 from pg_stat_standby_prewarm"; }
 
-# is SERVER CONDITION NAME [SECONDS]: a test that the condition on the view comes to hold. Limits of time are those of a busy machine.
+# is SERVER CONDITION NAME: a test that the condition on the view comes to hold.
 is() {
-    until_true "${4:-60}" "$1" "select $2 from pg_stat_standby_prewarm" ||
+    until_true "$1" "select $2 from pg_stat_standby_prewarm" ||
         fail "$3: not $2 on $1: $(stat "$1" "pg_stat_standby_prewarm")"
     ok "$3"
 }
 
 logged() {
-    local end=$((SECONDS + 60))
+    local end=$((SECONDS + limit))
     until grep -q "$2" "$work/$1.log"; do
         [ $SECONDS -lt $end ] || fail "$3: $1 does not say '$2': $(tail -n 5 "$work/$1.log")"
         sleep 0.1
@@ -219,7 +222,7 @@ kill_server() {
     pid=$(head -n 1 "$work/$1/postmaster.pid")
     children=$(ps -o pid= --ppid "$pid")
     kill -9 "$pid"
-    for _ in $(seq 200); do
+    for _ in $(seq $((limit * 20))); do
         # shellcheck disable=SC2086
         kill -0 $children 2> /dev/null || return 0
         sleep 0.05

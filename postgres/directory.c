@@ -8,6 +8,7 @@
  */
 #include "postgres.h"
 
+#include "catalog/pg_tablespace_d.h"
 #include "utils/memutils.h"
 #include "standby_prewarm.h"
 
@@ -38,6 +39,18 @@ sp_directory_reset(void)
 						  HASH_ELEM | HASH_BLOBS | HASH_CONTEXT);
 	last = NULL;
 	sp_device_count = 0;
+}
+
+/*
+ * Whether there can be such a device: what is in pg_global is of no database, and
+ * nothing else is.  One that was forged, or read while its buffer changed, may not be.
+ */
+static bool
+is_device(const SpDevice *device)
+{
+	return device->fork >= MAIN_FORKNUM && device->fork <= MAX_FORKNUM &&
+		OidIsValid(device->space) &&
+		(device->space == GLOBALTABLESPACE_OID) == !OidIsValid(device->database);
 }
 
 /* The device of a number, or NULL. */
@@ -72,14 +85,12 @@ sp_page_of(const BufferTag *tag, bool give, warm_page *page)
 {
 	SpDevice	device = {TagSpace(tag), TagDatabase(tag), tag->forkNum};
 
-	if (tag->forkNum < MAIN_FORKNUM || tag->forkNum > MAX_FORKNUM)
-		return false;
 	page->no = (uint64) TagFile(tag) << 32 | tag->blockNum;
 	if (last == NULL || memcmp(&last->device, &device, sizeof device) != 0)
 		last = hash_search(numbers, &device, HASH_FIND, NULL);
 	if (last != NULL)
 		page->dev = last->number;
-	else if (give && sp_device_count < SP_MOST_DEVICES)
+	else if (give && is_device(&device) && sp_device_count < SP_MOST_DEVICES)
 	{
 		page->dev = (uint16) sp_device_count;
 		put_number(page->dev, &device);
@@ -130,7 +141,7 @@ sp_directory_decode(const uint8 *bytes, Size length)
 	{
 		SpDevice	device = {sp_get(at + 2, 4), sp_get(at + 6, 4), at[10]};
 
-		if (device.fork > MAX_FORKNUM || !OidIsValid(device.space))
+		if (!is_device(&device))
 			return SP_BAD_DIRECTORY;
 		if (!put_number((uint16) sp_get(at, 2), &device))
 			return SP_OTHER_DIRECTORY;

@@ -47,6 +47,7 @@ static int	reference_counts[SP_BUCKETS];
 /* When a save at a stop is given up; 0: it is another save. */
 static uint64 save_until;
 static bool save_ended;
+static int	save_error;			/* errno of a piece of the dump that failed */
 
 /* The name of a status, until the next call. */
 const char *
@@ -300,7 +301,11 @@ sp_history_bound(void)
 static void
 history_save_failed(const char *path)
 {
-	if (sp_may_log(SP_FAULT_SAVE))
+	int			error = errno;
+	bool		may = sp_may_log(SP_FAULT_SAVE);	/* which waits for a lock */
+
+	errno = error;
+	if (may)
 		ereport(WARNING,
 				(errcode_for_file_access(),
 				 errmsg("could not write file \"%s\" for \"%s\": %m",
@@ -369,14 +374,13 @@ sp_directory_save(void)
 }
 
 /*
- * Asked before each piece of a dump is written: 1 ends the save.  It ends where
- * the server is to stop; one that the stop makes has a while, as it holds up a
- * switchover.  What waits for all processes, as DROP DATABASE, does not wait
- * for the save.  No error may leave this.
+ * Writes a piece of a dump, unless the save is to end: where the server is to stop.
+ * One that the stop makes has a while, as it holds up a switchover.  What waits for
+ * all processes, as DROP DATABASE, does not wait for the save.  No error may leave
+ * this.
  */
 static int
-history_before_piece(void *context, uint64_t no, const void *bytes,
-					 size_t length)
+history_write_piece(void *context, uint64_t no, const void *bytes, size_t length)
 {
 	MemoryContext old = CurrentMemoryContext;
 
@@ -392,21 +396,40 @@ history_before_piece(void *context, uint64_t no, const void *bytes,
 	}
 	PG_END_TRY();
 	save_ended = save_until > 0 ? sp_us() > save_until : ShutdownRequestPending;
-	return save_ended;
+	if (save_ended)
+		return ECANCELED;
+	errno = ENOSPC;				/* a write that is short says nothing */
+	if (pg_pwrite(*(int *) context, bytes, length, no) == (ssize_t) length)
+		return 0;
+	return save_error = errno;
+}
+
+static int
+history_sync_dump(void *context)
+{
+	return pg_fsync(*(int *) context) == 0 ? 0 : (save_error = errno);
+}
+
+/* A save reads nothing. */
+static int
+history_read_nothing(void *context, uint64_t no, void *into, size_t length)
+{
+	return EIO;
 }
 
 /* Saves the history into its file, whole or not at all. */
 static bool
 history_save_dump(void)
 {
-	static const warm_device_ops calls = {.size = sizeof calls, .before_write = history_before_piece};
+	static const warm_device_ops calls = {.size = sizeof calls, .read = history_read_nothing,
+	.write = history_write_piece, .sync = history_sync_dump};
 	int			fd = history_open_draft(HISTORY_FILE);
 	int			status;
-	warm_device file = {.ops = &calls};
+	const warm_device file = {.ops = &calls, .context = &fd};
 
 	if (fd < 0)
 		return false;
-	file.fd = fd;
+	save_error = ENOMEM;		/* where no call fails */
 	status = warm_save_to(&history, &file);
 	if (status == WARM_OK)
 		return history_end_draft(fd, HISTORY_FILE);
@@ -414,6 +437,7 @@ history_save_dump(void)
 		(void) unlink(DRAFT_FILE);
 	else
 	{
+		errno = save_error;
 		history_save_failed(HISTORY_FILE);
 		sp_note(status, "a save");
 	}

@@ -28,6 +28,7 @@
 #define IDLE_MS			1000
 #define IDLE_TURNS		10
 #define LOCK_TIMEOUT_MS "1000"
+#define BATCH_US		US_PER_S	/* of a primary's loader, however slow its reads */
 
 PGDLLEXPORT void standby_prewarm_loader_main(Datum main_arg);
 
@@ -35,6 +36,7 @@ static SpLoader *slot;
 static uint64 epoch;
 static SpRequest *reading;		/* the page that is read, NULL where none is */
 static SpRequest batch[SP_BATCH];
+static uint64 batch_until;		/* when a primary's loader leaves what it has not read */
 
 static bool
 loader_same_file(const SpRequest *a, const SpRequest *b)
@@ -54,9 +56,9 @@ loader_by_page(const void *a, const void *b)
 }
 
 /*
- * Reads pages of one fork of a relation that is locked.  The system is asked
- * for as many of the next ones as maintenance_io_concurrency says: storage
- * takes them together.
+ * Reads pages of one fork of a relation that is locked, while there is time.  The
+ * system is asked for as many of the next ones as maintenance_io_concurrency says:
+ * storage takes them together.
  */
 static void
 loader_read_pages(Relation relation, SpRequest *some, int count)
@@ -67,7 +69,7 @@ loader_read_pages(Relation relation, SpRequest *some, int count)
 
 	if (smgrexists(RelationGetSmgr(relation), fork))
 		blocks = smgrnblocks(RelationGetSmgr(relation), fork);
-	for (int i = 0; i < count; i++)
+	for (int i = 0; i < count && sp_us() < batch_until; i++)
 	{
 		BlockNumber block = some[i].page.block;
 
@@ -94,6 +96,7 @@ loader_read_file(SpRequest *some, int count)
 {
 	Oid			relid = RelidOfFile(some->page.device.space, some->page.file);
 	Relation	relation;
+	SpOutcome	rest = SP_NO_FILE;
 
 	if (!OidIsValid(relid))
 		return SP_NO_FILE;
@@ -110,9 +113,12 @@ loader_read_file(SpRequest *some, int count)
 	/* The relation may have got another file before it was locked. */
 	if (RelationFile(relation) == some->page.file &&
 		RelationSpace(relation) == some->page.device.space)
+	{
 		loader_read_pages(relation, some, count);
+		rest = SP_WAITING;		/* those are handed out again */
+	}
 	relation_close(relation, AccessShareLock);
-	return SP_NO_FILE;
+	return rest;
 }
 
 /* Says why a page was not read, unless the read was a conflict with replay. */
@@ -158,7 +164,7 @@ loader_try_file(SpRequest *some, int count)
 		if (error->sqlerrcode == ERRCODE_LOCK_NOT_AVAILABLE)
 			rest = SP_BUSY;
 		else if (reading != NULL || cancelled)
-			rest = SP_WAITING;	/* they are handed out again */
+			rest = SP_WAITING;
 		loader_log_error(error, cancelled,
 						 reading != NULL ? &reading->page : &some->page);
 		FreeErrorData(error);
@@ -184,11 +190,13 @@ loader_is_needed(void)
 	return needed;
 }
 
+/* A primary's loader ends in time for a DROP DATABASE, which waits five seconds for it. */
 static void
 loader_read_batch(uint32 count)
 {
+	batch_until = RecoveryInProgress() ? PG_UINT64_MAX : sp_us() + BATCH_US;
 	qsort(batch, count, sizeof(SpRequest), loader_by_page);
-	for (uint32 i = 0, next; i < count && loader_is_needed(); i = next)
+	for (uint32 i = 0, next; i < count && sp_us() < batch_until && loader_is_needed(); i = next)
 	{
 		next = i + 1;
 		while (next < count && next - i < PAGES_A_LOCK &&

@@ -23,6 +23,8 @@
 #define MOST_UNLOADABLE 65536
 #define LEAST_RATE		2000	/* pages a second that are read by default */
 #define BUFFERS_OF_REPLAY 256	/* that are kept for it at least */
+#define NO_SLOT			(-1)
+#define NOT_AGAIN		(-2)
 
 /* Pages; without a block whole files; and without a file too, all of a device. */
 typedef struct Unloadable
@@ -58,6 +60,7 @@ typedef struct Slot
 } Slot;
 
 static Slot slots[SP_MOST_LOADERS];
+static Oid	resident_database;	/* one that had a page in a buffer in the round before */
 static bool others_wait;		/* a database has found no slot */
 static bool others_waited;		/* in the round before */
 
@@ -109,7 +112,10 @@ rank_is_unloadable(const SpPage *page)
 	return false;
 }
 
-/* Leaves the devices of a batch alone, those of its database: nobody can load them. */
+/*
+ * Leaves the devices of a batch alone: nobody can load those of its database.  Those of
+ * shared catalogs go to another loader soon.
+ */
 static void
 rank_leave_batch_alone(int i)
 {
@@ -121,8 +127,7 @@ rank_leave_batch_alone(int i)
 
 		key.file = InvalidOid;
 		key.block = InvalidBlockNumber;
-		if (key.device.database == slots[i].database)
-			rank_leave_alone(&key, FORGIVE_US);
+		rank_leave_alone(&key, OidIsValid(key.device.database) ? FORGIVE_US : BUSY_US);
 	}
 }
 
@@ -216,14 +221,15 @@ rank_open_slot(int i)
 }
 
 /*
- * The slot of a database, or one that is vacant, or -1.  Where databases wait,
- * one does not get the slot again that it has just left.  Pages of shared
- * catalogs may go to any loader.
+ * The slot of a database, or one that is vacant; else NO_SLOT.  Where databases wait,
+ * one does not get the slot again that it has just left: NOT_AGAIN, for a round.  It
+ * does not wait then, else it would be kept away for ever where no other comes.
+ * Pages of shared catalogs (of no database) may go to any loader.
  */
 static int
 rank_slot_of(Oid database)
 {
-	int			vacant = -1;
+	int			slot = NO_SLOT;
 
 	for (int i = 0; i < sp_shared->loader_count; i++)
 	{
@@ -231,26 +237,28 @@ rank_slot_of(Oid database)
 
 		if (OidIsValid(of) && (of == database || !OidIsValid(database)))
 			return i;
-		if (!OidIsValid(of) && slots[i].handle == NULL && vacant < 0 &&
-			!(others_waited && slots[i].left_by == database))
-			vacant = i;
+		if (!OidIsValid(of) && slots[i].handle == NULL && slot < 0)
+			slot = others_waited && slots[i].left_by == database ? NOT_AGAIN : i;
 	}
-	return OidIsValid(database) ? vacant : -1;
+	return slot;
 }
 
 /* Keeps a page for a loader; false where none takes it now. */
 static bool
 rank_hand_out(const SpPage *page)
 {
-	int			i = rank_slot_of(page->device.database);
+	Oid			database = page->device.database;
+	int			i = rank_slot_of(database);
 	SpRequest  *request;
 
-	if (i < 0)
-		others_wait |= OidIsValid(page->device.database);
+	if (i == NO_SLOT)
+		others_wait |= OidIsValid(database);
 	if (i < 0 || !slots[i].takes)
 		return false;
 	if (!OidIsValid(slots[i].database))
-		slots[i].database = page->device.database;
+		slots[i].database = OidIsValid(database) ? database : resident_database;
+	if (!OidIsValid(slots[i].database))
+		return false;
 	request = &sp_shared->loaders[i].pages[slots[i].count++];
 	request->page = *page;
 	request->outcome = SP_WAITING;
@@ -258,7 +266,10 @@ rank_hand_out(const SpPage *page)
 	return true;
 }
 
-/* Whether there is a folder of the database: else a loader would fail. */
+/*
+ * Whether there is a folder of the database: else a loader would fail.  Pages of shared
+ * catalogs alone go to a database that is there.
+ */
 static bool
 rank_has_database(const SpLoader *loader)
 {
@@ -275,7 +286,7 @@ rank_has_database(const SpLoader *loader)
 		if (stat(GetDatabasePath(device->database, seen), &st) == 0)
 			return true;
 	}
-	return false;
+	return !OidIsValid(seen);
 }
 
 /* Starts the loader of a slot; false where there is no process for it. */
@@ -444,6 +455,7 @@ rank_visit_pages(void)
 	Size		most = rank_most_wanted();
 	Size		part = Min(most, listed_count) / 4;
 	Size		wanted = 0;
+	Oid			resident = InvalidOid;
 
 	sp_stats.resident = sp_stats.unloadable = 0;
 	for (Size i = 0; i < listed_count && wanted < most; i++)
@@ -457,6 +469,8 @@ rank_visit_pages(void)
 		if (buffers[i] != 0)
 		{
 			sp_stats.resident++;
+			if (OidIsValid(page.device.database))
+				resident = page.device.database;
 			if (sp_load && !sp_warming)
 				rank_touch_buffer(buffers[i] - 1, &page,
 								  wanted < part ? 3 : wanted < part * 2 ? 2 : 1);
@@ -470,6 +484,7 @@ rank_visit_pages(void)
 			load_allowance--;
 		wanted++;
 	}
+	resident_database = resident;
 	/* One that lacks a part of its primary's history wants that part, too. */
 	sp_stats.wanted = Min((int64) most, (int64) wanted +
 						  Max(sp_stats.primary_known - sp_stats.known, 0));

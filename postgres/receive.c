@@ -150,6 +150,8 @@ header_status(const uint8 *bytes, Size length)
 		return SP_BAD_MESSAGE;
 	if (bytes[1] != SP_MESSAGE_FRAME && bytes[1] != SP_MESSAGE_DIRECTORY)
 		return SP_BAD_MESSAGE;
+	if (header_length(bytes) == SP_HEADER && sp_get(bytes + SP_HEADER_1, 8) > SP_MOST_KNOWN)
+		return SP_BAD_MESSAGE;
 	if (sp_get(bytes + 2, 8) > (uint64) GetCurrentTimestamp() + sp_clock_tolerance * US_PER_S)
 		return SP_LATE_MESSAGE;
 	return WARM_OK;

@@ -251,7 +251,6 @@ release_worker(int code, Datum arg)
 static void
 begin_role(void)
 {
-	is_standby = RecoveryInProgress();
 	sp_stats.primary_known = -1;
 	if (is_standby)
 		sp_receive_start(GetRedoRecPtr(), true);	/* a restartpoint, whose WAL is kept */
@@ -268,7 +267,7 @@ static void
 receive_rest(void)
 {
 	while (sp_enabled && !ShutdownRequestPending && sp_receive())
-		;
+		(void) sp_wait(0);		/* which ends the worker where the postmaster has ended */
 	if (!ShutdownRequestPending)
 		sp_receive_stop();
 }
@@ -320,19 +319,20 @@ warm_primary(void)
 	sp_stats.wanted = sp_stats.resident = sp_stats.unloadable = 0;
 }
 
-/* Begins, with what was saved. */
+/* Begins, with what was saved.  A promotion from now on is seen by the first turn. */
 static void
 start_worker(void)
 {
+	is_standby = RecoveryInProgress();
 	LWLockAcquire(sp_shared->lock, LW_EXCLUSIVE);
 	sp_shared->latch = MyLatch;
-	sp_shared->is_standby = RecoveryInProgress();
+	sp_shared->is_standby = is_standby;
 	sp_shared->epoch++;
 	sp_shared->stats_reset = GetCurrentTimestamp();
 	LWLockRelease(sp_shared->lock);
 	sp_history_start();
 	sp_rank_reset();
-	if (!RecoveryInProgress())
+	if (!is_standby)
 	{
 		/* What was published since the save, by this server, or before its promotion. */
 		sp_receive_start(XLogRecPtrIsInvalid(sp_saved_position) ? GetRedoRecPtr() :
@@ -356,6 +356,7 @@ become_primary(void)
 						 sp_stats.resident, sp_stats.wanted)));
 	receive_rest();
 	sp_rank_reset();			/* the loaders end by themselves */
+	is_standby = false;
 	begin_role();
 }
 

@@ -21,7 +21,7 @@
 
 /* Statuses of messages: those of warm.h are below 100, these are ours. */
 #define SP_STATUSES		128
-#define SP_BAD_MESSAGE	100		/* too short, or of an unknown kind */
+#define SP_BAD_MESSAGE	100		/* too short, or of an unknown kind, or of too many pages */
 #define SP_BAD_VERSION	101		/* of another version of the message */
 #define SP_BAD_DIRECTORY 102	/* a directory that is damaged */
 #define SP_OTHER_DIRECTORY 103	/* a number that was given twice */
@@ -39,6 +39,7 @@
 #define SP_BATCH		4096	/* pages handed to a loader at a time */
 #define SP_BUCKETS		64		/* of a history, by which it is sent */
 #define SP_MOST_DEVICES 65536	/* a page of the history has 16 bits for them */
+#define SP_MOST_KNOWN	PG_INT32_MAX	/* pages; history_pages is below half of it */
 #define SP_MOST_LOADERS 64		/* that max_loaders can ask for */
 
 /* A device of the history: files of one tablespace, database and fork. */

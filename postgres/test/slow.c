@@ -1,10 +1,13 @@
 /*
- * postgres/test/slow.c: for tests, preloaded into a server (LD_PRELOAD).  The file SLOW has two numbers of eight
- * bytes: how many pages the server asked the system for before it read them; and for how many microseconds each
- * write of the draft of a save waits.
+ * postgres/test/slow.c: for tests, preloaded into a server (LD_PRELOAD).  The file SLOW has numbers
+ * of eight bytes: how many pages the server asked the system for before it read them; for how many
+ * microseconds each write of the draft of a save waits; for how many each read of a page waits that
+ * is 1 MB or more into its file, as those of catalogs are not; and the errno with which each pwrite
+ * into a draft fails, 0 where none does.
  */
 #define _GNU_SOURCE
 #include <dlfcn.h>
+#include <errno.h>
 #include <fcntl.h>
 #include <stdint.h>
 #include <stdio.h>
@@ -12,6 +15,8 @@
 #include <string.h>
 #include <sys/mman.h>
 #include <unistd.h>
+
+#define DRAFT "/standby_prewarm.tmp"
 
 static volatile uint64_t *numbers;
 
@@ -35,25 +40,56 @@ posix_fadvise(int fd, off_t at, off_t length, int advice)
 	return 0;
 }
 
-static void
-wait_for(int fd)
+/* A number, or 0 where the file's path has not this part. */
+static uint64_t
+number_for(int fd, int number, const char *part)
 {
 	char		link[64], path[512] = "";
 
-	if (numbers == NULL || numbers[1] == 0)
-		return;
+	if (numbers == NULL || numbers[number] == 0)
+		return 0;
 	snprintf(link, sizeof link, "/proc/self/fd/%d", fd);
-	if (readlink(link, path, sizeof path - 1) > 0 && strstr(path, "/standby_prewarm.tmp") != NULL)
-		usleep((useconds_t) numbers[1]);
+	if (readlink(link, path, sizeof path - 1) <= 0 || strstr(path, part) == NULL)
+		return 0;
+	return numbers[number];
+}
+
+static void
+wait_for(int fd, int number, const char *part)
+{
+	uint64_t	time = number_for(fd, number, part);
+
+	if (time > 0)
+		usleep((useconds_t) time);
+}
+
+ssize_t
+pread64(int fd, void *bytes, size_t length, off64_t at)
+{
+	ssize_t		(*real) (int, void *, size_t, off64_t) = dlsym(RTLD_NEXT, "pread64");
+
+	if (at >= 1 << 20)
+		wait_for(fd, 2, "/base/");
+	return real(fd, bytes, length, at);
+}
+
+ssize_t
+pread(int fd, void *bytes, size_t length, off_t at)
+{
+	return pread64(fd, bytes, length, at);
 }
 
 ssize_t
 pwrite64(int fd, const void *bytes, size_t length, off64_t at)
 {
 	ssize_t		(*real) (int, const void *, size_t, off64_t) = dlsym(RTLD_NEXT, "pwrite64");
+	uint64_t	error = number_for(fd, 3, DRAFT);
 
-	wait_for(fd);
-	return real(fd, bytes, length, at);
+	wait_for(fd, 1, DRAFT);
+	if (error == 0)
+		return real(fd, bytes, length, at);
+	errno = (int) error;
+	return -1;
 }
 
 ssize_t
@@ -67,6 +103,6 @@ write(int fd, const void *bytes, size_t length)
 {
 	ssize_t		(*real) (int, const void *, size_t) = dlsym(RTLD_NEXT, "write");
 
-	wait_for(fd);
+	wait_for(fd, 1, DRAFT);
 	return real(fd, bytes, length);
 }
