@@ -54,15 +54,6 @@ static bool fake_memory(void) {
     return block != NULL;
 }
 
-static uint32_t fake_shard_of(size_t shards, node_page page) { return (uint32_t)((page.no + page.dev) % 64 % shards); }
-
-int node_divide(size_t frames, size_t shards, size_t *each) {
-    if (shards == 0 || shards > 64 || (shards & (shards - 1)) != 0) return WARM_BAD_SHARDS;
-    if (frames % shards != 0) return WARM_UNEVEN_FRAMES;
-    *each = frames / shards;
-    return WARM_OK;
-}
-
 int node_open(node *of, uint16_t replica, size_t frames, size_t page_size, const node_device *devices, size_t device_count) {
     MUST(!of->is_open && (remembered == 0 || remembered == device_count));
     MUST(replica > 0 && replica <= 64 && page_size > 0 && frames > 0);
@@ -352,23 +343,14 @@ int node_last_failure(node *of, bool *found, node_failure *failure) {
 
 /* ---- histories and frames ---- */
 
-uint64_t node_shards_of(size_t shards, const node_reference *references, size_t count) {
-    uint64_t set = 0;
-    for (size_t at = 0; at < count; at++) set |= UINT64_C(1) << fake_shard_of(shards, (node_page){.no = references[at].no, .dev = references[at].dev});
-    return set;
-}
-
-int node_absorb_part(node *of, size_t shards, size_t number, const node_reference *references, size_t count) {
+int node_absorb(node *of, const node_reference *references, size_t count) {
     fake *its = fake_in(of);
     for (size_t at = 0; at < count; at++)
         if (references[at].replica == 0 || references[at].replica > 64) return fake_out(of, WARM_BAD_REPLICA);
     if (!fake_memory()) return fake_out(of, WARM_MEMORY);
-    for (size_t at = 0; at < count; at++)
-        its->known += fake_shard_of(shards, (node_page){.no = references[at].no, .dev = references[at].dev}) == number;
+    its->known += count;
     return fake_out(of, WARM_OK);
 }
-
-int node_absorb(node *of, const node_reference *references, size_t count) { return node_absorb_part(of, 1, 0, references, count); }
 
 int node_horizon(node *of, uint64_t time, uint64_t *horizon) {
     fake *its = fake_in(of);
@@ -501,18 +483,6 @@ int node_send_since(node *of, uint8_t bucket, uint64_t since, bool has_after, no
     *more = its->known > 0 && !has_after;
     if (*more) last->no = 1;
     return fake_out(of, WARM_OK);
-}
-
-int node_send(node *of, uint8_t bucket, bool has_after, node_page after, uint8_t *frame, size_t room, size_t *length) {
-    bool more;
-    node_page last = {0};
-    return node_send_since(of, bucket, 0, has_after, after, frame, room, length, &more, &last);
-}
-
-int node_status_name(int status, uint8_t *name, size_t room, size_t *length) {
-    *length = 1;
-    if (room > 0) *name = status == WARM_OK ? 'O' : 'X';
-    return WARM_OK;
 }
 
 #endif

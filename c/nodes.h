@@ -73,8 +73,6 @@ int node_resident(node *handle, node_page page, bool *resident);
 int node_victim(node *handle, bool *found, node_page *page);
 int node_list(node *handle, node_page *pages, size_t room, size_t *count);
 int node_step(node *handle, bool *found, node_page *page);
-int node_send(node *handle, uint8_t bucket, bool has_after, node_page after, uint8_t *frame, size_t room,
-    size_t *length);
 int node_send_since(node *handle, uint8_t bucket, uint64_t since, bool has_after, node_page after, uint8_t *frame,
     size_t room, size_t *length, bool *more, node_page *last);
 int node_horizon(node *handle, uint64_t time, uint64_t *horizon);
@@ -89,24 +87,12 @@ int node_last_failure(node *handle, bool *found, node_failure *failure);
 int node_history_length(node *handle, size_t *length);
 int node_save(node *handle, int fd);
 int node_load(node *handle, int fd, uint64_t length);
-int node_status_name(int status, uint8_t *name, size_t room, size_t *length);
 
 /*
  * Parts. shards is how many shards there are (1, 2, 4 to 64), and shard one of them, from 0. The shard
  * of a page is its bucket (docs/FORMATS.md), modulo shards. Where a function returns a status, it is
  * WARM_BAD_SHARDS first, then WARM_NO_SHARD, where they are not so.
  */
-
-/* Writes how many frames each shard has.
- * Refused: WARM_BAD_SHARDS, WARM_UNEVEN_FRAMES. */
-int node_divide(size_t frames, size_t shards, size_t *each);
-
-/* Which shards a batch is for: bit i where a reference is to a page of shard i. 0 where there cannot be this many shards. */
-uint64_t node_shards_of(size_t shards, const node_reference *references, size_t count);
-
-/* Absorbs those references of the batch whose pages are of the shard, all of them or none.
- * Refused: WARM_BAD_REPLICA where any reference of the whole batch has a bad replica; WARM_MEMORY. */
-int node_absorb_part(node *handle, size_t shards, size_t shard, const node_reference *references, size_t count);
 
 /* Pins a page as node_pin does, and writes where its bytes lie, as node_lend does.
  * Refused: what node_pin is refused with; the slot and the pointer are then as they were. */

@@ -380,7 +380,8 @@ static bool is_one_of_stuck(node_page page) {
 }
 
 static bool is_dirty(warm *handle, warm_page page) {
-    const fake *its = ((opened *)handle->at)->shards[fake_shard_of(((opened *)handle->at)->count, page_in(page))].node.at;
+    opened *all = handle->at;
+    const fake *its = all->shards[(page.no + page.dev) % all->count].node.at;
     for (size_t at = 0; at < its->frames; at++)
         if (its->at[at].is_in && its->at[at].page.no == page.no && its->at[at].page.dev == page.dev) return its->at[at].is_dirty;
     return false;

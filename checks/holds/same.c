@@ -125,16 +125,20 @@ static void use_slot(void) {
     }
 }
 
+/* Each node takes in the references to pages of its shard, in their order. */
 static void absorb(void) {
     warm_reference batch[BATCH];
-    node_reference copy[BATCH];
+    node_reference parts[MOST_SHARDS][BATCH];
+    size_t each[MOST_SHARDS] = {0};
     for (size_t at = 0; at < BATCH; at++) {
         warm_page page = draw_page();
-        batch[at] = (warm_reference){.replica = 1, .dev = page.dev, .no = page.no % PAGES, .time = now++};
-        copy[at] = reference_in(&batch[at]);
+        page.no %= PAGES;
+        size_t number = shard_of(page);
+        batch[at] = (warm_reference){.replica = 1, .dev = page.dev, .no = page.no, .time = now++};
+        parts[number][each[number]++] = reference_in(&batch[at]);
     }
     MUST(warm_absorb(draw_handle(), batch, BATCH) == WARM_OK);
-    for (size_t number = 0; number < shards; number++) MUST(node_absorb_part(&nodes[number], shards, number, copy, BATCH) == WARM_OK);
+    for (size_t number = 0; number < shards; number++) MUST(node_absorb(&nodes[number], parts[number], each[number]) == WARM_OK);
 }
 
 /* The victims that are said are those of the node, one after another: each is pinned there, until all are said. */

@@ -1,6 +1,5 @@
--- A text and a zero byte after it, in a buffer; and lists of which a set is made.
-use Rattle.std.proofs.Common.{◌≡◌, ℕ, ℤ, ◌<◌, ◌≤◌, List, [], ◌∷◌, ◌++◌, length, take, drop, refl, sym, subst, ap, ◌∙◌, arith, true, eqb, Decides, BTreeSet, btree_set_len, Ordering, Equal, is_eq, nat_cmp, int_cmp}
-use Rattle.std.proofs.Math.ListN.{set}
+-- Lists of which a set is made.
+use Rattle.std.proofs.Common.{◌≡◌, ℕ, ℤ, List, length, sym, subst, ap, ◌∙◌, true, eqb, Decides, BTreeSet, btree_set_len, Ordering, Equal, is_eq, nat_cmp, int_cmp}
 use Rattle.std.proofs.lemmas.Bool.{eqb-true, eq-eqb}
 use Rattle.std.proofs.lemmas.Cmp.{eq_by_cmp_equiv, int_cmp_total, int_ranked, nat_cmp_total, ranked, tied_itself}
 use Rattle.std.proofs.lemmas.Map.Made.{AllPairs-from_IsDistinct, IsDistinct-from_AllPairs, IsDistinct-from_count, distinct_count-from_IsDistinct}
@@ -9,23 +8,6 @@ use Rattle.std.specs.BTreeSet.{IsFromIterResult}
 use Rattle.std.specs.Cmp.{Equal-is, IsTotalOrder}
 use Rattle.std.specs.Ordering.{eq_by_cmp}
 use Rattle.warm_c.specs.Handles.{AllDiffer}
-use Rattle.warm_c.specs.Values.{with_some}
-
--- a text and its zero byte in a buffer that has room for both
-pub text_fits : (text buffer : List ℕ) → length text < length buffer
-    → set (text ++ drop (length text) buffer) (length text) 0 ≡ with_some (text ++ 0 ∷ []) buffer
-text_fits [] [] fits = absurd (omega arith)
-text_fits [] (b ∷ bs) fits = refl
-text_fits (x ∷ xs) [] fits = absurd (omega arith)
-text_fits (x ∷ xs) (b ∷ bs) fits = ap (λ (ys : List ℕ). x ∷ ys) (text_fits xs bs (omega arith))
-
--- a text in a buffer that has no room for its zero byte
-pub text_cut : (text buffer : List ℕ) → length buffer ≤ length text
-    → take (length buffer) text ≡ with_some (text ++ 0 ∷ []) buffer
-text_cut [] [] over = refl
-text_cut [] (b ∷ bs) over = absurd (omega arith)
-text_cut (x ∷ xs) [] over = refl
-text_cut (x ∷ xs) (b ∷ bs) over = ap (λ (ys : List ℕ). x ∷ ys) (text_cut xs bs (omega arith))
 
 -- a set has as many items as the list that it is made of exactly where no two are equal
 module _ {K : Type 0} {R : K → K → Ordering} (order : IsTotalOrder R)

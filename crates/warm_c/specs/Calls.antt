@@ -1,8 +1,7 @@
 -- What each call does to what an open handle holds, and what it writes.
-use Rattle.std.specs.Prelude.{ℕ, ◌<◌, ◌≤◌, ◌≡◌, ◌⊎◌, List, map, length, Option, IfSome, Result, Ok, Err}
+use Rattle.std.specs.Prelude.{ℕ, ◌<◌, ◌≤◌, ◌≡◌, List, map, length, Option, IfSome, Result, Ok, Err}
 use Rattle.std.specs.Prelude.{Contains}
 use Rattle.warm_stamps.specs.Replicas.{IsReplica}
-use Rattle.warm_stamps.specs.Buckets.{IsBucket}
 use Rattle.warm_stamps.specs.declared.PageId.{PageId}
 use Rattle.warm_history.specs.Histories.{HistoryView, IsHistory, entries_of}
 use Rattle.warm_dump.specs.Reading.{IsDump, IsDumpRefused}
@@ -15,18 +14,17 @@ use Rattle.warm_frames.specs.Encoding.{encoding}
 use Rattle.warm_pool.specs.State.{IsSettled}
 use Rattle.warm_pool.specs.View.{view_of, IsResident}
 use Rattle.warm_gossip.specs.declared.call.Call.{Call}
-use Rattle.warm_gossip.specs.declared.call.Call.TheVariants.{Absorb, Send, Horizon, Pin, Unpin}
+use Rattle.warm_gossip.specs.declared.call.Call.TheVariants.{Absorb, Horizon, Pin, Unpin}
 use Rattle.warm_gossip.specs.declared.call.Call.TheVariants.{Read, Write, Victim, WarmList, WarmStep}
 use Rattle.warm_gossip.specs.declared.call.Reply.{Reply}
-use Rattle.warm_gossip.specs.declared.call.Reply.TheVariants.{Done, Sent, Kept, Pinned, Bytes}
+use Rattle.warm_gossip.specs.declared.call.Reply.TheVariants.{Done, Kept, Pinned, Bytes}
 use Rattle.warm_gossip.specs.declared.call.Reply.TheVariants.{Page, Pages, Loaded, Refused}
-use Rattle.warm_gossip.specs.declared.fault.NodeFault.{NodeFault}
 use Rattle.warm_gossip.specs.declared.fault.NodeFault.TheVariants.{Memory}
 use Rattle.warm_gossip.specs.Clauses.{Goes, Joins, SameView, NodeWriteBackFails}
 use Rattle.warm_c.specs.declared.open_node.OpenNode.{OpenNode}
 use Rattle.warm_c.specs.declared.status.Refusal.{Refusal}
 use Rattle.warm_c.specs.declared.status.Refusal.TheVariants.{Node, BufferTooSmall, BadReplica}
-use Rattle.warm_c.specs.declared.status.Refusal.TheVariants.{BadBucket, Dump}
+use Rattle.warm_c.specs.declared.status.Refusal.TheVariants.{Dump}
 use Rattle.warm_c.specs.declared.values.PinnedSlot.{PinnedSlot}
 use Rattle.warm_c.specs.declared.values.WarmPage.{WarmPage}
 use Rattle.warm_c.specs.declared.values.WarmReference.{WarmReference}
@@ -148,23 +146,6 @@ PutsFrame message before len after len' (Err BufferTooSmall) =
     × (len' ≡ length (encoding message))
 PutsFrame message before len after len' (Err (Node Memory)) = (after ≡ before) × (len' ≡ len)
 PutsFrame message before len after len' (Err why) = ⊥
-
--- the node has given a message, whose frame is put into the buffer; or it refuses, and the buffer
--- is as it was
-abbrev pub Sends : Call → List ℕ → ℕ → List ℕ → ℕ → OpenNode → Ending → OpenNode → Type 0
-Sends call before len after len' old ending new =
-    ((message : Message) × Replies call old (Sent message) new
-    × PutsFrame message before len after len' ending)
-    ⊎ ((why : NodeFault) × (ending ≡ Err (Node why)) × Replies call old (Refused why) new
-    × (after ≡ before) × (len' ≡ len))
-
--- the number is no bucket's, and nothing has changed; or the same of that bucket
-abbrev pub SendsFromBucket : ℕ → Option PageId → List ℕ → ℕ → List ℕ → ℕ → OpenNode → Ending
-    → OpenNode → Type 0
-SendsFromBucket bucket page before len after len' old ending new =
-    ((IsBucket bucket → ⊥) × (ending ≡ Err BadBucket) × (after ≡ before) × (len' ≡ len)
-    × (new ≡ old))
-    ⊎ Sends (Send bucket page) before len after len' old ending new
 
 -- why a message is refused that speaks of a time later than the limit: its horizon is later, or
 -- else a stamp of an entry is

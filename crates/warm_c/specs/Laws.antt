@@ -31,10 +31,12 @@ pub record EachGoes (goes : ℕ → NodeState → NodeState → Type 0) (old new
   pub long : length new ≡ length old
   pub each : (i : ℕ) → i < length old → goes i (shard_at old i) (shard_at new i)
 
--- where each shard has absorbed its part of a batch, all together have absorbed the batch
+-- where each shard has absorbed the references of a batch to its pages, all together have absorbed
+-- the batch
 abbrev pub BatchIsOfParts : Type 0
 BatchIsOfParts = (batch : List WarmReference) (old new : List NodeState)
-    → EachGoes (λ i n m. Goes n (Absorb (part_of_batch (length old) i batch)) Done m) old new
+    → EachGoes
+    (λ i n m. Goes n (Absorb (map reference_of (part_of_batch (length old) i batch))) Done m) old new
     → whole new ≡ history (references_of (whole old) ∪ set_of_list (map reference_of batch))
 
 -- where each has received what a message brings to it, all together have received the message

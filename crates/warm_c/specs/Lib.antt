@@ -13,6 +13,5 @@ pub mod Owning
 pub mod PartCalls
 pub mod Parts
 pub mod Since
-pub mod StatusNames
 pub mod Statuses
 pub mod Values

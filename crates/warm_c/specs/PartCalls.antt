@@ -6,33 +6,18 @@ use Rattle.warm_digest.specs.BucketDigests.{digests_of}
 use Rattle.warm_frames.specs.declared.message.Message.{Message}
 use Rattle.warm_frames.specs.Encoding.{Encodes}
 use Rattle.warm_frames.specs.Reading.{GivesReading, read_frame, reserved_by}
-use Rattle.warm_gossip.specs.declared.call.Call.TheVariants.{Absorb, Receive}
-use Rattle.warm_gossip.specs.declared.call.Reply.TheVariants.{Answers, Done, Refused}
+use Rattle.warm_gossip.specs.declared.call.Call.TheVariants.{Receive}
+use Rattle.warm_gossip.specs.declared.call.Reply.TheVariants.{Answers, Refused}
 use Rattle.warm_gossip.specs.declared.fault.NodeFault.TheVariants.{Memory}
 use Rattle.warm_gossip.specs.Clauses.{Joins, SameView}
 use Rattle.warm_shards.specs.Digests.{FillsShard}
 use Rattle.warm_c.specs.declared.open_node.OpenNode.{OpenNode}
-use Rattle.warm_c.specs.declared.status.Refusal.TheVariants.{BadReplica, Closed, Frame, Node}
+use Rattle.warm_c.specs.declared.status.Refusal.TheVariants.{Closed, Frame, Node}
 use Rattle.warm_c.specs.declared.values.PinnedSlot.{PinnedSlot}
 use Rattle.warm_c.specs.declared.values.WarmPage.{WarmPage}
-use Rattle.warm_c.specs.declared.values.WarmReference.{WarmReference}
-use Rattle.warm_c.specs.Calls.{Ending, HasBadReplica, Pins, RefusedByNode, Replies, SameDevices}
-use Rattle.warm_c.specs.Parts.{AreReplicas, OfPart, part_of_batch, part_of_message}
+use Rattle.warm_c.specs.Calls.{Ending, Pins, Replies, SameDevices}
+use Rattle.warm_c.specs.Parts.{OfPart, part_of_message}
 use Rattle.warm_c.specs.Statuses.{code_of, status_of}
-
--- the node has absorbed the references of the batch to pages of the shard, and no others; no
--- reference of the whole batch has a number that is no replica's
-abbrev pub AbsorbsThose : ℕ → ℕ → List WarmReference → OpenNode → Ending → OpenNode → Type 0
-AbsorbsThose shards shard batch old (Ok given) new = AreReplicas batch
-    × Replies (Absorb (part_of_batch shards shard batch)) old Done new
-AbsorbsThose shards shard batch old (Err BadReplica) new = HasBadReplica batch × (new ≡ old)
-AbsorbsThose shards shard batch old (Err why) new =
-    RefusedByNode (Absorb (part_of_batch shards shard batch)) old why new
-
--- the same for one shard of many; numbers that are no shard's are refused
-abbrev pub AbsorbsPart : ℕ → ℕ → List WarmReference → OpenNode → Ending → OpenNode → Type 0
-AbsorbsPart shards shard batch old ending new =
-    OfPart shards shard ending (new ≡ old) (AbsorbsThose shards shard batch old ending new)
 
 -- The page is pinned as by a pin, and an address is written. That it is that of the page's bytes is
 -- nothing that a clause can say. A refused call writes none.

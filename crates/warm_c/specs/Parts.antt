@@ -1,10 +1,8 @@
 -- What concerns one shard of many: of a page, of a batch, of a message and of a history.
-use Rattle.std.specs.Prelude.{◌≡◌, ◌≢◌, ◌↔◌, ◌⊎◌, ℕ, ℤ, ◌*◌, ◌%◌, ◌<◌, ◌≤◌, List, map, filter, nat_eq}
-use Rattle.std.specs.Prelude.{Ok, Err, Contains}
+use Rattle.std.specs.Prelude.{◌≡◌, ◌↔◌, ◌⊎◌, ℕ, ℤ, ◌<◌, ◌≤◌, List, map, filter, nat_eq, Err}
+use Rattle.std.specs.Prelude.{Contains}
 use Rattle.std.specs.Int.{bit_at}
-use Rattle.warm_stamps.specs.Replicas.{IsReplica}
 use Rattle.warm_stamps.specs.declared.PageId.{PageId}
-use Rattle.warm_stamps.specs.declared.Reference.{Reference}
 use Rattle.warm_history.specs.declared.hist.Entry.{Entry}
 use Rattle.warm_history.specs.Histories.{HistoryView, entries_of, history_of_entries_at}
 use Rattle.warm_frames.specs.declared.message.Message.{Message}
@@ -12,7 +10,7 @@ use Rattle.warm_frames.specs.declared.message.Message.TheVariants.{Entries, Dige
 use Rattle.warm_frames.specs.Limits.{entries_in, horizon_in}
 use Rattle.warm_shards.specs.Shards.{IsShardCount, shard_of}
 use Rattle.warm_c.specs.declared.status.Refusal.{Refusal}
-use Rattle.warm_c.specs.declared.status.Refusal.TheVariants.{BadShards, NoShard, UnevenFrames}
+use Rattle.warm_c.specs.declared.status.Refusal.TheVariants.{BadShards, NoShard}
 use Rattle.warm_c.specs.declared.values.WarmReference.{WarmReference}
 use Rattle.warm_c.specs.Calls.{Ending}
 use Rattle.warm_c.specs.Statuses.{status_of}
@@ -41,27 +39,12 @@ OfPart shards shard ending same goes =
     ((why : Refusal) × (ending ≡ Err why) × IsNoPart shards shard why × same)
     ⊎ (IsPart shards shard × goes)
 
--- Frames of the pool
-
--- this many frames are divided evenly among the shards, and how many each has is written; a refused
--- call writes nothing
-abbrev pub Divides : ℕ → ℕ → ℕ → ℕ → Ending → Type 0
-Divides frames shards before each (Ok given) = IsShardCount shards × (each * shards ≡ frames)
-Divides frames shards before each (Err BadShards) = (IsShardCount shards → ⊥) × (each ≡ before)
-Divides frames shards before each (Err UnevenFrames) = IsShardCount shards
-    × (frames % shards ≢ 0) × (each ≡ before)
-Divides frames shards before each (Err why) = ⊥
-
 -- Batches
 
--- each reference has a number that is a replica's
-abbrev pub AreReplicas : List WarmReference → Type 0
-AreReplicas batch = (r : WarmReference) → Contains batch r → IsReplica r.replica
-
 -- the references to pages of the shard, in order
-abbrev pub part_of_batch : ℕ → ℕ → List WarmReference → List Reference
+abbrev pub part_of_batch : ℕ → ℕ → List WarmReference → List WarmReference
 part_of_batch shards shard batch =
-    filter (λ r. nat_eq (shard_of shards r.page) shard) (map reference_of batch)
+    filter (λ r. nat_eq (shard_of shards (reference_of r).page) shard) batch
 
 -- the shards of pages
 abbrev pub shards_of : ℕ → List PageId → List ℕ
@@ -71,10 +54,7 @@ shards_of shards pages = map (shard_of shards) pages
 abbrev pub HasBits : List ℕ → ℕ → Type 0
 HasBits numbers bits = (i : ℕ) → (bit_at bits i ≡ 1) ↔ Contains numbers i
 
--- the pages of references, and of entries
-abbrev pub batch_pages : List WarmReference → List PageId
-batch_pages batch = map (λ r. (reference_of r).page) batch
-
+-- the pages of entries
 abbrev pub entry_pages : List Entry → List PageId
 entry_pages es = map (λ e. e.page) es
 

@@ -1,5 +1,5 @@
--- The numbers and names of the refusals, and the status of a result.
-use Rattle.std.specs.Prelude.{ℕ, ℤ, pos, ◌+◌, List, Result, Ok, Err, codes}
+-- The numbers of the refusals, and the status of a result.
+use Rattle.std.specs.Prelude.{ℕ, ℤ, pos, ◌+◌, Result, Ok, Err}
 use Rattle.warm_frames.specs.declared.fault.FrameFault.{FrameFault}
 use Rattle.warm_frames.specs.declared.fault.FrameFault.TheVariants as frame
 use Rattle.warm_frames.specs.declared.limit.TimeFault.{TimeFault}
@@ -13,8 +13,7 @@ use Rattle.warm_c.specs.declared.status.Refusal.{Refusal}
 use Rattle.warm_c.specs.declared.status.Refusal.TheVariants.{Node, NewPool, Frame, Closed}
 use Rattle.warm_c.specs.declared.status.Refusal.TheVariants.{AlreadyOpen, BufferTooSmall}
 use Rattle.warm_c.specs.declared.status.Refusal.TheVariants.{BadReplica, BadBucket, SameFile, Late}
-use Rattle.warm_c.specs.declared.status.Refusal.TheVariants.{BadShards, UnevenFrames, Attached}
-use Rattle.warm_c.specs.declared.status.Refusal.TheVariants.{PinsLeft, NoShard, Dump}
+use Rattle.warm_c.specs.declared.status.Refusal.TheVariants.{BadShards, NoShard, Dump}
 
 -- 1 of an allocation failure, wherever it comes; of another fault of a frame the fault's own number
 -- and 32
@@ -45,30 +44,8 @@ code_of BadBucket = 68
 code_of SameFile = 69
 code_of (Late fault) = late_code_of fault
 code_of BadShards = 72
-code_of UnevenFrames = 73
-code_of Attached = 74
-code_of PinsLeft = 75
 code_of NoShard = 76
 code_of (Dump fault) = dump_code_of fault
-
--- the name of each refusal
-abbrev pub name_of : Refusal → List ℕ
-name_of (Node fault) = node_faults.name_of fault
-name_of (NewPool fault) = pool_faults.new_name_of fault
-name_of (Frame fault) = frame_faults.fault_name fault
-name_of Closed = codes "Closed"
-name_of AlreadyOpen = codes "AlreadyOpen"
-name_of BufferTooSmall = codes "BufferTooSmall"
-name_of BadReplica = codes "BadReplica"
-name_of BadBucket = codes "BadBucket"
-name_of SameFile = codes "SameFile"
-name_of (Late fault) = frame_faults.time_fault_name fault
-name_of BadShards = codes "BadShards"
-name_of UnevenFrames = codes "UnevenFrames"
-name_of Attached = codes "Attached"
-name_of PinsLeft = codes "PinsLeft"
-name_of NoShard = codes "NoShard"
-name_of (Dump fault) = dump_faults.dump_fault_name fault
 
 -- 0, or the number of the refusal
 abbrev pub status_of : {T : Type 0} → Result T Refusal → ℤ

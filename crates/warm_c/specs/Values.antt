@@ -1,5 +1,5 @@
 -- What crosses to C, in the node's terms.
-use Rattle.std.specs.Prelude.{ℕ, ◌≡◌, ◌↔◌, ◌≤◌, Bool, true, false, List, [], ◌∷◌, ◌++◌, length, drop, Option}
+use Rattle.std.specs.Prelude.{ℕ, ◌≡◌, ◌↔◌, ◌≤◌, Bool, true, false, List, ◌++◌, length, drop, Option}
 use Rattle.std.specs.Prelude.{Some, None}
 use Rattle.warm_stamps.specs.declared.PageId.{PageId}
 use Rattle.warm_stamps.specs.declared.Reference.{Reference}
@@ -53,9 +53,3 @@ pinned_slot s = record { index = s.index; generation = s.generation }
 -- the buffer with these items at its start
 abbrev pub with_start : {A : Type 0} → List A → List A → List A
 with_start items buffer = items ++ drop (length items) buffer
-
--- the buffer with as many of these items at its start as there is room for
-abbrev pub with_some : {A : Type 0} → List A → List A → List A
-with_some [] buffer = buffer
-with_some (x ∷ xs) [] = []
-with_some (x ∷ xs) (b ∷ bs) = x ∷ with_some xs bs

@@ -1,6 +1,6 @@
-//! The calls of an open handle that write frames.
+//! The call of an open handle that writes frames of entries, and how any frame is written.
 ghost use Rattle.std.specs.Prelude.{◌≡◌, ◌<◌, ◌≤◌, length};
-ghost use Rattle.warm_c.specs.Calls.{PutsFrame, SendsFromBucket};
+ghost use Rattle.warm_c.specs.Calls.{PutsFrame};
 ghost use Rattle.warm_c.specs.Since.{SendsSince, last_in, send_buffers};
 ghost use Rattle.warm_c.specs.Values.{with_start};
 
@@ -51,31 +51,6 @@ fn put_last(message: &Message, last: &mut WarmPage)
 }
 
 impl OpenNode {
-    /// Calls [`warm_gossip::Node::send`] and writes the frame of its message, and its length.
-    ///
-    /// # Errors
-    /// The buffer is unchanged.
-    /// - `BadBucket`: the bucket's number is not valid.
-    /// - `Node`, with `Memory`: an allocation failed.
-    /// - `BufferTooSmall`: the frame does not fit; its length is written.
-    pub fn send(
-        &mut self,
-        alloc: Global,
-        bucket: u8,
-        after: Option<PageId>,
-        frame: &mut [u8],
-        len: &mut usize,
-    ) -> Result<(), Refusal>
-        ensures { SendsFromBucket bucket after frame.old len.old frame.new len.new self.old result
-            self.new }
-    {
-        let Some(bucket) = Bucket::new(bucket) else {
-            return Err(Refusal::BadBucket);
-        };
-        let message = self.node.send(bucket, after)?;
-        put_frame(alloc, &message, frame, len)
-    }
-
     /// Calls [`warm_gossip::Node::send_since`] and writes the frame of its message, and its length,
     /// whether more entries follow, and the page of the last one.
     ///

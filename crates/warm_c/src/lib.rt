@@ -15,8 +15,8 @@
 //!   [`node_last_failure`] ask the node's pool, [`node_lend_mut`] makes `Node::bytes_mut`,
 //!   [`node_replace`] `Node::retire`, [`node_flush`] `Node::flush_device`, and [`node_forget`]
 //!   `Node::forget_pages`.
-//! - [`node_open`] and [`node_close`] create and drop the node, and [`node_status_name`] takes no
-//!   handle. Each of the other functions returns 64 on a closed handle, and changes nothing.
+//! - [`node_open`] and [`node_close`] create and drop the node. Each of the other functions that
+//!   take a handle returns 64 on a closed one, and changes nothing.
 //!
 //! c/fd_calls.c has what is not proved: the calls of the system on the descriptors, which
 //! `descriptor` asks for. c/heap.c, where its memory is from, is not proved either.
@@ -27,10 +27,10 @@
 //! ([`laws::handles_cross`]); and pointers to as much as their lengths say, which do not overlap.
 #![tactic(auto)]
 
-ghost use Rattle.std.specs.Prelude.{◌≡◌, pos, [], ◌∷◌, ◌++◌, length, None, Some};
+ghost use Rattle.std.specs.Prelude.{◌≡◌, None, Some};
 ghost use Rattle.warm_c.specs.Calls.{Absorbs, CountsPages, Lists, Loads, Names, Pins, Raises};
-ghost use Rattle.warm_c.specs.Calls.{ReadsPage, Saves, SaysResident, SendsFromBucket, StepsWarmUp};
-ghost use Rattle.warm_c.specs.Calls.{Unpins, Writes, WritesBack};
+ghost use Rattle.warm_c.specs.Calls.{ReadsPage, Saves, SaysResident, StepsWarmUp, Unpins, Writes};
+ghost use Rattle.warm_c.specs.Calls.{WritesBack};
 ghost use Rattle.warm_c.specs.Counting.{CountsDevice, CountsPool, SaysFailure};
 ghost use Rattle.warm_c.specs.Devices.{Replaces};
 ghost use Rattle.warm_c.specs.Engine.{FlushesDevice, ForgetsPages, PinsZeroed, WritesSome};
@@ -38,9 +38,8 @@ ghost use Rattle.warm_c.specs.Filling.{NamesNext, PinsFilled};
 ghost use Rattle.warm_c.specs.Handles.{Called, Opens, Surely, open_request};
 ghost use Rattle.warm_c.specs.Lending.{Lends, LendsMut};
 ghost use Rattle.warm_c.specs.Since.{SendsSince, send_buffers};
-ghost use Rattle.warm_c.specs.StatusNames.{status_name};
 ghost use Rattle.warm_c.specs.Statuses.{status_of};
-ghost use Rattle.warm_c.specs.Values.{page_if, with_some};
+ghost use Rattle.warm_c.specs.Values.{page_if};
 
 mod called;
 mod count_calls;
@@ -75,7 +74,7 @@ use crate::descriptor::Descriptor;
 use crate::handle::Handle;
 use crate::open_node::OpenNode;
 use crate::opening::open;
-use crate::status::{Refusal, name_of_status, put_text, status_of};
+use crate::status::{Refusal, status_of};
 use crate::values::{
     PinnedSlot, WarmDevice, WarmPage, WarmReference, WarmSlot, c_bool, page_if, put_page,
 };
@@ -449,36 +448,6 @@ pub extern "C" fn node_next(
     }
 }
 
-/// Writes the frame with the first 1000 entries of a bucket, or, where `has_after`, of its entries
-/// whose page is greater than `after`; and its length.
-///
-/// # Errors
-/// The buffer is unchanged.
-/// - 68: the bucket's number is not valid.
-/// - 1: an allocation failed.
-/// - 66: the frame does not fit; its length is written.
-#[unsafe(no_mangle)]
-pub extern "C" fn node_send(
-    alloc: Global,
-    handle: &mut Handle,
-    bucket: u8,
-    has_after: bool,
-    after: WarmPage,
-    frame: &mut [u8],
-    len: &mut usize,
-) -> i32
-    ensures called { Called
-        (SendsFromBucket bucket (page_if has_after after) frame.old len.old frame.new len.new)
-        handle.old.held.node result handle.new.held.node }
-    ensures closed { handle.old.held.node ≡ None → (frame.new ≡ frame.old) × (len.new ≡ len.old) }
-{
-    let Some(mut node) = handle.take(alloc) else {
-        return closed();
-    };
-    let done = node.send(alloc, bucket, page_if(has_after, after), frame, len);
-    put_back(handle, node, done)
-}
-
 /// Writes the frame with the first 1000 entries of a bucket, of those whose latest stamp is not
 /// before the time `since`, and, where `has_after`, whose page is greater than `after`; its length;
 /// whether more of them follow, 1 or 0; and the page of the last one, after which to go on. `last`
@@ -728,19 +697,4 @@ pub extern "C" fn node_load(alloc: Global, handle: &mut Handle, fd: i32, length:
         handle,
         |node| node.load(alloc, Descriptor::new(fd), length),
     )
-}
-
-/// Writes the name of a status and a zero byte after it, as many bytes of both as there is room
-/// for, and the length of the name without the zero byte. Returns 0. The name of what is no status
-/// is `Unknown`.
-#[unsafe(no_mangle)]
-pub extern "C" fn node_status_name(status: i32, name: &mut [u8], len: &mut usize) -> i32
-    ensures text { name.new ≡ with_some (status_name status ++ 0 ∷ []) name.old }
-    ensures size { len.new ≡ length (status_name status) }
-    ensures answer { result ≡ pos 0 }
-{
-    let text = name_of_status(status).as_bytes();
-    *len = text.len();
-    put_text(text, name);
-    0
 }

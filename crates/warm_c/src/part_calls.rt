@@ -3,16 +3,16 @@ ghost use Rattle.std.specs.Prelude.{◌≡◌, IfOk};
 ghost use Rattle.warm_frames.specs.Entries.{FitsInFrame};
 ghost use Rattle.warm_frames.specs.Limits.{entries_in};
 ghost use Rattle.warm_shards.specs.Shards.{IsShardCount};
-ghost use Rattle.warm_c.specs.PartCalls.{AbsorbsPart, Gathers, GivesDigests};
+ghost use Rattle.warm_c.specs.PartCalls.{Gathers, GivesDigests};
 ghost use Rattle.warm_c.specs.PartCalls.{PinsAndLends, ReceivesPart, gathered};
 ghost use Rattle.warm_c.specs.Parts.{part_of_entries, part_of_message, sender_in};
 
 use crate::frame_parts::NodeTable;
 use crate::lending::address_of;
 use crate::open_node::OpenNode;
-use crate::shard_parts::{check_part, part_of_batch, part_of_entries};
+use crate::shard_parts::{check_part, part_of_entries};
 use crate::status::Refusal;
-use crate::values::{PinnedSlot, WarmPage, WarmReference};
+use crate::values::{PinnedSlot, WarmPage};
 use std::alloc::{AllocError, Global};
 use warm_frames::{EntryList, Message, decode};
 use warm_history::Entry;
@@ -68,28 +68,6 @@ fn part_of_message(
 }
 
 impl OpenNode {
-    /// Calls [`warm_gossip::Node::absorb`] with the references to pages of the shard.
-    ///
-    /// # Errors
-    /// In this order. Nothing has changed.
-    /// - `BadShards`, `NoShard`: there cannot be this many shards, or there is none of this number.
-    /// - `BadReplica`: one of all references has a replica's number that is not valid.
-    /// - `Node`: the node's own.
-    pub fn absorb_part(
-        &mut self,
-        alloc: Global,
-        shards: usize,
-        shard: usize,
-        batch: &[WarmReference],
-    ) -> Result<(), Refusal>
-        ensures { AbsorbsPart shards shard batch.now self.old result self.new }
-    {
-        check_part(shards, shard)?;
-        let part = part_of_batch(alloc, batch, shards, shard)?;
-        self.node.absorb(&part)?;
-        Ok(())
-    }
-
     /// Calls [`warm_gossip::Node::pin`], and writes the slot and the address of the page's bytes,
     /// which stay there as [`OpenNode::lend`] says.
     ///

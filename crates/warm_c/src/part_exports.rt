@@ -1,78 +1,22 @@
 //! The functions that C calls for one shard of many. `c/nodes.h` has their prototypes.
 ghost use Rattle.std.specs.Prelude.{◌≡◌, None};
 ghost use Rattle.warm_frames.specs.declared.message.Message.TheVariants.{Digest, Want};
-ghost use Rattle.warm_shards.specs.Shards.{IsShardCount};
 ghost use Rattle.warm_c.specs.Devices.{SaysMayStand};
 ghost use Rattle.warm_c.specs.Engine.{SaysMayForget};
 ghost use Rattle.warm_c.specs.FrameParts.{FindsDiffering, MakesFrame, ReadsFrame};
 ghost use Rattle.warm_c.specs.Handles.{Called};
-ghost use Rattle.warm_c.specs.PartCalls.{AbsorbsPart, CalledWith, Gathers, GivesDigests};
+ghost use Rattle.warm_c.specs.PartCalls.{CalledWith, Gathers, GivesDigests};
 ghost use Rattle.warm_c.specs.PartCalls.{PinsAndLends, ReceivesPart, gathered};
-ghost use Rattle.warm_c.specs.Parts.{Divides, Ends, HasBits, batch_pages, shards_of};
+ghost use Rattle.warm_c.specs.Parts.{Ends};
 
 use crate::called::{closed, put_back};
 use crate::frame_parts::{
     NodeFrame, NodeTable, find_differing, offer_frame, read_frame, want_frame,
 };
 use crate::handle::Handle;
-use crate::shard_parts::{divide, shards_of_batch};
 use crate::status::status_of;
-use crate::values::{PinnedSlot, WarmDevice, WarmPage, WarmReference};
+use crate::values::{PinnedSlot, WarmDevice, WarmPage};
 use std::alloc::Global;
-use warm_shards::is_shard_count;
-
-/// Divides frames evenly among shards, and writes how many each has.
-///
-/// # Errors
-/// In this order; `each` is unchanged.
-/// - 72: there cannot be this many shards.
-/// - 73: the frames cannot be divided evenly.
-#[unsafe(no_mangle)]
-pub extern "C" fn node_divide(frames: usize, shards: usize, each: &mut usize) -> i32
-    ensures { Ends (Divides frames shards each.old each.new) result }
-{
-    status_of(divide(frames, shards, each))
-}
-
-/// Returns which shards have a page to which there is a reference in the batch, bit i for shard i;
-/// 0 where there cannot be this many shards.
-#[unsafe(no_mangle)]
-pub extern "C" fn node_shards_of(shards: usize, references: &[WarmReference]) -> u64
-    ensures bits { IsShardCount shards
-        → HasBits (shards_of shards (batch_pages references.now)) result }
-    ensures none { (IsShardCount shards → ⊥) → result ≡ 0 }
-{
-    if !is_shard_count(shards) {
-        return 0;
-    }
-    shards_of_batch(shards, references)
-}
-
-/// Adds those references to the history that are to pages of the shard, all or none.
-///
-/// # Errors
-/// In this order; nothing has changed.
-/// - 72: there cannot be this many shards.
-/// - 76: there is no shard of this number.
-/// - 67: one of all references has a replica's number that is not valid.
-/// - 1: an allocation failed.
-#[unsafe(no_mangle)]
-pub extern "C" fn node_absorb_part(
-    alloc: Global,
-    handle: &mut Handle,
-    shards: usize,
-    shard: usize,
-    references: &[WarmReference],
-) -> i32
-    ensures { Called (AbsorbsPart shards shard references.now) handle.old.held.node result
-        handle.new.held.node }
-{
-    let Some(mut node) = handle.take(alloc) else {
-        return closed();
-    };
-    let done = node.absorb_part(alloc, shards, shard, references);
-    put_back(handle, node, done)
-}
 
 /// Pins a page as [`crate::node_pin`] does, and writes the address of its bytes, to be read.
 ///

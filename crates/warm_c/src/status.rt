@@ -1,17 +1,16 @@
-//! Why a call is refused, as a number and by name.
-ghost use Rattle.std.specs.Prelude.{◌≡◌, [], ◌∷◌, ◌++◌};
+//! Why a call is refused, as a number.
+ghost use Rattle.std.specs.Prelude.{◌≡◌};
 ghost use Rattle.warm_c.specs.Statuses.{code_of, dump_code_of, frame_code_of, late_code_of};
-ghost use Rattle.warm_c.specs.Statuses.{name_of, status_of};
-ghost use Rattle.warm_c.specs.StatusNames.{name_in, status_name, NamesRefusals};
-ghost use Rattle.warm_c.specs.Values.{with_some};
+ghost use Rattle.warm_c.specs.Statuses.{status_of};
 
 use std::alloc::AllocError;
 use warm_dump::DumpFault;
 use warm_frames::{FrameFault, TimeFault};
 use warm_gossip::NodeFault;
-use warm_pool::{NewPoolFault, PoolFault};
+use warm_pool::NewPoolFault;
 
-/// Why a call is refused. Each has a number, which is its status, and a name.
+/// Why a call is refused. Each has a number, which is its status. 73 to 75, and those from 83 on,
+/// are refusals of c/ alone.
 #[derive(Clone, Copy)]
 pub enum Refusal {
     /// 1, or 4 to 13: why the node refuses; 1 is an allocation failure, wherever it comes.
@@ -37,12 +36,6 @@ pub enum Refusal {
     Late(TimeFault),
     /// 72: the number of shards is no power of two, or it is more than 64.
     BadShards,
-    /// 73: the frames cannot be divided evenly among the shards.
-    UnevenFrames,
-    /// 74: other handles are attached to the replica.
-    Attached,
-    /// 75: the handle has pins.
-    PinsLeft,
     /// 76: there is no shard of this number.
     NoShard,
     /// 1, 35 to 42, or 77 to 82: why a dump is not written or not read. The fault of a frame in it
@@ -128,36 +121,8 @@ impl Refusal {
             Refusal::SameFile => 69,
             Refusal::Late(fault) => late_code(fault),
             Refusal::BadShards => 72,
-            Refusal::UnevenFrames => 73,
-            Refusal::Attached => 74,
-            Refusal::PinsLeft => 75,
             Refusal::NoShard => 76,
             Refusal::Dump(fault) => dump_code(fault),
-        }
-    }
-
-    /// Returns its name, as the variant is written; that of a fault of another crate is the fault's
-    /// own.
-    pub fn name(self) -> &'static str
-        ensures { result.now ≡ name_of self }
-    {
-        match self {
-            Refusal::Node(fault) => fault.name(),
-            Refusal::NewPool(fault) => fault.name(),
-            Refusal::Frame(fault) => fault.name(),
-            Refusal::Closed => "Closed",
-            Refusal::AlreadyOpen => "AlreadyOpen",
-            Refusal::BufferTooSmall => "BufferTooSmall",
-            Refusal::BadReplica => "BadReplica",
-            Refusal::BadBucket => "BadBucket",
-            Refusal::SameFile => "SameFile",
-            Refusal::Late(fault) => fault.name(),
-            Refusal::BadShards => "BadShards",
-            Refusal::UnevenFrames => "UnevenFrames",
-            Refusal::Attached => "Attached",
-            Refusal::PinsLeft => "PinsLeft",
-            Refusal::NoShard => "NoShard",
-            Refusal::Dump(fault) => fault.name(),
         }
     }
 }
@@ -197,93 +162,4 @@ pub fn status_of(done: Result<(), Refusal>) -> i32
         Ok(()) => 0,
         Err(why) => i32::from(why.code()),
     }
-}
-
-// One refusal of each number, for the name of a number.
-static REFUSALS: [Refusal; 41] = [
-    Refusal::Node(NodeFault::Memory),
-    Refusal::NewPool(NewPoolFault::BadFrames),
-    Refusal::NewPool(NewPoolFault::SizeDiffers),
-    Refusal::Node(NodeFault::Pool(PoolFault::NoDevice)),
-    Refusal::Node(NodeFault::Pool(PoolFault::NoPage)),
-    Refusal::Node(NodeFault::Pool(PoolFault::AllFixed)),
-    Refusal::Node(NodeFault::Pool(PoolFault::ReadFault)),
-    Refusal::Node(NodeFault::Pool(PoolFault::WriteBack)),
-    Refusal::Node(NodeFault::Pool(PoolFault::FixesFull)),
-    Refusal::Node(NodeFault::Pool(PoolFault::OutOfPage)),
-    Refusal::Node(NodeFault::Pool(PoolFault::Fixed)),
-    Refusal::Node(NodeFault::Pool(PoolFault::Fault)),
-    Refusal::Node(NodeFault::StaleSlot),
-    Refusal::Frame(FrameFault::Truncated),
-    Refusal::Frame(FrameFault::BadMagic),
-    Refusal::Frame(FrameFault::BadKind),
-    Refusal::Frame(FrameFault::BadSender),
-    Refusal::Frame(FrameFault::BadLength),
-    Refusal::Frame(FrameFault::BadCount),
-    Refusal::Frame(FrameFault::BadTag),
-    Refusal::Frame(FrameFault::BadStamp),
-    Refusal::Frame(FrameFault::BadOrder),
-    Refusal::Closed,
-    Refusal::AlreadyOpen,
-    Refusal::BufferTooSmall,
-    Refusal::BadReplica,
-    Refusal::BadBucket,
-    Refusal::SameFile,
-    Refusal::Late(TimeFault::LateHorizon),
-    Refusal::Late(TimeFault::LateStamp),
-    Refusal::BadShards,
-    Refusal::UnevenFrames,
-    Refusal::Attached,
-    Refusal::PinsLeft,
-    Refusal::NoShard,
-    Refusal::Dump(DumpFault::CutShort),
-    Refusal::Dump(DumpFault::DigestsDiffer),
-    Refusal::Dump(DumpFault::HorizonsDiffer),
-    Refusal::Dump(DumpFault::MoreFollows),
-    Refusal::Dump(DumpFault::ReadFault),
-    Refusal::Dump(DumpFault::WriteFault),
-];
-
-// Returns the name of the first of these refusals that has the number, or `Unknown`.
-fn name_in(refusals: &[Refusal], number: u32) -> &'static str
-    ensures { result.now ≡ name_in refusals.now number }
-{
-    for refusal in refusals {
-        if u32::from(refusal.code()) == number {
-            return refusal.name();
-        }
-    }
-    "Unknown"
-}
-
-/// Returns the name of a status: `Ok`, that of its refusal, or `Unknown` for what is no status.
-pub fn name_of_status(status: i32) -> &'static str
-    ensures { result.now ≡ status_name status }
-{
-    if status < 0 {
-        return "Unknown";
-    }
-    if status == 0 {
-        return "Ok";
-    }
-    name_in(&REFUSALS, status as u32)
-}
-
-/// A theorem: the name of a refusal's status is its own, as its crate spells it. `Failed` has none:
-/// no whole frame has that fault, so 43 is no status.
-pub fn statuses_name_refusals()
-    ensures { NamesRefusals }
-{}
-
-/// Puts a text at the start of a buffer, and a zero byte after it, as far as there is room.
-pub fn put_text(text: &[u8], into: &mut [u8])
-    ensures { into.new ≡ with_some (text.now ++ 0 ∷ []) into.old }
-{
-    if text.len() >= into.len() {
-        let room = into.len();
-        into.copy_from_slice(&text[..room]);
-        return;
-    }
-    into[..text.len()].copy_from_slice(text);
-    into[text.len()] = 0;
 }

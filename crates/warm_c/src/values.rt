@@ -1,6 +1,6 @@
 //! What crosses to C, beside numbers, bytes and a handle.
 ghost use Rattle.std.specs.Prelude.{◌≡◌, IsTrue};
-ghost use Rattle.warm_c.specs.Values.{c_page, c_slot, page_if, page_of_c, reference_of, slot_of_c};
+ghost use Rattle.warm_c.specs.Values.{c_page, c_slot, page_if, page_of_c, slot_of_c};
 ghost use Rattle.warm_c.specs.Values.{IsBool, IsOptionalPage};
 
 use warm_pool::Slot;
@@ -82,18 +82,6 @@ impl WarmPage {
     /// Returns the page as the node has it.
     pub fn page(self) -> PageId
         ensures { result ≡ page_of_c self }
-    {
-        PageId {
-            dev: self.dev,
-            no: self.no,
-        }
-    }
-}
-
-impl WarmReference {
-    /// Returns the page as the node has it.
-    pub fn page(self) -> PageId
-        ensures { result ≡ (reference_of self).page }
     {
         PageId {
             dev: self.dev,
