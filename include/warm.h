@@ -285,6 +285,9 @@ int warm_victims(warm *handle, size_t shard, warm_page *pages, size_t room, size
    WARM_READ_FAULT, WARM_EVICT_FAULT. */
 int warm_step(warm *handle, bool *found, warm_page *page);
 
+/* Loads a page without a pin. Refused as warm_pin, where it is in no frame. */
+int warm_prefetch(warm *handle, warm_page page);
+
 /* ---- write-back: but for warm_replace, these calls allocate nothing ---- */
 
 /* Writes all dirty pages, and then flushes each device that waits for it, once, with no shard
