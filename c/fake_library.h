@@ -1,5 +1,5 @@
 /*
- * fake_library.h: the C side of the library in the test's own program, for shards_test.c, syncs_test.c and holds_test.c: in place of the proved
+ * fake_library.h: the C side of the library in the test's own program, for shards_test.c, syncs_test.c, reads_test.c and holds_test.c: in place of the proved
  * part it has fake_nodes.h, and the calls of the system are those of fake_system.h.
  */
 #ifndef FAKE_LIBRARY_H

@@ -635,7 +635,7 @@ static void test_threads(void) {
 }
 
 int main(void) {
-    alarm(300);
+    alarm(120);
     test_together();
     test_waiting();
     test_waiting_for_one();

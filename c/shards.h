@@ -4,7 +4,7 @@
  *
  * A replica has one node of the proved part for each shard, and a lock for each. Whoever is in a shard, between enter and leave, has its node to
  * itself: by its lock, or since no other handle is open. No call is in two shards at once but those that are in all, which enter them in
- * their order. A pin of a page that has a record, and its unpin, are in no shard: holds.h.
+ * their order. A pin of a page that has a record, and its unpin, are in no shard (holds.h), and so is who reads a page (reads.h).
  */
 #ifndef SHARDS_H
 #define SHARDS_H
