@@ -13,7 +13,8 @@
  * change the file. Who forgets or replaces waits, in no shard, until the old reads are over.
  *
  * An entry of the list is on the stack of the call that reads. A handle that is alone meets no other
- * one here, and takes no lock. A read that fails is of its own call: whoever waited tries again.
+ * one here, and takes no lock: so the last close meets none. A read that fails is of its own call:
+ * whoever waited tries again.
  */
 #ifndef READS_H
 #define READS_H

@@ -72,14 +72,14 @@ static void not_over(int number) {
 
 /* The next read of this page waits, once it has its byte; how many reads have begun so, and may end. */
 static atomic_long stops_at = -1;
-static atomic_int begun, may_end;
+static atomic_int begun, may_end, ends_first = -1; /* the one of these numbers, from 0, that may end before those before it */
 
 static void stop(int fd, off_t at) {
     long this = at;
     (void)fd;
     if (!atomic_compare_exchange_strong(&stops_at, &this, -1)) return;
     int own = ++begun;
-    while (atomic_load(&may_end) < own) sched_yield();
+    while (atomic_load(&may_end) < own && atomic_load(&ends_first) != own - 1) sched_yield();
 }
 
 static void until_begun(int count) {
@@ -195,7 +195,7 @@ static void test_waiting_for_one(void) {
     begin(2, PINS, page_at(5));
     begin(3, PINS, page_at(6));
     until_waiting(2);
-    may_end = 1; /* whichever of the two that is in the list first */
+    may_end = 1;
     MUST(end(0) == WARM_OK && end(2) == WARM_OK && callers[2].slot.hit == 1);
     not_over(1);
     not_over(3);
@@ -274,8 +274,6 @@ static void test_forgetting(void) {
         stops_at = 5;
         begin(0, PINS, page_at(5));
         until_begun(1);
-        OK(warm_forget_pages(&first, 0, 6));
-        OK(warm_forget_pages(&first, 1, 0));
         begin(1, FORGETS, page_at(5));
         until_waiting(1);
         in_files[10][5] = 'n';
@@ -289,6 +287,8 @@ static void test_forgetting(void) {
         stops_at = 6;
         begin(1, PINS, page_at(6));
         until_begun(2);
+        OK(warm_forget_pages(&first, 0, 7));
+        OK(warm_forget_pages(&first, 1, 0));
         begin(2, FORGETS, page_at(5)); /* which is pinned, so that all stays as it is */
         MUST(end(2) == WARM_PINNED);
         may_end = 2;
@@ -297,6 +297,30 @@ static void test_forgetting(void) {
         unpin(1);
         close_all();
     }
+}
+
+/* So are all of them, and who forgets waits for each, in whichever order they end. */
+static void forgetting_all(int last) {
+    open_all(1, 4);
+    for (int number = 0; number < 2; number++) {
+        in_files[10][5 + number] = 'o';
+        stops_at = 5 + number;
+        begin(number, PINS, page_at(5 + (uint64_t)number));
+        until_begun(number + 1);
+    }
+    begin(2, FORGETS, page_at(5));
+    until_waiting(1);
+    in_files[10][5] = in_files[10][6] = 'n';
+    ends_first = 1 - last;
+    MUST(end(1 - last) == WARM_OK);
+    not_over(2);
+    ends_first = -1;
+    may_end = 2;
+    MUST(end(last) == WARM_OK && end(2) == WARM_OK && reads == 4);
+    MUST(read_from(&first, page_at(5)) == 'n' && read_from(&first, page_at(6)) == 'n');
+    unpin(0);
+    unpin(1);
+    close_all();
 }
 
 /* The old read of a page that was forgotten fails: that is of no account. */
@@ -644,6 +668,8 @@ int main(void) {
     failing_reads(true);
     test_no_file();
     test_forgetting();
+    forgetting_all(0);
+    forgetting_all(1);
     test_forgotten_failure();
     test_replacing();
     test_replacing_by_less();
