@@ -249,6 +249,18 @@ static void failing_reads(bool goes_on) {
     close_all();
 }
 
+/* The page that would have left has its record afterwards, and is pinned without a lock. */
+static void test_failure_leaves_records(void) {
+    open_all(1, 2);
+    pin_twice(&first, 0);
+    pin_twice(&first, 1);
+    unreadable = 5;
+    MUST(warm_prefetch(&callers[0].handle, page_at(5)) == WARM_READ_FAULT);
+    unreadable = INT64_MAX;
+    for (uint64_t no = 0; no < 2; no++) OK(warm_unpin(&first, hold_page(&first, no)));
+    close_all();
+}
+
 /* A device without a file. */
 static void test_no_file(void) {
     static const warm_device none[] = {{.pages = 9, .fd = -1}, {.pages = 9, .fd = -2}};
@@ -419,6 +431,33 @@ static void test_no_room(void) {
     OK(warm_unpin(&callers[1].handle, slots[1]));
     OK(warm_unpin(&first, slots[0]));
     close_all();
+}
+
+/* Before a page is read the node is asked which one would leave, but where frames are left that no pin and no hold can have. */
+static int questions;
+
+static void count_it(void) { questions++; }
+
+static void test_much_room(void) {
+    warm handle = {0}, second = {0};
+    warm_slot slot, slots[FAKE_FRAMES];
+    at_victim = count_it;
+    OK(open_with(&handle, 1, 1, FAKE_FRAMES, devices, FAKE_DEVICES));
+    OK(warm_attach(&handle, &second));
+    for (int round = 0; round < 2; round++) {
+        for (uint64_t no = 0; no < FAKE_FRAMES; no++) {
+            int before = questions, asked = no < FAKE_FRAMES - 2 * HOLDS ? 1 : 3;
+            slots[no] = pin(no % 2 == 0 ? &handle : &second, no + FAKE_FRAMES * (uint64_t)round);
+            MUST(slots[no].hit == 0 && questions - before == (round == 0 ? 0 : asked));
+        }
+        reads = 0;
+        MUST(warm_pin(&second, page_at(400), &slot) == WARM_ALL_PINNED && reads == 0);
+        for (int at = 0; at < FAKE_FRAMES; at++) OK(warm_unpin(at % 2 == 0 ? &handle : &second, slots[at]));
+    }
+    at_victim = NULL;
+    OK(warm_close(&second));
+    OK(warm_close(&handle));
+    nothing_left();
 }
 
 /* The last frame is taken while a page is read. */
@@ -666,6 +705,7 @@ int main(void) {
     test_zeroing();
     failing_reads(false);
     failing_reads(true);
+    test_failure_leaves_records();
     test_no_file();
     test_forgetting();
     forgetting_all(0);
@@ -675,6 +715,7 @@ int main(void) {
     test_replacing_by_less();
     test_not_replacing();
     test_no_room();
+    test_much_room();
     test_taken_frame();
     test_stuck_victims();
     test_prefetching();

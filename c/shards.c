@@ -153,11 +153,13 @@ static int pin_resident(opened *its, shard *in, load *it) {
 
 /* ---- pages that are read with no shard locked ---- */
 
-/* Whether a page may be put into a frame, as it seems before it is read. */
+/* Whether a page may be put into a frame, as it seems before it is read. There are not more pages
+ * with pins than pins, nor more that are held than there is room for. */
 static bool has_room(opened *its, shard *in) {
+    const table *of = &in->table;
     bool found = false;
     node_page page;
-    if (in->table.filled < in->table.frames) return true;
+    if (of->filled < of->frames || of->pinned + of->room < of->frames) return true;
     if (pass_over_held(its, in, false)) node_victim(&in->node, &found, &page);
     unpin_passed(in);
     return found;
@@ -172,7 +174,7 @@ static int may_read(opened *its, shard *in, node_page page) {
 }
 
 /* Reads a page that is in no frame, and that nobody reads, and pins it in the node; or READ_AGAIN. */
-static int pin_read(opened *its, shard *in, load *it) {
+__attribute__((noinline)) static int pin_read(opened *its, shard *in, load *it) {
     int status = may_read(its, in, it->page);
     if (status == WARM_OK) status = read_outside(its, in, it->page, it->is_locked);
     if (status != WARM_OK) return status;
@@ -221,6 +223,7 @@ static int pin_in_shard(opened *its, load *it, warm_slot *slot) {
     shard *in = shard_of(its, it->page);
     it->is_locked = enter(its, in);
     int status = pin_in_node_of(its, in, it);
+    if (status == WARM_OK) in->table.pinned++;
     leave(in, it->is_locked);
     if (status == WARM_OK) give_slot(its, in, it, slot);
     return status;
@@ -256,6 +259,7 @@ __attribute__((noinline)) static int unpin_in_shard(opened *its, warm_slot slot)
     shard *in = &its->shards[slot.shard];
     bool is_locked = enter(its, in);
     int status = node_unpin(&in->node, slot_in(slot));
+    if (status == WARM_OK) in->table.pinned--;
     leave(in, is_locked);
     if (status == WARM_OK) its->pins--;
     return status;
