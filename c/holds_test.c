@@ -213,7 +213,9 @@ static void test_counting(void) {
     OK(warm_close(&second));
     MUST(hits(&first) == before + 6);
     int there = blocks;
-    granted = 2; /* for the handle itself, and its buffer */
+    granted = 1; /* for the handle itself, but not for its buffer */
+    MUST(warm_attach(&first, &second) == WARM_MEMORY && second.at == NULL && blocks == there);
+    granted = 2;
     OK(warm_attach(&first, &second));
     granted = SIZE_MAX;
     MUST(((opened *)second.at)->holds == its && blocks == there + 2);

@@ -569,22 +569,22 @@ static void test_refused_steps(void) {
     open_all(1, 1);
     OK(warm_absorb(&first, &seen, 1));
     unreadable = 0;
-    callers[0].found = true;
+    callers[0].found = false;
     begin(0, STEPS, page_at(9));
-    MUST(end(0) == WARM_READ_FAULT && callers[0].found && callers[0].page.no == 9);
+    MUST(end(0) == WARM_READ_FAULT && !callers[0].found && callers[0].page.no == 9);
     unreadable = INT64_MAX;
     warm_slot slot = pin(&first, 7);
     begin(0, STEPS, page_at(9));
-    MUST(end(0) == WARM_ALL_PINNED && callers[0].found && callers[0].page.no == 9);
+    MUST(end(0) == WARM_ALL_PINNED && !callers[0].found && callers[0].page.no == 9);
     OK(warm_unpin(&first, slot));
     begin(0, STEPS, page_at(9));
     MUST(end(0) == WARM_OK && callers[0].found && callers[0].page.no == 1 && is_in(&first, 1));
     close_all();
 }
 
-/* A handle that is alone lets the node read, which need not copy the page. */
+/* A handle that is alone lets the node read, which need not copy the page. Which frames have a page is known after that, too. */
 static void test_alone(void) {
-    warm handle = {0};
+    warm handle = {0}, second = {0};
     warm_slot slot;
     files_keep = true;
     in_files[10][5] = 'p';
@@ -595,7 +595,15 @@ static void test_alone(void) {
     slot = hold_page(&handle, 5);
     OK(warm_unpin(&handle, pin(&handle, 6)));
     MUST(reads == 0);
+    OK(warm_forget_pages(&handle, 0, 6));
     OK(warm_unpin(&handle, slot));
+    pin_twice(&handle, 5);
+    OK(warm_attach(&handle, &second));
+    slot = hold_page(&second, 5);
+    OK(warm_unpin(&second, pin(&second, 6))); /* into the other frame */
+    MUST(reads == 1);
+    OK(warm_unpin(&second, slot));
+    OK(warm_close(&second));
     OK(warm_close(&handle));
     files_keep = false;
     nothing_left();
