@@ -1,8 +1,9 @@
 /*
  * fake_nodes.h: the functions of nodes.h in a few lines of C each, for tests, which have no proved part. A fake node has frames, each
- * with one byte in place of a page, and in place of a history how many references it took in. It writes pages and asks for syncs as the
- * proved part does in the end, by devices.h and sync_once.h. Where it reads a page, which it does for a handle that is alone, it takes the
- * byte that the file keeps (fake_system.h). Each call looks whether another call is in the node.
+ * with one byte in place of a page, and in place of a history how many references it took in. It
+ * writes pages and asks for syncs as the proved part does in the end, by devices.h and sync_once.h.
+ * Where it reads a page, which it does for a handle that is alone, it takes the byte that the file
+ * keeps (fake_system.h). Each call looks whether another call is in the node.
  */
 #ifndef FAKE_NODES_H
 #define FAKE_NODES_H
@@ -141,7 +142,8 @@ static int fake_pin(fake *its, node_page page, const uint8_t *given, node_slot *
     if (!frame->is_in || frame->page.no != page.no || frame->page.dev != page.dev) {
         if (given == NULL && (off_t)page.no >= unreadable) return fake_unread(its, page);
         if (frame->is_in && frame->is_dirty && !fake_write(its, frame)) return WARM_EVICT_FAULT;
-        uint8_t read = files_keep ? in_files[its->devices[page.dev].number][page.no] : 0, byte = given == NULL ? read : *given;
+        uint8_t read = files_keep ? in_files[its->devices[page.dev].number][page.no] : 0;
+        uint8_t byte = given == NULL ? read : *given;
         *frame = (fake_frame){.is_in = true, .page = page, .generation = frame->generation + 1, .byte = byte};
     }
     frame->pins++;

@@ -53,7 +53,8 @@ static ssize_t test_pwrite(int fd, const void *from, size_t length, off_t at) {
     return (ssize_t)length;
 }
 
-/* From which place on no byte can be read; what a test does while a byte is read; and how many reads there were. */
+/* From which place on no byte can be read; what a test does while a byte is read; and how many reads
+ * there were. */
 static _Atomic off_t unreadable = INT64_MAX;
 static void (*at_read)(int fd, off_t at);
 static atomic_int reads;

@@ -85,7 +85,7 @@ typedef struct table {
     uint64_t *seen;                /* the words of this shard that were seen, in any order */
     uint64_t *sorted; /* many of them also here, each at the place that its bits say or behind it */
     size_t seen_count, sorted_mask;
-    size_t frames, filled; /* frames, and those that have a page: while one has none, no page leaves */
+    size_t frames, filled; /* filled: those that have a page. While one has none, no page leaves */
     size_t pinned;         /* pins in the node that callers have */
     uint64_t pins;         /* that holds.c made in the node: no caller's hits */
     uint64_t loads;        /* pins in the node of pages that are loaded without a pin: no misses */

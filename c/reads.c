@@ -42,8 +42,8 @@ static void count_read(opened *its, uint16_t dev, int32_t number, bool is_read) 
 
 static int note_failed_read(opened *its, node_page page, int error) {
     its->has_failed = true;
-    its->failure = (node_failure){
-        .no = page.no, .dev = page.dev, .what = WARM_FAILED_READ, .error = error};
+    its->failure =
+        (node_failure){.no = page.no, .dev = page.dev, .what = WARM_FAILED_READ, .error = error};
     return WARM_READ_FAULT;
 }
 

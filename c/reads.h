@@ -4,17 +4,18 @@
  * Who is in a shard, and wants a page that is in no frame and that nobody reads, puts it into the
  * shard's list of reads, leaves the shard, reads the page into the buffer of the handle, enters the
  * shard again, takes the page from the list, and hands the bytes to the node, before the shard is
- * left again. Who wants a page that is in the list, be it to read it or to fill it with zeros, waits
- * until it is taken from there, and then looks again. So the bytes are those that the device has:
+ * left again. Who wants a page that is in the list, be it to read it or to fill it with zeros,
+ * waits until it is taken from there, and then looks again. So the bytes are those that the device
+ * has:
  *  - Nobody writes a page to its device while the list has it: it is in no frame.
  *  - It was written before that: the node writes a dirty page before it gives its frame to another
  *    one, and a page that is skipped, or whose write fails, keeps its frame.
- * A page that is forgotten meanwhile, or whose device is replaced, is read again: the caller may then
- * change the file. Who forgets or replaces waits, in no shard, until the old reads are over.
+ * A page that is forgotten meanwhile, or whose device is replaced, is read again: the caller may
+ * then change the file. Who forgets or replaces waits, in no shard, until the old reads are over.
  *
- * An entry of the list is on the stack of the call that reads. A handle that is alone meets no other
- * one here, and takes no lock: so the last close meets none. A read that fails is of its own call:
- * whoever waited tries again.
+ * An entry of the list is on the stack of the call that reads. A handle that is alone meets no
+ * other one here, and takes no lock: so the last close meets none. A read that fails is of its own
+ * call: whoever waited tries again.
  */
 #ifndef READS_H
 #define READS_H

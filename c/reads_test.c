@@ -1,8 +1,8 @@
 /*
- * Tests reads with no shard locked (reads.c, shards.c) over fake_library.h: who wants a page that is
- * being read waits for it, and for nothing else; what is forgotten or replaced meanwhile is read
- * again; and what is refused is refused before a page is read, where that is known. A test that hangs
- * is ended by an alarm.
+ * Tests reads with no shard locked (reads.c, shards.c) over fake_library.h: who wants a page that
+ * is being read waits for it, and for nothing else; what is forgotten or replaced meanwhile is read
+ * again; and what is refused is refused before a page is read, where that is known. A test that
+ * hangs is ended by an alarm.
  */
 #include "fake_library.h"
 
@@ -70,9 +70,11 @@ static void not_over(int number) {
 
 /* ---- reads that a test stops ---- */
 
-/* The next read of this page waits, once it has its byte; how many reads have begun so, and may end. */
+/* The next read of this page waits, once it has its byte; how many reads have begun so, and may
+ * end. */
 static atomic_long stops_at = -1;
-static atomic_int begun, may_end, ends_first = -1; /* the one of these numbers, from 0, that may end before those before it */
+static atomic_int begun, may_end;
+static atomic_int ends_first = -1; /* of these reads, from 0 on: one that may end before others */
 
 static void stop(int fd, off_t at) {
     long this = at;
@@ -142,7 +144,8 @@ static void meet(int fd, off_t at) {
 static void test_together(void) {
     open_all(1, MOST);
     at_read = meet;
-    for (int number = 0; number < MOST; number++) begin(number, number == 3 ? PREFETCHES : PINS, page_at((uint64_t)number));
+    for (int number = 0; number < MOST; number++)
+        begin(number, number == 3 ? PREFETCHES : PINS, page_at((uint64_t)number));
     for (int number = 0; number < MOST; number++) MUST(end(number) == WARM_OK);
     for (int number = 0; number < 3; number++) {
         MUST(callers[number].slot.hit == 0);
@@ -153,8 +156,9 @@ static void test_together(void) {
     close_all();
 }
 
-/* One reads a page, and others wait for it; what they want of other pages of the shard they get meanwhile. All have the page then, and it was read
- * once. A page of the same number of another device is another one. */
+/* One reads a page, and others wait for it; what they want of other pages of the shard they get
+ * meanwhile. All have the page then, and it was read once. A page of the same number of another
+ * device is another one. */
 static void test_waiting(void) {
     open_all(1, 4);
     in_files[10][5] = 'p';
@@ -174,9 +178,12 @@ static void test_waiting(void) {
     not_over(1);
     may_end = 2;
     for (int number = 0; number < MOST; number++) MUST(end(number) == WARM_OK);
-    MUST(reads == 4 && callers[0].slot.hit == 0 && callers[1].slot.hit == 1 && callers[3].slot.hit == 0);
-    MUST(callers[0].slot.index == callers[1].slot.index && callers[0].slot.index != callers[3].slot.index);
-    MUST(read_from(&first, page_at(5)) == 'p' && read_from(&first, (warm_page){.dev = 1, .no = 5}) == 'q' && reads == 4);
+    MUST(reads == 4 && callers[0].slot.hit == 0 && callers[1].slot.hit == 1 &&
+         callers[3].slot.hit == 0);
+    MUST(callers[0].slot.index == callers[1].slot.index &&
+         callers[0].slot.index != callers[3].slot.index);
+    MUST(read_from(&first, page_at(5)) == 'p' &&
+         read_from(&first, (warm_page){.dev = 1, .no = 5}) == 'q' && reads == 4);
     unpin(0);
     unpin(1);
     unpin(3);
@@ -205,7 +212,8 @@ static void test_waiting_for_one(void) {
     close_all();
 }
 
-/* A page that is filled with zeros while it is read is read before: or what was written to it could be lost. */
+/* A page that is filled with zeros while it is read is read before: or what was written to it could
+ * be lost. */
 static void test_zeroing(void) {
     open_all(1, 2);
     in_files[10][5] = 'p';
@@ -216,7 +224,8 @@ static void test_zeroing(void) {
     until_waiting(1);
     not_over(1);
     may_end = 1;
-    MUST(end(0) == WARM_OK && end(1) == WARM_OK && callers[1].slot.hit == 1 && callers[1].slot.generation == 1);
+    MUST(end(0) == WARM_OK && end(1) == WARM_OK && callers[1].slot.hit == 1 &&
+         callers[1].slot.generation == 1);
     unpin(0);
     unpin(1);
     close_all();
@@ -224,7 +233,8 @@ static void test_zeroing(void) {
 
 /* ---- reads that fail ---- */
 
-/* Who waited tries again: and may succeed, or fails by itself. Each read is counted, and each failure is that of its own handle. */
+/* Who waited tries again: and may succeed, or fails by itself. Each read is counted, and each
+ * failure is that of its own handle. */
 static void failing_reads(bool goes_on) {
     open_all(1, 2);
     stops_at = 5;
@@ -240,7 +250,8 @@ static void failing_reads(bool goes_on) {
     MUST(end(0) == WARM_READ_FAULT && end(1) == (goes_on ? WARM_READ_FAULT : WARM_OK));
     MUST(end(2) == callers[1].status && reads == (goes_on ? 3 : 2));
     unreadable = INT64_MAX;
-    for (int number = 0; number < MOST; number++) MUST(has_failure(&callers[number].handle) == (number < failed));
+    for (int number = 0; number < MOST; number++)
+        MUST(has_failure(&callers[number].handle) == (number < failed));
     must_have_failed(&callers[0].handle, 5, 0, WARM_FAILED_READ, ENXIO);
     MUST(callers[0].slot.generation == 77 && (callers[1].slot.generation == 77) == goes_on);
     has_counted(0, (uint64_t)reads, (uint64_t)failed);
@@ -277,8 +288,8 @@ static void test_no_file(void) {
 
 /* ---- what changes meanwhile ---- */
 
-/* A page that is forgotten while it is read is read again, as the file is then; one below is not. Who forgets waits for the old read alone: with no
- * shard locked. */
+/* A page that is forgotten while it is read is read again, as the file is then; one below is not.
+ * Who forgets waits for the old read alone: with no shard locked. */
 static void test_forgetting(void) {
     for (size_t shards = 1; shards <= 4; shards *= 4) {
         open_all(shards, 4 * shards);
@@ -346,19 +357,21 @@ static void test_forgotten_failure(void) {
     begin(1, FORGETS, page_at(0));
     until_waiting(1);
     may_end = 2;
-    MUST(end(1) == WARM_OK && end(0) == WARM_OK && is_in(&first, 5) && !has_failure(&callers[0].handle));
+    MUST(end(1) == WARM_OK && end(0) == WARM_OK && is_in(&first, 5) &&
+         !has_failure(&callers[0].handle));
     has_counted(0, 2, 1);
     close_all();
 }
 
-/* A device is replaced while a page of it is read: the new one is read. Who replaces it returns when the old one is asked for nothing more. */
+/* A device is replaced while a page of it is read: the new one is read. Who replaces it returns
+ * when the old one is asked for nothing more. */
 static void test_replacing(void) {
     for (size_t shards = 1; shards <= 4; shards *= 4) {
         open_all(shards, 4 * shards);
         in_files[10][5] = 'o';
         in_files[20][5] = 'n';
         stops_at = 5;
-    unreadable = 5;
+        unreadable = 5;
         begin(0, PINS, page_at(5));
         begin(1, PREFETCHES, page_at(200)); /* which the new one has not */
         until_begun(1);
@@ -371,7 +384,8 @@ static void test_replacing(void) {
         MUST(read_from(&first, page_at(2)) == 0);
         has_counted(0, 1, 0);
         may_end = 1;
-        MUST(end(1) == WARM_OK && end(0) == WARM_OK && read_from(&first, page_at(5)) == 'n' && !has_failure(&callers[0].handle));
+        MUST(end(1) == WARM_OK && end(0) == WARM_OK && read_from(&first, page_at(5)) == 'n' &&
+             !has_failure(&callers[0].handle));
         has_counted(0, 2, 0); /* none of them was of the old device */
         MUST(warm_prefetch(&first, page_at(200)) == WARM_NO_PAGE);
         unpin(0);
@@ -417,12 +431,14 @@ static void test_no_room(void) {
     warm_slot slot, slots[2];
     open_all(1, 2);
     MUST(warm_pin(&first, (warm_page){.dev = FAKE_DEVICES}, &slot) == WARM_NO_DEVICE);
-    MUST(warm_pin(&first, page_at(FAKE_PAGES), &slot) == WARM_NO_PAGE && warm_prefetch(&first, page_at(FAKE_PAGES)) == WARM_NO_PAGE && reads == 0);
+    MUST(warm_pin(&first, page_at(FAKE_PAGES), &slot) == WARM_NO_PAGE &&
+         warm_prefetch(&first, page_at(FAKE_PAGES)) == WARM_NO_PAGE && reads == 0);
     pin_twice(&first, 0);
     slots[0] = hold_page(&first, 0);
     slots[1] = pin(&first, 1);
     reads = 0;
-    MUST(warm_pin(&callers[0].handle, page_at(2), &slot) == WARM_ALL_PINNED && warm_prefetch(&first, page_at(2)) == WARM_ALL_PINNED);
+    MUST(warm_pin(&callers[0].handle, page_at(2), &slot) == WARM_ALL_PINNED &&
+         warm_prefetch(&first, page_at(2)) == WARM_ALL_PINNED);
     MUST(reads == 0);
     OK(warm_unpin(&first, slots[1]));
     OK(warm_forget_pages(&first, 0, 1));
@@ -433,7 +449,8 @@ static void test_no_room(void) {
     close_all();
 }
 
-/* Before a page is read the node is asked which one would leave, but where frames are left that no pin and no hold can have. */
+/* Before a page is read the node is asked which one would leave, but where frames are left that no
+ * pin and no hold can have. */
 static int questions;
 
 static void count_it(void) { questions++; }
@@ -452,7 +469,8 @@ static void test_much_room(void) {
         }
         reads = 0;
         MUST(warm_pin(&second, page_at(400), &slot) == WARM_ALL_PINNED && reads == 0);
-        for (int at = 0; at < FAKE_FRAMES; at++) OK(warm_unpin(at % 2 == 0 ? &handle : &second, slots[at]));
+        for (int at = 0; at < FAKE_FRAMES; at++)
+            OK(warm_unpin(at % 2 == 0 ? &handle : &second, slots[at]));
     }
     at_victim = NULL;
     OK(warm_close(&second));
@@ -487,7 +505,8 @@ static void test_stuck_victims(void) {
     is_stuck = is_below;
     stuck_below = 3;
     reads = 0;
-    MUST(read_from(&callers[0].handle, page_at(5)) == 'p' && reads == 1 && is_in(&first, 0) && !is_in(&first, 3));
+    MUST(read_from(&callers[0].handle, page_at(5)) == 'p' && reads == 1 && is_in(&first, 0) &&
+         !is_in(&first, 3));
     must_have_failed(&callers[0].handle, 0, 0, WARM_FAILED_WRITE, EIO);
     OK(warm_forget_pages(&first, 0, 5));
     write_to(&first, page_at(3), 'd');
@@ -507,13 +526,15 @@ static uint64_t misses(void) {
     return counters.misses;
 }
 
-/* They take no memory and are no misses; nor is a page read that is in a frame. Who is alone reads so, too, and takes no lock. */
+/* They take no memory and are no misses, of which a fake node counts none; nor is a page read that
+ * is in a frame. Who is alone reads so, too, and takes no lock. */
 static void test_prefetching(void) {
     warm handle = {0};
     MUST(warm_prefetch(&handle, page_at(0)) == WARM_CLOSED);
     open_all(1, 2);
     for (int is_alone = 0; is_alone < 2; is_alone++) {
-        for (int number = 0; is_alone && number < MOST; number++) OK(warm_close(&callers[number].handle));
+        for (int number = 0; is_alone && number < MOST; number++)
+            OK(warm_close(&callers[number].handle));
         uint64_t before = misses();
         taken = 0;
         reads = 0;
@@ -523,7 +544,7 @@ static void test_prefetching(void) {
             for (int time = 0; time < 2; time++) OK(warm_prefetch(&first, page_at(no)));
         }
         granted = SIZE_MAX;
-        MUST(reads == 3 && taken == (is_alone ? 0 : 3 * 2 + 3) && misses() == before - 3); /* a fake node counts none */
+        MUST(reads == 3 && taken == (is_alone ? 0 : 3 * 2 + 3) && misses() == before - 3);
         MUST(!is_in(&first, 4) && is_in(&first, 5) && is_in(&first, 6));
         no_pins(&first);
         warm_slot slot = pin(&first, 6);
@@ -555,7 +576,8 @@ static void test_steps(void) {
     not_over(1);
     may_end = 1;
     for (int number = 0; number < 3; number++) MUST(end(number) == WARM_OK);
-    MUST(callers[0].found && callers[0].page.no == 2 && callers[1].found && callers[1].page.no == 1);
+    MUST(
+        callers[0].found && callers[0].page.no == 2 && callers[1].found && callers[1].page.no == 1);
     MUST(callers[2].slot.hit == 1 && reads == 2 && misses() == before - 2);
     unpin(2);
     begin(0, STEPS, page_at(9));
@@ -582,7 +604,8 @@ static void test_refused_steps(void) {
     close_all();
 }
 
-/* A handle that is alone lets the node read, which need not copy the page. Which frames have a page is known after that, too. */
+/* A handle that is alone lets the node read, which need not copy the page. Which frames have a page
+ * is known after that, too. */
 static void test_alone(void) {
     warm handle = {0}, second = {0};
     warm_slot slot;
@@ -613,7 +636,8 @@ static void test_alone(void) {
 
 enum { THREADS = 6, ROUNDS = 4000, PAGES = 10 };
 
-/* Bytes of pages of the first device, each under its lock; those of the second one do not change. */
+/* Bytes of pages of the first device, each under its lock; those of the second one do not change.
+ */
 static uint8_t model[PAGES];
 static pthread_mutex_t page_locks[PAGES];
 
@@ -667,7 +691,8 @@ static void *work(void *of) {
         int status = WARM_OK;
         if (what < 16) use_page(handle, no, what < 8);
         else if (what < 26) look_at_other(handle, no);
-        else if (what < 28) status = warm_prefetch(handle, (warm_page){.dev = (uint16_t)(what % 2), .no = no});
+        else if (what < 28)
+            status = warm_prefetch(handle, (warm_page){.dev = (uint16_t)(what % 2), .no = no});
         else if (what < 30) status = warm_forget_pages(handle, 1, no);
         else if (what < 31) status = warm_replace(handle, 1, &devices[1]);
         else OK(warm_write_back_all(handle));

@@ -75,13 +75,13 @@ static inline bool unpin_by_hold(opened *its, warm_slot slot) {
     return false;
 }
 
-/* A page that is to be in a frame, and a pin of it. Its bytes are read by the node, zeros, or in the
- * handle's buffer. */
+/* A page that is to be in a frame, and a pin of it. Its bytes are read by the node, or zeros, or in
+ * the handle's buffer. */
 typedef struct load {
     enum { LOAD_PINS, LOAD_PINS_ZEROED, LOAD_PINS_FILLED } kind;
     node_page page;
     bool is_locked;       /* the shard, since there are other handles */
-    bool is_alone;        /* nobody holds a page of the shard, and what left is known after the call */
+    bool is_alone;        /* nobody holds a page of the shard; what left is known after the call */
     bool is_hit;          /* whether the page was in a frame before */
     node_slot slot;       /* of a pin that was made */
     const uint8_t *bytes; /* of such a pin, but of LOAD_PINS_ZEROED */
@@ -147,7 +147,8 @@ static int pin_alone(opened *its, shard *in, load *it) {
 
 static int pin_resident(opened *its, shard *in, load *it) {
     int status = ask_node(its, in, it);
-    if (status == WARM_OK && it->kind == LOAD_PINS) put_record(its, in, it->page, it->slot, it->bytes);
+    if (status == WARM_OK && it->kind == LOAD_PINS)
+        put_record(its, in, it->page, it->slot, it->bytes);
     return status;
 }
 
@@ -173,7 +174,8 @@ static int may_read(opened *its, shard *in, node_page page) {
     return has_room(its, in) ? WARM_OK : WARM_ALL_PINNED;
 }
 
-/* Reads a page that is in no frame, and that nobody reads, and pins it in the node; or READ_AGAIN. */
+/* Reads a page that is in no frame, and that nobody reads, and pins it in the node; or READ_AGAIN.
+ */
 __attribute__((noinline)) static int pin_read(opened *its, shard *in, load *it) {
     int status = may_read(its, in, it->page);
     if (status == WARM_OK) status = read_outside(its, in, it->page, it->is_locked);
@@ -201,7 +203,8 @@ static bool is_in_frame(shard *in, node_page page) {
 /* Pins a page in the node of a shard. Who is alone lets the node read it. */
 static int pin_in_node_of(opened *its, shard *in, load *it) {
     int status;
-    if (!it->is_locked && it->kind == LOAD_PINS && holds_none(its, in)) return pin_alone(its, in, it);
+    bool is_alone = !it->is_locked && it->kind == LOAD_PINS && holds_none(its, in);
+    if (is_alone) return pin_alone(its, in, it);
     do {
         it->is_hit = is_in_frame(in, it->page);
         if (it->is_hit) return pin_resident(its, in, it);

@@ -2,9 +2,11 @@
  * shards.h: what is behind a handle of include/warm.h, for c/opening.c (handles), c/shards.c (pages) and c/whole_calls.c (all else). Not
  * installed.
  *
- * A replica has one node of the proved part for each shard, and a lock for each. Whoever is in a shard, between enter and leave, has its node to
- * itself: by its lock, or since no other handle is open. No call is in two shards at once but those that are in all, which enter them in
- * their order. A pin of a page that has a record, and its unpin, are in no shard (holds.h), and so is who reads a page (reads.h).
+ * A replica has one node of the proved part for each shard, and a lock for each. Whoever is in a
+ * shard, between enter and leave, has its node to itself: by its lock, or since no other handle is
+ * open. No call is in two shards at once but those that are in all, which enter them in their
+ * order. A pin of a page that has a record, and its unpin, are in no shard (holds.h); nor is,
+ * meanwhile, who reads a page (reads.h).
  */
 #ifndef SHARDS_H
 #define SHARDS_H
@@ -25,10 +27,10 @@ typedef struct shard {
     _Alignas(LINE) table table;
 } shard;
 
-/* What is known of a device beside its number. Its counts have, beside those of the nodes, reads that
- * are made outside of the nodes, and which of them failed; flushes that were refused by what is
- * remembered of one before, and those that failed, of all that are made outside of the nodes. And
- * they have not the writes of pages that were passed over, which the nodes take for made. */
+/* What is known of a device beside its number. Its counts have, beside those of the nodes, reads
+ * that are made outside of the nodes, and which of them failed; flushes that were refused by what
+ * is remembered of one before, and those that failed, of all that are made outside of the nodes.
+ * And they have not the writes of pages that were passed over, which the nodes take for made. */
 typedef struct known_device {
     int synced_as; /* see devices.h; who is in a shard reads it, who is in all changes it */
     _Atomic uint64_t flushes, failures, passed, reads;
