@@ -228,6 +228,10 @@ static void test_zeroing(void) {
          callers[1].slot.generation == 1);
     unpin(0);
     unpin(1);
+    OK(warm_pin_zeroed(&first, page_at(6), &callers[2].slot)); /* which is not read */
+    OK(warm_unpin(&first, callers[2].slot));
+    in_files[10][6] = 'p';
+    MUST(read_from(&first, page_at(6)) == 0 && reads == 1);
     close_all();
 }
 
