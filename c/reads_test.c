@@ -428,6 +428,33 @@ static void test_not_replacing(void) {
     close_all();
 }
 
+/* Who reads has an open handle, so that the replica does not end. The others close: the read ends
+ * in a shard that was locked before, and that nobody else is in. */
+static void test_closing(void) {
+    open_all(1, 2);
+    stops_at = 5;
+    begin(0, PINS, page_at(5));
+    until_begun(1);
+    for (int number = 1; number < MOST; number++) OK(warm_close(&callers[number].handle));
+    MUST(warm_close(&first) == WARM_ATTACHED && warm_abandon(&first) == WARM_ATTACHED);
+    may_end = 1;
+    MUST(end(0) == WARM_OK);
+    unpin(0);
+    warm opener = first;
+    first = callers[0].handle;
+    callers[0].handle = opener;
+    stops_at = 6;
+    begin(0, PINS, page_at(6));
+    until_begun(2);
+    OK(warm_close(&first));
+    may_end = 2;
+    MUST(end(0) == WARM_OK);
+    unpin(0);
+    MUST(read_from(&callers[0].handle, page_at(6)) == 0 && reads == 2);
+    OK(warm_close(&callers[0].handle));
+    nothing_left();
+}
+
 /* ---- frames ---- */
 
 /* Where no frame is free no page is read; also where pages are held. */
@@ -472,6 +499,9 @@ static void test_much_room(void) {
             MUST(slots[no].hit == 0 && questions - before == (round == 0 ? 0 : asked));
         }
         reads = 0;
+        slot = (warm_slot){.generation = 99}; /* an unpin that is refused is none */
+        for (int at = 0; at < FAKE_FRAMES; at++)
+            MUST(warm_unpin(&second, slot) == WARM_STALE_SLOT);
         MUST(warm_pin(&second, page_at(400), &slot) == WARM_ALL_PINNED && reads == 0);
         for (int at = 0; at < FAKE_FRAMES; at++)
             OK(warm_unpin(at % 2 == 0 ? &handle : &second, slots[at]));
@@ -751,6 +781,7 @@ int main(void) {
     test_replacing();
     test_replacing_by_less();
     test_not_replacing();
+    test_closing();
     test_no_room();
     test_much_room();
     test_taken_frame();
