@@ -303,6 +303,7 @@ static void test_forgetting(void) {
         until_begun(1);
         begin(1, FORGETS, page_at(5));
         until_waiting(1);
+        OK(warm_forget_pages(&first, 1, 0)); /* of another device, which waits for nothing */
         in_files[10][5] = 'n';
         not_over(1);
         pin_twice(&first, 1);
@@ -475,6 +476,11 @@ static void test_no_room(void) {
     OK(warm_forget_pages(&first, 0, 1));
     slots[1] = pin(&callers[1].handle, 2); /* the frame is free that had a page */
     MUST(reads == 1 && slots[1].index == 1);
+    OK(warm_unpin(&callers[1].handle, slots[1]));
+    OK(warm_prefetch(&first, (warm_page){.dev = 1}));
+    OK(warm_replace(&first, 1, &in_place));
+    slots[1] = pin(&callers[1].handle, 3); /* so it is after this */
+    MUST(reads == 3 && slots[1].index == 1);
     OK(warm_unpin(&callers[1].handle, slots[1]));
     OK(warm_unpin(&first, slots[0]));
     close_all();
@@ -652,8 +658,8 @@ static void test_alone(void) {
     slot = hold_page(&handle, 5);
     OK(warm_unpin(&handle, pin(&handle, 6)));
     MUST(reads == 0);
-    OK(warm_forget_pages(&handle, 0, 6));
     OK(warm_unpin(&handle, slot));
+    OK(warm_forget_pages(&handle, 0, 0));
     pin_twice(&handle, 5);
     OK(warm_attach(&handle, &second));
     slot = hold_page(&second, 5);
