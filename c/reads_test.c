@@ -94,9 +94,7 @@ static void open_all(size_t shards, size_t frames) {
     files_keep = true;
     at_read = stop;
     stops_at = -1;
-    begun = 0;
-    may_end = 0;
-    reads = 0;
+    begun = may_end = reads = 0;
     OK(open_with(&first, 1, shards, frames, devices, FAKE_DEVICES));
     for (int number = 0; number < MOST; number++) OK(warm_attach(&first, &callers[number].handle));
 }
@@ -506,8 +504,7 @@ static void test_much_room(void) {
         }
         reads = 0;
         slot = (warm_slot){.generation = 99}; /* an unpin that is refused is none */
-        for (int at = 0; at < FAKE_FRAMES; at++)
-            MUST(warm_unpin(&second, slot) == WARM_STALE_SLOT);
+        for (int at = 0; at < FAKE_FRAMES; at++) MUST(warm_unpin(&second, slot) == WARM_STALE_SLOT);
         MUST(warm_pin(&second, page_at(400), &slot) == WARM_ALL_PINNED && reads == 0);
         for (int at = 0; at < FAKE_FRAMES; at++)
             OK(warm_unpin(at % 2 == 0 ? &handle : &second, slots[at]));
