@@ -1,5 +1,5 @@
 /*
- * fake_library.h: the C side of the library in the test's own program, for shards_test.c, syncs_test.c and holds_test.c: in place of the proved
+ * fake_library.h: the C side of the library in the test's own program, for shards_test.c, syncs_test.c, reads_test.c and holds_test.c: in place of the proved
  * part it has fake_nodes.h, and the calls of the system are those of fake_system.h.
  */
 #ifndef FAKE_LIBRARY_H
@@ -38,11 +38,16 @@ static void must(bool holds, const char *what, int line) {
 #define fsync test_fsync
 #define fcntl test_fcntl
 #define pwrite test_pwrite
+#define pread test_pread
+#define pthread_cond_init test_cond_init
+#define pthread_cond_destroy test_cond_destroy
 #include "sync_once.c"
 #include "devices.c"
 #include "fake_nodes.h"
 #define pthread_mutex_lock test_lock
 #define pthread_mutex_unlock test_unlock
+#define pthread_cond_wait test_cond_wait
+#include "reads.c"
 #include "holds.c"
 #include "shards.c"
 #include "opening.c"
@@ -51,6 +56,9 @@ static void must(bool holds, const char *what, int line) {
 #include "errors.c"
 #undef pthread_mutex_lock
 #undef pthread_mutex_unlock
+#undef pthread_cond_wait
+#undef pthread_cond_init
+#undef pthread_cond_destroy
 #undef malloc
 #undef realloc
 #undef free
@@ -59,6 +67,7 @@ static void must(bool holds, const char *what, int line) {
 #undef fsync
 #undef fcntl
 #undef pwrite
+#undef pread
 
 static const warm_device devices[] = {{.pages = FAKE_PAGES, .fd = 10}, {.pages = FAKE_PAGES, .fd = 11}, {.pages = FAKE_PAGES, .fd = 12},
     {.pages = FAKE_PAGES, .fd = 13}};

@@ -1,7 +1,9 @@
 /*
  * fake_nodes.h: the functions of nodes.h in a few lines of C each, for tests, which have no proved part. A fake node has frames, each
- * with one byte in place of a page, and in place of a history how many references it took in. It writes pages and asks for syncs as the
- * proved part does in the end, by devices.h and sync_once.h, and reads no page. Each call looks whether another call is in the node.
+ * with one byte in place of a page, and in place of a history how many references it took in. It
+ * writes pages and asks for syncs as the proved part does in the end, by devices.h and sync_once.h.
+ * Where it reads a page, which it does for a handle that is alone, it takes the byte that the file
+ * keeps (fake_system.h). Each call looks whether another call is in the node.
  */
 #ifndef FAKE_NODES_H
 #define FAKE_NODES_H
@@ -27,7 +29,7 @@ typedef struct fake_frame {
 
 typedef struct fake {
     atomic_int inside; /* how many calls are in it */
-    size_t frames, device_count, known;
+    size_t frames, device_count, known, named; /* named: the page that is said to be loaded next */
     node_device devices[FAKE_DEVICES];
     bool waits[FAKE_DEVICES], has_failed[FAKE_DEVICES];
     uint64_t horizon, writes;
@@ -117,9 +119,6 @@ static fake_frame *fake_frame_for(fake *its, node_page page) {
     return other;
 }
 
-/* Whether no page can be read from now on: where a test says so. */
-static bool reads_fail;
-
 static int fake_unread(fake *its, node_page page) {
     its->failed = (node_failure){.no = page.no, .dev = page.dev, .what = WARM_FAILED_READ, .error = EIO};
     return WARM_READ_FAULT;
@@ -128,14 +127,14 @@ static int fake_unread(fake *its, node_page page) {
 /* Where no byte is given, the page is read. */
 static int fake_pin(fake *its, node_page page, const uint8_t *given, node_slot *slot) {
     if (page.dev >= its->device_count) return WARM_NO_DEVICE;
-    if (page.no == FAKE_PAGES) return WARM_NO_PAGE;
-    if (given == NULL && page.no > FAKE_PAGES) return fake_unread(its, page);
+    if (page.no >= FAKE_PAGES) return WARM_NO_PAGE;
     fake_frame *frame = fake_frame_for(its, page);
     if (frame == NULL) return WARM_ALL_PINNED;
     if (!frame->is_in || frame->page.no != page.no || frame->page.dev != page.dev) {
-        if (given == NULL && reads_fail) return fake_unread(its, page);
+        if (given == NULL && (off_t)page.no >= unreadable) return fake_unread(its, page);
         if (frame->is_in && frame->is_dirty && !fake_write(its, frame)) return WARM_EVICT_FAULT;
-        uint8_t byte = given == NULL ? 0 : *given;
+        uint8_t read = files_keep ? in_files[its->devices[page.dev].number][page.no] : 0;
+        uint8_t byte = given == NULL ? read : *given;
         *frame = (fake_frame){.is_in = true, .page = page, .generation = frame->generation + 1, .byte = byte};
     }
     frame->pins++;
@@ -159,10 +158,16 @@ int node_pin(node *of, node_page page, node_slot *slot) {
 
 int node_pin_filled(node *of, node_page page, const uint8_t *bytes, size_t length, node_slot *slot) {
     fake *its = fake_in(of);
-    return fake_out(of, length != 1 ? WARM_BAD_PAGE_SIZE : fake_pin(its, page, bytes, slot));
+    int status = length != 1 ? WARM_BAD_PAGE_SIZE : fake_pin(its, page, bytes, slot);
+    if (status == WARM_OK && its->named != 0 && page.no == its->named) its->known--;
+    its->named = 0;
+    return fake_out(of, status);
 }
 
-int node_pin_zeroed(node *of, node_page page, node_slot *slot) { return node_pin(of, page, slot); }
+int node_pin_zeroed(node *of, node_page page, node_slot *slot) {
+    fake *its = fake_in(of);
+    return fake_out(of, pins_are_full ? WARM_PINS_FULL : fake_pin(its, page, (const uint8_t[1]){0}, slot));
+}
 
 int node_lend(node *of, node_slot slot, const uint8_t **bytes) {
     fake_frame *frame = fake_pinned(fake_in(of), slot);
@@ -229,20 +234,12 @@ int node_victim(node *of, bool *found, node_page *page) {
     return fake_out(of, WARM_OK);
 }
 
-/* One page for each reference that it knows, which are all read at once. */
-int node_step(node *of, bool *found, node_page *page) {
-    fake *its = fake_in(of);
-    if (!fake_memory()) return fake_out(of, WARM_MEMORY);
-    *found = its->known > 0;
-    if (*found) page->no = its->known--;
-    return fake_out(of, WARM_OK);
-}
-
+/* One page for each reference that it knows. It is loaded where it is pinned next. */
 int node_next(node *of, bool *found, node_page *page) {
     fake *its = fake_in(of);
     if (!fake_memory()) return fake_out(of, WARM_MEMORY);
     *found = its->known > 0;
-    if (*found) page->no = its->known;
+    if (*found) page->no = its->named = 1 + (its->known - 1) % (FAKE_PAGES - 1);
     return fake_out(of, WARM_OK);
 }
 
@@ -321,7 +318,8 @@ int node_replace(node *of, uint16_t dev, const node_device *device) {
 
 int node_counts(node *of, node_counters *counters) {
     fake *its = fake_in(of);
-    *counters = (node_counters){.hits = 1, .misses = 2, .evictions = 3, .written_back = its->writes, .resident = 4, .dirty = 5};
+    *counters = (node_counters){.hits = 1, .misses = 2, .evictions = 3, .written_back = its->writes, .dirty = 5};
+    for (size_t at = 0; at < its->frames; at++) counters->resident += its->at[at].is_in;
     return fake_out(of, WARM_OK);
 }
 

@@ -5,6 +5,7 @@
 #define FAKE_SYSTEM_H
 
 #include "fd_calls.h"
+#include "heap.h"
 #include "sync_once.h"
 
 #include <errno.h>
@@ -13,6 +14,7 @@
 #include <sched.h>
 #include <stdatomic.h>
 #include <stdlib.h>
+#include <string.h>
 
 /* How many more allocations and new locks succeed, whether those after the one that fails do, how many there are, and what a sync does. */
 static size_t granted = SIZE_MAX;
@@ -36,14 +38,39 @@ static int test_fcntl(int fd, int command) {
 
 static int put_error; /* the errno of writes; 0: they succeed */
 
+/* What is in the files, where a test says that they keep it; else they have zeros. */
+enum { FILES = 32, FILE_BYTES = 512 };
+static uint8_t in_files[FILES][FILE_BYTES];
+static bool files_keep;
+
 static ssize_t test_pwrite(int fd, const void *from, size_t length, off_t at) {
-    (void)from, (void)at;
     if (fd < 0 || put_error != 0) {
         errno = fd < 0 ? EBADF : put_error;
         return -1;
     }
+    if (files_keep) memcpy(&in_files[fd][at], from, length);
     put++;
     return (ssize_t)length;
+}
+
+/* From which place on no byte can be read; what a test does while a byte is read; and how many reads
+ * there were. */
+static _Atomic off_t unreadable = INT64_MAX;
+static void (*at_read)(int fd, off_t at);
+static atomic_int reads;
+
+static ssize_t test_pread(int fd, void *into, size_t length, off_t at) {
+    MUST(held == 0 && length == 1);
+    uint8_t byte = fd >= 0 && files_keep ? in_files[fd][at] : 0;
+    bool is_read = fd >= 0 && at < unreadable;
+    reads++;
+    if (at_read != NULL) at_read(fd, at);
+    if (!is_read) {
+        errno = fd < 0 ? EBADF : ENXIO;
+        return -1;
+    }
+    *(uint8_t *)into = byte;
+    return 1;
 }
 
 /* For how many descriptors identities are remembered. */
@@ -79,6 +106,14 @@ static void test_free(void *block) {
     free(block);
 }
 
+tried rattle_alloc(size_t n, size_t a) {
+    MUST(a == 1);
+    void *block = test_malloc(n);
+    return (tried){.ok = block != NULL, .p = block};
+}
+
+void rattle_dealloc(void *block) { test_free(block); }
+
 static int test_init(pthread_mutex_t *lock, const pthread_mutexattr_t *kind) {
     if (!is_granted()) return EAGAIN;
     locks_there++;
@@ -99,6 +134,29 @@ static int test_lock(pthread_mutex_t *lock) {
 static int test_unlock(pthread_mutex_t *lock) {
     held--;
     return pthread_mutex_unlock(lock);
+}
+
+static int test_cond_init(pthread_cond_t *made, const pthread_condattr_t *kind) {
+    if (!is_granted()) return EAGAIN;
+    locks_there++;
+    return pthread_cond_init(made, kind);
+}
+
+static int test_cond_destroy(pthread_cond_t *made) {
+    locks_there--;
+    return pthread_cond_destroy(made);
+}
+
+/* How many threads wait. */
+static atomic_int waiting_now;
+
+static int test_cond_wait(pthread_cond_t *of, pthread_mutex_t *lock) {
+    held--;
+    waiting_now++;
+    int status = pthread_cond_wait(of, lock);
+    waiting_now--;
+    held++;
+    return status;
 }
 
 static int test_fsync(int fd) {

@@ -1,6 +1,7 @@
 /*
  * heap.h: the memory that the proved part allocates, by three functions that the toolchain names.
- * They stand in the place of its own, which are malloc, realloc and free alone.
+ * They stand in the place of its own, which are malloc, realloc and free alone. The buffers of
+ * handles are of this memory, too.
  *
  * A block for bytes (of alignment 1) that has 1 to 16 whole units of 4,096 bytes begins at a
  * multiple of 4,096, so that a page of such a size can be read and written with O_DIRECT. The 4,096

@@ -263,12 +263,17 @@ bool was_there(shard *in, node_slot slot) {
         free_record(before);
     }
     at->generation = slot.generation;
-    note_loaded(in);
     return false;
 }
 
 void note_loaded(shard *in) {
     if (in->table.filled < in->table.frames) in->table.filled++;
+}
+
+void note_left(shard *in) {
+    node_counters counted = {0};
+    node_counts(&in->node, &counted);
+    in->table.filled = counted.resident;
 }
 
 /* ---- before a page leaves ---- */

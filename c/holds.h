@@ -85,8 +85,10 @@ typedef struct table {
     uint64_t *seen;                /* the words of this shard that were seen, in any order */
     uint64_t *sorted; /* many of them also here, each at the place that its bits say or behind it */
     size_t seen_count, sorted_mask;
-    size_t frames, filled; /* no page leaves for another while fewer were filled than there are */
+    size_t frames, filled; /* filled: those that have a page. While one has none, no page leaves */
+    size_t pinned;         /* pins in the node that callers have */
     uint64_t pins;         /* that holds.c made in the node: no caller's hits */
+    uint64_t loads;        /* pins in the node of pages that are loaded without a pin: no misses */
 } table;
 
 /* The first of the records that a page may have: two of them share a line of memory. It is mixed
@@ -167,8 +169,9 @@ bool was_there(struct shard *in, node_slot slot);
 bool pass_over_held(struct opened *its, struct shard *in, bool leaves);
 void unpin_passed(struct shard *in);
 
-/* A page was put into a frame. */
+/* A page was put into a frame; or pages have left frames, which no other ones have. */
 void note_loaded(struct shard *in);
+void note_left(struct shard *in);
 
 /* Pins a page in the node that is in a frame; false where it has too many pins. */
 bool pin_in_node(struct shard *in, node_page page, node_slot *slot);

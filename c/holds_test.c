@@ -213,10 +213,12 @@ static void test_counting(void) {
     OK(warm_close(&second));
     MUST(hits(&first) == before + 6);
     int there = blocks;
-    granted = 1; /* for the handle itself */
+    granted = 1; /* for the handle itself, but not for its buffer */
+    MUST(warm_attach(&first, &second) == WARM_MEMORY && second.at == NULL && blocks == there);
+    granted = 2;
     OK(warm_attach(&first, &second));
     granted = SIZE_MAX;
-    MUST(((opened *)second.at)->holds == its && blocks == there + 1);
+    MUST(((opened *)second.at)->holds == its && blocks == there + 2);
     warm_slot slot = hold_page(&second, 0);
     uint8_t byte;
     OK(warm_read(&second, slot, 0, &byte, 1));
@@ -289,7 +291,9 @@ static void test_no_room(void) {
     warm first = {0}, second = {0};
     warm_slot slot, held_slots[3];
     bool found;
+    const warm_reference seen = {.replica = 1};
     open_two(&first, &second, 4);
+    for (int page = 1; page <= 9; page++) OK(warm_absorb(&first, &seen, 1)); /* so that page 9 is next */
     table *of = &((opened *)first.at)->shards[0].table;
     for (uint64_t no = 0; no < 4; no++) pin_twice(&first, no);
     for (uint64_t no = 0; no < 3; no++) held_slots[no] = hold_page(&second, no);

@@ -4,6 +4,7 @@
  */
 #define _POSIX_C_SOURCE 200809L /* pthread_mutex_t */
 #include "fd_calls.h"
+#include "heap.h"
 #include "layouts.h"
 #include "sync_once.h"
 
@@ -59,14 +60,23 @@ static int are_devices(const warm_options *its) {
 /* ---- replicas ---- */
 
 static void destroy_locks(replica *of, size_t count) {
-    for (size_t number = 0; number < count; number++)
+    for (size_t number = 0; number < count; number++) {
+        pthread_cond_destroy(&of->shards[number].read_over);
         pthread_mutex_destroy(&of->shards[number].lock);
+    }
+}
+
+static bool make_lock(shard *of) {
+    if (pthread_mutex_init(&of->lock, NULL) != 0) return false;
+    if (pthread_cond_init(&of->read_over, NULL) == 0) return true;
+    pthread_mutex_destroy(&of->lock);
+    return false;
 }
 
 /* Whether all locks were made; where one was not, none is left. */
 static bool make_locks(replica *of) {
     for (size_t number = 0; number < of->count; number++) {
-        if (pthread_mutex_init(&of->shards[number].lock, NULL) == 0) continue;
+        if (make_lock(&of->shards[number])) continue;
         destroy_locks(of, number);
         return false;
     }
@@ -156,6 +166,18 @@ static int open_replica(replica *of, const warm_options *its) {
 
 /* ---- handles ---- */
 
+/* A page is read into the buffer also where that is done with O_DIRECT. */
+static bool take_buffer(opened *its) {
+    tried taken = rattle_alloc(its->of->page_size, 1);
+    if (taken.ok) its->buffer = taken.p;
+    return taken.ok;
+}
+
+static void free_opened(opened *its) {
+    if (its->buffer != NULL) rattle_dealloc(its->buffer);
+    free(its->block);
+}
+
 /* A handle of the replica, or NULL. */
 static opened *new_opened(replica *of) {
     void *block;
@@ -165,8 +187,8 @@ static opened *new_opened(replica *of) {
     made->shards = of->shards;
     made->count = of->count;
     made->block = block;
-    if (take_holds(made)) return made;
-    free(block);
+    if (take_buffer(made) && take_holds(made)) return made;
+    free_opened(made);
     return NULL;
 }
 
@@ -223,7 +245,7 @@ static void end_handle(warm *handle) {
         give_holds(its);
         atomic_fetch_sub_explicit(&its->of->handles, 1, memory_order_acq_rel);
     }
-    free(its->block);
+    free_opened(its);
     handle->at = NULL;
 }
 

@@ -75,29 +75,30 @@ static inline bool unpin_by_hold(opened *its, warm_slot slot) {
     return false;
 }
 
-/* A call of a node that may let a page leave for another. */
+/* A page that is to be in a frame, and a pin of it. Its bytes are read by the node, or zeros, or in
+ * the handle's buffer. */
 typedef struct load {
-    enum { LOAD_PINS, LOAD_PINS_ZEROED, LOAD_STEPS } kind;
+    enum { LOAD_PINS, LOAD_PINS_ZEROED, LOAD_PINS_FILLED } kind;
     node_page page;
+    bool is_locked;       /* the shard, since there are other handles */
+    bool is_alone;        /* nobody holds a page of the shard; what left is known after the call */
+    bool is_hit;          /* whether the page was in a frame before */
     node_slot slot;       /* of a pin that was made */
-    const uint8_t *bytes; /* of such a pin of LOAD_PINS */
-    bool is_hit;          /* of a pin: whether the page was in a frame before */
-    bool found;           /* of a step that was made, and the page that it loaded */
-    node_page stepped;
-    bool is_alone; /* nobody holds a page of the shard, and what left is known after the call */
+    const uint8_t *bytes; /* of such a pin, but of LOAD_PINS_ZEROED */
 } load;
 
-static int ask_node(shard *in, load *it) {
+static int ask_node(opened *its, shard *in, load *it) {
     if (it->kind == LOAD_PINS) return node_pin_lend(&in->node, it->page, &it->slot, &it->bytes);
     if (it->kind == LOAD_PINS_ZEROED) return node_pin_zeroed(&in->node, it->page, &it->slot);
-    return node_step(&in->node, &it->found, &it->stepped);
+    int status = node_pin_filled(&in->node, it->page, its->buffer, its->of->page_size, &it->slot);
+    return status == WARM_OK ? node_lend(&in->node, it->slot, &it->bytes) : status;
 }
 
 /* The page that leaves is one that nobody holds: where none leaves, or nobody can hold one, the node
  * alone is asked. */
 static int load_once(opened *its, shard *in, load *it) {
     bool is_free = it->is_alone || in->table.filled < in->table.frames;
-    return is_free || pass_over_held(its, in, true) ? ask_node(in, it) : WARM_ALL_PINNED;
+    return is_free || pass_over_held(its, in, true) ? ask_node(its, in, it) : WARM_ALL_PINNED;
 }
 
 /* How many pages that cannot be written a load passes over. */
@@ -136,19 +137,80 @@ static int pin_absent(opened *its, shard *in, load *it) {
 /* Who is alone and holds no page of the shard looks at no hold. */
 static int pin_alone(opened *its, shard *in, load *it) {
     it->is_alone = true;
+    node_resident(&in->node, it->page, &it->is_hit);
     int status = load_in(its, in, it);
-    if (status == WARM_OK && was_there(in, it->slot)) put_record(its, in, it->page, it->slot, it->bytes);
+    if (status != WARM_OK) return status;
+    if (!it->is_hit) note_loaded(in);
+    if (was_there(in, it->slot)) put_record(its, in, it->page, it->slot, it->bytes);
+    return WARM_OK;
+}
+
+static int pin_resident(opened *its, shard *in, load *it) {
+    int status = ask_node(its, in, it);
+    if (status == WARM_OK && it->kind == LOAD_PINS)
+        put_record(its, in, it->page, it->slot, it->bytes);
     return status;
 }
 
-/* Pins a page in the node of a shard. */
+/* ---- pages that are read with no shard locked ---- */
+
+/* Whether a page may be put into a frame, as it seems before it is read. There are not more pages
+ * with pins than pins, nor more that are held than there is room for. */
+static bool has_room(opened *its, shard *in) {
+    const table *of = &in->table;
+    bool found = false;
+    node_page page;
+    if (of->filled < of->frames || of->pinned + of->room < of->frames) return true;
+    if (pass_over_held(its, in, false)) node_victim(&in->node, &found, &page);
+    unpin_passed(in);
+    return found;
+}
+
+/* What the node would refuse before it reads the page. */
+static int may_read(opened *its, shard *in, node_page page) {
+    const replica *of = its->of;
+    if (page.dev >= of->device_count) return WARM_NO_DEVICE;
+    if (page.no >= of->devices[page.dev].pages) return WARM_NO_PAGE;
+    return has_room(its, in) ? WARM_OK : WARM_ALL_PINNED;
+}
+
+/* Reads a page that is in no frame, and that nobody reads, and pins it in the node; or READ_AGAIN.
+ */
+__attribute__((noinline)) static int pin_read(opened *its, shard *in, load *it) {
+    int status = may_read(its, in, it->page);
+    if (status == WARM_OK) status = read_outside(its, in, it->page, it->is_locked);
+    if (status != WARM_OK) return status;
+    it->kind = LOAD_PINS_FILLED;
+    return pin_absent(its, in, it);
+}
+
+/* The same, without the pin: the node has it for a moment, and has counted a miss. */
+static int load_read(opened *its, shard *in, load *it) {
+    int status = pin_read(its, in, it);
+    if (status != WARM_OK) return status;
+    in->table.loads++;
+    return node_unpin(&in->node, it->slot);
+}
+
+/* Whether a page is in a frame; else nobody reads it. */
+static bool is_in_frame(shard *in, node_page page) {
+    bool is_in;
+    do node_resident(&in->node, page, &is_in);
+    while (!is_in && wait_for_read(in, page));
+    return is_in;
+}
+
+/* Pins a page in the node of a shard. Who is alone lets the node read it. */
 static int pin_in_node_of(opened *its, shard *in, load *it) {
-    bool is_alone = it->kind == LOAD_PINS && holds_none(its, in);
-    node_resident(&in->node, it->page, &it->is_hit);
+    int status;
+    bool is_alone = !it->is_locked && it->kind == LOAD_PINS && holds_none(its, in);
     if (is_alone) return pin_alone(its, in, it);
-    if (!it->is_hit) return pin_absent(its, in, it);
-    int status = ask_node(in, it);
-    if (status == WARM_OK && it->kind == LOAD_PINS) put_record(its, in, it->page, it->slot, it->bytes);
+    do {
+        it->is_hit = is_in_frame(in, it->page);
+        if (it->is_hit) return pin_resident(its, in, it);
+        bool is_read = it->is_locked && it->kind == LOAD_PINS;
+        status = is_read ? pin_read(its, in, it) : pin_absent(its, in, it);
+    } while (status == READ_AGAIN);
     return status;
 }
 
@@ -162,9 +224,10 @@ static void give_slot(opened *its, const shard *in, const load *it, warm_slot *s
 
 static int pin_in_shard(opened *its, load *it, warm_slot *slot) {
     shard *in = shard_of(its, it->page);
-    bool is_locked = enter(its, in);
+    it->is_locked = enter(its, in);
     int status = pin_in_node_of(its, in, it);
-    leave(in, is_locked);
+    if (status == WARM_OK) in->table.pinned++;
+    leave(in, it->is_locked);
     if (status == WARM_OK) give_slot(its, in, it, slot);
     return status;
 }
@@ -199,6 +262,7 @@ __attribute__((noinline)) static int unpin_in_shard(opened *its, warm_slot slot)
     shard *in = &its->shards[slot.shard];
     bool is_locked = enter(its, in);
     int status = node_unpin(&in->node, slot_in(slot));
+    if (status == WARM_OK) in->table.pinned--;
     leave(in, is_locked);
     if (status == WARM_OK) its->pins--;
     return status;
@@ -312,21 +376,45 @@ int warm_victims(warm *handle, size_t number, warm_page *pages, size_t room, siz
     return WARM_OK;
 }
 
+/* Loads the page that the node says is next, if there is one. */
+static int step_in(opened *its, shard *in, load *it, bool *found) {
+    int status;
+    do {
+        status = node_next(&in->node, found, &it->page);
+        if (status != WARM_OK || !*found) return status;
+        status = wait_for_read(in, it->page) ? READ_AGAIN : load_read(its, in, it);
+    } while (status == READ_AGAIN);
+    return status;
+}
+
 /* The shards have turns, also where one is refused: pages of one that cannot be read keep no other from being loaded. */
 int warm_step(warm *handle, bool *found, warm_page *page) {
     opened *its = handle->at;
-    load it = {.kind = LOAD_STEPS};
+    load it = {0};
+    bool is_found = false;
     if (its == NULL) return WARM_CLOSED;
-    for (size_t asked = 0; asked < its->count && !it.found; asked++) {
+    for (size_t asked = 0; asked < its->count && !is_found; asked++) {
         shard *in = &its->shards[its->turn];
         its->turn = (its->turn + 1) % its->count;
-        bool is_locked = enter(its, in);
-        int status = load_in(its, in, &it);
-        if (status == WARM_OK && it.found) note_loaded(in);
-        leave(in, is_locked);
+        it.is_locked = enter(its, in);
+        int status = step_in(its, in, &it, &is_found);
+        leave(in, it.is_locked);
         if (status != WARM_OK) return status;
     }
-    *found = it.found;
-    if (it.found) *page = page_out(it.stepped);
+    *found = is_found;
+    if (is_found) *page = page_out(it.page);
     return WARM_OK;
+}
+
+int warm_prefetch(warm *handle, warm_page page) {
+    opened *its = handle->at;
+    int status;
+    if (its == NULL) return WARM_CLOSED;
+    load it = {.page = page_in(page)};
+    shard *in = shard_of(its, it.page);
+    it.is_locked = enter(its, in);
+    do status = is_in_frame(in, it.page) ? WARM_OK : load_read(its, in, &it);
+    while (status == READ_AGAIN);
+    leave(in, it.is_locked);
+    return status;
 }

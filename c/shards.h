@@ -2,9 +2,11 @@
  * shards.h: what is behind a handle of include/warm.h, for c/opening.c (handles), c/shards.c (pages) and c/whole_calls.c (all else). Not
  * installed.
  *
- * A replica has one node of the proved part for each shard, and a lock for each. Whoever is in a shard, between enter and leave, has its node to
- * itself: by its lock, or since no other handle is open. No call is in two shards at once but those that are in all, which enter them in
- * their order. A pin of a page that has a record, and its unpin, are in no shard: holds.h.
+ * A replica has one node of the proved part for each shard, and a lock for each. Whoever is in a
+ * shard, between enter and leave, has its node to itself: by its lock, or since no other handle is
+ * open. No call is in two shards at once but those that are in all, which enter them in their
+ * order. A pin of a page that has a record, and its unpin, are in no shard (holds.h); nor is,
+ * meanwhile, who reads a page (reads.h).
  */
 #ifndef SHARDS_H
 #define SHARDS_H
@@ -12,6 +14,7 @@
 #include "devices.h"
 #include "holds.h"
 #include "proved.h"
+#include "reads.h"
 
 #include <pthread.h>
 #include <stdatomic.h>
@@ -19,16 +22,18 @@
 typedef struct shard {
     _Alignas(LINE) pthread_mutex_t lock;
     node node;
+    reading *reads; /* pages that are being read */
+    _Alignas(LINE) pthread_cond_t read_over;
     _Alignas(LINE) table table;
 } shard;
 
-/* What is known of a device beside its number. Its counts have, beside those of the nodes, flushes
- * that were refused by what is remembered of one before, and those that failed, of all that are made
- * outside of the nodes: a device that has any is replaced by none, so they begin with warm_open. And
- * they have not the writes of pages that were passed over, which the nodes take for made. */
+/* What is known of a device beside its number. Its counts have, beside those of the nodes, reads
+ * that are made outside of the nodes, and which of them failed; flushes that were refused by what
+ * is remembered of one before, and those that failed, of all that are made outside of the nodes.
+ * And they have not the writes of pages that were passed over, which the nodes take for made. */
 typedef struct known_device {
     int synced_as; /* see devices.h; who is in a shard reads it, who is in all changes it */
-    _Atomic uint64_t flushes, failures, passed;
+    _Atomic uint64_t flushes, failures, passed, reads;
 } known_device;
 
 typedef struct replica {
@@ -70,6 +75,7 @@ typedef struct opened {
     size_t count;
     uint64_t pins; /* in nodes */
     holds *holds;
+    uint8_t *buffer; /* of a page: one that is read is here first */
     uint32_t used; /* bit i: hold i names a record */
     own_hold own[HOLDS];
     size_t turn; /* the shard with which the next warm_step begins */

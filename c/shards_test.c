@@ -95,7 +95,7 @@ static void test_opening(void) {
     nothing_left();
     for (size_t count = 1; count <= 64; count *= 2) {
         EACH_REFUSED(open_with(&handle, 1, count, 2 * count, devices, FAKE_DEVICES), (nothing_left(), handle.at == NULL));
-        MUST(locks_there == (int)count + FAKE_DEVICES);
+        MUST(locks_there == 2 * (int)count + FAKE_DEVICES);
         void *was = handle.at;
         MUST(open_with(&handle, 1, 3, 1, devices, 1) == WARM_ALREADY_OPEN && handle.at == was);
         opened *its = was;
@@ -348,7 +348,7 @@ static void call_each(warm *handle, size_t count, bool is_shared) {
     warm_counters counters;
     warm_device_counters of_device;
     warm_failure failure;
-    TAKES(1, warm_pin(handle, page, &slot));
+    TAKES(2, warm_pin(handle, page, &slot)); /* before the page is read, and after that */
     TAKES(1, warm_write(handle, slot, 0, &byte, 1));
     byte = 0;
     TAKES(1, warm_read(handle, slot, 0, &byte, 1));
@@ -716,7 +716,10 @@ static void test_counts(void) {
     warm_device_counters of_device;
     open_shards(&handle, 4);
     OK(warm_counts(&handle, &counters));
-    MUST(counters.hits == 4 && counters.misses == 8 && counters.evictions == 12 && counters.resident == 16 && counters.dirty == 20);
+    MUST(counters.hits == 4 && counters.misses == 8 && counters.evictions == 12 && counters.resident == 0 && counters.dirty == 20);
+    write_each(&handle, 1, 6);
+    OK(warm_counts(&handle, &counters));
+    MUST(counters.resident == 6);
     OK(warm_device_counts(&handle, 0, &of_device));
     MUST(of_device.reads == 4 && of_device.writes == 8 && of_device.flushes == 12 && of_device.failures == 4);
     OK(warm_device_counts(&handle, FAKE_DEVICES - 1, &of_device));
@@ -727,28 +730,32 @@ static void test_counts(void) {
 
 /* Each handle has the failure of its own last call that failed. */
 static void test_failures(void) {
-    const uint64_t bad = 4 * FAKE_PAGES;
+    const uint64_t bad = 500;
     warm first = {0}, second = {0};
     warm_failure failure = {.no = 9};
     warm_slot slot;
     bool found = true;
+    unreadable = bad;
     open_shards(&first, 4);
     OK(warm_attach(&first, &second));
     OK(warm_last_failure(&first, &found, &failure));
     MUST(!found && failure.no == 9);
     MUST(warm_pin(&first, (warm_page){.no = bad + 3}, &slot) == WARM_READ_FAULT);
-    MUST(warm_pin_zeroed(&second, (warm_page){.no = bad + 3, .dev = 1}, &slot) == WARM_READ_FAULT);
-    must_have_failed(&first, bad + 3, 0, WARM_FAILED_READ, EIO);
-    must_have_failed(&second, bad + 3, 1, WARM_FAILED_READ, EIO);
+    MUST(warm_pin(&second, (warm_page){.no = bad + 3, .dev = 1}, &slot) == WARM_READ_FAULT);
+    must_have_failed(&first, bad + 3, 0, WARM_FAILED_READ, ENXIO);
+    must_have_failed(&second, bad + 3, 1, WARM_FAILED_READ, ENXIO);
     MUST(warm_pin(&second, (warm_page){.no = bad + 1}, &slot) == WARM_READ_FAULT && warm_pin(&second, (warm_page){.no = FAKE_PAGES}, &slot) == WARM_NO_PAGE);
-    must_have_failed(&first, bad + 3, 0, WARM_FAILED_READ, EIO);
-    must_have_failed(&second, bad + 1, 0, WARM_FAILED_READ, EIO);
+    must_have_failed(&first, bad + 3, 0, WARM_FAILED_READ, ENXIO);
+    must_have_failed(&second, bad + 1, 0, WARM_FAILED_READ, ENXIO);
     OK(warm_close(&second));
     OK(warm_attach(&first, &second));
     OK(warm_last_failure(&second, &found, &failure));
     MUST(!found);
     OK(warm_close(&second));
+    MUST(warm_pin(&first, (warm_page){.no = bad + 2}, &slot) == WARM_READ_FAULT); /* the node's */
+    must_have_failed(&first, bad + 2, 0, WARM_FAILED_READ, EIO);
     OK(warm_abandon(&first));
+    unreadable = INT64_MAX;
 }
 
 /* One shard has a later horizon than the others: what is offered has it, and what is forgotten in all is older. */

@@ -539,7 +539,7 @@ static void test_stuck_victims(void) {
 
 /* The page that is to come cannot be read any more once another one could not be written: that is what failed then. */
 static bool fails_then(node_page page) {
-    reads_fail = true;
+    unreadable = 0;
     return page.no == 0;
 }
 
@@ -554,7 +554,7 @@ static void test_failing_read(void) {
     is_stuck = fails_then;
     MUST(warm_pin(&handle, page_at(7), &slot) == WARM_READ_FAULT);
     is_stuck = NULL;
-    reads_fail = false;
+    unreadable = INT64_MAX;
     OK(warm_last_failure(&handle, &found, &failure));
     MUST(found && failure.no == 7 && failure.what == WARM_FAILED_READ);
     no_pins(&handle);

@@ -453,8 +453,8 @@ int warm_counts(warm *handle, warm_counters *counters) {
         bool is_locked = enter(its, in);
         node_counts(&in->node, &part);
         all.hits += part.hits - in->table.pins;
+        all.misses += part.misses - in->table.loads;
         leave(in, is_locked);
-        all.misses += part.misses;
         all.evictions += part.evictions;
         all.written_back += part.written_back;
         all.resident += part.resident;
@@ -472,6 +472,7 @@ static void add_to(uint64_t *count, uint64_t more) {
 
 /* What was counted beside the nodes. */
 static void add_known(const known_device *known, warm_device_counters *all) {
+    add_to(&all->reads, atomic_load(&known->reads));
     add_to(&all->flushes, atomic_load(&known->flushes));
     add_to(&all->failures, atomic_load(&known->failures));
     if (all->writes != UINT64_MAX) take_from(&all->writes, atomic_load(&known->passed));

@@ -272,9 +272,13 @@ int warm_forget_pages(warm *handle, uint16_t dev, uint64_t from) {
     bool are_locked = enter_all(its);
     int status = may_all_forget(its, dev, from);
     for (size_t number = 0; number < its->count && status == WARM_OK; number++) {
-        status = node_forget(&its->shards[number].node, dev, from);
+        shard *in = &its->shards[number];
+        status = node_forget(&in->node, dev, from);
+        make_stale(in, dev, from);
+        note_left(in);
     }
     leave_all(its, are_locked);
+    if (status == WARM_OK) wait_for_stale(its, dev);
     return status;
 }
 
@@ -327,16 +331,27 @@ static int replace_in_all(opened *its, uint16_t dev, const node_device *device) 
     return WARM_OK;
 }
 
+/* A device with a flush that has failed is replaced by none: the failures were of reads. */
+static void begin_counts(known_device *known) {
+    atomic_store(&known->passed, 0);
+    atomic_store(&known->reads, 0);
+    atomic_store(&known->failures, 0);
+}
+
 /* Replaces a device that is numbered and whose syncs are counted; writes what is let go. */
 static int replace_entered(opened *its, uint16_t dev, node_device *device, int *synced_as) {
     node_device *place = &its->of->devices[dev], before = *place;
     known_device *known = &its->of->known[dev];
     int status = replace_in_all(its, dev, device);
+    for (size_t number = 0; number < its->count; number++) {
+        if (status == WARM_OK) make_stale(&its->shards[number], dev, 0);
+        note_left(&its->shards[number]);
+    }
     if (status != WARM_OK) return status;
     int was_synced_as = known->synced_as;
     *place = *device;
     known->synced_as = *synced_as;
-    atomic_store(&known->passed, 0);
+    begin_counts(known);
     *device = before;
     *synced_as = was_synced_as;
     return WARM_OK;
@@ -350,6 +365,7 @@ static int replace_numbered(opened *its, uint16_t dev, node_device *device) {
     int status = replace_entered(its, dev, device, &synced_as);
     fd_calls_forget();
     leave_all(its, are_locked);
+    if (status == WARM_OK) wait_for_stale(its, dev); /* they are reads of what is let go */
     sync_drop(synced_as);
     return status;
 }

@@ -17,10 +17,11 @@
    greatest backward 2-distance is evicted.
 
    Threads. Each thread has a handle of its own (warm_attach). A call on a page, a slot or a bucket
-   locks its shard, also while it reads or writes a device; a call on the whole replica locks one
-   shard after another, warm_forget_pages and warm_replace all at once. A pin of a page that was
-   pinned twice since it was loaded, and its unpin, take no lock, for 8 pages of a handle at a time.
-   The calls on a shard have one order; a call on several shards is not one step.
+   locks its shard, but not while it reads a page; a call on the whole replica locks one shard after
+   another, warm_forget_pages and warm_replace all at once. A pin of a page that was pinned twice
+   since it was loaded, and its unpin, take no lock, for 8 pages of a handle at a time. Who wants a
+   page that is being read waits for it alone, and where that fails tries again. The calls on a
+   shard have one order; a call on several shards is not one step.
 
    Any slot, page, number, length, message or descriptor may be passed: it is refused, or does what
    the description says. The library starts no thread.
@@ -54,7 +55,6 @@
 extern "C" {
 #endif
 
-/* Limits. */
 enum {
     WARM_REPLICAS = 64,        /* numbered from 1 */
     WARM_BUCKETS = 64,         /* of a history: page dev:no is in bucket (dev + no) modulo 64 */
@@ -66,7 +66,6 @@ enum {
     WARM_MESSAGE_ROOM = 31023  /* bytes: any message fits */
 };
 
-/* Statuses. */
 typedef enum warm_status {
     WARM_OK = 0,
     WARM_MEMORY = 1,             /* an allocation failed */
@@ -155,9 +154,9 @@ typedef struct warm_slot {
    write fails. A skipped page stays dirty: a pin evicts another one, and a write-back passes over
    16 in each shard, and ends there at the next.
    after_write, if not null, is told the error (or 0) of each write that is made then.
-   Caller: any thread that uses the replica may call them, several at once, with the page's shard
-   locked (sync in warm_write_back_all and warm_flush_device: none). They return, call nothing of
-   this replica, wait for no thread that does, and keep no pointer to the bytes. */
+   Caller: any thread that uses the replica may call them, several at once; none writes a page that
+   another one reads or writes. They return, call nothing of this replica, wait for no thread that
+   does, and keep no pointer to the bytes. */
 typedef struct warm_device_ops {
     size_t size; /* sizeof(warm_device_ops) */
     int (*read)(void *context, uint64_t no, void *into, size_t length);
@@ -206,8 +205,8 @@ int warm_attach(warm *handle, warm *attached);
 
 /* Closes a handle; the one that opened the replica ends it, and flushes the devices. Nothing is
    lost.
-   Refused: WARM_ATTACHED, WARM_PINS_LEFT, and of the handle that opened the replica WARM_DIRTY,
-   or WARM_WRITE_FAULT where a flush fails. */
+   Refused: WARM_ATTACHED, WARM_PINS_LEFT; of the one that opened the replica WARM_DIRTY,
+   WARM_WRITE_FAULT where a flush fails. */
 int warm_close(warm *handle);
 
 /* Closes a handle by force. With the one that opened the replica dirty pages are lost, and nothing
@@ -220,18 +219,18 @@ int warm_abandon(warm *handle);
    Refused: WARM_BAD_OPTIONS by its size. */
 int warm_settings(warm *handle, warm_options *options);
 
-/* The version of the library. */
+/* The library's version. */
 const char *warm_version(void);
 
-/* A status in words, behind its name and a colon. Each number has some. */
+/* A status in words, behind its name and a colon. */
 const char *warm_strerror(int status);
 
 /* ---- pages: but for warm_step, these calls allocate nothing ---- */
 
 /* Pins a page: it is read into a frame, if it is in none, and stays there until its last unpin. A
-   pin is no reference: absorb one, too. Where the page to evict is skipped, or its write fails, the
-   next one is evicted; up to 8 are passed over, and warm_last_failure has the first, also with
-   WARM_OK, or the failed read.
+   pin is no reference: absorb one, too. A page to evict that is skipped, or whose write fails, is
+   passed over, up to 8 of them; warm_last_failure has the first, also with WARM_OK, or the failed
+   read.
    Refused: WARM_NO_DEVICE, WARM_NO_PAGE; of a page in a frame WARM_PINS_FULL; else
    WARM_ALL_PINNED, WARM_PINS_FULL, WARM_READ_FAULT, WARM_EVICT_FAULT. */
 int warm_pin(warm *handle, warm_page page, warm_slot *slot);
@@ -280,10 +279,13 @@ int warm_victims(warm *handle, size_t shard, warm_page *pages, size_t room, size
 
 /* A step of a warm-up: reads the hottest page of a shard that is in no frame, of as many of its
    hottest as it has frames. Writes whether there was one, else the pool is warm; and which. The
-   shards have turns. After changes of the history a shard's next step ranks all of it again.
+   shards have turns. After changes a step ranks the history again.
    Refused, and the next shard has its turn: WARM_MEMORY, WARM_ALL_PINNED, WARM_PINS_FULL,
    WARM_READ_FAULT, WARM_EVICT_FAULT. */
 int warm_step(warm *handle, bool *found, warm_page *page);
+
+/* Loads a page that is in no frame, without a pin. Refused as warm_pin. */
+int warm_prefetch(warm *handle, warm_page page);
 
 /* ---- write-back: but for warm_replace, these calls allocate nothing ---- */
 
@@ -376,8 +378,7 @@ int warm_limit_history(warm *handle, uint64_t horizon, size_t pages);
 
 /* ---- dumps ---- */
 
-/* Writes a dump of the history to a file, from byte 0 on, and syncs it. To replace one, save to a
-   new file, rename it, and sync the folder.
+/* Writes a dump of the history to a file, from byte 0 on, and syncs it.
    Refused, with any part in the file: WARM_MEMORY, WARM_DUMP_NOT_WRITTEN.
    Caller: the file is empty, open for writing without O_APPEND and O_DIRECT, and no device. */
 int warm_save(warm *handle, int fd);

@@ -2,8 +2,9 @@
  * same.c: handles of one replica, in one thread, beside the nodes of the proved part: same SEED SHARDS FRAMES HANDLES CALLS.
  *
  * Each call that is drawn is made by one of the handles, and of a node of its own for each shard, over copies of the files: pins, unpins, reads and
- * writes by slots that any handle pins or nobody does, references, victims, warm-up steps, pages that are forgotten, a file that is replaced.
- * Each status, slot, byte, victim and count is that of the node, which knows of each pin. Prints how many calls were made.
+ * writes by slots that any handle pins or nobody does, references, victims, warm-up steps, pages that are loaded without a pin, pages that are
+ * forgotten, a file that is replaced. Each status, slot, byte, victim and count is that of the node, which knows of each pin, and reads each page
+ * by itself. Prints how many calls were made.
  */
 #define _GNU_SOURCE /* mkstemp */
 #include <stdio.h>
@@ -32,6 +33,7 @@ static size_t turns[MOST_HANDLES], handle_count, shards, frames;
 static struct pin pins[MOST_PINS];
 static size_t pin_count;
 static uint64_t said_pins; /* of victims that were said: the nodes count them as hits */
+static uint64_t loads;     /* of pages without a pin: the nodes count them as misses */
 static warm_device devices[DEVICES]; /* of PAGES each */
 static node_device copies[DEVICES];
 static uint64_t drawn, now = 1;
@@ -180,6 +182,19 @@ static void step(void) {
     MUST(status == expected && (status != WARM_OK || (is_found == is_wanted && is_same(found, page_out(wanted)))));
 }
 
+static void prefetch(void) {
+    warm_page page = draw_page();
+    node *beside = &nodes[shard_of(page)];
+    node_slot slot;
+    bool is_in;
+    int status = warm_prefetch(draw_handle(), page), expected = node_resident(beside, page_in(page), &is_in);
+    if (!is_in) expected = node_pin(beside, page_in(page), &slot);
+    MUST(status == expected);
+    if (is_in || status != WARM_OK) return;
+    MUST(node_unpin(beside, slot) == WARM_OK);
+    loads++;
+}
+
 static int may_forget(uint16_t dev, uint64_t from) {
     int status = WARM_OK;
     for (size_t number = 0; number < shards && status == WARM_OK; number++) status = node_may_forget(&nodes[number], dev, from);
@@ -221,7 +236,23 @@ static void check_counts(void) {
         all.dirty += part.dirty;
     }
     all.hits -= said_pins;
+    all.misses -= loads;
     MUST(memcmp(&counted, &all, sizeof all) == 0);
+}
+
+/* What the pool asks of a device is what the nodes ask: but flushes, which it leaves out where they can be. */
+static void check_device_counts(void) {
+    uint16_t dev = (uint16_t)draw(DEVICES);
+    warm_device_counters counted;
+    uint64_t reads = 0, writes = 0;
+    MUST(warm_device_counts(draw_handle(), dev, &counted) == WARM_OK);
+    for (size_t number = 0; number < shards; number++) {
+        node_device_counters part;
+        MUST(node_device_counts(&nodes[number], dev, &part) == WARM_OK);
+        reads += part.reads;
+        writes += part.writes;
+    }
+    MUST(counted.reads == reads && counted.writes == writes && counted.failures == 0);
 }
 
 /* Detaches an attached handle, where it has no pins, and attaches it again. */
@@ -243,10 +274,10 @@ static void call_one(void) {
     else if (what < 50) use_slot();
     else if (what < 56) absorb();
     else if (what < 59) look();
-    else if (what < 60) step();
+    else if (what < 60) draw(2) == 0 ? step() : prefetch();
     else if (what < 61) attach();
     else if (what < 62) draw(4) == 0 ? write_back() : forget();
-    else if (what < 63) check_counts();
+    else if (what < 63) draw(2) == 0 ? check_counts() : check_device_counts();
     else if (draw(16) == 0) {
         while (pin_count > 0) unpin(0);
         draw(2) == 0 ? replace() : forget();

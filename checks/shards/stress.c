@@ -91,7 +91,7 @@ static struct page {
     latch latch;
     uint64_t version; /* 0: zeros */
     uint64_t writes;  /* how often a version was given */
-    atomic_uint pins;
+    atomic_uint pins, reads; /* reads: of the file, under way */
 } pages[DEVICES][PAGES];
 
 /* The two latest references to a page that a thread made; 0: none. */
@@ -174,8 +174,34 @@ static void release_latch(void *context, uint64_t no, int error) {
 
 static const warm_device_ops latching = {.size = sizeof latching, .before_write = try_latch, .after_write = release_latch};
 
+/* The second device has calls of its own. Threads wait for its slow reads; and no page is written while it is read. */
+static int file_of(const void *context) { return files[context == pages[1]]; }
+
+static int read_slowly(void *context, uint64_t no, void *into, size_t length) {
+    static _Thread_local unsigned calls;
+    struct page *of = context;
+    atomic_fetch_add(&of[no].reads, 1);
+    memset(into, 0, length); /* past the end of the file are zeros */
+    bool is_read = pread(file_of(context), into, length, (off_t)(no * PAGE_SIZE)) >= 0;
+    if (++calls % 16 == 0) nanosleep(&(struct timespec){.tv_nsec = 100000}, NULL);
+    MUST(is_read && atomic_fetch_sub(&of[no].reads, 1) == 1); /* nobody else reads it */
+    return 0;
+}
+
+static int write_whole(void *context, uint64_t no, const void *bytes, size_t length) {
+    struct page *of = context;
+    MUST(atomic_load(&of[no].reads) == 0 && pwrite(file_of(context), bytes, length, (off_t)(no * PAGE_SIZE)) == (ssize_t)length);
+    MUST(atomic_load(&of[no].reads) == 0);
+    return 0;
+}
+
+static int sync_file_of(void *context) { return fsync(file_of(context)) == 0 ? 0 : errno; }
+
+static const warm_device_ops calling = {.size = sizeof calling, .read = read_slowly, .write = write_whole, .sync = sync_file_of,
+    .before_write = try_latch, .after_write = release_latch};
+
 static warm_device device_of(uint16_t dev) {
-    return (warm_device){.pages = PAGES, .fd = files[dev], .ops = &latching, .context = pages[dev]};
+    return (warm_device){.pages = PAGES, .fd = files[dev], .ops = dev == 0 ? &latching : &calling, .context = pages[dev]};
 }
 
 /* ---- references of the model ---- */
@@ -404,6 +430,8 @@ static void look(struct player *player) {
     OK(warm_counts(&player->handle, &counters));
     MUST(counters.resident <= FRAMES && counters.dirty <= counters.resident);
     int status = warm_step(&player->handle, &found, &page);
+    MUST(status == WARM_OK || status == WARM_ALL_PINNED || status == WARM_EVICT_FAULT);
+    status = warm_prefetch(&player->handle, draw_page(player));
     MUST(status == WARM_OK || status == WARM_ALL_PINNED || status == WARM_EVICT_FAULT);
 }
 

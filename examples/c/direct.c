@@ -47,27 +47,32 @@ static void must_have(warm *handle, uint64_t no, uint8_t with, size_t length, si
     MUST(memcmp(held, bytes, page_size) == 0);
 }
 
-/* More pages than frames, so that each is written when it leaves its frame, and read again into another. */
-static void pages_of(size_t page_size) {
+/* More pages than frames, so that each is written when it leaves its frame, and read again into another; beside another handle it is read
+ * into a buffer first. */
+static void pages_of(size_t page_size, bool is_beside) {
     const warm_device device = {.pages = PAGES, .fd = direct};
     const off_t cut = (off_t)(9 * page_size + 1000);
-    warm handle = {0};
+    warm handle = {0}, other = {0};
     OK(open_with(&handle, 1, 1, FRAMES, page_size, &device, 1));
+    if (is_beside) OK(warm_attach(&handle, &other));
     for (uint8_t no = 0; no < PAGES - 1; no++) put(&handle, no, no, page_size);
     for (uint8_t no = PAGES - 1; no-- > 0;) must_have(&handle, no, no, page_size, page_size);
     must_have(&handle, PAGES - 1, 0, 0, page_size); /* past the end of the file */
     OK(warm_write_back_all(&handle));
     for (uint8_t no = 0; no < PAGES - 1; no++) MUST(holds((off_t)(no * page_size), no, page_size));
+    OK(warm_close(&other));
     OK(warm_abandon(&handle));
     /* a file that ends within a page, at no place that O_DIRECT takes */
     MUST(ftruncate(plain, cut) == 0);
     OK(open_with(&handle, 1, 1, FRAMES, page_size, &device, 1));
+    if (is_beside) OK(warm_attach(&handle, &other));
     must_have(&handle, 9, 9, 1000, page_size);
     must_have(&handle, 10, 0, 0, page_size);
     must_have(&handle, 8, 8, page_size, page_size);
     put(&handle, 9, 77, page_size);
     OK(warm_write_back_all(&handle));
     MUST(holds((off_t)(9 * page_size), 77, page_size) && lseek(plain, 0, SEEK_END) == (off_t)(10 * page_size));
+    OK(warm_close(&other));
     OK(warm_abandon(&handle));
     MUST(ftruncate(plain, 0) == 0);
 }
@@ -143,10 +148,12 @@ int main(int count, char **words) {
         printf("direct: no file of %s has O_DIRECT\n", folder);
     } else {
         if (!is_strict) printf("direct: a file of %s with O_DIRECT takes any memory\n", folder);
-        pages_of(UNIT);
-        pages_of(2 * UNIT);
-        pages_of(3 * UNIT);
-        pages_of(LARGE);
+        for (int is_beside = 0; is_beside < 2; is_beside++) {
+            pages_of(UNIT, is_beside);
+            pages_of(2 * UNIT, is_beside);
+            pages_of(3 * UNIT, is_beside);
+            pages_of(LARGE, is_beside);
+        }
         close(direct);
         close(plain);
     }

@@ -74,6 +74,7 @@ static void closed_handle(void) {
     EXPECT(WARM_CLOSED, warm_victims(&handle, 0, &page, 1, &length));
     EXPECT(WARM_CLOSED, warm_list(&handle, &page, 1, &length));
     EXPECT(WARM_CLOSED, warm_step(&handle, &found, &page));
+    EXPECT(WARM_CLOSED, warm_prefetch(&handle, page));
     EXPECT(WARM_CLOSED, warm_offer(&handle, &byte, 1, &length));
     EXPECT(WARM_CLOSED, warm_send(&handle, &sending, &byte, 1, &length));
     EXPECT(WARM_CLOSED, warm_limit(&handle, 1));

@@ -233,7 +233,8 @@ static void replaced(warm *handle, int other) {
     MUST(first_byte(handle, (warm_page){0}) == 'n');
 }
 
-/* More pages than there are frames, each of which is written to: they are read, evicted and written back. */
+/* More pages than there are frames, each of which is written to: they are read, evicted and written back. Beside another handle a page is
+ * read into a buffer that its handle has. */
 static void unrefused_evictions(warm *handle) {
     warm_slot slot;
     for (uint64_t no = 0; no < 3 * FRAMES; no++) {
@@ -248,8 +249,16 @@ static void unrefused_evictions(warm *handle) {
         UNREFUSED(warm_read(handle, slot, 1, &byte, 1));
         UNREFUSED(warm_unpin(handle, slot));
         MUST(byte == no + 1);
+        UNREFUSED(warm_prefetch(handle, (warm_page){.no = no / 2}));
     }
     UNREFUSED(warm_write_back_all(handle));
+}
+
+static void unrefused_beside(warm *handle) {
+    warm other = {0};
+    OK(warm_attach(handle, &other));
+    unrefused_evictions(&other);
+    UNREFUSED(warm_close(&other));
 }
 
 /* What allocates nothing. */
@@ -303,6 +312,7 @@ int main(int count, char **words) {
     histories(&from, &to);
     replaced(&from, fds[2]);
     unrefused_evictions(&from);
+    unrefused_beside(&from);
     unrefused(&from);
     UNREFUSED(warm_close(&from));
     UNREFUSED(warm_close(&to));

@@ -161,6 +161,7 @@ extern "C" {
         count: *mut usize,
     ) -> c_int;
     pub fn warm_step(handle: *mut Warm, found: *mut bool, page: *mut Page) -> c_int;
+    pub fn warm_prefetch(handle: *mut Warm, page: Page) -> c_int;
     pub fn warm_write_back_all(handle: *mut Warm) -> c_int;
     pub fn warm_write_back_some(handle: *mut Warm, limit: usize, left: *mut usize) -> c_int;
     pub fn warm_flush_device(handle: *mut Warm, dev: u16) -> c_int;

@@ -149,6 +149,15 @@ impl Handle {
         Ok(found.then_some(page))
     }
 
+    /// Loads a page that is in no frame, without a pin.
+    ///
+    /// Refused: as [`Handle::pin`], but for [`Error::Latched`].
+    pub fn prefetch(&self, page: Page) -> Result<()> {
+        let raw = self.enter()?;
+        // SAFETY: the handle is open.
+        result(unsafe { ffi::warm_prefetch(raw, page) })
+    }
+
     /// Adds references, in any order; a repeated one changes nothing.
     ///
     /// Refused: [`Error::BadReplica`], [`Error::Memory`].

@@ -130,6 +130,7 @@ fn bad_numbers_are_refused_and_change_nothing() {
     assert_eq!(handle.write(page(1), 4096, &[1]), Err(Error::OutOfPage));
     assert_eq!(handle.write(page(1), usize::MAX, &[1, 2]), Err(Error::OutOfPage));
     assert_eq!(handle.write(page(1), 4096, &[]), Ok(()));
+    assert_eq!(handle.prefetch(page(PAGES)), Err(Error::NoPage));
     assert_eq!(handle.victims(1).unwrap_err(), Error::NoShard);
     assert_eq!(handle.flush_device(1), Err(Error::NoDevice));
     assert_eq!(handle.forget_pages(7, 0), Err(Error::NoDevice));
@@ -174,6 +175,16 @@ fn settings_have_the_defaults() {
     assert_eq!((alone.settings().replica, alone.settings().shards), (64, 8));
     assert_eq!(alone.pin(page(0)).unwrap_err(), Error::NoDevice);
     assert_eq!(warm::version(), env!("CARGO_PKG_VERSION"));
+}
+
+#[test]
+fn a_page_is_loaded_without_a_pin() {
+    let handle = over(Memory::default().device());
+    let other = handle.attach().unwrap();
+    assert_eq!((handle.prefetch(page(3)), other.prefetch(page(3))), (Ok(()), Ok(())));
+    assert!(other.pin(page(3)).unwrap().is_hit());
+    assert_eq!(handle.counts().unwrap().misses, 0);
+    assert_eq!(handle.forget_pages(0, 0), Ok(()));
 }
 
 #[test]

@@ -1,0 +1,55 @@
+/*
+ * reads.h: reads of pages that are in no frame, with no shard locked. Not installed.
+ *
+ * Who is in a shard, and wants a page that is in no frame and that nobody reads, puts it into the
+ * shard's list of reads, leaves the shard, reads the page into the buffer of the handle, enters the
+ * shard again, takes the page from the list, and hands the bytes to the node, before the shard is
+ * left again. Who wants a page that is in the list, be it to read it or to fill it with zeros,
+ * waits until it is taken from there, and then looks again. So the bytes are those that the device
+ * has:
+ *  - Nobody writes a page to its device while the list has it: it is in no frame.
+ *  - It was written before that: the node writes a dirty page before it gives its frame to another
+ *    one, and a page that is skipped, or whose write fails, keeps its frame.
+ * A page that is forgotten meanwhile, or whose device is replaced, is read again: the caller may
+ * then change the file. Who forgets or replaces waits, in no shard, until the old reads are over.
+ *
+ * An entry of the list is on the stack of the call that reads. A handle that is alone meets no
+ * other one here, and takes no lock: so the last close meets none. A read that fails is of its own
+ * call: whoever waited tries again.
+ */
+#ifndef READS_H
+#define READS_H
+
+#include "nodes.h"
+
+struct opened;
+struct shard;
+
+/* A page that is being read. Who is in the shard reads and changes it. */
+typedef struct reading {
+    node_page page;
+    bool is_awaited; /* somebody waits until it is over */
+    bool is_stale;   /* what is read is of no use */
+    struct reading *next;
+} reading;
+
+/* No status: what is known of the page may have changed, and it is to be looked for again. */
+enum { READ_AGAIN = -1 };
+
+/* All is called by who is in the shard, but for the last one. */
+
+/* Waits until a page is read, where somebody reads it, and returns whether it was so. The shard was
+ * left meanwhile. */
+bool wait_for_read(struct shard *in, node_page page);
+
+/* Reads a page of a device, which is in no frame and which nobody reads, into the handle's buffer.
+ * The shard is left meanwhile. Returns WARM_OK; WARM_READ_FAULT, which is noted; or READ_AGAIN. */
+int read_outside(struct opened *its, struct shard *in, node_page page, bool is_locked);
+
+/* What is being read of the pages of a device, with this number and above, is of no use. */
+void make_stale(struct shard *in, uint16_t dev, uint64_t from);
+
+/* Waits until nothing of a device is being read that is of no use. */
+void wait_for_stale(struct opened *its, uint16_t dev);
+
+#endif

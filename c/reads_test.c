@@ -1,0 +1,799 @@
+/*
+ * Tests reads with no shard locked (reads.c, shards.c) over fake_library.h: who wants a page that
+ * is being read waits for it, and for nothing else; what is forgotten or replaced meanwhile is read
+ * again; and what is refused is refused before a page is read, where that is known. A test that
+ * hangs is ended by an alarm.
+ */
+#include "fake_library.h"
+
+enum { MOST = 4 };
+
+/* A call of a thread with a handle of its own, and what came of it. */
+typedef struct caller {
+    pthread_t thread;
+    warm handle;
+    enum { PINS, PINS_ZEROED, PREFETCHES, STEPS, FORGETS, REPLACES } call;
+    warm_page page;
+    atomic_bool is_over;
+    int status;
+    warm_slot slot;
+    bool found;
+} caller;
+
+static warm first;
+static caller callers[MOST];
+static const warm_device in_place = {.pages = 100, .fd = 20};
+
+static int make_call(caller *its) {
+    warm *by = &its->handle;
+    switch (its->call) {
+    case PINS: return warm_pin(by, its->page, &its->slot);
+    case PINS_ZEROED: return warm_pin_zeroed(by, its->page, &its->slot);
+    case PREFETCHES: return warm_prefetch(by, its->page);
+    case STEPS: return warm_step(by, &its->found, &its->page);
+    case FORGETS: return warm_forget_pages(by, its->page.dev, its->page.no);
+    default: return warm_replace(by, its->page.dev, &in_place);
+    }
+}
+
+static void *call_it(void *of) {
+    caller *its = of;
+    its->status = make_call(its);
+    atomic_store(&its->is_over, true);
+    return NULL;
+}
+
+static void begin(int number, int call, warm_page page) {
+    caller *its = &callers[number];
+    its->call = call;
+    its->page = page;
+    its->slot = (warm_slot){.generation = 77};
+    atomic_store(&its->is_over, false);
+    MUST(pthread_create(&its->thread, NULL, call_it, its) == 0);
+}
+
+static int end(int number) {
+    MUST(pthread_join(callers[number].thread, NULL) == 0);
+    return callers[number].status;
+}
+
+/* What a call waits for it may have been about to wait for. */
+static void until_waiting(int count) {
+    while (atomic_load(&waiting_now) < count) sched_yield();
+}
+
+/* No call is over that was not before, though it had the time. */
+static void not_over(int number) {
+    usleep(2000);
+    MUST(!atomic_load(&callers[number].is_over));
+}
+
+/* ---- reads that a test stops ---- */
+
+/* The next read of this page waits, once it has its byte; how many reads have begun so, and may
+ * end. */
+static atomic_long stops_at = -1;
+static atomic_int begun, may_end;
+static atomic_int ends_first = -1; /* of these reads, from 0 on: one that may end before others */
+
+static void stop(int fd, off_t at) {
+    long this = at;
+    (void)fd;
+    if (!atomic_compare_exchange_strong(&stops_at, &this, -1)) return;
+    int own = ++begun;
+    while (atomic_load(&may_end) < own && atomic_load(&ends_first) != own - 1) sched_yield();
+}
+
+static void until_begun(int count) {
+    while (atomic_load(&begun) < count) sched_yield();
+}
+
+/* A replica of this many shards, and a handle for each caller. */
+static void open_all(size_t shards, size_t frames) {
+    memset(in_files, 0, sizeof in_files);
+    files_keep = true;
+    at_read = stop;
+    stops_at = -1;
+    begun = may_end = reads = 0;
+    OK(open_with(&first, 1, shards, frames, devices, FAKE_DEVICES));
+    for (int number = 0; number < MOST; number++) OK(warm_attach(&first, &callers[number].handle));
+}
+
+static void close_all(void) {
+    opened *its = first.at;
+    for (int number = 0; number < MOST; number++) OK(warm_close(&callers[number].handle));
+    no_pins(&first);
+    for (size_t number = 0; number < its->count; number++) MUST(its->shards[number].reads == NULL);
+    OK(warm_abandon(&first));
+    MUST(waiting_now == 0);
+    nothing_left();
+    at_read = NULL;
+    files_keep = false;
+}
+
+/* What is counted beside what a fake node says. */
+static void has_counted(uint16_t dev, uint64_t made, uint64_t failed) {
+    warm_device_counters counters;
+    uint64_t count = ((opened *)first.at)->count;
+    OK(warm_device_counts(&first, dev, &counters));
+    MUST(counters.reads == count + made && counters.failures == count + failed);
+}
+
+static bool has_failure(warm *handle) {
+    warm_failure failure;
+    bool found;
+    OK(warm_last_failure(handle, &found, &failure));
+    return found;
+}
+
+static void unpin(int number) { OK(warm_unpin(&callers[number].handle, callers[number].slot)); }
+
+/* ---- who waits, and for what ---- */
+
+/* Pages of one shard are read at the same time: none of the reads ends before all have begun. */
+static atomic_int together;
+
+static void meet(int fd, off_t at) {
+    (void)fd, (void)at;
+    together++;
+    while (atomic_load(&together) < MOST) sched_yield();
+}
+
+static void test_together(void) {
+    open_all(1, MOST);
+    at_read = meet;
+    for (int number = 0; number < MOST; number++)
+        begin(number, number == 3 ? PREFETCHES : PINS, page_at((uint64_t)number));
+    for (int number = 0; number < MOST; number++) MUST(end(number) == WARM_OK);
+    for (int number = 0; number < 3; number++) {
+        MUST(callers[number].slot.hit == 0);
+        unpin(number);
+    }
+    MUST(reads == MOST && is_in(&first, 3));
+    has_counted(0, MOST, 0);
+    close_all();
+}
+
+/* One reads a page, and others wait for it; what they want of other pages of the shard they get
+ * meanwhile. All have the page then, and it was read once. A page of the same number of another
+ * device is another one. */
+static void test_waiting(void) {
+    open_all(1, 4);
+    in_files[10][5] = 'p';
+    in_files[11][5] = 'q';
+    stops_at = 5;
+    begin(0, PINS, page_at(5));
+    until_begun(1);
+    begin(1, PINS, page_at(5));
+    begin(2, PREFETCHES, page_at(5));
+    until_waiting(2);
+    pin_twice(&first, 1);
+    OK(warm_unpin(&first, hold_page(&first, 1)));
+    MUST(read_from(&first, page_at(2)) == 0 && !is_in(&first, 5));
+    stops_at = 5;
+    begin(3, PINS, (warm_page){.dev = 1, .no = 5});
+    until_begun(2);
+    not_over(1);
+    may_end = 2;
+    for (int number = 0; number < MOST; number++) MUST(end(number) == WARM_OK);
+    MUST(reads == 4 && callers[0].slot.hit == 0 && callers[1].slot.hit == 1 &&
+         callers[3].slot.hit == 0);
+    MUST(callers[0].slot.index == callers[1].slot.index &&
+         callers[0].slot.index != callers[3].slot.index);
+    MUST(read_from(&first, page_at(5)) == 'p' &&
+         read_from(&first, (warm_page){.dev = 1, .no = 5}) == 'q' && reads == 4);
+    unpin(0);
+    unpin(1);
+    unpin(3);
+    close_all();
+}
+
+/* Who waits for one page is not woken for good by the end of another one. */
+static void test_waiting_for_one(void) {
+    open_all(1, 4);
+    stops_at = 5;
+    begin(0, PINS, page_at(5));
+    until_begun(1);
+    stops_at = 6;
+    begin(1, PINS, page_at(6));
+    until_begun(2);
+    begin(2, PINS, page_at(5));
+    begin(3, PINS, page_at(6));
+    until_waiting(2);
+    may_end = 1;
+    MUST(end(0) == WARM_OK && end(2) == WARM_OK && callers[2].slot.hit == 1);
+    not_over(1);
+    not_over(3);
+    may_end = 2;
+    MUST(end(1) == WARM_OK && end(3) == WARM_OK && callers[3].slot.hit == 1 && reads == 2);
+    for (int number = 0; number < MOST; number++) unpin(number);
+    close_all();
+}
+
+/* A page that is filled with zeros while it is read is read before: or what was written to it could
+ * be lost. */
+static void test_zeroing(void) {
+    open_all(1, 2);
+    in_files[10][5] = 'p';
+    stops_at = 5;
+    begin(0, PINS, page_at(5));
+    until_begun(1);
+    begin(1, PINS_ZEROED, page_at(5));
+    until_waiting(1);
+    not_over(1);
+    may_end = 1;
+    MUST(end(0) == WARM_OK && end(1) == WARM_OK && callers[1].slot.hit == 1 &&
+         callers[1].slot.generation == 1);
+    unpin(0);
+    unpin(1);
+    OK(warm_pin_zeroed(&first, page_at(6), &callers[2].slot)); /* which is not read */
+    OK(warm_unpin(&first, callers[2].slot));
+    in_files[10][6] = 'p';
+    MUST(read_from(&first, page_at(6)) == 0 && reads == 1);
+    close_all();
+}
+
+/* ---- reads that fail ---- */
+
+/* Who waited tries again: and may succeed, or fails by itself. Each read is counted, and each
+ * failure is that of its own handle. */
+static void failing_reads(bool goes_on) {
+    open_all(1, 2);
+    stops_at = 5;
+    unreadable = 5;
+    begin(0, PINS, page_at(5));
+    until_begun(1);
+    begin(1, PINS, page_at(5));
+    begin(2, PREFETCHES, page_at(5));
+    until_waiting(2);
+    if (!goes_on) unreadable = INT64_MAX;
+    may_end = MOST;
+    int failed = goes_on ? 3 : 1;
+    MUST(end(0) == WARM_READ_FAULT && end(1) == (goes_on ? WARM_READ_FAULT : WARM_OK));
+    MUST(end(2) == callers[1].status && reads == (goes_on ? 3 : 2));
+    unreadable = INT64_MAX;
+    for (int number = 0; number < MOST; number++)
+        MUST(has_failure(&callers[number].handle) == (number < failed));
+    must_have_failed(&callers[0].handle, 5, 0, WARM_FAILED_READ, ENXIO);
+    MUST(callers[0].slot.generation == 77 && (callers[1].slot.generation == 77) == goes_on);
+    has_counted(0, (uint64_t)reads, (uint64_t)failed);
+    has_counted(1, 0, 0);
+    if (!goes_on) unpin(1);
+    close_all();
+}
+
+/* The page that would have left has its record afterwards, and is pinned without a lock. */
+static void test_failure_leaves_records(void) {
+    open_all(1, 2);
+    pin_twice(&first, 0);
+    pin_twice(&first, 1);
+    unreadable = 5;
+    MUST(warm_prefetch(&callers[0].handle, page_at(5)) == WARM_READ_FAULT);
+    unreadable = INT64_MAX;
+    for (uint64_t no = 0; no < 2; no++) OK(warm_unpin(&first, hold_page(&first, no)));
+    close_all();
+}
+
+/* A device without a file. */
+static void test_no_file(void) {
+    static const warm_device none[] = {{.pages = 9, .fd = -1}, {.pages = 9, .fd = -2}};
+    warm handle = {0}, second = {0};
+    warm_slot slot;
+    OK(open_with(&handle, 1, 1, 1, none, 2));
+    OK(warm_attach(&handle, &second));
+    MUST(warm_pin(&handle, (warm_page){.dev = 1, .no = 3}, &slot) == WARM_READ_FAULT);
+    must_have_failed(&handle, 3, 1, WARM_FAILED_READ, EBADF);
+    OK(warm_close(&second));
+    OK(warm_close(&handle));
+    nothing_left();
+}
+
+/* ---- what changes meanwhile ---- */
+
+/* A page that is forgotten while it is read is read again, as the file is then; one below is not.
+ * Who forgets waits for the old read alone: with no shard locked. */
+static void test_forgetting(void) {
+    for (size_t shards = 1; shards <= 4; shards *= 4) {
+        open_all(shards, 4 * shards);
+        in_files[10][5] = in_files[10][6] = 'o';
+        stops_at = 5;
+        begin(0, PINS, page_at(5));
+        until_begun(1);
+        begin(1, FORGETS, page_at(5));
+        until_waiting(1);
+        OK(warm_forget_pages(&first, 1, 0)); /* of another device, which waits for nothing */
+        in_files[10][5] = 'n';
+        not_over(1);
+        pin_twice(&first, 1);
+        OK(warm_unpin(&first, pin(&first, 1 + 4 * 5)));
+        may_end = 1;
+        MUST(end(1) == WARM_OK && end(0) == WARM_OK && callers[0].slot.hit == 0);
+        MUST(read_from(&first, page_at(5)) == 'n' && reads == 4);
+        has_counted(0, 4, 0);
+        stops_at = 6;
+        begin(1, PINS, page_at(6));
+        until_begun(2);
+        OK(warm_forget_pages(&first, 0, 7));
+        OK(warm_forget_pages(&first, 1, 0));
+        begin(2, FORGETS, page_at(5)); /* which is pinned, so that all stays as it is */
+        MUST(end(2) == WARM_PINNED);
+        may_end = 2;
+        MUST(end(1) == WARM_OK && reads == 5);
+        unpin(0);
+        unpin(1);
+        close_all();
+    }
+}
+
+/* So are all of them, and who forgets waits for each, in whichever order they end. */
+static void forgetting_all(int last) {
+    open_all(1, 4);
+    for (int number = 0; number < 2; number++) {
+        in_files[10][5 + number] = 'o';
+        stops_at = 5 + number;
+        begin(number, PINS, page_at(5 + (uint64_t)number));
+        until_begun(number + 1);
+    }
+    begin(2, FORGETS, page_at(5));
+    until_waiting(1);
+    in_files[10][5] = in_files[10][6] = 'n';
+    ends_first = 1 - last;
+    MUST(end(1 - last) == WARM_OK);
+    not_over(2);
+    ends_first = -1;
+    may_end = 2;
+    MUST(end(last) == WARM_OK && end(2) == WARM_OK && reads == 4);
+    MUST(read_from(&first, page_at(5)) == 'n' && read_from(&first, page_at(6)) == 'n');
+    unpin(0);
+    unpin(1);
+    close_all();
+}
+
+/* The old read of a page that was forgotten fails: that is of no account. */
+static void test_forgotten_failure(void) {
+    open_all(1, 2);
+    stops_at = 5;
+    unreadable = 5;
+    begin(0, PREFETCHES, page_at(5));
+    until_begun(1);
+    unreadable = INT64_MAX;
+    begin(1, FORGETS, page_at(0));
+    until_waiting(1);
+    may_end = 2;
+    MUST(end(1) == WARM_OK && end(0) == WARM_OK && is_in(&first, 5) &&
+         !has_failure(&callers[0].handle));
+    has_counted(0, 2, 1);
+    close_all();
+}
+
+/* A device is replaced while a page of it is read: the new one is read. Who replaces it returns
+ * when the old one is asked for nothing more. */
+static void test_replacing(void) {
+    for (size_t shards = 1; shards <= 4; shards *= 4) {
+        open_all(shards, 4 * shards);
+        in_files[10][5] = 'o';
+        in_files[20][5] = 'n';
+        stops_at = 5;
+        unreadable = 5;
+        begin(0, PINS, page_at(5));
+        begin(1, PREFETCHES, page_at(200)); /* which the new one has not */
+        until_begun(1);
+        MUST(end(1) == WARM_READ_FAULT);
+        unreadable = INT64_MAX;
+        has_counted(0, 1, 1);
+        begin(1, REPLACES, page_at(0));
+        until_waiting(1);
+        not_over(1);
+        MUST(read_from(&first, page_at(2)) == 0);
+        has_counted(0, 1, 0);
+        may_end = 1;
+        MUST(end(1) == WARM_OK && end(0) == WARM_OK && read_from(&first, page_at(5)) == 'n' &&
+             !has_failure(&callers[0].handle));
+        has_counted(0, 2, 0); /* none of them was of the old device */
+        MUST(warm_prefetch(&first, page_at(200)) == WARM_NO_PAGE);
+        unpin(0);
+        close_all();
+    }
+}
+
+/* So is a page that the new device has not. */
+static void test_replacing_by_less(void) {
+    open_all(1, 2);
+    stops_at = 200;
+    begin(0, PINS, page_at(200));
+    until_begun(1);
+    begin(1, REPLACES, page_at(0));
+    until_waiting(1);
+    may_end = 1;
+    MUST(end(1) == WARM_OK && end(0) == WARM_NO_PAGE && reads == 1);
+    close_all();
+}
+
+/* A refused replacement leaves what is read as it is: another page of the device is pinned. */
+static void test_not_replacing(void) {
+    open_all(1, 3);
+    warm_slot slot = pin(&first, 1);
+    stops_at = 5;
+    begin(0, PINS, page_at(5));
+    until_begun(1);
+    begin(1, REPLACES, page_at(0));
+    MUST(end(1) == WARM_PINNED);
+    begin(1, FORGETS, page_at(0));
+    MUST(end(1) == WARM_PINNED);
+    may_end = 1;
+    MUST(end(0) == WARM_OK && reads == 2);
+    OK(warm_unpin(&first, slot));
+    unpin(0);
+    close_all();
+}
+
+/* Who reads has an open handle, so that the replica does not end. The others close: the read ends
+ * in a shard that was locked before, and that nobody else is in. */
+static void test_closing(void) {
+    open_all(1, 2);
+    stops_at = 5;
+    begin(0, PINS, page_at(5));
+    until_begun(1);
+    for (int number = 1; number < MOST; number++) OK(warm_close(&callers[number].handle));
+    MUST(warm_close(&first) == WARM_ATTACHED && warm_abandon(&first) == WARM_ATTACHED);
+    may_end = 1;
+    MUST(end(0) == WARM_OK);
+    unpin(0);
+    warm opener = first;
+    first = callers[0].handle;
+    callers[0].handle = opener;
+    stops_at = 6;
+    begin(0, PINS, page_at(6));
+    until_begun(2);
+    OK(warm_close(&first));
+    may_end = 2;
+    MUST(end(0) == WARM_OK);
+    unpin(0);
+    MUST(read_from(&callers[0].handle, page_at(6)) == 0 && reads == 2);
+    OK(warm_close(&callers[0].handle));
+    nothing_left();
+}
+
+/* ---- frames ---- */
+
+/* Where no frame is free no page is read; also where pages are held. */
+static void test_no_room(void) {
+    warm_slot slot, slots[2];
+    open_all(1, 2);
+    MUST(warm_pin(&first, (warm_page){.dev = FAKE_DEVICES}, &slot) == WARM_NO_DEVICE);
+    MUST(warm_pin(&first, page_at(FAKE_PAGES), &slot) == WARM_NO_PAGE &&
+         warm_prefetch(&first, page_at(FAKE_PAGES)) == WARM_NO_PAGE && reads == 0);
+    pin_twice(&first, 0);
+    slots[0] = hold_page(&first, 0);
+    slots[1] = pin(&first, 1);
+    reads = 0;
+    MUST(warm_pin(&callers[0].handle, page_at(2), &slot) == WARM_ALL_PINNED &&
+         warm_prefetch(&first, page_at(2)) == WARM_ALL_PINNED);
+    MUST(reads == 0);
+    OK(warm_unpin(&first, slots[1]));
+    OK(warm_forget_pages(&first, 0, 1));
+    slots[1] = pin(&callers[1].handle, 2); /* the frame is free that had a page */
+    MUST(reads == 1 && slots[1].index == 1);
+    OK(warm_unpin(&callers[1].handle, slots[1]));
+    OK(warm_prefetch(&first, (warm_page){.dev = 1}));
+    OK(warm_replace(&first, 1, &in_place));
+    slots[1] = pin(&callers[1].handle, 3); /* so it is after this */
+    MUST(reads == 3 && slots[1].index == 1);
+    OK(warm_unpin(&callers[1].handle, slots[1]));
+    OK(warm_unpin(&first, slots[0]));
+    close_all();
+}
+
+/* Before a page is read the node is asked which one would leave, but where frames are left that no
+ * pin and no hold can have. */
+static int questions;
+
+static void count_it(void) { questions++; }
+
+static void test_much_room(void) {
+    warm handle = {0}, second = {0};
+    warm_slot slot, slots[FAKE_FRAMES];
+    at_victim = count_it;
+    OK(open_with(&handle, 1, 1, FAKE_FRAMES, devices, FAKE_DEVICES));
+    OK(warm_attach(&handle, &second));
+    for (int round = 0; round < 2; round++) {
+        for (uint64_t no = 0; no < FAKE_FRAMES; no++) {
+            int before = questions, asked = no < FAKE_FRAMES - 2 * HOLDS ? 1 : 3;
+            slots[no] = pin(no % 2 == 0 ? &handle : &second, no + FAKE_FRAMES * (uint64_t)round);
+            MUST(slots[no].hit == 0 && questions - before == (round == 0 ? 0 : asked));
+        }
+        reads = 0;
+        slot = (warm_slot){.generation = 99}; /* an unpin that is refused is none */
+        for (int at = 0; at < FAKE_FRAMES; at++) MUST(warm_unpin(&second, slot) == WARM_STALE_SLOT);
+        MUST(warm_pin(&second, page_at(400), &slot) == WARM_ALL_PINNED && reads == 0);
+        for (int at = 0; at < FAKE_FRAMES; at++)
+            OK(warm_unpin(at % 2 == 0 ? &handle : &second, slots[at]));
+    }
+    at_victim = NULL;
+    OK(warm_close(&second));
+    OK(warm_close(&handle));
+    nothing_left();
+}
+
+/* The last frame is taken while a page is read. */
+static void test_taken_frame(void) {
+    open_all(1, 1);
+    stops_at = 5;
+    begin(0, PINS, page_at(5));
+    until_begun(1);
+    warm_slot slot = pin(&first, 1);
+    may_end = 1;
+    MUST(end(0) == WARM_ALL_PINNED && !is_in(&first, 5) && callers[0].slot.generation == 77);
+    OK(warm_unpin(&first, slot));
+    OK(warm_prefetch(&first, page_at(5)));
+    MUST(is_in(&first, 5));
+    close_all();
+}
+
+/* Pages that cannot be written stay, and the page is read once, whichever leaves in the end. */
+static uint64_t stuck_below;
+
+static bool is_below(node_page page) { return page.no < stuck_below; }
+
+static void test_stuck_victims(void) {
+    open_all(1, 4);
+    for (uint64_t no = 0; no < 4; no++) write_to(&first, page_at(no), 'd');
+    in_files[10][5] = 'p';
+    is_stuck = is_below;
+    stuck_below = 3;
+    reads = 0;
+    MUST(read_from(&callers[0].handle, page_at(5)) == 'p' && reads == 1 && is_in(&first, 0) &&
+         !is_in(&first, 3));
+    must_have_failed(&callers[0].handle, 0, 0, WARM_FAILED_WRITE, EIO);
+    OK(warm_forget_pages(&first, 0, 5));
+    write_to(&first, page_at(3), 'd');
+    stuck_below = 4;
+    MUST(warm_prefetch(&callers[1].handle, page_at(5)) == WARM_EVICT_FAULT && !is_in(&first, 5));
+    is_stuck = NULL;
+    OK(warm_prefetch(&callers[1].handle, page_at(5)));
+    MUST(in_files[10][0] == 'd' && !is_in(&first, 0)); /* it was written before it left */
+    close_all();
+}
+
+/* ---- loads without a pin ---- */
+
+static uint64_t misses(void) {
+    warm_counters counters;
+    OK(warm_counts(&first, &counters));
+    return counters.misses;
+}
+
+/* They take no memory and are no misses, of which a fake node counts none; nor is a page read that
+ * is in a frame. Who is alone reads so, too, and takes no lock. */
+static void test_prefetching(void) {
+    warm handle = {0};
+    MUST(warm_prefetch(&handle, page_at(0)) == WARM_CLOSED);
+    open_all(1, 2);
+    for (int is_alone = 0; is_alone < 2; is_alone++) {
+        for (int number = 0; is_alone && number < MOST; number++)
+            OK(warm_close(&callers[number].handle));
+        uint64_t before = misses();
+        taken = 0;
+        reads = 0;
+        granted = 0;
+        for (uint64_t no = 4; no < 7; no++) {
+            in_files[10][no] = (uint8_t)no;
+            for (int time = 0; time < 2; time++) OK(warm_prefetch(&first, page_at(no)));
+        }
+        granted = SIZE_MAX;
+        MUST(reads == 3 && taken == (is_alone ? 0 : 3 * 2 + 3) && misses() == before - 3);
+        MUST(!is_in(&first, 4) && is_in(&first, 5) && is_in(&first, 6));
+        no_pins(&first);
+        warm_slot slot = pin(&first, 6);
+        MUST(slot.hit == 1 && *lent == 6);
+        OK(warm_unpin(&first, slot));
+        unreadable = 7;
+        MUST(warm_prefetch(&first, page_at(7)) == WARM_READ_FAULT);
+        must_have_failed(&first, 7, 0, WARM_FAILED_READ, ENXIO);
+        unreadable = INT64_MAX;
+        MUST(warm_prefetch(&first, (warm_page){.dev = FAKE_DEVICES}) == WARM_NO_DEVICE);
+        OK(warm_forget_pages(&first, 0, 0));
+    }
+    for (int number = 0; number < MOST; number++) OK(warm_attach(&first, &callers[number].handle));
+    close_all();
+}
+
+/* A step waits for a page that is read, and asks again. A page that it reads is waited for. */
+static void test_steps(void) {
+    const warm_reference seen = {.replica = 1};
+    open_all(1, 4);
+    for (int page = 1; page <= 2; page++) OK(warm_absorb(&first, &seen, 1));
+    uint64_t before = misses();
+    stops_at = 2;
+    begin(0, STEPS, page_at(0));
+    until_begun(1);
+    begin(1, STEPS, page_at(0));
+    begin(2, PINS, page_at(2));
+    until_waiting(2);
+    not_over(1);
+    may_end = 1;
+    for (int number = 0; number < 3; number++) MUST(end(number) == WARM_OK);
+    MUST(
+        callers[0].found && callers[0].page.no == 2 && callers[1].found && callers[1].page.no == 1);
+    MUST(callers[2].slot.hit == 1 && reads == 2 && misses() == before - 2);
+    unpin(2);
+    begin(0, STEPS, page_at(9));
+    MUST(end(0) == WARM_OK && !callers[0].found && callers[0].page.no == 9);
+    close_all();
+}
+
+/* A step that is refused says nothing of a page. */
+static void test_refused_steps(void) {
+    const warm_reference seen = {.replica = 1};
+    open_all(1, 1);
+    OK(warm_absorb(&first, &seen, 1));
+    unreadable = 0;
+    callers[0].found = false;
+    begin(0, STEPS, page_at(9));
+    MUST(end(0) == WARM_READ_FAULT && !callers[0].found && callers[0].page.no == 9);
+    unreadable = INT64_MAX;
+    warm_slot slot = pin(&first, 7);
+    begin(0, STEPS, page_at(9));
+    MUST(end(0) == WARM_ALL_PINNED && !callers[0].found && callers[0].page.no == 9);
+    OK(warm_unpin(&first, slot));
+    begin(0, STEPS, page_at(9));
+    MUST(end(0) == WARM_OK && callers[0].found && callers[0].page.no == 1 && is_in(&first, 1));
+    close_all();
+}
+
+/* A handle that is alone lets the node read, which need not copy the page. Which frames have a page
+ * is known after that, too. */
+static void test_alone(void) {
+    warm handle = {0}, second = {0};
+    warm_slot slot;
+    files_keep = true;
+    in_files[10][5] = 'p';
+    reads = 0;
+    open_shards(&handle, 1);
+    MUST(read_from(&handle, page_at(5)) == 'p' && reads == 0);
+    pin_twice(&handle, 5);
+    slot = hold_page(&handle, 5);
+    OK(warm_unpin(&handle, pin(&handle, 6)));
+    MUST(reads == 0);
+    OK(warm_unpin(&handle, slot));
+    OK(warm_forget_pages(&handle, 0, 0));
+    pin_twice(&handle, 5);
+    OK(warm_attach(&handle, &second));
+    slot = hold_page(&second, 5);
+    OK(warm_unpin(&second, pin(&second, 6))); /* into the other frame */
+    MUST(reads == 1);
+    OK(warm_unpin(&second, slot));
+    OK(warm_close(&second));
+    OK(warm_close(&handle));
+    files_keep = false;
+    nothing_left();
+}
+
+/* ---- threads ---- */
+
+enum { THREADS = 6, ROUNDS = 4000, PAGES = 10 };
+
+/* Bytes of pages of the first device, each under its lock; those of the second one do not change.
+ */
+static uint8_t model[PAGES];
+static pthread_mutex_t page_locks[PAGES];
+
+static uint64_t draw(uint64_t *drawn) {
+    *drawn ^= *drawn << 13;
+    *drawn ^= *drawn >> 7;
+    *drawn ^= *drawn << 17;
+    return *drawn * 2685821657736338717u >> 33;
+}
+
+static void yield_now_and_then(int fd, off_t at) {
+    static _Thread_local uint64_t drawn = 77;
+    (void)fd, (void)at;
+    if (draw(&drawn) % 3 == 0) sched_yield();
+}
+
+/* The page is pinned before its lock is taken, so that several threads wait for one read. */
+static void use_page(warm *handle, uint64_t no, bool writes) {
+    warm_slot slot;
+    uint8_t byte;
+    int status = warm_pin(handle, page_at(no), &slot);
+    MUST(status == WARM_OK || status == WARM_ALL_PINNED);
+    if (status != WARM_OK) return;
+    pthread_mutex_lock(&page_locks[no]);
+    OK(warm_read(handle, slot, 0, &byte, 1));
+    MUST(byte == model[no]);
+    if (writes) {
+        byte = ++model[no];
+        OK(warm_write(handle, slot, 0, &byte, 1));
+    }
+    pthread_mutex_unlock(&page_locks[no]);
+    OK(warm_unpin(handle, slot));
+}
+
+static void look_at_other(warm *handle, uint64_t no) {
+    warm_slot slot;
+    uint8_t byte;
+    int status = warm_pin(handle, (warm_page){.dev = 1, .no = no}, &slot);
+    MUST(status == WARM_OK || status == WARM_ALL_PINNED);
+    if (status != WARM_OK) return;
+    OK(warm_read(handle, slot, 0, &byte, 1));
+    MUST(byte == no + 1);
+    OK(warm_unpin(handle, slot));
+}
+
+static void *work(void *of) {
+    warm *handle = of;
+    uint64_t drawn = (uintptr_t)of | 1;
+    for (int round = 0; round < ROUNDS; round++) {
+        uint64_t what = draw(&drawn) % 32, no = draw(&drawn) % PAGES;
+        int status = WARM_OK;
+        if (what < 16) use_page(handle, no, what < 8);
+        else if (what < 26) look_at_other(handle, no);
+        else if (what < 28)
+            status = warm_prefetch(handle, (warm_page){.dev = (uint16_t)(what % 2), .no = no});
+        else if (what < 30) status = warm_forget_pages(handle, 1, no);
+        else if (what < 31) status = warm_replace(handle, 1, &devices[1]);
+        else OK(warm_write_back_all(handle));
+        MUST(status == WARM_OK || status == WARM_PINNED || status == WARM_ALL_PINNED);
+    }
+    OK(warm_close(handle));
+    return NULL;
+}
+
+static void test_threads(void) {
+    for (size_t shards = 1; shards <= 2; shards++) {
+        warm handle = {0}, attached[THREADS] = {{0}};
+        pthread_t threads[THREADS];
+        memset(in_files, 0, sizeof in_files);
+        memset(model, 0, sizeof model);
+        files_keep = true;
+        for (uint64_t no = 0; no < PAGES; no++) {
+            MUST(pthread_mutex_init(&page_locks[no], NULL) == 0);
+            in_files[11][no] = (uint8_t)(no + 1);
+        }
+        at_read = yield_now_and_then;
+        open_shards(&handle, shards);
+        for (int at = 0; at < THREADS; at++) {
+            OK(warm_attach(&handle, &attached[at]));
+            MUST(pthread_create(&threads[at], NULL, work, &attached[at]) == 0);
+        }
+        for (int at = 0; at < THREADS; at++) MUST(pthread_join(threads[at], NULL) == 0);
+        no_pins(&handle);
+        OK(warm_write_back_all(&handle));
+        for (uint64_t no = 0; no < PAGES; no++) MUST(in_files[10][no] == model[no]);
+        OK(warm_close(&handle));
+        nothing_left();
+        files_keep = false;
+        at_read = NULL;
+    }
+}
+
+int main(void) {
+    alarm(120);
+    test_together();
+    test_waiting();
+    test_waiting_for_one();
+    test_zeroing();
+    failing_reads(false);
+    failing_reads(true);
+    test_failure_leaves_records();
+    test_no_file();
+    test_forgetting();
+    forgetting_all(0);
+    forgetting_all(1);
+    test_forgotten_failure();
+    test_replacing();
+    test_replacing_by_less();
+    test_not_replacing();
+    test_closing();
+    test_no_room();
+    test_much_room();
+    test_taken_frame();
+    test_stuck_victims();
+    test_prefetching();
+    test_steps();
+    test_refused_steps();
+    test_alone();
+    test_threads();
+    puts("reads_test: as expected");
+    return 0;
+}
