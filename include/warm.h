@@ -45,7 +45,7 @@
 #include <stddef.h>
 #include <stdint.h>
 
-/* The version; the shared library's SONAME has its first number. */
+/* The SONAME has the first number. */
 #define WARM_VERSION_MAJOR 2
 #define WARM_VERSION_MINOR 0
 #define WARM_VERSION_PATCH 0
@@ -122,7 +122,7 @@ typedef struct warm {
     void *at;
 } warm;
 
-/* A page, dev:no. Devices are numbered from 0 in the order of warm_options, pages from 0. */
+/* A page, dev:no. Both are numbered from 0, devices in the order of warm_options. */
 typedef struct warm_page {
     uint16_t dev;
     uint64_t no;
@@ -144,8 +144,8 @@ typedef struct warm_slot {
 
 /* ---- open and close ---- */
 
-/* Calls of a device by the engine's own functions, with the device's context. length is the page
-   size; a later version may ask for several pages at once.
+/* A device by the engine's own functions, with its context. length is the page size; a later
+   version may ask for several pages at once.
    read, write and sync are all given, or all null for the descriptor's file. They return 0 or an
    errno; EAGAIN and EINTR count as EIO. read fills all bytes, or refuses, as where a checksum
    differs (WARM_READ_FAULT). sync makes durable all writes that had returned.
@@ -188,13 +188,14 @@ typedef struct warm_options {
     size_t device_count;
 } warm_options;
 
-/* Opens a closed handle: a replica with empty frames, all allocated here, and an empty history.
+/* Opens a closed handle: a replica with empty frames, allocated here, and an empty history.
    Without devices it is a history alone.
    Refused: WARM_ALREADY_OPEN, WARM_BAD_OPTIONS, WARM_BAD_SHARDS, WARM_UNEVEN_FRAMES,
    WARM_BAD_REPLICA, WARM_BAD_FRAMES, WARM_BAD_PAGE_SIZE, WARM_BAD_DEVICE, WARM_APPENDS,
    WARM_SAME_FILE; WARM_MEMORY at any point.
    Caller: until the replica ends, descriptors stay open, of the same file and without O_APPEND,
-   ops and contexts stay as they are, and nothing else writes to a page that may be in a frame.
+   ops and contexts stay as they are, and nothing else writes to a page that may be in a frame, or
+   syncs its file: another sync takes a failed write's error. No call syncs what the caller writes.
    O_DIRECT needs a multiple of 4,096 as page size, and no fork during a call. */
 int warm_open(warm *handle, const warm_options *options);
 
@@ -203,8 +204,7 @@ int warm_open(warm *handle, const warm_options *options);
    Refused: WARM_ALREADY_OPEN, WARM_MEMORY. */
 int warm_attach(warm *handle, warm *attached);
 
-/* Closes a handle; the one that opened the replica ends it, and flushes the devices. Nothing is
-   lost.
+/* Closes a handle; the one that opened the replica ends it, and flushes the devices.
    Refused: WARM_ATTACHED, WARM_PINS_LEFT; of the one that opened the replica WARM_DIRTY,
    WARM_WRITE_FAULT where a flush fails. */
 int warm_close(warm *handle);
