@@ -12,8 +12,8 @@
    handle is refused first, with WARM_CLOSED, but warm_close and warm_abandon leave it closed, with
    WARM_OK. errno means nothing after a call.
 
-   Shards. Page dev:no is in shard (dev + no) modulo their number. Each shard has the history of its
-   pages, and its part of the frames. Of its pages in frames that are not pinned, the one with the
+   Shards. Page dev:no is in shard (dev + no) modulo their number. Each shard has its pages' history,
+   and its part of the frames. Of its pages in frames that are not pinned, the one with the
    greatest backward 2-distance is evicted.
 
    Threads. Each thread has a handle of its own (warm_attach). A call on a page, a slot or a bucket
@@ -219,7 +219,7 @@ int warm_abandon(warm *handle);
    Refused: WARM_BAD_OPTIONS by its size. */
 int warm_settings(warm *handle, warm_options *options);
 
-/* The library's version. */
+/* The version. */
 const char *warm_version(void);
 
 /* A status in words, behind its name and a colon. */
