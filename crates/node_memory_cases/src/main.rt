@@ -23,7 +23,7 @@ fn play<T: Threads + Wait + Sync>(rt: &HostRuntime, threads: &T) -> Result<(), E
     }
     if kinds.promised {
         let mut met = Met::new();
-        let ended = promised::play(rt, &mut met, rt.alloc());
+        let ended = promised::play(rt, &mut met, threads, rt.alloc());
         report(rt, &met, ended)?;
     }
     Ok(())

@@ -6,22 +6,30 @@ mod filled;
 mod handed_back;
 mod kept;
 mod pools;
+mod posts;
 mod shards;
 mod sizes;
 
 use crate::promised::filled::Filled;
 use crate::promised::handed_back::HandedBack;
 use crate::promised::kept::Kept;
+use crate::promised::posts::Posts;
 use crate::promised::shards::Sharded;
 use std::alloc::Global;
 use std::io::Print;
+use std::sync::Wait;
 use test_kit::cases::{Ended, Met, is_done};
 use test_kit::memory;
 use warm_history::History;
 use warm_stamps::ByteList;
 use warm_turn::{Counter, Turn};
 
-pub(crate) fn play<P: Print>(rt: &P, met: &mut Met, alloc: Global) -> Result<(), Ended> {
+pub(crate) fn play<P: Print, R: Wait>(
+    rt: &P,
+    met: &mut Met,
+    waits: &R,
+    alloc: Global,
+) -> Result<(), Ended> {
     sizes::rows(rt, met, alloc)?;
     let kept = Kept::new(rt, met, alloc)?;
     let mut node = calls::opened(alloc, 1)?;
@@ -36,6 +44,7 @@ pub(crate) fn play<P: Print>(rt: &P, met: &mut Met, alloc: Global) -> Result<(),
     let sharded = Sharded::new(alloc)?;
     let handed_back = HandedBack::new(alloc)?;
     let filled = Filled::new(alloc)?;
+    let posts = Posts::new(alloc)?;
     // from here on nothing is allocated
     calls::rows(rt, met, &mut node, ByteList::of(bytes))?;
     sharded.rows(rt, met, alloc)?;
@@ -43,6 +52,7 @@ pub(crate) fn play<P: Print>(rt: &P, met: &mut Met, alloc: Global) -> Result<(),
     filled.rows(rt, met)?;
     pools::rows(rt, met, pool, &history, device)?;
     pools::turned(rt, met, turn, pass)?;
+    posts.rows(rt, met, waits, alloc)?;
     kept.rows(rt, met)?;
     is_done(rt)
 }

@@ -9,7 +9,7 @@ use test_kit::cases::{Ended, Met, takes_none};
 use test_kit::{alone, memory, page};
 use warm_devices::{MemDevice, PageDevice};
 use warm_pool::Slot;
-use warm_stamps::ByteList;
+use warm_stamps::{ByteList, PageId};
 use warm_world::{Answer, Event, Setup, World};
 
 // A device for one replica.
@@ -33,7 +33,18 @@ fn is_done_by(world: &mut World<MemDevice>, event: Event) -> bool {
     matches!(world.step(event), Answer::Done | Answer::Pinned(_))
 }
 
-// A world of one replica with a page that was written to, and bytes for another.
+// The replica takes in one reference to a page, at time 10.
+fn learns(world: &mut World<MemDevice>, page: PageId) -> Result<(), Ended> {
+    let is_known = is_done_by(world, Event::Refer(1, 1, page, 10))
+        && is_done_by(world, Event::Flush(1, 1));
+    if is_known {
+        return Ok(());
+    }
+    Err(Ended::NoMemory)
+}
+
+// A world of one replica with a page that was written to and referenced once, and bytes for
+// another.
 pub(crate) fn changed(met: &mut Met, alloc: Global) -> Result<(World<MemDevice>, ByteList), Ended> {
     let Ok(setup) = Setup::new(1, 1, 1, 1, 16) else {
         return Err(met.broken("the setup is within its limits"));
@@ -50,6 +61,7 @@ pub(crate) fn changed(met: &mut Met, alloc: Global) -> Result<(World<MemDevice>,
     let pinned = is_done_by(&mut world, Event::Pin(1, page(1)));
     met.holds(pinned, "a page is not pinned")?;
     met.holds(is_done_by(&mut world, put), "bytes are not put")?;
+    learns(&mut world, page(1))?;
     let other = bytes_of(alloc, b"cold")?;
     Ok((world, other))
 }
@@ -66,8 +78,18 @@ fn does<P: Print>(
     met.holds(is_done_by(world, event), "an event is refused")
 }
 
-// A reference is buffered; the page is unpinned and named as the victim; the replica restarts, and
-// another page is pinned and written to.
+// The unpinned page is named as the victim, and a horizon drops its only stamp.
+fn ranked<P: Print>(rt: &P, met: &mut Met, world: &mut World<MemDevice>) -> Result<(), Ended> {
+    takes_none(rt, "event of a victim")?;
+    let named = world.step(Event::Victim(1));
+    met.holds(matches!(named, Answer::Page(Some(_))), "no victim is named")?;
+    takes_none(rt, "event of a horizon")?;
+    let kept = world.step(Event::Horizon(1, 11));
+    met.holds(matches!(kept, Answer::Kept(11)), "no horizon is raised")
+}
+
+// A reference is buffered; the page is unpinned and named as the victim; a horizon rises; the
+// replica restarts, and another page is pinned and written to.
 fn events<P: Print>(
     rt: &P,
     met: &mut Met,
@@ -91,9 +113,7 @@ fn events<P: Print>(
         "event of a reference",
     )?;
     does(rt, met, world, Event::Unpin(1, first), "event of an unpin")?;
-    takes_none(rt, "event of a victim")?;
-    let named = world.step(Event::Victim(1));
-    met.holds(matches!(named, Answer::Page(Some(_))), "no victim is named")?;
+    ranked(rt, met, world)?;
     does(rt, met, world, Event::Restart(1), "event of a restart")?;
     does(rt, met, world, Event::Pin(1, other), "event of a pin")?;
     does(
