@@ -455,6 +455,29 @@ static void test_closing(void) {
     nothing_left();
 }
 
+/* A place in a file has 64 bits. A fake node has no page there, and refuses it after the read. */
+static off_t was_at;
+
+static void note_place(int fd, off_t at) {
+    (void)fd;
+    was_at = at;
+}
+
+static void test_far_place(void) {
+    static const warm_device far = {.pages = UINT64_C(1) << 40, .fd = 10};
+    const uint64_t no = (UINT64_C(1) << 33) + 5;
+    warm handle = {0}, second = {0};
+    files_keep = false; /* nor has a fake file */
+    at_read = note_place;
+    OK(open_with(&handle, 1, 1, 1, &far, 1));
+    OK(warm_attach(&handle, &second));
+    MUST(warm_prefetch(&second, page_at(no)) == WARM_NO_PAGE && was_at == (off_t)no);
+    at_read = NULL;
+    OK(warm_close(&second));
+    OK(warm_close(&handle));
+    nothing_left();
+}
+
 /* ---- frames ---- */
 
 /* Where no frame is free no page is read; also where pages are held. */
@@ -585,7 +608,7 @@ static void test_prefetching(void) {
         MUST(slot.hit == 1 && *lent == 6);
         OK(warm_unpin(&first, slot));
         unreadable = 7;
-        MUST(warm_prefetch(&first, page_at(7)) == WARM_READ_FAULT);
+        MUST(warm_prefetch(&first, page_at(7)) == WARM_READ_FAULT && misses() == before - 3);
         must_have_failed(&first, 7, 0, WARM_FAILED_READ, ENXIO);
         unreadable = INT64_MAX;
         MUST(warm_prefetch(&first, (warm_page){.dev = FAKE_DEVICES}) == WARM_NO_DEVICE);
@@ -663,6 +686,20 @@ static void test_alone(void) {
     OK(warm_close(&second));
     OK(warm_close(&handle));
     files_keep = false;
+    nothing_left();
+}
+
+/* A pin of a page that is in a frame fills no other one. */
+static void test_alone_hits(void) {
+    warm handle = {0}, second = {0};
+    open_shards(&handle, 1);
+    pin_twice(&handle, 5);
+    OK(warm_attach(&handle, &second));
+    warm_slot slot = hold_page(&second, 5);
+    OK(warm_unpin(&second, pin(&second, 6))); /* into the other frame */
+    OK(warm_unpin(&second, slot));
+    OK(warm_close(&second));
+    OK(warm_close(&handle));
     nothing_left();
 }
 
@@ -782,6 +819,7 @@ int main(void) {
     test_replacing_by_less();
     test_not_replacing();
     test_closing();
+    test_far_place();
     test_no_room();
     test_much_room();
     test_taken_frame();
@@ -790,6 +828,7 @@ int main(void) {
     test_steps();
     test_refused_steps();
     test_alone();
+    test_alone_hits();
     test_threads();
     puts("reads_test: as expected");
     return 0;
