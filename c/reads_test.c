@@ -101,8 +101,20 @@ static void open_all(size_t shards, size_t frames) {
     for (int number = 0; number < MOST; number++) OK(warm_attach(&first, &callers[number].handle));
 }
 
+/* How many frames have a page is known in each shard: with too few a page that is held could
+ * leave, with too many a load could be refused. */
+static void frames_are_counted(void) {
+    opened *its = first.at;
+    for (size_t number = 0; number < its->count; number++) {
+        node_counters counted = {0};
+        OK(node_counts(&its->shards[number].node, &counted));
+        MUST(its->shards[number].table.filled == counted.resident);
+    }
+}
+
 static void close_all(void) {
     opened *its = first.at;
+    frames_are_counted();
     for (int number = 0; number < MOST; number++) OK(warm_close(&callers[number].handle));
     no_pins(&first);
     for (size_t number = 0; number < its->count; number++) MUST(its->shards[number].reads == NULL);
@@ -428,6 +440,22 @@ static void test_not_replacing(void) {
     close_all();
 }
 
+/* One that is refused by the second shard has let pages of the first one go. */
+static void test_replacing_in_part(void) {
+    open_all(2, 4);
+    int status = WARM_MEMORY;
+    for (size_t grants = 0; status == WARM_MEMORY; grants++) {
+        for (uint64_t no = 0; no < 4; no++)
+            OK(warm_prefetch(&first, (warm_page){.dev = 1, .no = no}));
+        granted = grants;
+        status = warm_replace(&first, 1, &in_place);
+        granted = SIZE_MAX;
+        frames_are_counted();
+    }
+    MUST(status == WARM_OK);
+    close_all();
+}
+
 /* Who reads has an open handle, so that the replica does not end. The others close: the read ends
  * in a shard that was locked before, and that nobody else is in. */
 static void test_closing(void) {
@@ -498,6 +526,10 @@ static void test_no_room(void) {
     OK(warm_forget_pages(&first, 0, 1));
     slots[1] = pin(&callers[1].handle, 2); /* the frame is free that had a page */
     MUST(reads == 1 && slots[1].index == 1);
+    OK(warm_unpin(&callers[1].handle, slots[1]));
+    OK(warm_prefetch(&first, (warm_page){.dev = 1, .no = 7}));
+    OK(warm_replace(&first, 1, &in_place));
+    slots[1] = pin(&callers[1].handle, 3); /* so is that of a page whose device was replaced */
     OK(warm_unpin(&callers[1].handle, slots[1]));
     OK(warm_unpin(&first, slots[0]));
     close_all();
@@ -818,6 +850,7 @@ int main(void) {
     test_replacing();
     test_replacing_by_less();
     test_not_replacing();
+    test_replacing_in_part();
     test_closing();
     test_far_place();
     test_no_room();
