@@ -33,9 +33,9 @@ static void end_read(shard *in, reading *it) {
 }
 
 /* Counts a read, unless its device was replaced meanwhile. */
-static void count_read(opened *its, uint16_t dev, int32_t number, bool is_read) {
+static void count_read(opened *its, uint16_t dev, unsigned replaced, bool is_read) {
     known_device *known = &its->of->known[dev];
-    if (its->of->devices[dev].number != number) return;
+    if (known->replaced != replaced) return;
     atomic_fetch_add(&known->reads, 1);
     if (!is_read) atomic_fetch_add(&known->failures, 1);
 }
@@ -50,6 +50,7 @@ static int note_failed_read(opened *its, node_page page, int error) {
 int read_outside(opened *its, shard *in, node_page page, bool is_locked) {
     reading it = {.page = page};
     int32_t number = its->of->devices[page.dev].number;
+    unsigned replaced = its->of->known[page.dev].replaced;
     size_t size = its->of->page_size;
     begin_read(in, &it);
     leave(in, is_locked);
@@ -57,7 +58,7 @@ int read_outside(opened *its, shard *in, node_page page, bool is_locked) {
     int error = errno;
     if (is_locked) pthread_mutex_lock(&in->lock);
     end_read(in, &it);
-    count_read(its, page.dev, number, is_read);
+    count_read(its, page.dev, replaced, is_read);
     if (it.is_stale) return READ_AGAIN;
     return is_read ? WARM_OK : note_failed_read(its, page, error);
 }

@@ -99,8 +99,20 @@ static void open_all(size_t shards, size_t frames) {
     for (int number = 0; number < MOST; number++) OK(warm_attach(&first, &callers[number].handle));
 }
 
+/* How many frames have a page is known in each shard: with too few a page that is held could
+ * leave, with too many a load could be refused. */
+static void frames_are_counted(void) {
+    opened *its = first.at;
+    for (size_t number = 0; number < its->count; number++) {
+        node_counters counted = {0};
+        OK(node_counts(&its->shards[number].node, &counted));
+        MUST(its->shards[number].table.filled == counted.resident);
+    }
+}
+
 static void close_all(void) {
     opened *its = first.at;
+    frames_are_counted();
     for (int number = 0; number < MOST; number++) OK(warm_close(&callers[number].handle));
     no_pins(&first);
     for (size_t number = 0; number < its->count; number++) MUST(its->shards[number].reads == NULL);
@@ -427,6 +439,22 @@ static void test_not_replacing(void) {
     close_all();
 }
 
+/* One that is refused by the second shard has let pages of the first one go. */
+static void test_replacing_in_part(void) {
+    open_all(2, 4);
+    int status = WARM_MEMORY;
+    for (size_t grants = 0; status == WARM_MEMORY; grants++) {
+        for (uint64_t no = 0; no < 4; no++)
+            OK(warm_prefetch(&first, (warm_page){.dev = 1, .no = no}));
+        granted = grants;
+        status = warm_replace(&first, 1, &in_place);
+        granted = SIZE_MAX;
+        frames_are_counted();
+    }
+    MUST(status == WARM_OK);
+    close_all();
+}
+
 /* Who reads has an open handle, so that the replica does not end. The others close: the read ends
  * in a shard that was locked before, and that nobody else is in. */
 static void test_closing(void) {
@@ -451,6 +479,29 @@ static void test_closing(void) {
     unpin(0);
     MUST(read_from(&callers[0].handle, page_at(6)) == 0 && reads == 2);
     OK(warm_close(&callers[0].handle));
+    nothing_left();
+}
+
+/* A place in a file has 64 bits. A fake node has no page there, and refuses it after the read. */
+static off_t was_at;
+
+static void note_place(int fd, off_t at) {
+    (void)fd;
+    was_at = at;
+}
+
+static void test_far_place(void) {
+    static const warm_device far = {.pages = UINT64_C(1) << 40, .fd = 10};
+    const uint64_t no = (UINT64_C(1) << 33) + 5;
+    warm handle = {0}, second = {0};
+    files_keep = false; /* nor has a fake file */
+    at_read = note_place;
+    OK(open_with(&handle, 1, 1, 1, &far, 1));
+    OK(warm_attach(&handle, &second));
+    MUST(warm_prefetch(&second, page_at(no)) == WARM_NO_PAGE && was_at == (off_t)no);
+    at_read = NULL;
+    OK(warm_close(&second));
+    OK(warm_close(&handle));
     nothing_left();
 }
 
@@ -588,7 +639,7 @@ static void test_prefetching(void) {
         MUST(slot.hit == 1 && *lent == 6);
         OK(warm_unpin(&first, slot));
         unreadable = 7;
-        MUST(warm_prefetch(&first, page_at(7)) == WARM_READ_FAULT);
+        MUST(warm_prefetch(&first, page_at(7)) == WARM_READ_FAULT && misses() == before - 3);
         must_have_failed(&first, 7, 0, WARM_FAILED_READ, ENXIO);
         unreadable = INT64_MAX;
         MUST(warm_prefetch(&first, (warm_page){.dev = FAKE_DEVICES}) == WARM_NO_DEVICE);
@@ -666,6 +717,20 @@ static void test_alone(void) {
     OK(warm_close(&second));
     OK(warm_close(&handle));
     files_keep = false;
+    nothing_left();
+}
+
+/* A pin of a page that is in a frame fills no other one. */
+static void test_alone_hits(void) {
+    warm handle = {0}, second = {0};
+    open_shards(&handle, 1);
+    pin_twice(&handle, 5);
+    OK(warm_attach(&handle, &second));
+    warm_slot slot = hold_page(&second, 5);
+    OK(warm_unpin(&second, pin(&second, 6))); /* into the other frame */
+    OK(warm_unpin(&second, slot));
+    OK(warm_close(&second));
+    OK(warm_close(&handle));
     nothing_left();
 }
 
@@ -784,7 +849,9 @@ int main(void) {
     test_replacing();
     test_replacing_by_less();
     test_not_replacing();
+    test_replacing_in_part();
     test_closing();
+    test_far_place();
     test_no_room();
     test_much_room();
     test_taken_frame();
@@ -793,6 +860,7 @@ int main(void) {
     test_steps();
     test_refused_steps();
     test_alone();
+    test_alone_hits();
     test_threads();
     puts("reads_test: as expected");
     return 0;

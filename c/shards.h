@@ -33,6 +33,7 @@ typedef struct shard {
  * And they have not the writes of pages that were passed over, which the nodes take for made. */
 typedef struct known_device {
     int synced_as; /* see devices.h; who is in a shard reads it, who is in all changes it */
+    unsigned replaced; /* how often the device was; read and changed as synced_as is */
     _Atomic uint64_t flushes, failures, passed, reads;
 } known_device;
 

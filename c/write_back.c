@@ -333,6 +333,7 @@ static int replace_in_all(opened *its, uint16_t dev, const node_device *device) 
 
 /* A device with a flush that has failed is replaced by none: the failures were of reads. */
 static void begin_counts(known_device *known) {
+    known->replaced++;
     atomic_store(&known->passed, 0);
     atomic_store(&known->reads, 0);
     atomic_store(&known->failures, 0);
