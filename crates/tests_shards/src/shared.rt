@@ -9,6 +9,7 @@ use test_kit::{SeenAt, page, seen};
 use warm_devices::MemDevice;
 use warm_frames::Message;
 use warm_gossip::{Node, NodeFault};
+use warm_pool::PoolFault;
 use warm_shards::ShardSlot;
 use warm_shared::{Attached, SharedFault, SharedShards};
 use warm_stamps::{Bucket, ByteList};
@@ -84,6 +85,24 @@ fn is_written<R: Wait + Abort>(
     let written = shared.write(rt, attached, at, 0, ByteList::of(bytes));
     let unpinned = shared.unpin(rt, attached, at);
     written.is_ok() && unpinned.is_ok()
+}
+
+#[test]
+fn bytes_are_read_into_a_vector(rt: HostRuntime) {
+    let alloc = rt.alloc();
+    let (shared, mut first) = shared_of(&rt, alloc, 1, 2);
+    assert!(rt; is_written(&rt, alloc, &shared, &mut first, 1));
+    let at = shared.pin(&rt, &mut first, page(1));
+    let at = at.ok().expect(&rt, "page 1 is pinned");
+    let mut into = vec![in alloc; 9; 2].expect(&rt, "memory for bytes");
+    assert!(rt; shared.read_into(&rt, &mut first, at, 0, &mut into).is_ok());
+    assert!(rt; into.as_slice() == [7, 0].as_slice());
+    let beyond = Err(SharedFault::Node(NodeFault::Pool(PoolFault::OutOfPage)));
+    assert!(rt; shared.read_into(&rt, &mut first, at, 15, &mut into) == beyond);
+    assert!(rt; shared.unpin(&rt, &mut first, at).is_ok());
+    let stale = Err(SharedFault::Node(NodeFault::StaleSlot));
+    assert!(rt; shared.read_into(&rt, &mut first, at, 0, &mut into) == stale);
+    assert!(rt; into.as_slice() == [7, 0].as_slice());
 }
 
 #[test]

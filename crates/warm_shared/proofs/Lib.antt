@@ -11,3 +11,4 @@ pub mod LawsHold
 pub mod Sent
 pub mod Holding
 pub mod Lends
+pub mod Reading

@@ -1,11 +1,14 @@
 -- What visitors of a shard return, and by which replies they say what they did.
-use Rattle.std.specs.Prelude.{◌≡◌, ℕ, List}
+use Rattle.std.specs.Prelude.{◌≡◌, ◌≢◌, ℕ, List, Option, Some, None}
 use Rattle.boxcar.specs.declared.tag.Tag.{Tag}
+use Rattle.warm_gossip.specs.declared.fault.NodeFault.{NodeFault}
+use Rattle.warm_gossip.specs.declared.fault.NodeFault.TheVariants.{Memory}
 use Rattle.warm_pool.specs.declared.slot.Slot.{Slot}
 use Rattle.warm_stamps.specs.declared.PageId.{PageId}
 use Rattle.warm_shared.specs.declared.call.ShardCall.TheVariants.{Change, Look}
 use Rattle.warm_shared.specs.declared.call.ShardReply.{ShardReply}
-use Rattle.warm_shared.specs.declared.call.ShardReply.TheVariants.{Changed, Foreign, Looked, Refused}
+use Rattle.warm_shared.specs.declared.call.ShardReply.TheVariants.{Bytes, Changed, Foreign}
+use Rattle.warm_shared.specs.declared.call.ShardReply.TheVariants.{Looked, Refused}
 use Rattle.warm_shared.specs.declared.visitors.Went.{Went}
 use Rattle.warm_shared.specs.declared.visitors.Went.TheVariants as went
 use Rattle.warm_shared.specs.Attached.{ShardPass}
@@ -26,6 +29,12 @@ abbrev pub WentAs : {T : Type 0} → (T → ShardReply → Type 0) → Went T �
 WentAs so (went.Given given) reply = so given reply
 WentAs so (went.Refused why) reply = reply ≡ Refused why
 WentAs so went.Foreign reply = reply ≡ Foreign
+
+-- How a read into these bytes went, and what they then are: they are the reply; or they are as they
+-- were, and the reply is a refusal, though never for memory.
+abbrev pub ReadsInto : List ℕ → Option NodeFault → List ℕ → ShardReply → Type 0
+ReadsInto old None new reply = reply ≡ Bytes new
+ReadsInto old (Some why) new reply = (reply ≡ Refused why) × (new ≡ old) × (why ≢ Memory)
 
 -- the shard of this number showed bytes of the page of which this is so, in one turn, and no other
 -- was entered

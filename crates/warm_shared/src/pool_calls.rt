@@ -1,5 +1,6 @@
 //! The calls on the pool of one shard, each in one turn of that shard.
 ghost use Rattle.std.specs.Prelude.{◌≡◌, ◌≢◌, ◌<◌, ◌+◌, Err, length, IfErr, IfOk, OnErr, OnOk};
+ghost use Rattle.warm_gossip.specs.declared.fault.NodeFault.TheVariants.{Memory};
 ghost use Rattle.warm_shards.specs.Shards.{shard_of};
 ghost use Rattle.warm_shared.specs.Attached.{AreOf, AreTurns};
 ghost use Rattle.warm_shared.specs.Clauses.{CallEnds, SlotCallEnds, done};
@@ -8,12 +9,15 @@ ghost use Rattle.warm_shared.specs.declared.call.ShardCall.TheVariants.{Pin, Rea
 ghost use Rattle.warm_shared.specs.declared.call.ShardCall.TheVariants.{WarmStep, Write};
 ghost use Rattle.warm_shared.specs.declared.call.ShardReply.TheVariants.{Bytes, Loaded, Page};
 ghost use Rattle.warm_shared.specs.declared.call.ShardReply.TheVariants.{Pinned};
-ghost use Rattle.warm_shared.specs.declared.fault.SharedFault.TheVariants.{NoPins, PinsFull};
+ghost use Rattle.warm_shared.specs.declared.fault.SharedFault.TheVariants.{NoPins, Node};
+ghost use Rattle.warm_shared.specs.declared.fault.SharedFault.TheVariants.{PinsFull};
 
 use crate::call::{ShardCall, ShardReply};
 use crate::fault::SharedFault;
 use crate::shard::Shard;
-use crate::shared::{Attached, SharedShards, call_shard};
+use crate::shared::{Attached, SharedShards, call_shard, visit_or_back, visit_shard};
+use crate::visitors::{Pinning, ReadInto, Reading, Unpinning, Went};
+use std::mem::replace;
 use std::sync::Wait;
 use warm_devices::PageDevice;
 use warm_gossip::NodeFault;
@@ -37,10 +41,32 @@ fn pin_in<D: PageDevice + Send, R: Wait>(
     ensures passes { AreOf turns.now.items passes.new.items }
     ensures ends { CallEnds passes.old.items shard (Pin page) Pinned result passes.new.items }
 {
-    match call_shard(rt, turns, passes, shard, ShardCall::Pin(page))? {
-        ShardReply::Pinned(slot) => Ok(slot),
-        ShardReply::Refused(why) => Err(SharedFault::Node(why)),
-        _ => unreachable!(),
+    match visit_shard(rt, turns, passes, shard, Pinning { page })? {
+        Went::Given(slot) => Ok(slot),
+        Went::Refused(why) => Err(SharedFault::Node(why)),
+        Went::Foreign => unreachable!(),
+    }
+}
+
+// Removes a pin from a slot's page.
+fn unpin_in<D: PageDevice + Send, R: Wait>(
+    rt: &R,
+    turns: &Vec<Turn<Shard<D>>>,
+    passes: &mut Vec<Pass<Shard<D>>>,
+    at: ShardSlot,
+) -> Result<(), SharedFault>
+    requires turns { AreTurns turns.now.items }
+    requires passes { AreOf turns.now.items passes.old.items }
+    requires there { at.shard < length turns.now.items }
+    ensures passes { AreOf turns.now.items passes.new.items }
+    ensures ends { CallEnds passes.old.items at.shard (Unpin at.slot) done result
+        passes.new.items }
+{
+    let ShardSlot { shard, slot } = at;
+    match visit_shard(rt, turns, passes, shard, Unpinning { slot })? {
+        Went::Given(()) => Ok(()),
+        Went::Refused(why) => Err(SharedFault::Node(why)),
+        Went::Foreign => unreachable!(),
     }
 }
 
@@ -87,6 +113,34 @@ fn read_in<D: PageDevice + Send, R: Wait>(
         ShardReply::Bytes(bytes) => Ok(bytes),
         ShardReply::Refused(why) => Err(SharedFault::Node(why)),
         _ => unreachable!(),
+    }
+}
+
+// Reads bytes of a slot's page into a vector, and gives it back.
+fn read_into_in<D: PageDevice + Send, R: Wait>(
+    rt: &R,
+    turns: &Vec<Turn<Shard<D>>>,
+    passes: &mut Vec<Pass<Shard<D>>>,
+    slot: ShardSlot,
+    at: usize,
+    into: Vec<u8>,
+) -> (Vec<u8>, Result<(), SharedFault>)
+    requires turns { AreTurns turns.now.items }
+    requires passes { AreOf turns.now.items passes.old.items }
+    requires there { slot.shard < length turns.now.items }
+    ensures passes { AreOf turns.now.items passes.new.items }
+    ensures ends { CallEnds passes.old.items slot.shard (Read slot.slot at (length into.items))
+        (λ _. Bytes result.0.items) result.1 passes.new.items }
+    ensures same { OnErr result.1 (result.0.items ≡ into.items) }
+    ensures no_memory { IfErr result.1 (λ why. why ≢ Node Memory) }
+{
+    let ShardSlot { shard, slot } = slot;
+    match visit_or_back(rt, turns, passes, shard, Reading { slot, at, into }) {
+        Ok(ReadInto { into, refused }) => match refused {
+            None => (into, Ok(())),
+            Some(why) => (into, Err(SharedFault::Node(why))),
+        },
+        Err(Reading { into, .. }) => (into, Err(SharedFault::TurnsSpent)),
     }
 }
 
@@ -194,13 +248,7 @@ impl<D: PageDevice + Send> SharedShards<D> {
         if at.shard >= self.turns.len() {
             return Err(SharedFault::Node(NodeFault::StaleSlot));
         }
-        do_in(
-            rt,
-            &self.turns,
-            &mut attached.passes,
-            at.shard,
-            ShardCall::Unpin(at.slot),
-        )?;
+        unpin_in(rt, &self.turns, &mut attached.passes, at)?;
         attached.pins -= 1;
         Ok(())
     }
@@ -230,6 +278,39 @@ impl<D: PageDevice + Send> SharedShards<D> {
         }
         let bytes = read_in(rt, &self.turns, &mut attached.passes, slot, at, len)?;
         Ok(bytes)
+    }
+
+    /// Reads bytes of the slot's page, from `at` on, into the whole of `into`: one turn of the
+    /// slot's shard, in which the call `Read` of that length is answered. Allocation-free.
+    ///
+    /// # Errors
+    /// `Node(StaleSlot)`, where there is no such shard; no turn was entered. `Node`, with the fault
+    /// of [`warm_gossip::Node::read_into`] in the shard. `TurnsSpent`. `into` is then as it was.
+    pub fn read_into<R: Wait>(
+        &self,
+        rt: &R,
+        attached: &mut Attached<D>,
+        slot: ShardSlot,
+        at: usize,
+        into: &mut Vec<u8>,
+    ) -> Result<(), SharedFault>
+        requires { AreOf self.now attached.old.passes }
+        ensures attached { AreOf self.now attached.new.passes }
+        ensures ends { SlotCallEnds attached.old.passes slot.shard
+            (Read slot.slot at (length into.old.items)) (λ _. Bytes into.new.items) result
+            attached.new.passes }
+        ensures same { OnErr result (into.new.items ≡ into.old.items) }
+        ensures no_memory { IfErr result (λ why. why ≢ Node Memory) }
+        ensures pins { attached.new.pins ≡ attached.old.pins }
+    {
+        if slot.shard >= self.turns.len() {
+            return Err(SharedFault::Node(NodeFault::StaleSlot));
+        }
+        let none = Vec::new(*into.allocator());
+        let taken = replace(into, none);
+        let (filled, read) = read_into_in(rt, &self.turns, &mut attached.passes, slot, at, taken);
+        *into = filled;
+        read
     }
 
     /// Writes bytes into the slot's page, from `at` on: one turn of the slot's shard, in which the

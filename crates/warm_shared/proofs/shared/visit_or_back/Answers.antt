@@ -2,10 +2,10 @@ use Rattle.std.proofs.Common.{◌≡◌, ◌<◌, length, arith}
 use Rattle.warm_shared.specs.Attached.{no_pass, shard_pass}
 use Rattle.warm_shared.proofs.Passing.{answered, called_of, may}
 use Rattle.warm_shared.proofs.Places.{read_at}
-use Rattle.warm_shared.proofs.shared.visit_shard.Goals as goal
+use Rattle.warm_shared.proofs.shared.visit_or_back.Goals as goal
 
-pub returns-clause-visited : goal.returns-clause-visited
-returns-clause-visited g c =
+pub returns-in-Ok-clause-visited : goal.returns-in-Ok-clause-visited
+returns-in-Ok-clause-visited g c =
     let turns = c.args.turns.now.items in
     let old = c.args.passes.now.items in
     let i = c.args.shard in
@@ -13,7 +13,7 @@ returns-clause-visited g c =
     let p = c.visit.new.pass in
     let lt : i < length old = omega (arith, c.requires.passes.count, c.requires.there) in
     let is : n ≡ shard_pass old i = read_at old i n n no_pass lt c.index_mut.ensures.value in
-    let made = c.in_ok-output.ensures.visited in (
+    let made = c.in-Ok.ensures.visited in (
       made.0,
       made.1,
       made.2,
