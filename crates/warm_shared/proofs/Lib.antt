@@ -11,4 +11,5 @@ pub mod LawsHold
 pub mod Sent
 pub mod Holding
 pub mod Lends
+pub mod Beside
 pub mod Reading

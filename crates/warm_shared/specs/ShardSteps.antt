@@ -1,5 +1,6 @@
 -- A shard as a machine: the calls of a node that it answers, and its steps.
-use Rattle.std.specs.Prelude.{◌≡◌, ℕ, ◌%◌, ◌<◌, List, length, Option, Some, None, Result, Ok, Err}
+use Rattle.std.specs.Prelude.{◌≡◌, ◌≢◌, ◌↔◌, ◌⊎◌, ℕ, ◌%◌, ◌<◌, ◌≤◌, Bool, IsTrue, List, length, map}
+use Rattle.std.specs.Prelude.{Option, Some, None, Result, Ok, Err, if◌then◌else◌}
 use Rattle.std.specs.Int.{bit_at}
 use Rattle.std.specs.List.{All}
 use Rattle.warm_stamps.specs.declared.TheConstants.{BUCKETS}
@@ -10,10 +11,16 @@ use Rattle.warm_gossip.specs.declared.call.Call.TheVariants as node_call
 use Rattle.warm_gossip.specs.declared.call.Reply.{Reply}
 use Rattle.warm_gossip.specs.declared.call.Reply.TheVariants as node_reply
 use Rattle.warm_gossip.specs.declared.fault.NodeFault.{NodeFault}
-use Rattle.warm_gossip.specs.declared.fault.NodeFault.TheVariants.{Pool}
-use Rattle.warm_pool.specs.declared.fault.PoolFault.TheVariants.{Fault}
+use Rattle.warm_gossip.specs.declared.fault.NodeFault.TheVariants.{Memory, Pool}
+use Rattle.warm_pool.specs.declared.fault.PoolFault.TheVariants.{Fault, Fixed, NoDevice}
+use Rattle.warm_pool.specs.Forgetting.{AreUnfixedFrom, Forgets, IsFixedFrom}
+use Rattle.warm_pool.specs.Retiring.{emptied}
 use Rattle.warm_pool.specs.State.{IsSettled}
-use Rattle.warm_pool.specs.WritingSome.{CleansFirst, SomeFails}
+use Rattle.warm_pool.specs.View.{HasPage, PoolView, contents_at}
+use Rattle.warm_pool.specs.WritingBack.{is_from}
+use Rattle.warm_pool.specs.WritingSome.{CleansFirst, SomeFails, WritesBackSome}
+use Rattle.warm_pool.specs.Zeroing.{PinnedZeroed, TakesZeroed, ZeroedRefused}
+use Rattle.warm_gossip.specs.Since.{HasMoreSince, sent_since}
 use Rattle.warm_gossip.specs.State.{NodeState, NodeView, node_view, empty_node}
 use Rattle.warm_gossip.specs.Step.{IsFailed, OnPool, Refuses, Step}
 use Rattle.warm_pool.specs.PageBytes.{IsLent}
@@ -26,10 +33,13 @@ use Rattle.warm_shared.specs.declared.call.ShardCall.TheVariants.{Write, Victim,
 use Rattle.warm_shared.specs.declared.call.ShardCall.TheVariants.{Answer, Offer, Send}
 use Rattle.warm_shared.specs.declared.call.ShardCall.TheVariants.{WritePages, WriteBack}
 use Rattle.warm_shared.specs.declared.call.ShardCall.TheVariants.{Look, Change}
+use Rattle.warm_shared.specs.declared.call.ShardCall.TheVariants.{WriteSome, SendSince, WarmList}
+use Rattle.warm_shared.specs.declared.call.ShardCall.TheVariants.{PinZeroed, ForgetPages}
 use Rattle.warm_shared.specs.declared.call.ShardReply.{ShardReply}
 use Rattle.warm_shared.specs.declared.call.ShardReply.TheVariants.{Done, Kept, Pinned, Bytes, Page}
 use Rattle.warm_shared.specs.declared.call.ShardReply.TheVariants.{Loaded, Sent, Answers, Foreign}
 use Rattle.warm_shared.specs.declared.call.ShardReply.TheVariants.{Refused, Looked, Changed}
+use Rattle.warm_shared.specs.declared.call.ShardReply.TheVariants.{Left, Portion, Pages}
 
 -- a shard: how many there are, its number, and its node
 pub record ShardState : Type 0 where
@@ -61,13 +71,25 @@ no_shard_view = record { count = 0; number = 0; node = empty_node }
 abbrev pub request_for : ℕ → Message
 request_for request = Want 1 0 request
 
--- what a shard asks of its node: a call; to write back; or several calls in one turn, of a page
--- that is looked at, or changed
+-- What a node does in one step: a call; a write-back; a pin of a page that gets zeros; or it forgets
+-- the pages of a device from a number on.
+pub data Work : Type 0 where
+  calling : Call → Work
+  writing : Work
+  zeroing : PageId → Work
+  forgetting : ℕ → ℕ → Work
+
+-- what a shard asks of its node: one step; to write back some pages; what is new in a bucket since a
+-- time; or several calls in one turn, of a page that is looked at, or changed
 pub data Asked : Type 0 where
-  of_node : Call → Asked
-  writing_back : Asked
+  doing : Work → Asked
+  writing_some : Asked
+  sending_since : ℕ → ℕ → Option PageId → Asked
   looking : PageId → Asked
   changing : PageId → Asked
+
+abbrev pub of_node : Call → Asked
+of_node call = doing (calling call)
 
 -- what this call asks of the node
 abbrev pub asked_of : ShardCall → Asked
@@ -82,10 +104,15 @@ asked_of WarmStep = of_node node_call.WarmStep
 asked_of Offer = of_node node_call.Offer
 asked_of (Send bucket after) = of_node (node_call.Send bucket after)
 asked_of (Answer request) = of_node (node_call.Receive (request_for request))
-asked_of WritePages = writing_back
-asked_of WriteBack = writing_back
+asked_of WritePages = doing writing
+asked_of WriteBack = doing writing
 asked_of (Look page) = looking page
 asked_of (Change page) = changing page
+asked_of (WriteSome limit) = writing_some
+asked_of (SendSince bucket since after) = sending_since bucket since after
+asked_of (WarmList n) = of_node (node_call.WarmList n)
+asked_of (PinZeroed page) = doing (zeroing page)
+asked_of (ForgetPages dev from) = doing (forgetting dev from)
 
 -- the reply of a node that this is, if it is one
 abbrev pub node_reply_of : ShardReply → Option Reply
@@ -97,9 +124,12 @@ node_reply_of (Page page) = Some (node_reply.Page page)
 node_reply_of (Loaded page) = Some (node_reply.Loaded page)
 node_reply_of (Sent message) = Some (node_reply.Sent message)
 node_reply_of (Answers messages) = Some (node_reply.Answers messages)
+node_reply_of (Pages pages) = Some (node_reply.Pages pages)
 node_reply_of (Refused why) = Some (node_reply.Refused why)
 node_reply_of (Looked slot bytes) = None
 node_reply_of (Changed slot before after) = None
+node_reply_of (Left left) = None
+node_reply_of (Portion message more) = None
 node_reply_of Foreign = None
 
 -- the number of the shard that has the pages of a bucket, of this many shards
@@ -118,6 +148,7 @@ IsOwn count number (Pin page) = shard_of count page ≡ number
 IsOwn count number (Answer request) = AreOwnBuckets count number request
 IsOwn count number (Look page) = shard_of count page ≡ number
 IsOwn count number (Change page) = shard_of count page ≡ number
+IsOwn count number (PinZeroed page) = shard_of count page ≡ number
 IsOwn count number call = Unit {0}
 
 -- Steps
@@ -129,11 +160,43 @@ WritesBack old node_reply.Done new = new ≡ old
 WritesBack old (node_reply.Refused (Pool Fault)) new = OnPool IsFailed old new
 WritesBack old reply new = ⊥
 
--- the step of a node with this reply, if it is one of a node; without a call, it writes back
-abbrev pub NodeStep : NodeView → Option Call → Option Reply → NodeView → Type 0
-NodeStep old call None new = ⊥
-NodeStep old (Some call) (Some reply) new = Step old call reply new
-NodeStep old None (Some reply) new = WritesBack old reply new
+-- a pin of a page that gets zeros, refused as a pin is but for a failed read
+abbrev pub Zeroes : NodeView → PageId → Reply → NodeView → Type 0
+Zeroes old page (node_reply.Pinned slot) new =
+    OnPool (λ v w. PinnedZeroed old.history v page slot w) old new
+Zeroes old page (node_reply.Refused (Pool why)) new =
+    OnPool (λ v w. ZeroedRefused old.history v page why w) old new
+Zeroes old page reply new = ⊥
+
+-- The pages of a device from a number on left their frames, of which none was pinned. Every other
+-- page has the bytes that it had.
+pub record ForgetsFrom (dev from : ℕ) (old new : PoolView) : Type 0 where
+  pub there : dev < length old.devices
+  pub unfixed : AreUnfixedFrom old dev from
+  pub becomes : new ≡ record old {
+    frames = map (λ f. if is_from dev from f.page then emptied f else f) old.frames;
+    contents = new.contents;
+  }
+  pub others : (p : PageId) → HasPage old p → (p.dev ≢ dev) ⊎ (p.no < from)
+      → contents_at new p ≡ contents_at old p
+
+-- the pages were forgotten; or there is no such device, or one of them is pinned, and nothing has
+-- changed
+abbrev pub ForgetsPages : NodeView → ℕ → ℕ → Reply → NodeView → Type 0
+ForgetsPages old dev from node_reply.Done new = OnPool (ForgetsFrom dev from) old new
+ForgetsPages old dev from (node_reply.Refused (Pool NoDevice)) new =
+    (length old.pool.devices ≤ dev) × (new ≡ old)
+ForgetsPages old dev from (node_reply.Refused (Pool Fixed)) new =
+    (dev < length old.pool.devices) × IsFixedFrom old.pool dev from × (new ≡ old)
+ForgetsPages old dev from reply new = ⊥
+
+-- the step of a node with this reply, if it is one of a node
+abbrev pub NodeStep : NodeView → Work → Option Reply → NodeView → Type 0
+NodeStep old work None new = ⊥
+NodeStep old (calling call) (Some reply) new = Step old call reply new
+NodeStep old writing (Some reply) new = WritesBack old reply new
+NodeStep old (zeroing page) (Some reply) new = Zeroes old page reply new
+NodeStep old (forgetting dev from) (Some reply) new = ForgetsPages old dev from reply new
 
 -- A look at a page: the page is pinned, its bytes are lent, and it is unpinned.
 pub record Looks (old : NodeView) (page : PageId) (slot : Slot) (bytes : List ℕ) (new : NodeView)
@@ -155,10 +218,22 @@ pub record Changes (old : NodeView) (page : PageId) (slot : Slot) (before after 
   pub writes : Step mid (node_call.Write slot 0 after) node_reply.Done left
   pub unpins : Step left (node_call.Unpin slot) node_reply.Done new
 
+-- the message of what is new in a bucket since a time, and whether more follows
+abbrev pub IsPortion : NodeView → ℕ → ℕ → Option PageId → Message → Bool → Type 0
+IsPortion s bucket since after message more =
+    (message ≡ sent_since s.id s.history bucket since after)
+    × (IsTrue more ↔ HasMoreSince s.history bucket since after)
+
 -- The step of a node that was asked so. A look and a change are refused as a pin of the page is.
 abbrev pub NodeGoes : NodeView → Asked → ShardReply → NodeView → Type 0
-NodeGoes old (of_node call) reply new = NodeStep old (Some call) (node_reply_of reply) new
-NodeGoes old writing_back reply new = NodeStep old None (node_reply_of reply) new
+NodeGoes old (doing work) reply new = NodeStep old work (node_reply_of reply) new
+NodeGoes old writing_some (Left left) new = WritesBack old node_reply.Done new
+NodeGoes old writing_some (Refused why) new = WritesBack old (node_reply.Refused why) new
+NodeGoes old writing_some reply new = ⊥
+NodeGoes old (sending_since bucket since after) (Portion message more) new =
+    IsPortion old bucket since after message more × (new ≡ old)
+NodeGoes old (sending_since bucket since after) (Refused Memory) new = new ≡ old
+NodeGoes old (sending_since bucket since after) reply new = ⊥
 NodeGoes old (looking page) (Looked slot bytes) new = Looks old page slot bytes.numbers new
 NodeGoes old (looking page) (Refused why) new = Refuses old (node_call.Pin page) why new
 NodeGoes old (looking page) reply new = ⊥
@@ -184,13 +259,19 @@ AnsweredAs old call (Err why) new =
     NodeGoes (node_view old) (asked_of call) (Refused why) (node_view new)
 
 -- What a caller does not see of a shard that writes back: all its dirty pages were written, since
--- no more are dirty than there are frames; or those before the one whose write failed. After
--- `WriteBack` no page is dirty and no device is unflushed.
+-- no more are dirty than there are frames, or as many as were asked for; or those before the one
+-- whose write failed. After `WriteBack` no page is dirty and no device is unflushed. A page with
+-- zeros is dirty. A page that is forgotten has the bytes that its device has.
 abbrev pub LeavesWritten : NodeState → ShardCall → ShardReply → NodeState → Type 0
 LeavesWritten old WritePages Done new = CleansFirst (length old.pool.frames) old.pool new.pool
 LeavesWritten old WritePages (Refused why) new =
     SomeFails (length old.pool.frames) old.pool new.pool
 LeavesWritten old WriteBack Done new = IsSettled new.pool
+LeavesWritten old (WriteSome limit) (Left left) new =
+    WritesBackSome limit old.pool left new.pool
+LeavesWritten old (WriteSome limit) (Refused why) new = SomeFails limit old.pool new.pool
+LeavesWritten old (PinZeroed page) (Pinned slot) new = TakesZeroed old.pool page slot new.pool
+LeavesWritten old (ForgetPages dev from) Done new = Forgets old.pool dev from new.pool
 LeavesWritten old call reply new = Unit {0}
 
 -- the same of a node that was asked to answer the call

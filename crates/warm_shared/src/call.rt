@@ -5,10 +5,10 @@ use boxcar::tag::Tag;
 use warm_frames::{BoxedMessage, MessageList};
 use warm_gossip::NodeFault;
 use warm_pool::Slot;
-use warm_stamps::{Bucket, BucketSet, ByteList, PageId, RefList};
+use warm_stamps::{Bucket, BucketSet, ByteList, PageId, PageList, RefList};
 
-/// A call of a shard: a call of its node, one that writes back, or one that pins a page, uses its
-/// bytes where they lie, and unpins it.
+/// A call of a shard: a call of its node, what an engine asks of it beside the calls, or one that
+/// pins a page, uses its bytes where they lie, and unpins it.
 #[derive(Drop)]
 pub enum ShardCall {
     /// Add these references to the history. All must be to pages of the shard.
@@ -60,6 +60,29 @@ pub enum ShardCall {
     Look(PageId),
     /// Let the bytes of a page of the shard be changed, and load it where it isn't resident.
     Change(PageId),
+    /// Write back at most this many dirty pages of the shard. No device is flushed.
+    WriteSome(usize),
+    /// Give the first entries of a bucket, of those whose page is greater than `after` and whose
+    /// latest stamp is not before `since`.
+    SendSince {
+        /// The bucket.
+        bucket: Bucket,
+        /// The time.
+        since: u64,
+        /// The page after which they begin, or `None` for the first of the bucket.
+        after: Option<PageId>,
+    },
+    /// Name this many of the hottest pages of the shard.
+    WarmList(usize),
+    /// Pin a page of the shard, and fill it with zeros. It isn't read.
+    PinZeroed(PageId),
+    /// Evict the pages of a device from a number on, and do not write them.
+    ForgetPages {
+        /// The device.
+        dev: u16,
+        /// The number of the first page.
+        from: u64,
+    },
 }
 
 /// A reply of a shard.
@@ -81,6 +104,17 @@ pub enum ShardReply {
     Sent(BoxedMessage),
     /// The messages with the requested entries, in order.
     Answers(MessageList),
+    /// How many pages of the shard are still dirty.
+    Left(usize),
+    /// The requested message.
+    Portion {
+        /// The message, of entries.
+        message: BoxedMessage,
+        /// Whether more of the requested entries follow.
+        more: bool,
+    },
+    /// The hottest pages, hottest first.
+    Pages(PageList),
     /// The call brings a page, or a bucket, of another shard. Nothing has changed.
     Foreign,
     /// The node refused the call, or no memory was left for a box.

@@ -8,7 +8,8 @@ ghost use Rattle.warm_gossip.specs.Clauses.{Answered, NodeWriteBackFails, SameVi
 ghost use Rattle.warm_shards.specs.Shards.{IsShardCount, shard_of};
 ghost use Rattle.warm_shared.specs.ShardSteps.{AnsweredAs, AreOwnBuckets, IsOwn, LeavesWritten};
 ghost use Rattle.warm_shared.specs.ShardSteps.{ShardStep, WrittenAs, request_for, shard_view};
-ghost use Rattle.warm_shared.specs.declared.call.ShardCall.TheVariants.{Change, Look};
+ghost use Rattle.warm_shared.specs.declared.call.ShardCall.TheVariants.{Change, ForgetPages, Look};
+ghost use Rattle.warm_shared.specs.declared.call.ShardCall.TheVariants.{PinZeroed, SendSince};
 
 use crate::call::{ShardCall, ShardReply};
 use crate::lending::{Left, Shown, change_in, look_in};
@@ -16,7 +17,7 @@ use std::alloc::Global;
 use std::marker::Model;
 use warm_devices::PageDevice;
 use warm_frames::{BoxedMessage, Message, MessageList};
-use warm_gossip::{Node, NodeFault};
+use warm_gossip::{Node, NodeFault, SentPortion};
 use warm_shards::shard_of;
 use warm_stamps::{BUCKETS, Bucket, BucketSet, PageId, Reference, ReplicaId};
 use warm_turn::Machine;
@@ -100,9 +101,10 @@ fn is_own(count: usize, number: usize, call: &ShardCall) -> bool
 {
     match call {
         ShardCall::Absorb(batch) => are_own(count, number, batch.as_slice()),
-        ShardCall::Pin(page) | ShardCall::Look(page) | ShardCall::Change(page) => {
-            is_own_page(count, number, *page)
-        }
+        ShardCall::Pin(page)
+        | ShardCall::PinZeroed(page)
+        | ShardCall::Look(page)
+        | ShardCall::Change(page) => is_own_page(count, number, *page),
         ShardCall::Answer(request) => are_own_buckets(count, number, *request),
         _ => true,
     }
@@ -130,6 +132,21 @@ fn sent<D: PageDevice>(
     let message = node.send(bucket, after)?;
     let boxed = BoxedMessage::new(alloc, message)?;
     Ok(boxed)
+}
+
+// The entries of a bucket since a time, in a box.
+fn portion<D: PageDevice>(
+    alloc: Global,
+    node: &Node<D>,
+    bucket: Bucket,
+    since: u64,
+    after: Option<PageId>,
+) -> Result<ShardReply, NodeFault>
+    ensures { AnsweredAs node.now (SendSince bucket since after) result node.now }
+{
+    let SentPortion { message, more } = node.send_since(bucket, since, after)?;
+    let message = BoxedMessage::new(alloc, message)?;
+    Ok(ShardReply::Portion { message, more })
 }
 
 // The entries of these buckets, in messages. It has the room for a message, so it is a function of
@@ -209,7 +226,40 @@ fn answer<D: PageDevice>(
         }
         ShardCall::Look(page) => looked(node, page),
         ShardCall::Change(page) => changed(node, page),
+        ShardCall::WriteSome(limit) => Ok(ShardReply::Left(node.write_back_some(limit)?)),
+        ShardCall::SendSince {
+            bucket,
+            since,
+            after,
+        } => portion(alloc, node, bucket, since, after),
+        ShardCall::WarmList(n) => Ok(ShardReply::Pages(node.warm_list(n)?)),
+        ShardCall::PinZeroed(page) => zeroed(node, page),
+        ShardCall::ForgetPages { dev, from } => forgotten(node, dev, from),
     }
+}
+
+// Pins a page with zeros.
+#[tactic(auto, using(crate::proofs::Beside::zeroed_refused, crate::proofs::Beside::zeroed_step))]
+fn zeroed<D: PageDevice>(node: &mut Node<D>, page: PageId) -> Result<ShardReply, NodeFault>
+    ensures answered { AnsweredAs node.old (PinZeroed page) result node.new }
+    ensures written { WrittenAs node.old (PinZeroed page) result node.new }
+{
+    let slot = node.pin_zeroed(page)?;
+    Ok(ShardReply::Pinned(slot))
+}
+
+// Forgets the pages of a device from a number on.
+#[tactic(auto, using(crate::proofs::Beside::forget_refused, crate::proofs::Beside::forgotten_step))]
+fn forgotten<D: PageDevice>(
+    node: &mut Node<D>,
+    dev: u16,
+    from: u64,
+) -> Result<ShardReply, NodeFault>
+    ensures answered { AnsweredAs node.old (ForgetPages dev from) result node.new }
+    ensures written { WrittenAs node.old (ForgetPages dev from) result node.new }
+{
+    node.forget_pages(dev, from)?;
+    Ok(ShardReply::Done)
 }
 
 // A look by nobody: the page is loaded where it isn't resident.
@@ -256,8 +306,9 @@ impl<D: PageDevice> Shard<D> {
     }
 
     /// Answers a call: `ShardStep`. A call that brings a page, or a bucket, of another shard is
-    /// answered `Foreign`, and nothing has changed. What `WritePages` and `WriteBack` leave of
-    /// dirty pages and unflushed devices, no caller of the shard sees: `LeavesWritten`.
+    /// answered `Foreign`, and nothing has changed. What `WritePages`, `WriteSome`, `WriteBack`,
+    /// `PinZeroed` and `ForgetPages` leave of dirty pages, devices and forgotten bytes, no caller of
+    /// the shard sees: `LeavesWritten`.
     pub fn call(&mut self, call: ShardCall) -> ShardReply
         ensures step { ShardStep (shard_view self.old) call result (shard_view self.new) }
         ensures written { LeavesWritten self.old.node call result self.new.node }
