@@ -22,7 +22,9 @@ NAMES = re.compile(
     r"|(?:constructor|pattern|clause|variable)s? .*(?:missing|expected|unknown)"
 )
 # An answer of another type than its goal, whose parts may have these words in their names.
-DIFFERS = re.compile(r"`[^`]+`: (?:as printed, the two|computed as far as they go, the two|the two|expected type) ")
+DIFFERS = re.compile(
+    r"`[^`]+`: (?:(?:as printed, |computed as far as they go, )?the two|expected type) "
+)
 WAITS = re.compile(r"was not admitted|depends on")
 LIMIT = re.compile(
     r"broke off|gave up|ran out of|took more than \d+ steps|outgrew the memory limit"
