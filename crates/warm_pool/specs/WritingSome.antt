@@ -1,16 +1,17 @@
 -- Writing back some pages, one page, and those of one device.
 use Rattle.std.specs.Prelude.{ℕ, ◌≡◌, ◌≢◌, ◌<◌, ◌≤◌, ◌+◌, ◌-◌, ◌==◌, Bool, true, false, IsTrue, List, [], ◌∷◌}
-use Rattle.std.specs.Prelude.{length, take, Option, Some, None, if◌then◌else◌, ◌⊎◌}
+use Rattle.std.specs.Prelude.{length, take, set, Option, Some, None, Ok, Err, if◌then◌else◌, ◌⊎◌}
 use Rattle.warm_stamps.specs.declared.PageId.{PageId}
-use Rattle.warm_pool.specs.Frames.{FrameState, nth_frame}
+use Rattle.warm_devices.specs.declared.fault.DeviceFault.TheVariants.{Write}
+use Rattle.warm_pool.specs.Frames.{FrameState, nth_frame, cleaned}
 use Rattle.warm_pool.specs.declared.fault.PoolFault.{PoolFault}
 use Rattle.warm_pool.specs.declared.fault.PoolFault.TheVariants.{NoDevice, Fault}
 use Rattle.warm_pool.specs.State.{PoolState, nth_device}
 use Rattle.warm_pool.specs.View.{view_of}
 use Rattle.warm_pool.specs.Calls.{FlushesNone}
+use Rattle.warm_pool.specs.DeviceCalls.{PageWrite}
 use Rattle.warm_pool.specs.Keeping.{FailsAt}
-use Rattle.warm_pool.specs.WritingBack.{Cleans, CleanFails, StopsAt, WritesBack, cleaned_selected}
-use Rattle.warm_pool.specs.WritingBack.{cleaned_to, is_on}
+use Rattle.warm_pool.specs.WritingBack.{StopsAt, WritesBack, cleaned_selected, cleaned_to, is_on}
 use Rattle.warm_pool.specs.declared.selection.Devices.TheVariants.{One}
 
 -- The dirty pages
@@ -68,12 +69,23 @@ pub record IsDirtyIn (s : PoolState) (page : PageId) (frame : ℕ) : Type 0 wher
   pub holds : (nth_frame s.frames frame).page ≡ Some page
   pub dirty : (nth_frame s.frames frame).dirty ≡ true
 
--- The dirty page was written to its device, its frame is clean, and nothing has changed for a
--- caller.
+-- One call of its device wrote the bytes of the dirty page. Its frame is clean, and no other frame
+-- has changed.
 pub record CleansPage (old : PoolState) (page : PageId) (new : PoolState) : Type 0 where
   pub frame : ℕ
   pub was : IsDirtyIn old page frame
-  pub down : Cleans old frame new
+  pub wrote : PageWrite old.devices new.devices page.dev page.no
+      (nth_frame old.frames frame).bytes (Ok tt)
+  pub frames : new.frames ≡ set old.frames frame (cleaned (nth_frame old.frames frame))
+
+-- That call failed. No frame has changed, so the page is dirty as before.
+pub record PageFails (old : PoolState) (page : PageId) (new : PoolState) : Type 0 where
+  pub frame : ℕ
+  pub was : IsDirtyIn old page frame
+  pub wrote : PageWrite old.devices new.devices page.dev page.no
+      (nth_frame old.frames frame).bytes (Err Write)
+  pub frames : new.frames ≡ old.frames
+  pub fails : FailsAt (view_of old) page.dev (view_of new)
 
 -- the page is in no frame, or in a clean one
 abbrev pub IsNotDirty : PoolState → PageId → Type 0
@@ -84,12 +96,6 @@ IsNotDirty s page = (frame : ℕ) → (nth_frame s.frames frame).page ≡ Some p
 abbrev pub WritesBackPage : PoolState → PageId → Bool → PoolState → Type 0
 WritesBackPage old page true new = CleansPage old page new
 WritesBackPage old page false new = IsNotDirty old page × (new ≡ old)
-
--- the write of the dirty page failed; it is dirty as before
-pub record PageFails (old : PoolState) (page : PageId) (new : PoolState) : Type 0 where
-  pub frame : ℕ
-  pub was : IsDirtyIn old page frame
-  pub fails : CleanFails old frame new
 
 -- Those of one device
 

@@ -3,8 +3,9 @@ ghost use Rattle.std.specs.Prelude.{◌≡◌, ◌<◌, length, OnOk, IfErr, IfO
 ghost use Rattle.warm_pool.specs.Frames.{nth_frame};
 ghost use Rattle.warm_pool.specs.View.{view_of};
 ghost use Rattle.warm_pool.specs.Keeping.{KeepsRanks};
-ghost use Rattle.warm_pool.specs.Calls.{FlushesNone, FlushesOnce, ReadsNone};
+ghost use Rattle.warm_pool.specs.Calls.{FlushesNone, FlushesOnce};
 ghost use Rattle.warm_pool.specs.Retiring.{KeepsElsewhere};
+ghost use Rattle.warm_pool.specs.WritingBack.{CleanFails, Cleans, WritesFrame};
 ghost use Rattle.warm_pool.specs.WritingSome.{CleansFirst, FlushRefused, IsSettledOn, SomeFails, KeepsOtherDevices};
 ghost use Rattle.warm_pool.specs.WritingSome.{PageFails, WritesBackPage, WritesBackSome};
 ghost use Rattle.warm_pool.specs.WritingSome.{dirty_count, one_if, room_after};
@@ -42,13 +43,13 @@ impl<D: PageDevice> Pool<D> {
     }
 
     /// Writes back one page, where it is resident and dirty, and returns whether it was; otherwise
-    /// nothing is changed. A pinned page is written too. No device is flushed, as by
-    /// [`Pool::write_back_some`]. So a page cleaner writes the next victims before a pin waits for
-    /// that.
+    /// nothing is changed. A pinned page is written too. Its device is called once, and no other
+    /// one. No device is flushed: what was written is durable only after [`Pool::flush_device`] or
+    /// [`Pool::write_back_all`]. So a page cleaner writes the next victims, before a pin has to.
     ///
     /// # Errors
-    /// `Fault` where the write failed, and its device's count of failures has increased. All frames
-    /// are unchanged, so the page is dirty as before.
+    /// `Fault` where the write failed, and its device's count of failures has increased. Frames are
+    /// unchanged, so the page is dirty as before.
     pub fn write_back_page(&mut self, page: PageId) -> Result<bool, PoolFault>
         ensures ranked { KeepsRanks self.old self.new }
         ensures same { OnOk result (view_of self.new ≡ view_of self.old) }
@@ -56,8 +57,6 @@ impl<D: PageDevice> Pool<D> {
             self.old page was_dirty self.new) }
         ensures refused { IfErr result (λ fault. (fault ≡ Fault)
             × PageFails self.old page self.new) }
-        ensures others { KeepsOtherDevices page.dev self.old self.new }
-        ensures unread { ReadsNone self.old.devices self.new.devices }
         ensures unflushed { FlushesNone self.old.devices self.new.devices }
     {
         let Some(at) = self.frames.find(page) else {
@@ -66,9 +65,7 @@ impl<D: PageDevice> Pool<D> {
         if !self.frames.is_dirty(at) {
             return Ok(false);
         }
-        write_back(&mut self.frames, &mut self.devices, &mut self.tally, at).map_err(
-            |_| PoolFault::Fault,
-        )?;
+        self.clean_at(at).map_err(|_| PoolFault::Fault)?;
         Ok(true)
     }
 
@@ -114,6 +111,18 @@ impl<D: PageDevice> Pool<D> {
         ensures { result ≡ (nth_frame self.now.frames at).dirty }
     {
         self.frames.is_dirty(at)
+    }
+
+    // Writes back the page of a frame, where it is dirty.
+    fn clean_at(&mut self, at: usize) -> Result<(), DeviceFault>
+        requires { at < length self.old.frames }
+        ensures down { OnOk result (Cleans self.old at self.new) }
+        ensures failed { OnErr result (CleanFails self.old at self.new) }
+        ensures wrote { WritesFrame (nth_frame self.old.frames at)
+            self.old.devices self.new.devices result }
+        ensures unflushed { FlushesNone self.old.devices self.new.devices }
+    {
+        write_back(&mut self.frames, &mut self.devices, &mut self.tally, at)
     }
 
     // Writes back the pages of the first dirty frames, at most `limit`.

@@ -93,7 +93,7 @@ page_own P n m page (Ok was_dirty) own known same refused =
     record { alone = known_pool n m known; own = seen_own P n m same own }
 page_own P n m page (Err why) own known same refused = record {
   alone = known_pool n m known;
-  own = same_own P (view_of n.pool) (view_of m.pool) (ap (λ (x : PoolView). x.frames) refused.1.fails.fails.becomes) own;
+  own = same_own P (view_of n.pool) (view_of m.pool) (ap (λ (x : PoolView). x.frames) refused.1.fails.becomes) own;
 }
 
 flush_refused : (P : PageId → Type 0) (n m : NodeState) (dev : ℕ) (why : PoolFault)

@@ -152,10 +152,6 @@ impl<D: PageDevice> Shards<D> {
         ensures refused { let i = shard_of (length self.old) page in
             IfErr result (λ why. (why ≡ Pool Fault)
             × PageFails (shard_at self.old i).pool page (shard_at self.new i).pool) }
-        ensures devices { let i = shard_of (length self.old) page in
-            KeepsOtherDevices page.dev (shard_at self.old i).pool (shard_at self.new i).pool }
-        ensures unread { let i = shard_of (length self.old) page in
-            ReadsNone (shard_at self.old i).pool.devices (shard_at self.new i).pool.devices }
         ensures unflushed { let i = shard_of (length self.old) page in
             FlushesNone (shard_at self.old i).pool.devices (shard_at self.new i).pool.devices }
         ensures others { KeepsOthers self.old (shard_of (length self.old) page) self.new }
