@@ -24,11 +24,11 @@ returns-in_err-map_err-clause-ranked g c = fails_ranked c.args.self.now c.clean_
 
 pub returns-in_err-map_err-clause-refused : goal.returns-in_err-map_err-clause-refused
 returns-in_err-map_err-clause-refused g c = handed_on c.from_residual.result Fault _ (search rules) (
-    refl,
-    page_fails c.args.self.now c.clean_at.new.self c.args.page c.in-Some.at c.clean_at.result
-    (found_dirty c.self.view_is c.self.invariant c.args.page c.in-Some.at c.in-Some.ensures (sym c.is_dirty.ensures ∙ c.if-not-is_dirty.false))
-    c.in_err-map_err.ensures.variant c.clean_at.ensures.failed c.clean_at.ensures.wrote,
-  )
+  refl,
+  page_fails c.args.self.now c.clean_at.new.self c.args.page c.in-Some.at c.clean_at.result
+      (found_dirty c.self.view_is c.self.invariant c.args.page c.in-Some.at c.in-Some.ensures (sym c.is_dirty.ensures ∙ c.if-not-is_dirty.false))
+      c.in_err-map_err.ensures.variant c.clean_at.ensures.failed c.clean_at.ensures.wrote,
+)
 
 pub returns-clause-ranked : goal.returns-clause-ranked
 returns-clause-ranked g c =
