@@ -128,7 +128,7 @@ typedef struct warm_page {
     uint64_t no;
 } warm_page;
 
-/* A replica (1 to 64) used page dev:no at a time: the caller's count, or nanoseconds. */
+/* A replica used page dev:no at a time: the caller's count, or nanoseconds. */
 typedef struct warm_reference {
     uint16_t replica, dev;
     uint64_t no, time;
@@ -151,8 +151,8 @@ typedef struct warm_slot {
    differs (WARM_READ_FAULT). sync makes durable all writes that had returned.
    before_write, if not null, is asked before each write of a page. It returns 0: write; EAGAIN:
    skip this page now, as its latch is held or its log not synced; or an errno, with which the
-   write fails. A skipped page stays dirty: a pin evicts another one, and a write-back passes over
-   16 in each shard, and ends there at the next.
+   write fails. A skipped page stays dirty: a write-back passes over 16 in each shard, and ends
+   there at the next.
    after_write, if not null, is told the error (or 0) of each write that is made then.
    Caller: any thread that uses the replica may call them, several at once; none writes a page that
    another one reads or writes. They return, call nothing of this replica, wait for no thread that
@@ -272,8 +272,7 @@ int warm_mark_dirty(warm *handle, warm_slot slot);
 /* Writes whether a page is in a frame. */
 int warm_resident(warm *handle, warm_page page, bool *resident);
 
-/* Writes which pages of a shard would be evicted next, in order, and how many: up to room or 64,
-   none where all are pinned.
+/* Writes which pages of a shard would be evicted next, in order, and how many: up to room or 64.
    Refused: WARM_NO_SHARD; WARM_ALL_PINNED at 2^32 - 1 pins. */
 int warm_victims(warm *handle, size_t shard, warm_page *pages, size_t room, size_t *count);
 
@@ -299,8 +298,12 @@ int warm_write_back_all(warm *handle);
 
 /* Writes at most limit dirty pages, flushes nothing, and says how many are left. Each call begins
    with the shard behind that of the call before.
-   Refused: WARM_WRITE_FAULT, WARM_SKIPPED, as above; left is then as it was. */
+   Refused: WARM_WRITE_FAULT, WARM_SKIPPED. */
 int warm_write_back_some(warm *handle, size_t limit, size_t *left);
+
+/* Writes a page if it is dirty, flushes nothing, and says whether it was.
+   Refused: WARM_WRITE_FAULT, WARM_SKIPPED. */
+int warm_write_back_page(warm *handle, warm_page page, bool *written);
 
 /* warm_write_back_all for one device. Refused: WARM_NO_DEVICE, WARM_WRITE_FAULT, WARM_SKIPPED. */
 int warm_flush_device(warm *handle, uint16_t dev);
@@ -426,7 +429,7 @@ enum { WARM_FAILED_READ = 1, WARM_FAILED_WRITE = 2, WARM_FAILED_FLUSH = 3 };
 /* A failed call of a device. */
 typedef struct warm_failure {
     uint16_t dev;
-    uint16_t what;        /* WARM_FAILED_READ, WARM_FAILED_WRITE or WARM_FAILED_FLUSH */
+    uint16_t what;        /* above */
     int32_t error;        /* errno; EAGAIN: skipped */
     uint64_t no;          /* of the page; 0 of a flush */
     uint64_t reserved[2]; /* 0 */
