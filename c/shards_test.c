@@ -392,6 +392,7 @@ static void call_each(warm *handle, size_t count, bool is_shared) {
     TAKES(0, warm_limit(handle, 9));
     TAKES(0, warm_limit_history(handle, 9, SIZE_MAX));
     TAKES(all, warm_raise(handle, 1, &horizon));
+    TAKES(1, warm_write_back_page(handle, page, &flag));
     TAKES(all, warm_write_back_some(handle, 1, &number));
     TAKES(all + 1, warm_flush_device(handle, 0)); /* the last one to find the descriptor */
     TAKES(all + FAKE_DEVICES, warm_write_back_all(handle));

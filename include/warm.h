@@ -128,8 +128,8 @@ typedef struct warm_page {
     uint64_t no;
 } warm_page;
 
-/* A replica (1 to 64) used page dev:no at a time: the caller's count, or nanoseconds. Replica and
-   time are a stamp. */
+/* A replica used page dev:no at a time: the caller's count, or nanoseconds. Replica and time are a
+   stamp. */
 typedef struct warm_reference {
     uint16_t replica, dev;
     uint64_t no, time;
@@ -152,8 +152,8 @@ typedef struct warm_slot {
    (WARM_READ_FAULT). sync makes durable all writes that had returned.
    before_write, if not null, is asked before each write of a page. It returns 0: write; EAGAIN:
    skip this page now, as its latch is held or its log not synced; or an errno, with which the
-   write fails. A skipped page stays dirty: a pin evicts another one, and a write-back passes over
-   16 in a shard; the next keeps back the pages behind it.
+   write fails. A skipped page stays dirty: a write-back passes over 16 in a shard; the next keeps
+   back the pages behind it.
    after_write, if not null, is told the error (or 0) of each write that was made.
    Any thread that uses the replica may call them, several at once. None writes a page that another
    one reads or writes.
@@ -272,8 +272,7 @@ int warm_mark_dirty(warm *handle, warm_slot slot);
 /* Writes whether a page is in a frame. */
 int warm_resident(warm *handle, warm_page page, bool *resident);
 
-/* Writes which pages of a shard would be evicted next, in order, and how many: at most room,
-   and 64; none if all are pinned.
+/* Writes which pages of a shard would be evicted next, in order, and how many: up to room or 64.
    Refused: WARM_NO_SHARD; WARM_ALL_PINNED if a page has 2^32 - 1 pins. */
 int warm_victims(warm *handle, size_t shard, warm_page *pages, size_t room, size_t *count);
 
@@ -298,8 +297,12 @@ int warm_write_back_all(warm *handle);
 
 /* Writes at most limit dirty pages, flushes nothing, and says how many are left. Each call begins
    with the shard after that of the call before.
-   Refused: WARM_WRITE_FAULT, WARM_SKIPPED, as above; left is then unchanged. */
+   Refused: WARM_WRITE_FAULT, WARM_SKIPPED. */
 int warm_write_back_some(warm *handle, size_t limit, size_t *left);
+
+/* Writes a page if it is dirty, and says whether it was; flushes nothing.
+   Refused: WARM_WRITE_FAULT, WARM_SKIPPED. */
+int warm_write_back_page(warm *handle, warm_page page, bool *written);
 
 /* warm_write_back_all for one device. Refused: WARM_NO_DEVICE, WARM_WRITE_FAULT, WARM_SKIPPED. */
 int warm_flush_device(warm *handle, uint16_t dev);
@@ -351,7 +354,7 @@ int warm_receive(warm *handle, const void *message, size_t length);
    Refused: WARM_MEMORY, WARM_BUFFER_TOO_SMALL. */
 int warm_next_answer(warm *handle, void *message, size_t room, size_t *length);
 
-/* How far warm_send is in a bucket. Begin with bucket and since, and all else zero. */
+/* How far warm_send is in a bucket. Begin with bucket, since and zeros. */
 typedef struct warm_sending {
     uint64_t since;  /* pages without a stamp from this time on are left out; 0: none */
     warm_page after; /* the last page that was sent, if has_after */
@@ -406,7 +409,7 @@ typedef struct warm_counters {
     uint64_t reserved[10]; /* 0 */
 } warm_counters;
 
-/* Writes them, and looks at each frame. */
+/* Writes them; looks at each frame. */
 int warm_counts(warm *handle, warm_counters *counters);
 
 /* Calls of a device since it has its number, up to 2^64 - 1. */
@@ -425,7 +428,7 @@ enum { WARM_FAILED_READ = 1, WARM_FAILED_WRITE = 2, WARM_FAILED_FLUSH = 3 };
 /* A failed device call. */
 typedef struct warm_failure {
     uint16_t dev;
-    uint16_t what;        /* WARM_FAILED_READ, WARM_FAILED_WRITE or WARM_FAILED_FLUSH */
+    uint16_t what;        /* see above */
     int32_t error;        /* errno; EAGAIN: skipped */
     uint64_t no;          /* of the page; 0 of a flush */
     uint64_t reserved[2]; /* 0 */
