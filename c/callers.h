@@ -16,6 +16,7 @@ typedef struct caller {
     warm handle;
     enum { PINS, PINS_ZEROED, PREFETCHES, STEPS, FORGETS, REPLACES } call;
     warm_page page;
+    const warm_device *device; /* that takes the place of another one */
     atomic_bool is_over;
     int status;
     warm_slot slot;
@@ -34,7 +35,7 @@ static inline int make_call(caller *its) {
     case PREFETCHES: return warm_prefetch(by, its->page);
     case STEPS: return warm_step(by, &its->found, &its->page);
     case FORGETS: return warm_forget_pages(by, its->page.dev, its->page.no);
-    default: return warm_replace(by, its->page.dev, &in_place);
+    default: return warm_replace(by, its->page.dev, its->device);
     }
 }
 
@@ -45,13 +46,18 @@ static inline void *call_it(void *of) {
     return NULL;
 }
 
-static inline void begin(int number, int call, warm_page page) {
+static inline void begin_with(int number, int call, warm_page page, const warm_device *device) {
     caller *its = &callers[number];
     its->call = call;
     its->page = page;
+    its->device = device;
     its->slot = (warm_slot){.generation = 77};
     atomic_store(&its->is_over, false);
     MUST(pthread_create(&its->thread, NULL, call_it, its) == 0);
+}
+
+static inline void begin(int number, int call, warm_page page) {
+    begin_with(number, call, page, &in_place);
 }
 
 static inline int end(int number) {
@@ -91,14 +97,19 @@ static inline void until_begun(int count) {
 }
 
 /* A replica of this many shards, and a handle for each caller. */
-static inline void open_all(size_t shards, size_t frames) {
+static inline void open_over(
+    size_t shards, size_t frames, const warm_device *of, size_t device_count) {
     memset(in_files, 0, sizeof in_files);
     files_keep = true;
     at_read = stop;
     stops_at = -1;
     begun = may_end = reads = 0;
-    OK(open_with(&first, 1, shards, frames, devices, FAKE_DEVICES));
+    OK(open_with(&first, 1, shards, frames, of, device_count));
     for (int number = 0; number < MOST; number++) OK(warm_attach(&first, &callers[number].handle));
+}
+
+static inline void open_all(size_t shards, size_t frames) {
+    open_over(shards, frames, devices, FAKE_DEVICES);
 }
 
 /* How many frames have a page is known in each shard: with too few a page that is held could

@@ -124,6 +124,12 @@ static int fake_unread(fake *its, node_page page) {
     return WARM_READ_FAULT;
 }
 
+/* What a file keeps; of a device with calls of its own zeros. */
+static uint8_t fake_read(const fake *its, node_page page) {
+    int32_t number = its->devices[page.dev].number;
+    return files_keep && number >= 0 ? in_files[number][page.no] : 0;
+}
+
 /* Where no byte is given, the page is read. */
 static int fake_pin(fake *its, node_page page, const uint8_t *given, node_slot *slot) {
     if (page.dev >= its->device_count) return WARM_NO_DEVICE;
@@ -133,8 +139,7 @@ static int fake_pin(fake *its, node_page page, const uint8_t *given, node_slot *
     if (!frame->is_in || frame->page.no != page.no || frame->page.dev != page.dev) {
         if (given == NULL && (off_t)page.no >= unreadable) return fake_unread(its, page);
         if (frame->is_in && frame->is_dirty && !fake_write(its, frame)) return WARM_EVICT_FAULT;
-        uint8_t read = files_keep ? in_files[its->devices[page.dev].number][page.no] : 0;
-        uint8_t byte = given == NULL ? read : *given;
+        uint8_t byte = given == NULL ? fake_read(its, page) : *given;
         *frame = (fake_frame){.is_in = true, .page = page, .generation = frame->generation + 1, .byte = byte};
     }
     frame->pins++;

@@ -115,7 +115,89 @@ static void test_replacing(void) {
     }
 }
 
-/* So is a page that the new device has not. */
+/* Its place is taken by the same descriptor, as where the file has changed: what was read before is
+ * of no use, be it a byte or a failure, and counts no more. Whoever waits for the page has the new
+ * byte, and two that replace the device wait for the one old read. */
+static void replacing_by_itself(size_t shards, bool fails) {
+    open_all(shards, 4 * shards);
+    in_files[10][5] = 'o';
+    stops_at = 5;
+    unreadable = fails ? 5 : INT64_MAX;
+    begin(0, PINS, page_at(5));
+    until_begun(1);
+    begin(1, PINS, page_at(5));
+    until_waiting(1);
+    unreadable = INT64_MAX;
+    in_files[10][5] = 'n';
+    for (int number = 2; number < MOST; number++)
+        begin_with(number, REPLACES, page_at(0), &devices[0]);
+    until_waiting(MOST - 1);
+    for (int number = 1; number < MOST; number++) not_over(number);
+    may_end = 1;
+    for (int number = 0; number < MOST; number++) MUST(end(number) == WARM_OK);
+    MUST(callers[0].slot.hit + callers[1].slot.hit == 1 && reads == 2);
+    MUST(read_from(&first, page_at(5)) == 'n' && !has_failure(&callers[0].handle) &&
+         !has_failure(&callers[1].handle));
+    has_counted(0, 1, 0);
+    MUST((*place_of(10))->devices == 1);
+    unpin(0);
+    unpin(1);
+    close_all();
+}
+
+static void test_replacing_by_itself(void) {
+    for (size_t shards = 1; shards <= 4; shards *= 4) {
+        replacing_by_itself(shards, false);
+        replacing_by_itself(shards, true);
+    }
+}
+
+/* The same of the engine's calls, with the same context. The device has another number then, and
+ * the old one is let go when it is read no more. */
+static uint8_t kept[8];
+
+static int read_kept(void *context, uint64_t no, void *into, size_t length) {
+    MUST(held == 0 && length == 1 && no < sizeof kept);
+    memcpy(into, (const uint8_t *)context + no, length);
+    reads++;
+    stop(-1, (off_t)no);
+    return 0;
+}
+
+static int write_kept(void *context, uint64_t no, const void *bytes, size_t length) {
+    memcpy((uint8_t *)context + no, bytes, length);
+    return 0;
+}
+
+static int sync_kept(void *context) { return context == NULL; }
+
+static void test_replacing_by_same_calls(void) {
+    static const warm_device_ops calls = {
+        .size = sizeof calls, .read = read_kept, .write = write_kept, .sync = sync_kept};
+    const warm_device own = {.pages = sizeof kept, .ops = &calls, .context = kept};
+    for (size_t shards = 1; shards <= 4; shards *= 4) {
+        open_over(shards, 4 * shards, &own, 1);
+        const node_device *now = &((opened *)first.at)->of->devices[0];
+        int32_t before = now->number;
+        kept[5] = 'o';
+        stops_at = 5;
+        begin(0, PINS, page_at(5));
+        until_begun(1);
+        kept[5] = 'n';
+        begin_with(1, REPLACES, page_at(0), &own);
+        until_waiting(1);
+        not_over(1);
+        MUST(now->number != before && own_count == 2);
+        may_end = 1;
+        MUST(end(1) == WARM_OK && end(0) == WARM_OK && own_count == 1);
+        MUST(callers[0].slot.hit == 0 && reads == 2 && read_from(&first, page_at(5)) == 'n');
+        has_counted(0, 1, 0);
+        unpin(0);
+        close_all();
+    }
+}
+
+/* A page that is being read, and that the new device has not. */
 static void test_replacing_by_less(void) {
     open_all(1, 2);
     stops_at = 200;
@@ -198,6 +280,8 @@ int main(void) {
     forgetting_all(1);
     test_forgotten_failure();
     test_replacing();
+    test_replacing_by_itself();
+    test_replacing_by_same_calls();
     test_replacing_by_less();
     test_not_replacing();
     test_replacing_in_part();

@@ -299,12 +299,13 @@ static void test_syncs_without_shards(void) {
     }
 }
 
-/* A device that is replaced while it is synced: who replaces it waits until the sync is over, and has a descriptor that nobody syncs. */
-static const warm_device another = {.pages = FAKE_PAGES, .fd = 20};
+/* A device that is replaced while it is synced, by another one or by itself: who replaces it waits
+ * until the sync is over, and has a descriptor that nobody syncs. */
+static const warm_device *in_its_place;
 static atomic_bool is_replaced;
 
 static void *replace_it(void *handle) {
-    OK(warm_replace(handle, 0, &another));
+    OK(warm_replace(handle, 0, in_its_place));
     atomic_store(&is_replaced, true);
     return NULL;
 }
@@ -315,19 +316,31 @@ static void replace_meanwhile(int fd) {
     MUST(!atomic_load(&is_replaced));
 }
 
-static void test_replacing_in_a_sync(void) {
+static void replacing_in_a_sync(const warm_device *by) {
     warm first = {0}, second = {0};
     open_shards(&first, 4);
     OK(warm_attach(&first, &second));
     beside = &second;
+    in_its_place = by;
+    atomic_store(&is_replaced, false);
     write_each(&first, 0, 4);
     syncs = 0;
     at_sync = replace_meanwhile;
     OK(warm_write_back_all(&first));
-    MUST(pthread_join(letting_go, NULL) == 0 && atomic_load(&is_replaced) && syncs == 1 && *place_of(10) == NULL);
+    MUST(pthread_join(letting_go, NULL) == 0 && atomic_load(&is_replaced) && syncs == 1);
+    MUST((*place_of(by->fd))->devices == 1 && (by->fd == 10 || *place_of(10) == NULL));
+    write_each(&first, 0, 4);
+    OK(warm_write_back_all(&first));
+    MUST(syncs == 2);
     OK(warm_close(&second));
     OK(warm_abandon(&first));
     nothing_left();
+}
+
+static void test_replacing_in_a_sync(void) {
+    const warm_device another = {.pages = FAKE_PAGES, .fd = 20};
+    replacing_in_a_sync(&another);
+    replacing_in_a_sync(&devices[0]);
 }
 
 /* One shard: what is refused, in order, whether its node alone would say so or not. */
