@@ -383,6 +383,9 @@ static void skip_some(size_t shards, const warm_device_ops *ops, uint64_t skips,
     if (skipped_pages != 0)
         must_have_failed(
             &handle, (uint64_t)__builtin_ctzll(skipped_pages), 0, WARM_FAILED_WRITE, EAGAIN);
+    size_t left;
+    OK(warm_write_back_some(&handle, 0, &left));
+    MUST(left == (size_t)__builtin_popcountll(dirty_set(&handle, MANY)));
     MUST(warm_close(&handle) == (skipped_pages != 0 ? WARM_DIRTY : WARM_OK));
     its.skips = 0;
     if (skipped_pages != 0) OK(warm_write_back_all(&handle));

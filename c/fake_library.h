@@ -171,12 +171,17 @@ static inline size_t known(warm *handle) {
     return length;
 }
 
-/* What C pinned in the nodes it has unpinned. */
+/* What C pinned in the nodes it has unpinned; and a shard with a dirty page knows that it may have
+ * one. */
 static inline void no_pins(warm *handle) {
     opened *its = handle->at;
     for (size_t number = 0; number < its->count; number++) {
-        for (size_t at = 0; at < FAKE_FRAMES; at++) MUST(node_of(handle, number)->at[at].pins == 0);
-        MUST(its->shards[number].table.passed_count == 0);
+        const shard *in = &its->shards[number];
+        for (size_t at = 0; at < FAKE_FRAMES; at++) {
+            const fake_frame *frame = &node_of(handle, number)->at[at];
+            MUST(frame->pins == 0 && (in->may_be_dirty || !frame->is_dirty));
+        }
+        MUST(in->table.passed_count == 0);
     }
 }
 

@@ -248,7 +248,7 @@ int node_next(node *of, bool *found, node_page *page) {
     return fake_out(of, WARM_OK);
 }
 
-int node_write_back_some(node *of, size_t limit, size_t *left) {
+static int fake_write_back_some(node *of, size_t limit, size_t *left) {
     fake *its = fake_in(of);
     *left = 0;
     for (size_t at = 0; at < its->frames; at++) {
@@ -258,6 +258,14 @@ int node_write_back_some(node *of, size_t limit, size_t *left) {
         if (limit > 0) limit--;
     }
     return fake_out(of, WARM_OK);
+}
+
+/* How many portions were asked for. */
+static atomic_int portions;
+
+int node_write_back_some(node *of, size_t limit, size_t *left) {
+    portions++;
+    return fake_write_back_some(of, limit, left);
 }
 
 int node_flush(node *of, uint16_t dev) {
@@ -271,7 +279,7 @@ int node_flush(node *of, uint16_t dev) {
 /* All pages first, in the order of frames, up to the first that fails. */
 int node_write_back(node *of) {
     size_t left;
-    int status = node_write_back_some(of, SIZE_MAX, &left);
+    int status = fake_write_back_some(of, SIZE_MAX, &left);
     for (uint16_t dev = 0; status == WARM_OK && dev < ((fake *)of->at)->device_count; dev++) status = node_flush(of, dev);
     return status;
 }

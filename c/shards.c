@@ -89,7 +89,10 @@ typedef struct load {
 
 static int ask_node(opened *its, shard *in, load *it) {
     if (it->kind == LOAD_PINS) return node_pin_lend(&in->node, it->page, &it->slot, &it->bytes);
-    if (it->kind == LOAD_PINS_ZEROED) return node_pin_zeroed(&in->node, it->page, &it->slot);
+    if (it->kind == LOAD_PINS_ZEROED) {
+        in->may_be_dirty = true;
+        return node_pin_zeroed(&in->node, it->page, &it->slot);
+    }
     int status = node_pin_filled(&in->node, it->page, its->buffer, its->of->page_size, &it->slot);
     return status == WARM_OK ? node_lend(&in->node, it->slot, &it->bytes) : status;
 }
@@ -293,6 +296,13 @@ static int enter_slot(warm *handle, warm_slot slot, visit *made) {
     return WARM_OK;
 }
 
+/* The same, for a call that makes the page dirty. */
+static int enter_slot_to_write(warm *handle, warm_slot slot, visit *made) {
+    int status = enter_slot(handle, slot, made);
+    if (status == WARM_OK) made->in->may_be_dirty = true;
+    return status;
+}
+
 static int leave_slot(const visit *made, int status) {
     if (made->is_pinned) node_unpin(&made->in->node, made->slot);
     leave(made->in, made->is_locked);
@@ -307,8 +317,9 @@ int warm_read(warm *handle, warm_slot slot, size_t at, void *into, size_t length
 
 int warm_write(warm *handle, warm_slot slot, size_t at, const void *bytes, size_t length) {
     visit made;
-    int status = enter_slot(handle, slot, &made);
-    return status != WARM_OK ? status : leave_slot(&made, node_write(&made.in->node, made.slot, at, bytes, length));
+    int status = enter_slot_to_write(handle, slot, &made);
+    if (status != WARM_OK) return status;
+    return leave_slot(&made, node_write(&made.in->node, made.slot, at, bytes, length));
 }
 
 int warm_bytes(warm *handle, warm_slot slot, const uint8_t **bytes) {
@@ -319,8 +330,9 @@ int warm_bytes(warm *handle, warm_slot slot, const uint8_t **bytes) {
 
 int warm_bytes_mut(warm *handle, warm_slot slot, uint8_t **bytes) {
     visit made;
-    int status = enter_slot(handle, slot, &made);
-    return status != WARM_OK ? status : leave_slot(&made, node_lend_mut(&made.in->node, made.slot, bytes));
+    int status = enter_slot_to_write(handle, slot, &made);
+    if (status != WARM_OK) return status;
+    return leave_slot(&made, node_lend_mut(&made.in->node, made.slot, bytes));
 }
 
 /* Whose bytes are lent for writing, that page is dirty. */

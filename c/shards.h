@@ -24,6 +24,7 @@ typedef struct shard {
     node node;
     reading *reads; /* pages that are being read */
     _Alignas(LINE) pthread_cond_t read_over;
+    bool may_be_dirty; /* where not, no page is: the node, which looks at each frame, is not asked */
     _Alignas(LINE) table table;
 } shard;
 
