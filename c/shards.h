@@ -1,12 +1,21 @@
 /*
- * shards.h: what is behind a handle of include/warm.h, for c/opening.c (handles), c/shards.c (pages) and c/whole_calls.c (all else). Not
- * installed.
+ * shards.h: what is behind a handle of include/warm.h, for c/opening.c (handles), c/shards.c
+ * (pages), c/whole_calls.c and c/write_back.c (all else). Not installed.
  *
  * A replica has one node of the proved part for each shard, and a lock for each. Whoever is in a
  * shard, between enter and leave, has its node to itself: by its lock, or since no other handle is
  * open. No call is in two shards at once but those that are in all, which enter them in their
  * order. A pin of a page that has a record, and its unpin, are in no shard (holds.h); nor is,
  * meanwhile, who reads a page (reads.h).
+ *
+ * Who takes several locks takes them in this order:
+ *  1. a shard's, or those of all shards;
+ *  2. that of one descriptor's sync, which is held during the sync (sync_once.c);
+ *  3. one of three that are held while nothing is waited for: that of what is counted of
+ *     descriptors (sync_once.c), of the devices that have calls of their own (devices.c), and of
+ *     the heap (heap.c).
+ * A call of the engine is made with none of the third kind, and at most with these: a read with none
+ * at all, a write with a shard's, a sync with the second; in warm_replace also with all shards'.
  */
 #ifndef SHARDS_H
 #define SHARDS_H
