@@ -18,6 +18,8 @@ static atomic_long in_use, fails_at;
 static atomic_size_t mapped; /* bytes */
 static bool aligns;          /* malloc answers multiples of 4,096 */
 static bool keeps_mappings;  /* munmap fails */
+static size_t huge;          /* bytes that the system was asked to have in huge pages */
+static uintptr_t huge_at;    /* all bits of where these began */
 
 static bool refuses(void) { return fails_at != 0 && --fails_at == 0; }
 
@@ -56,6 +58,15 @@ static int counted_munmap(void *p, size_t n) {
     return munmap(p, n);
 }
 
+static int counted_madvise(void *p, size_t n, int advice) {
+    if (advice == MADV_HUGEPAGE) {
+        huge += n;
+        huge_at |= (uintptr_t)p;
+    }
+    return madvise(p, n, advice);
+}
+
+#define madvise counted_madvise
 #define mmap counted_mmap
 #define munmap counted_munmap
 #define malloc counted_malloc
@@ -67,6 +78,7 @@ static int counted_munmap(void *p, size_t n) {
 #undef free
 #undef mmap
 #undef munmap
+#undef madvise
 
 enum { UNIT = 4096, LARGE = 16 * UNIT, MANY = 10000, LIVE = 600, STEPS = 40000, THREADS = 4 };
 
@@ -207,6 +219,7 @@ static void test_great_runs(void) {
     enum { SMALL = MANY_RUNS * RUN_BYTES / UNIT, GREAT = GREAT_BYTES / UNIT, ALL = SMALL + GREAT + 1 };
     block *all = calloc(ALL, sizeof(block));
     MUST(all != NULL);
+    huge = huge_at = 0;
     for (uint32_t at = 0; at < SMALL; at++) all[at] = take(UNIT, at);
     size_t before = mapped;
     MUST(run_count == MANY_RUNS && before == (size_t)MANY_RUNS * MAPPED_BYTES);
@@ -214,11 +227,12 @@ static void test_great_runs(void) {
     block other = take(UNIT, 7);
     MUST(fails_at == 0 && run_count == MANY_RUNS + 1 && mapped == before + MAPPED_BYTES);
     drop(&other);
-    MUST(mapped == before);
+    MUST(mapped == before && huge == 0);
     for (uint32_t at = SMALL; at < ALL - 1; at++) all[at] = take(UNIT, at);
     MUST((uintptr_t)all[SMALL].p % HUGE_BYTES == 0 && run_count == MANY_RUNS + 1 && mapped == before + GREAT_MAPPED);
     all[ALL - 1] = take(UNIT, 9);
     MUST(run_count == MANY_RUNS + 2 && mapped == before + 2 * (size_t)GREAT_MAPPED);
+    MUST(huge == 2 * (size_t)GREAT_BYTES && huge_at % HUGE_BYTES == 0);
     for (uint32_t at = 0; at < ALL; at++) drop(&all[(at * 7919ull) % ALL]);
     free(all);
     MUST(in_use == 0 && runs == NULL && mapped == 0);
