@@ -212,6 +212,35 @@ static void test_abandoning(void) {
     nothing_left();
 }
 
+/* A thread ends with pins, and another one abandons its handle: the others go on, and close. */
+static void *end_with_pins(void *handle) {
+    pin_twice(handle, 0);
+    hold_page(handle, 0);
+    for (int time = 0; time < 3; time++) pin(handle, 1);
+    pin(handle, 2);
+    return NULL;
+}
+
+static void test_ended_thread(void) {
+    for (size_t count = 1; count <= 4; count *= 4) {
+        warm first = {0}, second = {0};
+        pthread_t thread;
+        open_shards(&first, 2 * count);
+        OK(warm_attach(&first, &second));
+        MUST(pthread_create(&thread, NULL, end_with_pins, &second) == 0);
+        MUST(pthread_join(thread, NULL) == 0);
+        MUST(warm_close(&first) == WARM_ATTACHED && warm_close(&second) == WARM_PINS_LEFT);
+        MUST(warm_forget_pages(&first, 0, 2) == WARM_PINNED);
+        OK(warm_abandon(&second));
+        for (uint64_t no = 4; no < 8; no++) /* of shard 0 */
+            MUST(read_from(&first, page_at(no * 2 * count)) == 0);
+        MUST(!is_in(&first, 0) && is_in(&first, 1) && is_in(&first, 2));
+        MUST(warm_forget_pages(&first, 0, 2) == WARM_PINNED);
+        OK(warm_close(&first));
+        nothing_left();
+    }
+}
+
 /* So of each of its holds. The next handle has these. */
 static void test_abandoning_all_holds(void) {
     warm first = {0}, second = {0}, third = {0};
@@ -272,6 +301,7 @@ int main(void) {
     test_closing();
     test_abandoning();
     test_abandoning_all_holds();
+    test_ended_thread();
     test_attaching();
     puts("handles_test: as expected");
     return 0;
