@@ -559,12 +559,13 @@ static void test_opening_devices(void) {
     nothing_left();
 }
 
-/* A write to a device that has no file yet fails, and there is nothing to sync: neither by its replica
- * nor by another one, whose device has no file either. Each gets its file. */
+/* A write to a device that has no file yet fails, and there is nothing to sync: neither by its
+ * replica nor by another one, whose device has no file either. Each gets its file. */
 static void test_no_files(void) {
     for (int is_hooked = 0; is_hooked < 2; is_hooked++) {
         own its = {.reads = 0};
-        const warm_device none = {.pages = PAGES, .fd = -1, .ops = is_hooked ? &hooks : NULL, .context = &its};
+        const warm_device none = {
+            .pages = PAGES, .fd = -1, .ops = is_hooked ? &hooks : NULL, .context = &its};
         const warm_device file = {.pages = PAGES, .fd = 50};
         warm first = {0}, other = {0};
         OK(open_with(&first, 1, 2, 4, &none, 1));
@@ -583,7 +584,8 @@ static void test_no_files(void) {
     }
 }
 
-/* Dumps by a device's own calls, whose numbers are places, and to a descriptor that is asked before each piece. */
+/* Dumps by a device's own calls, whose numbers are places, and to a descriptor that is asked before
+ * each piece. */
 static uint64_t put_until;
 
 static int put_piece(void *context, uint64_t no, const void *bytes, size_t length) {

@@ -12,9 +12,9 @@
    handle is refused first, with WARM_CLOSED, but warm_close and warm_abandon leave it closed, with
    WARM_OK. errno means nothing after a call.
 
-   Shards. Page dev:no is in shard (dev + no) modulo their number. Each shard has its pages' history,
-   and its part of the frames. Of its pages in frames that are not pinned, the one with the
-   greatest backward 2-distance is evicted.
+   Shards. Page dev:no is in shard (dev + no) modulo their number. Each shard has its pages'
+   history, and its part of the frames. Of its pages in frames that are not pinned, the one with
+   the greatest backward 2-distance is evicted.
 
    Threads. Each thread has a handle of its own (warm_attach). A call on a page, a slot or a bucket
    locks its shard, but not while it reads a page; a call on the whole replica locks one shard after
