@@ -418,6 +418,7 @@ static void test_skipping_portions(void) {
         const warm_device device = own_device_of(&its, &all_calls, 50);
         warm handle = {0};
         size_t left = 77;
+        bool written = true;
         OK(open_with(&handle, 1, shards, 16 * shards, &device, 1));
         write_each(&handle, 0, MANY);
         OK(warm_write_back_some(&handle, 0, &left));
@@ -432,10 +433,17 @@ static void test_skipping_portions(void) {
              its.writes == MANY - 2);
         MUST(dirty_set(&handle, MANY) == 5 && its.syncs == 0);
         has_written(&handle, MANY - 2, 0, 0);
+        MUST(warm_write_back_page(&handle, page_at(2), &written) == WARM_SKIPPED && written &&
+             dirty_set(&handle, MANY) == 5);
+        must_have_failed(&handle, 2, 0, WARM_FAILED_WRITE, EAGAIN);
         its.skips = 1;
         MUST(warm_write_back_some(&handle, 1, &left) == (shards == 1 ? WARM_SKIPPED : WARM_OK) ||
              left == 1 || shards > 1);
         its.skips = 0;
+        OK(warm_write_back_page(&handle, page_at(0), &written));
+        MUST(written && !is_dirty_in(&handle, 0) && its.syncs == 0);
+        OK(warm_write_back_page(&handle, page_at(0), &written));
+        MUST(!written);
         OK(warm_write_back_some(&handle, SIZE_MAX, &left));
         MUST(left == 0 && dirty_set(&handle, MANY) == 0);
         no_pins(&handle);

@@ -284,6 +284,16 @@ int node_write_back_some(node *of, size_t limit, size_t *left) {
     return fake_write_back_some(of, limit, left);
 }
 
+int node_write_back_page(node *of, node_page page, bool *written) {
+    fake *its = fake_in(of);
+    fake_frame *frame = fake_frame_for(its, page);
+    bool is_dirty = frame != NULL && frame->is_dirty && frame->page.no == page.no &&
+                    frame->page.dev == page.dev;
+    if (is_dirty && !fake_write(its, frame)) return fake_out(of, WARM_WRITE_FAULT);
+    *written = is_dirty;
+    return fake_out(of, WARM_OK);
+}
+
 int node_flush(node *of, uint16_t dev) {
     fake *its = fake_in(of);
     if (dev >= its->device_count) return fake_out(of, WARM_NO_DEVICE);
