@@ -47,6 +47,7 @@ static bool pass_over_skipped(opened *its, shard *in, skipped *all) {
 }
 
 static void make_dirty_again(shard *in, const skipped *all) {
+    if (all->pages.count > 0) in->may_be_dirty = true;
     for (size_t at = 0; at < all->pages.count; at++) {
         uint8_t *bytes;
         node_lend_mut(&in->node, all->slots[at], &bytes);
@@ -90,11 +91,12 @@ static bool is_unwritten(const opened *its, size_t dev) {
  * refused, how many are left. For the node a page that is passed over is one of the portion. */
 static void write_portion(
     opened *its, shard *in, size_t limit, size_t *written, size_t *left, int *all) {
+    *written = *left = 0;
+    if (!in->may_be_dirty) return;
     skipped over = {0};
     const passes *outer = devices_pass(&over.pages);
     size_t before = devices_written();
     int status;
-    *written = 0;
     do {
         size_t rest = limit - *written;
         if (over.pages.count > 0 && rest < SIZE_MAX) rest++;
@@ -103,6 +105,7 @@ static void write_portion(
         *written = devices_written() - before;
     } while (status != WARM_OK && *written < limit && pass_over_skipped(its, in, &over));
     devices_pass(outer);
+    if (status == WARM_OK && *left == 0) in->may_be_dirty = false;
     make_dirty_again(in, &over);
 }
 
@@ -139,6 +142,7 @@ int warm_write_back_page(warm *handle, warm_page page, bool *written) {
     return status;
 }
 
+/* All nodes are asked: what was not known to be dirty would be lost. */
 size_t dirty_pages(opened *its) {
     size_t all = 0;
     for (size_t number = 0; number < its->count; number++) {
@@ -169,6 +173,7 @@ static int write_past_skipped(opened *its, shard *in, int dev, node_failure *fai
         add_status(its, in, status, all);
     } while (status != WARM_OK && pass_over_skipped(its, in, &over));
     devices_pass(outer);
+    if (status == WARM_OK && dev == ALL) in->may_be_dirty = false;
     make_dirty_again(in, &over);
     return status;
 }
