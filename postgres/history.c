@@ -206,30 +206,31 @@ sp_reference(warm_page page, uint64 time)
 }
 
 /*
- * Takes in a frame.  Where this server believed later times than it does now,
- * its horizon may be later than all that comes: then a new history begins.
+ * Takes in a message of the library.  Where this server believed later times
+ * than it does now, its horizon may be later than all that comes: then a new
+ * history begins.
  */
 int
-sp_history_receive(const uint8 *frame, Size length)
+sp_history_receive(const uint8 *message, Size length)
 {
 	if (sp_latest > history_time_limit())
 		sp_history_reset("the clock was set back");
 	warm_limit(&history, history_time_limit());
-	return sp_note(warm_receive(&history, frame, length),
+	return sp_note(warm_receive(&history, message, length),
 				   "a message of its primary");
 }
 
 /*
- * Writes the frame of a bucket's next entries with a stamp since then, at most
- * SP_FRAME_ROOM bytes; the page of its last entry; and whether more follow.
+ * Writes the message of a bucket's next entries with a stamp since then, at most
+ * WARM_MESSAGE_ROOM bytes; the page of its last entry; and whether more follow.
  */
 bool
 sp_history_piece(uint8 bucket, uint64 since, bool has_after, warm_page *after,
-				 uint8 *frame, Size *length, bool *more)
+				 uint8 *message, Size *length, bool *more)
 {
 	warm_sending sending = {.since = since, .after = *after, .bucket = bucket, .has_after = has_after};
 
-	if (sp_note(warm_send(&history, &sending, frame, SP_FRAME_ROOM, length),
+	if (sp_note(warm_send(&history, &sending, message, WARM_MESSAGE_ROOM, length),
 				   "a publication") != WARM_OK)
 		return false;
 	*after = sending.after;

@@ -18,7 +18,7 @@
 #include "replication/walsender_private.h"
 #include "standby_prewarm.h"
 
-#define FRAME_HEADER	23		/* a frame without an entry is as long */
+#define EMPTY_HISTORY	23		/* bytes of the library's message without an entry */
 #define DEVICES_A_MESSAGE 1000
 #define MOST_LATE_US	(60 * US_PER_S)
 #define BURST_S			10
@@ -41,7 +41,7 @@ static int	devices_saved,
 static uint64 directory_at;		/* when all of it was sent last */
 static int64 allowance = 0;		/* bytes that may be sent now */
 static uint64 paid_at;			/* since when none were added */
-static XLogRecPtr last_message = InvalidXLogRecPtr;
+static XLogRecPtr last_record = InvalidXLogRecPtr;	/* a message's end */
 
 /*
  * The next publication sends the directory first.  What the history has by now
@@ -92,9 +92,9 @@ publish_message(uint8 kind, uint8 *message, Size length)
 	XLogRegisterData((char *) message, length);
 	if (!publish_is_important())
 		XLogSetRecordFlags(XLOG_MARK_UNIMPORTANT);
-	last_message = XLogInsert(RM_LOGICALMSG_ID, XLOG_LOGICAL_MESSAGE);
+	last_record = XLogInsert(RM_LOGICALMSG_ID, XLOG_LOGICAL_MESSAGE);
 	allowance -= length;
-	sp_stats.frames_sent++;
+	sp_stats.messages_sent++;
 	sp_stats.bytes_sent += length;
 }
 
@@ -131,15 +131,15 @@ publish_directory(uint64 now, int64 rate)
 static bool
 publish_piece(void)
 {
-	uint8		message[SP_HEADER + SP_FRAME_ROOM];
+	uint8		message[SP_HEADER + WARM_MESSAGE_ROOM];
 	Size		length;
 
 	if (!sp_history_piece(walk_bucket, walk_since, walk_has_after, &walk_after,
 						  message + SP_HEADER, &length, &walk_is_on))
 		return false;
 	walk_has_after = true;
-	if (length > FRAME_HEADER)
-		publish_message(SP_MESSAGE_FRAME, message, SP_HEADER + length);
+	if (length > EMPTY_HISTORY)
+		publish_message(SP_MESSAGE_HISTORY, message, SP_HEADER + length);
 	return true;
 }
 
@@ -213,7 +213,7 @@ sp_publish(void)
 {
 	uint64		now = sp_us();
 	int64		rate = sp_publish_rate * INT64CONST(1024);
-	XLogRecPtr	before = last_message;
+	XLogRecPtr	before = last_record;
 	int64		least;
 
 	if (!XLogIsNeeded() || !publish_has_reader())
@@ -230,7 +230,7 @@ sp_publish(void)
 		if (!publish_piece())
 			break;
 	}
-	if (last_message != before)
-		XLogSetAsyncXactLSN(last_message);	/* for the WAL writer */
+	if (last_record != before)
+		XLogSetAsyncXactLSN(last_record);	/* for the WAL writer */
 	return allowance <= least && (walk_is_on || sp_changed_buckets != 0);
 }

@@ -43,7 +43,7 @@ static MemoryContext ranking = NULL;
 static warm_page *listed;		/* the hottest first */
 static Size listed_count,
 			listed_room;
-static int64 listed_frames,
+static int64 listed_messages,
 			listed_resets;		/* of the history that was ranked */
 static uint32 *places;			/* a hash table: ranks plus 1; 0 is free */
 static uint64 places_mask;
@@ -382,7 +382,7 @@ rank_list_pages(void)
 	Size		room = Min(rank_most_wanted() * 2, (Size) sp_stats.known);
 
 	if (listed != NULL && room == listed_room &&
-		sp_stats.frames_received == listed_frames &&
+		sp_stats.messages_received == listed_messages &&
 		sp_stats.resets == listed_resets)
 		return;
 	MemoryContextReset(ranking);
@@ -395,7 +395,7 @@ rank_list_pages(void)
 	for (Size i = 0; i < listed_count; i++)
 		*rank_place_of(listed[i]) = (uint32) i + 1;
 	listed_room = room;
-	listed_frames = sp_stats.frames_received;
+	listed_messages = sp_stats.messages_received;
 	listed_resets = sp_stats.resets;
 	sp_stats.rankings++;
 }
@@ -505,7 +505,7 @@ rank_note_warmth(void)
 	bool		now = sp_stats.wanted > 0 &&
 		sp_stats.resident >= sp_stats.wanted * share;
 
-	if (now && !is_warm && sp_last_frame != 0 && !sp_warming &&
+	if (now && !is_warm && sp_last_message != 0 && !sp_warming &&
 		sp_may_log(SP_FAULT_WARM))
 		ereport(LOG,
 				(errmsg("standby_prewarm is warm: " INT64_FORMAT " of " INT64_FORMAT

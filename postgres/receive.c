@@ -148,7 +148,7 @@ header_status(const uint8 *bytes, Size length)
 		return SP_BAD_VERSION;
 	if (length < header_length(bytes))
 		return SP_BAD_MESSAGE;
-	if (bytes[1] != SP_MESSAGE_FRAME && bytes[1] != SP_MESSAGE_DIRECTORY)
+	if (bytes[1] != SP_MESSAGE_HISTORY && bytes[1] != SP_MESSAGE_DIRECTORY)
 		return SP_BAD_MESSAGE;
 	if (header_length(bytes) == SP_HEADER && sp_get(bytes + SP_HEADER_1, 8) > SP_MOST_KNOWN)
 		return SP_BAD_MESSAGE;
@@ -181,9 +181,9 @@ take_message(const uint8 *bytes, Size length)
 	{
 		time = sp_get(bytes + 2, 8);
 		sp_latest = Max(sp_latest, time);
-		sp_last_frame = Max(sp_last_frame, (TimestampTz) time);
+		sp_last_message = Max(sp_last_message, (TimestampTz) time);
 		sp_stats.primary_known = header == SP_HEADER ? sp_get(bytes + SP_HEADER_1, 8) : -1;
-		sp_stats.frames_received++;
+		sp_stats.messages_received++;
 	}
 	(void) sp_note(status, "a message of its primary");
 }

@@ -31,7 +31,7 @@ PGDLLEXPORT void standby_prewarm_main(Datum main_arg);
 SpShared   *sp_shared = NULL;
 SpStats		sp_stats;
 int64		sp_refused[SP_STATUSES];
-TimestampTz sp_last_frame = 0,
+TimestampTz sp_last_message = 0,
 			sp_last_round = 0;
 bool		sp_warming = false;
 
@@ -90,7 +90,7 @@ static const IntSetting int_settings[] = {
 	{&sp_load_after_start, "standby_prewarm.load_after_start", 300, 0, 86400, GUC_UNIT_S,
 	"Sets for how long a primary that starts loads the pages that it knew."},
 	{&sp_clock_tolerance, "standby_prewarm.clock_tolerance", 600, 1, 7 * 86400, GUC_UNIT_S,
-	"Sets how far ahead of this server's clock a time in a frame is believed."},
+	"Sets how far ahead of this server's clock a time in a message is believed."},
 };
 
 static void
@@ -424,7 +424,7 @@ take_turn(void)
 	}
 	LWLockAcquire(sp_shared->lock, LW_EXCLUSIVE);
 	sp_shared->is_standby = is_standby;
-	sp_shared->last_frame = sp_last_frame;
+	sp_shared->last_message = sp_last_message;
 	sp_shared->last_round = sp_last_round;
 	sp_shared->stats = sp_stats;
 	memcpy(sp_shared->refused, sp_refused, sizeof sp_refused);

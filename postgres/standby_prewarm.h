@@ -3,9 +3,9 @@
  *		A streaming standby that takes over warm.
  *
  * One worker owns the history of page references (history.c).  On a primary it
- * samples the buffer descriptors (sample.c) and writes frames of the history
- * into the WAL (publish.c).  On a standby it reads them back (receive.c), ranks
- * the pages (rank.c), and hands those that are missing to loaders (loader.c).
+ * samples the buffer descriptors (sample.c) and writes messages into the WAL
+ * (publish.c).  On a standby it reads them back (receive.c), ranks the pages
+ * (rank.c), and hands those that are missing to loaders (loader.c).
  */
 #ifndef STANDBY_PREWARM_H
 #define STANDBY_PREWARM_H
@@ -101,7 +101,7 @@ typedef struct SpStats
 	int64		wanted;
 	int64		resident;
 	int64		unloadable;
-	int64		frames_received;
+	int64		messages_received;
 	int64		wal_read;		/* bytes of WAL that were looked through */
 	int64		wal_skipped;	/* bytes that were gone, or unreadable */
 	int64		pages_touched;
@@ -110,7 +110,7 @@ typedef struct SpStats
 	int64		samples;
 	int64		sample_us;		/* cost of the last sample */
 	int64		page_references;
-	int64		frames_sent;
+	int64		messages_sent;
 	int64		bytes_sent;
 	int64		saves;
 	int64		save_failures;
@@ -132,7 +132,7 @@ typedef struct SpShared
 	bool		is_warming;		/* a primary that started loads what it knew */
 	bool		others_wait;	/* databases wait for a loader: idle ones end */
 	bool		reset_wanted;
-	TimestampTz last_frame;		/* when the newest frame was written */
+	TimestampTz last_message;	/* when the newest one was written */
 	TimestampTz last_round;		/* when the last round of loading ended */
 	TimestampTz stats_reset;	/* since when is counted */
 	SpStats		stats;
@@ -147,7 +147,7 @@ extern SpShared *sp_shared;
 /* The worker's own, copied once a turn. */
 extern SpStats sp_stats;
 extern int64 sp_refused[SP_STATUSES];
-extern TimestampTz sp_last_frame,
+extern TimestampTz sp_last_message,
 			sp_last_round;
 extern bool sp_warming;
 
@@ -184,9 +184,9 @@ extern void sp_history_reset(const char *why);
 extern uint64 sp_clock(void);
 extern void sp_reference(warm_page page, uint64 time);
 extern void sp_references_end(void);
-extern int	sp_history_receive(const uint8 *frame, Size length);
+extern int	sp_history_receive(const uint8 *message, Size length);
 extern bool sp_history_piece(uint8 bucket, uint64 since, bool has_after,
-							 warm_page *after, uint8 *frame, Size *length,
+							 warm_page *after, uint8 *message, Size *length,
 							 bool *more);
 extern Size sp_history_list(warm_page *pages, Size room);
 extern void sp_history_bound(void);
@@ -225,14 +225,13 @@ extern void sp_describe_worker(BackgroundWorker *worker, const char *function,
  * upgraded before their primary, so the version before this one is taken too.
  */
 #define SP_MESSAGE_VERSION 2
-#define SP_MESSAGE_FRAME 1
+#define SP_MESSAGE_HISTORY 1
 #define SP_MESSAGE_DIRECTORY 2
 #define SP_HEADER		18		/* version, kind, time, pages known */
 #define SP_HEADER_1		10		/* of version 1: the same without the pages */
 #define SP_DEVICE_BYTES 11		/* number, tablespace, database, fork */
-#define SP_FRAME_ROOM	32768	/* a frame has at most 31,023 bytes */
 
-/* Numbers in messages are big-endian, as in frames. */
+/* Numbers are big-endian, as in the library's messages. */
 static inline uint8 *
 sp_put(uint8 *to, uint64 value, int bytes)
 {

@@ -99,8 +99,8 @@ standby_prewarm_status(PG_FUNCTION_ARGS)
 		DirectFunctionCall1(jsonb_in, CStringGetDatum(by_name));
 	nulls[2] = refused == 0;
 	values[3] = Int32GetDatum(loaders);
-	values[4] = TimestampTzGetDatum(now.last_frame);
-	nulls[4] = now.last_frame == 0;
+	values[4] = TimestampTzGetDatum(now.last_message);
+	nulls[4] = now.last_message == 0;
 	values[5] = TimestampTzGetDatum(now.last_round);
 	nulls[5] = now.last_round == 0 || !loads;
 	values[6] = TimestampTzGetDatum(now.stats_reset);
