@@ -160,7 +160,7 @@ sp_note(int status, const char *what)
 
 	if (status == WARM_OK || status < 0 || status >= SP_STATUSES)
 		return status;
-	sp_refused[status]++;
+	sp_stats.refused[status]++;
 	if (sp_may_log(status))
 		ereport(WARNING,
 				(errcode(status == WARM_MEMORY ? ERRCODE_OUT_OF_MEMORY :

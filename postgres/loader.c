@@ -185,7 +185,7 @@ loader_is_needed(void)
 
 	LWLockAcquire(sp_shared->lock, LW_SHARED);
 	needed = sp_shared->epoch == epoch &&
-		(sp_shared->is_warming || RecoveryInProgress());
+		(sp_shared->stats.is_warming || RecoveryInProgress());
 	LWLockRelease(sp_shared->lock);
 	return needed;
 }
@@ -244,7 +244,7 @@ loader_stays(int idle)
 	bool		stays;
 
 	LWLockAcquire(sp_shared->lock, LW_SHARED);
-	stays = idle < IDLE_TURNS && !sp_shared->others_wait;
+	stays = idle < IDLE_TURNS && !sp_shared->stats.others_wait;
 	LWLockRelease(sp_shared->lock);
 	return stays && RecoveryInProgress();
 }

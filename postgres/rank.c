@@ -61,8 +61,7 @@ typedef struct Slot
 
 static Slot slots[SP_MOST_LOADERS];
 static Oid	resident_database;	/* one that had a page in a buffer in the round before */
-static bool others_wait;		/* a database has found no slot */
-static bool others_waited;		/* in the round before */
+static bool others_waited;		/* in the round before a database has found no slot */
 
 static void
 rank_forget_unloadable(void)
@@ -185,6 +184,7 @@ sp_rank_reset(void)
 	round_at = sp_us();
 	load_allowance = 0;
 	is_warm = false;
+	sp_stats.wanted = sp_stats.resident = sp_stats.unloadable = 0;
 }
 
 /*
@@ -252,7 +252,7 @@ rank_hand_out(const SpPage *page)
 	SpRequest  *request;
 
 	if (i == NO_SLOT)
-		others_wait |= OidIsValid(database);
+		sp_stats.others_wait |= OidIsValid(database);
 	if (i < 0 || !slots[i].takes)
 		return false;
 	if (!OidIsValid(slots[i].database))
@@ -344,7 +344,7 @@ rank_send_batch(int i)
 static Size
 rank_most_wanted(void)
 {
-	double		fraction = sp_warming ? 1.0 : sp_fraction;
+	double		fraction = sp_stats.is_warming ? 1.0 : sp_fraction;
 
 	return Min((Size) (fraction * NBuffers),
 			   (Size) Max(NBuffers - BUFFERS_OF_REPLAY, 0));
@@ -471,7 +471,7 @@ rank_visit_pages(void)
 			sp_stats.resident++;
 			if (OidIsValid(page.device.database))
 				resident = page.device.database;
-			if (sp_load && !sp_warming)
+			if (sp_load && !sp_stats.is_warming)
 				rank_touch_buffer(buffers[i] - 1, &page,
 								  wanted < part ? 3 : wanted < part * 2 ? 2 : 1);
 		}
@@ -505,7 +505,7 @@ rank_note_warmth(void)
 	bool		now = sp_stats.wanted > 0 &&
 		sp_stats.resident >= sp_stats.wanted * share;
 
-	if (now && !is_warm && sp_last_message != 0 && !sp_warming &&
+	if (now && !is_warm && sp_stats.last_message != 0 && !sp_stats.is_warming &&
 		sp_may_log(SP_FAULT_WARM))
 		ereport(LOG,
 				(errmsg("standby_prewarm is warm: " INT64_FORMAT " of " INT64_FORMAT
@@ -525,8 +525,8 @@ sp_round(void)
 	round_at = begun;
 	load_allowance = Min(load_allowance + passed * rate,
 						 Max(2.0 * rate * sp_load_interval / 1000, 1));
-	others_waited = others_wait;
-	others_wait = false;
+	others_waited = sp_stats.others_wait;
+	sp_stats.others_wait = false;
 	for (int i = 0; i < sp_shared->loader_count; i++)
 		rank_open_slot(i);
 	rank_list_pages();
@@ -535,11 +535,8 @@ sp_round(void)
 	for (int i = 0; i < sp_shared->loader_count; i++)
 		if (slots[i].count > 0)
 			rank_send_batch(i);
-	LWLockAcquire(sp_shared->lock, LW_EXCLUSIVE);
-	sp_shared->others_wait = others_wait;
-	LWLockRelease(sp_shared->lock);
 	rank_note_warmth();
 	sp_stats.rounds++;
 	sp_stats.round_us = sp_us() - begun;
-	sp_last_round = GetCurrentTimestamp();
+	sp_stats.last_round = GetCurrentTimestamp();
 }

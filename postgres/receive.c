@@ -181,7 +181,7 @@ take_message(const uint8 *bytes, Size length)
 	{
 		time = sp_get(bytes + 2, 8);
 		sp_latest = Max(sp_latest, time);
-		sp_last_message = Max(sp_last_message, (TimestampTz) time);
+		sp_stats.last_message = Max(sp_stats.last_message, (TimestampTz) time);
 		sp_stats.primary_known = header == SP_HEADER ? sp_get(bytes + SP_HEADER_1, 8) : -1;
 		sp_stats.messages_received++;
 	}

@@ -84,7 +84,7 @@ sample_buffer(int i, uint64 time, bool saturated)
 		mark = hash_bytes_extended((const unsigned char *) &tag, sizeof tag, 0);
 		mark = (mark & ~SEEN_NONE) | BUF_STATE_GET_USAGECOUNT(state);
 		/* While a primary loads pages, one that comes in is not referenced. */
-		is_new = !sp_warming &&
+		is_new = !sp_stats.is_warming &&
 			((before ^ mark) > SEEN_NONE || (before & SEEN_NONE) == SEEN_NONE);
 		is_hotter = ((before ^ mark) <= SEEN_NONE && mark > before) ||
 			(saturated && BUF_STATE_GET_USAGECOUNT(state) == BM_MAX_USAGE_COUNT);

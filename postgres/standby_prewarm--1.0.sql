@@ -8,14 +8,13 @@ SET LOCAL search_path TO pg_catalog, pg_temp;
 
 CREATE FUNCTION @extschema@.standby_prewarm_status(
     OUT role text, OUT refused bigint, OUT refused_by_name jsonb, OUT loaders integer,
-    OUT last_message timestamptz, OUT last_round timestamptz, OUT stats_reset timestamptz,
-    OUT known bigint, OUT devices bigint, OUT wanted bigint,
-    OUT resident bigint, OUT unloadable bigint, OUT messages_received bigint, OUT wal_read bigint,
+    OUT last_message timestamptz, OUT stats_reset timestamptz, OUT last_round timestamptz,
+    OUT wanted bigint, OUT resident bigint, OUT unloadable bigint, OUT primary_known bigint,
+    OUT known bigint, OUT devices bigint, OUT messages_received bigint, OUT wal_read bigint,
     OUT wal_skipped bigint, OUT pages_touched bigint, OUT rounds bigint, OUT round_us bigint,
     OUT samples bigint, OUT sample_us bigint, OUT page_references bigint, OUT messages_sent bigint,
     OUT bytes_sent bigint, OUT saves bigint, OUT save_failures bigint, OUT resets bigint,
-    OUT pages_read bigint, OUT read_us bigint, OUT pages_failed bigint,
-    OUT primary_known bigint, OUT rankings bigint)
+    OUT pages_read bigint, OUT read_us bigint, OUT pages_failed bigint, OUT rankings bigint)
 RETURNS record
 AS 'MODULE_PATHNAME'
 LANGUAGE C STRICT VOLATILE PARALLEL RESTRICTED;

@@ -93,14 +93,21 @@ typedef struct SpLoader
 	SpRequest	pages[SP_BATCH];
 } SpLoader;
 
-/* What the worker counts: all int64, in the order of standby_prewarm_status. */
+/*
+ * What the worker shows once a turn.  All before refused is columns of
+ * standby_prewarm_status, in their order.
+ */
 typedef struct SpStats
 {
-	int64		known;			/* pages of the history */
-	int64		devices;
+	TimestampTz last_message;	/* when it was written; times are 0 where there is none */
+	TimestampTz stats_reset;	/* since when is counted */
+	TimestampTz last_round;		/* this and the next four: of a server that loads pages */
 	int64		wanted;
 	int64		resident;
 	int64		unloadable;
+	int64		primary_known;	/* pages of the primary's history; -1: unknown */
+	int64		known;			/* pages of the history */
+	int64		devices;
 	int64		messages_received;
 	int64		wal_read;		/* bytes of WAL that were looked through */
 	int64		wal_skipped;	/* bytes that were gone, or unreadable */
@@ -118,8 +125,11 @@ typedef struct SpStats
 	int64		pages_read;		/* by loaders, as the next two */
 	int64		read_us;
 	int64		pages_failed;
-	int64		primary_known;	/* pages of the primary's history; -1: unknown */
 	int64		rankings;		/* rounds for which the history was ranked */
+	int64		refused[SP_STATUSES];
+	bool		is_standby;
+	bool		is_warming;		/* a primary that started loads what it knew */
+	bool		others_wait;	/* databases wait for a loader: idle ones end */
 } SpStats;
 
 /* lock guards all of it, but a batch: the state of its slot says whose it is. */
@@ -128,15 +138,8 @@ typedef struct SpShared
 	LWLock	   *lock;
 	Latch	   *latch;			/* of the worker, NULL while there is none */
 	uint64		epoch;			/* counts the starts of the worker */
-	bool		is_standby;
-	bool		is_warming;		/* a primary that started loads what it knew */
-	bool		others_wait;	/* databases wait for a loader: idle ones end */
 	bool		reset_wanted;
-	TimestampTz last_message;	/* when the newest one was written */
-	TimestampTz last_round;		/* when the last round of loading ended */
-	TimestampTz stats_reset;	/* since when is counted */
 	SpStats		stats;
-	int64		refused[SP_STATUSES];
 	uint64		logged_at[SP_FAULTS];	/* by sp_us; 0: never */
 	int			loader_count;
 	SpLoader	loaders[FLEXIBLE_ARRAY_MEMBER];
@@ -144,12 +147,8 @@ typedef struct SpShared
 
 extern SpShared *sp_shared;
 
-/* The worker's own, copied once a turn. */
+/* The worker's own. */
 extern SpStats sp_stats;
-extern int64 sp_refused[SP_STATUSES];
-extern TimestampTz sp_last_message,
-			sp_last_round;
-extern bool sp_warming;
 
 /* Settings, in the units that their names have in standby_prewarm.c. */
 extern bool sp_enabled,
