@@ -46,10 +46,9 @@ static int	reference_counts[SP_BUCKETS];
 
 /* When a save at a stop is given up; 0: it is another save. */
 static uint64 save_until;
-static bool save_ended;
-static int	save_error;			/* errno of a piece of the dump that failed */
+static int	save_error;			/* of a piece of the dump; ECANCELED: it is given up */
 
-/* The name of a status, until the next call. */
+/* The name of a status, until the next call: of "WARM_LATE_STAMP: .." LateStamp. */
 const char *
 sp_status_name(int status)
 {
@@ -57,20 +56,15 @@ sp_status_name(int status)
 	"OtherDirectory", "LateMessage"};
 	static char name[32];
 	const char *from = warm_strerror(status);
-	bool		is_first = true;
 	int			length = 0;
 
 	if (status >= SP_BAD_MESSAGE && status <= SP_LATE_MESSAGE)
 		return own[status - SP_BAD_MESSAGE];
-	/* of "WARM_LATE_STAMP: .." LateStamp */
 	if (strncmp(from, "WARM_", 5) != 0)
 		return "Unknown";
 	for (from += 5; *from != ':' && length < (int) sizeof name - 1; from++)
-	{
 		if (*from != '_')
-			name[length++] = is_first ? *from : pg_tolower((unsigned char) *from);
-		is_first = *from == '_';
-	}
+			name[length++] = from[-1] == '_' ? *from : pg_tolower((unsigned char) *from);
 	name[length] = 0;
 	return name;
 }
@@ -221,21 +215,14 @@ sp_history_receive(const uint8 *message, Size length)
 }
 
 /*
- * Writes the message of a bucket's next entries with a stamp since then, at most
- * WARM_MESSAGE_ROOM bytes; the page of its last entry; and whether more follow.
+ * Writes the message of a bucket's next entries, of WARM_MESSAGE_ROOM bytes at
+ * most, and into walk where they end.
  */
-bool
-sp_history_piece(uint8 bucket, uint64 since, bool has_after, warm_page *after,
-				 uint8 *message, Size *length, bool *more)
+int
+sp_history_send(warm_sending *walk, uint8 *message, Size *length)
 {
-	warm_sending sending = {.since = since, .after = *after, .bucket = bucket, .has_after = has_after};
-
-	if (sp_note(warm_send(&history, &sending, message, WARM_MESSAGE_ROOM, length),
-				   "a publication") != WARM_OK)
-		return false;
-	*after = sending.after;
-	*more = sending.more;
-	return true;
+	return sp_note(warm_send(&history, walk, message, WARM_MESSAGE_ROOM, length),
+				   "a publication");
 }
 
 /* Lists the hottest pages, the hottest first. */
@@ -298,43 +285,31 @@ sp_history_bound(void)
 	sp_stats.known = history_length();
 }
 
-/* Says that a file could not be saved, as errno says; drops its draft. */
-static void
-history_save_failed(const char *path)
+/*
+ * Replaces a file by what write_draft writes, whole or not at all.  An error,
+ * which it returns, is logged, unless the save is given up.
+ */
+static bool
+history_replace(const char *path, int (*write_draft) (int *fd))
 {
-	int			error = errno;
-	bool		may = sp_may_log(SP_FAULT_SAVE);	/* which waits for a lock */
-
-	errno = error;
-	if (may)
-		ereport(WARNING,
-				(errcode_for_file_access(),
-				 errmsg("could not write file \"%s\" for \"%s\": %m",
-						DRAFT_FILE, path)));
-	(void) unlink(DRAFT_FILE);
-}
-
-/* Makes the draft of a file; -1 where that fails. */
-static int
-history_open_draft(const char *path)
-{
-	int			fd;
+	int			fd,
+				error;
 
 	(void) unlink(DRAFT_FILE);
 	fd = OpenTransientFile(DRAFT_FILE, O_CREAT | O_EXCL | O_WRONLY | PG_BINARY);
-	if (fd < 0)
-		history_save_failed(path);
-	return fd;
-}
-
-/* Puts the draft that was written into a file's place. */
-static bool
-history_end_draft(int fd, const char *path)
-{
-	if (CloseTransientFile(fd) == 0 &&
-		durable_rename(DRAFT_FILE, path, DEBUG1) == 0)
+	error = fd < 0 ? errno : write_draft(&fd);
+	if (fd >= 0 && CloseTransientFile(fd) != 0 && error == 0)
+		error = errno;
+	if (error == 0 && durable_rename(DRAFT_FILE, path, DEBUG1) == 0)
 		return true;
-	history_save_failed(path);
+	error = error == 0 ? errno : error;
+	(void) unlink(DRAFT_FILE);
+	if (error == ECANCELED || !sp_may_log(SP_FAULT_SAVE))
+		return false;
+	errno = error;
+	ereport(WARNING,
+			(errcode_for_file_access(),
+			 errmsg("could not write file \"%s\" for \"%s\": %m", DRAFT_FILE, path)));
 	return false;
 }
 
@@ -349,29 +324,28 @@ history_checksum(const uint8 *bytes, Size length)
 	return crc;
 }
 
-/* Saves the directory, the latest time, and the position of the saved history. */
-bool
-sp_directory_save(void)
+static int
+history_write_directory(int *fd)
 {
 	uint8	   *bytes = palloc(MOST_DIRECTORY_BYTES);
 	uint8	   *end = sp_put(bytes, DIRECTORY_MAGIC, 8);
 	int			next = 0;
-	int			fd = history_open_draft(DIRECTORY_FILE);
 	Size		length;
 
-	if (fd < 0)
-		return false;
 	end = sp_put(end, GetSystemIdentifier(), 8);
 	end = sp_put(sp_put(end, sp_latest, 8), sp_saved_position, 8);
 	end = sp_directory_encode(&next, sp_device_count, sp_device_count, end);
 	end = sp_put(end, history_checksum(bytes, end - bytes), 4);
 	length = end - bytes;
 	errno = ENOSPC;				/* a write that is short says nothing */
-	if (write(fd, bytes, length) == (ssize_t) length && pg_fsync(fd) == 0)
-		return history_end_draft(fd, DIRECTORY_FILE);
-	history_save_failed(DIRECTORY_FILE);
-	CloseTransientFile(fd);
-	return false;
+	return write(*fd, bytes, length) == (ssize_t) length && pg_fsync(*fd) == 0 ? 0 : errno;
+}
+
+/* Saves the directory, the latest time, and the position of the saved history. */
+bool
+sp_directory_save(void)
+{
+	return history_replace(DIRECTORY_FILE, history_write_directory);
 }
 
 /*
@@ -396,11 +370,10 @@ history_write_piece(void *context, uint64_t no, const void *bytes, size_t length
 		FlushErrorState();		/* it is processed at the next chance */
 	}
 	PG_END_TRY();
-	save_ended = save_until > 0 ? sp_us() > save_until : ShutdownRequestPending;
-	if (save_ended)
-		return ECANCELED;
 	errno = ENOSPC;				/* a write that is short says nothing */
-	if (pg_pwrite(*(int *) context, bytes, length, no) == (ssize_t) length)
+	if (save_until > 0 ? sp_us() > save_until : ShutdownRequestPending)
+		errno = ECANCELED;
+	else if (pg_pwrite(*(int *) context, bytes, length, no) == (ssize_t) length)
 		return 0;
 	return save_error = errno;
 }
@@ -418,32 +391,21 @@ history_read_nothing(void *context, uint64_t no, void *into, size_t length)
 	return EIO;
 }
 
-/* Saves the history into its file, whole or not at all. */
-static bool
-history_save_dump(void)
+static int
+history_write_dump(int *fd)
 {
 	static const warm_device_ops calls = {.size = sizeof calls, .read = history_read_nothing,
 	.write = history_write_piece, .sync = history_sync_dump};
-	int			fd = history_open_draft(HISTORY_FILE);
+	const warm_device file = {.ops = &calls, .context = fd};
 	int			status;
-	const warm_device file = {.ops = &calls, .context = &fd};
 
-	if (fd < 0)
-		return false;
 	save_error = ENOMEM;		/* where no call fails */
 	status = warm_save_to(&history, &file);
 	if (status == WARM_OK)
-		return history_end_draft(fd, HISTORY_FILE);
-	if (save_ended)
-		(void) unlink(DRAFT_FILE);
-	else
-	{
-		errno = save_error;
-		history_save_failed(HISTORY_FILE);
+		return 0;
+	if (save_error != ECANCELED)
 		sp_note(status, "a save");
-	}
-	CloseTransientFile(fd);
-	return false;
+	return save_error;
 }
 
 /*
@@ -457,32 +419,29 @@ sp_history_save(XLogRecPtr position)
 	static uint64 cost = 0;		/* of the last save */
 	uint64		begun = sp_us();
 
-	save_ended = false;
-	save_until = !ShutdownRequestPending ? 0 :
-		cost < STOP_US ? begun + STOP_US : 1;
-	if (sp_directory_save() && history_save_dump())
+	save_error = 0;
+	save_until = !ShutdownRequestPending ? 0 : cost < STOP_US ? begun + STOP_US : 1;
+	if (sp_directory_save() && history_replace(HISTORY_FILE, history_write_dump))
 	{
 		cost = sp_us() - begun;
 		sp_stats.saves++;
 		sp_saved_position = position;
 		(void) sp_directory_save();
 	}
-	else if (!save_ended)
+	else if (save_error != ECANCELED)
 		sp_stats.save_failures++;
 }
 
 /* Opens a file for reading; -1 where there is none. */
 static int
-history_open_saved(const char *path, Size *length)
+history_open_saved(const char *path)
 {
-	struct stat st = {0};
 	int			fd = OpenTransientFile(path, O_RDONLY | PG_BINARY);
 
-	if (fd < 0 ? errno != ENOENT : fstat(fd, &st) != 0)
+	if (fd < 0 && errno != ENOENT)
 		ereport(LOG,
 				(errcode_for_file_access(),
 				 errmsg("could not open file \"%s\": %m", path)));
-	*length = st.st_size;
 	return fd;
 }
 
@@ -490,22 +449,19 @@ static bool
 history_load_directory(void)
 {
 	uint8	   *bytes = palloc(MOST_DIRECTORY_BYTES);
-	Size		length;
-	int			fd = history_open_saved(DIRECTORY_FILE, &length);
-	bool		good;
+	int			fd = history_open_saved(DIRECTORY_FILE);
+	ssize_t		length;
 
 	if (fd < 0)
 		return false;
-	length = Min(length, MOST_DIRECTORY_BYTES);
-	good = length >= DIRECTORY_HEADER + 4 &&
-		read(fd, bytes, length) == (ssize_t) length &&
+	length = read(fd, bytes, MOST_DIRECTORY_BYTES);
+	CloseTransientFile(fd);
+	if (length >= DIRECTORY_HEADER + 4 &&
 		sp_get(bytes, 8) == DIRECTORY_MAGIC &&
 		sp_get(bytes + 8, 8) == GetSystemIdentifier() &&
 		history_checksum(bytes, length - 4) == sp_get(bytes + length - 4, 4) &&
 		sp_directory_decode(bytes + DIRECTORY_HEADER,
-							length - 4 - DIRECTORY_HEADER) == WARM_OK;
-	CloseTransientFile(fd);
-	if (good)
+							length - 4 - DIRECTORY_HEADER) == WARM_OK)
 	{
 		sp_latest = sp_get(bytes + 16, 8);
 		sp_saved_position = sp_get(bytes + 24, 8);
@@ -522,16 +478,16 @@ history_load_directory(void)
 void
 sp_history_start(void)
 {
-	Size		length;
+	struct stat st;
 	int			fd,
 				status;
 
 	history_open();
 	sp_directory_reset();
-	if (history_load_directory() &&
-		(fd = history_open_saved(HISTORY_FILE, &length)) >= 0)
+	if (history_load_directory() && (fd = history_open_saved(HISTORY_FILE)) >= 0)
 	{
-		status = sp_note(warm_load(&history, fd, length), "a saved history");
+		status = sp_note(fstat(fd, &st) != 0 ? WARM_DUMP_NOT_READ :
+						 warm_load(&history, fd, st.st_size), "a saved history");
 		CloseTransientFile(fd);
 		if (status != WARM_OK)
 		{

@@ -24,12 +24,8 @@
 #define BURST_S			10
 #define SLICES			5		/* a publication sends one of a second's */
 
-/* The bucket that is sent, piece by piece. */
-static bool walk_is_on;			/* more pieces follow */
-static bool walk_has_after;
-static uint8 walk_bucket;
-static warm_page walk_after;	/* the last page that was sent */
-static uint64 walk_since;		/* of stamps: earlier ones are not sent */
+static warm_sending walk;		/* the bucket that is sent, piece by piece */
+static bool walk_is_on;			/* pieces of it follow */
 
 /* Stamps before this were sent, or are not new; 0: all of it is to be sent. */
 static uint64 sent_until[SP_BUCKETS];
@@ -134,10 +130,9 @@ publish_piece(void)
 	uint8		message[SP_HEADER + WARM_MESSAGE_ROOM];
 	Size		length;
 
-	if (!sp_history_piece(walk_bucket, walk_since, walk_has_after, &walk_after,
-						  message + SP_HEADER, &length, &walk_is_on))
+	if (sp_history_send(&walk, message + SP_HEADER, &length) != WARM_OK)
 		return false;
-	walk_has_after = true;
+	walk_is_on = walk.more;
 	if (length > EMPTY_HISTORY)
 		publish_message(SP_MESSAGE_HISTORY, message, SP_HEADER + length);
 	return true;
@@ -164,13 +159,13 @@ publish_begin(uint64 now)
 		return false;
 	while ((sp_changed_buckets >> next_bucket & 1) == 0)
 		next_bucket = (next_bucket + 1) % SP_BUCKETS;
-	walk_bucket = next_bucket;
+	memset(&walk, 0, sizeof walk);
+	walk.bucket = next_bucket;
+	walk.since = sent_until[next_bucket];
 	walk_is_on = true;
-	walk_has_after = false;
-	walk_since = sent_until[walk_bucket];
 	/* The next sample's time is later than the latest. */
-	sent_until[walk_bucket] = sp_latest + 1;
-	sp_changed_buckets &= ~(UINT64CONST(1) << walk_bucket);
+	sent_until[next_bucket] = sp_latest + 1;
+	sp_changed_buckets &= ~(UINT64CONST(1) << next_bucket);
 	next_bucket = (next_bucket + 1) % SP_BUCKETS;
 	return true;
 }
@@ -189,8 +184,6 @@ publish_has_reader(void)
 		found = sender->pid != 0;
 		SpinLockRelease(&sender->mutex);
 	}
-	if (found || max_replication_slots == 0)
-		return found;
 	LWLockAcquire(ReplicationSlotControlLock, LW_SHARED);
 	for (int i = 0; i < max_replication_slots && !found; i++)
 	{

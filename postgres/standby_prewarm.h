@@ -184,9 +184,7 @@ extern uint64 sp_clock(void);
 extern void sp_reference(warm_page page, uint64 time);
 extern void sp_references_end(void);
 extern int	sp_history_receive(const uint8 *message, Size length);
-extern bool sp_history_piece(uint8 bucket, uint64 since, bool has_after,
-							 warm_page *after, uint8 *message, Size *length,
-							 bool *more);
+extern int	sp_history_send(warm_sending *walk, uint8 *message, Size *length);
 extern Size sp_history_list(warm_page *pages, Size room);
 extern void sp_history_bound(void);
 extern bool sp_directory_save(void);
