@@ -34,6 +34,7 @@ PGDLLEXPORT void standby_prewarm_loader_main(Datum main_arg);
 
 static SpLoader *slot;
 static uint64 epoch;
+static bool is_connected = false;
 static SpRequest *reading;		/* the page that is read, NULL where none is */
 static SpRequest batch[SP_BATCH];
 static uint64 batch_until;		/* when a primary's loader leaves what it has not read */
@@ -211,14 +212,16 @@ loader_read_batch(uint32 count)
 static uint32
 loader_take_batch(void)
 {
-	bool		has_batch;
+	uint32		count = 0;
 
 	LWLockAcquire(sp_shared->lock, LW_SHARED);
-	has_batch = sp_shared->epoch == epoch && slot->state == SP_SLOT_FULL;
-	if (has_batch)
-		memcpy(batch, slot->pages, slot->count * sizeof(SpRequest));
+	if (sp_shared->epoch == epoch && slot->state == SP_SLOT_FULL)
+	{
+		count = slot->count;
+		memcpy(batch, slot->pages, count * sizeof(SpRequest));
+	}
 	LWLockRelease(sp_shared->lock);
-	return has_batch ? slot->count : 0;
+	return count;
 }
 
 static void
@@ -235,21 +238,6 @@ loader_give_outcomes(uint32 count, uint64 took_us)
 }
 
 /*
- * Whether to wait for a further batch.  A primary's loader does not: DROP
- * DATABASE waits for a while until nobody is connected.
- */
-static bool
-loader_stays(int idle)
-{
-	bool		stays;
-
-	LWLockAcquire(sp_shared->lock, LW_SHARED);
-	stays = idle < IDLE_TURNS && !sp_shared->stats.others_wait;
-	LWLockRelease(sp_shared->lock);
-	return stays && RecoveryInProgress();
-}
-
-/*
  * Gives the slot back.  Where the loader could not connect its batch stays, by
  * which the worker sees it, and so do outcomes that were not read yet.
  */
@@ -260,7 +248,7 @@ loader_release_slot(int code, Datum arg)
 	if (sp_shared->epoch == epoch)
 	{
 		slot->latch = NULL;
-		if (slot->was_connected && slot->state != SP_SLOT_DONE)
+		if (is_connected && slot->state != SP_SLOT_DONE)
 			slot->state = SP_SLOT_IDLE;
 		slot->database = InvalidOid;	/* it gets no further batch */
 	}
@@ -287,10 +275,7 @@ loader_begin(int number)
 	SetConfigOption("lock_timeout", LOCK_TIMEOUT_MS, PGC_SUSET, PGC_S_OVERRIDE);
 	BackgroundWorkerInitializeConnectionByOid(database, InvalidOid,
 											  BGWORKER_BYPASS_ALLOWCONN);
-	LWLockAcquire(sp_shared->lock, LW_EXCLUSIVE);
-	if (sp_shared->epoch == epoch)
-		slot->was_connected = true;
-	LWLockRelease(sp_shared->lock);
+	is_connected = true;
 }
 
 void
@@ -317,7 +302,8 @@ standby_prewarm_loader_main(Datum main_arg)
 			(void) pgstat_report_stat(false);
 			idle = 0;
 		}
-		if (!loader_stays(idle))
+		/* a primary's does not stay: DROP DATABASE waits for it */
+		if (idle == IDLE_TURNS || sp_shared->stats.others_wait || !RecoveryInProgress())
 			break;
 		(void) sp_wait(IDLE_MS);
 	}

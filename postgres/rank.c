@@ -56,7 +56,6 @@ typedef struct Slot
 	Oid			database;		/* InvalidOid: the slot is vacant */
 	Oid			left_by;		/* the database whose loader ended last */
 	bool		takes;			/* it gets pages in this round */
-	uint32		count;			/* that it has got */
 } Slot;
 
 static Slot slots[SP_MOST_LOADERS];
@@ -112,37 +111,25 @@ rank_is_unloadable(const SpPage *page)
 }
 
 /*
- * Leaves the devices of a batch alone: nobody can load those of its database.  Those of
- * shared catalogs go to another loader soon.
+ * Notes what a loader read of its batch, and what it could not read.  Where it
+ * took no batch, it could not connect, and nobody can load its database; what
+ * is of shared catalogs goes to another loader soon.
  */
 static void
-rank_leave_batch_alone(int i)
+rank_note_batch(const SpLoader *loader, bool is_taken)
 {
-	const SpLoader *loader = &sp_shared->loaders[i];
-
-	for (uint32 k = 0; k < loader->count; k++)
-	{
-		SpPage		key = loader->pages[k].page;
-
-		key.file = InvalidOid;
-		key.block = InvalidBlockNumber;
-		rank_leave_alone(&key, OidIsValid(key.device.database) ? FORGIVE_US : BUSY_US);
-	}
-}
-
-/* Notes what a loader read, and what it could not read. */
-static void
-rank_note_outcomes(const SpLoader *loader)
-{
-	sp_stats.read_us += loader->took_us;
+	sp_stats.read_us += is_taken ? loader->took_us : 0;
 	for (uint32 i = 0; i < loader->count; i++)
 	{
-		uint8		outcome = loader->pages[i].outcome;
 		SpPage		key = loader->pages[i].page;
+		uint8		outcome = is_taken ? loader->pages[i].outcome :
+			OidIsValid(key.device.database) ? SP_NO_DATABASE : SP_BUSY;
 
 		sp_stats.pages_read += outcome == SP_LOADED;
 		sp_stats.pages_failed += outcome == SP_FAILED;
-		if (outcome == SP_NO_FILE || outcome == SP_BUSY)
+		if (outcome == SP_NO_DATABASE)
+			key.file = InvalidOid;
+		if (outcome >= SP_BUSY && outcome <= SP_NO_DATABASE)
 			key.block = InvalidBlockNumber;
 		if (outcome >= SP_BUSY)
 			rank_leave_alone(&key, outcome == SP_BUSY ? BUSY_US : FORGIVE_US);
@@ -162,7 +149,6 @@ rank_clear_slot(int i, bool ended)
 	{
 		slots[i].left_by = slots[i].database;
 		slots[i].database = loader->database = InvalidOid;
-		loader->was_connected = false;
 		loader->latch = NULL;
 	}
 	LWLockRelease(sp_shared->lock);
@@ -189,8 +175,7 @@ sp_rank_reset(void)
 
 /*
  * Notes what the loader of a slot answered, and whether the slot takes pages.
- * A batch is the worker's but while its slot is full.  Where a loader ended
- * without having connected, its pages are left alone.
+ * A batch is the worker's but while its slot is full.
  */
 static void
 rank_open_slot(int i)
@@ -210,14 +195,12 @@ rank_open_slot(int i)
 	LWLockAcquire(sp_shared->lock, LW_SHARED);
 	state = loader->state;
 	LWLockRelease(sp_shared->lock);
-	if (state == SP_SLOT_DONE)
-		rank_note_outcomes(loader);
-	else if (ended && !loader->was_connected)
-		rank_leave_batch_alone(i);
-	if (state == SP_SLOT_DONE || ended)
-		rank_clear_slot(i, ended);
 	slots[i].takes = state != SP_SLOT_FULL || ended;
-	slots[i].count = 0;
+	if (!slots[i].takes)
+		return;
+	if (state != SP_SLOT_IDLE)
+		rank_note_batch(loader, state == SP_SLOT_DONE);
+	rank_clear_slot(i, ended);
 }
 
 /*
@@ -249,7 +232,7 @@ rank_hand_out(const SpPage *page)
 {
 	Oid			database = page->device.database;
 	int			i = rank_slot_of(database);
-	SpRequest  *request;
+	SpLoader   *loader;
 
 	if (i == NO_SLOT)
 		sp_stats.others_wait |= OidIsValid(database);
@@ -257,12 +240,11 @@ rank_hand_out(const SpPage *page)
 		return false;
 	if (!OidIsValid(slots[i].database))
 		slots[i].database = OidIsValid(database) ? database : resident_database;
-	if (!OidIsValid(slots[i].database))
+	loader = &sp_shared->loaders[i];
+	if (!OidIsValid(slots[i].database) || loader->count == SP_BATCH)
 		return false;
-	request = &sp_shared->loaders[i].pages[slots[i].count++];
-	request->page = *page;
-	request->outcome = SP_WAITING;
-	slots[i].takes = slots[i].count < SP_BATCH;
+	loader->pages[loader->count].page = *page;
+	loader->pages[loader->count++].outcome = SP_WAITING;
 	return true;
 }
 
@@ -325,7 +307,6 @@ rank_send_batch(int i)
 	if (sent)
 	{
 		loader->database = slots[i].database;
-		loader->count = slots[i].count;
 		loader->state = SP_SLOT_FULL;
 		if (loader->latch != NULL)
 			SetLatch(loader->latch);
@@ -334,7 +315,7 @@ rank_send_batch(int i)
 	if (!sent || !starts)
 		return;
 	if (!rank_has_database(loader))
-		rank_leave_batch_alone(i);
+		rank_note_batch(loader, false);
 	else if (rank_start_loader(i))
 		return;
 	rank_clear_slot(i, true);
@@ -533,7 +514,7 @@ sp_round(void)
 	rank_find_buffers();
 	rank_visit_pages();
 	for (int i = 0; i < sp_shared->loader_count; i++)
-		if (slots[i].count > 0)
+		if (slots[i].takes && sp_shared->loaders[i].count > 0)
 			rank_send_batch(i);
 	rank_note_warmth();
 	sp_stats.rounds++;

@@ -65,6 +65,7 @@ typedef enum SpOutcome
 	SP_LOADED,
 	SP_BUSY,					/* its relation is locked: try again later */
 	SP_NO_FILE,					/* no relation has this file */
+	SP_NO_DATABASE,				/* no loader can connect */
 	SP_NO_BLOCK,				/* the file is shorter */
 	SP_FAILED					/* the read ended in an error */
 } SpOutcome;
@@ -86,7 +87,6 @@ typedef struct SpLoader
 {
 	Oid			database;		/* InvalidOid: the slot is free */
 	SpSlotState state;
-	bool		was_connected;	/* the loader */
 	Latch	   *latch;			/* of the loader, NULL while it starts */
 	uint64		took_us;		/* of a batch that is done */
 	uint32		count;
