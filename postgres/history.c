@@ -37,7 +37,7 @@ uint64		sp_latest = 0;		/* the latest time given or heard of */
 /* The saved history has all that WAL says before this. */
 XLogRecPtr	sp_saved_position = InvalidXLogRecPtr;
 
-static warm history = {0};
+warm		sp_history = {0};
 static uint16 replica = 1;		/* of a primary, by its timeline */
 
 /* References wait by bucket: the history takes a run of one bucket fastest. */
@@ -74,7 +74,7 @@ static void
 history_open(void)
 {
 	const warm_options options = {.size = sizeof options, .replica = 1, .page_size = 1};
-	int			status = warm_open(&history, &options);
+	int			status = warm_open(&sp_history, &options);
 
 	if (status != WARM_OK)
 		ereport(ERROR,
@@ -90,7 +90,7 @@ void
 sp_history_reset(const char *why)
 {
 	ereport(LOG, (errmsg("standby_prewarm begins a new history: %s", why)));
-	warm_close(&history);
+	warm_close(&sp_history);
 	(void) unlink(HISTORY_FILE);
 	(void) unlink(DIRECTORY_FILE);
 	sp_directory_reset();
@@ -101,23 +101,26 @@ sp_history_reset(const char *why)
 	sp_stats.resets++;
 }
 
-/* The limit of times that are believed, in microseconds since 2000. */
+/*
+ * The limit of times that are believed, in microseconds since 2000.  Where one is
+ * known that is later, a new history begins: a primary's standbys would refuse its
+ * references, and a standby's horizon may be later than all that comes.
+ */
 static uint64
 history_time_limit(void)
 {
-	return GetCurrentTimestamp() + sp_clock_tolerance * US_PER_S;
+	uint64		limit = GetCurrentTimestamp() + sp_clock_tolerance * US_PER_S;
+
+	if (sp_latest > limit)
+		sp_history_reset("the clock was set back");
+	return limit;
 }
 
-/*
- * The time of a primary's sample, later than all before it, and than those of a
- * former primary.  Where the clock was set back by more than is tolerated, each
- * standby would refuse the new references: then a new history begins.
- */
+/* The time of a primary's sample, later than all before it, and than those of a former primary. */
 uint64
 sp_clock(void)
 {
-	if (sp_latest > history_time_limit())
-		sp_history_reset("the clock was set back");
+	(void) history_time_limit();
 	sp_latest = Max((uint64) GetCurrentTimestamp(), sp_latest + 1);
 	/* Timelines differ, so two primaries do. */
 	replica = (uint16) ((GetWALInsertionTimeLine() - 1) % 64 + 1);
@@ -168,7 +171,7 @@ sp_note(int status, const char *what)
 static void
 history_absorb_bucket(int bucket)
 {
-	sp_note(warm_absorb(&history, references[bucket],
+	sp_note(warm_absorb(&sp_history, references[bucket],
 						reference_counts[bucket]),
 			"references of a sample");
 	reference_counts[bucket] = 0;
@@ -199,41 +202,13 @@ sp_reference(warm_page page, uint64 time)
 		history_absorb_bucket(bucket);
 }
 
-/*
- * Takes in a message of the library.  Where this server believed later times
- * than it does now, its horizon may be later than all that comes: then a new
- * history begins.
- */
+/* Takes in a message of the library. */
 int
 sp_history_receive(const uint8 *message, Size length)
 {
-	if (sp_latest > history_time_limit())
-		sp_history_reset("the clock was set back");
-	warm_limit(&history, history_time_limit());
-	return sp_note(warm_receive(&history, message, length),
+	warm_limit(&sp_history, history_time_limit());
+	return sp_note(warm_receive(&sp_history, message, length),
 				   "a message of its primary");
-}
-
-/*
- * Writes the message of a bucket's next entries, of WARM_MESSAGE_ROOM bytes at
- * most, and into walk where they end.
- */
-int
-sp_history_send(warm_sending *walk, uint8 *message, Size *length)
-{
-	return sp_note(warm_send(&history, walk, message, WARM_MESSAGE_ROOM, length),
-				   "a publication");
-}
-
-/* Lists the hottest pages, the hottest first. */
-Size
-sp_history_list(warm_page *pages, Size room)
-{
-	Size		count = 0;
-
-	if (room > 0)
-		sp_note(warm_list(&history, pages, room, &count), "a ranking");
-	return count;
 }
 
 /* Counts the pages known, and lets interrupts in between walks. */
@@ -243,7 +218,7 @@ history_length(void)
 	Size		length = 0;
 
 	CHECK_FOR_INTERRUPTS();
-	warm_history_length(&history, &length);
+	warm_history_length(&sp_history, &length);
 	return length;
 }
 
@@ -277,11 +252,11 @@ sp_history_bound(void)
 				 errmsg("standby_prewarm has no number for the pages of further databases and tablespaces"),
 				 errhint("Call standby_prewarm_reset() to begin a new history.")));
 	bound_at = sp_us() + BOUND_US;
-	warm_raise(&history, age > 0 && age < now ? now - age : 0, &horizon);
+	warm_raise(&sp_history, age > 0 && age < now ? now - age : 0, &horizon);
 	if (horizon == 0 && history_length() > most)
-		warm_raise(&history, now - Min(now, DAY_US), &horizon);
+		warm_raise(&sp_history, now - Min(now, DAY_US), &horizon);
 	while (history_length() > most && horizon < now)
-		warm_raise(&history, horizon + (now - horizon) / 4 + 1, &horizon);
+		warm_raise(&sp_history, horizon + (now - horizon) / 4 + 1, &horizon);
 	sp_stats.known = history_length();
 }
 
@@ -400,7 +375,7 @@ history_write_dump(int *fd)
 	int			status;
 
 	save_error = ENOMEM;		/* where no call fails */
-	status = warm_save_to(&history, &file);
+	status = warm_save_to(&sp_history, &file);
 	if (status == WARM_OK)
 		return 0;
 	if (save_error != ECANCELED)
@@ -487,7 +462,7 @@ sp_history_start(void)
 	if (history_load_directory() && (fd = history_open_saved(HISTORY_FILE)) >= 0)
 	{
 		status = sp_note(fstat(fd, &st) != 0 ? WARM_DUMP_NOT_READ :
-						 warm_load(&history, fd, st.st_size), "a saved history");
+						 warm_load(&sp_history, fd, st.st_size), "a saved history");
 		CloseTransientFile(fd);
 		if (status != WARM_OK)
 		{

@@ -130,7 +130,8 @@ publish_piece(void)
 	uint8		message[SP_HEADER + WARM_MESSAGE_ROOM];
 	Size		length;
 
-	if (sp_history_send(&walk, message + SP_HEADER, &length) != WARM_OK)
+	if (sp_note(warm_send(&sp_history, &walk, message + SP_HEADER, WARM_MESSAGE_ROOM, &length),
+				"a publication") != WARM_OK)
 		return false;
 	walk_is_on = walk.more;
 	if (length > EMPTY_HISTORY)

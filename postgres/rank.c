@@ -369,7 +369,9 @@ rank_list_pages(void)
 	MemoryContextReset(ranking);
 	listed = NULL;
 	listed = rank_allocate(room, sizeof(warm_page));
-	listed_count = sp_history_list(listed, room);
+	listed_count = 0;
+	if (room > 0)
+		sp_note(warm_list(&sp_history, listed, room, &listed_count), "a ranking");
 	places_mask = pg_nextpower2_64(Max(listed_count, 1) * 2) - 1;
 	places = rank_allocate(places_mask + 1, sizeof(uint32));
 	buffers = rank_allocate(listed_count, sizeof(int));

@@ -174,6 +174,7 @@ extern uint8 *sp_directory_encode(int *next, int end, int most, uint8 *to);
 extern int	sp_directory_decode(const uint8 *bytes, Size length);
 
 /* history.c */
+extern warm sp_history;
 extern uint64 sp_latest;
 extern uint64 sp_changed_buckets;
 extern XLogRecPtr sp_saved_position;
@@ -184,8 +185,6 @@ extern uint64 sp_clock(void);
 extern void sp_reference(warm_page page, uint64 time);
 extern void sp_references_end(void);
 extern int	sp_history_receive(const uint8 *message, Size length);
-extern int	sp_history_send(warm_sending *walk, uint8 *message, Size *length);
-extern Size sp_history_list(warm_page *pages, Size room);
 extern void sp_history_bound(void);
 extern bool sp_directory_save(void);
 extern void sp_history_save(XLogRecPtr position);
