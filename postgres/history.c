@@ -106,8 +106,8 @@ sp_history_reset(const char *why)
  * known that is later, a new history begins: a primary's standbys would refuse its
  * references, and a standby's horizon may be later than all that comes.
  */
-static uint64
-history_time_limit(void)
+uint64
+sp_time_limit(void)
 {
 	uint64		limit = GetCurrentTimestamp() + sp_clock_tolerance * US_PER_S;
 
@@ -120,7 +120,7 @@ history_time_limit(void)
 uint64
 sp_clock(void)
 {
-	(void) history_time_limit();
+	(void) sp_time_limit();
 	sp_latest = Max((uint64) GetCurrentTimestamp(), sp_latest + 1);
 	/* Timelines differ, so two primaries do. */
 	replica = (uint16) ((GetWALInsertionTimeLine() - 1) % 64 + 1);
@@ -200,15 +200,6 @@ sp_reference(warm_page page, uint64 time)
 	sp_stats.page_references++;
 	if (reference_counts[bucket] == REFERENCES)
 		history_absorb_bucket(bucket);
-}
-
-/* Takes in a message of the library. */
-int
-sp_history_receive(const uint8 *message, Size length)
-{
-	warm_limit(&sp_history, history_time_limit());
-	return sp_note(warm_receive(&sp_history, message, length),
-				   "a message of its primary");
 }
 
 /* Counts the pages known, and lets interrupts in between walks. */

@@ -39,12 +39,6 @@ static SpRequest *reading;		/* the page that is read, NULL where none is */
 static SpRequest batch[SP_BATCH];
 static uint64 batch_until;		/* when a primary's loader leaves what it has not read */
 
-static bool
-loader_same_file(const SpRequest *a, const SpRequest *b)
-{
-	return memcmp(&a->page, &b->page, offsetof(SpPage, block)) == 0;
-}
-
 /* By device and file, in any order, and then by block. */
 static int
 loader_by_page(const void *a, const void *b)
@@ -201,7 +195,7 @@ loader_read_batch(uint32 count)
 	{
 		next = i + 1;
 		while (next < count && next - i < PAGES_A_LOCK &&
-			   loader_same_file(&batch[i], &batch[next]))
+			   memcmp(&batch[i].page, &batch[next].page, offsetof(SpPage, block)) == 0)
 			next++;
 		CHECK_FOR_INTERRUPTS();
 		loader_try_file(&batch[i], next - i);

@@ -331,21 +331,15 @@ rank_most_wanted(void)
 			   (Size) Max(NBuffers - BUFFERS_OF_REPLAY, 0));
 }
 
-static inline uint64
-rank_hash(warm_page page)
-{
-	return ((page.no * 31 + page.dev + 1) * UINT64CONST(0x9e3779b97f4a7c15)) >> 31;
-}
-
 /* Where a page has its place in the table, or may have it. */
 static inline uint32 *
 rank_place_of(warm_page page)
 {
-	uint64		at = rank_hash(page) & places_mask;
+	uint64		at = (page.no * 31 + page.dev + 1) * UINT64CONST(0x9e3779b97f4a7c15) >> 31;
 
-	while (places[at] != 0 && (listed[places[at] - 1].no != page.no ||
-							   listed[places[at] - 1].dev != page.dev))
-		at = (at + 1) & places_mask;
+	for (at &= places_mask; places[at] != 0; at = (at + 1) & places_mask)
+		if (listed[places[at] - 1].no == page.no && listed[places[at] - 1].dev == page.dev)
+			break;
 	return &places[at];
 }
 
@@ -473,13 +467,6 @@ rank_visit_pages(void)
 						  Max(sp_stats.primary_known - sp_stats.known, 0));
 }
 
-/* How many pages may be read in a second: by default a hundredth of the buffers. */
-static double
-rank_load_rate(void)
-{
-	return sp_load_rate >= 0 ? sp_load_rate : Max(LEAST_RATE, NBuffers / 100);
-}
-
 /* Says once that a standby is warm, and again where it was not for a while. */
 static void
 rank_note_warmth(void)
@@ -503,7 +490,8 @@ sp_round(void)
 {
 	uint64		begun = sp_us();
 	double		passed = (begun - round_at) / 1e6;
-	double		rate = rank_load_rate();
+	/* how many pages may be read in a second */
+	double		rate = sp_load_rate >= 0 ? sp_load_rate : Max(LEAST_RATE, NBuffers / 100);
 
 	round_at = begun;
 	load_allowance = Min(load_allowance + passed * rate,

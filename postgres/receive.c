@@ -132,29 +132,18 @@ sp_receive_stop(void)
 	close_segment();
 }
 
-static Size
-header_length(const uint8 *bytes)
-{
-	return bytes[0] == 1 ? SP_HEADER_1 : SP_HEADER;
-}
-
-/* What a message is refused for by its header, or WARM_OK. */
+/* What a message is refused for by its header, which is so long, or WARM_OK. */
 static int
-header_status(const uint8 *bytes, Size length)
+header_status(const uint8 *bytes, Size length, Size header, uint64 limit)
 {
 	if (length < SP_HEADER_1)
 		return SP_BAD_MESSAGE;
 	if (bytes[0] != SP_MESSAGE_VERSION && bytes[0] != SP_MESSAGE_VERSION - 1)
 		return SP_BAD_VERSION;
-	if (length < header_length(bytes))
+	if (length < header || (bytes[1] != SP_MESSAGE_HISTORY && bytes[1] != SP_MESSAGE_DIRECTORY) ||
+		(header == SP_HEADER && sp_get(bytes + SP_HEADER_1, 8) > SP_MOST_KNOWN))
 		return SP_BAD_MESSAGE;
-	if (bytes[1] != SP_MESSAGE_HISTORY && bytes[1] != SP_MESSAGE_DIRECTORY)
-		return SP_BAD_MESSAGE;
-	if (header_length(bytes) == SP_HEADER && sp_get(bytes + SP_HEADER_1, 8) > SP_MOST_KNOWN)
-		return SP_BAD_MESSAGE;
-	if (sp_get(bytes + 2, 8) > (uint64) GetCurrentTimestamp() + sp_clock_tolerance * US_PER_S)
-		return SP_LATE_MESSAGE;
-	return WARM_OK;
+	return sp_get(bytes + 2, 8) > limit ? SP_LATE_MESSAGE : WARM_OK;
 }
 
 /*
@@ -164,9 +153,9 @@ header_status(const uint8 *bytes, Size length)
 static void
 take_message(const uint8 *bytes, Size length)
 {
-	int			status = header_status(bytes, length);
-	Size		header = status == WARM_OK ? header_length(bytes) : 0;
-	uint64		time;
+	uint64		limit = sp_time_limit();
+	Size		header = length > 0 && bytes[0] == 1 ? SP_HEADER_1 : SP_HEADER;
+	int			status = header_status(bytes, length, header, limit);
 
 	if (status == WARM_OK && bytes[1] == SP_MESSAGE_DIRECTORY)
 	{
@@ -177,13 +166,17 @@ take_message(const uint8 *bytes, Size length)
 			(void) sp_directory_decode(bytes + header, length - header);
 		}
 	}
-	else if (status == WARM_OK && sp_history_receive(bytes + header, length - header) == WARM_OK)
+	else if (status == WARM_OK)
 	{
-		time = sp_get(bytes + 2, 8);
-		sp_latest = Max(sp_latest, time);
-		sp_stats.last_message = Max(sp_stats.last_message, (TimestampTz) time);
-		sp_stats.primary_known = header == SP_HEADER ? sp_get(bytes + SP_HEADER_1, 8) : -1;
-		sp_stats.messages_received++;
+		warm_limit(&sp_history, limit);
+		status = warm_receive(&sp_history, bytes + header, length - header);
+		if (status == WARM_OK)
+		{
+			sp_stats.last_message = Max(sp_stats.last_message, (TimestampTz) sp_get(bytes + 2, 8));
+			sp_latest = Max(sp_latest, sp_get(bytes + 2, 8));
+			sp_stats.primary_known = header == SP_HEADER ? sp_get(bytes + SP_HEADER_1, 8) : -1;
+			sp_stats.messages_received++;
+		}
 	}
 	(void) sp_note(status, "a message of its primary");
 }
