@@ -1,10 +1,9 @@
 /*
  * directory.c
- *		The numbers of (tablespace, database, fork).
+ *		The numbers of (tablespace, database, fork), which are devices of the history.
  *
- * The history names a page by a device and a number, which is the relation file
- * number and the block.  The primary gives device numbers, and none a second time,
- * also where a database was dropped.  A standby that is promoted goes on with them.
+ * The primary gives them, and none a second time, also where a database was dropped.  A standby
+ * that is promoted goes on with them.
  */
 #include "postgres.h"
 
@@ -42,8 +41,8 @@ sp_directory_reset(void)
 }
 
 /*
- * Whether there can be such a device: what is in pg_global is of no database, and
- * nothing else is.  One that was forged, or read while its buffer changed, may not be.
+ * Whether there can be such a device: what is in pg_global is of no database, and nothing else is.
+ * One that was forged, or read while its buffer changed, may not be.
  */
 static bool
 is_device(const SpDevice *device)
@@ -71,14 +70,13 @@ put_number(uint16 number, const SpDevice *device)
 	while (sp_device_count <= number)
 		devices[sp_device_count++].fork = -1;
 	devices[number] = *device;
-	entry = hash_search(numbers, device, HASH_ENTER, NULL);
-	entry->number = number;
+	((Number *) hash_search(numbers, device, HASH_ENTER, NULL))->number = number;
 	return true;
 }
 
 /*
- * Writes the page of the history that a buffer's tag names; false where its
- * device has no number.  With give, it is given one, where there are any.
+ * Writes the page of the history that a buffer's tag names: the file's number, and the block; false
+ * where its device has no number.  With give, it is given one, where there are any.
  */
 bool
 sp_page_of(const BufferTag *tag, bool give, warm_page *page)

@@ -22,8 +22,7 @@
 #define DRAFT_FILE "standby_prewarm.tmp"
 #define DIRECTORY_MAGIC UINT64CONST(0x5741524d44495232)	/* WARMDIR2 */
 #define DIRECTORY_HEADER 32		/* magic, system, latest time, position */
-#define MOST_DIRECTORY_BYTES \
-	(DIRECTORY_HEADER + SP_MOST_DEVICES * SP_DEVICE_BYTES + 4)
+#define MOST_DIRECTORY_BYTES (DIRECTORY_HEADER + SP_MOST_DEVICES * SP_DEVICE_BYTES + 4)
 
 #define REFERENCES		1024
 #define BOUND_US		(60 * US_PER_S)
@@ -79,8 +78,7 @@ history_open(void)
 	if (status != WARM_OK)
 		ereport(ERROR,
 				(errcode(ERRCODE_OUT_OF_MEMORY),
-				 errmsg("standby_prewarm could not open its history: %s",
-						sp_status_name(status))));
+				 errmsg("standby_prewarm could not open its history: %s", sp_status_name(status))));
 	memset(reference_counts, 0, sizeof reference_counts);
 	sp_changed_buckets = 0;
 }
@@ -102,9 +100,9 @@ sp_history_reset(const char *why)
 }
 
 /*
- * The limit of times that are believed, in microseconds since 2000.  Where one is
- * known that is later, a new history begins: a primary's standbys would refuse its
- * references, and a standby's horizon may be later than all that comes.
+ * The limit of times that are believed, in microseconds since 2000.  Where one is known that is
+ * later, a new history begins: a primary's standbys would refuse its references, and a standby's
+ * horizon may be later than all that comes.
  */
 uint64
 sp_time_limit(void)
@@ -146,10 +144,7 @@ history_hint(int status)
 	}
 }
 
-/*
- * Counts what is refused, a message or a call of the library, and warns of it;
- * returns its status.
- */
+/* Counts what is refused, a message or a call of the library, and warns; returns its status. */
 int
 sp_note(int status, const char *what)
 {
@@ -162,8 +157,7 @@ sp_note(int status, const char *what)
 		ereport(WARNING,
 				(errcode(status == WARM_MEMORY ? ERRCODE_OUT_OF_MEMORY :
 						 ERRCODE_PROTOCOL_VIOLATION),
-				 errmsg("standby_prewarm refused %s: %s", what,
-						sp_status_name(status)),
+				 errmsg("standby_prewarm refused %s: %s", what, sp_status_name(status)),
 				 hint != NULL ? errhint("%s", hint) : 0));
 	return status;
 }
@@ -171,8 +165,7 @@ sp_note(int status, const char *what)
 static void
 history_absorb_bucket(int bucket)
 {
-	sp_note(warm_absorb(&sp_history, references[bucket],
-						reference_counts[bucket]),
+	sp_note(warm_absorb(&sp_history, references[bucket], reference_counts[bucket]),
 			"references of a sample");
 	reference_counts[bucket] = 0;
 }
@@ -214,19 +207,17 @@ history_length(void)
 }
 
 /*
- * Forgets pages without a reference for too long; and where there are too many,
- * the older references of all, in steps of a quarter of the time that is left.
- * It walks the history, so it is done once a minute, or where there are an
- * eighth too many pages.  A standby has its primary's horizon, and goes by its
- * clock.
+ * Forgets pages without a reference for too long; and where there are too many, the older
+ * references of all, in steps of a quarter of the time that is left.  It walks the history, so it
+ * is done once a minute, or where there are an eighth too many pages.  A standby has its primary's
+ * horizon, and goes by its clock.
  */
 void
 sp_history_bound(void)
 {
 	static uint64 bound_at = 0;
 	bool		is_standby = RecoveryInProgress();
-	Size		usual = is_standby ? PG_INT32_MAX :
-		Min((Size) NBuffers * 4, MOST_KNOWN);
+	Size		usual = is_standby ? PG_INT32_MAX : Min((Size) NBuffers * 4, MOST_KNOWN);
 	Size		most = sp_history_pages > 0 ? sp_history_pages : usual;
 	uint64		now = Max(is_standby ? 0 : GetCurrentTimestamp(), sp_latest);
 	uint64		age = sp_history_age * 60 * US_PER_S;
@@ -236,8 +227,7 @@ sp_history_bound(void)
 	sp_stats.devices = sp_device_count;
 	if (sp_stats.known <= most + most / 8 && sp_us() < bound_at)
 		return;
-	if (sp_device_count == SP_MOST_DEVICES && !is_standby &&
-		sp_may_log(SP_FAULT_DEVICES))
+	if (sp_device_count == SP_MOST_DEVICES && !is_standby && sp_may_log(SP_FAULT_DEVICES))
 		ereport(WARNING,
 				(errcode(ERRCODE_PROGRAM_LIMIT_EXCEEDED),
 				 errmsg("standby_prewarm has no number for the pages of further databases and tablespaces"),
@@ -252,8 +242,8 @@ sp_history_bound(void)
 }
 
 /*
- * Replaces a file by what write_draft writes, whole or not at all.  An error,
- * which it returns, is logged, unless the save is given up.
+ * Replaces a file by what write_draft writes, whole or not at all.  An error, which it returns, is
+ * logged, unless the save is given up.
  */
 static bool
 history_replace(const char *path, int (*write_draft) (int *fd))
@@ -315,10 +305,9 @@ sp_directory_save(void)
 }
 
 /*
- * Writes a piece of a dump, unless the save is to end: where the server is to stop.
- * One that the stop makes has a while, as it holds up a switchover.  What waits for
- * all processes, as DROP DATABASE, does not wait for the save.  No error may leave
- * this.
+ * Writes a piece of a dump, unless the save is to end: where the server is to stop.  One that the
+ * stop makes has a while, as it holds up a switchover.  What waits for all processes, as DROP
+ * DATABASE, does not wait for the save.  No error may leave this.
  */
 static int
 history_write_piece(void *context, uint64_t no, const void *bytes, size_t length)
@@ -375,9 +364,8 @@ history_write_dump(int *fd)
 }
 
 /*
- * Saves directory and history.  The directory comes first: it never changes a
- * number, so a newer one fits an older history.  The position, up to which the
- * history has what WAL says, comes last.
+ * Saves directory and history.  The directory comes first: it never changes a number, so a newer
+ * one fits an older history.  The position, up to which the history has what WAL says, comes last.
  */
 void
 sp_history_save(XLogRecPtr position)
@@ -406,8 +394,7 @@ history_open_saved(const char *path)
 
 	if (fd < 0 && errno != ENOENT)
 		ereport(LOG,
-				(errcode_for_file_access(),
-				 errmsg("could not open file \"%s\": %m", path)));
+				(errcode_for_file_access(), errmsg("could not open file \"%s\": %m", path)));
 	return fd;
 }
 
@@ -426,8 +413,7 @@ history_load_directory(void)
 		sp_get(bytes, 8) == DIRECTORY_MAGIC &&
 		sp_get(bytes + 8, 8) == GetSystemIdentifier() &&
 		history_checksum(bytes, length - 4) == sp_get(bytes + length - 4, 4) &&
-		sp_directory_decode(bytes + DIRECTORY_HEADER,
-							length - 4 - DIRECTORY_HEADER) == WARM_OK)
+		sp_directory_decode(bytes + DIRECTORY_HEADER, length - 4 - DIRECTORY_HEADER) == WARM_OK)
 	{
 		sp_latest = sp_get(bytes + 16, 8);
 		sp_saved_position = sp_get(bytes + 24, 8);
@@ -458,8 +444,8 @@ sp_history_start(void)
 		if (status != WARM_OK)
 		{
 			ereport(LOG,
-					(errmsg("standby_prewarm does not use \"%s\": %s",
-							HISTORY_FILE, sp_status_name(status))));
+					(errmsg("standby_prewarm does not use \"%s\": %s", HISTORY_FILE,
+							sp_status_name(status))));
 			sp_saved_position = InvalidXLogRecPtr;
 		}
 	}

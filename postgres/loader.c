@@ -1,12 +1,9 @@
 /*
  * loader.c
- *		The worker that reads the pages of one database of a standby, or of a
- *		primary that started.
+ *		The worker that reads the pages of one database.
  *
- * A loader reads its batch file by file, in short transactions of some pages
- * each, under AccessShareLock, which no drop or truncation passes.  It waits
- * for no lock but those of catalogs, and for these a second, and replay waits
- * for these few reads at most.
+ * It reads a batch file by file, in short transactions, under a lock that no drop or truncation
+ * passes.  DESIGN.md says who waits for whom.
  */
 #include "postgres.h"
 
@@ -51,9 +48,8 @@ loader_by_page(const void *a, const void *b)
 }
 
 /*
- * Reads pages of one fork of a relation that is locked, while there is time.  The
- * system is asked for as many of the next ones as maintenance_io_concurrency says:
- * storage takes them together.
+ * Reads pages of one fork of a relation that is locked, while there is time.  The system is asked
+ * for the next ones, too: storage takes them together.
  */
 static void
 loader_read_pages(Relation relation, SpRequest *some, int count)
@@ -77,8 +73,7 @@ loader_read_pages(Relation relation, SpRequest *some, int count)
 			continue;
 		}
 		reading = &some[i];
-		ReleaseBuffer(ReadBufferExtended(relation, fork, block, RBM_NORMAL,
-										 NULL));
+		ReleaseBuffer(ReadBufferExtended(relation, fork, block, RBM_NORMAL, NULL));
 		some[i].outcome = SP_LOADED;
 		reading = NULL;
 		CHECK_FOR_INTERRUPTS();
@@ -124,8 +119,8 @@ loader_log_error(const ErrorData *error, bool cancelled, const SpPage *page)
 			(errcode(error->sqlerrcode),
 			 errmsg("standby_prewarm could not read a page: %s", error->message),
 			 errdetail("It is block %u of fork %d of file %u in tablespace %u and database %u.",
-					   page->block, page->device.fork, page->file,
-					   page->device.space, page->device.database)));
+					   page->block, page->device.fork, page->file, page->device.space,
+					   page->device.database)));
 }
 
 /* The same, where an error costs these pages and nothing else. */
@@ -160,8 +155,7 @@ loader_try_file(SpRequest *some, int count)
 			rest = SP_BUSY;
 		else if (reading != NULL || cancelled)
 			rest = SP_WAITING;
-		loader_log_error(error, cancelled,
-						 reading != NULL ? &reading->page : &some->page);
+		loader_log_error(error, cancelled, reading != NULL ? &reading->page : &some->page);
 		FreeErrorData(error);
 	}
 	PG_END_TRY();
@@ -179,8 +173,7 @@ loader_is_needed(void)
 	bool		needed;
 
 	LWLockAcquire(sp_shared->lock, LW_SHARED);
-	needed = sp_shared->epoch == epoch &&
-		(sp_shared->stats.is_warming || RecoveryInProgress());
+	needed = sp_shared->epoch == epoch && (sp_shared->stats.is_warming || RecoveryInProgress());
 	LWLockRelease(sp_shared->lock);
 	return needed;
 }
@@ -232,8 +225,8 @@ loader_give_outcomes(uint32 count, uint64 took_us)
 }
 
 /*
- * Gives the slot back.  Where the loader could not connect its batch stays, by
- * which the worker sees it, and so do outcomes that were not read yet.
+ * Gives the slot back.  Where the loader could not connect its batch stays, by which the worker
+ * sees it, and so do outcomes that were not read yet.
  */
 static void
 loader_release_slot(int code, Datum arg)
@@ -267,8 +260,7 @@ loader_begin(int number)
 		proc_exit(0);			/* the slot is another's by now */
 	/* A catalog that is locked is waited for no longer than this. */
 	SetConfigOption("lock_timeout", LOCK_TIMEOUT_MS, PGC_SUSET, PGC_S_OVERRIDE);
-	BackgroundWorkerInitializeConnectionByOid(database, InvalidOid,
-											  BGWORKER_BYPASS_ALLOWCONN);
+	BackgroundWorkerInitializeConnectionByOid(database, InvalidOid, BGWORKER_BYPASS_ALLOWCONN);
 	is_connected = true;
 }
 

@@ -1,11 +1,7 @@
 /*
  * publish.c
- *		Messages into the WAL of a primary.
- *
- * A message is a logical message of no database: logical decoding shows it to
- * nobody, no user can write one by SQL, and replaying it does nothing, also
- * without this library.  What is new is sent at each publication, and everything
- * in turn, slowly, so that a standby that comes late learns all.
+ *		Messages into the WAL of a primary: what is new, and everything in turn, slowly, so that a
+ *		standby that comes late learns all.
  */
 #include "postgres.h"
 
@@ -40,8 +36,8 @@ static uint64 paid_at;			/* since when none were added */
 static XLogRecPtr last_record = InvalidXLogRecPtr;	/* a message's end */
 
 /*
- * The next publication sends the directory first.  What the history has by now
- * is not new: either it came by the WAL, or it is sent in turn.
+ * The next publication sends the directory first.  What the history has by now is not new: either
+ * it came by the WAL, or it is sent in turn.
  */
 void
 sp_publish_reset(void)
@@ -55,14 +51,12 @@ sp_publish_reset(void)
 }
 
 /*
- * Whether a message is to count as important WAL.  A checkpoint is skipped,
- * also one that WAL asks for, where nothing important was written since the
- * last one: where only this worker writes, no segment would ever be recycled.
- * So a message is important once a quarter of max_wal_size has no important
- * record.  WAL asks for a checkpoint after half of max_wal_size at the earliest,
- * so it is not skipped.  All others are unimportant: else an idle server would
- * make a checkpoint each checkpoint_timeout, and switch segments each
- * archive_timeout.
+ * Whether a message is to count as important WAL.  A checkpoint is skipped, also one that WAL asks
+ * for, where nothing important was written since the last one: where only this worker writes, no
+ * segment would ever be recycled.  So a message is important once a quarter of max_wal_size has no
+ * important record.  WAL asks for a checkpoint after half of it at the earliest, which is not
+ * skipped then.  All others are unimportant: else an idle server would make a checkpoint each
+ * checkpoint_timeout, and switch segments each archive_timeout.
  */
 static bool
 publish_is_important(void)
@@ -80,8 +74,7 @@ publish_message(uint8 kind, uint8 *message, Size length)
 	record.message_size = length;
 	message[0] = SP_MESSAGE_VERSION;
 	message[1] = kind;
-	sp_put(sp_put(message + 2, (uint64) GetCurrentTimestamp(), 8),
-		   sp_stats.known, 8);
+	sp_put(sp_put(message + 2, (uint64) GetCurrentTimestamp(), 8), sp_stats.known, 8);
 	XLogBeginInsert();
 	XLogRegisterData((char *) &record, SizeOfLogicalMessage);
 	XLogRegisterData((char *) SP_NAME, sizeof SP_NAME);
@@ -95,16 +88,14 @@ publish_message(uint8 kind, uint8 *message, Size length)
 }
 
 /*
- * Sends the numbers of devices that were not sent; now and then all of them.
- * They are saved first, so that a primary that crashed does not give them
- * again; where that fails, they wait for the next publication.
+ * Sends the numbers of devices that were not sent; now and then all of them.  They are saved first,
+ * so that a primary that crashed does not give them again; where that fails, they wait.
  */
 static void
 publish_directory(uint64 now, int64 rate)
 {
 	uint8		message[SP_HEADER + DEVICES_A_MESSAGE * SP_DEVICE_BYTES];
-	uint64		cost_us = (uint64) sp_device_count * SP_DEVICE_BYTES *
-		US_PER_S / rate;
+	uint64		cost_us = (uint64) sp_device_count * SP_DEVICE_BYTES * US_PER_S / rate;
 
 	if (devices_saved != sp_device_count && sp_directory_save())
 		devices_saved = sp_device_count;
@@ -115,8 +106,7 @@ publish_directory(uint64 now, int64 rate)
 	}
 	while (devices_sent < devices_saved)
 	{
-		uint8	   *end = sp_directory_encode(&devices_sent, devices_saved,
-											  DEVICES_A_MESSAGE,
+		uint8	   *end = sp_directory_encode(&devices_sent, devices_saved, DEVICES_A_MESSAGE,
 											  message + SP_HEADER);
 
 		publish_message(SP_MESSAGE_DIRECTORY, message, end - message);
@@ -140,9 +130,9 @@ publish_piece(void)
 }
 
 /*
- * Begins with the next bucket that has something new, or whose turn it is to be
- * sent whole.  No bucket shuts others out, so neither kind waits for ever.  A
- * turn that is late is caught up with, but not one of long ago.
+ * Begins with the next bucket that has something new, or whose turn it is to be sent whole.  No
+ * bucket shuts others out, so neither kind waits for ever.  A turn that is late is caught up with,
+ * but not one of long ago.
  */
 static bool
 publish_begin(uint64 now)
@@ -197,10 +187,9 @@ publish_has_reader(void)
 }
 
 /*
- * Sends what is new, as far as the rate allows; true where more waits for the
- * rate.  What was not used in the last seconds may be, but not at once: a commit
- * would wait until all of it is flushed.  A message may take more, of the next
- * seconds.
+ * Sends what is new, as far as the rate allows; true where more waits for the rate.  What was not
+ * used in the last seconds may be, but not at once: a commit would wait until all of it is flushed.
+ * A message may take more, of the next seconds.
  */
 bool
 sp_publish(void)
@@ -212,13 +201,11 @@ sp_publish(void)
 
 	if (!XLogIsNeeded() || !publish_has_reader())
 		return false;			/* what is new waits for one */
-	allowance = Min(allowance + (int64) (rate * ((now - paid_at) / 1e6)),
-					rate * BURST_S);
+	allowance = Min(allowance + (int64) (rate * ((now - paid_at) / 1e6)), rate * BURST_S);
 	paid_at = now;
 	least = Max(allowance - rate / SLICES, 0);
 	publish_directory(now, rate);
-	while (allowance > least && !ShutdownRequestPending &&
-		   (walk_is_on || publish_begin(now)))
+	while (allowance > least && !ShutdownRequestPending && (walk_is_on || publish_begin(now)))
 	{
 		CHECK_FOR_INTERRUPTS();
 		if (!publish_piece())

@@ -2,10 +2,9 @@
  * rank.c
  *		Which pages a standby wants, has, touches and loads.
  *
- * A round ranks the history, looks which of the pages are in the buffers, and
- * goes through them, the hottest first.  One that is resident gets a usage
- * count by its rank, below the lock of its descriptor: no page is pinned.  One
- * that is missing goes to the loader of its database.
+ * A round ranks the history, looks which of the pages are in the buffers, and goes through them,
+ * the hottest first.  One that is resident is touched.  One that is missing goes to the loader of
+ * its database.
  */
 #include "postgres.h"
 
@@ -111,9 +110,9 @@ rank_is_unloadable(const SpPage *page)
 }
 
 /*
- * Notes what a loader read of its batch, and what it could not read.  Where it
- * took no batch, it could not connect, and nobody can load its database; what
- * is of shared catalogs goes to another loader soon.
+ * Notes what a loader read of its batch, and what it could not read.  Where it took no batch, it
+ * could not connect, and nobody can load its database; what is of shared catalogs goes to another
+ * loader soon.
  */
 static void
 rank_note_batch(const SpLoader *loader, bool is_taken)
@@ -174,8 +173,8 @@ sp_rank_reset(void)
 }
 
 /*
- * Notes what the loader of a slot answered, and whether the slot takes pages.
- * A batch is the worker's but while its slot is full.
+ * Notes what the loader of a slot answered, and whether the slot takes pages.  A batch is the
+ * worker's but while its slot is full.
  */
 static void
 rank_open_slot(int i)
@@ -185,8 +184,7 @@ rank_open_slot(int i)
 	bool		ended = false;
 	pid_t		pid;
 
-	if (slots[i].handle != NULL &&
-		GetBackgroundWorkerPid(slots[i].handle, &pid) == BGWH_STOPPED)
+	if (slots[i].handle != NULL && GetBackgroundWorkerPid(slots[i].handle, &pid) == BGWH_STOPPED)
 	{
 		pfree(slots[i].handle);
 		slots[i].handle = NULL;
@@ -204,10 +202,10 @@ rank_open_slot(int i)
 }
 
 /*
- * The slot of a database, or one that is vacant; else NO_SLOT.  Where databases wait,
- * one does not get the slot again that it has just left: NOT_AGAIN, for a round.  It
- * does not wait then, else it would be kept away for ever where no other comes.
- * Pages of shared catalogs (of no database) may go to any loader.
+ * The slot of a database, or one that is vacant; else NO_SLOT.  Where databases wait, one does not
+ * get the slot again that it has just left: NOT_AGAIN, for a round.  It does not wait then, else it
+ * would be kept away for ever where no other comes.  Pages of shared catalogs (of no database) may
+ * go to any loader.
  */
 static int
 rank_slot_of(Oid database)
@@ -249,8 +247,8 @@ rank_hand_out(const SpPage *page)
 }
 
 /*
- * Whether there is a folder of the database: else a loader would fail.  Pages of shared
- * catalogs alone go to a database that is there.
+ * Whether there is a folder of the database: else a loader would fail.  Pages of shared catalogs
+ * alone go to a database that is there.
  */
 static bool
 rank_has_database(const SpLoader *loader)
@@ -279,8 +277,7 @@ rank_start_loader(int i)
 	BackgroundWorker worker;
 	bool		started;
 
-	sp_describe_worker(&worker, "standby_prewarm_loader_main",
-					   "standby_prewarm loader");
+	sp_describe_worker(&worker, "standby_prewarm_loader_main", "standby_prewarm loader");
 	worker.bgw_restart_time = BGW_NEVER_RESTART;
 	worker.bgw_main_arg = Int32GetDatum(i);
 	memcpy(worker.bgw_extra, &sp_shared->epoch, sizeof sp_shared->epoch);
@@ -327,8 +324,7 @@ rank_most_wanted(void)
 {
 	double		fraction = sp_stats.is_warming ? 1.0 : sp_fraction;
 
-	return Min((Size) (fraction * NBuffers),
-			   (Size) Max(NBuffers - BUFFERS_OF_REPLAY, 0));
+	return Min((Size) (fraction * NBuffers), (Size) Max(NBuffers - BUFFERS_OF_REPLAY, 0));
 }
 
 /* Where a page has its place in the table, or may have it. */
@@ -356,9 +352,8 @@ rank_list_pages(void)
 {
 	Size		room = Min(rank_most_wanted() * 2, (Size) sp_stats.known);
 
-	if (listed != NULL && room == listed_room &&
-		sp_stats.messages_received == listed_messages &&
-		sp_stats.resets == listed_resets)
+	if (listed != NULL && room == listed_room && sp_stats.resets == listed_resets &&
+		sp_stats.messages_received == listed_messages)
 		return;
 	MemoryContextReset(ranking);
 	listed = NULL;
@@ -411,8 +406,7 @@ rank_touch_buffer(int buffer, const SpPage *page, uint32 usage)
 	state = LockBufHdr(descriptor);
 	if (BUF_STATE_GET_USAGECOUNT(state) < usage && (state & BM_VALID) != 0 &&
 		tag->blockNum == page->block && TagFile(tag) == page->file &&
-		tag->forkNum == page->device.fork &&
-		TagDatabase(tag) == page->device.database &&
+		tag->forkNum == page->device.fork && TagDatabase(tag) == page->device.database &&
 		TagSpace(tag) == page->device.space)
 	{
 		state += (usage - BUF_STATE_GET_USAGECOUNT(state)) * BUF_USAGECOUNT_ONE;
@@ -422,9 +416,8 @@ rank_touch_buffer(int buffer, const SpPage *page, uint32 usage)
 }
 
 /*
- * Goes through the wanted pages, the hottest first, touches those that are
- * resident, and hands out those that are missing.  A touch of a primary's would
- * be a reference at its next sample.
+ * Goes through the wanted pages, the hottest first, touches those that are resident, and hands out
+ * those that are missing.  A touch of a primary's would be a reference at its next sample.
  */
 static void
 rank_visit_pages(void)
@@ -463,8 +456,8 @@ rank_visit_pages(void)
 	}
 	resident_database = resident;
 	/* One that lacks a part of its primary's history wants that part, too. */
-	sp_stats.wanted = Min((int64) most, (int64) wanted +
-						  Max(sp_stats.primary_known - sp_stats.known, 0));
+	sp_stats.wanted = Min((int64) most,
+						  (int64) wanted + Max(sp_stats.primary_known - sp_stats.known, 0));
 }
 
 /* Says once that a standby is warm, and again where it was not for a while. */
@@ -472,15 +465,13 @@ static void
 rank_note_warmth(void)
 {
 	double		share = is_warm ? 0.9 : 0.99;
-	bool		now = sp_stats.wanted > 0 &&
-		sp_stats.resident >= sp_stats.wanted * share;
+	bool		now = sp_stats.wanted > 0 && sp_stats.resident >= sp_stats.wanted * share;
 
 	if (now && !is_warm && sp_stats.last_message != 0 && !sp_stats.is_warming &&
 		sp_may_log(SP_FAULT_WARM))
 		ereport(LOG,
 				(errmsg("standby_prewarm is warm: " INT64_FORMAT " of " INT64_FORMAT
-						" wanted pages are resident",
-						sp_stats.resident, sp_stats.wanted)));
+						" wanted pages are resident", sp_stats.resident, sp_stats.wanted)));
 	is_warm = now;
 }
 

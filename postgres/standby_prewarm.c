@@ -25,8 +25,7 @@ PGDLLEXPORT void standby_prewarm_main(Datum main_arg);
 #define PUBLISH_AGAIN_MS 100	/* where more waits */
 #define LOG_AGAIN_US	(300 * US_PER_S)
 
-/* A sample, a publication, a round, a save: each rests nine times as long as it took. */
-#define SHARE			9
+#define SHARE			9		/* what rests, rests so many times as long as it took */
 
 SpShared   *sp_shared = NULL;
 SpStats		sp_stats;
@@ -62,7 +61,7 @@ typedef struct IntSetting
 			   *more;
 } IntSetting;
 
-/* All by SIGHUP, but max_loaders.  The first four are a primary's; ages, pages and clocks of both. */
+/* All by SIGHUP, but max_loaders.  The first four are a primary's. */
 static const IntSetting int_settings[] = {
 	{&sp_sample_interval, "standby_prewarm.sample_interval", 1000, 10, 3600 * 1000, GUC_UNIT_MS,
 	"Sets the time between two samples of a primary's buffers."},
@@ -95,8 +94,8 @@ static const IntSetting int_settings[] = {
 static void
 define_settings(void)
 {
-	DefineCustomBoolVariable("standby_prewarm.enabled", "Whether standby_prewarm does anything.", NULL,
-							 &sp_enabled, true, PGC_SIGHUP, 0, NULL, NULL, NULL);
+	DefineCustomBoolVariable("standby_prewarm.enabled", "Whether standby_prewarm does anything.",
+							 NULL, &sp_enabled, true, PGC_SIGHUP, 0, NULL, NULL, NULL);
 	DefineCustomBoolVariable("standby_prewarm.load", "Whether a standby loads pages.", NULL,
 							 &sp_load, true, PGC_SIGHUP, 0, NULL, NULL, NULL);
 	DefineCustomRealVariable("standby_prewarm.fraction",
@@ -275,10 +274,7 @@ known_position(void)
 		ShutdownRequestPending ? GetXLogInsertRecPtr() : GetRedoRecPtr();
 }
 
-/*
- * A primary that started has few pages in its buffers: it loads those that it knew,
- * until there is no free buffer.  Pages that clients brought are not driven out.
- */
+/* A primary that started loads what it knew, until there is no free buffer. */
 static void
 warm_primary(void)
 {
@@ -295,9 +291,9 @@ warm_primary(void)
 	}
 	sp_stats.is_warming = false;
 	if (sp_stats.wanted > 0)
-		ereport(LOG, (errmsg("standby_prewarm has warmed a primary: " INT64_FORMAT " of " INT64_FORMAT
-							 " wanted pages are resident", sp_stats.resident,
-							 sp_stats.wanted)));
+		ereport(LOG,
+				(errmsg("standby_prewarm has warmed a primary: " INT64_FORMAT " of " INT64_FORMAT
+						" wanted pages are resident", sp_stats.resident, sp_stats.wanted)));
 	sp_rank_reset();			/* the loaders end by themselves */
 }
 
@@ -430,9 +426,9 @@ is_server_stopping(void)
 }
 
 /*
- * The worker.  It is connected to no database, so it can neither hold one back
- * from being dropped nor read its catalogs.  An error ends it; the postmaster
- * starts it again, with the history that was saved last.
+ * The worker.  It is connected to no database, so it can neither hold one back from being dropped
+ * nor read its catalogs.  An error ends it; the postmaster starts it again, with the history that
+ * was saved last.
  */
 void
 standby_prewarm_main(Datum main_arg)
