@@ -2,12 +2,9 @@
  * receive.c
  *		Messages out of the WAL of a standby.
  *
- * The worker reads the WAL that was replayed, from pg_wal, by an XLogReader of
- * its own.  One that starts on a primary reads what was written since its
- * history was saved: what a crash or a promotion left there.  Nothing is hooked,
- * so no message makes replay wait or fail.  Where a segment is gone, or a record
- * cannot be read, it goes on at the end of what was replayed, and counts the
- * bytes that it skipped.
+ * The worker reads the WAL that was replayed, from pg_wal, so no message makes replay wait or fail.
+ * One that starts on a primary reads what was written since its history was saved.  Where a segment
+ * is gone, or a record cannot be read, it goes on at the end, and counts the bytes that it skipped.
  */
 #include "postgres.h"
 
@@ -23,14 +20,15 @@
 /* Most WAL that one turn reads, so that other work gets its turn too. */
 #define BYTES_A_TURN	(16 * 1024 * 1024)
 
-static MemoryContext reader_context = NULL;
 static XLogReaderState *reader = NULL;
 static int	segment = -1;
 static XLogSegNo segment_number;
 static TimeLineID segment_timeline;
-static XLogRecPtr position;		/* where the next record begins */
 static XLogRecPtr own_end;		/* of the WAL that a primary begins with; of a standby invalid */
 static TimeLineID own_timeline;
+
+/* Up to where messages were taken in; invalid where none are. */
+XLogRecPtr	sp_received = InvalidXLogRecPtr;
 
 /* Where WAL ends for now: a standby's at what was replayed. */
 static XLogRecPtr
@@ -94,41 +92,31 @@ read_page(XLogReaderState *state, XLogRecPtr page, int wanted, XLogRecPtr record
 }
 
 /*
- * Begins with the WAL from a place on.  A standby goes on with what is replayed;
- * of a primary it is what was written before its worker started.
+ * Begins with the WAL from a place on.  A standby goes on with what is replayed; of a primary it is
+ * what was written before its worker started.
  */
 void
 sp_receive_start(XLogRecPtr from, bool is_standby)
 {
-	MemoryContext old;
+	MemoryContext old = MemoryContextSwitchTo(TopMemoryContext);
 
 	sp_receive_stop();
-	reader_context = AllocSetContextCreate(TopMemoryContext, "standby_prewarm WAL reader",
-										   ALLOCSET_DEFAULT_SIZES);
-	old = MemoryContextSwitchTo(reader_context);
 	reader = XLogReaderAllocate(wal_segment_size, NULL, XL_ROUTINE(.page_read = read_page), NULL);
 	MemoryContextSwitchTo(old);
 	if (reader == NULL)
 		ereport(ERROR, (errcode(ERRCODE_OUT_OF_MEMORY), errmsg("out of memory")));
 	own_end = is_standby ? InvalidXLogRecPtr : GetFlushRecPtr(&own_timeline);
-	position = from;
-	XLogBeginRead(reader, position);
-}
-
-/* Up to where messages were taken in; invalid where none are. */
-XLogRecPtr
-sp_receive_position(void)
-{
-	return reader != NULL ? position : InvalidXLogRecPtr;
+	sp_received = from;
+	XLogBeginRead(reader, from);
 }
 
 void
 sp_receive_stop(void)
 {
-	if (reader_context != NULL)
-		MemoryContextDelete(reader_context);
-	reader_context = NULL;
+	if (reader != NULL)
+		XLogReaderFree(reader);
 	reader = NULL;
+	sp_received = InvalidXLogRecPtr;
 	close_segment();
 }
 
@@ -147,8 +135,8 @@ header_status(const uint8 *bytes, Size length, Size header, uint64 limit)
 }
 
 /*
- * Takes in a message: the bytes behind the prefix.  A device number that was
- * given twice says that two primaries gave them: the later one is believed.
+ * Takes in a message: the bytes behind the prefix.  A device number that was given twice says that
+ * two primaries gave them: the later one is believed.
  */
 static void
 take_message(const uint8 *bytes, Size length)
@@ -198,10 +186,7 @@ look_at_record(void)
 	take_message((const uint8 *) message->message + sizeof SP_NAME, message->message_size);
 }
 
-/*
- * Warns that WAL is skipped up to end, for what the reader says: it says nothing
- * of a file that is gone.
- */
+/* Warns that WAL is skipped up to end, for what the reader says: nothing of a file that is gone. */
 static void
 log_skipped(XLogRecPtr end, const char *why)
 {
@@ -214,7 +199,7 @@ log_skipped(XLogRecPtr end, const char *why)
 	ereport(XLogRecPtrIsInvalid(own_end) ? WARNING : LOG,
 			(errcode(why != NULL ? ERRCODE_DATA_CORRUPTED : ERRCODE_UNDEFINED_FILE),
 			 errmsg("standby_prewarm skipped WAL from %X/%X to %X/%X, last of file \"%s\": %s",
-					LSN_FORMAT_ARGS(position), LSN_FORMAT_ARGS(end), path,
+					LSN_FORMAT_ARGS(sp_received), LSN_FORMAT_ARGS(end), path,
 					why != NULL ? why : "it is gone"),
 			 errdetail("What was published in it is known once it is published or referenced again.")));
 }
@@ -223,12 +208,12 @@ log_skipped(XLogRecPtr end, const char *why)
 bool
 sp_receive(void)
 {
-	XLogRecPtr	begun = position;
+	XLogRecPtr	begun = sp_received;
 	TimeLineID	timeline;
 	XLogRecPtr	end = wal_end(&timeline);
-	MemoryContext old = MemoryContextSwitchTo(reader_context);	/* its buffers grow */
+	MemoryContext old = MemoryContextSwitchTo(TopMemoryContext);	/* the reader's buffers grow */
 
-	while (position < end && position - begun < BYTES_A_TURN)
+	while (sp_received < end && sp_received - begun < BYTES_A_TURN)
 	{
 		char	   *message;
 
@@ -236,22 +221,22 @@ sp_receive(void)
 		if (XLogReadRecord(reader, &message) == NULL)
 		{
 			log_skipped(end, message);
-			sp_stats.wal_skipped += end - position;
-			sp_stats.wal_read -= end - position;
-			position = end;
+			sp_stats.wal_skipped += end - sp_received;
+			sp_stats.wal_read -= end - sp_received;
+			sp_received = end;
 			/* A record does not begin at a page, but behind its header. */
 			if (XLogSegmentOffset(end, wal_segment_size) == 0)
-				position += SizeOfXLogLongPHD;
+				sp_received += SizeOfXLogLongPHD;
 			else if (end % XLOG_BLCKSZ == 0)
-				position += SizeOfXLogShortPHD;
-			XLogBeginRead(reader, position);
+				sp_received += SizeOfXLogShortPHD;
+			XLogBeginRead(reader, sp_received);
 			break;
 		}
 		look_at_record();
-		position = reader->EndRecPtr;
+		sp_received = reader->EndRecPtr;
 	}
 	close_segment();			/* one from the archive may take its place */
 	MemoryContextSwitchTo(old);
-	sp_stats.wal_read += position - begun;
-	return position < end;
+	sp_stats.wal_read += sp_received - begun;
+	return sp_received < end;
 }

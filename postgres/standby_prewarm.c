@@ -268,9 +268,7 @@ receive_rest(void)
 static XLogRecPtr
 known_position(void)
 {
-	XLogRecPtr	read = sp_receive_position();
-
-	return !XLogRecPtrIsInvalid(read) ? read :
+	return !XLogRecPtrIsInvalid(sp_received) ? sp_received :
 		ShutdownRequestPending ? GetXLogInsertRecPtr() : GetRedoRecPtr();
 }
 

@@ -200,8 +200,8 @@ extern void sp_publish_reset(void);
 extern bool sp_publish(void);
 
 /* receive.c */
+extern XLogRecPtr sp_received;
 extern void sp_receive_start(XLogRecPtr from, bool is_standby);
-extern XLogRecPtr sp_receive_position(void);
 extern bool sp_receive(void);
 extern void sp_receive_stop(void);
 
