@@ -27,11 +27,9 @@ static SpDevice devices[SP_MOST_DEVICES];	/* by number; fork -1: not given */
 void
 sp_directory_reset(void)
 {
-	HASHCTL		control = {0};
+	HASHCTL		control = {.keysize = sizeof(SpDevice), .entrysize = sizeof(Number),
+	.hcxt = TopMemoryContext};
 
-	control.keysize = sizeof(SpDevice);
-	control.entrysize = sizeof(Number);
-	control.hcxt = TopMemoryContext;
 	if (numbers != NULL)
 		hash_destroy(numbers);
 	numbers = hash_create("standby_prewarm devices", 64, &control,

@@ -177,11 +177,8 @@ publish_has_reader(void)
 	}
 	LWLockAcquire(ReplicationSlotControlLock, LW_SHARED);
 	for (int i = 0; i < max_replication_slots && !found; i++)
-	{
-		ReplicationSlot *slot = &ReplicationSlotCtl->replication_slots[i];
-
-		found = slot->in_use && SlotIsPhysical(slot);
-	}
+		found = ReplicationSlotCtl->replication_slots[i].in_use &&
+			SlotIsPhysical(&ReplicationSlotCtl->replication_slots[i]);
 	LWLockRelease(ReplicationSlotControlLock);
 	return found;
 }
@@ -205,12 +202,9 @@ sp_publish(void)
 	paid_at = now;
 	least = Max(allowance - rate / SLICES, 0);
 	publish_directory(now, rate);
-	while (allowance > least && !ShutdownRequestPending && (walk_is_on || publish_begin(now)))
-	{
+	while (allowance > least && !ShutdownRequestPending && (walk_is_on || publish_begin(now)) &&
+		   publish_piece())
 		CHECK_FOR_INTERRUPTS();
-		if (!publish_piece())
-			break;
-	}
 	if (last_record != before)
 		XLogSetAsyncXactLSN(last_record);	/* for the WAL writer */
 	return allowance <= least && (walk_is_on || sp_changed_buckets != 0);

@@ -64,26 +64,13 @@ static bool others_waited;		/* in the round before a database has found no slot 
 static void
 rank_forget_unloadable(void)
 {
-	HASHCTL		control = {0};
+	HASHCTL		control = {.keysize = sizeof(SpPage), .entrysize = sizeof(Unloadable),
+	.hcxt = TopMemoryContext};
 
-	control.keysize = sizeof(SpPage);
-	control.entrysize = sizeof(Unloadable);
-	control.hcxt = TopMemoryContext;
 	if (unloadable != NULL)
 		hash_destroy(unloadable);
 	unloadable = hash_create("standby_prewarm unloadable pages", 256, &control,
 							 HASH_ELEM | HASH_BLOBS | HASH_CONTEXT);
-}
-
-static void
-rank_leave_alone(const SpPage *page, uint64 us)
-{
-	Unloadable *entry;
-
-	if (hash_get_num_entries(unloadable) >= MOST_UNLOADABLE)
-		rank_forget_unloadable();
-	entry = hash_search(unloadable, page, HASH_ENTER, NULL);
-	entry->until = round_at + us;
 }
 
 /* Whether a page is left alone, or its file, or its device. */
@@ -121,17 +108,22 @@ rank_note_batch(const SpLoader *loader, bool is_taken)
 	for (uint32 i = 0; i < loader->count; i++)
 	{
 		SpPage		key = loader->pages[i].page;
+		Unloadable *entry;
 		uint8		outcome = is_taken ? loader->pages[i].outcome :
 			OidIsValid(key.device.database) ? SP_NO_DATABASE : SP_BUSY;
 
 		sp_stats.pages_read += outcome == SP_LOADED;
 		sp_stats.pages_failed += outcome == SP_FAILED;
+		if (outcome < SP_BUSY)
+			continue;
 		if (outcome == SP_NO_DATABASE)
 			key.file = InvalidOid;
-		if (outcome >= SP_BUSY && outcome <= SP_NO_DATABASE)
+		if (outcome <= SP_NO_DATABASE)
 			key.block = InvalidBlockNumber;
-		if (outcome >= SP_BUSY)
-			rank_leave_alone(&key, outcome == SP_BUSY ? BUSY_US : FORGIVE_US);
+		if (hash_get_num_entries(unloadable) >= MOST_UNLOADABLE)
+			rank_forget_unloadable();
+		entry = hash_search(unloadable, &key, HASH_ENTER, NULL);
+		entry->until = round_at + (outcome == SP_BUSY ? BUSY_US : FORGIVE_US);
 	}
 }
 
@@ -339,13 +331,6 @@ rank_place_of(warm_page page)
 	return &places[at];
 }
 
-static void *
-rank_allocate(Size count, Size size)
-{
-	return MemoryContextAllocExtended(ranking, Max(count, 1) * size,
-									  MCXT_ALLOC_HUGE | MCXT_ALLOC_ZERO);
-}
-
 /* Lists the hottest pages, where the history has changed since the last time. */
 static void
 rank_list_pages(void)
@@ -357,13 +342,14 @@ rank_list_pages(void)
 		return;
 	MemoryContextReset(ranking);
 	listed = NULL;
-	listed = rank_allocate(room, sizeof(warm_page));
+	listed = MemoryContextAllocHuge(ranking, room * sizeof(warm_page));
 	listed_count = 0;
 	if (room > 0)
 		sp_note(warm_list(&sp_history, listed, room, &listed_count), "a ranking");
 	places_mask = pg_nextpower2_64(Max(listed_count, 1) * 2) - 1;
-	places = rank_allocate(places_mask + 1, sizeof(uint32));
-	buffers = rank_allocate(listed_count, sizeof(int));
+	places = MemoryContextAllocExtended(ranking, (places_mask + 1) * sizeof(uint32),
+										MCXT_ALLOC_HUGE | MCXT_ALLOC_ZERO);
+	buffers = MemoryContextAllocHuge(ranking, listed_count * sizeof(int));
 	for (Size i = 0; i < listed_count; i++)
 		*rank_place_of(listed[i]) = (uint32) i + 1;
 	listed_room = room;
@@ -376,7 +362,7 @@ rank_list_pages(void)
 static void
 rank_find_buffers(void)
 {
-	memset(buffers, 0, sizeof(int) * Max(listed_count, 1));
+	memset(buffers, 0, listed_count * sizeof(int));
 	for (int i = 0; i < NBuffers; i++)
 	{
 		BufferTag	tag;

@@ -155,7 +155,6 @@ sp_describe_worker(BackgroundWorker *worker, const char *function, const char *n
 	strlcpy(worker->bgw_library_name, SP_NAME, BGW_MAXLEN);
 	strlcpy(worker->bgw_function_name, function, BGW_MAXLEN);
 	strlcpy(worker->bgw_name, name, BGW_MAXLEN);
-	strlcpy(worker->bgw_type, name, BGW_MAXLEN);
 }
 
 /* Waits at most so long, and with 0 not at all; true where the settings may be others then. */
@@ -241,27 +240,17 @@ release_worker(int code, Datum arg)
 	LWLockRelease(sp_shared->lock);
 }
 
+/* Begins to sample, once all WAL that is left was read, so that no number is given twice. */
 static void
-begin_role(void)
-{
-	sp_stats.primary_known = -1;
-	if (sp_stats.is_standby)
-		sp_receive_start(GetRedoRecPtr(), true);	/* a restartpoint, whose WAL is kept */
-	else
-	{
-		sp_sample_reset();
-		sp_publish_reset();
-	}
-}
-
-/* Reads all the WAL that is left, so that no number of a device is given twice. */
-static void
-receive_rest(void)
+begin_primary(void)
 {
 	while (sp_enabled && !ShutdownRequestPending && sp_receive())
 		(void) sp_wait(0);		/* which ends the worker where the postmaster has ended */
 	if (!ShutdownRequestPending)
 		sp_receive_stop();
+	sp_stats.primary_known = -1;
+	sp_sample_reset();
+	sp_publish_reset();
 }
 
 /* Up to where the history has what WAL says: all of it, where a primary goes on. */
@@ -310,14 +299,11 @@ start_worker(void)
 	LWLockRelease(sp_shared->lock);
 	sp_history_start();
 	sp_rank_reset();
+	/* what was published since the save, also by others */
+	sp_receive_start(sp_stats.is_standby || XLogRecPtrIsInvalid(sp_saved_position) ?
+					 GetRedoRecPtr() : sp_saved_position, sp_stats.is_standby);
 	if (!sp_stats.is_standby)
-	{
-		/* What was published since the save, by this server, or before its promotion. */
-		sp_receive_start(XLogRecPtrIsInvalid(sp_saved_position) ? GetRedoRecPtr() :
-						 sp_saved_position, false);
-		receive_rest();
-	}
-	begin_role();
+		begin_primary();
 	warming_until = sp_us() + sp_load_after_start * US_PER_S;
 	saved_redo = GetRedoRecPtr();
 	ereport(LOG, (errmsg("standby_prewarm started on a %s, with " INT64_FORMAT " pages known",
@@ -331,10 +317,9 @@ become_primary(void)
 	ereport(LOG, (errmsg("standby_prewarm was promoted: " INT64_FORMAT " pages known, " INT64_FORMAT
 						 " of " INT64_FORMAT " wanted pages resident", sp_stats.known,
 						 sp_stats.resident, sp_stats.wanted)));
-	receive_rest();
 	sp_rank_reset();			/* the loaders end by themselves */
 	sp_stats.is_standby = false;
-	begin_role();
+	begin_primary();
 }
 
 /* Does what is due; returns when something is due next. */

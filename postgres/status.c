@@ -6,9 +6,7 @@
 
 #include "funcapi.h"
 #include "lib/stringinfo.h"
-#include "miscadmin.h"
 #include "utils/builtins.h"
-#include "utils/fmgrprotos.h"
 #include "standby_prewarm.h"
 
 #define OWN_COLUMNS		4		/* before those of SpStats */
