@@ -266,18 +266,15 @@ loader_begin(int number)
 void
 standby_prewarm_loader_main(Datum main_arg)
 {
-	int			idle = 0;
-
 	pqsignal(SIGTERM, die);
 	pqsignal(SIGHUP, SignalHandlerForConfigReload);
 	BackgroundWorkerUnblockSignals();
 	loader_begin(DatumGetInt32(main_arg));
-	while (loader_is_needed())
+	for (int idle = 1; loader_is_needed(); idle++)
 	{
 		uint32		count = loader_take_batch();
 		uint64		begun = sp_us();
 
-		idle++;
 		if (count > 0)
 		{
 			pgstat_report_activity(STATE_RUNNING, "standby_prewarm reads pages");

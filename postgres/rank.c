@@ -467,7 +467,6 @@ sp_round(void)
 {
 	uint64		begun = sp_us();
 	double		passed = (begun - round_at) / 1e6;
-	/* how many pages may be read in a second */
 	double		rate = sp_load_rate >= 0 ? sp_load_rate : Max(LEAST_RATE, NBuffers / 100);
 
 	round_at = begun;
