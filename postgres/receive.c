@@ -21,9 +21,7 @@
 #define BYTES_A_TURN	(16 * 1024 * 1024)
 
 static XLogReaderState *reader = NULL;
-static int	segment = -1;
-static XLogSegNo segment_number;
-static TimeLineID segment_timeline;
+static char segment_path[MAXPGPATH];	/* of the segment that was looked for last */
 static XLogRecPtr own_end;		/* of the WAL that a primary begins with; of a standby invalid */
 static TimeLineID own_timeline;
 
@@ -40,33 +38,22 @@ wal_end(TimeLineID *timeline)
 	return own_end;
 }
 
+/* Opens a segment for WALRead, which wants a file: for one that is gone an empty one. */
 static void
-close_segment(void)
+open_segment(XLogReaderState *state, XLogSegNo number, TimeLineID *timeline)
 {
-	if (segment >= 0)
-		close(segment);
-	segment = -1;
-}
+	char		partial[MAXPGPATH];
+	int			fd;
 
-static bool
-open_segment(XLogSegNo number, TimeLineID timeline)
-{
-	char		path[MAXPGPATH];
-
-	if (segment >= 0 && segment_number == number && segment_timeline == timeline)
-		return true;
-	close_segment();
-	XLogFilePath(path, timeline, number, wal_segment_size);
-	segment = BasicOpenFile(path, O_RDONLY | PG_BINARY);
-	if (segment < 0 && errno == ENOENT)
+	XLogFilePath(segment_path, *timeline, number, wal_segment_size);
+	fd = BasicOpenFile(segment_path, O_RDONLY | PG_BINARY);
+	if (fd < 0 && errno == ENOENT)
 	{
 		/* A promotion renames the last segment of the timeline before it. */
-		strlcat(path, ".partial", sizeof path);
-		segment = BasicOpenFile(path, O_RDONLY | PG_BINARY);
+		snprintf(partial, sizeof partial, "%s.partial", segment_path);
+		fd = BasicOpenFile(partial, O_RDONLY | PG_BINARY);
 	}
-	segment_number = number;
-	segment_timeline = timeline;
-	return segment >= 0;
+	state->seg.ws_file = fd >= 0 ? fd : BasicOpenFile(DEVNULL, O_RDONLY | PG_BINARY);
 }
 
 /* Reads a page of WAL, as far as there is any.  A segment that is gone is no error. */
@@ -75,20 +62,14 @@ read_page(XLogReaderState *state, XLogRecPtr page, int wanted, XLogRecPtr record
 {
 	TimeLineID	timeline;
 	XLogRecPtr	end = wal_end(&timeline);
-	XLogSegNo	number;
-	int			length = XLOG_BLCKSZ;
+	WALReadError error;
+	int			length;
 
 	if (page + wanted > end)
 		return -1;
-	if (page + XLOG_BLCKSZ > end)
-		length = (int) (end - page);
+	length = (int) Min(XLOG_BLCKSZ, end - page);
 	XLogReadDetermineTimeline(state, page, wanted, timeline);
-	XLByteToSeg(page, number, wal_segment_size);
-	if (!open_segment(number, state->currTLI) ||
-		pg_pread(segment, into, length, XLogSegmentOffset(page, wal_segment_size)) != length)
-		return -1;
-	state->seg.ws_tli = state->currTLI;
-	return length;
+	return WALRead(state, into, page, length, state->currTLI, &error) ? length : -1;
 }
 
 /*
@@ -101,7 +82,9 @@ sp_receive_start(XLogRecPtr from, bool is_standby)
 	MemoryContext old = MemoryContextSwitchTo(TopMemoryContext);
 
 	sp_receive_stop();
-	reader = XLogReaderAllocate(wal_segment_size, NULL, XL_ROUTINE(.page_read = read_page), NULL);
+	reader = XLogReaderAllocate(wal_segment_size, NULL,
+								XL_ROUTINE(.page_read = read_page, .segment_open = open_segment,
+										   .segment_close = wal_segment_close), NULL);
 	MemoryContextSwitchTo(old);
 	if (reader == NULL)
 		ereport(ERROR, (errcode(ERRCODE_OUT_OF_MEMORY), errmsg("out of memory")));
@@ -117,7 +100,6 @@ sp_receive_stop(void)
 		XLogReaderFree(reader);
 	reader = NULL;
 	sp_received = InvalidXLogRecPtr;
-	close_segment();
 }
 
 /* What a message is refused for by its header, which is so long, or WARM_OK. */
@@ -190,16 +172,13 @@ look_at_record(void)
 static void
 log_skipped(XLogRecPtr end, const char *why)
 {
-	char		path[MAXPGPATH];
-
 	if (!sp_may_log(SP_FAULT_WAL))
 		return;
-	XLogFilePath(path, segment_timeline, segment_number, wal_segment_size);
 	/* A crash or a promotion is followed by a checkpoint, after which WAL is recycled. */
 	ereport(XLogRecPtrIsInvalid(own_end) ? WARNING : LOG,
 			(errcode(why != NULL ? ERRCODE_DATA_CORRUPTED : ERRCODE_UNDEFINED_FILE),
 			 errmsg("standby_prewarm skipped WAL from %X/%X to %X/%X, last of file \"%s\": %s",
-					LSN_FORMAT_ARGS(sp_received), LSN_FORMAT_ARGS(end), path,
+					LSN_FORMAT_ARGS(sp_received), LSN_FORMAT_ARGS(end), segment_path,
 					why != NULL ? why : "it is gone"),
 			 errdetail("What was published in it is known once it is published or referenced again.")));
 }
@@ -235,7 +214,8 @@ sp_receive(void)
 		look_at_record();
 		sp_received = reader->EndRecPtr;
 	}
-	close_segment();			/* one from the archive may take its place */
+	if (reader->seg.ws_file >= 0)
+		wal_segment_close(reader);	/* one from the archive may take its place */
 	MemoryContextSwitchTo(old);
 	sp_stats.wal_read += sp_received - begun;
 	return sp_received < end;
