@@ -94,7 +94,7 @@ typedef struct SpLoader
 } SpLoader;
 
 /*
- * What the worker shows once a turn.  All before refused is columns of
+ * What the worker shows once a turn.  The fields before refused are columns of
  * standby_prewarm_status, in their order.
  */
 typedef struct SpStats
@@ -132,7 +132,10 @@ typedef struct SpStats
 	bool		others_wait;	/* databases wait for a loader: idle ones end */
 } SpStats;
 
-/* lock guards all of it, but a batch: the state of its slot says whose it is. */
+/*
+ * lock guards all of it, but a batch: the state of its slot says whose it is.
+ * Loaders look at others_wait without it.
+ */
 typedef struct SpShared
 {
 	LWLock	   *lock;
