@@ -1,10 +1,9 @@
 /*
  * directory.c
- *		The numbers of (tablespace, database, fork).
+ *		The numbers of (tablespace, database, fork), which are devices of the history.
  *
- * The history names a page by a device and a number, which is the relation file
- * number and the block.  The primary gives device numbers, and none a second time,
- * also where a database was dropped.  A standby that is promoted goes on with them.
+ * The primary gives them, and none a second time, also where a database was dropped.  A standby
+ * that is promoted goes on with them.
  */
 #include "postgres.h"
 
@@ -28,11 +27,9 @@ static SpDevice devices[SP_MOST_DEVICES];	/* by number; fork -1: not given */
 void
 sp_directory_reset(void)
 {
-	HASHCTL		control = {0};
+	HASHCTL		control = {.keysize = sizeof(SpDevice), .entrysize = sizeof(Number),
+	.hcxt = TopMemoryContext};
 
-	control.keysize = sizeof(SpDevice);
-	control.entrysize = sizeof(Number);
-	control.hcxt = TopMemoryContext;
 	if (numbers != NULL)
 		hash_destroy(numbers);
 	numbers = hash_create("standby_prewarm devices", 64, &control,
@@ -42,8 +39,8 @@ sp_directory_reset(void)
 }
 
 /*
- * Whether there can be such a device: what is in pg_global is of no database, and
- * nothing else is.  One that was forged, or read while its buffer changed, may not be.
+ * Whether there can be such a device: what is in pg_global is of no database, and nothing else is.
+ * One that was forged, or read while its buffer changed, may not be.
  */
 static bool
 is_device(const SpDevice *device)
@@ -71,14 +68,13 @@ put_number(uint16 number, const SpDevice *device)
 	while (sp_device_count <= number)
 		devices[sp_device_count++].fork = -1;
 	devices[number] = *device;
-	entry = hash_search(numbers, device, HASH_ENTER, NULL);
-	entry->number = number;
+	((Number *) hash_search(numbers, device, HASH_ENTER, NULL))->number = number;
 	return true;
 }
 
 /*
- * Writes the page of the history that a buffer's tag names; false where its
- * device has no number.  With give, it is given one, where there are any.
+ * Writes the page of the history that a buffer's tag names: the file's number, and the block; false
+ * where its device has no number.  With give, it is given one, where there are any.
  */
 bool
 sp_page_of(const BufferTag *tag, bool give, warm_page *page)

@@ -22,8 +22,7 @@
 #define DRAFT_FILE "standby_prewarm.tmp"
 #define DIRECTORY_MAGIC UINT64CONST(0x5741524d44495232)	/* WARMDIR2 */
 #define DIRECTORY_HEADER 32		/* magic, system, latest time, position */
-#define MOST_DIRECTORY_BYTES \
-	(DIRECTORY_HEADER + SP_MOST_DEVICES * SP_DEVICE_BYTES + 4)
+#define MOST_DIRECTORY_BYTES (DIRECTORY_HEADER + SP_MOST_DEVICES * SP_DEVICE_BYTES + 4)
 
 #define REFERENCES		1024
 #define BOUND_US		(60 * US_PER_S)
@@ -37,7 +36,7 @@ uint64		sp_latest = 0;		/* the latest time given or heard of */
 /* The saved history has all that WAL says before this. */
 XLogRecPtr	sp_saved_position = InvalidXLogRecPtr;
 
-static warm history = {0};
+warm		sp_history = {0};
 static uint16 replica = 1;		/* of a primary, by its timeline */
 
 /* References wait by bucket: the history takes a run of one bucket fastest. */
@@ -46,10 +45,9 @@ static int	reference_counts[SP_BUCKETS];
 
 /* When a save at a stop is given up; 0: it is another save. */
 static uint64 save_until;
-static bool save_ended;
-static int	save_error;			/* errno of a piece of the dump that failed */
+static int	save_error;			/* of a piece of the dump; ECANCELED: it is given up */
 
-/* The name of a status, until the next call. */
+/* The name of a status, until the next call: of "WARM_LATE_STAMP: .." LateStamp. */
 const char *
 sp_status_name(int status)
 {
@@ -57,20 +55,15 @@ sp_status_name(int status)
 	"OtherDirectory", "LateMessage"};
 	static char name[32];
 	const char *from = warm_strerror(status);
-	bool		is_first = true;
 	int			length = 0;
 
 	if (status >= SP_BAD_MESSAGE && status <= SP_LATE_MESSAGE)
 		return own[status - SP_BAD_MESSAGE];
-	/* of "WARM_LATE_STAMP: .." LateStamp */
 	if (strncmp(from, "WARM_", 5) != 0)
 		return "Unknown";
 	for (from += 5; *from != ':' && length < (int) sizeof name - 1; from++)
-	{
 		if (*from != '_')
-			name[length++] = is_first ? *from : pg_tolower((unsigned char) *from);
-		is_first = *from == '_';
-	}
+			name[length++] = from[-1] == '_' ? *from : pg_tolower((unsigned char) *from);
 	name[length] = 0;
 	return name;
 }
@@ -80,13 +73,12 @@ static void
 history_open(void)
 {
 	const warm_options options = {.size = sizeof options, .replica = 1, .page_size = 1};
-	int			status = warm_open(&history, &options);
+	int			status = warm_open(&sp_history, &options);
 
 	if (status != WARM_OK)
 		ereport(ERROR,
 				(errcode(ERRCODE_OUT_OF_MEMORY),
-				 errmsg("standby_prewarm could not open its history: %s",
-						sp_status_name(status))));
+				 errmsg("standby_prewarm could not open its history: %s", sp_status_name(status))));
 	memset(reference_counts, 0, sizeof reference_counts);
 	sp_changed_buckets = 0;
 }
@@ -96,7 +88,7 @@ void
 sp_history_reset(const char *why)
 {
 	ereport(LOG, (errmsg("standby_prewarm begins a new history: %s", why)));
-	warm_close(&history);
+	warm_close(&sp_history);
 	(void) unlink(HISTORY_FILE);
 	(void) unlink(DIRECTORY_FILE);
 	sp_directory_reset();
@@ -107,23 +99,26 @@ sp_history_reset(const char *why)
 	sp_stats.resets++;
 }
 
-/* The limit of times that are believed, in microseconds since 2000. */
-static uint64
-history_time_limit(void)
+/*
+ * The limit of times that are believed, in microseconds since 2000.  Where one is known that is
+ * later, a new history begins: a primary's standbys would refuse its references, and a standby's
+ * horizon may be later than all that comes.
+ */
+uint64
+sp_time_limit(void)
 {
-	return GetCurrentTimestamp() + sp_clock_tolerance * US_PER_S;
+	uint64		limit = GetCurrentTimestamp() + sp_clock_tolerance * US_PER_S;
+
+	if (sp_latest > limit)
+		sp_history_reset("the clock was set back");
+	return limit;
 }
 
-/*
- * The time of a primary's sample, later than all before it, and than those of a
- * former primary.  Where the clock was set back by more than is tolerated, each
- * standby would refuse the new references: then a new history begins.
- */
+/* The time of a primary's sample, later than all before it, and than those of a former primary. */
 uint64
 sp_clock(void)
 {
-	if (sp_latest > history_time_limit())
-		sp_history_reset("the clock was set back");
+	(void) sp_time_limit();
 	sp_latest = Max((uint64) GetCurrentTimestamp(), sp_latest + 1);
 	/* Timelines differ, so two primaries do. */
 	replica = (uint16) ((GetWALInsertionTimeLine() - 1) % 64 + 1);
@@ -149,10 +144,7 @@ history_hint(int status)
 	}
 }
 
-/*
- * Counts what is refused, a message or a call of the library, and warns of it;
- * returns its status.
- */
+/* Counts what is refused, a message or a call of the library, and warns; returns its status. */
 int
 sp_note(int status, const char *what)
 {
@@ -160,13 +152,12 @@ sp_note(int status, const char *what)
 
 	if (status == WARM_OK || status < 0 || status >= SP_STATUSES)
 		return status;
-	sp_refused[status]++;
+	sp_stats.refused[status]++;
 	if (sp_may_log(status))
 		ereport(WARNING,
 				(errcode(status == WARM_MEMORY ? ERRCODE_OUT_OF_MEMORY :
 						 ERRCODE_PROTOCOL_VIOLATION),
-				 errmsg("standby_prewarm refused %s: %s", what,
-						sp_status_name(status)),
+				 errmsg("standby_prewarm refused %s: %s", what, sp_status_name(status)),
 				 hint != NULL ? errhint("%s", hint) : 0));
 	return status;
 }
@@ -174,8 +165,7 @@ sp_note(int status, const char *what)
 static void
 history_absorb_bucket(int bucket)
 {
-	sp_note(warm_absorb(&history, references[bucket],
-						reference_counts[bucket]),
+	sp_note(warm_absorb(&sp_history, references[bucket], reference_counts[bucket]),
 			"references of a sample");
 	reference_counts[bucket] = 0;
 }
@@ -205,49 +195,6 @@ sp_reference(warm_page page, uint64 time)
 		history_absorb_bucket(bucket);
 }
 
-/*
- * Takes in a frame.  Where this server believed later times than it does now,
- * its horizon may be later than all that comes: then a new history begins.
- */
-int
-sp_history_receive(const uint8 *frame, Size length)
-{
-	if (sp_latest > history_time_limit())
-		sp_history_reset("the clock was set back");
-	warm_limit(&history, history_time_limit());
-	return sp_note(warm_receive(&history, frame, length),
-				   "a message of its primary");
-}
-
-/*
- * Writes the frame of a bucket's next entries with a stamp since then, at most
- * SP_FRAME_ROOM bytes; the page of its last entry; and whether more follow.
- */
-bool
-sp_history_piece(uint8 bucket, uint64 since, bool has_after, warm_page *after,
-				 uint8 *frame, Size *length, bool *more)
-{
-	warm_sending sending = {.since = since, .after = *after, .bucket = bucket, .has_after = has_after};
-
-	if (sp_note(warm_send(&history, &sending, frame, SP_FRAME_ROOM, length),
-				   "a publication") != WARM_OK)
-		return false;
-	*after = sending.after;
-	*more = sending.more;
-	return true;
-}
-
-/* Lists the hottest pages, the hottest first. */
-Size
-sp_history_list(warm_page *pages, Size room)
-{
-	Size		count = 0;
-
-	if (room > 0)
-		sp_note(warm_list(&history, pages, room, &count), "a ranking");
-	return count;
-}
-
 /* Counts the pages known, and lets interrupts in between walks. */
 static Size
 history_length(void)
@@ -255,24 +202,22 @@ history_length(void)
 	Size		length = 0;
 
 	CHECK_FOR_INTERRUPTS();
-	warm_history_length(&history, &length);
+	warm_history_length(&sp_history, &length);
 	return length;
 }
 
 /*
- * Forgets pages without a reference for too long; and where there are too many,
- * the older references of all, in steps of a quarter of the time that is left.
- * It walks the history, so it is done once a minute, or where there are an
- * eighth too many pages.  A standby has its primary's horizon, and goes by its
- * clock.
+ * Forgets pages without a reference for too long; and where there are too many, the older
+ * references of all, in steps of a quarter of the time that is left.  It walks the history, so it
+ * is done once a minute, or where there are an eighth too many pages.  A standby has its primary's
+ * horizon, and goes by its clock.
  */
 void
 sp_history_bound(void)
 {
 	static uint64 bound_at = 0;
 	bool		is_standby = RecoveryInProgress();
-	Size		usual = is_standby ? PG_INT32_MAX :
-		Min((Size) NBuffers * 4, MOST_KNOWN);
+	Size		usual = is_standby ? PG_INT32_MAX : Min((Size) NBuffers * 4, MOST_KNOWN);
 	Size		most = sp_history_pages > 0 ? sp_history_pages : usual;
 	uint64		now = Max(is_standby ? 0 : GetCurrentTimestamp(), sp_latest);
 	uint64		age = sp_history_age * 60 * US_PER_S;
@@ -282,58 +227,45 @@ sp_history_bound(void)
 	sp_stats.devices = sp_device_count;
 	if (sp_stats.known <= most + most / 8 && sp_us() < bound_at)
 		return;
-	if (sp_device_count == SP_MOST_DEVICES && !is_standby &&
-		sp_may_log(SP_FAULT_DEVICES))
+	if (sp_device_count == SP_MOST_DEVICES && !is_standby && sp_may_log(SP_FAULT_DEVICES))
 		ereport(WARNING,
 				(errcode(ERRCODE_PROGRAM_LIMIT_EXCEEDED),
 				 errmsg("standby_prewarm has no number for the pages of further databases and tablespaces"),
 				 errhint("Call standby_prewarm_reset() to begin a new history.")));
 	bound_at = sp_us() + BOUND_US;
-	warm_raise(&history, age > 0 && age < now ? now - age : 0, &horizon);
+	warm_raise(&sp_history, age > 0 && age < now ? now - age : 0, &horizon);
 	if (horizon == 0 && history_length() > most)
-		warm_raise(&history, now - Min(now, DAY_US), &horizon);
+		warm_raise(&sp_history, now - Min(now, DAY_US), &horizon);
 	while (history_length() > most && horizon < now)
-		warm_raise(&history, horizon + (now - horizon) / 4 + 1, &horizon);
+		warm_raise(&sp_history, horizon + (now - horizon) / 4 + 1, &horizon);
 	sp_stats.known = history_length();
 }
 
-/* Says that a file could not be saved, as errno says; drops its draft. */
-static void
-history_save_failed(const char *path)
+/*
+ * Replaces a file by what write_draft writes, whole or not at all.  An error, which it returns, is
+ * logged, unless the save is given up.
+ */
+static bool
+history_replace(const char *path, int (*write_draft) (int *fd))
 {
-	int			error = errno;
-	bool		may = sp_may_log(SP_FAULT_SAVE);	/* which waits for a lock */
-
-	errno = error;
-	if (may)
-		ereport(WARNING,
-				(errcode_for_file_access(),
-				 errmsg("could not write file \"%s\" for \"%s\": %m",
-						DRAFT_FILE, path)));
-	(void) unlink(DRAFT_FILE);
-}
-
-/* Makes the draft of a file; -1 where that fails. */
-static int
-history_open_draft(const char *path)
-{
-	int			fd;
+	int			fd,
+				error;
 
 	(void) unlink(DRAFT_FILE);
 	fd = OpenTransientFile(DRAFT_FILE, O_CREAT | O_EXCL | O_WRONLY | PG_BINARY);
-	if (fd < 0)
-		history_save_failed(path);
-	return fd;
-}
-
-/* Puts the draft that was written into a file's place. */
-static bool
-history_end_draft(int fd, const char *path)
-{
-	if (CloseTransientFile(fd) == 0 &&
-		durable_rename(DRAFT_FILE, path, DEBUG1) == 0)
+	error = fd < 0 ? errno : write_draft(&fd);
+	if (fd >= 0 && CloseTransientFile(fd) != 0 && error == 0)
+		error = errno;
+	if (error == 0 && durable_rename(DRAFT_FILE, path, DEBUG1) == 0)
 		return true;
-	history_save_failed(path);
+	error = error == 0 ? errno : error;
+	(void) unlink(DRAFT_FILE);
+	if (error == ECANCELED || !sp_may_log(SP_FAULT_SAVE))
+		return false;
+	errno = error;
+	ereport(WARNING,
+			(errcode_for_file_access(),
+			 errmsg("could not write file \"%s\" for \"%s\": %m", DRAFT_FILE, path)));
 	return false;
 }
 
@@ -348,36 +280,34 @@ history_checksum(const uint8 *bytes, Size length)
 	return crc;
 }
 
-/* Saves the directory, the latest time, and the position of the saved history. */
-bool
-sp_directory_save(void)
+static int
+history_write_directory(int *fd)
 {
 	uint8	   *bytes = palloc(MOST_DIRECTORY_BYTES);
 	uint8	   *end = sp_put(bytes, DIRECTORY_MAGIC, 8);
 	int			next = 0;
-	int			fd = history_open_draft(DIRECTORY_FILE);
 	Size		length;
 
-	if (fd < 0)
-		return false;
 	end = sp_put(end, GetSystemIdentifier(), 8);
 	end = sp_put(sp_put(end, sp_latest, 8), sp_saved_position, 8);
 	end = sp_directory_encode(&next, sp_device_count, sp_device_count, end);
 	end = sp_put(end, history_checksum(bytes, end - bytes), 4);
 	length = end - bytes;
 	errno = ENOSPC;				/* a write that is short says nothing */
-	if (write(fd, bytes, length) == (ssize_t) length && pg_fsync(fd) == 0)
-		return history_end_draft(fd, DIRECTORY_FILE);
-	history_save_failed(DIRECTORY_FILE);
-	CloseTransientFile(fd);
-	return false;
+	return write(*fd, bytes, length) == (ssize_t) length && pg_fsync(*fd) == 0 ? 0 : errno;
+}
+
+/* Saves the directory, the latest time, and the position of the saved history. */
+bool
+sp_directory_save(void)
+{
+	return history_replace(DIRECTORY_FILE, history_write_directory);
 }
 
 /*
- * Writes a piece of a dump, unless the save is to end: where the server is to stop.
- * One that the stop makes has a while, as it holds up a switchover.  What waits for
- * all processes, as DROP DATABASE, does not wait for the save.  No error may leave
- * this.
+ * Writes a piece of a dump, unless the save is to end: where the server is to stop.  One that the
+ * stop makes has a while, as it holds up a switchover.  What waits for all processes, as DROP
+ * DATABASE, does not wait for the save.  No error may leave this.
  */
 static int
 history_write_piece(void *context, uint64_t no, const void *bytes, size_t length)
@@ -395,11 +325,10 @@ history_write_piece(void *context, uint64_t no, const void *bytes, size_t length
 		FlushErrorState();		/* it is processed at the next chance */
 	}
 	PG_END_TRY();
-	save_ended = save_until > 0 ? sp_us() > save_until : ShutdownRequestPending;
-	if (save_ended)
-		return ECANCELED;
 	errno = ENOSPC;				/* a write that is short says nothing */
-	if (pg_pwrite(*(int *) context, bytes, length, no) == (ssize_t) length)
+	if (save_until > 0 ? sp_us() > save_until : ShutdownRequestPending)
+		errno = ECANCELED;
+	else if (pg_pwrite(*(int *) context, bytes, length, no) == (ssize_t) length)
 		return 0;
 	return save_error = errno;
 }
@@ -417,38 +346,26 @@ history_read_nothing(void *context, uint64_t no, void *into, size_t length)
 	return EIO;
 }
 
-/* Saves the history into its file, whole or not at all. */
-static bool
-history_save_dump(void)
+static int
+history_write_dump(int *fd)
 {
 	static const warm_device_ops calls = {.size = sizeof calls, .read = history_read_nothing,
 	.write = history_write_piece, .sync = history_sync_dump};
-	int			fd = history_open_draft(HISTORY_FILE);
+	const warm_device file = {.ops = &calls, .context = fd};
 	int			status;
-	const warm_device file = {.ops = &calls, .context = &fd};
 
-	if (fd < 0)
-		return false;
 	save_error = ENOMEM;		/* where no call fails */
-	status = warm_save_to(&history, &file);
+	status = warm_save_to(&sp_history, &file);
 	if (status == WARM_OK)
-		return history_end_draft(fd, HISTORY_FILE);
-	if (save_ended)
-		(void) unlink(DRAFT_FILE);
-	else
-	{
-		errno = save_error;
-		history_save_failed(HISTORY_FILE);
+		return 0;
+	if (save_error != ECANCELED)
 		sp_note(status, "a save");
-	}
-	CloseTransientFile(fd);
-	return false;
+	return save_error;
 }
 
 /*
- * Saves directory and history.  The directory comes first: it never changes a
- * number, so a newer one fits an older history.  The position, up to which the
- * history has what WAL says, comes last.
+ * Saves directory and history.  The directory comes first: it never changes a number, so a newer
+ * one fits an older history.  The position, up to which the history has what WAL says, comes last.
  */
 void
 sp_history_save(XLogRecPtr position)
@@ -456,32 +373,28 @@ sp_history_save(XLogRecPtr position)
 	static uint64 cost = 0;		/* of the last save */
 	uint64		begun = sp_us();
 
-	save_ended = false;
-	save_until = !ShutdownRequestPending ? 0 :
-		cost < STOP_US ? begun + STOP_US : 1;
-	if (sp_directory_save() && history_save_dump())
+	save_error = 0;
+	save_until = !ShutdownRequestPending ? 0 : cost < STOP_US ? begun + STOP_US : 1;
+	if (sp_directory_save() && history_replace(HISTORY_FILE, history_write_dump))
 	{
 		cost = sp_us() - begun;
 		sp_stats.saves++;
 		sp_saved_position = position;
 		(void) sp_directory_save();
 	}
-	else if (!save_ended)
+	else if (save_error != ECANCELED)
 		sp_stats.save_failures++;
 }
 
 /* Opens a file for reading; -1 where there is none. */
 static int
-history_open_saved(const char *path, Size *length)
+history_open_saved(const char *path)
 {
-	struct stat st = {0};
 	int			fd = OpenTransientFile(path, O_RDONLY | PG_BINARY);
 
-	if (fd < 0 ? errno != ENOENT : fstat(fd, &st) != 0)
+	if (fd < 0 && errno != ENOENT)
 		ereport(LOG,
-				(errcode_for_file_access(),
-				 errmsg("could not open file \"%s\": %m", path)));
-	*length = st.st_size;
+				(errcode_for_file_access(), errmsg("could not open file \"%s\": %m", path)));
 	return fd;
 }
 
@@ -489,22 +402,18 @@ static bool
 history_load_directory(void)
 {
 	uint8	   *bytes = palloc(MOST_DIRECTORY_BYTES);
-	Size		length;
-	int			fd = history_open_saved(DIRECTORY_FILE, &length);
-	bool		good;
+	int			fd = history_open_saved(DIRECTORY_FILE);
+	ssize_t		length;
 
 	if (fd < 0)
 		return false;
-	length = Min(length, MOST_DIRECTORY_BYTES);
-	good = length >= DIRECTORY_HEADER + 4 &&
-		read(fd, bytes, length) == (ssize_t) length &&
+	length = read(fd, bytes, MOST_DIRECTORY_BYTES);
+	CloseTransientFile(fd);
+	if (length >= DIRECTORY_HEADER + 4 &&
 		sp_get(bytes, 8) == DIRECTORY_MAGIC &&
 		sp_get(bytes + 8, 8) == GetSystemIdentifier() &&
 		history_checksum(bytes, length - 4) == sp_get(bytes + length - 4, 4) &&
-		sp_directory_decode(bytes + DIRECTORY_HEADER,
-							length - 4 - DIRECTORY_HEADER) == WARM_OK;
-	CloseTransientFile(fd);
-	if (good)
+		sp_directory_decode(bytes + DIRECTORY_HEADER, length - 4 - DIRECTORY_HEADER) == WARM_OK)
 	{
 		sp_latest = sp_get(bytes + 16, 8);
 		sp_saved_position = sp_get(bytes + 24, 8);
@@ -521,22 +430,22 @@ history_load_directory(void)
 void
 sp_history_start(void)
 {
-	Size		length;
+	struct stat st;
 	int			fd,
 				status;
 
 	history_open();
 	sp_directory_reset();
-	if (history_load_directory() &&
-		(fd = history_open_saved(HISTORY_FILE, &length)) >= 0)
+	if (history_load_directory() && (fd = history_open_saved(HISTORY_FILE)) >= 0)
 	{
-		status = sp_note(warm_load(&history, fd, length), "a saved history");
+		status = sp_note(fstat(fd, &st) != 0 ? WARM_DUMP_NOT_READ :
+						 warm_load(&sp_history, fd, st.st_size), "a saved history");
 		CloseTransientFile(fd);
 		if (status != WARM_OK)
 		{
 			ereport(LOG,
-					(errmsg("standby_prewarm does not use \"%s\": %s",
-							HISTORY_FILE, sp_status_name(status))));
+					(errmsg("standby_prewarm does not use \"%s\": %s", HISTORY_FILE,
+							sp_status_name(status))));
 			sp_saved_position = InvalidXLogRecPtr;
 		}
 	}

@@ -1,12 +1,9 @@
 /*
  * loader.c
- *		The worker that reads the pages of one database of a standby, or of a
- *		primary that started.
+ *		The worker that reads the pages of one database.
  *
- * A loader reads its batch file by file, in short transactions of some pages
- * each, under AccessShareLock, which no drop or truncation passes.  It waits
- * for no lock but those of catalogs, and for these a second, and replay waits
- * for these few reads at most.
+ * It reads a batch file by file, in short transactions, under a lock that no drop or truncation
+ * passes.  DESIGN.md says who waits for whom.
  */
 #include "postgres.h"
 
@@ -20,7 +17,6 @@
 #include "storage/lmgr.h"
 #include "tcop/tcopprot.h"
 #include "utils/guc.h"
-#include "utils/memutils.h"
 #include "utils/snapmgr.h"
 #include "standby_prewarm.h"
 
@@ -34,15 +30,10 @@ PGDLLEXPORT void standby_prewarm_loader_main(Datum main_arg);
 
 static SpLoader *slot;
 static uint64 epoch;
+static bool is_connected = false;
 static SpRequest *reading;		/* the page that is read, NULL where none is */
 static SpRequest batch[SP_BATCH];
 static uint64 batch_until;		/* when a primary's loader leaves what it has not read */
-
-static bool
-loader_same_file(const SpRequest *a, const SpRequest *b)
-{
-	return memcmp(&a->page, &b->page, offsetof(SpPage, block)) == 0;
-}
 
 /* By device and file, in any order, and then by block. */
 static int
@@ -56,9 +47,8 @@ loader_by_page(const void *a, const void *b)
 }
 
 /*
- * Reads pages of one fork of a relation that is locked, while there is time.  The
- * system is asked for as many of the next ones as maintenance_io_concurrency says:
- * storage takes them together.
+ * Reads pages of one fork of a relation that is locked, while there is time.  The system is asked
+ * for the next ones, too: storage takes them together.
  */
 static void
 loader_read_pages(Relation relation, SpRequest *some, int count)
@@ -82,8 +72,7 @@ loader_read_pages(Relation relation, SpRequest *some, int count)
 			continue;
 		}
 		reading = &some[i];
-		ReleaseBuffer(ReadBufferExtended(relation, fork, block, RBM_NORMAL,
-										 NULL));
+		ReleaseBuffer(ReadBufferExtended(relation, fork, block, RBM_NORMAL, NULL));
 		some[i].outcome = SP_LOADED;
 		reading = NULL;
 		CHECK_FOR_INTERRUPTS();
@@ -129,8 +118,8 @@ loader_log_error(const ErrorData *error, bool cancelled, const SpPage *page)
 			(errcode(error->sqlerrcode),
 			 errmsg("standby_prewarm could not read a page: %s", error->message),
 			 errdetail("It is block %u of fork %d of file %u in tablespace %u and database %u.",
-					   page->block, page->device.fork, page->file,
-					   page->device.space, page->device.database)));
+					   page->block, page->device.fork, page->file, page->device.space,
+					   page->device.database)));
 }
 
 /* The same, where an error costs these pages and nothing else. */
@@ -165,8 +154,7 @@ loader_try_file(SpRequest *some, int count)
 			rest = SP_BUSY;
 		else if (reading != NULL || cancelled)
 			rest = SP_WAITING;
-		loader_log_error(error, cancelled,
-						 reading != NULL ? &reading->page : &some->page);
+		loader_log_error(error, cancelled, reading != NULL ? &reading->page : &some->page);
 		FreeErrorData(error);
 	}
 	PG_END_TRY();
@@ -184,8 +172,7 @@ loader_is_needed(void)
 	bool		needed;
 
 	LWLockAcquire(sp_shared->lock, LW_SHARED);
-	needed = sp_shared->epoch == epoch &&
-		(sp_shared->is_warming || RecoveryInProgress());
+	needed = sp_shared->epoch == epoch && (sp_shared->stats.is_warming || RecoveryInProgress());
 	LWLockRelease(sp_shared->lock);
 	return needed;
 }
@@ -200,7 +187,7 @@ loader_read_batch(uint32 count)
 	{
 		next = i + 1;
 		while (next < count && next - i < PAGES_A_LOCK &&
-			   loader_same_file(&batch[i], &batch[next]))
+			   memcmp(&batch[i].page, &batch[next].page, offsetof(SpPage, block)) == 0)
 			next++;
 		CHECK_FOR_INTERRUPTS();
 		loader_try_file(&batch[i], next - i);
@@ -211,14 +198,16 @@ loader_read_batch(uint32 count)
 static uint32
 loader_take_batch(void)
 {
-	bool		has_batch;
+	uint32		count = 0;
 
 	LWLockAcquire(sp_shared->lock, LW_SHARED);
-	has_batch = sp_shared->epoch == epoch && slot->state == SP_SLOT_FULL;
-	if (has_batch)
-		memcpy(batch, slot->pages, slot->count * sizeof(SpRequest));
+	if (sp_shared->epoch == epoch && slot->state == SP_SLOT_FULL)
+	{
+		count = slot->count;
+		memcpy(batch, slot->pages, count * sizeof(SpRequest));
+	}
 	LWLockRelease(sp_shared->lock);
-	return has_batch ? slot->count : 0;
+	return count;
 }
 
 static void
@@ -235,23 +224,8 @@ loader_give_outcomes(uint32 count, uint64 took_us)
 }
 
 /*
- * Whether to wait for a further batch.  A primary's loader does not: DROP
- * DATABASE waits for a while until nobody is connected.
- */
-static bool
-loader_stays(int idle)
-{
-	bool		stays;
-
-	LWLockAcquire(sp_shared->lock, LW_SHARED);
-	stays = idle < IDLE_TURNS && !sp_shared->others_wait;
-	LWLockRelease(sp_shared->lock);
-	return stays && RecoveryInProgress();
-}
-
-/*
- * Gives the slot back.  Where the loader could not connect its batch stays, by
- * which the worker sees it, and so do outcomes that were not read yet.
+ * Gives the slot back.  Where the loader could not connect its batch stays, by which the worker
+ * sees it, and so do outcomes that were not read yet.
  */
 static void
 loader_release_slot(int code, Datum arg)
@@ -260,7 +234,7 @@ loader_release_slot(int code, Datum arg)
 	if (sp_shared->epoch == epoch)
 	{
 		slot->latch = NULL;
-		if (slot->was_connected && slot->state != SP_SLOT_DONE)
+		if (is_connected && slot->state != SP_SLOT_DONE)
 			slot->state = SP_SLOT_IDLE;
 		slot->database = InvalidOid;	/* it gets no further batch */
 	}
@@ -285,29 +259,22 @@ loader_begin(int number)
 		proc_exit(0);			/* the slot is another's by now */
 	/* A catalog that is locked is waited for no longer than this. */
 	SetConfigOption("lock_timeout", LOCK_TIMEOUT_MS, PGC_SUSET, PGC_S_OVERRIDE);
-	BackgroundWorkerInitializeConnectionByOid(database, InvalidOid,
-											  BGWORKER_BYPASS_ALLOWCONN);
-	LWLockAcquire(sp_shared->lock, LW_EXCLUSIVE);
-	if (sp_shared->epoch == epoch)
-		slot->was_connected = true;
-	LWLockRelease(sp_shared->lock);
+	BackgroundWorkerInitializeConnectionByOid(database, InvalidOid, BGWORKER_BYPASS_ALLOWCONN);
+	is_connected = true;
 }
 
 void
 standby_prewarm_loader_main(Datum main_arg)
 {
-	int			idle = 0;
-
 	pqsignal(SIGTERM, die);
 	pqsignal(SIGHUP, SignalHandlerForConfigReload);
 	BackgroundWorkerUnblockSignals();
 	loader_begin(DatumGetInt32(main_arg));
-	while (loader_is_needed())
+	for (int idle = 1; loader_is_needed(); idle++)
 	{
 		uint32		count = loader_take_batch();
 		uint64		begun = sp_us();
 
-		idle++;
 		if (count > 0)
 		{
 			pgstat_report_activity(STATE_RUNNING, "standby_prewarm reads pages");
@@ -317,7 +284,8 @@ standby_prewarm_loader_main(Datum main_arg)
 			(void) pgstat_report_stat(false);
 			idle = 0;
 		}
-		if (!loader_stays(idle))
+		/* a primary's does not stay: DROP DATABASE waits for it */
+		if (idle == IDLE_TURNS || sp_shared->stats.others_wait || !RecoveryInProgress())
 			break;
 		(void) sp_wait(IDLE_MS);
 	}

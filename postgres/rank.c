@@ -2,10 +2,9 @@
  * rank.c
  *		Which pages a standby wants, has, touches and loads.
  *
- * A round ranks the history, looks which of the pages are in the buffers, and
- * goes through them, the hottest first.  One that is resident gets a usage
- * count by its rank, below the lock of its descriptor: no page is pinned.  One
- * that is missing goes to the loader of its database.
+ * A round ranks the history, looks which of the pages are in the buffers, and goes through them,
+ * the hottest first.  One that is resident is touched.  One that is missing goes to the loader of
+ * its database.
  */
 #include "postgres.h"
 
@@ -43,7 +42,7 @@ static MemoryContext ranking = NULL;
 static warm_page *listed;		/* the hottest first */
 static Size listed_count,
 			listed_room;
-static int64 listed_frames,
+static int64 listed_messages,
 			listed_resets;		/* of the history that was ranked */
 static uint32 *places;			/* a hash table: ranks plus 1; 0 is free */
 static uint64 places_mask;
@@ -56,37 +55,22 @@ typedef struct Slot
 	Oid			database;		/* InvalidOid: the slot is vacant */
 	Oid			left_by;		/* the database whose loader ended last */
 	bool		takes;			/* it gets pages in this round */
-	uint32		count;			/* that it has got */
 } Slot;
 
 static Slot slots[SP_MOST_LOADERS];
 static Oid	resident_database;	/* one that had a page in a buffer in the round before */
-static bool others_wait;		/* a database has found no slot */
-static bool others_waited;		/* in the round before */
+static bool others_waited;		/* in the round before a database has found no slot */
 
 static void
 rank_forget_unloadable(void)
 {
-	HASHCTL		control = {0};
+	HASHCTL		control = {.keysize = sizeof(SpPage), .entrysize = sizeof(Unloadable),
+	.hcxt = TopMemoryContext};
 
-	control.keysize = sizeof(SpPage);
-	control.entrysize = sizeof(Unloadable);
-	control.hcxt = TopMemoryContext;
 	if (unloadable != NULL)
 		hash_destroy(unloadable);
 	unloadable = hash_create("standby_prewarm unloadable pages", 256, &control,
 							 HASH_ELEM | HASH_BLOBS | HASH_CONTEXT);
-}
-
-static void
-rank_leave_alone(const SpPage *page, uint64 us)
-{
-	Unloadable *entry;
-
-	if (hash_get_num_entries(unloadable) >= MOST_UNLOADABLE)
-		rank_forget_unloadable();
-	entry = hash_search(unloadable, page, HASH_ENTER, NULL);
-	entry->until = round_at + us;
 }
 
 /* Whether a page is left alone, or its file, or its device. */
@@ -113,40 +97,33 @@ rank_is_unloadable(const SpPage *page)
 }
 
 /*
- * Leaves the devices of a batch alone: nobody can load those of its database.  Those of
- * shared catalogs go to another loader soon.
+ * Notes what a loader read of its batch, and what it could not read.  Where it took no batch, it
+ * could not connect, and nobody can load its database; what is of shared catalogs goes to another
+ * loader soon.
  */
 static void
-rank_leave_batch_alone(int i)
+rank_note_batch(const SpLoader *loader, bool is_taken)
 {
-	const SpLoader *loader = &sp_shared->loaders[i];
-
-	for (uint32 k = 0; k < loader->count; k++)
-	{
-		SpPage		key = loader->pages[k].page;
-
-		key.file = InvalidOid;
-		key.block = InvalidBlockNumber;
-		rank_leave_alone(&key, OidIsValid(key.device.database) ? FORGIVE_US : BUSY_US);
-	}
-}
-
-/* Notes what a loader read, and what it could not read. */
-static void
-rank_note_outcomes(const SpLoader *loader)
-{
-	sp_stats.read_us += loader->took_us;
+	sp_stats.read_us += is_taken ? loader->took_us : 0;
 	for (uint32 i = 0; i < loader->count; i++)
 	{
-		uint8		outcome = loader->pages[i].outcome;
 		SpPage		key = loader->pages[i].page;
+		Unloadable *entry;
+		uint8		outcome = is_taken ? loader->pages[i].outcome :
+			OidIsValid(key.device.database) ? SP_NO_DATABASE : SP_BUSY;
 
 		sp_stats.pages_read += outcome == SP_LOADED;
 		sp_stats.pages_failed += outcome == SP_FAILED;
-		if (outcome == SP_NO_FILE || outcome == SP_BUSY)
+		if (outcome < SP_BUSY)
+			continue;
+		if (outcome == SP_NO_DATABASE)
+			key.file = InvalidOid;
+		if (outcome <= SP_NO_DATABASE)
 			key.block = InvalidBlockNumber;
-		if (outcome >= SP_BUSY)
-			rank_leave_alone(&key, outcome == SP_BUSY ? BUSY_US : FORGIVE_US);
+		if (hash_get_num_entries(unloadable) >= MOST_UNLOADABLE)
+			rank_forget_unloadable();
+		entry = hash_search(unloadable, &key, HASH_ENTER, NULL);
+		entry->until = round_at + (outcome == SP_BUSY ? BUSY_US : FORGIVE_US);
 	}
 }
 
@@ -163,7 +140,6 @@ rank_clear_slot(int i, bool ended)
 	{
 		slots[i].left_by = slots[i].database;
 		slots[i].database = loader->database = InvalidOid;
-		loader->was_connected = false;
 		loader->latch = NULL;
 	}
 	LWLockRelease(sp_shared->lock);
@@ -185,12 +161,12 @@ sp_rank_reset(void)
 	round_at = sp_us();
 	load_allowance = 0;
 	is_warm = false;
+	sp_stats.wanted = sp_stats.resident = sp_stats.unloadable = 0;
 }
 
 /*
- * Notes what the loader of a slot answered, and whether the slot takes pages.
- * A batch is the worker's but while its slot is full.  Where a loader ended
- * without having connected, its pages are left alone.
+ * Notes what the loader of a slot answered, and whether the slot takes pages.  A batch is the
+ * worker's but while its slot is full.
  */
 static void
 rank_open_slot(int i)
@@ -200,8 +176,7 @@ rank_open_slot(int i)
 	bool		ended = false;
 	pid_t		pid;
 
-	if (slots[i].handle != NULL &&
-		GetBackgroundWorkerPid(slots[i].handle, &pid) == BGWH_STOPPED)
+	if (slots[i].handle != NULL && GetBackgroundWorkerPid(slots[i].handle, &pid) == BGWH_STOPPED)
 	{
 		pfree(slots[i].handle);
 		slots[i].handle = NULL;
@@ -210,21 +185,19 @@ rank_open_slot(int i)
 	LWLockAcquire(sp_shared->lock, LW_SHARED);
 	state = loader->state;
 	LWLockRelease(sp_shared->lock);
-	if (state == SP_SLOT_DONE)
-		rank_note_outcomes(loader);
-	else if (ended && !loader->was_connected)
-		rank_leave_batch_alone(i);
-	if (state == SP_SLOT_DONE || ended)
-		rank_clear_slot(i, ended);
 	slots[i].takes = state != SP_SLOT_FULL || ended;
-	slots[i].count = 0;
+	if (!slots[i].takes)
+		return;
+	if (state != SP_SLOT_IDLE)
+		rank_note_batch(loader, state == SP_SLOT_DONE);
+	rank_clear_slot(i, ended);
 }
 
 /*
- * The slot of a database, or one that is vacant; else NO_SLOT.  Where databases wait,
- * one does not get the slot again that it has just left: NOT_AGAIN, for a round.  It
- * does not wait then, else it would be kept away for ever where no other comes.
- * Pages of shared catalogs (of no database) may go to any loader.
+ * The slot of a database, or one that is vacant; else NO_SLOT.  Where databases wait, one does not
+ * get the slot again that it has just left: NOT_AGAIN, for a round.  It does not wait then, else it
+ * would be kept away for ever where no other comes.  Pages of shared catalogs (of no database) may
+ * go to any loader.
  */
 static int
 rank_slot_of(Oid database)
@@ -249,26 +222,25 @@ rank_hand_out(const SpPage *page)
 {
 	Oid			database = page->device.database;
 	int			i = rank_slot_of(database);
-	SpRequest  *request;
+	SpLoader   *loader;
 
 	if (i == NO_SLOT)
-		others_wait |= OidIsValid(database);
+		sp_stats.others_wait |= OidIsValid(database);
 	if (i < 0 || !slots[i].takes)
 		return false;
 	if (!OidIsValid(slots[i].database))
 		slots[i].database = OidIsValid(database) ? database : resident_database;
-	if (!OidIsValid(slots[i].database))
+	loader = &sp_shared->loaders[i];
+	if (!OidIsValid(slots[i].database) || loader->count == SP_BATCH)
 		return false;
-	request = &sp_shared->loaders[i].pages[slots[i].count++];
-	request->page = *page;
-	request->outcome = SP_WAITING;
-	slots[i].takes = slots[i].count < SP_BATCH;
+	loader->pages[loader->count].page = *page;
+	loader->pages[loader->count++].outcome = SP_WAITING;
 	return true;
 }
 
 /*
- * Whether there is a folder of the database: else a loader would fail.  Pages of shared
- * catalogs alone go to a database that is there.
+ * Whether there is a folder of the database: else a loader would fail.  Pages of shared catalogs
+ * alone go to a database that is there.
  */
 static bool
 rank_has_database(const SpLoader *loader)
@@ -297,8 +269,7 @@ rank_start_loader(int i)
 	BackgroundWorker worker;
 	bool		started;
 
-	sp_describe_worker(&worker, "standby_prewarm_loader_main",
-					   "standby_prewarm loader");
+	sp_describe_worker(&worker, "standby_prewarm_loader_main", "standby_prewarm loader");
 	worker.bgw_restart_time = BGW_NEVER_RESTART;
 	worker.bgw_main_arg = Int32GetDatum(i);
 	memcpy(worker.bgw_extra, &sp_shared->epoch, sizeof sp_shared->epoch);
@@ -325,7 +296,6 @@ rank_send_batch(int i)
 	if (sent)
 	{
 		loader->database = slots[i].database;
-		loader->count = slots[i].count;
 		loader->state = SP_SLOT_FULL;
 		if (loader->latch != NULL)
 			SetLatch(loader->latch);
@@ -334,7 +304,7 @@ rank_send_batch(int i)
 	if (!sent || !starts)
 		return;
 	if (!rank_has_database(loader))
-		rank_leave_batch_alone(i);
+		rank_note_batch(loader, false);
 	else if (rank_start_loader(i))
 		return;
 	rank_clear_slot(i, true);
@@ -344,35 +314,21 @@ rank_send_batch(int i)
 static Size
 rank_most_wanted(void)
 {
-	double		fraction = sp_warming ? 1.0 : sp_fraction;
+	double		fraction = sp_stats.is_warming ? 1.0 : sp_fraction;
 
-	return Min((Size) (fraction * NBuffers),
-			   (Size) Max(NBuffers - BUFFERS_OF_REPLAY, 0));
-}
-
-static inline uint64
-rank_hash(warm_page page)
-{
-	return ((page.no * 31 + page.dev + 1) * UINT64CONST(0x9e3779b97f4a7c15)) >> 31;
+	return Min((Size) (fraction * NBuffers), (Size) Max(NBuffers - BUFFERS_OF_REPLAY, 0));
 }
 
 /* Where a page has its place in the table, or may have it. */
 static inline uint32 *
 rank_place_of(warm_page page)
 {
-	uint64		at = rank_hash(page) & places_mask;
+	uint64		at = (page.no * 31 + page.dev + 1) * UINT64CONST(0x9e3779b97f4a7c15) >> 31;
 
-	while (places[at] != 0 && (listed[places[at] - 1].no != page.no ||
-							   listed[places[at] - 1].dev != page.dev))
-		at = (at + 1) & places_mask;
+	for (at &= places_mask; places[at] != 0; at = (at + 1) & places_mask)
+		if (listed[places[at] - 1].no == page.no && listed[places[at] - 1].dev == page.dev)
+			break;
 	return &places[at];
-}
-
-static void *
-rank_allocate(Size count, Size size)
-{
-	return MemoryContextAllocExtended(ranking, Max(count, 1) * size,
-									  MCXT_ALLOC_HUGE | MCXT_ALLOC_ZERO);
 }
 
 /* Lists the hottest pages, where the history has changed since the last time. */
@@ -381,21 +337,23 @@ rank_list_pages(void)
 {
 	Size		room = Min(rank_most_wanted() * 2, (Size) sp_stats.known);
 
-	if (listed != NULL && room == listed_room &&
-		sp_stats.frames_received == listed_frames &&
-		sp_stats.resets == listed_resets)
+	if (listed != NULL && room == listed_room && sp_stats.resets == listed_resets &&
+		sp_stats.messages_received == listed_messages)
 		return;
 	MemoryContextReset(ranking);
 	listed = NULL;
-	listed = rank_allocate(room, sizeof(warm_page));
-	listed_count = sp_history_list(listed, room);
+	listed = MemoryContextAllocHuge(ranking, room * sizeof(warm_page));
+	listed_count = 0;
+	if (room > 0)
+		sp_note(warm_list(&sp_history, listed, room, &listed_count), "a ranking");
 	places_mask = pg_nextpower2_64(Max(listed_count, 1) * 2) - 1;
-	places = rank_allocate(places_mask + 1, sizeof(uint32));
-	buffers = rank_allocate(listed_count, sizeof(int));
+	places = MemoryContextAllocExtended(ranking, (places_mask + 1) * sizeof(uint32),
+										MCXT_ALLOC_HUGE | MCXT_ALLOC_ZERO);
+	buffers = MemoryContextAllocHuge(ranking, listed_count * sizeof(int));
 	for (Size i = 0; i < listed_count; i++)
 		*rank_place_of(listed[i]) = (uint32) i + 1;
 	listed_room = room;
-	listed_frames = sp_stats.frames_received;
+	listed_messages = sp_stats.messages_received;
 	listed_resets = sp_stats.resets;
 	sp_stats.rankings++;
 }
@@ -404,7 +362,7 @@ rank_list_pages(void)
 static void
 rank_find_buffers(void)
 {
-	memset(buffers, 0, sizeof(int) * Max(listed_count, 1));
+	memset(buffers, 0, listed_count * sizeof(int));
 	for (int i = 0; i < NBuffers; i++)
 	{
 		BufferTag	tag;
@@ -434,8 +392,7 @@ rank_touch_buffer(int buffer, const SpPage *page, uint32 usage)
 	state = LockBufHdr(descriptor);
 	if (BUF_STATE_GET_USAGECOUNT(state) < usage && (state & BM_VALID) != 0 &&
 		tag->blockNum == page->block && TagFile(tag) == page->file &&
-		tag->forkNum == page->device.fork &&
-		TagDatabase(tag) == page->device.database &&
+		tag->forkNum == page->device.fork && TagDatabase(tag) == page->device.database &&
 		TagSpace(tag) == page->device.space)
 	{
 		state += (usage - BUF_STATE_GET_USAGECOUNT(state)) * BUF_USAGECOUNT_ONE;
@@ -445,9 +402,8 @@ rank_touch_buffer(int buffer, const SpPage *page, uint32 usage)
 }
 
 /*
- * Goes through the wanted pages, the hottest first, touches those that are
- * resident, and hands out those that are missing.  A touch of a primary's would
- * be a reference at its next sample.
+ * Goes through the wanted pages, the hottest first, touches those that are resident, and hands out
+ * those that are missing.  A touch of a primary's would be a reference at its next sample.
  */
 static void
 rank_visit_pages(void)
@@ -471,7 +427,7 @@ rank_visit_pages(void)
 			sp_stats.resident++;
 			if (OidIsValid(page.device.database))
 				resident = page.device.database;
-			if (sp_load && !sp_warming)
+			if (sp_load && !sp_stats.is_warming)
 				rank_touch_buffer(buffers[i] - 1, &page,
 								  wanted < part ? 3 : wanted < part * 2 ? 2 : 1);
 		}
@@ -486,15 +442,8 @@ rank_visit_pages(void)
 	}
 	resident_database = resident;
 	/* One that lacks a part of its primary's history wants that part, too. */
-	sp_stats.wanted = Min((int64) most, (int64) wanted +
-						  Max(sp_stats.primary_known - sp_stats.known, 0));
-}
-
-/* How many pages may be read in a second: by default a hundredth of the buffers. */
-static double
-rank_load_rate(void)
-{
-	return sp_load_rate >= 0 ? sp_load_rate : Max(LEAST_RATE, NBuffers / 100);
+	sp_stats.wanted = Min((int64) most,
+						  (int64) wanted + Max(sp_stats.primary_known - sp_stats.known, 0));
 }
 
 /* Says once that a standby is warm, and again where it was not for a while. */
@@ -502,15 +451,13 @@ static void
 rank_note_warmth(void)
 {
 	double		share = is_warm ? 0.9 : 0.99;
-	bool		now = sp_stats.wanted > 0 &&
-		sp_stats.resident >= sp_stats.wanted * share;
+	bool		now = sp_stats.wanted > 0 && sp_stats.resident >= sp_stats.wanted * share;
 
-	if (now && !is_warm && sp_last_frame != 0 && !sp_warming &&
+	if (now && !is_warm && sp_stats.last_message != 0 && !sp_stats.is_warming &&
 		sp_may_log(SP_FAULT_WARM))
 		ereport(LOG,
 				(errmsg("standby_prewarm is warm: " INT64_FORMAT " of " INT64_FORMAT
-						" wanted pages are resident",
-						sp_stats.resident, sp_stats.wanted)));
+						" wanted pages are resident", sp_stats.resident, sp_stats.wanted)));
 	is_warm = now;
 }
 
@@ -520,26 +467,23 @@ sp_round(void)
 {
 	uint64		begun = sp_us();
 	double		passed = (begun - round_at) / 1e6;
-	double		rate = rank_load_rate();
+	double		rate = sp_load_rate >= 0 ? sp_load_rate : Max(LEAST_RATE, NBuffers / 100);
 
 	round_at = begun;
 	load_allowance = Min(load_allowance + passed * rate,
 						 Max(2.0 * rate * sp_load_interval / 1000, 1));
-	others_waited = others_wait;
-	others_wait = false;
+	others_waited = sp_stats.others_wait;
+	sp_stats.others_wait = false;
 	for (int i = 0; i < sp_shared->loader_count; i++)
 		rank_open_slot(i);
 	rank_list_pages();
 	rank_find_buffers();
 	rank_visit_pages();
 	for (int i = 0; i < sp_shared->loader_count; i++)
-		if (slots[i].count > 0)
+		if (slots[i].takes && sp_shared->loaders[i].count > 0)
 			rank_send_batch(i);
-	LWLockAcquire(sp_shared->lock, LW_EXCLUSIVE);
-	sp_shared->others_wait = others_wait;
-	LWLockRelease(sp_shared->lock);
 	rank_note_warmth();
 	sp_stats.rounds++;
 	sp_stats.round_us = sp_us() - begun;
-	sp_last_round = GetCurrentTimestamp();
+	sp_stats.last_round = GetCurrentTimestamp();
 }

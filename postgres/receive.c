@@ -2,12 +2,9 @@
  * receive.c
  *		Messages out of the WAL of a standby.
  *
- * The worker reads the WAL that was replayed, from pg_wal, by an XLogReader of
- * its own.  One that starts on a primary reads what was written since its
- * history was saved: what a crash or a promotion left there.  Nothing is hooked,
- * so no message makes replay wait or fail.  Where a segment is gone, or a record
- * cannot be read, it goes on at the end of what was replayed, and counts the
- * bytes that it skipped.
+ * The worker reads the WAL that was replayed, from pg_wal, so no message makes replay wait or fail.
+ * One that starts on a primary reads what was written since its history was saved.  Where a segment
+ * is gone, or a record cannot be read, it goes on at the end, and counts the bytes that it skipped.
  */
 #include "postgres.h"
 
@@ -23,14 +20,13 @@
 /* Most WAL that one turn reads, so that other work gets its turn too. */
 #define BYTES_A_TURN	(16 * 1024 * 1024)
 
-static MemoryContext reader_context = NULL;
 static XLogReaderState *reader = NULL;
-static int	segment = -1;
-static XLogSegNo segment_number;
-static TimeLineID segment_timeline;
-static XLogRecPtr position;		/* where the next record begins */
+static char segment_path[MAXPGPATH];	/* of the segment that was looked for last */
 static XLogRecPtr own_end;		/* of the WAL that a primary begins with; of a standby invalid */
 static TimeLineID own_timeline;
+
+/* Up to where messages were taken in; invalid where none are. */
+XLogRecPtr	sp_received = InvalidXLogRecPtr;
 
 /* Where WAL ends for now: a standby's at what was replayed. */
 static XLogRecPtr
@@ -42,33 +38,22 @@ wal_end(TimeLineID *timeline)
 	return own_end;
 }
 
+/* Opens a segment for WALRead, which wants a file: for one that is gone an empty one. */
 static void
-close_segment(void)
+open_segment(XLogReaderState *state, XLogSegNo number, TimeLineID *timeline)
 {
-	if (segment >= 0)
-		close(segment);
-	segment = -1;
-}
+	char		partial[MAXPGPATH];
+	int			fd;
 
-static bool
-open_segment(XLogSegNo number, TimeLineID timeline)
-{
-	char		path[MAXPGPATH];
-
-	if (segment >= 0 && segment_number == number && segment_timeline == timeline)
-		return true;
-	close_segment();
-	XLogFilePath(path, timeline, number, wal_segment_size);
-	segment = BasicOpenFile(path, O_RDONLY | PG_BINARY);
-	if (segment < 0 && errno == ENOENT)
+	XLogFilePath(segment_path, *timeline, number, wal_segment_size);
+	fd = BasicOpenFile(segment_path, O_RDONLY | PG_BINARY);
+	if (fd < 0 && errno == ENOENT)
 	{
 		/* A promotion renames the last segment of the timeline before it. */
-		strlcat(path, ".partial", sizeof path);
-		segment = BasicOpenFile(path, O_RDONLY | PG_BINARY);
+		snprintf(partial, sizeof partial, "%s.partial", segment_path);
+		fd = BasicOpenFile(partial, O_RDONLY | PG_BINARY);
 	}
-	segment_number = number;
-	segment_timeline = timeline;
-	return segment >= 0;
+	state->seg.ws_file = fd >= 0 ? fd : BasicOpenFile(DEVNULL, O_RDONLY | PG_BINARY);
 }
 
 /* Reads a page of WAL, as far as there is any.  A segment that is gone is no error. */
@@ -77,96 +62,70 @@ read_page(XLogReaderState *state, XLogRecPtr page, int wanted, XLogRecPtr record
 {
 	TimeLineID	timeline;
 	XLogRecPtr	end = wal_end(&timeline);
-	XLogSegNo	number;
-	int			length = XLOG_BLCKSZ;
+	WALReadError error;
+	int			length;
 
 	if (page + wanted > end)
 		return -1;
-	if (page + XLOG_BLCKSZ > end)
-		length = (int) (end - page);
+	length = (int) Min(XLOG_BLCKSZ, end - page);
 	XLogReadDetermineTimeline(state, page, wanted, timeline);
-	XLByteToSeg(page, number, wal_segment_size);
-	if (!open_segment(number, state->currTLI) ||
-		pg_pread(segment, into, length, XLogSegmentOffset(page, wal_segment_size)) != length)
-		return -1;
-	state->seg.ws_tli = state->currTLI;
-	return length;
+	return WALRead(state, into, page, length, state->currTLI, &error) ? length : -1;
 }
 
 /*
- * Begins with the WAL from a place on.  A standby goes on with what is replayed;
- * of a primary it is what was written before its worker started.
+ * Begins with the WAL from a place on.  A standby goes on with what is replayed; of a primary it is
+ * what was written before its worker started.
  */
 void
 sp_receive_start(XLogRecPtr from, bool is_standby)
 {
-	MemoryContext old;
+	MemoryContext old = MemoryContextSwitchTo(TopMemoryContext);
 
 	sp_receive_stop();
-	reader_context = AllocSetContextCreate(TopMemoryContext, "standby_prewarm WAL reader",
-										   ALLOCSET_DEFAULT_SIZES);
-	old = MemoryContextSwitchTo(reader_context);
-	reader = XLogReaderAllocate(wal_segment_size, NULL, XL_ROUTINE(.page_read = read_page), NULL);
+	reader = XLogReaderAllocate(wal_segment_size, NULL,
+								XL_ROUTINE(.page_read = read_page, .segment_open = open_segment,
+										   .segment_close = wal_segment_close), NULL);
 	MemoryContextSwitchTo(old);
 	if (reader == NULL)
 		ereport(ERROR, (errcode(ERRCODE_OUT_OF_MEMORY), errmsg("out of memory")));
 	own_end = is_standby ? InvalidXLogRecPtr : GetFlushRecPtr(&own_timeline);
-	position = from;
-	XLogBeginRead(reader, position);
-}
-
-/* Up to where messages were taken in; invalid where none are. */
-XLogRecPtr
-sp_receive_position(void)
-{
-	return reader != NULL ? position : InvalidXLogRecPtr;
+	sp_received = from;
+	XLogBeginRead(reader, from);
 }
 
 void
 sp_receive_stop(void)
 {
-	if (reader_context != NULL)
-		MemoryContextDelete(reader_context);
-	reader_context = NULL;
+	if (reader != NULL)
+		XLogReaderFree(reader);
 	reader = NULL;
-	close_segment();
+	sp_received = InvalidXLogRecPtr;
 }
 
-static Size
-header_length(const uint8 *bytes)
-{
-	return bytes[0] == 1 ? SP_HEADER_1 : SP_HEADER;
-}
-
-/* What a message is refused for by its header, or WARM_OK. */
+/* What a message is refused for by its header, which is so long, or WARM_OK. */
 static int
-header_status(const uint8 *bytes, Size length)
+header_status(const uint8 *bytes, Size length, Size header, uint64 limit)
 {
 	if (length < SP_HEADER_1)
 		return SP_BAD_MESSAGE;
 	if (bytes[0] != SP_MESSAGE_VERSION && bytes[0] != SP_MESSAGE_VERSION - 1)
 		return SP_BAD_VERSION;
-	if (length < header_length(bytes))
+	if (length < header || (bytes[1] != SP_MESSAGE_HISTORY && bytes[1] != SP_MESSAGE_DIRECTORY) ||
+		(header == SP_HEADER && sp_get(bytes + SP_HEADER_1, 8) > SP_MOST_KNOWN))
 		return SP_BAD_MESSAGE;
-	if (bytes[1] != SP_MESSAGE_FRAME && bytes[1] != SP_MESSAGE_DIRECTORY)
-		return SP_BAD_MESSAGE;
-	if (header_length(bytes) == SP_HEADER && sp_get(bytes + SP_HEADER_1, 8) > SP_MOST_KNOWN)
-		return SP_BAD_MESSAGE;
-	if (sp_get(bytes + 2, 8) > (uint64) GetCurrentTimestamp() + sp_clock_tolerance * US_PER_S)
-		return SP_LATE_MESSAGE;
-	return WARM_OK;
+	return sp_get(bytes + 2, 8) > limit ? SP_LATE_MESSAGE : WARM_OK;
 }
 
 /*
- * Takes in a message: the bytes behind the prefix.  A device number that was
- * given twice says that two primaries gave them: the later one is believed.
+ * Takes in a message: the bytes behind the prefix.  A device number that was given twice says that
+ * two primaries gave them: the later one is believed.
  */
 static void
 take_message(const uint8 *bytes, Size length)
 {
-	int			status = header_status(bytes, length);
-	Size		header = status == WARM_OK ? header_length(bytes) : 0;
-	uint64		time;
+	uint64		limit = sp_time_limit();
+	Size		header = length > 0 && bytes[0] == 1 ? SP_HEADER_1 : SP_HEADER;
+	int			status = header_status(bytes, length, header, limit);
 
 	if (status == WARM_OK && bytes[1] == SP_MESSAGE_DIRECTORY)
 	{
@@ -177,13 +136,17 @@ take_message(const uint8 *bytes, Size length)
 			(void) sp_directory_decode(bytes + header, length - header);
 		}
 	}
-	else if (status == WARM_OK && sp_history_receive(bytes + header, length - header) == WARM_OK)
+	else if (status == WARM_OK)
 	{
-		time = sp_get(bytes + 2, 8);
-		sp_latest = Max(sp_latest, time);
-		sp_last_frame = Max(sp_last_frame, (TimestampTz) time);
-		sp_stats.primary_known = header == SP_HEADER ? sp_get(bytes + SP_HEADER_1, 8) : -1;
-		sp_stats.frames_received++;
+		warm_limit(&sp_history, limit);
+		status = warm_receive(&sp_history, bytes + header, length - header);
+		if (status == WARM_OK)
+		{
+			sp_stats.last_message = Max(sp_stats.last_message, (TimestampTz) sp_get(bytes + 2, 8));
+			sp_latest = Max(sp_latest, sp_get(bytes + 2, 8));
+			sp_stats.primary_known = header == SP_HEADER ? sp_get(bytes + SP_HEADER_1, 8) : -1;
+			sp_stats.messages_received++;
+		}
 	}
 	(void) sp_note(status, "a message of its primary");
 }
@@ -205,23 +168,17 @@ look_at_record(void)
 	take_message((const uint8 *) message->message + sizeof SP_NAME, message->message_size);
 }
 
-/*
- * Warns that WAL is skipped up to end, for what the reader says: it says nothing
- * of a file that is gone.
- */
+/* Warns that WAL is skipped up to end, for what the reader says: nothing of a file that is gone. */
 static void
 log_skipped(XLogRecPtr end, const char *why)
 {
-	char		path[MAXPGPATH];
-
 	if (!sp_may_log(SP_FAULT_WAL))
 		return;
-	XLogFilePath(path, segment_timeline, segment_number, wal_segment_size);
 	/* A crash or a promotion is followed by a checkpoint, after which WAL is recycled. */
 	ereport(XLogRecPtrIsInvalid(own_end) ? WARNING : LOG,
 			(errcode(why != NULL ? ERRCODE_DATA_CORRUPTED : ERRCODE_UNDEFINED_FILE),
 			 errmsg("standby_prewarm skipped WAL from %X/%X to %X/%X, last of file \"%s\": %s",
-					LSN_FORMAT_ARGS(position), LSN_FORMAT_ARGS(end), path,
+					LSN_FORMAT_ARGS(sp_received), LSN_FORMAT_ARGS(end), segment_path,
 					why != NULL ? why : "it is gone"),
 			 errdetail("What was published in it is known once it is published or referenced again.")));
 }
@@ -230,12 +187,12 @@ log_skipped(XLogRecPtr end, const char *why)
 bool
 sp_receive(void)
 {
-	XLogRecPtr	begun = position;
+	XLogRecPtr	begun = sp_received;
 	TimeLineID	timeline;
 	XLogRecPtr	end = wal_end(&timeline);
-	MemoryContext old = MemoryContextSwitchTo(reader_context);	/* its buffers grow */
+	MemoryContext old = MemoryContextSwitchTo(TopMemoryContext);	/* the reader's buffers grow */
 
-	while (position < end && position - begun < BYTES_A_TURN)
+	while (sp_received < end && sp_received - begun < BYTES_A_TURN)
 	{
 		char	   *message;
 
@@ -243,22 +200,23 @@ sp_receive(void)
 		if (XLogReadRecord(reader, &message) == NULL)
 		{
 			log_skipped(end, message);
-			sp_stats.wal_skipped += end - position;
-			sp_stats.wal_read -= end - position;
-			position = end;
+			sp_stats.wal_skipped += end - sp_received;
+			sp_stats.wal_read -= end - sp_received;
+			sp_received = end;
 			/* A record does not begin at a page, but behind its header. */
 			if (XLogSegmentOffset(end, wal_segment_size) == 0)
-				position += SizeOfXLogLongPHD;
+				sp_received += SizeOfXLogLongPHD;
 			else if (end % XLOG_BLCKSZ == 0)
-				position += SizeOfXLogShortPHD;
-			XLogBeginRead(reader, position);
+				sp_received += SizeOfXLogShortPHD;
+			XLogBeginRead(reader, sp_received);
 			break;
 		}
 		look_at_record();
-		position = reader->EndRecPtr;
+		sp_received = reader->EndRecPtr;
 	}
-	close_segment();			/* one from the archive may take its place */
+	if (reader->seg.ws_file >= 0)
+		wal_segment_close(reader);	/* one from the archive may take its place */
 	MemoryContextSwitchTo(old);
-	sp_stats.wal_read += position - begun;
-	return position < end;
+	sp_stats.wal_read += sp_received - begun;
+	return sp_received < end;
 }

@@ -2,12 +2,8 @@
  * sample.c
  *		References, from the buffer descriptors of a primary.
  *
- * A page is referenced at the time of a sample where it came in since the
- * sample before, or its usage count rose: at most once a sample, which is
- * LRU-2's correlated reference period.  A count at its greatest cannot rise: a
- * page that has it is taken as referenced once a minute, so that the horizon
- * does not forget it, and no sooner: a page that rows were only inserted into
- * has it at once.
+ * A page is referenced at most once a sample, which is LRU-2's correlated reference period.
+ * DESIGN.md says when, and why a count at its greatest is a reference once a minute.
  */
 #include "postgres.h"
 
@@ -28,9 +24,9 @@ static int	next_buffer;		/* where the sample goes on */
 static uint64 cost;				/* of it so far */
 
 /*
- * Reads the tag and the state of a valid buffer, without its lock unless it is
- * locked or changes meanwhile.  One that gets another page and the same state
- * within these few instructions may give a tag of both, which does no harm.
+ * Reads the tag and the state of a valid buffer, without its lock unless it is locked or changes
+ * meanwhile.  One that gets another page and the same state within these few instructions may give
+ * a tag of both, which does no harm.
  */
 bool
 sp_look(int buffer, BufferTag *tag, uint32 *state)
@@ -84,7 +80,7 @@ sample_buffer(int i, uint64 time, bool saturated)
 		mark = hash_bytes_extended((const unsigned char *) &tag, sizeof tag, 0);
 		mark = (mark & ~SEEN_NONE) | BUF_STATE_GET_USAGECOUNT(state);
 		/* While a primary loads pages, one that comes in is not referenced. */
-		is_new = !sp_warming &&
+		is_new = !sp_stats.is_warming &&
 			((before ^ mark) > SEEN_NONE || (before & SEEN_NONE) == SEEN_NONE);
 		is_hotter = ((before ^ mark) <= SEEN_NONE && mark > before) ||
 			(saturated && BUF_STATE_GET_USAGECOUNT(state) == BM_MAX_USAGE_COUNT);
@@ -95,8 +91,8 @@ sample_buffer(int i, uint64 time, bool saturated)
 }
 
 /*
- * Takes a sample; false where much is referenced, and this was a piece of it.
- * Each piece has a time of its own, as what is new since a time may be published.
+ * Takes a sample; false where much is referenced, and this was a piece of it.  Each piece has a
+ * time of its own, as what is new since a time may be published.
  */
 bool
 sp_sample(void)

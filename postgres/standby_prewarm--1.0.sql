@@ -8,14 +8,13 @@ SET LOCAL search_path TO pg_catalog, pg_temp;
 
 CREATE FUNCTION @extschema@.standby_prewarm_status(
     OUT role text, OUT refused bigint, OUT refused_by_name jsonb, OUT loaders integer,
-    OUT last_frame timestamptz, OUT last_round timestamptz, OUT stats_reset timestamptz,
-    OUT known bigint, OUT devices bigint, OUT wanted bigint,
-    OUT resident bigint, OUT unloadable bigint, OUT frames_received bigint, OUT wal_read bigint,
+    OUT last_message timestamptz, OUT stats_reset timestamptz, OUT last_round timestamptz,
+    OUT wanted bigint, OUT resident bigint, OUT unloadable bigint, OUT primary_known bigint,
+    OUT known bigint, OUT devices bigint, OUT messages_received bigint, OUT wal_read bigint,
     OUT wal_skipped bigint, OUT pages_touched bigint, OUT rounds bigint, OUT round_us bigint,
-    OUT samples bigint, OUT sample_us bigint, OUT page_references bigint, OUT frames_sent bigint,
+    OUT samples bigint, OUT sample_us bigint, OUT page_references bigint, OUT messages_sent bigint,
     OUT bytes_sent bigint, OUT saves bigint, OUT save_failures bigint, OUT resets bigint,
-    OUT pages_read bigint, OUT read_us bigint, OUT pages_failed bigint,
-    OUT primary_known bigint, OUT rankings bigint)
+    OUT pages_read bigint, OUT read_us bigint, OUT pages_failed bigint, OUT rankings bigint)
 RETURNS record
 AS 'MODULE_PATHNAME'
 LANGUAGE C STRICT VOLATILE PARALLEL RESTRICTED;
@@ -28,12 +27,12 @@ LANGUAGE C STRICT VOLATILE PARALLEL UNSAFE;
 CREATE VIEW @extschema@.pg_stat_standby_prewarm AS
     SELECT role, known, primary_known, wanted, resident,
            round(100.0 * resident / nullif(wanted, 0), 1) AS percent_warm,
-           clock_timestamp() - last_frame AS last_frame_age,
+           clock_timestamp() - last_message AS last_message_age,
            clock_timestamp() - last_round AS last_round_age,
-           frames_received, refused, refused_by_name, unloadable, loaders, pages_read,
+           messages_received, refused, refused_by_name, unloadable, loaders, pages_read,
            round(read_us / 1000.0, 3) AS read_ms, pages_failed, pages_touched, rounds, rankings,
            round(round_us / 1000.0, 3) AS round_ms, samples,
-           round(sample_us / 1000.0, 3) AS sample_ms, page_references, frames_sent, bytes_sent,
+           round(sample_us / 1000.0, 3) AS sample_ms, page_references, messages_sent, bytes_sent,
            wal_read, wal_skipped, devices, saves, save_failures, resets, stats_reset
     FROM @extschema@.standby_prewarm_status();
 
@@ -42,21 +41,21 @@ COMMENT ON COLUMN @extschema@.pg_stat_standby_prewarm.role IS
 COMMENT ON COLUMN @extschema@.pg_stat_standby_prewarm.known IS
     'pages of the history';
 COMMENT ON COLUMN @extschema@.pg_stat_standby_prewarm.primary_known IS
-    'of a standby: pages that its primary''s history has, as the newest frame says';
+    'of a standby: pages that its primary''s history has, as the newest message says';
 COMMENT ON COLUMN @extschema@.pg_stat_standby_prewarm.wanted IS
     'pages that are to be in the buffers of a standby, or of a primary that has just started; those that the primary knows and this server does not are counted too';
 COMMENT ON COLUMN @extschema@.pg_stat_standby_prewarm.resident IS
     'wanted pages that are in the buffers';
 COMMENT ON COLUMN @extschema@.pg_stat_standby_prewarm.percent_warm IS
     'share of the wanted pages that are in the buffers';
-COMMENT ON COLUMN @extschema@.pg_stat_standby_prewarm.last_frame_age IS
-    'time since the newest frame was written, by this server''s clock';
+COMMENT ON COLUMN @extschema@.pg_stat_standby_prewarm.last_message_age IS
+    'time since the newest message was written, by this server''s clock';
 COMMENT ON COLUMN @extschema@.pg_stat_standby_prewarm.last_round_age IS
     'time since the last round of loading';
-COMMENT ON COLUMN @extschema@.pg_stat_standby_prewarm.frames_received IS
-    'frames of the history that were taken in';
+COMMENT ON COLUMN @extschema@.pg_stat_standby_prewarm.messages_received IS
+    'messages that were taken in, those with numbers of devices not counted';
 COMMENT ON COLUMN @extschema@.pg_stat_standby_prewarm.refused IS
-    'messages, frames and calls of the library that were refused';
+    'messages and calls of the library that were refused';
 COMMENT ON COLUMN @extschema@.pg_stat_standby_prewarm.refused_by_name IS
     'the same by their names';
 COMMENT ON COLUMN @extschema@.pg_stat_standby_prewarm.unloadable IS
@@ -74,7 +73,7 @@ COMMENT ON COLUMN @extschema@.pg_stat_standby_prewarm.pages_touched IS
 COMMENT ON COLUMN @extschema@.pg_stat_standby_prewarm.rounds IS
     'rounds of loading';
 COMMENT ON COLUMN @extschema@.pg_stat_standby_prewarm.rankings IS
-    'rounds for which the history was ranked again, since frames had come';
+    'rounds for which the history was ranked again, since messages had come';
 COMMENT ON COLUMN @extschema@.pg_stat_standby_prewarm.round_ms IS
     'time of the last round';
 COMMENT ON COLUMN @extschema@.pg_stat_standby_prewarm.samples IS
@@ -83,8 +82,8 @@ COMMENT ON COLUMN @extschema@.pg_stat_standby_prewarm.sample_ms IS
     'time of the last sample';
 COMMENT ON COLUMN @extschema@.pg_stat_standby_prewarm.page_references IS
     'references that samples found';
-COMMENT ON COLUMN @extschema@.pg_stat_standby_prewarm.frames_sent IS
-    'messages written into the WAL, directories among them';
+COMMENT ON COLUMN @extschema@.pg_stat_standby_prewarm.messages_sent IS
+    'messages that were written into the WAL, all of them counted';
 COMMENT ON COLUMN @extschema@.pg_stat_standby_prewarm.bytes_sent IS
     'their bytes';
 COMMENT ON COLUMN @extschema@.pg_stat_standby_prewarm.wal_read IS

@@ -25,15 +25,10 @@ PGDLLEXPORT void standby_prewarm_main(Datum main_arg);
 #define PUBLISH_AGAIN_MS 100	/* where more waits */
 #define LOG_AGAIN_US	(300 * US_PER_S)
 
-/* A sample, a publication, a round, a save: each rests nine times as long as it took. */
-#define SHARE			9
+#define SHARE			9		/* what rests, rests so many times as long as it took */
 
 SpShared   *sp_shared = NULL;
 SpStats		sp_stats;
-int64		sp_refused[SP_STATUSES];
-TimestampTz sp_last_frame = 0,
-			sp_last_round = 0;
-bool		sp_warming = false;
 
 bool		sp_enabled,
 			sp_load;
@@ -66,7 +61,7 @@ typedef struct IntSetting
 			   *more;
 } IntSetting;
 
-/* All of them by SIGHUP.  The first four are a primary's; ages, pages and clocks of both. */
+/* All by SIGHUP, but max_loaders.  The first four are a primary's. */
 static const IntSetting int_settings[] = {
 	{&sp_sample_interval, "standby_prewarm.sample_interval", 1000, 10, 3600 * 1000, GUC_UNIT_MS,
 	"Sets the time between two samples of a primary's buffers."},
@@ -90,30 +85,29 @@ static const IntSetting int_settings[] = {
 	{&sp_load_after_start, "standby_prewarm.load_after_start", 300, 0, 86400, GUC_UNIT_S,
 	"Sets for how long a primary that starts loads the pages that it knew."},
 	{&sp_clock_tolerance, "standby_prewarm.clock_tolerance", 600, 1, 7 * 86400, GUC_UNIT_S,
-	"Sets how far ahead of this server's clock a time in a frame is believed."},
+	"Sets how far ahead of this server's clock a time in a message is believed."},
+	{&max_loaders, "standby_prewarm.max_loaders", 4, 1, SP_MOST_LOADERS, 0,
+		"Sets how many databases are loaded at the same time.",
+	"Each loader is one of max_worker_processes."},
 };
 
 static void
 define_settings(void)
 {
-	DefineCustomBoolVariable("standby_prewarm.enabled", "Whether standby_prewarm does anything.", NULL,
-							 &sp_enabled, true, PGC_SIGHUP, 0, NULL, NULL, NULL);
+	DefineCustomBoolVariable("standby_prewarm.enabled", "Whether standby_prewarm does anything.",
+							 NULL, &sp_enabled, true, PGC_SIGHUP, 0, NULL, NULL, NULL);
 	DefineCustomBoolVariable("standby_prewarm.load", "Whether a standby loads pages.", NULL,
 							 &sp_load, true, PGC_SIGHUP, 0, NULL, NULL, NULL);
 	DefineCustomRealVariable("standby_prewarm.fraction",
 							 "Sets the share of shared_buffers that a standby keeps warm.", NULL,
 							 &sp_fraction, 0.5, 0.0, 1.0, PGC_SIGHUP, 0, NULL, NULL, NULL);
-	DefineCustomIntVariable("standby_prewarm.max_loaders",
-							"Sets how many databases are loaded at the same time.",
-							"Each loader is one of max_worker_processes.",
-							&max_loaders, 4, 1, SP_MOST_LOADERS, PGC_POSTMASTER, 0,
-							NULL, NULL, NULL);
 	for (int i = 0; i < lengthof(int_settings); i++)
 	{
 		const IntSetting *s = &int_settings[i];
 
 		DefineCustomIntVariable(s->name, s->what, s->more, s->value, s->usual, s->least, s->most,
-								PGC_SIGHUP, s->unit, NULL, NULL, NULL);
+								s->value == &max_loaders ? PGC_POSTMASTER : PGC_SIGHUP, s->unit,
+								NULL, NULL, NULL);
 	}
 	MarkGUCPrefixReserved(SP_NAME);
 }
@@ -161,7 +155,6 @@ sp_describe_worker(BackgroundWorker *worker, const char *function, const char *n
 	strlcpy(worker->bgw_library_name, SP_NAME, BGW_MAXLEN);
 	strlcpy(worker->bgw_function_name, function, BGW_MAXLEN);
 	strlcpy(worker->bgw_name, name, BGW_MAXLEN);
-	strlcpy(worker->bgw_type, name, BGW_MAXLEN);
 }
 
 /* Waits at most so long, and with 0 not at all; true where the settings may be others then. */
@@ -197,7 +190,6 @@ _PG_init(void)
 	RegisterBackgroundWorker(&worker);
 }
 
-static bool is_standby;
 static XLogRecPtr saved_redo;	/* of the checkpoint at which the history was saved last */
 static uint64 sample_at,
 			publish_at,
@@ -248,54 +240,28 @@ release_worker(int code, Datum arg)
 	LWLockRelease(sp_shared->lock);
 }
 
+/* Begins to sample, once all WAL that is left was read, so that no number is given twice. */
 static void
-begin_role(void)
-{
-	sp_stats.primary_known = -1;
-	if (is_standby)
-		sp_receive_start(GetRedoRecPtr(), true);	/* a restartpoint, whose WAL is kept */
-	else
-	{
-		sp_sample_reset();
-		sp_publish_reset();
-		sp_stats.wanted = sp_stats.resident = sp_stats.unloadable = 0;
-	}
-}
-
-/* Reads all the WAL that is left, so that no number of a device is given twice. */
-static void
-receive_rest(void)
+begin_primary(void)
 {
 	while (sp_enabled && !ShutdownRequestPending && sp_receive())
 		(void) sp_wait(0);		/* which ends the worker where the postmaster has ended */
 	if (!ShutdownRequestPending)
 		sp_receive_stop();
+	sp_stats.primary_known = -1;
+	sp_sample_reset();
+	sp_publish_reset();
 }
 
 /* Up to where the history has what WAL says: all of it, where a primary goes on. */
 static XLogRecPtr
 known_position(void)
 {
-	XLogRecPtr	read = sp_receive_position();
-
-	return !XLogRecPtrIsInvalid(read) ? read :
+	return !XLogRecPtrIsInvalid(sp_received) ? sp_received :
 		ShutdownRequestPending ? GetXLogInsertRecPtr() : GetRedoRecPtr();
 }
 
-/* Loaders of a primary run as long as it says that it is warming. */
-static void
-set_warming(bool warming)
-{
-	sp_warming = warming;
-	LWLockAcquire(sp_shared->lock, LW_EXCLUSIVE);
-	sp_shared->is_warming = warming;
-	LWLockRelease(sp_shared->lock);
-}
-
-/*
- * A primary that started has few pages in its buffers: it loads those that it knew,
- * until there is no free buffer.  Pages that clients brought are not driven out.
- */
+/* A primary that started loads what it knew, until there is no free buffer. */
 static void
 warm_primary(void)
 {
@@ -310,41 +276,38 @@ warm_primary(void)
 		if (sp_stats.resident < sp_stats.wanted)
 			return;
 	}
-	set_warming(false);
+	sp_stats.is_warming = false;
 	if (sp_stats.wanted > 0)
-		ereport(LOG, (errmsg("standby_prewarm has warmed a primary: " INT64_FORMAT " of " INT64_FORMAT
-							 " wanted pages are resident", sp_stats.resident,
-							 sp_stats.wanted)));
+		ereport(LOG,
+				(errmsg("standby_prewarm has warmed a primary: " INT64_FORMAT " of " INT64_FORMAT
+						" wanted pages are resident", sp_stats.resident, sp_stats.wanted)));
 	sp_rank_reset();			/* the loaders end by themselves */
-	sp_stats.wanted = sp_stats.resident = sp_stats.unloadable = 0;
 }
 
 /* Begins, with what was saved.  A promotion from now on is seen by the first turn. */
 static void
 start_worker(void)
 {
-	is_standby = RecoveryInProgress();
+	sp_stats.is_standby = RecoveryInProgress();
+	sp_stats.is_warming = !sp_stats.is_standby && sp_load_after_start > 0;
+	sp_stats.primary_known = -1;
+	sp_stats.stats_reset = GetCurrentTimestamp();
 	LWLockAcquire(sp_shared->lock, LW_EXCLUSIVE);
 	sp_shared->latch = MyLatch;
-	sp_shared->is_standby = is_standby;
 	sp_shared->epoch++;
-	sp_shared->stats_reset = GetCurrentTimestamp();
+	sp_shared->stats = sp_stats;
 	LWLockRelease(sp_shared->lock);
 	sp_history_start();
 	sp_rank_reset();
-	if (!is_standby)
-	{
-		/* What was published since the save, by this server, or before its promotion. */
-		sp_receive_start(XLogRecPtrIsInvalid(sp_saved_position) ? GetRedoRecPtr() :
-						 sp_saved_position, false);
-		receive_rest();
-	}
-	begin_role();
+	/* what was published since the save, also by others */
+	sp_receive_start(sp_stats.is_standby || XLogRecPtrIsInvalid(sp_saved_position) ?
+					 GetRedoRecPtr() : sp_saved_position, sp_stats.is_standby);
+	if (!sp_stats.is_standby)
+		begin_primary();
 	warming_until = sp_us() + sp_load_after_start * US_PER_S;
-	set_warming(!is_standby && sp_load_after_start > 0);
 	saved_redo = GetRedoRecPtr();
 	ereport(LOG, (errmsg("standby_prewarm started on a %s, with " INT64_FORMAT " pages known",
-						 is_standby ? "standby" : "primary", sp_stats.known)));
+						 sp_stats.is_standby ? "standby" : "primary", sp_stats.known)));
 }
 
 /* The standby was promoted: the worker goes on as the sampler. */
@@ -354,10 +317,9 @@ become_primary(void)
 	ereport(LOG, (errmsg("standby_prewarm was promoted: " INT64_FORMAT " pages known, " INT64_FORMAT
 						 " of " INT64_FORMAT " wanted pages resident", sp_stats.known,
 						 sp_stats.resident, sp_stats.wanted)));
-	receive_rest();
 	sp_rank_reset();			/* the loaders end by themselves */
-	is_standby = false;
-	begin_role();
+	sp_stats.is_standby = false;
+	begin_primary();
 }
 
 /* Does what is due; returns when something is due next. */
@@ -375,15 +337,11 @@ primary_turn(void)
 	}
 	now = sp_us();
 	if (now >= publish_at)
-	{
-		int			interval = sp_publish() ? Min(PUBLISH_AGAIN_MS, sp_publish_interval) :
-			sp_publish_interval;
-
-		publish_at = next_time(now, interval);
-	}
-	if (sp_warming)
+		publish_at = next_time(now, sp_publish() ? Min(PUBLISH_AGAIN_MS, sp_publish_interval) :
+							   sp_publish_interval);
+	if (sp_stats.is_warming)
 		warm_primary();
-	return Min(Min(sample_at, publish_at), sp_warming ? round_at : publish_at);
+	return Min(Min(sample_at, publish_at), sp_stats.is_warming ? round_at : publish_at);
 }
 
 static uint64
@@ -409,11 +367,11 @@ take_turn(void)
 	uint64		now;
 	bool		reset_wanted;
 
-	if (is_standby && !RecoveryInProgress())
+	if (sp_stats.is_standby && !RecoveryInProgress())
 		become_primary();
 	if (sp_enabled)
-		next = Min(next, is_standby ? standby_turn() : primary_turn());
-	else if (!is_standby)
+		next = Min(next, sp_stats.is_standby ? standby_turn() : primary_turn());
+	else if (!sp_stats.is_standby)
 		sp_sample_reset();		/* what comes in meanwhile is no reference */
 	now = sp_us();
 	if (GetRedoRecPtr() != saved_redo && now >= save_at)
@@ -423,11 +381,7 @@ take_turn(void)
 		save_at = next_time(now, SAVE_AGAIN_MS);
 	}
 	LWLockAcquire(sp_shared->lock, LW_EXCLUSIVE);
-	sp_shared->is_standby = is_standby;
-	sp_shared->last_frame = sp_last_frame;
-	sp_shared->last_round = sp_last_round;
 	sp_shared->stats = sp_stats;
-	memcpy(sp_shared->refused, sp_refused, sizeof sp_refused);
 	reset_wanted = sp_shared->reset_wanted;
 	sp_shared->reset_wanted = false;
 	LWLockRelease(sp_shared->lock);
@@ -455,9 +409,9 @@ is_server_stopping(void)
 }
 
 /*
- * The worker.  It is connected to no database, so it can neither hold one back
- * from being dropped nor read its catalogs.  An error ends it; the postmaster
- * starts it again, with the history that was saved last.
+ * The worker.  It is connected to no database, so it can neither hold one back from being dropped
+ * nor read its catalogs.  An error ends it; the postmaster starts it again, with the history that
+ * was saved last.
  */
 void
 standby_prewarm_main(Datum main_arg)

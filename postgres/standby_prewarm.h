@@ -3,9 +3,9 @@
  *		A streaming standby that takes over warm.
  *
  * One worker owns the history of page references (history.c).  On a primary it
- * samples the buffer descriptors (sample.c) and writes frames of the history
- * into the WAL (publish.c).  On a standby it reads them back (receive.c), ranks
- * the pages (rank.c), and hands those that are missing to loaders (loader.c).
+ * samples the buffer descriptors (sample.c) and writes messages into the WAL
+ * (publish.c).  On a standby it reads them back (receive.c), ranks the pages
+ * (rank.c), and hands those that are missing to loaders (loader.c).
  */
 #ifndef STANDBY_PREWARM_H
 #define STANDBY_PREWARM_H
@@ -65,6 +65,7 @@ typedef enum SpOutcome
 	SP_LOADED,
 	SP_BUSY,					/* its relation is locked: try again later */
 	SP_NO_FILE,					/* no relation has this file */
+	SP_NO_DATABASE,				/* no loader can connect */
 	SP_NO_BLOCK,				/* the file is shorter */
 	SP_FAILED					/* the read ended in an error */
 } SpOutcome;
@@ -86,22 +87,28 @@ typedef struct SpLoader
 {
 	Oid			database;		/* InvalidOid: the slot is free */
 	SpSlotState state;
-	bool		was_connected;	/* the loader */
 	Latch	   *latch;			/* of the loader, NULL while it starts */
 	uint64		took_us;		/* of a batch that is done */
 	uint32		count;
 	SpRequest	pages[SP_BATCH];
 } SpLoader;
 
-/* What the worker counts: all int64, in the order of standby_prewarm_status. */
+/*
+ * What the worker shows once a turn.  The fields before refused are columns of
+ * standby_prewarm_status, in their order.
+ */
 typedef struct SpStats
 {
-	int64		known;			/* pages of the history */
-	int64		devices;
+	TimestampTz last_message;	/* when it was written; times are 0 where there is none */
+	TimestampTz stats_reset;	/* since when is counted */
+	TimestampTz last_round;		/* this and the next four: of a server that loads pages */
 	int64		wanted;
 	int64		resident;
 	int64		unloadable;
-	int64		frames_received;
+	int64		primary_known;	/* pages of the primary's history; -1: unknown */
+	int64		known;			/* pages of the history */
+	int64		devices;
+	int64		messages_received;
 	int64		wal_read;		/* bytes of WAL that were looked through */
 	int64		wal_skipped;	/* bytes that were gone, or unreadable */
 	int64		pages_touched;
@@ -110,7 +117,7 @@ typedef struct SpStats
 	int64		samples;
 	int64		sample_us;		/* cost of the last sample */
 	int64		page_references;
-	int64		frames_sent;
+	int64		messages_sent;
 	int64		bytes_sent;
 	int64		saves;
 	int64		save_failures;
@@ -118,25 +125,24 @@ typedef struct SpStats
 	int64		pages_read;		/* by loaders, as the next two */
 	int64		read_us;
 	int64		pages_failed;
-	int64		primary_known;	/* pages of the primary's history; -1: unknown */
 	int64		rankings;		/* rounds for which the history was ranked */
+	int64		refused[SP_STATUSES];
+	bool		is_standby;
+	bool		is_warming;		/* a primary that started loads what it knew */
+	bool		others_wait;	/* databases wait for a loader: idle ones end */
 } SpStats;
 
-/* lock guards all of it, but a batch: the state of its slot says whose it is. */
+/*
+ * lock guards all of it, but a batch: the state of its slot says whose it is.
+ * Loaders look at others_wait without it.
+ */
 typedef struct SpShared
 {
 	LWLock	   *lock;
 	Latch	   *latch;			/* of the worker, NULL while there is none */
 	uint64		epoch;			/* counts the starts of the worker */
-	bool		is_standby;
-	bool		is_warming;		/* a primary that started loads what it knew */
-	bool		others_wait;	/* databases wait for a loader: idle ones end */
 	bool		reset_wanted;
-	TimestampTz last_frame;		/* when the newest frame was written */
-	TimestampTz last_round;		/* when the last round of loading ended */
-	TimestampTz stats_reset;	/* since when is counted */
 	SpStats		stats;
-	int64		refused[SP_STATUSES];
 	uint64		logged_at[SP_FAULTS];	/* by sp_us; 0: never */
 	int			loader_count;
 	SpLoader	loaders[FLEXIBLE_ARRAY_MEMBER];
@@ -144,12 +150,8 @@ typedef struct SpShared
 
 extern SpShared *sp_shared;
 
-/* The worker's own, copied once a turn. */
+/* The worker's own. */
 extern SpStats sp_stats;
-extern int64 sp_refused[SP_STATUSES];
-extern TimestampTz sp_last_frame,
-			sp_last_round;
-extern bool sp_warming;
 
 /* Settings, in the units that their names have in standby_prewarm.c. */
 extern bool sp_enabled,
@@ -175,20 +177,17 @@ extern uint8 *sp_directory_encode(int *next, int end, int most, uint8 *to);
 extern int	sp_directory_decode(const uint8 *bytes, Size length);
 
 /* history.c */
+extern warm sp_history;
 extern uint64 sp_latest;
 extern uint64 sp_changed_buckets;
 extern XLogRecPtr sp_saved_position;
 extern const char *sp_status_name(int status);
 extern int	sp_note(int status, const char *what);
 extern void sp_history_reset(const char *why);
+extern uint64 sp_time_limit(void);
 extern uint64 sp_clock(void);
 extern void sp_reference(warm_page page, uint64 time);
 extern void sp_references_end(void);
-extern int	sp_history_receive(const uint8 *frame, Size length);
-extern bool sp_history_piece(uint8 bucket, uint64 since, bool has_after,
-							 warm_page *after, uint8 *frame, Size *length,
-							 bool *more);
-extern Size sp_history_list(warm_page *pages, Size room);
 extern void sp_history_bound(void);
 extern bool sp_directory_save(void);
 extern void sp_history_save(XLogRecPtr position);
@@ -204,8 +203,8 @@ extern void sp_publish_reset(void);
 extern bool sp_publish(void);
 
 /* receive.c */
+extern XLogRecPtr sp_received;
 extern void sp_receive_start(XLogRecPtr from, bool is_standby);
-extern XLogRecPtr sp_receive_position(void);
 extern bool sp_receive(void);
 extern void sp_receive_stop(void);
 
@@ -225,14 +224,13 @@ extern void sp_describe_worker(BackgroundWorker *worker, const char *function,
  * upgraded before their primary, so the version before this one is taken too.
  */
 #define SP_MESSAGE_VERSION 2
-#define SP_MESSAGE_FRAME 1
+#define SP_MESSAGE_HISTORY 1
 #define SP_MESSAGE_DIRECTORY 2
 #define SP_HEADER		18		/* version, kind, time, pages known */
 #define SP_HEADER_1		10		/* of version 1: the same without the pages */
 #define SP_DEVICE_BYTES 11		/* number, tablespace, database, fork */
-#define SP_FRAME_ROOM	32768	/* a frame has at most 31,023 bytes */
 
-/* Numbers in messages are big-endian, as in frames. */
+/* Numbers are big-endian, as in the library's messages. */
 static inline uint8 *
 sp_put(uint8 *to, uint64 value, int bytes)
 {

@@ -6,13 +6,11 @@
 
 #include "funcapi.h"
 #include "lib/stringinfo.h"
-#include "miscadmin.h"
 #include "utils/builtins.h"
-#include "utils/fmgrprotos.h"
 #include "standby_prewarm.h"
 
-#define STATS			(sizeof(SpStats) / sizeof(int64))
-#define OWN_COLUMNS		7
+#define OWN_COLUMNS		4		/* before those of SpStats */
+#define COLUMN(field)	(offsetof(SpStats, field) / sizeof(int64))
 
 PG_FUNCTION_INFO_V1(standby_prewarm_status);
 PG_FUNCTION_INFO_V1(standby_prewarm_reset);
@@ -26,57 +24,42 @@ status_need_shared(void)
 				 errmsg("standby_prewarm must be loaded via \"shared_preload_libraries\"")));
 }
 
-/* Whether a count says something only where pages are loaded. */
-static bool
-status_is_of_loading(int count)
-{
-	Size		at = count * sizeof(int64);
-
-	return at == offsetof(SpStats, wanted) ||
-		at == offsetof(SpStats, resident) ||
-		at == offsetof(SpStats, unloadable) ||
-		at == offsetof(SpStats, primary_known);
-}
-
 /* What was refused, by name, as JSON, and its sum. */
-static char *
+static Datum
 status_refused(const int64 *refused, int64 *sum)
 {
 	StringInfoData text;
 
 	initStringInfo(&text);
+	appendStringInfoChar(&text, '{');
 	*sum = 0;
 	for (int i = 0; i < SP_STATUSES; i++)
 	{
 		if (refused[i] == 0)
 			continue;
-		appendStringInfo(&text, "%s\"%s\": " INT64_FORMAT,
-						 *sum == 0 ? "{" : ", ", sp_status_name(i), refused[i]);
+		appendStringInfo(&text, "%s\"%s\": " INT64_FORMAT, *sum == 0 ? "" : ", ",
+						 sp_status_name(i), refused[i]);
 		*sum += refused[i];
 	}
 	appendStringInfoChar(&text, '}');
-	return text.data;
+	return DirectFunctionCall1(jsonb_in, CStringGetDatum(text.data));
 }
 
 /*
- * The row of pg_stat_standby_prewarm: own columns, then the counts in their order.
- * The extension of another version may have fewer columns, or more, which are
- * null then: new ones come last, so the library may be newer than the extension,
- * and older.
+ * The row of pg_stat_standby_prewarm.  The extension of another version may have fewer columns,
+ * or more, which are null then: new ones come last.
  */
 Datum
 standby_prewarm_status(PG_FUNCTION_ARGS)
 {
 	TupleDesc	desc;
-	Datum		values[MaxTupleAttributeNumber];
+	Datum		values[MaxTupleAttributeNumber] = {0};
 	bool		nulls[MaxTupleAttributeNumber];
 	SpShared	now;
 	const int64 *counts = (const int64 *) &now.stats;
 	int64		refused;
 	int			loaders = 0;
-	bool		runs,
-				loads;
-	char	   *by_name;
+	bool		loads;
 
 	status_need_shared();
 	if (get_call_result_type(fcinfo, NULL, &desc) != TYPEFUNC_COMPOSITE)
@@ -87,34 +70,22 @@ standby_prewarm_status(PG_FUNCTION_ARGS)
 		loaders += sp_shared->loaders[i].latch != NULL;
 	LWLockRelease(sp_shared->lock);
 
-	runs = now.latch != NULL && sp_enabled;
-	loads = runs && (now.is_standby || now.is_warming);
-	by_name = status_refused(now.refused, &refused);
-	memset(nulls, false, sizeof nulls);
-	values[0] = CStringGetTextDatum(now.latch == NULL ? "none" :
-									!sp_enabled ? "disabled" :
-									now.is_standby ? "standby" : "primary");
+	loads = now.latch != NULL && sp_enabled && (now.stats.is_standby || now.stats.is_warming);
+	memset(nulls, true, sizeof nulls);
+	values[0] = CStringGetTextDatum(now.latch == NULL ? "none" : !sp_enabled ? "disabled" :
+									now.stats.is_standby ? "standby" : "primary");
+	values[2] = status_refused(now.stats.refused, &refused);
 	values[1] = Int64GetDatum(refused);
-	values[2] = refused == 0 ? (Datum) 0 :
-		DirectFunctionCall1(jsonb_in, CStringGetDatum(by_name));
-	nulls[2] = refused == 0;
 	values[3] = Int32GetDatum(loaders);
-	values[4] = TimestampTzGetDatum(now.last_frame);
-	nulls[4] = now.last_frame == 0;
-	values[5] = TimestampTzGetDatum(now.last_round);
-	nulls[5] = now.last_round == 0 || !loads;
-	values[6] = TimestampTzGetDatum(now.stats_reset);
-	nulls[6] = now.stats_reset == 0;
-	for (int i = 0; i < STATS; i++)
+	nulls[0] = nulls[1] = nulls[3] = false;
+	nulls[2] = refused == 0;
+	for (int i = 0; i < COLUMN(refused); i++)
 	{
 		values[OWN_COLUMNS + i] = Int64GetDatum(counts[i]);
-		nulls[OWN_COLUMNS + i] = status_is_of_loading(i) &&
-			(!loads || counts[i] < 0);
+		nulls[OWN_COLUMNS + i] = counts[i] < (i < COLUMN(wanted) ? 1 : 0) ||
+			(!loads && i >= COLUMN(last_round) && i < COLUMN(known));
 	}
-	memset(nulls + OWN_COLUMNS + STATS, true,
-		   MaxTupleAttributeNumber - OWN_COLUMNS - STATS);
-	PG_RETURN_DATUM(HeapTupleGetDatum(heap_form_tuple(BlessTupleDesc(desc),
-													  values, nulls)));
+	PG_RETURN_DATUM(HeapTupleGetDatum(heap_form_tuple(BlessTupleDesc(desc), values, nulls)));
 }
 
 /* Lets the worker begin a new history, soon. */

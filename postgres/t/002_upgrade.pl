@@ -28,7 +28,7 @@ create extension standby_prewarm;
 create table t as select generate_series(1, 20000) i;
 ));
 ok( $primary->poll_query_until(
-		'postgres', 'select frames_sent > 10 from pg_stat_standby_prewarm'),
+		'postgres', 'select messages_sent > 10 from pg_stat_standby_prewarm'),
 	'a primary writes messages');
 $primary->wait_for_catchup($plain, 'replay', $primary->lsn('insert'));
 is($plain->safe_psql('postgres', 'select count(*) from t'),
