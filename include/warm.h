@@ -18,18 +18,19 @@
 
    Threads. Each thread has a handle of its own (warm_attach). A call on a page, a slot or a bucket
    locks its shard, but not while it reads a page; a call on the whole replica locks one shard after
-   another, warm_forget_pages and warm_replace all at once. A pin of a page that was pinned twice
-   since it was loaded, and its unpin, take no lock, for 8 pages of a handle at a time. Who wants a
-   page that is being read waits for it alone, and where that fails tries again. The calls on a
-   shard have one order; a call on several shards is not one step.
+   another, warm_forget_pages and warm_replace all at once, and these two then wait for reads of
+   their pages. A pin of a page that was pinned twice since it was loaded, and its unpin, take no
+   lock, for 8 pages of a handle at a time. Who wants a page that is being read waits for it alone,
+   and where that fails tries again. The calls on a shard have one order; a call on several shards
+   is not one step.
 
    Any slot, page, number, length, message or descriptor may be passed: it is refused, or does what
    the description says. The library starts no thread.
 
    What the caller guarantees for every function:
    - A handle is zero before its first call, and changed by these functions alone; an open one is
-     not copied or moved. After a fork one process alone uses a replica, of which no other thread
-     was in a call.
+     not copied or moved. After a fork one process alone uses a replica, and no other thread was
+     in a call of any.
    - One call at a time uses a handle: threads that share one take a lock. warm_attach is a call of
      both handles: attach before the thread starts.
    - No pointer is null, unless this is allowed. It points to as many elements as its length says,
@@ -373,7 +374,8 @@ int warm_send(warm *handle, warm_sending *sending, void *message, size_t room, s
 int warm_limit(warm *handle, uint64_t time);
 
 /* Sets two more, of horizons (as the current time less a retention) and of the pages that the
-   history knows. Each entry counts as a new page. At first no limit refuses; dumps have none. */
+   history knows. Each entry counts as a new page; what other handles receive at the same time does
+   not count. At first no limit refuses; dumps have none. */
 int warm_limit_history(warm *handle, uint64_t horizon, size_t pages);
 
 /* ---- dumps ---- */
