@@ -124,6 +124,9 @@ static int fake_unread(fake *its, node_page page) {
     return WARM_READ_FAULT;
 }
 
+/* How often a node has read a page, or tried to. */
+static int read_by_nodes;
+
 /* Where no byte is given, the page is read. */
 static int fake_pin(fake *its, node_page page, const uint8_t *given, node_slot *slot) {
     if (page.dev >= its->device_count) return WARM_NO_DEVICE;
@@ -131,6 +134,7 @@ static int fake_pin(fake *its, node_page page, const uint8_t *given, node_slot *
     fake_frame *frame = fake_frame_for(its, page);
     if (frame == NULL) return WARM_ALL_PINNED;
     if (!frame->is_in || frame->page.no != page.no || frame->page.dev != page.dev) {
+        if (given == NULL) read_by_nodes++;
         if (given == NULL && (off_t)page.no >= unreadable) return fake_unread(its, page);
         if (frame->is_in && frame->is_dirty && !fake_write(its, frame)) return WARM_EVICT_FAULT;
         uint8_t read = files_keep ? in_files[its->devices[page.dev].number][page.no] : 0;

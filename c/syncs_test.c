@@ -537,6 +537,38 @@ static void test_stuck_victims(void) {
     }
 }
 
+/* A handle that is alone reads the page once more, and not once for each page that cannot be
+ * written; and not where no other page may leave. */
+static void test_reading_past_stuck(void) {
+    for (size_t frames = 1; frames <= STUCK + 1; frames++) {
+        warm handle = {0};
+        warm_slot slot;
+        OK(open_with(&handle, 1, 1, frames, devices, FAKE_DEVICES));
+        for (uint64_t no = 0; no < frames; no++) write_to(&handle, page_at(no), 'd');
+        stuck_from = 0;
+        stuck_until = frames > 1 ? frames - 1 : 1;
+        is_stuck = is_between;
+        files_keep = true;
+        in_files[10][400] = 'p';
+        reads = read_by_nodes = 0;
+        int status = warm_pin_bytes(&handle, page_at(400), &slot, &lent);
+        MUST(status == (frames > 1 ? WARM_OK : WARM_EVICT_FAULT));
+        MUST(read_by_nodes == 1 && reads == (frames > 1));
+        must_have_failed(&handle, 0, 0, WARM_FAILED_WRITE, EIO);
+        is_stuck = NULL;
+        files_keep = false;
+        if (frames > 1) {
+            MUST(*lent == 'p' && slot.index == frames - 1);
+            OK(warm_unpin(&handle, slot));
+            OK(warm_unpin(&handle, pin(&handle, 400)));
+            OK(warm_unpin(&handle, hold_page(&handle, 400)));
+        }
+        no_pins(&handle);
+        OK(warm_abandon(&handle));
+        nothing_left();
+    }
+}
+
 /* The page that is to come cannot be read any more once another one could not be written: that is what failed then. */
 static bool fails_then(node_page page) {
     unreadable = 0;
@@ -580,6 +612,7 @@ int main(void) {
     test_closing_after_failure();
     test_turns_of_portions();
     test_stuck_victims();
+    test_reading_past_stuck();
     test_failing_read();
     puts("syncs_test: as expected");
     return 0;
