@@ -286,6 +286,59 @@ static void test_full_table(void) {
     close_two(&first, &second);
 }
 
+/* Also the records at the end of the table are looked at before pages leave, and are free after
+ * that. */
+static void test_last_records(void) {
+    warm first = {0}, second = {0};
+    uint64_t pages[NEAR], no = 0;
+    uint32_t state;
+    open_two(&first, &second, FAKE_FRAMES);
+    const table *of = &((opened *)first.at)->shards[0].table;
+    record *last = of->records + 2 * of->mask;
+    for (size_t at = 0; at < NEAR; at++, no++) {
+        while (first_record(of, page_in(page_at(no))) != last) no++;
+        pages[at] = no;
+        pin_twice(&first, no);
+        MUST(find_record(of, page_in(page_at(no)), &state) == last + at);
+    }
+    warm_slot slot = hold_page(&second, pages[NEAR - 1]);
+    MUST(warm_forget_pages(&first, 0, 0) == WARM_PINNED);
+    look_at(&second, slot, pages[NEAR - 1]);
+    OK(warm_unpin(&second, slot));
+    OK(warm_forget_pages(&first, 0, 0));
+    for (size_t at = 0; at < NEAR; at++)
+        MUST(find_record(of, page_in(page_at(pages[at])), &state) == NULL);
+    close_two(&first, &second);
+}
+
+/* A pin that fills a page with zeros gives it no record, as it does not say where the page is. */
+static void test_record_after_zeros(void) {
+    warm first = {0}, second = {0};
+    warm_slot slot;
+    open_two(&first, &second, 1);
+    OK(warm_unpin(&first, pin(&first, 5)));
+    OK(warm_pin_zeroed(&second, page_at(5), &slot));
+    OK(warm_unpin(&second, slot));
+    OK(warm_unpin(&first, pin(&first, 5)));
+    slot = hold_page(&first, 5);
+    MUST(lent == &node_of(&first, 0)->at[slot.index].byte);
+    OK(warm_unpin(&first, slot));
+    close_two(&first, &second);
+}
+
+/* There is room for the holds of the handles that are or were open, and not for those of an attach
+ * that was refused. */
+static void test_room_of_handles(void) {
+    warm first = {0}, second = {0};
+    open_shards(&first, 4);
+    const opened *its = first.at;
+    EACH_REFUSED(warm_attach(&first, &second), atomic_load(&its->of->holds_count) == 1);
+    MUST(atomic_load(&its->of->holds_count) == 2);
+    for (size_t number = 0; number < 4; number++)
+        MUST(its->shards[number].table.room == 2 * HOLDS);
+    close_two(&first, &second);
+}
+
 /* Where pages that are passed over have no room, calls are refused, and all is as before. */
 static void test_no_room(void) {
     warm first = {0}, second = {0};
@@ -694,6 +747,9 @@ int main(void) {
     test_counting();
     test_spreading();
     test_full_table();
+    test_last_records();
+    test_record_after_zeros();
+    test_room_of_handles();
     test_no_room();
     test_letting_go();
     test_taking();
