@@ -330,6 +330,37 @@ static void test_replacing_in_a_sync(void) {
     nothing_left();
 }
 
+/* The device is replaced, and its descriptor is another replica's, before a call syncs what it has
+ * found there: it syncs nothing of that one. */
+static warm next_user;
+
+static void reuse_descriptor(void) {
+    OK(warm_replace(beside, 0, &another));
+    MUST(syncs == 1 && *place_of(10) == NULL);
+    OK(open_with(&next_user, 2, 1, 2, devices, 1));
+    size_t left;
+    write_to(&next_user, (warm_page){.no = 1}, 'n');
+    OK(warm_write_back_some(&next_user, 1, &left));
+}
+
+static void test_reused_descriptor(void) {
+    warm first = {0}, second = {0};
+    open_shards(&first, 1);
+    OK(warm_attach(&first, &second));
+    beside = &second;
+    write_each(&first, 0, 1);
+    syncs = 0;
+    unlocks_before = 1; /* that behind the writes */
+    at_unlock = reuse_descriptor;
+    OK(warm_flush_device(&first, 0));
+    MUST(at_unlock == NULL && syncs == 1);
+    OK(warm_close(&next_user));
+    MUST(syncs == 2);
+    OK(warm_close(&second));
+    OK(warm_close(&first));
+    nothing_left();
+}
+
 /* One shard: what is refused, in order, whether its node alone would say so or not. */
 static void test_replacing_in_one(void) {
     const warm_device in_place = {.pages = FAKE_PAGES, .fd = 20};
@@ -424,6 +455,30 @@ static void test_stuck_pages(void) {
     }
     OK(warm_abandon(&handle));
     nothing_left();
+}
+
+/* Pages of other devices that are behind the one that fails are written and synced, whatever their
+ * numbers are. */
+static void test_behind_a_failure(void) {
+    for (uint16_t bad = 0; bad < 3; bad++) {
+        warm handle = {0};
+        OK(open_with(&handle, 1, 1, 8, devices, FAKE_DEVICES));
+        write_to(&handle, (warm_page){.dev = bad}, 'a');
+        for (uint16_t dev = 0; dev < 3; dev++) {
+            if (dev != bad) write_to(&handle, (warm_page){.dev = dev}, 'a');
+        }
+        stuck[0] = stuck[1] = stuck[2] = (warm_page){.dev = bad};
+        is_stuck = is_one_of_stuck;
+        syncs = 0;
+        MUST(warm_write_back_all(&handle) == WARM_WRITE_FAULT && syncs == 2);
+        is_stuck = NULL;
+        for (uint16_t dev = 0; dev < 3; dev++)
+            MUST(is_dirty(&handle, (warm_page){.dev = dev}) == (dev == bad));
+        OK(warm_write_back_all(&handle));
+        MUST(syncs == 3);
+        OK(warm_close(&handle));
+        nothing_left();
+    }
 }
 
 /* What a write-back left unsynced, since a page of the device failed in another shard, the close syncs: the nodes take it for flushed. */
@@ -607,8 +662,10 @@ int main(void) {
     test_waiting_for_a_sync();
     test_syncs_without_shards();
     test_replacing_in_a_sync();
+    test_reused_descriptor();
     test_replacing_in_one();
     test_stuck_pages();
+    test_behind_a_failure();
     test_closing_after_failure();
     test_turns_of_portions();
     test_stuck_victims();
