@@ -1,6 +1,7 @@
 /*
- * fake_library.h: the C side of the library in the test's own program, for shards_test.c, syncs_test.c, reads_test.c and holds_test.c: in place of the proved
- * part it has fake_nodes.h, and the calls of the system are those of fake_system.h.
+ * fake_library.h: the C side of the library in the test's own program: in place of the proved part
+ * it has fake_nodes.h, and the calls of the system are those of fake_system.h. All tests have it
+ * but fd_calls_test.c and heap_test.c.
  */
 #ifndef FAKE_LIBRARY_H
 #define FAKE_LIBRARY_H
@@ -69,17 +70,26 @@ static void must(bool holds, const char *what, int line) {
 #undef pwrite
 #undef pread
 
-static const warm_device devices[] = {{.pages = FAKE_PAGES, .fd = 10}, {.pages = FAKE_PAGES, .fd = 11}, {.pages = FAKE_PAGES, .fd = 12},
+static const warm_device devices[] = {{.pages = FAKE_PAGES, .fd = 10},
+    {.pages = FAKE_PAGES, .fd = 11}, {.pages = FAKE_PAGES, .fd = 12},
     {.pages = FAKE_PAGES, .fd = 13}};
 
 /* Pages have one byte. */
-static inline int open_with(warm *handle, uint32_t replica, size_t shards, size_t frames, const warm_device *of, size_t device_count) {
-    const warm_options options = {.size = sizeof options, .replica = replica, .shards = shards, .frames = frames, .page_size = 1,
-        .devices = of, .device_count = device_count};
+static inline int open_with(warm *handle, uint32_t replica, size_t shards, size_t frames,
+    const warm_device *of, size_t device_count) {
+    const warm_options options = {.size = sizeof options,
+        .replica = replica,
+        .shards = shards,
+        .frames = frames,
+        .page_size = 1,
+        .devices = of,
+        .device_count = device_count};
     return warm_open(handle, &options);
 }
 
-static inline void open_shards(warm *handle, size_t count) { OK(open_with(handle, 1, count, 2 * count, devices, FAKE_DEVICES)); }
+static inline void open_shards(warm *handle, size_t count) {
+    OK(open_with(handle, 1, count, 2 * count, devices, FAKE_DEVICES));
+}
 
 static inline void write_to(warm *handle, warm_page page, uint8_t byte) {
     warm_slot slot;
@@ -90,14 +100,17 @@ static inline void write_to(warm *handle, warm_page page, uint8_t byte) {
 
 /* A page of each shard, of one device. */
 static inline void write_each(warm *handle, uint16_t dev, uint64_t count) {
-    for (uint64_t no = 0; no < count; no++) write_to(handle, (warm_page){.no = no, .dev = dev}, 'a');
+    for (uint64_t no = 0; no < count; no++)
+        write_to(handle, (warm_page){.no = no, .dev = dev}, 'a');
 }
 
-static inline void must_have_failed(warm *handle, uint64_t no, uint16_t dev, uint16_t what, int32_t error) {
+static inline void must_have_failed(
+    warm *handle, uint64_t no, uint16_t dev, uint16_t what, int32_t error) {
     warm_failure failure = {0};
     bool found = false;
     OK(warm_last_failure(handle, &found, &failure));
-    MUST(found && failure.no == no && failure.dev == dev && failure.what == what && failure.error == error);
+    MUST(found && failure.no == no && failure.dev == dev && failure.what == what &&
+         failure.error == error);
 }
 
 static inline uint8_t read_from(warm *handle, warm_page page) {
@@ -134,9 +147,12 @@ static inline warm_slot hold_page(warm *handle, uint64_t no) {
     return slot;
 }
 
-static inline fake *node_of(warm *handle, size_t number) { return ((opened *)handle->at)->shards[number].node.at; }
+static inline fake *node_of(warm *handle, size_t number) {
+    return ((opened *)handle->at)->shards[number].node.at;
+}
 
-/* While a page is pinned its frame is its own: a thread sanitizer sees whoever gives it to another page meanwhile. */
+/* While a page is pinned its frame is its own: a thread sanitizer sees whoever gives it to another
+ * page meanwhile. */
 static inline void look_at(warm *handle, warm_slot slot, uint64_t no) {
     const fake_frame *frame = &node_of(handle, slot.shard)->at[slot.index];
     MUST(frame->is_in && frame->page.no == no && frame->generation == slot.generation);
@@ -148,22 +164,36 @@ static inline bool is_in(warm *handle, uint64_t no) {
     return resident;
 }
 
-/* What C pinned in the nodes it has unpinned. */
+/* How many pages the history knows. */
+static inline size_t known(warm *handle) {
+    size_t length;
+    OK(warm_history_length(handle, &length));
+    return length;
+}
+
+/* What C pinned in the nodes it has unpinned; and a shard with a dirty page knows that it may have
+ * one. */
 static inline void no_pins(warm *handle) {
     opened *its = handle->at;
     for (size_t number = 0; number < its->count; number++) {
-        for (size_t at = 0; at < FAKE_FRAMES; at++) MUST(node_of(handle, number)->at[at].pins == 0);
-        MUST(its->shards[number].table.passed_count == 0);
+        const shard *in = &its->shards[number];
+        for (size_t at = 0; at < FAKE_FRAMES; at++) {
+            const fake_frame *frame = &node_of(handle, number)->at[at];
+            MUST(frame->pins == 0 && (in->may_be_dirty || !frame->is_dirty));
+        }
+        MUST(in->table.passed_count == 0);
     }
 }
 
 /* Everything was given back. */
 static void nothing_left(void) {
     for (size_t chain = 0; chain < CHAINS; chain++) MUST(chains[chain] == NULL);
-    MUST(blocks == 0 && locks_there == 0 && held == 0 && remembered == 0 && own_devices == NULL && passed_over == NULL);
+    MUST(blocks == 0 && locks_there == 0 && held == 0 && remembered == 0 && own_devices == NULL &&
+         passed_over == NULL);
 }
 
-/* The call, with nothing granted, then with one grant, and so on, until it succeeds; and what holds after each refusal. */
+/* The call, with nothing granted, then with one grant, and so on, until it succeeds; and what holds
+ * after each refusal. */
 #define EACH_REFUSED(call, unchanged)                                    \
     do {                                                                 \
         size_t grants = 0;                                               \

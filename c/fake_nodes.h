@@ -1,9 +1,10 @@
 /*
- * fake_nodes.h: the functions of nodes.h in a few lines of C each, for tests, which have no proved part. A fake node has frames, each
- * with one byte in place of a page, and in place of a history how many references it took in. It
- * writes pages and asks for syncs as the proved part does in the end, by devices.h and sync_once.h.
- * Where it reads a page, which it does for a handle that is alone, it takes the byte that the file
- * keeps (fake_system.h). Each call looks whether another call is in the node.
+ * fake_nodes.h: the functions of nodes.h in a few lines of C each, for tests, which have no proved
+ * part. A fake node has frames, each with one byte in place of a page, and in place of a history
+ * how many references it took in. It writes pages and asks for syncs as the proved part does in the
+ * end, by devices.h and sync_once.h. Where it reads a page, which it does for a handle that is
+ * alone, it takes the byte that the file keeps (fake_system.h). Each call looks whether another
+ * call is in the node.
  */
 #ifndef FAKE_NODES_H
 #define FAKE_NODES_H
@@ -28,7 +29,7 @@ typedef struct fake_frame {
 } fake_frame;
 
 typedef struct fake {
-    atomic_int inside; /* how many calls are in it */
+    atomic_int inside;                         /* how many calls are in it */
     size_t frames, device_count, known, named; /* named: the page that is said to be loaded next */
     node_device devices[FAKE_DEVICES];
     bool waits[FAKE_DEVICES], has_failed[FAKE_DEVICES];
@@ -56,7 +57,8 @@ static bool fake_memory(void) {
     return block != NULL;
 }
 
-int node_open(node *of, uint16_t replica, size_t frames, size_t page_size, const node_device *devices, size_t device_count) {
+int node_open(node *of, uint16_t replica, size_t frames, size_t page_size,
+    const node_device *devices, size_t device_count) {
     MUST(!of->is_open && (remembered == 0 || remembered == device_count));
     MUST(replica > 0 && replica <= 64 && page_size > 0 && frames > 0);
     if (device_count > FAKE_DEVICES) return WARM_SAME_FILE; /* what a node alone knows */
@@ -72,7 +74,8 @@ int node_open(node *of, uint16_t replica, size_t frames, size_t page_size, const
 }
 
 static bool fake_flush(fake *its, uint16_t dev) {
-    if (its->waits[dev] && (its->has_failed[dev] || sync_once(device_synced_as(its->devices[dev].number)) != 0)) {
+    if (its->waits[dev] &&
+        (its->has_failed[dev] || sync_once(device_synced_as(its->devices[dev].number)) != 0)) {
         its->has_failed[dev] = true;
         its->failed = (node_failure){.dev = dev, .what = WARM_FAILED_FLUSH, .error = errno};
         return false;
@@ -94,14 +97,17 @@ static bool (*is_stuck)(node_page page);
 static int32_t stuck_error = EIO;
 
 static bool fake_unwritten(fake *its, node_page page, int32_t error) {
-    its->failed = (node_failure){.no = page.no, .dev = page.dev, .what = WARM_FAILED_WRITE, .error = error};
+    its->failed =
+        (node_failure){.no = page.no, .dev = page.dev, .what = WARM_FAILED_WRITE, .error = error};
     return false;
 }
 
 static bool fake_write(fake *its, fake_frame *frame) {
     node_page page = frame->page;
-    if (frame->is_in && is_stuck != NULL && is_stuck(page)) return fake_unwritten(its, page, stuck_error);
-    if (device_write(its->devices[page.dev].number, &frame->byte, 1, (off_t)page.no) != 1) return fake_unwritten(its, page, errno);
+    if (frame->is_in && is_stuck != NULL && is_stuck(page))
+        return fake_unwritten(its, page, stuck_error);
+    if (device_write(its->devices[page.dev].number, &frame->byte, 1, (off_t)page.no) != 1)
+        return fake_unwritten(its, page, errno);
     its->waits[page.dev] = true;
     its->writes++;
     frame->is_dirty = false;
@@ -114,18 +120,26 @@ static fake_frame *fake_frame_for(fake *its, node_page page) {
     for (size_t at = 0; at < its->frames; at++) {
         fake_frame *frame = &its->at[at];
         if (frame->is_in && frame->page.no == page.no && frame->page.dev == page.dev) return frame;
-        if (frame->is_in ? other == NULL && frame->pins == 0 : other == NULL || other->is_in) other = frame;
+        if (frame->is_in ? other == NULL && frame->pins == 0 : other == NULL || other->is_in)
+            other = frame;
     }
     return other;
 }
 
 static int fake_unread(fake *its, node_page page) {
-    its->failed = (node_failure){.no = page.no, .dev = page.dev, .what = WARM_FAILED_READ, .error = EIO};
+    its->failed =
+        (node_failure){.no = page.no, .dev = page.dev, .what = WARM_FAILED_READ, .error = EIO};
     return WARM_READ_FAULT;
 }
 
 /* How often a node has read a page, or tried to. */
 static int read_by_nodes;
+
+/* What a file keeps; of a device with calls of its own zeros. */
+static uint8_t fake_read(const fake *its, node_page page) {
+    int32_t number = its->devices[page.dev].number;
+    return files_keep && number >= 0 ? in_files[number][page.no] : 0;
+}
 
 /* Where no byte is given, the page is read. */
 static int fake_pin(fake *its, node_page page, const uint8_t *given, node_slot *slot) {
@@ -137,9 +151,9 @@ static int fake_pin(fake *its, node_page page, const uint8_t *given, node_slot *
         if (given == NULL) read_by_nodes++;
         if (given == NULL && (off_t)page.no >= unreadable) return fake_unread(its, page);
         if (frame->is_in && frame->is_dirty && !fake_write(its, frame)) return WARM_EVICT_FAULT;
-        uint8_t read = files_keep ? in_files[its->devices[page.dev].number][page.no] : 0;
-        uint8_t byte = given == NULL ? read : *given;
-        *frame = (fake_frame){.is_in = true, .page = page, .generation = frame->generation + 1, .byte = byte};
+        uint8_t byte = given == NULL ? fake_read(its, page) : *given;
+        *frame = (fake_frame){
+            .is_in = true, .page = page, .generation = frame->generation + 1, .byte = byte};
     }
     frame->pins++;
     *slot = (node_slot){.generation = frame->generation, .index = (uint32_t)(frame - its->at)};
@@ -160,7 +174,8 @@ int node_pin(node *of, node_page page, node_slot *slot) {
     return fake_out(of, pins_are_full ? WARM_PINS_FULL : fake_pin(its, page, NULL, slot));
 }
 
-int node_pin_filled(node *of, node_page page, const uint8_t *bytes, size_t length, node_slot *slot) {
+int node_pin_filled(
+    node *of, node_page page, const uint8_t *bytes, size_t length, node_slot *slot) {
     fake *its = fake_in(of);
     int status = length != 1 ? WARM_BAD_PAGE_SIZE : fake_pin(its, page, bytes, slot);
     if (status == WARM_OK && its->named != 0 && page.no == its->named) its->known--;
@@ -170,7 +185,12 @@ int node_pin_filled(node *of, node_page page, const uint8_t *bytes, size_t lengt
 
 int node_pin_zeroed(node *of, node_page page, node_slot *slot) {
     fake *its = fake_in(of);
-    return fake_out(of, pins_are_full ? WARM_PINS_FULL : fake_pin(its, page, (const uint8_t[1]){0}, slot));
+    if (pins_are_full) return fake_out(of, WARM_PINS_FULL);
+    int status = fake_pin(its, page, (const uint8_t[1]){0}, slot);
+    if (status != WARM_OK) return fake_out(of, status);
+    its->at[slot->index].byte = 0;
+    its->at[slot->index].is_dirty = true;
+    return fake_out(of, WARM_OK);
 }
 
 int node_lend(node *of, node_slot slot, const uint8_t **bytes) {
@@ -220,7 +240,8 @@ static void (*at_resident)(void);
 int node_resident(node *of, node_page page, bool *resident) {
     if (at_resident != NULL) at_resident();
     fake_frame *frame = fake_frame_for(fake_in(of), page);
-    *resident = frame != NULL && frame->is_in && frame->page.no == page.no && frame->page.dev == page.dev;
+    *resident =
+        frame != NULL && frame->is_in && frame->page.no == page.no && frame->page.dev == page.dev;
     return fake_out(of, WARM_OK);
 }
 
@@ -247,7 +268,7 @@ int node_next(node *of, bool *found, node_page *page) {
     return fake_out(of, WARM_OK);
 }
 
-int node_write_back_some(node *of, size_t limit, size_t *left) {
+static int fake_write_back_some(node *of, size_t limit, size_t *left) {
     fake *its = fake_in(of);
     *left = 0;
     for (size_t at = 0; at < its->frames; at++) {
@@ -259,31 +280,53 @@ int node_write_back_some(node *of, size_t limit, size_t *left) {
     return fake_out(of, WARM_OK);
 }
 
+/* How many portions were asked for. */
+static atomic_int portions;
+
+int node_write_back_some(node *of, size_t limit, size_t *left) {
+    portions++;
+    return fake_write_back_some(of, limit, left);
+}
+
+int node_write_back_page(node *of, node_page page, bool *written) {
+    fake *its = fake_in(of);
+    fake_frame *frame = fake_frame_for(its, page);
+    bool is_dirty = frame != NULL && frame->is_dirty && frame->page.no == page.no &&
+                    frame->page.dev == page.dev;
+    if (is_dirty && !fake_write(its, frame)) return fake_out(of, WARM_WRITE_FAULT);
+    *written = is_dirty;
+    return fake_out(of, WARM_OK);
+}
+
 int node_flush(node *of, uint16_t dev) {
     fake *its = fake_in(of);
     if (dev >= its->device_count) return fake_out(of, WARM_NO_DEVICE);
     for (size_t at = 0; at < its->frames; at++)
-        if (its->at[at].is_dirty && its->at[at].page.dev == dev && !fake_write(its, &its->at[at])) return fake_out(of, WARM_WRITE_FAULT);
+        if (its->at[at].is_dirty && its->at[at].page.dev == dev && !fake_write(its, &its->at[at]))
+            return fake_out(of, WARM_WRITE_FAULT);
     return fake_out(of, fake_flush(its, dev) ? WARM_OK : WARM_WRITE_FAULT);
 }
 
 /* All pages first, in the order of frames, up to the first that fails. */
 int node_write_back(node *of) {
     size_t left;
-    int status = node_write_back_some(of, SIZE_MAX, &left);
-    for (uint16_t dev = 0; status == WARM_OK && dev < ((fake *)of->at)->device_count; dev++) status = node_flush(of, dev);
+    int status = fake_write_back_some(of, SIZE_MAX, &left);
+    for (uint16_t dev = 0; status == WARM_OK && dev < ((fake *)of->at)->device_count; dev++)
+        status = node_flush(of, dev);
     return status;
 }
 
 static bool fake_has_pins(const fake *its, uint16_t dev, uint64_t from) {
     for (size_t at = 0; at < its->frames; at++)
-        if (its->at[at].pins > 0 && its->at[at].page.dev == dev && its->at[at].page.no >= from) return true;
+        if (its->at[at].pins > 0 && its->at[at].page.dev == dev && its->at[at].page.no >= from)
+            return true;
     return false;
 }
 
 static void fake_forget(fake *its, uint16_t dev, uint64_t from) {
     for (size_t at = 0; at < its->frames; at++)
-        if (its->at[at].page.dev == dev && its->at[at].page.no >= from) its->at[at].is_in = its->at[at].is_dirty = false;
+        if (its->at[at].page.dev == dev && its->at[at].page.no >= from)
+            its->at[at].is_in = its->at[at].is_dirty = false;
 }
 
 int node_forget(node *of, uint16_t dev, uint64_t from) {
@@ -322,7 +365,8 @@ int node_replace(node *of, uint16_t dev, const node_device *device) {
 
 int node_counts(node *of, node_counters *counters) {
     fake *its = fake_in(of);
-    *counters = (node_counters){.hits = 1, .misses = 2, .evictions = 3, .written_back = its->writes, .dirty = 5};
+    *counters = (node_counters){
+        .hits = 1, .misses = 2, .evictions = 3, .written_back = its->writes, .dirty = 5};
     for (size_t at = 0; at < its->frames; at++) counters->resident += its->at[at].is_in;
     return fake_out(of, WARM_OK);
 }
@@ -348,7 +392,8 @@ int node_last_failure(node *of, bool *found, node_failure *failure) {
 int node_absorb(node *of, const node_reference *references, size_t count) {
     fake *its = fake_in(of);
     for (size_t at = 0; at < count; at++)
-        if (references[at].replica == 0 || references[at].replica > 64) return fake_out(of, WARM_BAD_REPLICA);
+        if (references[at].replica == 0 || references[at].replica > 64)
+            return fake_out(of, WARM_BAD_REPLICA);
     if (!fake_memory()) return fake_out(of, WARM_MEMORY);
     its->known += count;
     return fake_out(of, WARM_OK);
@@ -370,7 +415,8 @@ int node_list(node *of, node_page *pages, size_t room, size_t *count) {
     fake *its = fake_in(of);
     if (!fake_memory()) return fake_out(of, WARM_MEMORY);
     *count = its->known < room ? its->known : room;
-    for (size_t at = 0; at < *count; at++) pages[at] = (node_page){.no = at + 1, .dev = (uint16_t)(at + 7)};
+    for (size_t at = 0; at < *count; at++)
+        pages[at] = (node_page){.no = at + 1, .dev = (uint16_t)(at + 7)};
     return fake_out(of, WARM_OK);
 }
 
@@ -381,7 +427,8 @@ int node_gather(node *into, node *from) {
     return fake_out(into, WARM_OK);
 }
 
-/* A dump is two bytes for each reference that is known, in two pieces. It goes to a descriptor of 0 or more. */
+/* A dump is two bytes for each reference that is known, in two pieces. It goes to a descriptor of 0
+ * or more. */
 static bool fake_put_dump(int number, size_t known) {
     const uint8_t piece[2] = {'d', 'u'};
     if (number < 0 && !is_made_up(number)) return false;
@@ -395,10 +442,13 @@ int node_save(node *of, int number) {
     MUST(held == 0); /* nobody waits for a file */
     fake *its = fake_in(of);
     bool has_memory = fake_memory();
-    return fake_out(of, !has_memory ? WARM_MEMORY : fake_put_dump(number, its->known) ? WARM_OK : WARM_DUMP_NOT_WRITTEN);
+    return fake_out(of, !has_memory                         ? WARM_MEMORY
+                        : fake_put_dump(number, its->known) ? WARM_OK
+                                                            : WARM_DUMP_NOT_WRITTEN);
 }
 
-/* A dump has as many references as its length says; of a device with its own calls its last byte is read. */
+/* A dump has as many references as its length says; of a device with its own calls its last byte is
+ * read. */
 static bool fake_get_dump(int number, uint64_t length) {
     uint8_t byte;
     if (number < 0 && !is_made_up(number)) return false;
@@ -408,7 +458,9 @@ static bool fake_get_dump(int number, uint64_t length) {
 int node_load(node *of, int number, uint64_t length) {
     MUST(held == 0);
     fake *its = fake_in(of);
-    int status = !fake_memory() ? WARM_MEMORY : fake_get_dump(number, length) ? WARM_OK : WARM_DUMP_NOT_READ;
+    int status = !fake_memory()                  ? WARM_MEMORY
+                 : fake_get_dump(number, length) ? WARM_OK
+                                                 : WARM_DUMP_NOT_READ;
     if (status == WARM_OK) its->known += length;
     return fake_out(of, status);
 }
@@ -416,12 +468,14 @@ int node_load(node *of, int number, uint64_t length) {
 int node_digests(node *of, size_t shards, size_t number, node_table *table, uint64_t *horizon) {
     fake *its = fake_in(of);
     if (!fake_memory()) return fake_out(of, WARM_MEMORY);
-    for (size_t bucket = number; bucket < 64; bucket += shards) table->digests[bucket][0] = its->known > 0;
+    for (size_t bucket = number; bucket < 64; bucket += shards)
+        table->digests[bucket][0] = its->known > 0;
     if (its->horizon > *horizon) *horizon = its->horizon;
     return fake_out(of, WARM_OK);
 }
 
-static int fake_put(uint8_t first, uint64_t second, size_t needed, uint8_t *frame, size_t room, size_t *length) {
+static int fake_put(
+    uint8_t first, uint64_t second, size_t needed, uint8_t *frame, size_t room, size_t *length) {
     if (!fake_memory()) return WARM_MEMORY;
     *length = needed;
     if (room < needed) return WARM_BUFFER_TOO_SMALL;
@@ -431,28 +485,35 @@ static int fake_put(uint8_t first, uint64_t second, size_t needed, uint8_t *fram
     return WARM_OK;
 }
 
-/* A frame is its kind, its horizon, and of digests one byte for each bucket, of a request one byte for each of buckets 0 to 7. */
-int node_offer_frame(uint16_t replica, uint64_t horizon, const node_table *table, uint8_t *frame, size_t room, size_t *length) {
+/* A frame is its kind, its horizon, and of digests one byte for each bucket, of a request one byte
+ * for each of buckets 0 to 7. */
+int node_offer_frame(uint16_t replica, uint64_t horizon, const node_table *table, uint8_t *frame,
+    size_t room, size_t *length) {
     MUST(replica > 0);
     int status = fake_put(NODE_DIGESTS, horizon, 66, frame, room, length);
-    for (int bucket = 0; status == WARM_OK && bucket < 64; bucket++) frame[2 + bucket] = table->digests[bucket][0];
+    for (int bucket = 0; status == WARM_OK && bucket < 64; bucket++)
+        frame[2 + bucket] = table->digests[bucket][0];
     return status;
 }
 
-int node_want_frame(uint16_t replica, uint64_t horizon, uint64_t buckets, uint8_t *frame, size_t room, size_t *length) {
+int node_want_frame(uint16_t replica, uint64_t horizon, uint64_t buckets, uint8_t *frame,
+    size_t room, size_t *length) {
     MUST(replica > 0);
     int status = fake_put(NODE_REQUEST, horizon, 10, frame, room, length);
-    for (int bucket = 0; status == WARM_OK && bucket < 8; bucket++) frame[2 + bucket] = (uint8_t)(buckets >> bucket & 1);
+    for (int bucket = 0; status == WARM_OK && bucket < 8; bucket++)
+        frame[2 + bucket] = (uint8_t)(buckets >> bucket & 1);
     return status;
 }
 
-int node_read_frame(size_t shards, uint64_t limit, const uint8_t *frame, size_t length, node_frame *what) {
+int node_read_frame(
+    size_t shards, uint64_t limit, const uint8_t *frame, size_t length, node_frame *what) {
     if (length < 10) return WARM_TRUNCATED;
     if (frame[1] > limit) return WARM_LATE_HORIZON;
     if (!fake_memory()) return WARM_MEMORY;
     *what = (node_frame){.kind = frame[0], .horizon = frame[1]};
     if (frame[0] == NODE_ENTRIES) what->shards = shards > 2 ? 5 : 1; /* of shards 0 and 2 */
-    for (int bucket = 0; frame[0] == NODE_REQUEST && bucket < 8; bucket++) what->buckets |= (uint64_t)frame[2 + bucket] << bucket;
+    for (int bucket = 0; frame[0] == NODE_REQUEST && bucket < 8; bucket++)
+        what->buckets |= (uint64_t)frame[2 + bucket] << bucket;
     return WARM_OK;
 }
 
@@ -465,21 +526,25 @@ int node_receive_part(node *of, size_t shards, size_t number, const uint8_t *fra
     return fake_out(of, WARM_OK);
 }
 
-int node_differing(const node_table *table, const uint8_t *frame, size_t length, uint64_t *buckets) {
+int node_differing(
+    const node_table *table, const uint8_t *frame, size_t length, uint64_t *buckets) {
     MUST(length == 66);
     if (!fake_memory()) return WARM_MEMORY;
     *buckets = 0;
-    for (int bucket = 0; bucket < 64; bucket++) *buckets |= (uint64_t)(table->digests[bucket][0] != frame[2 + bucket]) << bucket;
+    for (int bucket = 0; bucket < 64; bucket++)
+        *buckets |= (uint64_t)(table->digests[bucket][0] != frame[2 + bucket]) << bucket;
     return WARM_OK;
 }
 
-/* Two frames of a bucket of which something is known, the second after page 1; an empty one of any other. */
-int node_send_since(node *of, uint8_t bucket, uint64_t since, bool has_after, node_page after, uint8_t *frame, size_t room, size_t *length, bool *more,
-    node_page *last) {
+/* Two frames of a bucket of which something is known, the second after page 1; an empty one of any
+ * other. */
+int node_send_since(node *of, uint8_t bucket, uint64_t since, bool has_after, node_page after,
+    uint8_t *frame, size_t room, size_t *length, bool *more, node_page *last) {
     fake *its = fake_in(of);
     if (bucket > 63) return fake_out(of, WARM_BAD_BUCKET);
     MUST(since == 0 && (!has_after || after.no == 1));
-    int status = fake_put(NODE_ENTRIES, its->horizon, its->known > 0 ? FAKE_FULL : FAKE_EMPTY, frame, room, length);
+    int status = fake_put(
+        NODE_ENTRIES, its->horizon, its->known > 0 ? FAKE_FULL : FAKE_EMPTY, frame, room, length);
     if (status != WARM_OK) return fake_out(of, status);
     frame[2] = bucket;
     *more = its->known > 0 && !has_after;

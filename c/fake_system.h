@@ -1,5 +1,6 @@
 /*
- * fake_system.h: the functions of the C library that the files of this folder call, for their tests. They can be made to fail, and count.
+ * fake_system.h: the functions of the C library that the files of this folder call, for their
+ * tests. They can be made to fail, and count.
  */
 #ifndef FAKE_SYSTEM_H
 #define FAKE_SYSTEM_H
@@ -16,15 +17,17 @@
 #include <stdlib.h>
 #include <string.h>
 
-/* How many more allocations and new locks succeed, whether those after the one that fails do, how many there are, and what a sync does. */
+/* How many more allocations and new locks succeed, whether those after the one that fails do, how
+ * many there are, and what a sync does. */
 static size_t granted = SIZE_MAX;
 static bool fails_once;
 static int blocks, locks_there, syncs, interruptions;
-static int sync_errors[100]; /* of each descriptor: the errno of its next sync; 0: it succeeds */
-static int in_sync[100];     /* how many threads sync it */
+static int sync_errors[100];    /* of each descriptor: the errno of its next sync; 0: it succeeds */
+static int in_sync[100];        /* how many threads sync it */
 static void (*at_sync)(int fd); /* what a test does while the next sync goes on */
 
-/* The locks that this thread has, the most that it has had at once, in a sync too, and how many it has taken. Those of sync_once.c are left out. */
+/* The locks that this thread has, the most that it has had at once, in a sync too, and how many it
+ * has taken. Those of sync_once.c are left out. */
 static _Thread_local int held, most_held, most_in_sync, taken;
 
 /* The descriptor that has O_APPEND; and how many pages were written to descriptors. */
@@ -53,8 +56,8 @@ static ssize_t test_pwrite(int fd, const void *from, size_t length, off_t at) {
     return (ssize_t)length;
 }
 
-/* From which place on no byte can be read; what a test does while a byte is read; and how many reads
- * there were. */
+/* From which place on no byte can be read; what a test does while a byte is read; and how many
+ * reads there were. */
 static _Atomic off_t unreadable = INT64_MAX;
 static void (*at_read)(int fd, off_t at);
 static atomic_int reads;

@@ -1,7 +1,7 @@
 /*
  * fd_calls.c: what the proved part, crates/warm_c, asks of devices, as fd_calls.h says
- * (crates/warm_c/src/descriptor.rt). devices.c and sync_once.c do it. Nothing here is proved; c/check
- * tests it.
+ * (crates/warm_c/src/descriptor.rt). devices.c and sync_once.c do it. Nothing here is proved;
+ * c/check tests it.
  */
 #define _FILE_OFFSET_BITS 64
 #include "fd_calls.h"
@@ -13,7 +13,8 @@
 #include <string.h>
 
 _Static_assert(sizeof(off_t) == 8, "a place in a file has 64 bits");
-_Static_assert((int)DEVICE_IDENTITY == (int)FD_CALLS_IDENTITY_LENGTH, "an identity is read as it is");
+_Static_assert(
+    (int)DEVICE_IDENTITY == (int)FD_CALLS_IDENTITY_LENGTH, "an identity is read as it is");
 
 typedef struct request {
     uint8_t kind; /* 0: there is none */
@@ -102,7 +103,8 @@ static ssize_t read_identity(int fd, uint8_t *into, size_t length) {
 
 /* The highest byte first. */
 static void put_error(uint8_t into[FD_CALLS_FAILURE_LENGTH], uint32_t number) {
-    for (int at = FD_CALLS_FAILURE_LENGTH - 1; at >= 0; at--, number >>= 8) into[at] = (uint8_t)number;
+    for (int at = FD_CALLS_FAILURE_LENGTH - 1; at >= 0; at--, number >>= 8)
+        into[at] = (uint8_t)number;
 }
 
 static ssize_t read_failure(uint8_t *into, size_t length) {
@@ -150,6 +152,10 @@ static ssize_t noted(ssize_t result) {
     return result;
 }
 
-ssize_t fd_calls_read(int fd, void *into, size_t length) { return noted(make_read(take_request(), fd, into, length)); }
+ssize_t fd_calls_read(int fd, void *into, size_t length) {
+    return noted(make_read(take_request(), fd, into, length));
+}
 
-ssize_t fd_calls_write(int fd, const void *from, size_t length) { return noted(make_write(take_request(), fd, from, length)); }
+ssize_t fd_calls_write(int fd, const void *from, size_t length) {
+    return noted(make_write(take_request(), fd, from, length));
+}

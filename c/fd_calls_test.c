@@ -1,7 +1,8 @@
 /*
- * Tests fd_calls.c, and devices.c where devices are files: in place of the proved part this program makes requests, and compares the answers
- * with what the file holds by the system's own calls. It has the code of both and of sync_once.c in itself, over calls of the system that can
- * be made to do little at a time. devices_test.c tests devices with calls of their own.
+ * Tests fd_calls.c, and devices.c where devices are files: in place of the proved part this program
+ * makes requests, and compares the answers with what the file holds by the system's own calls. It
+ * has the code of both and of sync_once.c in itself, over calls of the system that can be made to
+ * do little at a time. devices_test.c tests devices with calls of their own.
  */
 #define _GNU_SOURCE /* mkstemp, pipe, ftruncate */
 #define _FILE_OFFSET_BITS 64
@@ -19,13 +20,15 @@
 #include <unistd.h>
 
 #include "sync_once.h"
-/* Where most is not 0, a call moves at most that many bytes, and every other call is interrupted. Where it is to put nothing, it does, and
- * where a sync is to fail, the next one does. Where fstat is to fail, it does. Where reads are direct, their places are multiples of 512. Where
- * there is no memory, each allocation fails. Where they are to meet, another thread's sync goes on while the next write does, and another
- * thread's write returns while the next sync does. */
+/* Where most is not 0, a call moves at most that many bytes, and every other call is interrupted.
+ * Where it is to put nothing, it does, and where a sync is to fail, the next one does. Where fstat
+ * is to fail, it does. Where reads are direct, their places are multiples of 512. Where there is no
+ * memory, each allocation fails. Where they are to meet, another thread's sync goes on while the
+ * next write does, and another thread's write returns while the next sync does. */
 static struct {
     size_t most;
-    bool was_interrupted, puts_nothing, fails_sync, fails_stat, is_direct, has_no_memory, meets_sync, meets_write;
+    bool was_interrupted, puts_nothing, fails_sync, fails_stat, is_direct, has_no_memory,
+        meets_sync, meets_write;
     int syncs, stats;
 } slow;
 
@@ -36,7 +39,9 @@ static bool interrupts(void) {
     return slow.was_interrupted;
 }
 
-static size_t part(size_t length) { return slow.most != 0 && slow.most < length ? slow.most : length; }
+static size_t part(size_t length) {
+    return slow.most != 0 && slow.most < length ? slow.most : length;
+}
 
 static ssize_t slow_pread(int fd, void *into, size_t length, off_t at) {
     if (slow.is_direct && at % 512 != 0) {
@@ -74,7 +79,9 @@ static int slow_fstat(int fd, struct stat *file) {
     return slow.fails_stat ? -1 : fstat(fd, file);
 }
 
-static void *slow_realloc(void *old, size_t size) { return slow.has_no_memory ? NULL : realloc(old, size); }
+static void *slow_realloc(void *old, size_t size) {
+    return slow.has_no_memory ? NULL : realloc(old, size);
+}
 
 static void *slow_malloc(size_t size) { return slow.has_no_memory ? NULL : malloc(size); }
 
@@ -161,7 +168,8 @@ static void test_file(void) {
     MUST(read_at(fd, 4 * SIZE - 10, 100) == 100); /* over the end */
     MUST(memcmp(got, page + SIZE - 10, 10) == 0 && is_filled(got + 10, 90, 0) && got[100] == 0xEE);
     MUST(write_at(fd, 3 * SIZE + 5, 7) == 7); /* no other byte changes */
-    MUST(holds(fd, 3 * SIZE, page, 5) && holds(fd, 3 * SIZE + 5, page, 7) && holds(fd, 3 * SIZE + 12, page + 12, SIZE - 12));
+    MUST(holds(fd, 3 * SIZE, page, 5) && holds(fd, 3 * SIZE + 5, page, 7) &&
+         holds(fd, 3 * SIZE + 12, page + 12, SIZE - 12));
     MUST(write_at(fd, 0, 9) == 9 && holds(fd, 0, page, 9)); /* a page as long as a request */
     slow.syncs = 0;
     MUST(ask(fd, 3, 0) == 9 && slow.syncs == 1);
@@ -174,7 +182,8 @@ static void test_slow_calls(void) {
     slow.most = 1000;
     MUST(write_at(fd, 100, SIZE) == SIZE && holds(fd, 100, page, SIZE));
     MUST(read_at(fd, 100, SIZE) == SIZE && memcmp(got, page, SIZE) == 0);
-    MUST(read_at(fd, SIZE, 2000) == 2000 && memcmp(got, page + SIZE - 100, 100) == 0 && is_filled(got + 100, 1900, 0));
+    MUST(read_at(fd, SIZE, 2000) == 2000 && memcmp(got, page + SIZE - 100, 100) == 0 &&
+         is_filled(got + 100, 1900, 0));
     slow.syncs = 0;
     MUST(ask(fd, 3, 0) == 9 && slow.syncs == 1);
     slow.most = 0;
@@ -184,13 +193,15 @@ static void test_slow_calls(void) {
     close(fd);
 }
 
-/* Where reads are direct, a page that the end of the file is in is read whole, and another rest that is refused is a read that fails: also of a
- * device, which has no size by which its end could be known. */
+/* Where reads are direct, a page that the end of the file is in is read whole, and another rest
+ * that is refused is a read that fails: also of a device, which has no size by which its end could
+ * be known. */
 static void test_direct(void) {
     int fd = new_file(), ends[2], device = open("/dev/zero", O_RDONLY);
     MUST(pipe(ends) == 0 && device >= 0 && write_at(fd, 0, 5000) == 5000);
     slow.is_direct = true;
-    MUST(read_at(fd, 4096, 4096) == 4096 && memcmp(got, page + 4096, 904) == 0 && is_filled(got + 904, 4096 - 904, 0) && got[4096] == 0xEE);
+    MUST(read_at(fd, 4096, 4096) == 4096 && memcmp(got, page + 4096, 904) == 0 &&
+         is_filled(got + 904, 4096 - 904, 0) && got[4096] == 0xEE);
     MUST(read_at(fd, 8192, 4096) == 4096 && is_filled(got, 4096, 0));
     FAILS(read_at(fd, 100, 4096), EINVAL);
     FAILS(read_at(fd, 5100, 4096), EINVAL);
@@ -209,7 +220,9 @@ static void test_direct(void) {
     close(fd);
 }
 
-static bool gets_identity(int fd, uint8_t *into) { return ask(fd, 4, 0) == 9 && fd_calls_read(fd, into, 16) == 16; }
+static bool gets_identity(int fd, uint8_t *into) {
+    return ask(fd, 4, 0) == 9 && fd_calls_read(fd, into, 16) == 16;
+}
 
 /* Descriptors of one file give one identity, whichever they are, and another file has another. */
 static void test_identities(void) {
@@ -239,7 +252,8 @@ static void test_identities(void) {
     close(fd);
 }
 
-/* Each descriptor's file is asked for once while it is remembered, in its place; one that has none is asked for each time. */
+/* Each descriptor's file is asked for once while it is remembered, in its place; one that has none
+ * is asked for each time. */
 static void test_remembered_identities(void) {
     const int fds[] = {new_file(), -1, new_file()}, other = new_file();
     uint8_t first[3][16], again[16];
@@ -247,20 +261,25 @@ static void test_remembered_identities(void) {
     fd_calls_remember(3);
     slow.stats = 0;
     for (int i = 0; i < 9; i++) {
-        MUST(gets_identity(fds[i % 3], again) == (i % 3 != 1) && (i % 3 == 1 || memcmp(again, first[i % 3], 16) == 0));
+        MUST(gets_identity(fds[i % 3], again) == (i % 3 != 1) &&
+             (i % 3 == 1 || memcmp(again, first[i % 3], 16) == 0));
     }
     MUST(slow.stats == 5);
-    MUST(gets_identity(other, again) && memcmp(again, first[0], 16) != 0 && slow.stats == 6); /* in the place of another */
+    /* in the place of another */
+    MUST(gets_identity(other, again) && memcmp(again, first[0], 16) != 0 && slow.stats == 6);
     MUST(!gets_identity(-1, again) && gets_identity(fds[2], again) && slow.stats == 7);
     MUST(gets_identity(fds[0], again) && memcmp(again, first[0], 16) == 0 && slow.stats == 8);
     fd_calls_remember(1);
-    for (int i = 0; i < 2; i++) MUST(gets_identity(fds[2], again) && memcmp(again, first[2], 16) == 0 && slow.stats == 9);
+    for (int i = 0; i < 2; i++)
+        MUST(gets_identity(fds[2], again) && memcmp(again, first[2], 16) == 0 && slow.stats == 9);
     fd_calls_forget();
     fd_calls_forget();
     slow.has_no_memory = true;
     fd_calls_remember(1);
     slow.has_no_memory = false;
-    for (int i = 0; i < 2; i++) MUST(gets_identity(fds[2], again) && memcmp(again, first[2], 16) == 0 && slow.stats == 10 + i);
+    for (int i = 0; i < 2; i++)
+        MUST(gets_identity(fds[2], again) && memcmp(again, first[2], 16) == 0 &&
+             slow.stats == 10 + i);
     fd_calls_remember(0);
     MUST(gets_identity(fds[2], again) && slow.stats == 12);
     fd_calls_remember(SIZE_MAX / 8 + 1); /* whose identities would have a multiple of 2^64 bytes */
@@ -270,7 +289,8 @@ static void test_remembered_identities(void) {
     close(other);
 }
 
-/* A sync that fails once is a flush that fails, and what the next one says is the system's word again: the proved part remembers. */
+/* A sync that fails once is a flush that fails, and what the next one says is the system's word
+ * again: the proved part remembers. */
 static void test_failed_sync(void) {
     int fd = new_file();
     slow.fails_sync = true;
@@ -279,15 +299,16 @@ static void test_failed_sync(void) {
     close(fd);
 }
 
-/* errno of the last call of this thread that failed, asked of any descriptor; -1 where it is not answered. */
+/* errno of the last call of this thread that failed, asked of any descriptor; -1 where it is not
+ * answered. */
 static int failure_at(int fd) {
     uint8_t number[4];
     if (ask(fd, 5, 0) != 9 || fd_calls_read(fd, number, 4) != 4) return -1;
     return number[0] << 24 | number[1] << 16 | number[2] << 8 | number[3];
 }
 
-/* Of a descriptor that a replica has as a device, a sync is made where something was written since the last one, also by a write that failed; and one
- * that failed is not forgotten. */
+/* Of a descriptor that a replica has as a device, a sync is made where something was written since
+ * the last one, also by a write that failed; and one that failed is not forgotten. */
 static void test_counted_syncs(void) {
     int fd = new_file();
     MUST(sync_add(fd));
@@ -335,7 +356,8 @@ static void fails_at_each(int fd, int reading, int writing, int flushing) {
 }
 
 static void test_descriptors(void) {
-    int ends[2], fd = new_file(), full = open("/dev/full", O_RDWR), reader = open("/dev/null", O_RDONLY);
+    int fd = new_file(), full = open("/dev/full", O_RDWR), reader = open("/dev/null", O_RDONLY);
+    int ends[2];
     MUST(pipe(ends) == 0 && full >= 0 && reader >= 0);
     fails_at_each(NO_FILE, EBADF, EBADF, EBADF);
     fails_at_each(-1, EBADF, EBADF, EBADF);
@@ -343,7 +365,7 @@ static void test_descriptors(void) {
     fails_at_each(ends[0], ESPIPE, ESPIPE, EINVAL);
     fails_at_each(ends[1], ESPIPE, ESPIPE, EINVAL);
     MUST(read_at(full, 0, 512) == 512 && is_filled(got, 512, 0));
-    FAILS(write_at(full, 0, 512), ENOSPC); /* no room on the device */
+    FAILS(write_at(full, 0, 512), ENOSPC);  /* no room on the device */
     FAILS(write_at(reader, 0, 512), EBADF); /* not open for writing */
     /* closed between the request and its data */
     MUST(ask(fd, 1, 0) == 9 && close(fd) == 0);
@@ -369,7 +391,8 @@ static void test_limit(void) {
     close(fd);
 }
 
-/* What is out of order fails, and leaves no request behind: after each, a read and a write do as ever. */
+/* What is out of order fails, and leaves no request behind: after each, a read and a write do as
+ * ever. */
 static void is_as_ever(int fd) {
     MUST(write_at(fd, 0, 512) == 512 && read_at(fd, 0, 512) == 512 && memcmp(got, page, 512) == 0);
 }

@@ -5,8 +5,8 @@
  * one size, and is given back with the last of them. Where there are many runs, as for a pool of
  * more than 48 megabytes, the next ones are of 8,192 units in huge pages: a pin of a page that was
  * not used lately misses one look at the processor's table of addresses, where small pages miss two
- * and more. aligned_alloc is no help: with glibc's a block
- * of one unit takes two, since what it keeps before the block is in the unit before.
+ * and more. aligned_alloc is no help: with glibc's a block of one unit takes two, since what it
+ * keeps before the block is in the unit before.
  */
 #define _DEFAULT_SOURCE 1 /* pthread_mutex_t, MAP_ANONYMOUS, madvise */
 #include "heap.h"
@@ -17,15 +17,21 @@
 #include <string.h>
 #include <sys/mman.h>
 
-/* Behind the last block of a run is a unit that nobody writes to: it takes addresses and no memory. */
+/* Behind the last block of a run is a unit that nobody writes to: it takes addresses and no
+ * memory. */
 enum { RUN_BYTES = 256 * HEAP_UNIT, MAPPED_BYTES = RUN_BYTES + HEAP_UNIT };
 
-/* From how many runs on they are great ones. These begin at a multiple of a huge page: what is mapped
- * before that, and behind them, takes addresses alone, too. */
-enum { MANY_RUNS = 48, HUGE_BYTES = 2 << 20, GREAT_BYTES = 8192 * HEAP_UNIT, GREAT_MAPPED = GREAT_BYTES + HUGE_BYTES };
+/* From how many runs on they are great ones. These begin at a multiple of a huge page: what is
+ * mapped before that, and behind them, takes addresses alone, too. */
+enum {
+    MANY_RUNS = 48,
+    HUGE_BYTES = 2 << 20,
+    GREAT_BYTES = 8192 * HEAP_UNIT,
+    GREAT_MAPPED = GREAT_BYTES + HUGE_BYTES
+};
 
 typedef struct run {
-    uint8_t *at; /* its first block */
+    uint8_t *at;  /* its first block */
     size_t bytes; /* that blocks are cut from */
     void *mapped;
     size_t mapped_bytes;
@@ -66,7 +72,8 @@ static size_t runs_until(const void *p) {
 /* The run that a block was cut from. */
 static run *run_of(const void *p) {
     size_t until = runs_until(p);
-    if (until == 0 || (uintptr_t)p - (uintptr_t)runs[until - 1]->at >= runs[until - 1]->bytes) return NULL;
+    if (until == 0 || (uintptr_t)p - (uintptr_t)runs[until - 1]->at >= runs[until - 1]->bytes)
+        return NULL;
     return runs[until - 1];
 }
 

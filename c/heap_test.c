@@ -18,6 +18,8 @@ static atomic_long in_use, fails_at;
 static atomic_size_t mapped; /* bytes */
 static bool aligns;          /* malloc answers multiples of 4,096 */
 static bool keeps_mappings;  /* munmap fails */
+static size_t huge;          /* bytes that the system was asked to have in huge pages */
+static uintptr_t huge_at;    /* all bits of where these began */
 
 static bool refuses(void) { return fails_at != 0 && --fails_at == 0; }
 
@@ -56,6 +58,15 @@ static int counted_munmap(void *p, size_t n) {
     return munmap(p, n);
 }
 
+static int counted_madvise(void *p, size_t n, int advice) {
+    if (advice == MADV_HUGEPAGE) {
+        huge += n;
+        huge_at |= (uintptr_t)p;
+    }
+    return madvise(p, n, advice);
+}
+
+#define madvise counted_madvise
 #define mmap counted_mmap
 #define munmap counted_munmap
 #define malloc counted_malloc
@@ -67,6 +78,7 @@ static int counted_munmap(void *p, size_t n) {
 #undef free
 #undef mmap
 #undef munmap
+#undef madvise
 
 enum { UNIT = 4096, LARGE = 16 * UNIT, MANY = 10000, LIVE = 600, STEPS = 40000, THREADS = 4 };
 
@@ -141,8 +153,8 @@ static void test_sizes(void) {
 }
 
 static void test_resizes(void) {
-    static const size_t sizes[] = {0,     1,     100,          UNIT,     3 * UNIT, UNIT, 5000,
-                                   LARGE, LARGE, LARGE + UNIT, 2 * UNIT, 9,        0,    UNIT};
+    static const size_t sizes[] = {
+        0, 1, 100, UNIT, 3 * UNIT, UNIT, 5000, LARGE, LARGE, LARGE + UNIT, 2 * UNIT, 9, 0, UNIT};
     enum { COUNT = sizeof sizes / sizeof sizes[0] };
     for (size_t from = 0; from < COUNT; from++) {
         block it = take(sizes[from], (uint32_t)from);
@@ -202,11 +214,17 @@ static void test_holes(void) {
     MUST(in_use == 0 && runs == NULL && mapped == 0);
 }
 
-/* Many runs, and then great ones, in huge pages; where the system maps none of these, small ones go on. */
+/* Many runs, and then great ones, in huge pages; where the system maps none of these, small ones go
+ * on. */
 static void test_great_runs(void) {
-    enum { SMALL = MANY_RUNS * RUN_BYTES / UNIT, GREAT = GREAT_BYTES / UNIT, ALL = SMALL + GREAT + 1 };
+    enum {
+        SMALL = MANY_RUNS * RUN_BYTES / UNIT,
+        GREAT = GREAT_BYTES / UNIT,
+        ALL = SMALL + GREAT + 1
+    };
     block *all = calloc(ALL, sizeof(block));
     MUST(all != NULL);
+    huge = huge_at = 0;
     for (uint32_t at = 0; at < SMALL; at++) all[at] = take(UNIT, at);
     size_t before = mapped;
     MUST(run_count == MANY_RUNS && before == (size_t)MANY_RUNS * MAPPED_BYTES);
@@ -214,11 +232,13 @@ static void test_great_runs(void) {
     block other = take(UNIT, 7);
     MUST(fails_at == 0 && run_count == MANY_RUNS + 1 && mapped == before + MAPPED_BYTES);
     drop(&other);
-    MUST(mapped == before);
+    MUST(mapped == before && huge == 0);
     for (uint32_t at = SMALL; at < ALL - 1; at++) all[at] = take(UNIT, at);
-    MUST((uintptr_t)all[SMALL].p % HUGE_BYTES == 0 && run_count == MANY_RUNS + 1 && mapped == before + GREAT_MAPPED);
+    MUST((uintptr_t)all[SMALL].p % HUGE_BYTES == 0 && run_count == MANY_RUNS + 1 &&
+         mapped == before + GREAT_MAPPED);
     all[ALL - 1] = take(UNIT, 9);
     MUST(run_count == MANY_RUNS + 2 && mapped == before + 2 * (size_t)GREAT_MAPPED);
+    MUST(huge == 2 * (size_t)GREAT_BYTES && huge_at % HUGE_BYTES == 0);
     for (uint32_t at = 0; at < ALL; at++) drop(&all[(at * 7919ull) % ALL]);
     free(all);
     MUST(in_use == 0 && runs == NULL && mapped == 0);
@@ -303,7 +323,8 @@ static void test_churn(void) {
     MUST(in_use == 0 && runs == NULL);
 }
 
-/* Behind each block of pages as many bytes as a page has may be read, also behind the last block of a run. */
+/* Behind each block of pages as many bytes as a page has may be read, also behind the last block of
+ * a run. */
 static void test_behind(void) {
     enum { BLOCKS = 256 };
     static block all[BLOCKS];
@@ -311,7 +332,8 @@ static void test_behind(void) {
     for (size_t size = UNIT; size <= LARGE; size += UNIT) {
         for (uint32_t at = 0; at < BLOCKS; at++) all[at] = take(size, at);
         for (int at = 0; at < BLOCKS; at++)
-            for (size_t behind = 0; behind < UNIT; behind += UNIT - 1) seen = all[at].p[size + behind];
+            for (size_t behind = 0; behind < UNIT; behind += UNIT - 1)
+                seen = all[at].p[size + behind];
         for (int at = 0; at < BLOCKS; at++) drop(&all[at]);
     }
     (void)seen;
@@ -340,7 +362,8 @@ static void test_memory(bool is_plain) {
     for (uint32_t at = 0; at < MANY; at++) drop(&all[(at * 7919) % MANY]);
     double left = (double)(resident() - before) / bytes;
     printf("heap_test: %d blocks of %d bytes: %.4f of their bytes are mapped, %.4f resident; "
-           "then %.4f\n", MANY, UNIT, part, has, left);
+           "then %.4f\n",
+        MANY, UNIT, part, has, left);
     MUST(part < 1.05 && mapped == 0 && in_use == 0 && runs == NULL);
     MUST(!is_plain || (has < 1.05 && left < 0.01));
 }

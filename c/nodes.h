@@ -1,14 +1,14 @@
 /*
  * nodes.h: the proved part of the library, for the files of c/ alone. It is not installed.
  *
- * A replica has one node for each shard. Each function below is proved of one node, or of no node at
- * all; the locks of shards, and which node is asked, are in shards.h. What a function above "Parts"
- * does of a node, include/warm.h says of a replica: proved.h has the names that differ, and how the
- * types here become those there. Statuses have the same numbers, and what the header says of refused
- * calls and of pointers holds for all of them.
+ * A replica has one node for each shard. Each function below is proved of one node, or of no node
+ * at all; the locks of shards, and which node is asked, are in shards.h. What a function above
+ * "Parts" does of a node, include/warm.h says of a replica: proved.h has the names that differ, and
+ * how the types here become those there. Statuses have the same numbers, and what the header says
+ * of refused calls and of pointers holds for all of them.
  *
- * One call at a time uses a node. The shard of a slot that a function writes is 0; that of a slot that
- * is passed is not looked at. A message is called a frame here, as the proved part calls it.
+ * One call at a time uses a node. The shard of a slot that a function writes is 0; that of a slot
+ * that is passed is not looked at. A message is called a frame here, as the proved part calls it.
  */
 #ifndef NODES_H
 #define NODES_H
@@ -58,8 +58,8 @@ typedef struct node {
     void *at;
 } node;
 
-int node_open(node *handle, uint16_t replica, size_t frames, size_t page_size, const node_device *devices,
-    size_t device_count);
+int node_open(node *handle, uint16_t replica, size_t frames, size_t page_size,
+    const node_device *devices, size_t device_count);
 void node_close(node *handle);
 int node_absorb(node *handle, const node_reference *references, size_t count);
 int node_pin(node *handle, node_page page, node_slot *slot);
@@ -73,11 +73,12 @@ int node_resident(node *handle, node_page page, bool *resident);
 int node_victim(node *handle, bool *found, node_page *page);
 int node_list(node *handle, node_page *pages, size_t room, size_t *count);
 int node_step(node *handle, bool *found, node_page *page);
-int node_send_since(node *handle, uint8_t bucket, uint64_t since, bool has_after, node_page after, uint8_t *frame,
-    size_t room, size_t *length, bool *more, node_page *last);
+int node_send_since(node *handle, uint8_t bucket, uint64_t since, bool has_after, node_page after,
+    uint8_t *frame, size_t room, size_t *length, bool *more, node_page *last);
 int node_horizon(node *handle, uint64_t time, uint64_t *horizon);
 int node_write_back(node *handle);
 int node_write_back_some(node *handle, size_t limit, size_t *left);
+int node_write_back_page(node *handle, node_page page, bool *written);
 int node_flush(node *handle, uint16_t dev);
 int node_forget(node *handle, uint16_t dev, uint64_t from);
 int node_replace(node *handle, uint16_t dev, const node_device *device);
@@ -89,23 +90,25 @@ int node_save(node *handle, int fd);
 int node_load(node *handle, int fd, uint64_t length);
 
 /*
- * Parts. shards is how many shards there are (1, 2, 4 to 64), and shard one of them, from 0. The shard
- * of a page is its bucket (docs/FORMATS.md), modulo shards. Where a function returns a status, it is
- * WARM_BAD_SHARDS first, then WARM_NO_SHARD, where they are not so.
+ * Parts. shards is how many shards there are (1, 2, 4 to 64), and shard one of them, from 0. The
+ * shard of a page is its bucket (docs/FORMATS.md), modulo shards. Where a function returns a
+ * status, it is WARM_BAD_SHARDS first, then WARM_NO_SHARD, where they are not so.
  */
 
 /* Pins a page as node_pin does, and writes where its bytes lie, as node_lend does.
  * Refused: what node_pin is refused with; the slot and the pointer are then as they were. */
 int node_pin_lend(node *handle, node_page page, node_slot *slot, const uint8_t **bytes);
 
-/* Pins a page as node_pin does, but with these bytes in place of a read, and writes its slot. They are the page as its device has
- * it now, whole: that is believed. No device is read. Of a page that is in a frame the bytes are not looked at.
- * Refused: WARM_BAD_PAGE_SIZE where they are not as many as a page has; what node_pin is refused with, but WARM_READ_FAULT. The
- * slot is then as it was. */
-int node_pin_filled(node *handle, node_page page, const uint8_t *bytes, size_t length, node_slot *slot);
+/* Pins a page as node_pin does, but with these bytes in place of a read, and writes its slot. They
+ * are the page as its device has it now, whole: that is believed. No device is read. Of a page that
+ * is in a frame the bytes are not looked at.
+ * Refused: WARM_BAD_PAGE_SIZE where they are not as many as a page has; what node_pin is refused
+ * with, but WARM_READ_FAULT. The slot is then as it was. */
+int node_pin_filled(
+    node *handle, node_page page, const uint8_t *bytes, size_t length, node_slot *slot);
 
-/* Writes whether there is a page that node_step would load, and which. Nothing is loaded. If the page is then pinned by
- * node_pin_filled and unpinned, with no call in between, that was the step.
+/* Writes whether there is a page that node_step would load, and which. Nothing is loaded. If the
+ * page is then pinned by node_pin_filled and unpinned, with no call in between, that was the step.
  * Refused: WARM_MEMORY. */
 int node_next(node *handle, bool *found, node_page *page);
 
@@ -125,42 +128,53 @@ typedef struct node_frame {
 } node_frame;
 
 /* Writes what a frame is, which speaks of no time later than the limit.
- * Refused: WARM_TRUNCATED to WARM_BAD_ORDER, by the first fault from left to right; WARM_LATE_HORIZON, WARM_LATE_STAMP;
- * WARM_MEMORY at any point. */
-int node_read_frame(size_t shards, uint64_t limit, const uint8_t *frame, size_t length, node_frame *what);
+ * Refused: WARM_TRUNCATED to WARM_BAD_ORDER, by the first fault from left to right;
+ * WARM_LATE_HORIZON, WARM_LATE_STAMP; WARM_MEMORY at any point. */
+int node_read_frame(
+    size_t shards, uint64_t limit, const uint8_t *frame, size_t length, node_frame *what);
 
-/* Of a frame of entries: raises the node to its horizon, and takes in the entries whose pages are of the shard. Of any other
- * frame: raises the node to its horizon. All or nothing.
- * Refused: WARM_TRUNCATED to WARM_BAD_ORDER; WARM_MEMORY. No limit is looked at: node_read_frame has done so. */
-int node_receive_part(node *handle, size_t shards, size_t shard, const uint8_t *frame, size_t length);
+/* Of a frame of entries: raises the node to its horizon, and takes in the entries whose pages are
+ * of the shard. Of any other frame: raises the node to its horizon. All or nothing.
+ * Refused: WARM_TRUNCATED to WARM_BAD_ORDER; WARM_MEMORY. No limit is looked at: node_read_frame
+ * has done so. */
+int node_receive_part(
+    node *handle, size_t shards, size_t shard, const uint8_t *frame, size_t length);
 
-/* Writes the digests of the shard's buckets to their places in the table, and leaves the others; and the later of horizon and
- * the node's own.
+/* Writes the digests of the shard's buckets to their places in the table, and leaves the others;
+ * and the later of horizon and the node's own.
  * Refused: WARM_MEMORY. */
 int node_digests(node *handle, size_t shards, size_t shard, node_table *table, uint64_t *horizon);
 
-/* Writes the frame of these digests, as a replica of this number and horizon offers it, and its length.
- * Refused: WARM_BAD_REPLICA; WARM_MEMORY; WARM_BUFFER_TOO_SMALL, where length is the room that it needs. */
-int node_offer_frame(uint16_t replica, uint64_t horizon, const node_table *table, uint8_t *frame, size_t room,
-    size_t *length);
+/* Writes the frame of these digests, as a replica of this number and horizon offers it, and its
+ * length.
+ * Refused: WARM_BAD_REPLICA; WARM_MEMORY; WARM_BUFFER_TOO_SMALL, where length is the room that it
+ * needs. */
+int node_offer_frame(uint16_t replica, uint64_t horizon, const node_table *table, uint8_t *frame,
+    size_t room, size_t *length);
 
-/* Of a frame of digests: bit i where that of bucket i differs from the table's. Of any other frame: 0.
+/* Of a frame of digests: bit i where that of bucket i differs from the table's. Of any other
+ * frame: 0.
  * Refused: WARM_TRUNCATED to WARM_BAD_ORDER; WARM_MEMORY. */
 int node_differing(const node_table *table, const uint8_t *frame, size_t length, uint64_t *buckets);
 
-/* Writes the frame by which a replica of this number and horizon requests these buckets (bit i: bucket i), and its length.
- * Refused: WARM_BAD_REPLICA; WARM_MEMORY; WARM_BUFFER_TOO_SMALL, where length is the room that it needs. */
-int node_want_frame(uint16_t replica, uint64_t horizon, uint64_t buckets, uint8_t *frame, size_t room, size_t *length);
+/* Writes the frame by which a replica of this number and horizon requests these buckets (bit i:
+ * bucket i), and its length.
+ * Refused: WARM_BAD_REPLICA; WARM_MEMORY; WARM_BUFFER_TOO_SMALL, where length is the room that it
+ * needs. */
+int node_want_frame(uint16_t replica, uint64_t horizon, uint64_t buckets, uint8_t *frame,
+    size_t room, size_t *length);
 
-/* Joins the whole history of one node to that of another, at the later horizon of both. The one that it is taken from is as
- * it was. All or nothing.
+/* Joins the whole history of one node to that of another, at the later horizon of both. The one
+ * that it is taken from is as it was. All or nothing.
  * Refused: WARM_CLOSED where one of them is closed; WARM_MEMORY. */
 int node_gather(node *into, node *from);
 
-/* Whether node_forget would forget these pages, or what it would be refused with. Nothing changes. */
+/* Whether node_forget would forget these pages, or what it would be refused with. Nothing
+ * changes. */
 int node_may_forget(node *handle, uint16_t dev, uint64_t from);
 
-/* Whether node_replace would be refused for what the new device is: with WARM_NO_DEVICE or WARM_SAME_FILE. Nothing changes.
+/* Whether node_replace would be refused for what the new device is: with WARM_NO_DEVICE or
+ * WARM_SAME_FILE. Nothing changes.
  * Refused: these; WARM_MEMORY. */
 int node_may_replace(node *handle, uint16_t dev, const node_device *device);
 

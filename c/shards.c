@@ -1,7 +1,8 @@
 /*
- * shards.c: the calls on one page of include/warm.h. A pin of a page that has a record and its unpin touch what is the handle's alone (holds.h).
- * Each other call finds the shard, enters it, makes a call of the proved part on the shard's node (nodes.h), and leaves it.
- * Nothing here is proved; c/check tests it, and checks/holds.
+ * shards.c: the calls on one page of include/warm.h. A pin of a page that has a record and its
+ * unpin touch what is the handle's alone (holds.h). Each other call finds the shard, enters it,
+ * makes a call of the proved part on the shard's node (nodes.h), and leaves it. Nothing here is
+ * proved; c/check tests it, and checks/holds.
  */
 #define _POSIX_C_SOURCE 200809L /* pthread_mutex_t */
 #include "shards.h"
@@ -10,13 +11,8 @@
 
 /* ---- pages ---- */
 
-/* As shard_of of crates/warm_shards has it: the page's bucket, (dev + no) modulo 64, modulo the number of shards, which is a power of two up to
- * 64. The proved part is not asked, so that a hit makes no call. */
-static size_t number_of(const opened *its, node_page page) { return (page.dev + page.no) & (its->count - 1); }
-
-static shard *shard_of(const opened *its, node_page page) { return &its->shards[number_of(its, page)]; }
-
-/* The hold by which the handle names a record, or one that it does not use; HOLDS where it has none left, or no count. */
+/* The hold by which the handle names a record, or one that it does not use; HOLDS where it has none
+ * left, or no count. */
 static inline unsigned hold_for(const opened *its, uint64_t word) {
     for (unsigned left = its->used; left != 0; left &= left - 1) {
         unsigned at = (unsigned)__builtin_ctz(left);
@@ -26,7 +22,8 @@ static inline unsigned hold_for(const opened *its, uint64_t word) {
 }
 
 /* Holds the record's page, unless another one has the record now. */
-static inline bool hold(opened *its, unsigned at, record *its_record, uint32_t state, uint64_t word) {
+static inline bool hold(
+    opened *its, unsigned at, record *its_record, uint32_t state, uint64_t word) {
     HOLDS_PAUSE();
     atomic_exchange(&its->holds->words[at], word);
     HOLDS_PAUSE();
@@ -36,14 +33,16 @@ static inline bool hold(opened *its, unsigned at, record *its_record, uint32_t s
 }
 
 /* Pins a page by a hold: the page has a record, and the handle a hold left. */
-static inline bool pin_by_hold(opened *its, node_page page, warm_slot *slot, const uint8_t **bytes) {
+static inline bool pin_by_hold(
+    opened *its, node_page page, warm_slot *slot, const uint8_t **bytes) {
     uint32_t state;
     size_t number = number_of(its, page);
     const table *of = &its->shards[number].table;
     record *at = find_record(of, page, &state);
     if (at == NULL) return false;
     uint64_t generation = atomic_load_explicit(&at->generation, memory_order_acquire);
-    uint64_t place = atomic_load_explicit(&at->index, memory_order_acquire) | (uint64_t)number << SLOT_SHARD;
+    uint64_t index = atomic_load_explicit(&at->index, memory_order_acquire);
+    uint64_t place = index | (uint64_t)number << SLOT_SHARD;
     const uint8_t *lent = atomic_load_explicit(&at->bytes, memory_order_acquire);
     uint64_t word = word_of(number, of, at, state);
     unsigned by = hold_for(its, word);
@@ -54,7 +53,8 @@ static inline bool pin_by_hold(opened *its, node_page page, warm_slot *slot, con
         its->used |= 1u << by;
     }
     its->own[by].pins++;
-    atomic_store_explicit(&its->holds->hits, atomic_load_explicit(&its->holds->hits, memory_order_relaxed) + 1, memory_order_relaxed);
+    atomic_store_explicit(&its->holds->hits,
+        atomic_load_explicit(&its->holds->hits, memory_order_relaxed) + 1, memory_order_relaxed);
     slot->generation = generation;
     put_place(slot, place | UINT64_C(1) << SLOT_HIT);
     *bytes = lent;
@@ -89,13 +89,16 @@ typedef struct load {
 
 static int ask_node(opened *its, shard *in, load *it) {
     if (it->kind == LOAD_PINS) return node_pin_lend(&in->node, it->page, &it->slot, &it->bytes);
-    if (it->kind == LOAD_PINS_ZEROED) return node_pin_zeroed(&in->node, it->page, &it->slot);
+    if (it->kind == LOAD_PINS_ZEROED) {
+        in->may_be_dirty = true;
+        return node_pin_zeroed(&in->node, it->page, &it->slot);
+    }
     int status = node_pin_filled(&in->node, it->page, its->buffer, its->of->page_size, &it->slot);
     return status == WARM_OK ? node_lend(&in->node, it->slot, &it->bytes) : status;
 }
 
-/* The page that leaves is one that nobody holds: where none leaves, or nobody can hold one, the node
- * alone is asked. */
+/* The page that leaves is one that nobody holds: where none leaves, or nobody can hold one, the
+ * node alone is asked. */
 static int load_once(opened *its, shard *in, load *it) {
     bool is_free = it->is_alone || in->table.filled < in->table.frames;
     return is_free || pass_over_held(its, in, true) ? ask_node(its, in, it) : WARM_ALL_PINNED;
@@ -146,7 +149,8 @@ __attribute__((noinline)) static int load_again(opened *its, shard *in, load *it
 
 static inline int load_in(opened *its, shard *in, load *it) {
     int status = load_once(its, in, it);
-    if (status == WARM_EVICT_FAULT || status == WARM_READ_FAULT) status = load_again(its, in, it, status);
+    if (status == WARM_EVICT_FAULT || status == WARM_READ_FAULT)
+        status = load_again(its, in, it, status);
     if (in->table.passed_count > 0) unpin_passed(in);
     return status;
 }
@@ -243,7 +247,8 @@ static int pin_in_shard(opened *its, load *it, warm_slot *slot) {
     return status;
 }
 
-__attribute__((noinline)) static int pin_slowly(opened *its, node_page page, warm_slot *slot, const uint8_t **bytes) {
+__attribute__((noinline)) static int pin_slowly(
+    opened *its, node_page page, warm_slot *slot, const uint8_t **bytes) {
     load it = {.kind = LOAD_PINS, .page = page};
     int status = pin_in_shard(its, &it, slot);
     if (status == WARM_OK) *bytes = it.bytes;
@@ -254,7 +259,8 @@ int warm_pin_bytes(warm *handle, warm_page page, warm_slot *slot, const uint8_t 
     opened *its = handle->at;
     if (its == NULL) return WARM_CLOSED;
     node_page its_page = page_in(page);
-    return pin_by_hold(its, its_page, slot, bytes) ? WARM_OK : pin_slowly(its, its_page, slot, bytes);
+    if (pin_by_hold(its, its_page, slot, bytes)) return WARM_OK;
+    return pin_slowly(its, its_page, slot, bytes);
 }
 
 int warm_pin(warm *handle, warm_page page, warm_slot *slot) {
@@ -285,7 +291,8 @@ int warm_unpin(warm *handle, warm_slot slot) {
     return unpin_by_hold(its, slot) ? WARM_OK : unpin_in_shard(its, slot);
 }
 
-/* A shard that is entered for a call on a slot, whose page the node has a pin of meanwhile, where anybody has one. */
+/* A shard that is entered for a call on a slot, whose page the node has a pin of meanwhile, where
+ * anybody has one. */
 typedef struct visit {
     shard *in;
     node_slot slot;
@@ -304,6 +311,13 @@ static int enter_slot(warm *handle, warm_slot slot, visit *made) {
     return WARM_OK;
 }
 
+/* The same, for a call that makes the page dirty. */
+static int enter_slot_to_write(warm *handle, warm_slot slot, visit *made) {
+    int status = enter_slot(handle, slot, made);
+    if (status == WARM_OK) made->in->may_be_dirty = true;
+    return status;
+}
+
 static int leave_slot(const visit *made, int status) {
     if (made->is_pinned) node_unpin(&made->in->node, made->slot);
     leave(made->in, made->is_locked);
@@ -313,25 +327,29 @@ static int leave_slot(const visit *made, int status) {
 int warm_read(warm *handle, warm_slot slot, size_t at, void *into, size_t length) {
     visit made;
     int status = enter_slot(handle, slot, &made);
-    return status != WARM_OK ? status : leave_slot(&made, node_read(&made.in->node, made.slot, at, into, length));
+    if (status != WARM_OK) return status;
+    return leave_slot(&made, node_read(&made.in->node, made.slot, at, into, length));
 }
 
 int warm_write(warm *handle, warm_slot slot, size_t at, const void *bytes, size_t length) {
     visit made;
-    int status = enter_slot(handle, slot, &made);
-    return status != WARM_OK ? status : leave_slot(&made, node_write(&made.in->node, made.slot, at, bytes, length));
+    int status = enter_slot_to_write(handle, slot, &made);
+    if (status != WARM_OK) return status;
+    return leave_slot(&made, node_write(&made.in->node, made.slot, at, bytes, length));
 }
 
 int warm_bytes(warm *handle, warm_slot slot, const uint8_t **bytes) {
     visit made;
     int status = enter_slot(handle, slot, &made);
-    return status != WARM_OK ? status : leave_slot(&made, node_lend(&made.in->node, made.slot, bytes));
+    if (status != WARM_OK) return status;
+    return leave_slot(&made, node_lend(&made.in->node, made.slot, bytes));
 }
 
 int warm_bytes_mut(warm *handle, warm_slot slot, uint8_t **bytes) {
     visit made;
-    int status = enter_slot(handle, slot, &made);
-    return status != WARM_OK ? status : leave_slot(&made, node_lend_mut(&made.in->node, made.slot, bytes));
+    int status = enter_slot_to_write(handle, slot, &made);
+    if (status != WARM_OK) return status;
+    return leave_slot(&made, node_lend_mut(&made.in->node, made.slot, bytes));
 }
 
 /* Whose bytes are lent for writing, that page is dirty. */
@@ -356,7 +374,8 @@ int warm_resident(warm *handle, warm_page page, bool *resident) {
 enum { VICTIMS = 64 };
 
 /* The node has a pin of each page that is said, so that the next one follows, until all are. */
-static int find_victims(opened *its, shard *in, size_t room, node_page pages[VICTIMS], size_t *count) {
+static int find_victims(
+    opened *its, shard *in, size_t room, node_page pages[VICTIMS], size_t *count) {
     node_slot slots[VICTIMS];
     size_t found = 0;
     bool fits = true, is_more = true;
@@ -398,7 +417,8 @@ static int step_in(opened *its, shard *in, load *it, bool *found) {
     return status;
 }
 
-/* The shards have turns, also where one is refused: pages of one that cannot be read keep no other from being loaded. */
+/* The shards have turns, also where one is refused: pages of one that cannot be read keep no other
+ * from being loaded. */
 int warm_step(warm *handle, bool *found, warm_page *page) {
     opened *its = handle->at;
     load it = {0};

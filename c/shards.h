@@ -1,12 +1,22 @@
 /*
- * shards.h: what is behind a handle of include/warm.h, for c/opening.c (handles), c/shards.c (pages) and c/whole_calls.c (all else). Not
- * installed.
+ * shards.h: what is behind a handle of include/warm.h, for c/opening.c (handles), c/shards.c
+ * (pages), c/whole_calls.c and c/write_back.c (all else). Not installed.
  *
  * A replica has one node of the proved part for each shard, and a lock for each. Whoever is in a
  * shard, between enter and leave, has its node to itself: by its lock, or since no other handle is
  * open. No call is in two shards at once but those that are in all, which enter them in their
  * order. A pin of a page that has a record, and its unpin, are in no shard (holds.h); nor is,
  * meanwhile, who reads a page (reads.h).
+ *
+ * Who takes several locks takes them in this order:
+ *  1. a shard's, or those of all shards;
+ *  2. that of one descriptor's sync, which is held during the sync (sync_once.c);
+ *  3. one of three that are held while nothing is waited for: that of what is counted of
+ *     descriptors (sync_once.c), of the devices that have calls of their own (devices.c), and of
+ *     the heap (heap.c).
+ * A call of the engine is made with none of the third kind, and at most with these: a read with
+ * none at all, a write with a shard's, a sync with the second; in warm_replace also with those of
+ * all shards.
  */
 #ifndef SHARDS_H
 #define SHARDS_H
@@ -24,6 +34,7 @@ typedef struct shard {
     node node;
     reading *reads; /* pages that are being read */
     _Alignas(LINE) pthread_cond_t read_over;
+    bool may_be_dirty; /* where not, no page is, and the node need not look at each frame */
     _Alignas(LINE) table table;
 } shard;
 
@@ -43,7 +54,8 @@ typedef struct replica {
     size_t frames, page_size;
     node_device *devices; /* their numbers */
     known_device *known;
-    size_t device_count, synced_count; /* how many were numbered, and how many of these are counted by sync_once.h */
+    size_t device_count; /* how many were numbered */
+    size_t synced_count; /* how many of these are counted by sync_once.h */
     atomic_size_t handles;   /* how many are open */
     _Atomic uint64_t limit, horizon_limit; /* of times in frames */
     atomic_size_t page_limit;              /* of pages known */
@@ -60,11 +72,12 @@ typedef struct answers {
     uint64_t buckets; /* bit i: entries of bucket i are still to be sent */
     uint64_t wanted;  /* the buckets that are asked for after that; 0 where nothing is */
     uint64_t horizon; /* of that request */
-    node_page after;  /* the last page of the lowest of these buckets that was sent, where has_after */
+    node_page after;  /* where has_after, the last page of the lowest bucket that was sent */
     bool has_after;
 } answers;
 
-/* What a handle alone knows of a hold: the slot of its page, index and shard in one, and how often it has pinned the page so. */
+/* What a handle alone knows of a hold: the slot of its page, index and shard in one, and how often
+ * it has pinned the page so. */
 typedef struct own_hold {
     uint64_t generation, place, pins;
 } own_hold;
@@ -82,18 +95,33 @@ typedef struct opened {
     size_t turn; /* the shard with which the next warm_step begins */
     bool is_first; /* whether it opened the replica */
     bool has_failed;
-    node_failure failure; /* the call of a device that failed last in a call of the handle, where has_failed */
+    node_failure failure; /* of a device, in a call of the handle, the last one; where has_failed */
     answers waiting;
     void *block;
-    uint8_t unwritten[]; /* bit i: in the call that is made, a write to device i has failed; 0 between calls */
+    /* bit i: in the call that is made, a write to device i has failed; 0 between calls */
+    uint8_t unwritten[];
 } opened;
 
 static inline size_t bytes_of_devices(const replica *of) { return (of->device_count + 7) / 8; }
 
-static inline size_t open_handles(replica *of) { return atomic_load_explicit(&of->handles, memory_order_acquire); }
+/* As shard_of of crates/warm_shards has it: the page's bucket, (dev + no) modulo 64, modulo the
+ * number of shards, which is a power of two up to 64. The proved part is not asked, so that a hit
+ * makes no call. */
+static inline size_t number_of(const opened *its, node_page page) {
+    return (page.dev + page.no) & (its->count - 1);
+}
 
-/* Returns whether the shard was locked. Who finds one handle open is in a call of it, and no other thread can be in another: warm_attach is a call
- * of it, too, and the last call of a handle that was closed since has ended before that. */
+static inline shard *shard_of(const opened *its, node_page page) {
+    return &its->shards[number_of(its, page)];
+}
+
+static inline size_t open_handles(replica *of) {
+    return atomic_load_explicit(&of->handles, memory_order_acquire);
+}
+
+/* Returns whether the shard was locked. Who finds one handle open is in a call of it, and no other
+ * thread can be in another: warm_attach is a call of it, too, and the last call of a handle that
+ * was closed since has ended before that. */
 static inline bool enter(opened *its, shard *in) {
     if (open_handles(its->of) == 1) return false;
     pthread_mutex_lock(&in->lock);
@@ -112,13 +140,15 @@ static inline int noted(opened *its, shard *in, int status) {
     return status;
 }
 
-/* Whether a device may be one of a replica of this page size: WARM_OK, WARM_BAD_DEVICE or WARM_APPENDS. */
+/* Whether a device may be one of a replica of this page size: WARM_OK, WARM_BAD_DEVICE or
+ * WARM_APPENDS. */
 int may_be_device(const warm_device *device, size_t page_size);
 
 /* Returns how many pages of all shards are dirty. */
 size_t dirty_pages(opened *its);
 
-/* Syncs each device where that waits, with no shard entered, and returns WARM_OK or WARM_WRITE_FAULT. */
+/* Syncs each device where that waits, with no shard entered, and returns WARM_OK or
+ * WARM_WRITE_FAULT. */
 int sync_devices(opened *its);
 
 #endif

@@ -1,7 +1,9 @@
 /*
- * sync_once.c: which descriptors are still to be synced, as sync_once.h says. Nothing here is proved; c/check tests it.
+ * sync_once.c: which descriptors are still to be synced, as sync_once.h says. Nothing here is
+ * proved; c/check tests it.
  *
- * Its locks come after all others: syncing, which is held during an fsync, and then that of the chains, which is held during nothing that waits.
+ * Its locks come after all others: syncing, which is held during an fsync, and then that of the
+ * chains, which is held during nothing that waits.
  */
 #define _POSIX_C_SOURCE 200809L /* pthread_mutex_t */
 #include "sync_once.h"
@@ -26,8 +28,8 @@ typedef struct counted {
     bool is_let_go; /* no device has the descriptor, which may be another file's now */
 } counted;
 
-/* The descriptors that are counted, in chains. Who reads or changes them, and what is known of them,
- * has the lock. */
+/* The descriptors that are counted, in chains. Who reads or changes them, and what is known of
+ * them, has the lock. */
 static pthread_mutex_t chains_lock = PTHREAD_MUTEX_INITIALIZER;
 static counted *chains[CHAINS];
 
@@ -104,7 +106,8 @@ bool sync_is_settled(int fd) {
     return is_so;
 }
 
-/* A descriptor that is counted, which stays there until leave_use, where there is something to do. */
+/* A descriptor that is counted, which stays there until leave_use, where there is something to
+ * do. */
 static counted *use(int fd, bool *is_counted) {
     pthread_mutex_lock(&chains_lock);
     counted *its = *place_of(fd);
@@ -131,8 +134,9 @@ static void note_sync(counted *its, uint64_t writes, int error) {
     pthread_mutex_unlock(&chains_lock);
 }
 
-/* Syncs what was not synced before, notes what came of it, and returns the errno. Only one thread is in here for a descriptor: another one that
- * learned of a success could have lost pages by a failure that the system reports once. */
+/* Syncs what was not synced before, notes what came of it, and returns the errno. Only one thread
+ * is in here for a descriptor: another one that learned of a success could have lost pages by a
+ * failure that the system reports once. */
 static int sync_rest(counted *its, bool *is_made) {
     uint64_t writes;
     pthread_mutex_lock(&its->syncing);

@@ -1,6 +1,7 @@
 /*
- * Tests sync_once.c, and what shards.c and whole_calls.c do to devices, over fake_library.h: what is synced, once and with no shard entered,
- * what is written where something fails, what leaves then, and devices that are replaced.
+ * Tests sync_once.c, and what shards.c and whole_calls.c do to devices, over fake_library.h: what
+ * is synced, once and with no shard entered, what is written where something fails, what leaves
+ * then, and devices that are replaced.
  */
 #include "fake_library.h"
 
@@ -33,7 +34,8 @@ static void test_syncs(void) {
     }
 }
 
-/* What a device has counted beside what its nodes have, which is 3 flushes and 1 failure of each. */
+/* What a device has counted beside what its nodes have, which is 3 flushes and 1 failure of
+ * each. */
 static void has_counted(warm *handle, uint16_t dev, uint64_t flushes, uint64_t failures) {
     size_t count = ((opened *)handle->at)->count;
     warm_device_counters counters;
@@ -49,12 +51,15 @@ static void test_failed_syncs(void) {
         syncs = 0;
         sync_errors[10] = EIO;
         MUST(warm_write_back_all(&handle) == WARM_WRITE_FAULT && syncs == 1);
-        for (size_t number = 0; number < count; number++) { /* each shard by itself: the system would not fail again */
+        for (size_t number = 0; number < count; number++) {
+            /* each shard by itself: the system would not fail again */
             write_to(&handle, (warm_page){.no = number}, 'b');
-            MUST(node_flush(&((opened *)handle.at)->shards[number].node, 0) == WARM_WRITE_FAULT && errno == EIO);
+            MUST(node_flush(&((opened *)handle.at)->shards[number].node, 0) == WARM_WRITE_FAULT &&
+                 errno == EIO);
         }
         has_counted(&handle, 0, 0, 1);
-        MUST(warm_flush_device(&handle, 0) == WARM_WRITE_FAULT && warm_write_back_all(&handle) == WARM_WRITE_FAULT && syncs == 1);
+        MUST(warm_flush_device(&handle, 0) == WARM_WRITE_FAULT &&
+             warm_write_back_all(&handle) == WARM_WRITE_FAULT && syncs == 1);
         has_counted(&handle, 0, 2, 3);
         has_counted(&handle, 1, 0, 0);
         MUST(warm_replace(&handle, 0, &devices[0]) == WARM_WRITE_FAULT);
@@ -86,9 +91,65 @@ static void test_portions(void) {
     OK(warm_abandon(&handle));
 }
 
+/* How many nodes are asked for a portion, which leaves this many pages. */
+static int asked_for(warm *handle, size_t limit, size_t left) {
+    size_t got = 77;
+    portions = 0;
+    OK(warm_write_back_some(handle, limit, &got));
+    MUST(got == left);
+    return portions;
+}
+
+enum { WAYS = 4 };
+
+/* Makes a page dirty in each way that there is. */
+static void make_dirty(warm *handle, uint64_t no, int way) {
+    warm_slot slot;
+    uint8_t *bytes;
+    if (way == 0) OK(warm_pin_zeroed(handle, page_at(no), &slot));
+    else slot = pin(handle, no);
+    if (way == 1) OK(warm_write(handle, slot, 0, "a", 1));
+    if (way == 2) OK(warm_bytes_mut(handle, slot, &bytes));
+    if (way == 3) OK(warm_mark_dirty(handle, slot));
+    OK(warm_unpin(handle, slot));
+}
+
+static bool is_first_stuck(node_page page) { return page.no == 1; }
+
+/* A node whose pages are all written is asked for no portion, since it would look at each frame. */
+static void test_clean_shards(void) {
+    warm handle = {0};
+    size_t left;
+    OK(open_with(&handle, 1, 4, 16, devices, FAKE_DEVICES));
+    MUST(read_from(&handle, page_at(1)) == 0 && asked_for(&handle, 9, 0) == 0);
+    for (int way = 0; way < WAYS; way++) {
+        make_dirty(&handle, 1, way);
+        MUST(asked_for(&handle, 0, 1) == 1 && asked_for(&handle, 1, 0) == 1);
+        MUST(asked_for(&handle, SIZE_MAX, 0) == 0);
+        make_dirty(&handle, 1, way);
+        make_dirty(&handle, 5, way); /* of the same shard */
+        MUST(asked_for(&handle, 1, 1) == 1 && asked_for(&handle, 1, 0) == 1);
+        make_dirty(&handle, 1, way);
+        OK(warm_flush_device(&handle, 1)); /* of another device */
+        MUST(asked_for(&handle, 0, 1) == 1);
+        OK(warm_write_back_all(&handle));
+        MUST(asked_for(&handle, 9, 0) == 0);
+        make_dirty(&handle, 1, way);
+        is_stuck = is_first_stuck;
+        MUST(warm_write_back_all(&handle) == WARM_WRITE_FAULT);
+        MUST(warm_write_back_some(&handle, 9, &left) == WARM_WRITE_FAULT);
+        is_stuck = NULL;
+        MUST(asked_for(&handle, 9, 0) == 1 && asked_for(&handle, 9, 0) == 0);
+    }
+    no_pins(&handle);
+    OK(warm_close(&handle));
+    nothing_left();
+}
+
 static void each_has(warm *handle, uint16_t dev, int fd) {
     opened *its = handle->at;
-    for (size_t number = 0; number < its->count; number++) MUST(((fake *)its->shards[number].node.at)->devices[dev].number == fd);
+    for (size_t number = 0; number < its->count; number++)
+        MUST(((fake *)its->shards[number].node.at)->devices[dev].number == fd);
 }
 
 /* A device is replaced in all shards or in none. */
@@ -107,7 +168,8 @@ static void test_replacing(void) {
     each_has(&handle, 1, 11);
     MUST(*place_of(20) == NULL && (*place_of(11))->devices == 1);
     OK(warm_unpin(&handle, slot));
-    EACH_REFUSED(warm_replace(&handle, 1, &in_place), *place_of(20) == NULL && (*place_of(11))->devices == 1);
+    EACH_REFUSED(warm_replace(&handle, 1, &in_place),
+        *place_of(20) == NULL && (*place_of(11))->devices == 1);
     each_has(&handle, 1, 20);
     MUST(*place_of(11) == NULL && (*place_of(20))->devices == 1);
     OK(warm_replace(&handle, 1, &in_place)); /* by itself */
@@ -168,7 +230,9 @@ static void test_forgetting(void) {
     for (uint64_t no = 4; no < 8; no++) MUST(read_from(&handle, (warm_page){.no = no}) == 'a');
     OK(warm_unpin(&handle, slot));
     OK(warm_forget_pages(&handle, 0, 4));
-    MUST(read_from(&handle, (warm_page){.no = 4}) == 0 && read_from(&handle, (warm_page){.no = 7}) == 0 && read_from(&handle, (warm_page){.no = 3}) == 'a');
+    MUST(read_from(&handle, (warm_page){.no = 4}) == 0 &&
+         read_from(&handle, (warm_page){.no = 7}) == 0 &&
+         read_from(&handle, (warm_page){.no = 3}) == 'a');
     OK(warm_abandon(&handle));
     nothing_left();
 }
@@ -182,10 +246,13 @@ static void test_descriptors(void) {
     errno = 0;
     MUST(sync_once(30) == -1 && errno == EIO && sync_once(30) == 0);
     EACH_REFUSED(sync_add(30) ? WARM_OK : WARM_MEMORY, chains[30] == NULL && blocks == 0);
-    MUST(sync_add(30) && sync_add(30 + CHAINS) && sync_add(30 - CHAINS) && sync_add(-1) && sync_add(INT32_MIN)); /* three of one chain */
+    /* three of one chain */
+    MUST(sync_add(30) && sync_add(30 + CHAINS) && sync_add(30 - CHAINS) && sync_add(-1) &&
+         sync_add(INT32_MIN));
     syncs = 0;
     sync_wrote(30);
-    MUST(sync_once(30 - CHAINS) == 0 && sync_once(-1) == 0 && syncs == 0 && sync_once(30) == 0 && syncs == 1);
+    MUST(sync_once(30 - CHAINS) == 0 && sync_once(-1) == 0 && syncs == 0 && sync_once(30) == 0 &&
+         syncs == 1);
     sync_wrote(30);
     sync_errors[30] = ENOSPC;
     errno = 0;
@@ -208,19 +275,23 @@ static void test_descriptors(void) {
     nothing_left();
 }
 
-/* Syncs that are left for later are made by who has left them. What was taken and let go before is not synced. */
+/* Syncs that are left for later are made by who has left them. What was taken and let go before is
+ * not synced. */
 static void test_later_syncs(void) {
     bool is_made;
     MUST(sync_add(30) && sync_take(30) == NULL);
     syncs = 0;
     sync_wrote(30);
-    MUST(!sync_later(true) && sync_once(30) == 0 && syncs == 0 && sync_once(31) == 0 && syncs == 1); /* one that is not counted is synced */
+    MUST(!sync_later(true) && sync_once(30) == 0 && syncs == 0);
+    MUST(sync_once(31) == 0 && syncs == 1); /* one that is not counted is synced */
     MUST(sync_later(true) && sync_later(false));
     sync_use *taken = sync_take(30);
-    MUST(taken != NULL && sync_taken(taken, &is_made) == 0 && is_made && syncs == 2 && sync_take(30) == NULL);
+    MUST(taken != NULL && sync_taken(taken, &is_made) == 0 && is_made && syncs == 2 &&
+         sync_take(30) == NULL);
     sync_wrote(30);
     sync_use *early = sync_take(30), *late = sync_take(30);
-    MUST(sync_taken(early, &is_made) == 0 && is_made && sync_taken(late, &is_made) == 0 && !is_made && syncs == 3);
+    MUST(sync_taken(early, &is_made) == 0 && is_made && sync_taken(late, &is_made) == 0 &&
+         !is_made && syncs == 3);
     sync_wrote(30);
     sync_errors[30] = EIO;
     errno = 0;
@@ -234,7 +305,8 @@ static void test_later_syncs(void) {
     late = sync_take(30);
     MUST(late != early);
     sync_drop(30);
-    MUST(sync_taken(early, &is_made) == 0 && !is_made && sync_taken(late, &is_made) == 0 && !is_made && syncs == 4);
+    MUST(sync_taken(early, &is_made) == 0 && !is_made && sync_taken(late, &is_made) == 0 &&
+         !is_made && syncs == 4);
     nothing_left();
 }
 
@@ -276,7 +348,8 @@ static void write_meanwhile(int fd) {
     for (uint64_t no = 0; no < 64; no++) write_to(beside, (warm_page){.no = no}, 'm');
 }
 
-/* No shard is entered during a sync, and a file is synced once, whatever is written meanwhile; also where one handle is open. */
+/* No shard is entered during a sync, and a file is synced once, whatever is written meanwhile; also
+ * where one handle is open. */
 static void test_syncs_without_shards(void) {
     for (size_t count = 1; count <= 16; count *= 4) {
         warm first = {0}, second = {0};
@@ -299,12 +372,13 @@ static void test_syncs_without_shards(void) {
     }
 }
 
-/* A device that is replaced while it is synced: who replaces it waits until the sync is over, and has a descriptor that nobody syncs. */
-static const warm_device another = {.pages = FAKE_PAGES, .fd = 20};
+/* A device that is replaced while it is synced, by another one or by itself: who replaces it waits
+ * until the sync is over, and has a descriptor that nobody syncs. */
+static const warm_device *in_its_place;
 static atomic_bool is_replaced;
 
 static void *replace_it(void *handle) {
-    OK(warm_replace(handle, 0, &another));
+    OK(warm_replace(handle, 0, in_its_place));
     atomic_store(&is_replaced, true);
     return NULL;
 }
@@ -315,50 +389,31 @@ static void replace_meanwhile(int fd) {
     MUST(!atomic_load(&is_replaced));
 }
 
-static void test_replacing_in_a_sync(void) {
+static void replacing_in_a_sync(const warm_device *by) {
     warm first = {0}, second = {0};
     open_shards(&first, 4);
     OK(warm_attach(&first, &second));
     beside = &second;
+    in_its_place = by;
+    atomic_store(&is_replaced, false);
     write_each(&first, 0, 4);
     syncs = 0;
     at_sync = replace_meanwhile;
     OK(warm_write_back_all(&first));
-    MUST(pthread_join(letting_go, NULL) == 0 && atomic_load(&is_replaced) && syncs == 1 && *place_of(10) == NULL);
+    MUST(pthread_join(letting_go, NULL) == 0 && atomic_load(&is_replaced) && syncs == 1);
+    MUST((*place_of(by->fd))->devices == 1 && (by->fd == 10 || *place_of(10) == NULL));
+    write_each(&first, 0, 4);
+    OK(warm_write_back_all(&first));
+    MUST(syncs == 2);
     OK(warm_close(&second));
     OK(warm_abandon(&first));
     nothing_left();
 }
 
-/* The device is replaced, and its descriptor is another replica's, before a call syncs what it has
- * found there: it syncs nothing of that one. */
-static warm next_user;
-
-static void reuse_descriptor(void) {
-    OK(warm_replace(beside, 0, &another));
-    MUST(syncs == 1 && *place_of(10) == NULL);
-    OK(open_with(&next_user, 2, 1, 2, devices, 1));
-    size_t left;
-    write_to(&next_user, (warm_page){.no = 1}, 'n');
-    OK(warm_write_back_some(&next_user, 1, &left));
-}
-
-static void test_reused_descriptor(void) {
-    warm first = {0}, second = {0};
-    open_shards(&first, 1);
-    OK(warm_attach(&first, &second));
-    beside = &second;
-    write_each(&first, 0, 1);
-    syncs = 0;
-    unlocks_before = 1; /* that behind the writes */
-    at_unlock = reuse_descriptor;
-    OK(warm_flush_device(&first, 0));
-    MUST(at_unlock == NULL && syncs == 1);
-    OK(warm_close(&next_user));
-    MUST(syncs == 2);
-    OK(warm_close(&second));
-    OK(warm_close(&first));
-    nothing_left();
+static void test_replacing_in_a_sync(void) {
+    const warm_device another = {.pages = FAKE_PAGES, .fd = 20};
+    replacing_in_a_sync(&another);
+    replacing_in_a_sync(&devices[0]);
 }
 
 /* One shard: what is refused, in order, whether its node alone would say so or not. */
@@ -405,7 +460,8 @@ static int failed_writes;
 
 static bool is_one_of_stuck(node_page page) {
     bool is_so = false;
-    for (int at = 0; at < 3; at++) is_so = is_so || (stuck[at].no == page.no && stuck[at].dev == page.dev);
+    for (int at = 0; at < 3; at++)
+        is_so = is_so || (stuck[at].no == page.no && stuck[at].dev == page.dev);
     failed_writes += is_so;
     return is_so;
 }
@@ -414,12 +470,13 @@ static bool is_dirty(warm *handle, warm_page page) {
     opened *all = handle->at;
     const fake *its = all->shards[(page.no + page.dev) % all->count].node.at;
     for (size_t at = 0; at < its->frames; at++)
-        if (its->at[at].is_in && its->at[at].page.no == page.no && its->at[at].page.dev == page.dev) return its->at[at].is_dirty;
+        if (its->at[at].is_in && its->at[at].page.no == page.no && its->at[at].page.dev == page.dev)
+            return its->at[at].is_dirty;
     return false;
 }
 
-/* Shards and devices of which a page fails keep no other from being written and synced. The first failure is that of the call. A device is
- * not synced where a write has failed. */
+/* Shards and devices of which a page fails keep no other from being written and synced. The first
+ * failure is that of the call. A device is not synced where a write has failed. */
 static void write_stuck(warm *handle, int call, int32_t error) {
     static const int by_call[3] = {1, 0, 0}, failures[3] = {3, 2, 2};
     size_t left = 77;
@@ -429,13 +486,17 @@ static void write_stuck(warm *handle, int call, int32_t error) {
     is_stuck = is_one_of_stuck;
     stuck_error = error;
     syncs = failed_writes = 0;
-    int status = call == 0 ? warm_write_back_all(handle) : call == 1 ? warm_flush_device(handle, 0) : warm_write_back_some(handle, SIZE_MAX, &left);
+    int status = call == 0   ? warm_write_back_all(handle)
+                 : call == 1 ? warm_flush_device(handle, 0)
+                             : warm_write_back_some(handle, SIZE_MAX, &left);
     MUST(status == WARM_WRITE_FAULT && left == 77 && syncs == by_call[call]);
     must_have_failed(handle, 1, 0, WARM_FAILED_WRITE, error);
     MUST(failed_writes == failures[call]); /* none is tried twice */
     for (int at = 0; at < 3; at++) MUST(is_dirty(handle, stuck[at]));
-    MUST(!is_dirty(handle, (warm_page){.no = 12}) && !is_dirty(handle, (warm_page){.no = 14}) && is_dirty(handle, (warm_page){.no = 5}));
-    for (uint16_t dev = 1; dev < 4; dev += 2) MUST(is_dirty(handle, (warm_page){.no = 0, .dev = dev}) == (call != 0));
+    MUST(!is_dirty(handle, (warm_page){.no = 12}) && !is_dirty(handle, (warm_page){.no = 14}) &&
+         is_dirty(handle, (warm_page){.no = 5}));
+    for (uint16_t dev = 1; dev < 4; dev += 2)
+        MUST(is_dirty(handle, (warm_page){.no = 0, .dev = dev}) == (call != 0));
     is_stuck = NULL;
     stuck_error = EIO;
     OK(warm_write_back_all(handle));
@@ -457,31 +518,8 @@ static void test_stuck_pages(void) {
     nothing_left();
 }
 
-/* Pages of other devices that are behind the one that fails are written and synced, whatever their
- * numbers are. */
-static void test_behind_a_failure(void) {
-    for (uint16_t bad = 0; bad < 3; bad++) {
-        warm handle = {0};
-        OK(open_with(&handle, 1, 1, 8, devices, FAKE_DEVICES));
-        write_to(&handle, (warm_page){.dev = bad}, 'a');
-        for (uint16_t dev = 0; dev < 3; dev++) {
-            if (dev != bad) write_to(&handle, (warm_page){.dev = dev}, 'a');
-        }
-        stuck[0] = stuck[1] = stuck[2] = (warm_page){.dev = bad};
-        is_stuck = is_one_of_stuck;
-        syncs = 0;
-        MUST(warm_write_back_all(&handle) == WARM_WRITE_FAULT && syncs == 2);
-        is_stuck = NULL;
-        for (uint16_t dev = 0; dev < 3; dev++)
-            MUST(is_dirty(&handle, (warm_page){.dev = dev}) == (dev == bad));
-        OK(warm_write_back_all(&handle));
-        MUST(syncs == 3);
-        OK(warm_close(&handle));
-        nothing_left();
-    }
-}
-
-/* What a write-back left unsynced, since a page of the device failed in another shard, the close syncs: the nodes take it for flushed. */
+/* What a write-back left unsynced, since a page of the device failed in another shard, the close
+ * syncs: the nodes take it for flushed. */
 static void test_closing_after_failure(void) {
     warm handle = {0};
     open_shards(&handle, 4);
@@ -493,13 +531,15 @@ static void test_closing_after_failure(void) {
     MUST(warm_write_back_all(&handle) == WARM_WRITE_FAULT && syncs == 0);
     is_stuck = NULL;
     stuck_error = EIO;
-    for (size_t number = 0; number < 4; number++) MUST(!((fake *)((opened *)handle.at)->shards[number].node.at)->waits[0]);
+    for (size_t number = 0; number < 4; number++)
+        MUST(!((fake *)((opened *)handle.at)->shards[number].node.at)->waits[0]);
     OK(warm_abandon(&handle));
     MUST(syncs == 1);
     nothing_left();
 }
 
-/* Portions go on from shard to shard; one that is refused has its turn, too, and its pages count. */
+/* Portions go on from shard to shard; one that is refused has its turn, too, and its pages
+ * count. */
 static void test_turns_of_portions(void) {
     warm handle = {0};
     size_t left = 77;
@@ -507,13 +547,15 @@ static void test_turns_of_portions(void) {
     write_each(&handle, 0, 8);
     for (uint64_t no = 0; no < 4; no++) {
         OK(warm_write_back_some(&handle, 1, &left));
-        MUST(left == 7 - no && !is_dirty(&handle, (warm_page){.no = no}) && is_dirty(&handle, (warm_page){.no = no + 4}));
+        MUST(left == 7 - no && !is_dirty(&handle, (warm_page){.no = no}) &&
+             is_dirty(&handle, (warm_page){.no = no + 4}));
     }
     stuck[0] = stuck[1] = stuck[2] = (warm_page){.no = 4};
     is_stuck = is_one_of_stuck;
     left = 77;
     MUST(warm_write_back_some(&handle, 2, &left) == WARM_WRITE_FAULT && left == 77);
-    MUST(is_dirty(&handle, (warm_page){.no = 4}) && !is_dirty(&handle, (warm_page){.no = 5}) && !is_dirty(&handle, (warm_page){.no = 6}));
+    MUST(is_dirty(&handle, (warm_page){.no = 4}) && !is_dirty(&handle, (warm_page){.no = 5}) &&
+         !is_dirty(&handle, (warm_page){.no = 6}));
     MUST(is_dirty(&handle, (warm_page){.no = 7}));
     OK(warm_write_back_some(&handle, 1, &left));
     MUST(left == 1 && !is_dirty(&handle, (warm_page){.no = 7}));
@@ -521,6 +563,47 @@ static void test_turns_of_portions(void) {
     OK(warm_abandon(&handle));
     nothing_left();
 }
+
+/* One page is written where it is dirty, with no sync; where it cannot be, it is dirty as
+ * before. */
+static void write_one(size_t count, int32_t error) {
+    const warm_page page = {.no = 2 * count - 2}, last = {.no = 2 * count - 1};
+    bool written = true;
+    warm handle = {0};
+    MUST(warm_write_back_page(&handle, page, &written) == WARM_CLOSED && written);
+    syncs = 0;
+    open_shards(&handle, count);
+    OK(warm_write_back_page(&handle, page, &written));
+    MUST(!written);
+    write_each(&handle, 0, 2 * count);
+    OK(warm_write_back_page(&handle, page, &written));
+    MUST(written);
+    for (uint64_t no = 0; no <= last.no; no++)
+        MUST(is_dirty(&handle, page_at(no)) == (no != page.no));
+    OK(warm_write_back_page(&handle, page, &written));
+    MUST(!written);
+    stuck[0] = stuck[1] = stuck[2] = last;
+    is_stuck = is_one_of_stuck;
+    stuck_error = error;
+    MUST(warm_write_back_page(&handle, last, &written) ==
+         (error == EAGAIN ? WARM_SKIPPED : WARM_WRITE_FAULT));
+    MUST(!written && is_dirty(&handle, last));
+    must_have_failed(&handle, last.no, 0, WARM_FAILED_WRITE, error);
+    is_stuck = NULL;
+    stuck_error = EIO;
+    OK(warm_write_back_page(&handle, last, &written));
+    MUST(written && !is_dirty(&handle, last) && syncs == 0);
+    OK(warm_abandon(&handle));
+    nothing_left();
+}
+
+static void test_one_page(void) {
+    for (size_t count = 1; count <= 4; count *= 4) {
+        write_one(count, EIO);
+        write_one(count, EAGAIN);
+    }
+}
+
 /* ---- pages that are to leave, and cannot be written ---- */
 
 static uint64_t stuck_from, stuck_until;
@@ -532,7 +615,8 @@ static bool is_between(node_page page) {
     return is_so;
 }
 
-/* How a page is pinned for which others would leave; the other handle holds a page that comes before those that cannot be written, or after. */
+/* How a page is pinned for which others would leave; the other handle holds a page that comes
+ * before those that cannot be written, or after. */
 typedef struct way {
     bool is_zeroed, is_shared;
     enum { HELD_NONE, HELD_BEFORE, HELD_AFTER } held;
@@ -545,7 +629,8 @@ static void let_held_go(warm *handle, warm_slot slot, uint64_t no) {
     OK(warm_unpin(handle, slot));
 }
 
-/* Pages that cannot be written stay, and others leave for a page that is loaded: up to some number. Each stays dirty, and unpinned. */
+/* Pages that cannot be written stay, and others leave for a page that is loaded: up to some number.
+ * Each stays dirty, and unpinned. */
 static void stuck_victims(size_t frames, uint64_t count, way how) {
     warm first = {0}, second = {0};
     warm_slot slot, held_slot;
@@ -563,14 +648,17 @@ static void stuck_victims(size_t frames, uint64_t count, way how) {
     }
     tries = 0;
     is_stuck = is_between;
-    int status = how.is_zeroed ? warm_pin_zeroed(&first, page_at(400), &slot) : warm_pin(&first, page_at(400), &slot);
+    int status = how.is_zeroed ? warm_pin_zeroed(&first, page_at(400), &slot)
+                               : warm_pin(&first, page_at(400), &slot);
     is_stuck = NULL;
     bool is_loaded = count <= STUCK && count + has_held < frames;
     MUST(status == (is_loaded ? WARM_OK : count > 0 ? WARM_EVICT_FAULT : WARM_ALL_PINNED));
     MUST(tries == (int)(count > STUCK ? STUCK + 1 : count));
     OK(warm_last_failure(&first, &found, &failure));
-    MUST(found == (count > 0) && (count == 0 || (failure.no == stuck_from && failure.what == WARM_FAILED_WRITE)));
-    for (uint64_t no = stuck_from; no < stuck_until; no++) MUST(is_in(&first, no) && node_of(&first, 0)->at[no].is_dirty);
+    MUST(found == (count > 0) &&
+         (count == 0 || (failure.no == stuck_from && failure.what == WARM_FAILED_WRITE)));
+    for (uint64_t no = stuck_from; no < stuck_until; no++)
+        MUST(is_in(&first, no) && node_of(&first, 0)->at[no].is_dirty);
     if (is_loaded) {
         MUST(slot.index == count + has_held);
         OK(warm_unpin(&first, slot));
@@ -586,45 +674,19 @@ static void stuck_victims(size_t frames, uint64_t count, way how) {
 static void test_stuck_victims(void) {
     for (size_t frames = 1; frames <= STUCK + 4; frames++) {
         for (int at = 0; at < 8; at++) {
-            way how = {.is_zeroed = at % 2 == 1, .is_shared = at > 1, .held = at < 4 ? HELD_NONE : at < 6 ? HELD_BEFORE : HELD_AFTER};
-            for (uint64_t count = 0; count + (how.held != HELD_NONE) <= frames; count++) stuck_victims(frames, count, how);
+            way how = {.is_zeroed = at % 2 == 1,
+                .is_shared = at > 1,
+                .held = at < 4   ? HELD_NONE
+                        : at < 6 ? HELD_BEFORE
+                                 : HELD_AFTER};
+            for (uint64_t count = 0; count + (how.held != HELD_NONE) <= frames; count++)
+                stuck_victims(frames, count, how);
         }
     }
 }
 
-/* A handle that is alone reads the page once more, and not once for each page that cannot be
- * written; and not where no other page may leave. */
-static void test_reading_past_stuck(void) {
-    for (size_t frames = 1; frames <= STUCK + 1; frames++) {
-        warm handle = {0};
-        warm_slot slot;
-        OK(open_with(&handle, 1, 1, frames, devices, FAKE_DEVICES));
-        for (uint64_t no = 0; no < frames; no++) write_to(&handle, page_at(no), 'd');
-        stuck_from = 0;
-        stuck_until = frames > 1 ? frames - 1 : 1;
-        is_stuck = is_between;
-        files_keep = true;
-        in_files[10][400] = 'p';
-        reads = read_by_nodes = 0;
-        int status = warm_pin_bytes(&handle, page_at(400), &slot, &lent);
-        MUST(status == (frames > 1 ? WARM_OK : WARM_EVICT_FAULT));
-        MUST(read_by_nodes == 1 && reads == (frames > 1));
-        must_have_failed(&handle, 0, 0, WARM_FAILED_WRITE, EIO);
-        is_stuck = NULL;
-        files_keep = false;
-        if (frames > 1) {
-            MUST(*lent == 'p' && slot.index == frames - 1);
-            OK(warm_unpin(&handle, slot));
-            OK(warm_unpin(&handle, pin(&handle, 400)));
-            OK(warm_unpin(&handle, hold_page(&handle, 400)));
-        }
-        no_pins(&handle);
-        OK(warm_abandon(&handle));
-        nothing_left();
-    }
-}
-
-/* The page that is to come cannot be read any more once another one could not be written: that is what failed then. */
+/* The page that is to come cannot be read any more once another one could not be written: that is
+ * what failed then. */
 static bool fails_then(node_page page) {
     unreadable = 0;
     return page.no == 0;
@@ -653,6 +715,8 @@ int main(void) {
     test_syncs();
     test_failed_syncs();
     test_portions();
+    test_clean_shards();
+    test_one_page();
     test_replacing();
     test_going_back();
     test_settling();
@@ -662,14 +726,11 @@ int main(void) {
     test_waiting_for_a_sync();
     test_syncs_without_shards();
     test_replacing_in_a_sync();
-    test_reused_descriptor();
     test_replacing_in_one();
     test_stuck_pages();
-    test_behind_a_failure();
     test_closing_after_failure();
     test_turns_of_portions();
     test_stuck_victims();
-    test_reading_past_stuck();
     test_failing_read();
     puts("syncs_test: as expected");
     return 0;

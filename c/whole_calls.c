@@ -1,6 +1,7 @@
 /*
- * whole_calls.c: the calls of include/warm.h on a whole replica, shard by shard: its history, its frames, its devices and what it has
- * counted. Each makes calls of the proved part (nodes.h), in one shard at a time. Nothing here is proved; c/check tests it.
+ * whole_calls.c: the calls of include/warm.h on a whole replica, shard by shard: its history, its
+ * frames, its devices and what it has counted. Each makes calls of the proved part (nodes.h), in
+ * one shard at a time. Nothing here is proved; c/check tests it.
  */
 #define _POSIX_C_SOURCE 200809L /* pthread_mutex_t */
 #include "fd_calls.h"
@@ -35,13 +36,16 @@ static size_t shard_of_reference(const opened *its, const warm_reference *it) {
 }
 
 /* How many references are of each shard. */
-static void count_each(const opened *its, const warm_reference *references, size_t count, size_t each[WARM_MAX_SHARDS]) {
+static void count_each(const opened *its, const warm_reference *references, size_t count,
+    size_t each[WARM_MAX_SHARDS]) {
     memset(each, 0, its->count * sizeof *each);
     for (size_t at = 0; at < count; at++) each[shard_of_reference(its, &references[at])]++;
 }
 
-/* Copies the references, as the proved part has them, so that those of a shard follow each other, those of shard 0 first. */
-static void group(const opened *its, const warm_reference *references, size_t count, const size_t each[WARM_MAX_SHARDS], node_reference *grouped) {
+/* Copies the references, as the proved part has them, so that those of a shard follow each other,
+ * those of shard 0 first. */
+static void group(const opened *its, const warm_reference *references, size_t count,
+    const size_t each[WARM_MAX_SHARDS], node_reference *grouped) {
     size_t next[WARM_MAX_SHARDS], before = 0;
     for (size_t number = 0; number < its->count; number++) {
         next[number] = before;
@@ -61,7 +65,8 @@ static int absorb_in(opened *its, shard *in, const node_reference *references, s
 }
 
 /* Each shard that has references takes its own in. */
-static int absorb_grouped(opened *its, const node_reference *grouped, const size_t each[WARM_MAX_SHARDS]) {
+static int absorb_grouped(
+    opened *its, const node_reference *grouped, const size_t each[WARM_MAX_SHARDS]) {
     int status = WARM_OK;
     for (size_t number = 0; number < its->count && status == WARM_OK; number++) {
         if (each[number] > 0) status = absorb_in(its, &its->shards[number], grouped, each[number]);
@@ -86,7 +91,8 @@ int warm_absorb(warm *handle, const warm_reference *references, size_t count) {
     return status;
 }
 
-/* Raises all shards to a time, and writes the earliest horizon that one has then: what is before it is gone in all of them. */
+/* Raises all shards to a time, and writes the earliest horizon that one has then: what is before it
+ * is gone in all of them. */
 static void raise_all(opened *its, uint64_t time, uint64_t *horizon) {
     *horizon = UINT64_MAX;
     for (size_t number = 0; number < its->count; number++) {
@@ -166,8 +172,11 @@ int warm_list(warm *handle, warm_page *pages, size_t room, size_t *count) {
     return status;
 }
 
-/* Whether the one shard of a replica is the handle's alone, so that nobody waits while it reads or writes a file. */
-static bool has_one_alone(const opened *its) { return its->count == 1 && open_handles(its->of) == 1; }
+/* Whether the one shard of a replica is the handle's alone, so that nobody waits while it reads or
+ * writes a file. */
+static bool has_one_alone(const opened *its) {
+    return its->count == 1 && open_handles(its->of) == 1;
+}
 
 /* Writes a dump to a descriptor, or to a device that has a number. */
 static int save_to(opened *its, int number) {
@@ -203,7 +212,8 @@ static int send_bucket(node *from, uint8_t bucket, node *to, uint8_t *message) {
     node_page after = {0}, last = {0};
     while (more && status == WARM_OK) {
         size_t length;
-        status = node_send_since(from, bucket, 0, has_after, after, message, WARM_MESSAGE_ROOM, &length, &more, &last);
+        status = node_send_since(
+            from, bucket, 0, has_after, after, message, WARM_MESSAGE_ROOM, &length, &more, &last);
         if (status == WARM_OK) status = node_receive_part(to, 1, 0, message, length);
         has_after = true;
         after = last;
@@ -219,12 +229,14 @@ static int join_one(opened *its, shard *in, node *all) {
     return status;
 }
 
-/* Joins what a history has of a shard's buckets to the shard, by way of a history of these alone, so that the shard gets all of them or none. */
+/* Joins what a history has of a shard's buckets to the shard, by way of a history of these alone,
+ * so that the shard gets all of them or none. */
 static int join_shard(opened *its, size_t number, node *all, uint8_t *message) {
     node part = {0};
     shard *in = &its->shards[number];
     int status = open_alone(its, &part);
-    for (size_t bucket = number; bucket < WARM_BUCKETS && status == WARM_OK; bucket += its->count) status = send_bucket(all, (uint8_t)bucket, &part, message);
+    for (size_t bucket = number; bucket < WARM_BUCKETS && status == WARM_OK; bucket += its->count)
+        status = send_bucket(all, (uint8_t)bucket, &part, message);
     if (status == WARM_OK) status = join_one(its, in, &part);
     node_close(&part);
     return status;
@@ -236,7 +248,8 @@ static int join_all(opened *its, node *all) {
     if (its->count == 1) return join_one(its, &its->shards[0], all);
     uint8_t *message = malloc(WARM_MESSAGE_ROOM);
     if (message == NULL) return WARM_MEMORY;
-    for (size_t number = 0; number < its->count && status == WARM_OK; number++) status = join_shard(its, number, all, message);
+    for (size_t number = 0; number < its->count && status == WARM_OK; number++)
+        status = join_shard(its, number, all, message);
     free(message);
     return status;
 }
@@ -292,7 +305,8 @@ int warm_offer(warm *handle, void *message, size_t room, size_t *length) {
     return node_offer_frame(its->of->number, horizon, &table, message, room, length);
 }
 
-/* A message without entries leaves the place as it was: the page of the last entry is then as it was, too. */
+/* A message without entries leaves the place as it was: the page of the last entry is then as it
+ * was, too. */
 int warm_send(warm *handle, warm_sending *sending, void *message, size_t room, size_t *length) {
     opened *its = handle->at;
     bool more = false;
@@ -300,7 +314,8 @@ int warm_send(warm *handle, warm_sending *sending, void *message, size_t room, s
     if (its == NULL) return WARM_CLOSED;
     shard *in = &its->shards[sending->bucket % its->count];
     bool is_locked = enter(its, in);
-    int status = node_send_since(&in->node, sending->bucket, sending->since, sending->has_after, after, message, room, length, &more, &last);
+    int status = node_send_since(&in->node, sending->bucket, sending->since, sending->has_after,
+        after, message, room, length, &more, &last);
     leave(in, is_locked);
     if (status != WARM_OK) return status;
     if (*length > EMPTY_MESSAGE) sending->has_after = true;
@@ -324,8 +339,9 @@ int warm_limit_history(warm *handle, uint64_t horizon, size_t pages) {
     return WARM_OK;
 }
 
-/* How many entries a message of entries has: its count is the first number behind its header, which has a horizon in one of the two formats
- * (docs/FORMATS.md). It was read before, so that it is there. */
+/* How many entries a message of entries has: its count is the first number behind its header, which
+ * has a horizon in one of the two formats (docs/FORMATS.md). It was read before, so that it is
+ * there. */
 static size_t entries_in(const uint8_t *message) {
     const uint8_t *at = message + (message[3] == '1' ? 11 : 19);
     return (size_t)at[0] << 24 | (size_t)at[1] << 16 | (size_t)at[2] << 8 | at[3];
@@ -343,20 +359,23 @@ static int keeps_limits(warm *handle, const node_frame *what, const uint8_t *mes
 }
 
 /* Each shard takes the horizon of a message of entries, and those of its pages. */
-static int take_entries(opened *its, const node_frame *what, const uint8_t *message, size_t length) {
+static int take_entries(
+    opened *its, const node_frame *what, const uint8_t *message, size_t length) {
     int status = WARM_OK;
     for (size_t number = 0; number < its->count && status == WARM_OK; number++) {
         uint64_t horizon;
         bool has_entries = (what->shards >> number & 1) != 0;
         shard *in = &its->shards[number];
         bool is_locked = enter(its, in);
-        status = has_entries ? node_receive_part(&in->node, its->count, number, message, length) : node_horizon(&in->node, what->horizon, &horizon);
+        status = has_entries ? node_receive_part(&in->node, its->count, number, message, length)
+                             : node_horizon(&in->node, what->horizon, &horizon);
         leave(in, is_locked);
     }
     return status;
 }
 
-/* What a message of digests is answered with: the entries of the buckets that differ, and a request for those of the other. */
+/* What a message of digests is answered with: the entries of the buckets that differ, and a request
+ * for those of the other. */
 static int compare(opened *its, const uint8_t *message, size_t length, answers *given) {
     node_table table = {0};
     int status = gather_digests(its, &table, &given->horizon);
@@ -366,7 +385,8 @@ static int compare(opened *its, const uint8_t *message, size_t length, answers *
 }
 
 /* Takes in a message that may be taken in, and says what it is answered with. */
-static int take_in(opened *its, const node_frame *what, const uint8_t *message, size_t length, answers *given) {
+static int take_in(
+    opened *its, const node_frame *what, const uint8_t *message, size_t length, answers *given) {
     uint64_t horizon;
     *given = (answers){0};
     if (what->kind == NODE_ENTRIES) return take_entries(its, what, message, length);
@@ -395,8 +415,8 @@ static void go_on(answers *waiting, bool more, node_page last) {
     if (!more) waiting->buckets = without_lowest(waiting->buckets);
 }
 
-/* Writes the message of the next entries of the lowest bucket, and its length. A bucket without any is passed over, with a length of 0, and
- * nothing is written to the message then. */
+/* Writes the message of the next entries of the lowest bucket, and its length. A bucket without any
+ * is passed over, with a length of 0, and nothing is written to the message then. */
 static int next_entries(opened *its, uint8_t *message, size_t room, size_t *length) {
     answers *waiting = &its->waiting;
     uint8_t bucket = (uint8_t)lowest(waiting->buckets), before[EMPTY_MESSAGE];
@@ -406,7 +426,8 @@ static int next_entries(opened *its, uint8_t *message, size_t room, size_t *leng
     memcpy(before, message, kept);
     shard *in = &its->shards[bucket % its->count];
     bool is_locked = enter(its, in);
-    int status = node_send_since(&in->node, bucket, 0, waiting->has_after, waiting->after, message, room, &needed, &more, &last);
+    int status = node_send_since(&in->node, bucket, 0, waiting->has_after, waiting->after, message,
+        room, &needed, &more, &last);
     leave(in, is_locked);
     if (status != WARM_OK && status != WARM_BUFFER_TOO_SMALL) return status;
     bool is_empty = needed == EMPTY_MESSAGE;
@@ -431,16 +452,19 @@ int warm_next_answer(warm *handle, void *message, size_t room, size_t *length) {
         *length = 0;
         return WARM_OK;
     }
-    int status = node_want_frame(its->of->number, its->waiting.horizon, its->waiting.wanted, message, room, length);
+    int status = node_want_frame(
+        its->of->number, its->waiting.horizon, its->waiting.wanted, message, room, length);
     if (status == WARM_OK) its->waiting.wanted = 0;
     return status;
 }
 
 /* ---- counts ---- */
 
-/* Pages are counted as passed over before the nodes take them for written: where a thread is about to
- * pass over one, no count falls below 0. */
-static void take_from(uint64_t *count, uint64_t passed) { *count -= passed < *count ? passed : *count; }
+/* Pages are counted as passed over before the nodes take them for written: where a thread is about
+ * to pass over one, no count falls below 0. */
+static void take_from(uint64_t *count, uint64_t passed) {
+    *count -= passed < *count ? passed : *count;
+}
 
 int warm_counts(warm *handle, warm_counters *counters) {
     opened *its = handle->at;
@@ -505,6 +529,7 @@ int warm_last_failure(warm *handle, bool *found, warm_failure *failure) {
     const node_failure *last = &its->failure;
     *found = its->has_failed;
     if (!its->has_failed) return WARM_OK;
-    *failure = (warm_failure){.dev = last->dev, .what = last->what, .error = last->error, .no = last->no};
+    *failure =
+        (warm_failure){.dev = last->dev, .what = last->what, .error = last->error, .no = last->no};
     return WARM_OK;
 }

@@ -47,6 +47,7 @@ static bool pass_over_skipped(opened *its, shard *in, skipped *all) {
 }
 
 static void make_dirty_again(shard *in, const skipped *all) {
+    if (all->pages.count > 0) in->may_be_dirty = true;
     for (size_t at = 0; at < all->pages.count; at++) {
         uint8_t *bytes;
         node_lend_mut(&in->node, all->slots[at], &bytes);
@@ -84,17 +85,18 @@ static bool is_unwritten(const opened *its, size_t dev) {
     return (its->unwritten[dev / 8] >> dev % 8 & 1) != 0;
 }
 
-/* ---- portions ---- */
+/* ---- portions, and one page ---- */
 
 /* Writes a portion of what waits in a shard, and says how many were written and, where nothing was
  * refused, how many are left. For the node a page that is passed over is one of the portion. */
 static void write_portion(
     opened *its, shard *in, size_t limit, size_t *written, size_t *left, int *all) {
+    *written = *left = 0;
+    if (!in->may_be_dirty) return;
     skipped over = {0};
     const passes *outer = devices_pass(&over.pages);
     size_t before = devices_written();
     int status;
-    *written = 0;
     do {
         size_t rest = limit - *written;
         if (over.pages.count > 0 && rest < SIZE_MAX) rest++;
@@ -103,6 +105,7 @@ static void write_portion(
         *written = devices_written() - before;
     } while (status != WARM_OK && *written < limit && pass_over_skipped(its, in, &over));
     devices_pass(outer);
+    if (status == WARM_OK && *left == 0) in->may_be_dirty = false;
     make_dirty_again(in, &over);
 }
 
@@ -128,6 +131,18 @@ int warm_write_back_some(warm *handle, size_t limit, size_t *left) {
     return status;
 }
 
+int warm_write_back_page(warm *handle, warm_page page, bool *written) {
+    opened *its = handle->at;
+    int status = WARM_OK;
+    if (its == NULL) return WARM_CLOSED;
+    shard *in = shard_of(its, page_in(page));
+    bool is_locked = enter(its, in);
+    add_status(its, in, node_write_back_page(&in->node, page_in(page), written), &status);
+    leave(in, is_locked);
+    return status;
+}
+
+/* All nodes are asked: what was not known to be dirty would be lost. */
 size_t dirty_pages(opened *its) {
     size_t all = 0;
     for (size_t number = 0; number < its->count; number++) {
@@ -158,6 +173,7 @@ static int write_past_skipped(opened *its, shard *in, int dev, node_failure *fai
         add_status(its, in, status, all);
     } while (status != WARM_OK && pass_over_skipped(its, in, &over));
     devices_pass(outer);
+    if (status == WARM_OK && dev == ALL) in->may_be_dirty = false;
     make_dirty_again(in, &over);
     return status;
 }

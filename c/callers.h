@@ -1,0 +1,158 @@
+/*
+ * callers.h: for reads_test.c and stale_reads_test.c, over fake_library.h: threads that make one
+ * call each, by handles of their own, and reads that a test stops. A test that hangs is ended by an
+ * alarm.
+ */
+#ifndef CALLERS_H
+#define CALLERS_H
+
+#include "fake_library.h"
+
+enum { MOST = 4 };
+
+/* A call of a thread with a handle of its own, and what came of it. */
+typedef struct caller {
+    pthread_t thread;
+    warm handle;
+    enum { PINS, PINS_ZEROED, PREFETCHES, STEPS, FORGETS, REPLACES } call;
+    warm_page page;
+    const warm_device *device; /* that takes the place of another one */
+    atomic_bool is_over;
+    int status;
+    warm_slot slot;
+    bool found;
+} caller;
+
+static warm first;
+static caller callers[MOST];
+static const warm_device in_place = {.pages = 100, .fd = 20};
+
+static inline int make_call(caller *its) {
+    warm *by = &its->handle;
+    switch (its->call) {
+    case PINS: return warm_pin(by, its->page, &its->slot);
+    case PINS_ZEROED: return warm_pin_zeroed(by, its->page, &its->slot);
+    case PREFETCHES: return warm_prefetch(by, its->page);
+    case STEPS: return warm_step(by, &its->found, &its->page);
+    case FORGETS: return warm_forget_pages(by, its->page.dev, its->page.no);
+    default: return warm_replace(by, its->page.dev, its->device);
+    }
+}
+
+static inline void *call_it(void *of) {
+    caller *its = of;
+    its->status = make_call(its);
+    atomic_store(&its->is_over, true);
+    return NULL;
+}
+
+static inline void begin_with(int number, int call, warm_page page, const warm_device *device) {
+    caller *its = &callers[number];
+    its->call = call;
+    its->page = page;
+    its->device = device;
+    its->slot = (warm_slot){.generation = 77};
+    atomic_store(&its->is_over, false);
+    MUST(pthread_create(&its->thread, NULL, call_it, its) == 0);
+}
+
+static inline void begin(int number, int call, warm_page page) {
+    begin_with(number, call, page, &in_place);
+}
+
+static inline int end(int number) {
+    MUST(pthread_join(callers[number].thread, NULL) == 0);
+    return callers[number].status;
+}
+
+/* What a call waits for it may have been about to wait for. */
+static inline void until_waiting(int count) {
+    while (atomic_load(&waiting_now) < count) sched_yield();
+}
+
+/* No call is over that was not before, though it had the time. */
+static inline void not_over(int number) {
+    usleep(2000);
+    MUST(!atomic_load(&callers[number].is_over));
+}
+
+/* ---- reads that a test stops ---- */
+
+/* The next read of this page waits, once it has its byte; how many reads have begun so, and may
+ * end. */
+static atomic_long stops_at = -1;
+static atomic_int begun, may_end;
+static atomic_int ends_first = -1; /* of these reads, from 0 on: one that may end before others */
+
+static inline void stop(int fd, off_t at) {
+    long this = at;
+    (void)fd;
+    if (!atomic_compare_exchange_strong(&stops_at, &this, -1)) return;
+    int own = ++begun;
+    while (atomic_load(&may_end) < own && atomic_load(&ends_first) != own - 1) sched_yield();
+}
+
+static inline void until_begun(int count) {
+    while (atomic_load(&begun) < count) sched_yield();
+}
+
+/* A replica of this many shards, and a handle for each caller. */
+static inline void open_over(
+    size_t shards, size_t frames, const warm_device *of, size_t device_count) {
+    memset(in_files, 0, sizeof in_files);
+    files_keep = true;
+    at_read = stop;
+    stops_at = -1;
+    begun = may_end = reads = 0;
+    OK(open_with(&first, 1, shards, frames, of, device_count));
+    for (int number = 0; number < MOST; number++) OK(warm_attach(&first, &callers[number].handle));
+}
+
+static inline void open_all(size_t shards, size_t frames) {
+    open_over(shards, frames, devices, FAKE_DEVICES);
+}
+
+/* How many frames have a page is known in each shard: with too few a page that is held could
+ * leave, with too many a load could be refused. */
+static inline void frames_are_counted(void) {
+    opened *its = first.at;
+    for (size_t number = 0; number < its->count; number++) {
+        node_counters counted = {0};
+        OK(node_counts(&its->shards[number].node, &counted));
+        MUST(its->shards[number].table.filled == counted.resident);
+    }
+}
+
+static inline void close_all(void) {
+    opened *its = first.at;
+    frames_are_counted();
+    for (int number = 0; number < MOST; number++) OK(warm_close(&callers[number].handle));
+    no_pins(&first);
+    for (size_t number = 0; number < its->count; number++) MUST(its->shards[number].reads == NULL);
+    OK(warm_abandon(&first));
+    MUST(waiting_now == 0);
+    nothing_left();
+    at_read = NULL;
+    files_keep = false;
+}
+
+/* What is counted beside what a fake node says. */
+static inline void has_counted(uint16_t dev, uint64_t made, uint64_t failed) {
+    warm_device_counters counters;
+    uint64_t count = ((opened *)first.at)->count;
+    OK(warm_device_counts(&first, dev, &counters));
+    MUST(counters.reads == count + made && counters.failures == count + failed);
+}
+
+static inline bool has_failure(warm *handle) {
+    warm_failure failure;
+    bool found;
+    OK(warm_last_failure(handle, &found, &failure));
+    return found;
+}
+
+static inline void unpin(int number) {
+    OK(warm_unpin(&callers[number].handle, callers[number].slot));
+}
+
+#endif

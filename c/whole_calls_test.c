@@ -1,0 +1,373 @@
+/*
+ * Tests the calls on a whole replica (whole_calls.c, errors.c) over fake_library.h: histories,
+ * messages and dumps, in parts by shards, with memory refused; and what is counted and said of
+ * failures. examples/c tests the same over the proved part.
+ */
+#include "fake_library.h"
+
+/* ---- histories ---- */
+
+static void test_batches(void) {
+    warm_reference seen[128] = {{0}};
+    warm handle = {0};
+    for (uint64_t no = 0; no < 128; no++) seen[no] = (warm_reference){.no = no, .replica = 1};
+    open_shards(&handle, 4);
+    seen[127].replica = 0;
+    MUST(warm_absorb(&handle, seen, 128) == WARM_BAD_REPLICA);
+    MUST(known(&handle) == 0); /* none, though it is the last */
+    seen[127].replica = 1;
+    size_t before = 0;
+    for (size_t grants = 0; grants < 4; grants++) { /* the first shards have theirs */
+        granted = grants;
+        MUST(warm_absorb(&handle, seen, 128) == WARM_MEMORY);
+        granted = SIZE_MAX;
+        MUST(known(&handle) == before + 32 * grants);
+        before = known(&handle);
+    }
+    OK(warm_absorb(&handle, seen, 128));
+    MUST(known(&handle) == before + 128);
+    OK(warm_abandon(&handle));
+}
+
+/* More references than are put in order on the stack: all or none of them, where the copy finds no
+ * memory; one shard's as they are. */
+static void test_great_batches(void) {
+    enum { MANY = BATCH_ROOM + 44 };
+    static warm_reference seen[MANY];
+    warm handle = {0};
+    for (uint64_t at = 0; at < MANY; at++)
+        seen[at] = (warm_reference){.no = at % 3 == 0 ? 4 * at : at, .replica = 64};
+    for (size_t count = 1; count <= 64; count *= 2) {
+        open_shards(&handle, count);
+        granted = 0;
+        MUST(warm_absorb(&handle, seen, MANY) == WARM_MEMORY && known(&handle) == 0);
+        granted = SIZE_MAX;
+        int there = blocks;
+        OK(warm_absorb(&handle, seen, MANY));
+        MUST(blocks == there && known(&handle) == MANY);
+        for (size_t number = 0; number < count; number++) {
+            size_t its = 0;
+            for (size_t at = 0; at < MANY; at++) its += seen[at].no % count == number;
+            MUST(((fake *)((opened *)handle.at)->shards[number].node.at)->known == its);
+        }
+        for (size_t at = 0; at < MANY; at += MANY - 1) {
+            seen[at].replica = 65;
+            MUST(warm_absorb(&handle, seen, MANY) == WARM_BAD_REPLICA);
+            seen[at].replica = 64;
+        }
+        OK(warm_absorb(&handle, seen, 1));
+        MUST(known(&handle) == MANY + 1);
+        OK(warm_abandon(&handle));
+    }
+    nothing_left();
+}
+
+/* Frames that the limits of the history refuse change nothing. A fake frame has its count where one
+ * of a format has it. */
+static void test_limits(void) {
+    uint8_t entries[FAKE_EMPTY] = {NODE_ENTRIES, 3, 0, '2', [21] = 1, [22] = 44},
+            older[FAKE_EMPTY] = {NODE_ENTRIES, 3, 0, '1', [13] = 1, [14] = 44};
+    const uint8_t request[10] = {NODE_REQUEST, 3, 1, 1};
+    const warm_reference seen[] = {{.no = 1, .replica = 1}, {.no = 2, .replica = 1}};
+    uint8_t frame[66];
+    size_t length;
+    warm handle = {0};
+    MUST(warm_limit_history(&handle, 1, 1) == WARM_CLOSED);
+    open_shards(&handle, 4);
+    OK(warm_absorb(&handle, seen, 2));
+    OK(warm_receive(&handle, request, sizeof request));
+    OK(warm_limit_history(&handle, 2, SIZE_MAX));
+    MUST(warm_receive(&handle, entries, sizeof entries) == WARM_LATE_HORIZON &&
+         warm_receive(&handle, request, sizeof request) == WARM_LATE_HORIZON);
+    for (size_t limit = 0; limit < 303; limit += 301) { /* 300 entries, and two pages known */
+        OK(warm_limit_history(&handle, 3, limit));
+        MUST(warm_receive(&handle, entries, sizeof entries) == WARM_TOO_MANY_PAGES);
+        MUST(warm_receive(&handle, older, sizeof older) == WARM_TOO_MANY_PAGES);
+    }
+    MUST(known(&handle) == 2);
+    OK(warm_next_answer(&handle, frame, sizeof frame, &length));
+    MUST(length == FAKE_FULL); /* the answers to what came before still wait */
+    OK(warm_receive(&handle, request, sizeof request)); /* which has no entry */
+    OK(warm_limit_history(&handle, 3, 302));
+    OK(warm_receive(&handle, entries, sizeof entries));
+    MUST(known(&handle) == 4); /* of a fake frame each of two shards takes one page */
+    MUST(warm_receive(&handle, older, sizeof older) == WARM_TOO_MANY_PAGES);
+    OK(warm_limit_history(&handle, 3, 304));
+    OK(warm_receive(&handle, older, sizeof older));
+    entries[21] = entries[22] = 0;
+    OK(warm_limit_history(&handle, 3, 0));
+    OK(warm_receive(&handle, entries, sizeof entries)); /* it has none */
+    OK(warm_abandon(&handle));
+}
+
+static bool says(int status, const char *words) {
+    return strcmp(warm_strerror(status), words) == 0;
+}
+
+/* Each status has words of its own behind its name, and no other number has any. */
+static void test_words(void) {
+    static const int last[] = {13, 42, 88};
+    const char *none = warm_strerror(-1);
+    int named = 0;
+    for (int status = -100; status < 1000; status++) {
+        bool is_one = false;
+        for (int at = 0, first = 0; at < 3; at++, first = at == 1 ? 34 : 64)
+            is_one = is_one || (status >= first && status <= last[at]);
+        const char *words = warm_strerror(status);
+        MUST(is_one ? strncmp(words, "WARM_", 5) == 0 && strstr(words, ": ") != NULL
+                    : words == none);
+        named += is_one;
+    }
+    MUST(named == 14 + 9 + 25 && strncmp(none, "WARM_", 5) != 0);
+    MUST(says(INT32_MAX, none));
+    MUST(says(WARM_OK, "WARM_OK: done"));
+    MUST(says(WARM_BAD_ORDER,
+        "WARM_BAD_ORDER: the entries of the message are not in the order of their pages"));
+    MUST(says(WARM_MORE_FOLLOWS, "WARM_MORE_FOLLOWS: bytes follow the digests of the dump"));
+    MUST(strcmp(warm_version(), WARM_VERSION) == 0);
+    MUST(sizeof(warm_counters) == 128 && sizeof(warm_failure) == 32); /* layouts.h has the rest */
+}
+
+/* The pages of a list are those that the node, or a copy of all histories, has written. */
+static void test_lists(void) {
+    const warm_reference seen[] = {
+        {.no = 0, .replica = 1}, {.no = 1, .replica = 1}, {.no = 2, .replica = 1}};
+    for (size_t count = 1; count <= 4; count *= 4) {
+        warm_page pages[4] = {{0}};
+        warm handle = {0};
+        size_t listed;
+        open_shards(&handle, count);
+        OK(warm_absorb(&handle, seen, 3));
+        OK(warm_list(&handle, pages, 4, &listed));
+        MUST(listed == 3 && pages[3].no == 0);
+        for (size_t at = 0; at < 3; at++) MUST(pages[at].no == at + 1 && pages[at].dev == at + 7);
+        OK(warm_close(&handle));
+        nothing_left();
+    }
+}
+
+/* A bucket is sent while more follow; a message without entries leaves the place as it was. */
+static void test_sending(void) {
+    const warm_reference seen = {.no = 1, .replica = 1};
+    warm_sending sending = {.bucket = 3}, before;
+    uint8_t message[FAKE_FULL];
+    size_t length = 0;
+    warm handle = {0};
+    MUST(warm_send(&handle, &sending, message, sizeof message, &length) == WARM_CLOSED);
+    open_shards(&handle, 4);
+    OK(warm_send(&handle, &sending, message, sizeof message, &length));
+    MUST(length == FAKE_EMPTY && !sending.has_after && !sending.more && sending.after.no == 0);
+    OK(warm_absorb(&handle, &seen, 1));
+    sending.bucket = 1;
+    before = sending;
+    MUST(warm_send(&handle, &sending, message, FAKE_FULL - 1, &length) == WARM_BUFFER_TOO_SMALL &&
+         length == FAKE_FULL);
+    sending.bucket = 64;
+    MUST(warm_send(&handle, &sending, message, sizeof message, &length) == WARM_BAD_BUCKET);
+    sending.bucket = 1;
+    EACH_REFUSED(warm_send(&handle, &sending, message, sizeof message, &length),
+        memcmp(&sending, &before, sizeof before) == 0);
+    MUST(length == FAKE_FULL && message[2] == 1 && sending.has_after && sending.more &&
+         sending.after.no == 1);
+    OK(warm_send(&handle, &sending, message, sizeof message, &length));
+    MUST(length == FAKE_FULL && sending.has_after && !sending.more && sending.after.no == 1 &&
+         sending.bucket == 1 && sending.since == 0);
+    OK(warm_abandon(&handle));
+    nothing_left();
+}
+
+/* Each allocation of a call on the whole fails in turn, and nothing is left of it. */
+static void test_memory(void) {
+    const uint8_t entries[10] = {NODE_ENTRIES, 1};
+    uint8_t frame[66];
+    size_t length = 77;
+    bool found;
+    warm_page page;
+    warm handle = {0};
+    open_shards(&handle, 4);
+    int there = blocks;
+    EACH_REFUSED(warm_load(&handle, 1, 8), blocks == there);
+    EACH_REFUSED(warm_list(&handle, &page, 1, &length), blocks == there && length == 77);
+    EACH_REFUSED(warm_save(&handle, 1), blocks == there);
+    MUST(warm_save(&handle, -1) == WARM_DUMP_NOT_WRITTEN &&
+         warm_load(&handle, -1, 1) == WARM_DUMP_NOT_READ && blocks == there);
+    EACH_REFUSED(warm_step(&handle, &found, &page), true);
+    EACH_REFUSED(warm_receive(&handle, entries, sizeof entries), true);
+    length = 77;
+    EACH_REFUSED(warm_offer(&handle, frame, sizeof frame, &length), length == 77);
+    memset(frame + 2, 9, 64);
+    EACH_REFUSED(warm_receive(&handle, frame, sizeof frame), true);
+    length = 77;
+    EACH_REFUSED(warm_next_answer(&handle, frame, sizeof frame, &length), length == 77);
+    OK(warm_abandon(&handle));
+    nothing_left();
+}
+
+/* Frames that are refused, at once or by each allocation. The answers that wait still do. */
+static void refuse_frames(warm *handle) {
+    const uint8_t digests[66] = {NODE_DIGESTS, 3};
+    MUST(warm_receive(handle, digests, 9) == WARM_TRUNCATED);
+    for (size_t grants = 0; grants < 4; grants++) {
+        granted = grants;
+        MUST(warm_receive(handle, digests, sizeof digests) == WARM_MEMORY);
+        granted = SIZE_MAX;
+    }
+}
+
+/* The answers to digests that all differ, of which there is not enough room at first: of odd
+ * buckets both frames, and then the request, which is left in the frame. */
+static void take_answers(warm *handle, uint8_t frame[66]) {
+    size_t length, none;
+    for (uint8_t bucket = 1; bucket < 64; bucket += 2) {
+        for (int part = 0; part < 2; part++) {
+            memset(frame, 'x', 66);
+            MUST(warm_next_answer(handle, frame, FAKE_FULL - 1, &length) == WARM_BUFFER_TOO_SMALL &&
+                 length == FAKE_FULL && frame[0] == 'x');
+            OK(warm_next_answer(handle, frame, FAKE_FULL, &length));
+            MUST(length == FAKE_FULL && frame[0] == NODE_ENTRIES && frame[1] == 3 &&
+                 frame[2] == bucket && frame[FAKE_FULL] == 'x');
+        }
+    }
+    memset(frame, 'x', 66);
+    MUST(warm_next_answer(handle, frame, 9, &length) == WARM_BUFFER_TOO_SMALL && length == 10 &&
+         frame[0] == 'x');
+    OK(warm_next_answer(handle, frame, 10, &length));
+    MUST(length == 10 && frame[0] == NODE_REQUEST && frame[1] == 3 && frame[2] == 1 &&
+         frame[9] == 1);
+    OK(warm_next_answer(handle, frame + 10, 10, &none));
+    MUST(none == 0);
+}
+
+/* Bucket by bucket, of each that has something both frames, and then the request. A bucket that has
+ * nothing has no frame, and leaves no trace. */
+static void test_answers(void) {
+    const warm_reference seen = {.no = 1, .replica = 1};
+    uint8_t frame[66] = {NODE_DIGESTS, 3};
+    size_t length;
+    warm handle = {0};
+    open_shards(&handle, 2);
+    /* the second shard knows something, and the first nothing */
+    OK(warm_absorb(&handle, &seen, 1));
+    memset(frame + 2, 2, 64); /* all digests differ */
+    OK(warm_receive(&handle, frame, sizeof frame));
+    take_answers(&handle, frame);
+    OK(warm_receive(&handle, frame, 10)); /* a request for buckets 0 to 7 */
+    for (int part = 0; part < 8; part++) {
+        refuse_frames(&handle);
+        OK(warm_next_answer(&handle, frame, sizeof frame, &length));
+        MUST(length == FAKE_FULL && frame[2] == 1 + part / 2 * 2);
+    }
+    memset(frame, 'x', sizeof frame);
+    OK(warm_next_answer(&handle, frame, sizeof frame, &length));
+    /* no request follows an answer to one */
+    MUST(length == 0 && frame[0] == 'x' && frame[22] == 'x');
+    OK(warm_receive(&handle, (uint8_t[10]){NODE_REQUEST, 3, 1, 1}, 10));
+    OK(warm_receive(&handle, (uint8_t[10]){NODE_ENTRIES, 3}, 10)); /* which is not answered */
+    OK(warm_next_answer(&handle, frame, sizeof frame, &length));
+    MUST(length == 0);
+    OK(warm_limit(&handle, 2));
+    frame[0] = NODE_REQUEST;
+    frame[1] = 3;
+    MUST(warm_receive(&handle, frame, 10) == WARM_LATE_HORIZON &&
+         warm_receive(&handle, frame, 9) == WARM_TRUNCATED);
+    OK(warm_abandon(&handle));
+    nothing_left();
+}
+
+/* ---- counts and failures ---- */
+
+static void test_counts(void) {
+    warm handle = {0};
+    warm_counters counters;
+    warm_device_counters of_device;
+    open_shards(&handle, 4);
+    OK(warm_counts(&handle, &counters));
+    MUST(counters.hits == 4 && counters.misses == 8 && counters.evictions == 12 &&
+         counters.resident == 0 && counters.dirty == 20);
+    write_each(&handle, 1, 6);
+    OK(warm_counts(&handle, &counters));
+    MUST(counters.resident == 6);
+    OK(warm_device_counts(&handle, 0, &of_device));
+    MUST(of_device.reads == 4 && of_device.writes == 8 && of_device.flushes == 12 &&
+         of_device.failures == 4);
+    OK(warm_device_counts(&handle, FAKE_DEVICES - 1, &of_device));
+    /* it stays there */
+    MUST(of_device.reads == UINT64_MAX && of_device.failures == UINT64_MAX &&
+         of_device.writes == 8);
+    MUST(warm_device_counts(&handle, FAKE_DEVICES, &of_device) == WARM_NO_DEVICE);
+    OK(warm_abandon(&handle));
+}
+
+/* Each handle has the failure of its own last call that failed. */
+static void test_failures(void) {
+    const uint64_t bad = 500;
+    warm first = {0}, second = {0};
+    warm_failure failure = {.no = 9};
+    warm_slot slot;
+    bool found = true;
+    unreadable = bad;
+    open_shards(&first, 4);
+    OK(warm_attach(&first, &second));
+    OK(warm_last_failure(&first, &found, &failure));
+    MUST(!found && failure.no == 9);
+    MUST(warm_pin(&first, (warm_page){.no = bad + 3}, &slot) == WARM_READ_FAULT);
+    MUST(warm_pin(&second, (warm_page){.no = bad + 3, .dev = 1}, &slot) == WARM_READ_FAULT);
+    must_have_failed(&first, bad + 3, 0, WARM_FAILED_READ, ENXIO);
+    must_have_failed(&second, bad + 3, 1, WARM_FAILED_READ, ENXIO);
+    MUST(warm_pin(&second, (warm_page){.no = bad + 1}, &slot) == WARM_READ_FAULT &&
+         warm_pin(&second, (warm_page){.no = FAKE_PAGES}, &slot) == WARM_NO_PAGE);
+    must_have_failed(&first, bad + 3, 0, WARM_FAILED_READ, ENXIO);
+    must_have_failed(&second, bad + 1, 0, WARM_FAILED_READ, ENXIO);
+    OK(warm_close(&second));
+    OK(warm_attach(&first, &second));
+    OK(warm_last_failure(&second, &found, &failure));
+    MUST(!found);
+    OK(warm_close(&second));
+    MUST(warm_pin(&first, (warm_page){.no = bad + 2}, &slot) == WARM_READ_FAULT); /* the node's */
+    must_have_failed(&first, bad + 2, 0, WARM_FAILED_READ, EIO);
+    OK(warm_abandon(&first));
+    unreadable = INT64_MAX;
+}
+
+/* One shard has a later horizon than the others: what is offered has it, and what is forgotten in
+ * all is older. */
+static void test_horizons(void) {
+    const uint8_t request[10] = {NODE_REQUEST, 8};
+    uint8_t frame[66];
+    warm handle = {0};
+    uint64_t horizon;
+    size_t length;
+    open_shards(&handle, 4);
+    OK(warm_raise(&handle, 7, &horizon));
+    MUST(horizon == 7);
+    OK(warm_raise(&handle, 3, &horizon));
+    MUST(horizon == 7);
+    OK(node_horizon(&((opened *)handle.at)->shards[1].node, 9, &horizon));
+    OK(warm_raise(&handle, 3, &horizon));
+    MUST(horizon == 7);
+    OK(node_horizon(&((opened *)handle.at)->shards[3].node, 9, &horizon)); /* the last one */
+    OK(warm_raise(&handle, 3, &horizon));
+    MUST(horizon == 7);
+    OK(warm_offer(&handle, frame, sizeof frame, &length));
+    MUST(frame[1] == 9);
+    OK(warm_receive(&handle, request, sizeof request)); /* it raises the others */
+    OK(warm_raise(&handle, 0, &horizon));
+    MUST(horizon == 8);
+    OK(warm_abandon(&handle));
+}
+
+int main(void) {
+    test_batches();
+    test_great_batches();
+    test_limits();
+    test_words();
+    test_lists();
+    test_sending();
+    test_memory();
+    test_answers();
+    test_counts();
+    test_failures();
+    test_horizons();
+    puts("whole_calls_test: as expected");
+    return 0;
+}
