@@ -132,6 +132,9 @@ static int fake_unread(fake *its, node_page page) {
     return WARM_READ_FAULT;
 }
 
+/* How often a node has read a page, or tried to. */
+static int read_by_nodes;
+
 /* What a file keeps; of a device with calls of its own zeros. */
 static uint8_t fake_read(const fake *its, node_page page) {
     int32_t number = its->devices[page.dev].number;
@@ -145,6 +148,7 @@ static int fake_pin(fake *its, node_page page, const uint8_t *given, node_slot *
     fake_frame *frame = fake_frame_for(its, page);
     if (frame == NULL) return WARM_ALL_PINNED;
     if (!frame->is_in || frame->page.no != page.no || frame->page.dev != page.dev) {
+        if (given == NULL) read_by_nodes++;
         if (given == NULL && (off_t)page.no >= unreadable) return fake_unread(its, page);
         if (frame->is_in && frame->is_dirty && !fake_write(its, frame)) return WARM_EVICT_FAULT;
         uint8_t byte = given == NULL ? fake_read(its, page) : *given;

@@ -134,9 +134,17 @@ static int test_lock(pthread_mutex_t *lock) {
     return pthread_mutex_lock(lock);
 }
 
+/* What a test does once this thread has let a lock go, and has none: after so many others. */
+static _Thread_local void (*at_unlock)(void);
+static _Thread_local int unlocks_before;
+
 static int test_unlock(pthread_mutex_t *lock) {
-    held--;
-    return pthread_mutex_unlock(lock);
+    int status = pthread_mutex_unlock(lock);
+    if (--held > 0 || at_unlock == NULL || unlocks_before-- > 0) return status;
+    void (*once)(void) = at_unlock;
+    at_unlock = NULL;
+    once();
+    return status;
 }
 
 static int test_cond_init(pthread_cond_t *made, const pthread_condattr_t *kind) {

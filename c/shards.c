@@ -104,8 +104,32 @@ static int load_once(opened *its, shard *in, load *it) {
     return is_free || pass_over_held(its, in, true) ? ask_node(its, in, it) : WARM_ALL_PINNED;
 }
 
+/* Whether a page may be put into a frame, as it seems before it is read. There are not more pages
+ * with pins than pins, nor more that are held than there is room for. */
+static bool has_room(opened *its, shard *in) {
+    const table *of = &in->table;
+    bool found = false;
+    node_page page;
+    if (of->filled < of->frames || of->pinned + of->room < of->frames) return true;
+    if (pass_over_held(its, in, false)) node_victim(&in->node, &found, &page);
+    unpin_passed(in);
+    return found;
+}
+
 /* How many pages that cannot be written a load passes over. */
 enum { STUCK = 8 };
+
+/* The node of a handle that is alone has read the page, and would read it again for each page that
+ * cannot be written. */
+static int load_read_once(opened *its, shard *in, load *it) {
+    if (it->kind == LOAD_PINS) {
+        if (!has_room(its, in)) return WARM_ALL_PINNED;
+        int status = read_outside(its, in, it->page, it->is_locked);
+        if (status != WARM_OK) return status;
+        it->kind = LOAD_PINS_FILLED;
+    }
+    return load_once(its, in, it);
+}
 
 /* Where the page that is to leave cannot be written, the next one leaves: the node has a pin of the
  * first one meanwhile. What failed first is noted, also where the call succeeds then. */
@@ -117,8 +141,7 @@ __attribute__((noinline)) static int load_again(opened *its, shard *in, load *it
     while (status == WARM_EVICT_FAULT && count < STUCK && pin_victim(in, &page, &stuck[count])) {
         count++;
         unpin_passed(in);
-        status = load_once(its, in, it);
-        if (status == WARM_READ_FAULT) noted(its, in, status);
+        status = load_read_once(its, in, it);
     }
     while (count > 0) node_unpin(&in->node, stuck[--count]);
     return status == WARM_ALL_PINNED ? first : status;
@@ -157,18 +180,6 @@ static int pin_resident(opened *its, shard *in, load *it) {
 }
 
 /* ---- pages that are read with no shard locked ---- */
-
-/* Whether a page may be put into a frame, as it seems before it is read. There are not more pages
- * with pins than pins, nor more that are held than there is room for. */
-static bool has_room(opened *its, shard *in) {
-    const table *of = &in->table;
-    bool found = false;
-    node_page page;
-    if (of->filled < of->frames || of->pinned + of->room < of->frames) return true;
-    if (pass_over_held(its, in, false)) node_victim(&in->node, &found, &page);
-    unpin_passed(in);
-    return found;
-}
 
 /* What the node would refuse before it reads the page. */
 static int may_read(opened *its, shard *in, node_page page) {

@@ -18,10 +18,11 @@
 
    Threads. Each thread has a handle of its own (warm_attach). A call on a page, a slot or a bucket
    locks its shard, but not while it reads a page. A call on the whole replica locks one shard after
-   another; warm_forget_pages and warm_replace lock all at once. A pin of a page that was pinned
-   twice since it was loaded, and its unpin, usually take no lock, for 8 pages of a handle at a
-   time. A call waits for a page that another call reads; if that read fails, it reads itself. The
-   calls on a shard have one order; a call on several shards is not one step.
+   another; warm_forget_pages and warm_replace lock all at once, and then wait for reads of their
+   pages. A pin of a page that was pinned twice since it was loaded, and its unpin, usually take no
+   lock, for 8 pages of a handle at a time. A call waits for a page that another call reads; if that
+   read fails, it reads itself. The calls on a shard have one order; a call on several shards is not
+   one step.
 
    You may pass any slot, page, number, length, message or descriptor: the call is refused, or does
    what its description says. The library starts no thread.
@@ -29,7 +30,7 @@
    What the caller guarantees for every function:
    - A handle is zero before its first call, and changed by these functions alone. An open one is
      not copied or moved. After a fork one process alone uses a replica; at the fork no other thread
-     is in a call of it.
+     is in a call of any replica.
    - One call at a time uses a handle: threads that share one take a lock. warm_attach is a call of
      both handles: attach before the thread starts.
    - No pointer is null, unless this is allowed. It points to as many elements as its length says,
@@ -375,7 +376,8 @@ int warm_send(warm *handle, warm_sending *sending, void *message, size_t room, s
 int warm_limit(warm *handle, uint64_t time);
 
 /* Sets two more: of horizons (as the current time less a retention) and of pages that the history
-   knows. Each entry counts as a new page. At first there is no limit; dumps have none. */
+   knows. Each entry counts as a new page; what other handles receive meanwhile does not count. At
+   first there is no limit; dumps have none. */
 int warm_limit_history(warm *handle, uint64_t horizon, size_t pages);
 
 /* ---- dumps ---- */

@@ -16,7 +16,7 @@ use crate::{ffi, stack, Error, Result};
 /// A call may use no handle of its replica: that is refused with [`Error::InDevice`]. A call that
 /// waits for a thread that uses the replica may wait for ever.
 pub trait PageDevice: Send + Sync + 'static {
-    /// Fills all bytes with those of a page.
+    /// Fills all bytes, which are zero before, with those of a page.
     fn read(&self, no: u64, into: &mut [u8]) -> io::Result<()>;
 
     /// Writes all bytes of a page.
@@ -81,7 +81,7 @@ const EAGAIN: c_int = 11;
 
 // Each function below is called by the library with a context that it was opened with, which is
 // there until the replica has ended, and with the bytes of one page, which nobody writes meanwhile;
-// those of a read are a frame's that nobody else sees.
+// those of a read are a buffer's that nobody else sees, and that nobody may have written yet.
 
 unsafe extern "C" fn read(
     context: *mut c_void,
@@ -89,9 +89,12 @@ unsafe extern "C" fn read(
     into: *mut c_void,
     length: usize,
 ) -> c_int {
-    // SAFETY: see above.
+    // SAFETY: see above. A device that looks at the bytes before it fills them, or leaves some,
+    // finds zeros.
     let (context, into) = unsafe {
-        (&*context.cast::<Context>(), slice::from_raw_parts_mut(into.cast::<u8>(), length))
+        let into = into.cast::<u8>();
+        into.write_bytes(0, length);
+        (&*context.cast::<Context>(), slice::from_raw_parts_mut(into, length))
     };
     call(context, || context.device.read(no, into))
 }

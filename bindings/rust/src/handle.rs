@@ -242,8 +242,8 @@ impl Handle {
         self.end(ffi::warm_close)
     }
 
-    /// Closes the handle by force. With the handle that opened the replica it ends, and what is
-    /// dirty is lost.
+    /// Closes the handle by force. With the handle that opened the replica it ends, or with the
+    /// last one, and what is dirty is lost.
     ///
     /// Refused, with the handle in the error: [`Error::Attached`].
     pub fn abandon(self) -> std::result::Result<(), CloseError> {
@@ -332,7 +332,7 @@ impl Handle {
     pub fn pin_zeroed(&mut self, page: Page) -> Result<PinMut<'_>> {
         let raw = self.enter()?;
         // The library fills the page at once. Nobody reads it: there is no other handle, and this
-        // one has no pin, or it were borrowed.
+        // one has no pin but leaked ones, or it were borrowed.
         let is_alone = Arc::get_mut(&mut self.replica).is_some();
         let zeros = self.empty_page()?;
         let (pinned, latch) = if is_alone {
@@ -340,7 +340,7 @@ impl Handle {
             // SAFETY: the handle is open.
             result(unsafe { ffi::warm_pin_zeroed(raw, page, &mut slot) })?;
             let pinned = Pinned { handle: self, slot };
-            (pinned, self.latch_of(slot).write(Duration::ZERO).ok_or(Error::Latched)?)
+            (pinned, self.latch_of(slot).seize())
         } else {
             self.pin_latched(raw, page)?
         };

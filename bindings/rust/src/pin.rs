@@ -41,6 +41,12 @@ impl Latch {
         });
         taken.then(|| WriteLatch(self))
     }
+
+    /// The latch where nobody can use one: who has it has leaked it.
+    pub fn seize(&self) -> WriteLatch<'_> {
+        self.0.swap(WRITER, Ordering::Acquire);
+        WriteLatch(self)
+    }
 }
 
 /// Whether it succeeds before the time has passed.
@@ -153,7 +159,8 @@ impl fmt::Debug for Pin<'_> {
 /// writes what it has by then.
 ///
 /// It is dropped where its handle is used. In a call of a device of the replica itself, which may
-/// not use the handle, what was written is lost, and the page stays pinned.
+/// not use the handle, and where the thread has less stack left than a call needs, what was written
+/// is lost, and the page stays pinned.
 #[must_use]
 pub struct PinMut<'h> {
     // dropped in this order, after drop()

@@ -63,6 +63,41 @@ fn a_torn_page_is_refused() {
     assert_eq!(handle.pin(page(1)).unwrap()[0], 1);
 }
 
+/// Fills page 1 alone, and looks at what it is given.
+struct Lazy;
+
+impl PageDevice for Lazy {
+    fn read(&self, no: u64, into: &mut [u8]) -> io::Result<()> {
+        assert!(into.iter().all(|byte| *byte == 0));
+        if no == 1 {
+            into.fill(1);
+        }
+        Ok(())
+    }
+
+    fn write(&self, _no: u64, _bytes: &[u8]) -> io::Result<()> {
+        Ok(())
+    }
+
+    fn sync(&self) -> io::Result<()> {
+        Ok(())
+    }
+}
+
+#[test]
+fn bytes_that_a_read_leaves_are_zero() {
+    let handle = Handle::open(Options::new(1).frames(1).device(Device::own(Lazy, PAGES))).unwrap();
+    let only_byte = |no| {
+        let pin = handle.pin(page(no)).unwrap();
+        assert!(pin.iter().all(|byte| *byte == pin[0]));
+        pin[0]
+    };
+    for is_alone in [true, false] {
+        let _other = (!is_alone).then(|| handle.attach().unwrap()); // pages are read elsewhere then
+        assert_eq!([2, 1, 2, 3, 1].map(only_byte), [0, 1, 0, 0, 1]);
+    }
+}
+
 /// Pages that are written and read, and what each must have, by a model. Returns what was refused.
 fn work(handle: &Handle, model: &mut HashMap<u64, u8>) -> Vec<Error> {
     let mut refused = Vec::new();

@@ -232,6 +232,23 @@ fn a_leaked_pin_keeps_its_page_and_harms_nothing() {
 }
 
 #[test]
+fn a_leaked_pin_keeps_no_zeros_away() {
+    let memory = Memory::default();
+    let mut handle = over(memory.device());
+    for no in 1..3 {
+        handle.write(page(no), 0, &[9]).unwrap();
+    }
+    mem::forget(handle.pin(page(1)).unwrap());
+    mem::forget(handle.pin_mut(page(2)).unwrap());
+    for no in 1..3 {
+        handle.pin_zeroed(page(no)).unwrap()[1] = 5;
+        assert_eq!(&handle.pin(page(no)).unwrap()[..3], &[0, 5, 0]);
+    }
+    handle.write_back_all().unwrap();
+    assert_eq!(handle.forget_pages(0, 0), Err(Error::Pinned));
+}
+
+#[test]
 fn the_replica_ends_with_its_last_handle() {
     let memory = Memory::default();
     let opener = over(memory.device());
