@@ -3,8 +3,8 @@
 
    A replica has a buffer pool with LRU-2 replacement (O'Neil, O'Neil, Weikum, 1993), and a history
    of page references, which ranks the pages. Replicas exchange histories by messages, which the
-   caller carries. Lost, repeated or reordered messages do no harm. What a message says is believed:
-   take messages from trusted senders alone (see warm_limit). docs/C.md has programs.
+   caller carries: lost, repeated or reordered ones do no harm. Messages are believed: take them
+   from trusted senders alone (see warm_limit). docs/C.md has programs.
 
    Statuses. A call that returns an int returns WARM_OK, or is refused. A refused call changes
    nothing but counts and the last failure, and writes nothing through its pointers, unless its
@@ -12,9 +12,9 @@
    comes first; warm_close and warm_abandon of a closed handle return WARM_OK. errno means nothing
    after a call.
 
-   Shards. Page dev:no is in shard (dev + no) modulo the number of shards. Each shard has its pages'
-   history, and its part of the frames. It evicts, of its unpinned pages in frames, the one with the
-   greatest backward 2-distance.
+   Shards. Page dev:no is in shard (dev + no) modulo the number of shards. Each shard has its
+   pages' history, and its part of the frames. It evicts its unpinned page of greatest backward
+   2-distance.
 
    Threads. Each thread has a handle of its own (warm_attach). A call on a page, a slot or a bucket
    locks its shard, but not while it reads a page. A call on the whole replica locks one shard after
@@ -96,7 +96,7 @@ typedef enum warm_status {
     WARM_BUFFER_TOO_SMALL = 66,  /* length is the room needed */
     WARM_BAD_REPLICA = 67,
     WARM_BAD_BUCKET = 68,
-    WARM_SAME_FILE = 69,         /* two devices have one file, or ops and one context */
+    WARM_SAME_FILE = 69,         /* two devices have one file, or one context of own calls */
     WARM_LATE_HORIZON = 70,      /* a message's horizon is later than a limit */
     WARM_LATE_STAMP = 71,        /* a message's stamp is later than the limit */
     WARM_BAD_SHARDS = 72,
@@ -146,18 +146,18 @@ typedef struct warm_slot {
 
 /* ---- open and close ---- */
 
-/* The engine's own functions for a device, called with its context. length is the page size; a
-   later version may ask for several pages at once.
+/* The engine's functions for a device, with its context. length is the page size; a later version
+   may ask for several pages at once.
    read, write and sync are all given, or all null for the descriptor's file. They return 0 or an
    errno; EAGAIN and EINTR count as EIO. read fills all bytes, or fails, as for a wrong checksum
    (WARM_READ_FAULT). sync makes durable all writes that had returned.
    before_write, if not null, is asked before each write of a page. It returns 0: write; EAGAIN:
    skip this page now, as its latch is held or its log not synced; or an errno, with which the
-   write fails. A skipped page stays dirty: a write-back passes over 16 in a shard; the next keeps
-   back the pages behind it.
-   after_write, if not null, is told the error (or 0) of each write that was made.
-   Any thread that uses the replica may call them, several at once. None writes a page that another
-   one reads or writes.
+   write fails. A skipped page stays dirty: a write-back passes over 16 in a shard, and ends there
+   at the next.
+   after_write, if not null, is told the error (or 0) of each write that was made, by the thread
+   that asked before_write.
+   Any thread that uses the replica may call them, several at once, for different pages.
    Caller: they return, call nothing of this replica, wait for no thread that does, and keep no
    pointer to the bytes. */
 typedef struct warm_device_ops {
@@ -182,7 +182,7 @@ typedef struct warm_device {
 /* What a replica is opened with. Zero means the default, if there is one. */
 typedef struct warm_options {
     size_t size;                /* sizeof(warm_options) */
-    uint32_t replica;           /* 1 to 64 */
+    uint32_t replica;           /* 1 to 64; no other replica has it */
     uint32_t flags;             /* 0 */
     size_t shards;              /* 1, 2, 4, 8, 16, 32 or 64; default 1 */
     size_t frames;              /* of all shards; default 1,024, without devices one a shard */
@@ -202,27 +202,28 @@ typedef struct warm_options {
    O_DIRECT needs a multiple of 4,096 as page size, and no fork during a call. */
 int warm_open(warm *handle, const warm_options *options);
 
-/* Opens the closed handle attached for another thread of handle's replica. Its pins, answers and
-   last failure are its own; all else is the replica's.
+/* Opens attached, a closed handle, on the replica of handle, for another thread. Its pins, answers
+   and last failure are its own.
    Refused: WARM_ALREADY_OPEN, WARM_MEMORY. */
 int warm_attach(warm *handle, warm *attached);
 
 /* Closes a handle. The one that opened the replica ends it, after a flush of the devices.
-   Refused: WARM_ATTACHED, WARM_PINS_LEFT; if the replica would end WARM_DIRTY, and
-   WARM_WRITE_FAULT if a flush fails. */
+   Refused: WARM_ATTACHED, WARM_PINS_LEFT; for that one also WARM_DIRTY, and WARM_WRITE_FAULT if a
+   flush fails. */
 int warm_close(warm *handle);
 
 /* Closes a handle by force. If it opened the replica, dirty pages are lost, and nothing says
-   whether a flush failed. What an attached one has pinned may stay in its frame for ever.
+   whether a flush failed. What an attached one has pinned may stay in its frame.
    Refused: WARM_ATTACHED. */
 int warm_abandon(warm *handle);
 
-/* Writes what the replica was opened with: defaults in place of zeros, and devices null. With one
-   latch a frame, that of a slot has the index slot.shard * (frames / shards) + slot.index.
-   Refused: WARM_BAD_OPTIONS for options->size. */
+/* Writes into options, whose size is set, what the replica was opened with: defaults in place of
+   zeros, and devices null. With one latch a frame, that of a slot has the index
+   slot.shard * (frames / shards) + slot.index.
+   Refused: WARM_BAD_OPTIONS. */
 int warm_settings(warm *handle, warm_options *options);
 
-/* The version; and a status: its name, a colon, and words. */
+/* The version; a status's name, a colon, and words. */
 const char *warm_version(void);
 const char *warm_strerror(int status);
 
@@ -266,8 +267,8 @@ int warm_bytes(warm *handle, warm_slot slot, const uint8_t **bytes);
    without warm_mark_dirty. */
 int warm_bytes_mut(warm *handle, warm_slot slot, uint8_t **bytes);
 
-/* Makes the slot's page dirty: call it after writing by a pointer, before latch and pin are
-   released. Refused: WARM_STALE_SLOT. */
+/* Makes the slot's page dirty, after writing by a pointer and before its latch is released.
+   Refused: WARM_STALE_SLOT. */
 int warm_mark_dirty(warm *handle, warm_slot slot);
 
 /* Writes whether a page is in a frame. */
@@ -370,9 +371,9 @@ typedef struct warm_sending {
 int warm_send(warm *handle, warm_sending *sending, void *message, size_t room, size_t *length);
 
 /* Sets a limit: messages with a later time are refused. If times are a clock's, set the current
-   time plus a tolerance before each message. It protects from clocks that are ahead, not from
-   malice: a horizon up to the limit erases older stamps, and entries of pages that no device has
-   take memory and ranks. */
+   time plus a tolerance before each message. It protects from clocks ahead, not from malice: a
+   horizon up to the limit erases older stamps, and entries of pages that no device has take memory
+   and ranks. */
 int warm_limit(warm *handle, uint64_t time);
 
 /* Sets two more: of horizons (as the current time less a retention) and of pages that the history
