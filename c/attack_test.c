@@ -72,6 +72,26 @@ static void test_room_of_handles(void) {
     close_two(&first, &second);
 }
 
+/* A handle that is alone holds a page of another shard first, and then one of the shard whose page
+ * would leave: that one stays. */
+static void test_later_hold(void) {
+    warm handle = {0};
+    warm_slot slots[2], slot;
+    OK(open_with(&handle, 1, 2, 2, devices, FAKE_DEVICES));
+    for (uint64_t no = 0; no < 2; no++) {
+        pin_twice(&handle, no);
+        slots[no] = hold_page(&handle, no);
+    }
+    MUST(((opened *)handle.at)->used == 3);
+    MUST(warm_pin(&handle, page_at(3), &slot) == WARM_ALL_PINNED);
+    look_at(&handle, slots[1], 1);
+    for (int at = 0; at < 2; at++) OK(warm_unpin(&handle, slots[at]));
+    OK(warm_unpin(&handle, pin(&handle, 3)));
+    no_pins(&handle);
+    OK(warm_close(&handle));
+    nothing_left();
+}
+
 /* ---- pages that cannot be written ---- */
 
 /* Of this device those below this number cannot. */
@@ -179,6 +199,7 @@ int main(void) {
     test_last_records();
     test_record_after_zeros();
     test_room_of_handles();
+    test_later_hold();
     test_reading_past_stuck();
     test_behind_a_failure();
     test_reused_descriptor();
