@@ -37,7 +37,7 @@ const char *warm_strerror(int status) {
         SAYS(WARM_BUFFER_TOO_SMALL, "the message does not fit into its room")
         SAYS(WARM_BAD_REPLICA, "a replica has a number from 1 to 64")
         SAYS(WARM_BAD_BUCKET, "a bucket has a number from 0 to 63")
-        SAYS(WARM_SAME_FILE, "two devices have one file, or one context")
+        SAYS(WARM_SAME_FILE, "two devices have one file, or one context of own calls")
         SAYS(WARM_LATE_HORIZON, "the horizon of the message is later than a limit")
         SAYS(WARM_LATE_STAMP, "a stamp of the message is later than the limit")
         SAYS(WARM_BAD_SHARDS, "a replica has 1, 2, 4, 8, 16, 32 or 64 shards")

@@ -7,27 +7,27 @@
    from trusted senders alone (see warm_limit). docs/C.md has programs.
 
    Statuses. A call that returns an int returns WARM_OK, or is refused. A refused call changes
-   nothing but counts and the last failure, and writes nothing through its pointers, unless its
-   description says otherwise. "Refused" lists statuses in the order of their checks. WARM_CLOSED
-   comes first; warm_close and warm_abandon of a closed handle return WARM_OK. errno means nothing
-   after a call.
+   nothing but counts and the last failure, and writes nothing through its pointers (but see
+   WARM_BUFFER_TOO_SMALL), unless its description says otherwise. "Refused" lists statuses in the
+   order of their checks. WARM_CLOSED comes first; warm_close and warm_abandon of a closed handle
+   return WARM_OK. errno means nothing after a call.
 
    Shards. Page dev:no is in shard (dev + no) modulo the number of shards. Each shard has its
    pages' history, and its part of the frames. It evicts its unpinned page of greatest backward
    2-distance.
 
-   Threads. Each thread has a handle of its own (warm_attach). A call on a page, a slot or a bucket
-   locks its shard, but not while it reads a page. A call on the whole replica locks one shard after
+   Threads. Each thread has its own handle (warm_attach). A call on a page, a slot or a bucket locks
+   its shard, but not while it reads a page. A call on the whole replica locks one shard after
    another; warm_forget_pages and warm_replace lock all at once, and then wait for reads of their
-   pages. A pin of a page that was pinned twice since it was loaded, and its unpin, usually take no
-   lock, for 8 pages of a handle at a time. A call waits for a page that another call reads; if that
-   read fails, it reads itself. The calls on a shard have one order; a call on several shards is not
-   one step.
+   pages. A pin of a page pinned twice since it was loaded, and its unpin, usually take no lock, for
+   8 pages of a handle at a time. A call waits for a page that another call reads; if that read
+   fails, it reads itself. The calls on a shard have one order; a call on several shards is not one
+   step.
 
    You may pass any slot, page, number, length, message or descriptor: the call is refused, or does
    what its description says. The library starts no thread.
 
-   What the caller guarantees for every function:
+   For every function the caller guarantees:
    - A handle is zero before its first call, and changed by these functions alone. An open one is
      not copied or moved. After a fork one process alone uses a replica; at the fork no other thread
      is in a call of any replica.
@@ -69,18 +69,18 @@ enum {
 
 typedef enum warm_status {
     WARM_OK = 0,
-    WARM_MEMORY = 1,             /* an allocation failed */
+    WARM_MEMORY = 1,
     WARM_BAD_FRAMES = 2,
     WARM_BAD_PAGE_SIZE = 3,
     WARM_NO_DEVICE = 4,
     WARM_NO_PAGE = 5,            /* the device has fewer pages */
     WARM_ALL_PINNED = 6,         /* each frame of the shard has a pinned page */
-    WARM_READ_FAULT = 7,         /* the page could not be read */
+    WARM_READ_FAULT = 7,
     WARM_EVICT_FAULT = 8,        /* the page to evict could not be written */
     WARM_PINS_FULL = 9,          /* the page has 2^32 - 1 pins */
     WARM_OUT_OF_PAGE = 10,       /* the bytes reach beyond the page */
-    WARM_PINNED = 11,            /* a page that is to leave its frame is pinned */
-    WARM_WRITE_FAULT = 12,       /* a page could not be written, or a device not flushed */
+    WARM_PINNED = 11,            /* a page that must leave is pinned */
+    WARM_WRITE_FAULT = 12,       /* a write or a flush failed */
     WARM_STALE_SLOT = 13,        /* the slot has no pinned page, or another one now */
     WARM_TRUNCATED = 34,         /* this and the next 8: why bytes are no message */
     WARM_BAD_MAGIC,
@@ -114,7 +114,7 @@ typedef enum warm_status {
     WARM_TOO_MANY_PAGES = 84,    /* a message's pages would exceed the limit */
     WARM_BAD_OPTIONS = 85,       /* a size or flag of another version */
     WARM_BAD_DEVICE = 86,        /* too many devices, or too large; bad ops */
-    WARM_DIRTY = 87,             /* pages are dirty, and would be lost */
+    WARM_DIRTY = 87,             /* dirty pages would be lost */
     WARM_SKIPPED = 88            /* before_write skipped pages; nothing has failed */
 } warm_status;
 
@@ -136,7 +136,7 @@ typedef struct warm_reference {
     uint64_t no, time;
 } warm_reference;
 
-/* Where a pinned page is. A replica that is opened later may accept it, too. */
+/* Where a pinned page is. A replica opened later may accept it. */
 typedef struct warm_slot {
     uint64_t generation; /* of the frame: how many pages it had before */
     uint32_t index;      /* of the frame in its shard, from 0 */
@@ -146,15 +146,14 @@ typedef struct warm_slot {
 
 /* ---- open and close ---- */
 
-/* The engine's functions for a device, with its context. length is the page size; a later version
-   may ask for several pages at once.
+/* The engine's functions for a device, with its context. length is the page size; in a later
+   version read and write alone may have several pages.
    read, write and sync are all given, or all null for the descriptor's file. They return 0 or an
    errno; EAGAIN and EINTR count as EIO. read fills all bytes, or fails, as for a wrong checksum
    (WARM_READ_FAULT). sync makes durable all writes that had returned.
    before_write, if not null, is asked before each write of a page. It returns 0: write; EAGAIN:
-   skip this page now, as its latch is held or its log not synced; or an errno, with which the
-   write fails. A skipped page stays dirty: a write-back passes over 16 in a shard, and ends there
-   at the next.
+   skip this page now, as its latch is held or its log not synced; an errno: the write fails. A
+   skipped page stays dirty: a write-back passes over 16 in a shard, and ends there at the next.
    after_write, if not null, is told the error (or 0) of each write that was made, by the thread
    that asked before_write.
    Any thread that uses the replica may call them, several at once, for different pages.
@@ -170,8 +169,8 @@ typedef struct warm_device_ops {
 } warm_device_ops;
 
 /* A device. In a file page n is at byte n * page_size. Behind its end are zeros; a write extends
-   it. A device without a file yet has the descriptor -1 - dev (device 0: -1, as of a failed
-   open); its reads and writes fail. */
+   it. A device without a file yet has the descriptor -1 - dev; its reads and writes fail. No call
+   checks that a descriptor is open or writable: check open yourself. */
 typedef struct warm_device {
     uint64_t pages;             /* the most it may have; at most 2^63 - 1 bytes */
     int fd;                     /* not used if ops has read, write and sync */
@@ -179,7 +178,7 @@ typedef struct warm_device {
     void *context;
 } warm_device;
 
-/* What a replica is opened with. Zero means the default, if there is one. */
+/* What a replica is opened with. 0: the default, if any. */
 typedef struct warm_options {
     size_t size;                /* sizeof(warm_options) */
     uint32_t replica;           /* 1 to 64; no other replica has it */
@@ -197,8 +196,8 @@ typedef struct warm_options {
    WARM_BAD_REPLICA, WARM_BAD_FRAMES, WARM_BAD_PAGE_SIZE, WARM_BAD_DEVICE, WARM_APPENDS,
    WARM_SAME_FILE; WARM_MEMORY at any point.
    Caller: until the replica ends, descriptors stay open, of the same file and without O_APPEND, and
-   ops and contexts stay as they are. Nothing else writes to a page that may be in a frame, or syncs
-   its file: the system reports a failed write to one sync. No call syncs what the caller writes.
+   ops and contexts unchanged. Nothing else writes to a page that may be in a frame, or syncs its
+   file: the system reports a failed write to one sync. No call syncs what the caller writes.
    O_DIRECT needs a multiple of 4,096 as page size, and no fork during a call. */
 int warm_open(warm *handle, const warm_options *options);
 
@@ -218,7 +217,7 @@ int warm_close(warm *handle);
 int warm_abandon(warm *handle);
 
 /* Writes into options, whose size is set, what the replica was opened with: defaults in place of
-   zeros, and devices null. With one latch a frame, that of a slot has the index
+   zeros, and devices null. With one latch a frame, a slot's has the index
    slot.shard * (frames / shards) + slot.index.
    Refused: WARM_BAD_OPTIONS. */
 int warm_settings(warm *handle, warm_options *options);
@@ -229,10 +228,10 @@ const char *warm_strerror(int status);
 
 /* ---- pages: but for warm_step, these calls allocate nothing ---- */
 
-/* Pins a page: it is read into a frame, if it is in none, and stays there until its last unpin. A
-   pin is no reference: absorb one, too. If the page to evict is skipped, or its write fails,
-   another one is evicted, after up to 8 such pages. warm_last_failure has the first of them, also
-   with WARM_OK, or the failed read.
+/* Pins a page: it is read into a frame, if it is in none, and stays there while any handle has it
+   pinned. A pin is no reference: absorb one, too. If the page to evict is skipped, or its write
+   fails, another one is evicted, after up to 8 such pages. warm_last_failure has the first of them,
+   not the others, also with WARM_OK; or the failed read.
    Refused: WARM_NO_DEVICE, WARM_NO_PAGE; of a page in a frame WARM_PINS_FULL; else
    WARM_ALL_PINNED, WARM_PINS_FULL, WARM_READ_FAULT, WARM_EVICT_FAULT. */
 int warm_pin(warm *handle, warm_page page, warm_slot *slot);
@@ -251,13 +250,13 @@ int warm_unpin(warm *handle, warm_slot slot);
 /* Copies bytes of the slot's page, from byte at on. Refused: WARM_STALE_SLOT, WARM_OUT_OF_PAGE. */
 int warm_read(warm *handle, warm_slot slot, size_t at, void *into, size_t length);
 
-/* Writes bytes into the slot's page, from byte at on, and makes it dirty: it is written before
-   it is evicted, or by a write-back. Refused: WARM_STALE_SLOT, WARM_OUT_OF_PAGE. */
+/* Writes bytes into the slot's page, from byte at on, and makes it dirty: its eviction or a
+   write-back writes it. Refused: WARM_STALE_SLOT, WARM_OUT_OF_PAGE. */
 int warm_write(warm *handle, warm_slot slot, size_t at, const void *bytes, size_t length);
 
-/* Writes where the page_size bytes of the slot's page are until its last unpin.
+/* Writes where the page_size bytes of the slot's page are while any handle has it pinned.
    Refused: WARM_STALE_SLOT.
-   Caller: reads them until then, while no other thread writes to the page. */
+   Caller: reads them only then, while no other thread writes to the page. */
 int warm_bytes(warm *handle, warm_slot slot, const uint8_t **bytes);
 
 /* The same for writing; the page is dirty now.
@@ -274,13 +273,14 @@ int warm_mark_dirty(warm *handle, warm_slot slot);
 /* Writes whether a page is in a frame. */
 int warm_resident(warm *handle, warm_page page, bool *resident);
 
-/* Writes which pages of a shard would be evicted next, in order, and how many: up to room or 64.
+/* Writes which pages of a shard would be evicted next, in order, once no frame is free, and how
+   many: up to room or 64. Changes nothing. It looks at each frame only after many changes.
    Refused: WARM_NO_SHARD; WARM_ALL_PINNED if a page has 2^32 - 1 pins. */
 int warm_victims(warm *handle, size_t shard, warm_page *pages, size_t room, size_t *count);
 
 /* A step of a warm-up. Of a shard's hottest pages, as many as it has frames, it loads the hottest
-   that is in no frame. Writes whether there was one, and which; if not, the pool is warm. Shards
-   take turns, also after a refusal. After changes a step ranks the history again.
+   that is on a device and in no frame. Writes whether there was one, and which; if not, the pool is
+   warm. Shards take turns, also after a refusal. After changes a step ranks the history again.
    Refused: WARM_MEMORY, WARM_ALL_PINNED, WARM_PINS_FULL, WARM_READ_FAULT, WARM_EVICT_FAULT. */
 int warm_step(warm *handle, bool *found, warm_page *page);
 
@@ -290,16 +290,16 @@ int warm_prefetch(warm *handle, warm_page page);
 /* ---- write-back: but for warm_replace, these calls allocate nothing ---- */
 
 /* Writes all dirty pages, and then flushes each device with unflushed writes, once, with no shard
-   locked. A page that fails keeps back those behind it of its shard and device; all else goes on. A
-   device with a failed write is not flushed. After a failed flush each later one of the device
-   fails, as the system may have dropped what was written.
+   locked. A page that fails keeps back those in later frames of its shard and device; all else goes
+   on. A device with a failed write is not flushed. After a failed flush each later one of the
+   device fails, as the system may have dropped what was written.
    Refused: WARM_WRITE_FAULT if a write or a flush failed, else WARM_SKIPPED. What is not written
    stays dirty. */
 int warm_write_back_all(warm *handle);
 
 /* Writes at most limit dirty pages, flushes nothing, and says how many are left. Each call begins
    with the shard after that of the call before.
-   Refused: WARM_WRITE_FAULT, WARM_SKIPPED. */
+   Refused, with left unchanged, though pages may be written: WARM_WRITE_FAULT, WARM_SKIPPED. */
 int warm_write_back_some(warm *handle, size_t limit, size_t *left);
 
 /* Writes a page if it is dirty, and says whether it was; flushes nothing.
@@ -324,7 +324,8 @@ int warm_replace(warm *handle, uint16_t dev, const warm_device *device);
 
 /* ---- history ---- */
 
-/* Adds references, in any order. A repeated one changes nothing, so give each use another time.
+/* Adds references of any replica, in any order. A repeated one changes nothing, so give each use
+   another time.
    Refused: WARM_BAD_REPLICA; WARM_MEMORY, when each shard has added all of its references or none:
    add them again. */
 int warm_absorb(warm *handle, const warm_reference *references, size_t count);
@@ -359,10 +360,10 @@ int warm_next_answer(warm *handle, void *message, size_t room, size_t *length);
 /* How far warm_send is in a bucket. Begin with bucket, since and zeros. */
 typedef struct warm_sending {
     uint64_t since;  /* pages without a stamp from this time on are left out; 0: none */
-    warm_page after; /* the last page that was sent, if has_after */
+    warm_page after; /* the last page sent, if has_after */
     uint8_t bucket;
     bool has_after;
-    bool more;       /* entries follow: call again */
+    bool more;       /* entries follow */
 } warm_sending;
 
 /* Writes a message with the next entries (pages with stamps) of a bucket, and its length. To
@@ -417,7 +418,7 @@ int warm_counts(warm *handle, warm_counters *counters);
 
 /* Calls of a device since it has its number, up to 2^64 - 1. */
 typedef struct warm_device_counters {
-    uint64_t reads, writes; /* of pages, also those that failed or were skipped */
+    uint64_t reads, writes; /* of pages, also failed or skipped ones */
     uint64_t flushes;       /* by each shard; shards share one sync */
     uint64_t failures;      /* of all these, and skips */
     uint64_t reserved[4];   /* 0 */
@@ -438,7 +439,8 @@ typedef struct warm_failure {
 } warm_failure;
 
 /* Writes whether a device's call ever failed or was skipped in a call of this handle, and which
-   last: of a call that went on, its first failure, else skip. If none has, failure is unchanged. */
+   last: of a call that went on, its first failure, else skip (but see warm_pin). If none has,
+   failure is unchanged. */
 int warm_last_failure(warm *handle, bool *found, warm_failure *failure);
 
 #ifdef __cplusplus
