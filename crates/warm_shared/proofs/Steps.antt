@@ -14,7 +14,7 @@ use Rattle.warm_shared.specs.ShardSteps.{IsOwn, NodeGoes, ShardStep, ShardView, 
 abbrev pub SameShard : ShardView → ShardView → Type 0
 SameShard x y = (y.count ≡ x.count) × (y.number ≡ x.number)
 
-only_node : (x y : ShardView) → y ≡ record x { node = y.node } → SameShard x y
+only_node : (x y : ShardView) → y ≡ record x { node = y.node; pool = y.pool } → SameShard x y
 only_node x y is = (ap (λ (s : ShardView). s.count) is, ap (λ (s : ShardView). s.number) is)
 
 pub step_keeps : (x y : ShardView) (c : ShardCall) (r : ShardReply) → ShardStep x c r y

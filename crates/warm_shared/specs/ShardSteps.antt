@@ -1,5 +1,5 @@
 -- A shard as a machine: the calls of a node that it answers, and its steps.
-use Rattle.std.specs.Prelude.{◌≡◌, ◌↔◌, ℕ, ◌%◌, ◌<◌, Bool, IsTrue, List, length}
+use Rattle.std.specs.Prelude.{◌≡◌, ◌↔◌, ℕ, ◌%◌, ◌<◌, Bool, IsTrue, List, [], length}
 use Rattle.std.specs.Prelude.{Option, Some, None, Result, Ok, Err}
 use Rattle.std.specs.Int.{bit_at}
 use Rattle.std.specs.List.{All}
@@ -45,23 +45,31 @@ pub record ShardState : Type 0 where
   pub number : ℕ
   pub node : NodeState
 
--- the same, with what a caller sees of its node
+-- the same, with what a caller of the node sees of it, and with its pool
 pub record ShardView : Type 0 where
   pub count : ℕ
   pub number : ℕ
   pub node : NodeView
+  pub pool : PoolState
 
 abbrev pub shard_view : ShardState → ShardView
-shard_view s = record { count = s.count; number = s.number; node = node_view s.node }
+shard_view s =
+    record { count = s.count; number = s.number; node = node_view s.node; pool = s.node.pool }
 
 -- the shard of this number over a node
 abbrev pub shard_over : ℕ → ℕ → NodeState → ShardView
 shard_over count number node =
-    record { count = count; number = number; node = node_view node }
+    record { count = count; number = number; node = node_view node; pool = node.pool }
 
 -- no shard
 abbrev pub no_shard_view : ShardView
-no_shard_view = record { count = 0; number = 0; node = empty_node }
+no_shard_view =
+    record {
+      count = 0;
+      number = 0;
+      node = empty_node;
+      pool = record { page_size = 0; spare = 0; frames = []; devices = [] };
+    }
 
 -- Calls and replies
 
@@ -233,13 +241,33 @@ NodeGoes old (changing page) (Changed slot before after) new =
 NodeGoes old (changing page) (Refused why) new = Refuses old (node_call.Pin page) why new
 NodeGoes old (changing page) reply new = ⊥
 
+-- What a call that writes back leaves of the pool: all dirty pages were written, since no more are
+-- dirty than there are frames, or as many as were asked for; or those before the one whose write
+-- failed. After `WriteBack` no page is dirty and no device is unflushed. A page that gets zeros is
+-- dirty, and one that is forgotten has the bytes that its device has.
+abbrev pub LeavesWritten : PoolState → ShardCall → ShardReply → PoolState → Type 0
+LeavesWritten old WritePages Done new = CleansFirst (length old.frames) old new
+LeavesWritten old WritePages (Refused why) new = SomeFails (length old.frames) old new
+LeavesWritten old (WriteSome limit) (Dirty left) new = WritesBackSome limit old left new
+LeavesWritten old (WriteSome limit) (Refused why) new = SomeFails limit old new
+LeavesWritten old WriteBack Done new = IsSettled new
+LeavesWritten old (PinZeroed page) (Pinned slot) new = TakesZeroed old page slot new
+LeavesWritten old (ForgetPages dev from) Done new = Forgets old dev from new
+LeavesWritten old call reply new = Unit {0}
+
+-- the pool that a caller of the node sees is this one
+abbrev pub IsSeen : ShardView → Type 0
+IsSeen s = s.node.pool ≡ view_of s.pool
+
 -- Of a shard's state only the node changes, and it goes as nodes go. A call that brings a page, or
 -- a bucket, of another shard is refused with `Foreign`, and nothing changes.
 abbrev pub ShardStep : ShardView → ShardCall → ShardReply → ShardView → Type 0
 ShardStep old call Foreign new = (IsOwn old.count old.number call → ⊥) × (new ≡ old)
 ShardStep old call reply new = IsOwn old.count old.number call
-    × (new ≡ record old { node = new.node })
+    × (new ≡ record old { node = new.node; pool = new.pool })
     × NodeGoes old.node (asked_of call) reply new.node
+    × IsSeen new
+    × LeavesWritten old.pool call reply new.pool
 
 -- the result of a node that was asked to answer this call: its reply is one of a node, or it
 -- refused
@@ -249,23 +277,7 @@ AnsweredAs old call (Ok reply) new =
 AnsweredAs old call (Err why) new =
     NodeGoes (node_view old) (asked_of call) (Refused why) (node_view new)
 
--- What a caller does not see of a shard that writes back: all its dirty pages were written, since
--- no more are dirty than there are frames, or as many as were asked for; or those before the one
--- whose write failed. After `WriteBack` no page is dirty and no device is unflushed. A page that
--- gets zeros is dirty, and one that is forgotten has the bytes that its device has.
-abbrev pub LeavesWritten : NodeState → ShardCall → ShardReply → NodeState → Type 0
-LeavesWritten old WritePages Done new = CleansFirst (length old.pool.frames) old.pool new.pool
-LeavesWritten old WritePages (Refused why) new =
-    SomeFails (length old.pool.frames) old.pool new.pool
-LeavesWritten old (WriteSome limit) (Dirty left) new =
-    WritesBackSome limit old.pool left new.pool
-LeavesWritten old (WriteSome limit) (Refused why) new = SomeFails limit old.pool new.pool
-LeavesWritten old WriteBack Done new = IsSettled new.pool
-LeavesWritten old (PinZeroed page) (Pinned slot) new = TakesZeroed old.pool page slot new.pool
-LeavesWritten old (ForgetPages dev from) Done new = Forgets old.pool dev from new.pool
-LeavesWritten old call reply new = Unit {0}
-
--- the same of a node that was asked to answer the call
-abbrev pub WrittenAs : NodeState → ShardCall → Result ShardReply NodeFault → NodeState → Type 0
+-- the same of what a call that writes back leaves
+abbrev pub WrittenAs : PoolState → ShardCall → Result ShardReply NodeFault → PoolState → Type 0
 WrittenAs old call (Ok reply) new = LeavesWritten old call reply new
 WrittenAs old call (Err why) new = LeavesWritten old call (Refused why) new

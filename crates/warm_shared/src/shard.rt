@@ -7,7 +7,7 @@ ghost use Rattle.warm_gossip.specs.declared.call.Call.TheVariants.{Offer, Receiv
 ghost use Rattle.warm_gossip.specs.declared.call.Reply.TheVariants.{Answers, Sent};
 ghost use Rattle.warm_gossip.specs.Clauses.{Answered, NodeWriteBackFails, SameView};
 ghost use Rattle.warm_shards.specs.Shards.{IsShardCount, shard_of};
-ghost use Rattle.warm_shared.specs.ShardSteps.{AnsweredAs, AreOwnBuckets, IsOwn, LeavesWritten};
+ghost use Rattle.warm_shared.specs.ShardSteps.{AnsweredAs, AreOwnBuckets, IsOwn};
 ghost use Rattle.warm_shared.specs.ShardSteps.{ShardStep, WrittenAs, request_for, shard_view};
 ghost use Rattle.warm_shared.specs.declared.call.ShardCall.TheVariants.{Change, ForgetPages, Look};
 ghost use Rattle.warm_shared.specs.declared.call.ShardCall.TheVariants.{PinZeroed, SendSince};
@@ -210,7 +210,7 @@ fn answer<D: PageDevice>(
     call: ShardCall,
 ) -> Result<ShardReply, NodeFault>
     ensures answered { AnsweredAs node.old call result node.new }
-    ensures written { WrittenAs node.old call result node.new }
+    ensures written { WrittenAs node.old.pool call result node.new.pool }
 {
     match call {
         ShardCall::Absorb(batch) => {
@@ -254,7 +254,7 @@ fn answer<D: PageDevice>(
 // Pins a page, and fills it with zeros.
 fn zeroed<D: PageDevice>(node: &mut Node<D>, page: PageId) -> Result<ShardReply, NodeFault>
     ensures answered { AnsweredAs node.old (PinZeroed page) result node.new }
-    ensures written { WrittenAs node.old (PinZeroed page) result node.new }
+    ensures written { WrittenAs node.old.pool (PinZeroed page) result node.new.pool }
 {
     let slot = node.pin_zeroed(page)?;
     Ok(ShardReply::Pinned(slot))
@@ -288,7 +288,7 @@ fn forgotten<D: PageDevice>(
     from: u64,
 ) -> Result<ShardReply, NodeFault>
     ensures answered { AnsweredAs node.old (ForgetPages dev from) result node.new }
-    ensures written { WrittenAs node.old (ForgetPages dev from) result node.new }
+    ensures written { WrittenAs node.old.pool (ForgetPages dev from) result node.new.pool }
 {
     match node.forget_pages(dev, from) {
         Ok(()) => Ok(ShardReply::Done),
@@ -340,12 +340,9 @@ impl<D: PageDevice> Shard<D> {
     }
 
     /// Answers a call: `ShardStep`. A call that brings a page, or a bucket, of another shard is
-    /// answered `Foreign`, and nothing has changed. What `WritePages`, `WriteSome`, `WriteBack`,
-    /// `PinZeroed` and `ForgetPages` leave of dirty pages, and of what devices have, no caller of
-    /// the shard sees: `LeavesWritten`.
+    /// answered `Foreign`, and nothing has changed.
     pub fn call(&mut self, call: ShardCall) -> ShardReply
-        ensures step { ShardStep (shard_view self.old) call result (shard_view self.new) }
-        ensures written { LeavesWritten self.old.node call result self.new.node }
+        ensures { ShardStep (shard_view self.old) call result (shard_view self.new) }
     {
         if !is_own(self.count, self.number, &call) {
             return ShardReply::Foreign;
@@ -370,8 +367,8 @@ impl<D: PageDevice> Shard<D> {
     }
 }
 
-/// The state of a shard that threads share: what a caller sees of it. No value of the type is made;
-/// contracts see it as a `ShardView`.
+/// The state of a shard that threads share: what a caller sees of its node, and its pool. No value
+/// of the type is made; contracts see it as a `ShardView`.
 pub struct ViewOfShard {
     _none: (),
 }
