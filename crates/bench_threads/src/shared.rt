@@ -3,8 +3,8 @@
 //! threads' checksums of what they read, and nanoseconds.
 //!
 //! Each frame has a page of 4,096 bytes, and each page is resident. A hit pins a page that is drawn
-//! evenly, reads eight bytes of it, and unpins it. The numbers of pages and of the hits of each
-//! thread come last; the pages are a power of two up to 65,536.
+//! evenly, reads eight bytes of it into a buffer, and unpins it. The numbers of pages and of the
+//! hits of each thread come last; the pages are a power of two up to 65,536.
 //!
 //! - `SHARDS THREADS PAGES HITS`: 1, 2 or 4 threads over shared shards.
 //! - `look SHARDS THREADS PAGES HITS`: the same, where a hit is a look at the bytes where they lie.
@@ -112,20 +112,21 @@ fn number_of(bytes: &[u8]) -> u64 {
     }
 }
 
-// The number in a page.
+// The number in a page, which is read into eight bytes.
 fn number_in<R: Wait>(
     rt: &R,
     shared: &SharedShards<Numbered>,
     attached: &mut Attached<Numbered>,
     no: u64,
+    eight: &mut Vec<u8>,
 ) -> Result<u64, SharedFault>
     requires { AreOf shared.now attached.old.passes }
     ensures { AreOf shared.now attached.new.passes }
 {
     let at = shared.pin(rt, attached, PageId { dev: 0, no })?;
-    let bytes = shared.read(rt, attached, at, 0, 8)?;
+    shared.read_into(rt, attached, at, 0, eight)?;
     shared.unpin(rt, attached, at)?;
-    Ok(number_of(bytes.as_slice()))
+    Ok(number_of(eight.as_slice()))
 }
 
 // The number in a page, which is looked at where it lies.
@@ -149,6 +150,7 @@ fn number_hit<R: Wait>(
     shared: &SharedShards<Numbered>,
     attached: &mut Attached<Numbered>,
     no: u64,
+    eight: &mut Vec<u8>,
     looks: bool,
 ) -> Result<u64, SharedFault>
     requires { AreOf shared.now attached.old.passes }
@@ -157,12 +159,13 @@ fn number_hit<R: Wait>(
     if looks {
         return number_seen(rt, shared, attached, no);
     }
-    number_in(rt, shared, attached, no)
+    number_in(rt, shared, attached, no, eight)
 }
 
 // Loads each page into a frame.
 fn load_shared<R: Wait>(
     rt: &R,
+    alloc: Global,
     shared: &SharedShards<Numbered>,
     attached: &mut Attached<Numbered>,
     pages: u64,
@@ -170,8 +173,9 @@ fn load_shared<R: Wait>(
     requires { AreOf shared.now attached.old.passes }
     ensures { AreOf shared.now attached.new.passes }
 {
+    let mut eight = Vec::from_elem(alloc, 0, 8)?;
     for no in 0..pages {
-        number_in(rt, shared, attached, no)?;
+        number_in(rt, shared, attached, no, &mut eight)?;
     }
     Ok(())
 }
@@ -180,6 +184,7 @@ fn load_shared<R: Wait>(
 // its own number on.
 fn hit_shared<R: Wait>(
     rt: &R,
+    alloc: Global,
     shared: &SharedShards<Numbered>,
     attached: &mut Attached<Numbered>,
     thread: u64,
@@ -188,12 +193,13 @@ fn hit_shared<R: Wait>(
     requires { AreOf shared.now attached.old.passes }
     ensures { AreOf shared.now attached.new.passes }
 {
+    let mut eight = Vec::from_elem(alloc, 0, 8)?;
     let mut drawn = thread;
     let mut checksum = 0u64;
     for _ in 0..load.hits {
         drawn = next(drawn);
         let no = (drawn >> 48) & load.mask();
-        let number = number_hit(rt, shared, attached, no, load.looks)?;
+        let number = number_hit(rt, shared, attached, no, &mut eight, load.looks)?;
         checksum = added(checksum, number);
     }
     Ok(checksum)
@@ -202,6 +208,7 @@ fn hit_shared<R: Wait>(
 // The hits of the thread of this number, and their checksum, or `None` where one was refused.
 fn hit_by_one<R: Wait>(
     rt: &R,
+    alloc: Global,
     shared: &SharedShards<Numbered>,
     mut attached: Attached<Numbered>,
     thread: u64,
@@ -210,7 +217,7 @@ fn hit_by_one<R: Wait>(
     requires { AreOf shared.now attached.passes }
     ensures { AreOf shared.now result.0.passes }
 {
-    let checksum = hit_shared(rt, shared, &mut attached, thread, load);
+    let checksum = hit_shared(rt, alloc, shared, &mut attached, thread, load);
     (attached, checksum.ok())
 }
 
@@ -254,11 +261,11 @@ fn hit_by_two<R: Threads + Wait + Sync>(
         move || -> (Attached<Numbered>, Option<u64>)
             requires { AreOf shared.now attached.passes }
             ensures { AreOf shared.entry.now result.0.passes }
-        { hit_by_one(rt, shared, attached, thread, load) },
+        { hit_by_one(rt, alloc, shared, attached, thread, load) },
         move || -> (Attached<Numbered>, Option<u64>)
             requires { AreOf shared.now other.passes }
             ensures { AreOf shared.entry.now result.0.passes }
-        { hit_by_one(rt, shared, other, thread.wrapping_add(1), load) },
+        { hit_by_one(rt, alloc, shared, other, thread.wrapping_add(1), load) },
     );
     both(shared, attached, other, (one, two))
 }
@@ -303,7 +310,7 @@ fn hit_by<R: Threads + Wait + Sync>(
     requires { AreOf shared.now attached.passes }
 {
     let (_, sum) = match crowd {
-        Crowd::One => hit_by_one(rt, shared, attached, 1, load),
+        Crowd::One => hit_by_one(rt, alloc, shared, attached, 1, load),
         Crowd::Two => hit_by_two(rt, alloc, shared, attached, 1, load),
         Crowd::Four => hit_by_four(rt, alloc, shared, attached, load),
     };
@@ -325,7 +332,7 @@ fn opened<R: Wait>(
     let Ok((shared, mut attached)) = sharing.share() else {
         bail!("no memory")
     };
-    if let Err(fault) = load_shared(rt, &shared, &mut attached, load.pages) {
+    if let Err(fault) = load_shared(rt, alloc, &shared, &mut attached, load.pages) {
         bail!("a page was not loaded: {} {}", fault.code(), fault.name())
     }
     Ok((shared, attached))
