@@ -60,7 +60,7 @@ static inline bool pin_by_hold(
     if (by == HOLDS) return false;
     if ((its->used >> by & 1) == 0) {
         if (!hold(its, by, at, state, word)) return false;
-        its->own[by] = (own_hold){.generation = generation, .place = place};
+        its->own[by] = (own_pin){.generation = generation, .place = place};
         its->used |= 1u << by;
     }
     its->own[by].pins++;
@@ -76,7 +76,7 @@ static inline bool pin_by_hold(
 static inline bool unpin_by_hold(opened *its, warm_slot slot) {
     for (unsigned left = its->used; left != 0; left &= left - 1) {
         unsigned at = (unsigned)__builtin_ctz(left);
-        own_hold *it = &its->own[at];
+        own_pin *it = &its->own[at];
         if (it->generation != slot.generation || it->place != place_of_slot(&slot)) continue;
         if (--it->pins > 0) return true;
         atomic_store_explicit(&its->holds->words[at], 0, memory_order_release);
@@ -229,12 +229,54 @@ static int pin_in_node_of(opened *its, shard *in, load *it) {
     return status;
 }
 
-/* What comes of a pin in a node, in the handle and in the slot. */
+/* ---- pins in nodes that a handle knows ---- */
+
+static own_pin *known_pin(opened *its, const warm_slot *slot) {
+    own_pin *at = its->known, *end = at + its->known_count;
+    uint64_t place = place_of_slot(slot);
+    while (at < end && (at->generation != slot->generation || at->place != place)) at++;
+    return at < end ? at : NULL;
+}
+
+/* Of a page there may be more pins than are known, and not fewer. */
+static void note_pin(opened *its, const warm_slot *slot) {
+    own_pin *at = known_pin(its, slot);
+    its->pins++;
+    if (at == NULL && its->known_count < KNOWN_PINS) {
+        at = &its->known[its->known_count++];
+        *at = (own_pin){.generation = slot->generation, .place = place_of_slot(slot)};
+    }
+    if (at != NULL) at->pins++;
+}
+
+static void note_unpin(opened *its, const warm_slot *slot) {
+    own_pin *at = known_pin(its, slot);
+    its->pins--;
+    if (at != NULL && --at->pins == 0) *at = its->known[--its->known_count];
+}
+
+static void let_go_of_pin(opened *its, const own_pin *it) {
+    node_slot slot = {.generation = it->generation, .index = (uint32_t)it->place};
+    shard *in = &its->shards[it->place >> SLOT_SHARD];
+    bool is_locked = enter(its, in);
+    for (uint64_t left = it->pins; left > 0; left--) {
+        if (node_unpin(&in->node, slot) == WARM_OK) in->table.pinned--;
+    }
+    leave(in, is_locked);
+}
+
+void let_go_of_pins(opened *its) {
+    for (unsigned at = 0; at < its->known_count; at++) let_go_of_pin(its, &its->known[at]);
+}
+
+/* ---- pins ---- */
+
+/* What comes of a pin in a node, in the slot and in the handle. */
 static void give_slot(opened *its, const shard *in, const load *it, warm_slot *slot) {
     uint64_t number = (uint64_t)(in - its->shards);
-    its->pins++;
     slot->generation = it->slot.generation;
     put_place(slot, it->slot.index | number << SLOT_SHARD | (uint64_t)it->is_hit << SLOT_HIT);
+    note_pin(its, slot);
 }
 
 static int pin_in_shard(opened *its, load *it, warm_slot *slot) {
@@ -281,7 +323,7 @@ __attribute__((noinline)) static int unpin_in_shard(opened *its, warm_slot slot)
     int status = node_unpin(&in->node, slot_in(slot));
     if (status == WARM_OK) in->table.pinned--;
     leave(in, is_locked);
-    if (status == WARM_OK) its->pins--;
+    if (status == WARM_OK) note_unpin(its, &slot);
     return status;
 }
 

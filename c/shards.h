@@ -76,11 +76,14 @@ typedef struct answers {
     bool has_after;
 } answers;
 
-/* What a handle alone knows of a hold: the slot of its page, index and shard in one, and how often
- * it has pinned the page so. */
-typedef struct own_hold {
+/* What a handle alone knows of a page that it has pinned by a hold, or in a node: its slot, index
+ * and shard in one, and how often it has pinned the page so. */
+typedef struct own_pin {
     uint64_t generation, place, pins;
-} own_hold;
+} own_pin;
+
+/* How many pages that it has pinned in nodes a handle knows. */
+enum { KNOWN_PINS = 32 };
 
 /* What an open handle points to. */
 typedef struct opened {
@@ -91,7 +94,9 @@ typedef struct opened {
     holds *holds;
     uint8_t *buffer; /* of a page: one that is read is here first */
     uint32_t used; /* bit i: hold i names a record */
-    own_hold own[HOLDS];
+    own_pin own[HOLDS];
+    own_pin known[KNOWN_PINS]; /* of the pins in nodes those that found a place here */
+    unsigned known_count;
     size_t turn; /* the shard with which the next warm_step begins */
     bool is_first; /* whether it opened the replica */
     bool has_failed;
@@ -128,6 +133,9 @@ static inline int noted(opened *its, shard *in, int status) {
     }
     return status;
 }
+
+/* Takes back what a handle, which is called no more, has pinned in nodes and knows. */
+void let_go_of_pins(opened *its);
 
 /* Whether a device may be one of a replica of this page size: WARM_OK, WARM_BAD_DEVICE or
  * WARM_APPENDS. */

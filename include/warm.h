@@ -210,7 +210,8 @@ int warm_attach(warm *handle, warm *attached);
 int warm_close(warm *handle);
 
 /* Closes a handle by force. With the one that opened the replica dirty pages are lost, and nothing
-   says whether a flush failed. What an attached one has pinned may stay in its frame.
+   says whether a flush failed. What an attached one has pinned is unpinned; if these were more than
+   32 pages at once, some may stay in their frames.
    Refused: WARM_ATTACHED. */
 int warm_abandon(warm *handle);
 

@@ -1,18 +1,20 @@
 /*
- * stress.c: threads that share one replica in shards, against a model: stress SHARDS THREADS SECONDS SEED.
+ * stress.c: threads that share one replica in shards, against a model: stress SHARDS THREADS
+ * SECONDS SEED.
  *
  * Each thread has a handle of its own, and makes calls that are drawn: pins, reads, writes through
  * the library and in place, references, checkpoints, horizons, gossip with a second replica of one
- * shard, detaching and attaching again, and calls that must be refused. The model knows what is in
- * each page, how many pins it has, and the two latest references to it of each thread. What a page
- * holds is compared at each pin; and at the end, by one thread: that no pin is left (each shard
- * takes as many pages as it has frames), what is in the files, and the histories of both replicas,
- * whose frames this program reads by itself. Each pin of a pinned page gives the same slot and
- * address. The horizon of each shard is the latest time that a thread asked for. A list has each
- * page that is known, once. Prints how many calls were made.
+ * shard, detaching, with pins or without, and attaching again, and calls that must be refused. The
+ * model knows what is in each page, how many pins it has, and the two latest references to it of
+ * each thread. What a page holds is compared at each pin; and at the end, by one thread: that no
+ * pin is left (each shard takes as many pages as it has frames), what is in the files, and the
+ * histories of both replicas, whose frames this program reads by itself. Each pin of a pinned page
+ * gives the same slot and address. The horizon of each shard is the latest time that a thread asked
+ * for. A list has each page that is known, once. Prints how many calls were made.
  *
- * Latches on pages are the caller's (docs/C.md): a page's latch is held while its bytes are read or written. There is no other: before a page is
- * written to its file the device tries the page's latch, and skips the page where another thread has it to write.
+ * Latches on pages are the caller's (docs/C.md): a page's latch is held while its bytes are read or
+ * written. There is no other: before a page is written to its file the device tries the page's
+ * latch, and skips the page where another thread has it to write.
  */
 #define _GNU_SOURCE /* mkstemp */
 #include <errno.h>
@@ -462,6 +464,20 @@ static void attach(struct player *player) {
     pthread_mutex_unlock(&first_lock);
 }
 
+/* The handle is closed, or abandoned with what it has pinned. */
+static void detach(struct player *player) {
+    if (draw(player) % 2 == 0) {
+        release(player, 0);
+        OK(warm_close(&player->handle));
+        return;
+    }
+    while (player->held_count > 0) {
+        struct held held = player->held[--player->held_count];
+        MUST(atomic_fetch_sub(&model_of(held.page)->pins, 1) > 0);
+    }
+    OK(warm_abandon(&player->handle));
+}
+
 static void play_once(struct player *player) {
     uint64_t what = draw(player) % 128;
     if (what < 48) read_page(player);
@@ -476,8 +492,7 @@ static void play_once(struct player *player) {
     else if (what < 127) forget_old(player);
     else if (draw(player) % 16 != 0) replace(player);
     else {
-        release(player, 0);
-        OK(warm_close(&player->handle));
+        detach(player);
         attach(player);
     }
     player->calls++;
