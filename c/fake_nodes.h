@@ -181,8 +181,12 @@ int node_pin_filled(
 
 int node_pin_zeroed(node *of, node_page page, node_slot *slot) {
     fake *its = fake_in(of);
-    return fake_out(
-        of, pins_are_full ? WARM_PINS_FULL : fake_pin(its, page, (const uint8_t[1]){0}, slot));
+    if (pins_are_full) return fake_out(of, WARM_PINS_FULL);
+    int status = fake_pin(its, page, (const uint8_t[1]){0}, slot);
+    if (status != WARM_OK) return fake_out(of, status);
+    its->at[slot->index].byte = 0;
+    its->at[slot->index].is_dirty = true;
+    return fake_out(of, WARM_OK);
 }
 
 int node_lend(node *of, node_slot slot, const uint8_t **bytes) {
@@ -278,6 +282,16 @@ static atomic_int portions;
 int node_write_back_some(node *of, size_t limit, size_t *left) {
     portions++;
     return fake_write_back_some(of, limit, left);
+}
+
+int node_write_back_page(node *of, node_page page, bool *written) {
+    fake *its = fake_in(of);
+    fake_frame *frame = fake_frame_for(its, page);
+    bool is_dirty = frame != NULL && frame->is_dirty && frame->page.no == page.no &&
+                    frame->page.dev == page.dev;
+    if (is_dirty && !fake_write(its, frame)) return fake_out(of, WARM_WRITE_FAULT);
+    *written = is_dirty;
+    return fake_out(of, WARM_OK);
 }
 
 int node_flush(node *of, uint16_t dev) {

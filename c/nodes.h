@@ -78,6 +78,7 @@ int node_send_since(node *handle, uint8_t bucket, uint64_t since, bool has_after
 int node_horizon(node *handle, uint64_t time, uint64_t *horizon);
 int node_write_back(node *handle);
 int node_write_back_some(node *handle, size_t limit, size_t *left);
+int node_write_back_page(node *handle, node_page page, bool *written);
 int node_flush(node *handle, uint16_t dev);
 int node_forget(node *handle, uint16_t dev, uint64_t from);
 int node_replace(node *handle, uint16_t dev, const node_device *device);

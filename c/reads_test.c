@@ -416,6 +416,7 @@ static void test_alone_hits(void) {
     OK(warm_close(&second));
     OK(warm_close(&handle));
     nothing_left();
+}
 
 /* ---- threads ---- */
 

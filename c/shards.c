@@ -11,17 +11,6 @@
 
 /* ---- pages ---- */
 
-/* As shard_of of crates/warm_shards has it: the page's bucket, (dev + no) modulo 64, modulo the
- * number of shards, which is a power of two up to 64. The proved part is not asked, so that a hit
- * makes no call. */
-static size_t number_of(const opened *its, node_page page) {
-    return (page.dev + page.no) & (its->count - 1);
-}
-
-static shard *shard_of(const opened *its, node_page page) {
-    return &its->shards[number_of(its, page)];
-}
-
 /* The hold by which the handle names a record, or one that it does not use; HOLDS where it has none
  * left, or no count. */
 static inline unsigned hold_for(const opened *its, uint64_t word) {

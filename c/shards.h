@@ -109,6 +109,17 @@ typedef struct opened {
 
 static inline size_t bytes_of_devices(const replica *of) { return (of->device_count + 7) / 8; }
 
+/* As shard_of of crates/warm_shards has it: the page's bucket, (dev + no) modulo 64, modulo the
+ * number of shards, which is a power of two up to 64. The proved part is not asked, so that a hit
+ * makes no call. */
+static inline size_t number_of(const opened *its, node_page page) {
+    return (page.dev + page.no) & (its->count - 1);
+}
+
+static inline shard *shard_of(const opened *its, node_page page) {
+    return &its->shards[number_of(its, page)];
+}
+
 static inline size_t open_handles(replica *of) {
     return atomic_load_explicit(&of->handles, memory_order_acquire);
 }

@@ -190,6 +190,7 @@ static void call_each(warm *handle, size_t all, bool is_shared) {
     call_histories(handle, all, is_shared);
     OK(warm_step(handle, &flag, &page));
     call_messages(handle, all, is_shared);
+    TAKES(1, warm_write_back_page(handle, page, &flag));
     TAKES(all, warm_write_back_some(handle, 1, &number));
     TAKES(all + 1, warm_flush_device(handle, 0)); /* the last one to find the descriptor */
     TAKES(all + FAKE_DEVICES, warm_write_back_all(handle));

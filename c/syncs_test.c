@@ -564,6 +564,46 @@ static void test_turns_of_portions(void) {
     nothing_left();
 }
 
+/* One page is written where it is dirty, with no sync; where it cannot be, it is dirty as
+ * before. */
+static void write_one(size_t count, int32_t error) {
+    const warm_page page = {.no = 2 * count - 2}, last = {.no = 2 * count - 1};
+    bool written = true;
+    warm handle = {0};
+    MUST(warm_write_back_page(&handle, page, &written) == WARM_CLOSED && written);
+    syncs = 0;
+    open_shards(&handle, count);
+    OK(warm_write_back_page(&handle, page, &written));
+    MUST(!written);
+    write_each(&handle, 0, 2 * count);
+    OK(warm_write_back_page(&handle, page, &written));
+    MUST(written);
+    for (uint64_t no = 0; no <= last.no; no++)
+        MUST(is_dirty(&handle, page_at(no)) == (no != page.no));
+    OK(warm_write_back_page(&handle, page, &written));
+    MUST(!written);
+    stuck[0] = stuck[1] = stuck[2] = last;
+    is_stuck = is_one_of_stuck;
+    stuck_error = error;
+    MUST(warm_write_back_page(&handle, last, &written) ==
+         (error == EAGAIN ? WARM_SKIPPED : WARM_WRITE_FAULT));
+    MUST(!written && is_dirty(&handle, last));
+    must_have_failed(&handle, last.no, 0, WARM_FAILED_WRITE, error);
+    is_stuck = NULL;
+    stuck_error = EIO;
+    OK(warm_write_back_page(&handle, last, &written));
+    MUST(written && !is_dirty(&handle, last) && syncs == 0);
+    OK(warm_abandon(&handle));
+    nothing_left();
+}
+
+static void test_one_page(void) {
+    for (size_t count = 1; count <= 4; count *= 4) {
+        write_one(count, EIO);
+        write_one(count, EAGAIN);
+    }
+}
+
 /* ---- pages that are to leave, and cannot be written ---- */
 
 static uint64_t stuck_from, stuck_until;
@@ -676,6 +716,7 @@ int main(void) {
     test_failed_syncs();
     test_portions();
     test_clean_shards();
+    test_one_page();
     test_replacing();
     test_going_back();
     test_settling();

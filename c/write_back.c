@@ -85,7 +85,7 @@ static bool is_unwritten(const opened *its, size_t dev) {
     return (its->unwritten[dev / 8] >> dev % 8 & 1) != 0;
 }
 
-/* ---- portions ---- */
+/* ---- portions, and one page ---- */
 
 /* Writes a portion of what waits in a shard, and says how many were written and, where nothing was
  * refused, how many are left. For the node a page that is passed over is one of the portion. */
@@ -128,6 +128,17 @@ int warm_write_back_some(warm *handle, size_t limit, size_t *left) {
     }
     atomic_store(&its->of->hand, hand % its->count);
     if (status == WARM_OK) *left = all;
+    return status;
+}
+
+int warm_write_back_page(warm *handle, warm_page page, bool *written) {
+    opened *its = handle->at;
+    int status = WARM_OK;
+    if (its == NULL) return WARM_CLOSED;
+    shard *in = shard_of(its, page_in(page));
+    bool is_locked = enter(its, in);
+    add_status(its, in, node_write_back_page(&in->node, page_in(page), written), &status);
+    leave(in, is_locked);
     return status;
 }
 

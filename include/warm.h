@@ -1,42 +1,42 @@
 /*
    warm.h: a buffer pool and a history of references, for C and C++ on 64-bit Linux.
 
-   A replica has a buffer pool with LRU-2 replacement (O'Neil, O'Neil, Weikum, 1993), and the
-   history of page references that ranks its pages. Replicas exchange them as messages, which
-   the caller carries; lost, repeated or reordered ones do no harm. What a message says is believed:
+   A replica has a buffer pool with LRU-2 replacement (O'Neil, O'Neil, Weikum, 1993), and a history
+   of page references, which ranks the pages. Replicas exchange histories by messages, which the
+   caller carries. Lost, repeated or reordered messages do no harm. What a message says is believed:
    take messages from trusted senders alone (see warm_limit). docs/C.md has programs.
 
-   Statuses. An int that is returned is WARM_OK or why the call is refused. A refused call changes
+   Statuses. A call that returns an int returns WARM_OK, or is refused. A refused call changes
    nothing but counts and the last failure, and writes nothing through its pointers, unless its
-   description says otherwise. "Refused" lists statuses in the order of their checks; a closed
-   handle is refused first, with WARM_CLOSED, but warm_close and warm_abandon leave it closed, with
-   WARM_OK. errno means nothing after a call.
+   description says otherwise. "Refused" lists statuses in the order of their checks. WARM_CLOSED
+   comes first; warm_close and warm_abandon of a closed handle return WARM_OK. errno means nothing
+   after a call.
 
-   Shards. Page dev:no is in shard (dev + no) modulo their number. Each shard has its pages'
-   history, and its part of the frames. Of its pages in frames that are not pinned, the one with
-   the greatest backward 2-distance is evicted.
+   Shards. Page dev:no is in shard (dev + no) modulo the number of shards. Each shard has its pages'
+   history, and its part of the frames. It evicts, of its unpinned pages in frames, the one with the
+   greatest backward 2-distance.
 
    Threads. Each thread has a handle of its own (warm_attach). A call on a page, a slot or a bucket
-   locks its shard, but not while it reads a page; a call on the whole replica locks one shard after
-   another, warm_forget_pages and warm_replace all at once. A pin of a page that was pinned twice
-   since it was loaded, and its unpin, take no lock, for 8 pages of a handle at a time. Who wants a
-   page that is being read waits for it alone, and where that fails tries again. The calls on a
-   shard have one order; a call on several shards is not one step.
+   locks its shard, but not while it reads a page. A call on the whole replica locks one shard after
+   another; warm_forget_pages and warm_replace lock all at once. A pin of a page that was pinned
+   twice since it was loaded, and its unpin, usually take no lock, for 8 pages of a handle at a
+   time. A call waits for a page that another call reads; if that read fails, it reads itself. The
+   calls on a shard have one order; a call on several shards is not one step.
 
-   Any slot, page, number, length, message or descriptor may be passed: it is refused, or does what
-   the description says. The library starts no thread.
+   You may pass any slot, page, number, length, message or descriptor: the call is refused, or does
+   what its description says. The library starts no thread.
 
    What the caller guarantees for every function:
-   - A handle is zero before its first call, and changed by these functions alone; an open one is
-     not copied or moved. After a fork one process alone uses a replica, of which no other thread
-     was in a call.
+   - A handle is zero before its first call, and changed by these functions alone. An open one is
+     not copied or moved. After a fork one process alone uses a replica; at the fork no other thread
+     is in a call of it.
    - One call at a time uses a handle: threads that share one take a lock. warm_attach is a call of
      both handles: attach before the thread starts.
    - No pointer is null, unless this is allowed. It points to as many elements as its length says,
      else to one, is aligned for its type, and overlaps no other argument.
    - No call is made in a signal handler, or left by longjmp or by cancelling its thread.
    - A call has 128 KiB of stack.
-   - What its description has behind "Caller".
+   - What its description says after "Caller".
 */
 #ifndef WARM_H
 #define WARM_H
@@ -92,14 +92,14 @@ typedef enum warm_status {
     WARM_BAD_ORDER,
     WARM_CLOSED = 64,
     WARM_ALREADY_OPEN = 65,
-    WARM_BUFFER_TOO_SMALL = 66,  /* length has the room needed */
+    WARM_BUFFER_TOO_SMALL = 66,  /* length is the room needed */
     WARM_BAD_REPLICA = 67,
     WARM_BAD_BUCKET = 68,
-    WARM_SAME_FILE = 69,         /* two devices have one file, or own calls and one context */
+    WARM_SAME_FILE = 69,         /* two devices have one file, or ops and one context */
     WARM_LATE_HORIZON = 70,      /* a message's horizon is later than a limit */
     WARM_LATE_STAMP = 71,        /* a message's stamp is later than the limit */
     WARM_BAD_SHARDS = 72,
-    WARM_UNEVEN_FRAMES = 73,     /* frames do not divide by shards */
+    WARM_UNEVEN_FRAMES = 73,     /* frames is no multiple of shards */
     WARM_ATTACHED = 74,          /* other handles are attached */
     WARM_PINS_LEFT = 75,
     WARM_NO_SHARD = 76,
@@ -128,13 +128,14 @@ typedef struct warm_page {
     uint64_t no;
 } warm_page;
 
-/* A replica (1 to 64) used page dev:no at a time: the caller's count, or nanoseconds. */
+/* A replica used page dev:no at a time: the caller's count, or nanoseconds. Replica and time are a
+   stamp. */
 typedef struct warm_reference {
     uint16_t replica, dev;
     uint64_t no, time;
 } warm_reference;
 
-/* Where a pinned page is. A later replica may accept it. */
+/* Where a pinned page is. A replica that is opened later may accept it, too. */
 typedef struct warm_slot {
     uint64_t generation; /* of the frame: how many pages it had before */
     uint32_t index;      /* of the frame in its shard, from 0 */
@@ -144,19 +145,20 @@ typedef struct warm_slot {
 
 /* ---- open and close ---- */
 
-/* A device by the engine's own functions, with its context. length is the page size; a later
-   version may ask for several pages at once.
+/* The engine's own functions for a device, called with its context. length is the page size; a
+   later version may ask for several pages at once.
    read, write and sync are all given, or all null for the descriptor's file. They return 0 or an
-   errno; EAGAIN and EINTR count as EIO. read fills all bytes, or refuses, as where a checksum
-   differs (WARM_READ_FAULT). sync makes durable all writes that had returned.
+   errno; EAGAIN and EINTR count as EIO. read fills all bytes, or fails, as for a wrong checksum
+   (WARM_READ_FAULT). sync makes durable all writes that had returned.
    before_write, if not null, is asked before each write of a page. It returns 0: write; EAGAIN:
    skip this page now, as its latch is held or its log not synced; or an errno, with which the
-   write fails. A skipped page stays dirty: a pin evicts another one, and a write-back passes over
-   16 in each shard, and ends there at the next.
-   after_write, if not null, is told the error (or 0) of each write that is made then.
-   Caller: any thread that uses the replica may call them, several at once; none writes a page that
-   another one reads or writes. They return, call nothing of this replica, wait for no thread that
-   does, and keep no pointer to the bytes. */
+   write fails. A skipped page stays dirty: a write-back passes over 16 in a shard; the next keeps
+   back the pages behind it.
+   after_write, if not null, is told the error (or 0) of each write that was made.
+   Any thread that uses the replica may call them, several at once. None writes a page that another
+   one reads or writes.
+   Caller: they return, call nothing of this replica, wait for no thread that does, and keep no
+   pointer to the bytes. */
 typedef struct warm_device_ops {
     size_t size; /* sizeof(warm_device_ops) */
     int (*read)(void *context, uint64_t no, void *into, size_t length);
@@ -166,17 +168,17 @@ typedef struct warm_device_ops {
     void (*after_write)(void *context, uint64_t no, int error);
 } warm_device_ops;
 
-/* A device. In a file page n is at byte n * page_size; behind its end are zeros, and a write
-   extends it. A device without a file yet has -1 - dev as descriptor (device 0 has -1, as of a
-   failed open); its reads and writes fail. */
+/* A device. In a file page n is at byte n * page_size. Behind its end are zeros; a write extends
+   it. A device without a file yet has the descriptor -1 - dev (device 0: -1, as of a failed
+   open); its reads and writes fail. */
 typedef struct warm_device {
     uint64_t pages;             /* the most it may have; at most 2^63 - 1 bytes */
-    int fd;                     /* not used where ops has read, write and sync */
+    int fd;                     /* not used if ops has read, write and sync */
     const warm_device_ops *ops; /* or null */
     void *context;
 } warm_device;
 
-/* What a replica is opened with. Zero means the default, where there is one. */
+/* What a replica is opened with. Zero means the default, if there is one. */
 typedef struct warm_options {
     size_t size;                /* sizeof(warm_options) */
     uint32_t replica;           /* 1 to 64 */
@@ -184,7 +186,7 @@ typedef struct warm_options {
     size_t shards;              /* 1, 2, 4, 8, 16, 32 or 64; default 1 */
     size_t frames;              /* of all shards; default 1,024, without devices one a shard */
     size_t page_size;           /* 1 to 65,536 bytes; default 4,096 */
-    const warm_device *devices; /* not kept; null where there are none */
+    const warm_device *devices; /* not kept; null if there are none */
     size_t device_count;
 } warm_options;
 
@@ -193,45 +195,43 @@ typedef struct warm_options {
    Refused: WARM_ALREADY_OPEN, WARM_BAD_OPTIONS, WARM_BAD_SHARDS, WARM_UNEVEN_FRAMES,
    WARM_BAD_REPLICA, WARM_BAD_FRAMES, WARM_BAD_PAGE_SIZE, WARM_BAD_DEVICE, WARM_APPENDS,
    WARM_SAME_FILE; WARM_MEMORY at any point.
-   Caller: until the replica ends, descriptors stay open, of the same file and without O_APPEND,
-   ops and contexts stay as they are, and nothing else writes to a page that may be in a frame, or
-   syncs its file: another sync takes a failed write's error. No call syncs what the caller writes.
+   Caller: until the replica ends, descriptors stay open, of the same file and without O_APPEND, and
+   ops and contexts stay as they are. Nothing else writes to a page that may be in a frame, or syncs
+   its file: the system reports a failed write to one sync. No call syncs what the caller writes.
    O_DIRECT needs a multiple of 4,096 as page size, and no fork during a call. */
 int warm_open(warm *handle, const warm_options *options);
 
-/* Opens a closed handle for another thread of a replica. Its pins, answers and last failure are its
-   own; all else is the replica's.
+/* Opens the closed handle attached for another thread of handle's replica. Its pins, answers and
+   last failure are its own; all else is the replica's.
    Refused: WARM_ALREADY_OPEN, WARM_MEMORY. */
 int warm_attach(warm *handle, warm *attached);
 
-/* Closes a handle; the one that opened the replica ends it, and flushes the devices.
-   Refused: WARM_ATTACHED, WARM_PINS_LEFT; of the one that opened the replica WARM_DIRTY,
-   WARM_WRITE_FAULT where a flush fails. */
+/* Closes a handle. The one that opened the replica ends it, after a flush of the devices.
+   Refused: WARM_ATTACHED, WARM_PINS_LEFT; if the replica would end WARM_DIRTY, and
+   WARM_WRITE_FAULT if a flush fails. */
 int warm_close(warm *handle);
 
-/* Closes a handle by force. With the one that opened the replica dirty pages are lost, and nothing
-   says whether a flush failed. What an attached one has pinned is unpinned; if these were more than
-   32 pages at once, some may stay in their frames.
+/* Closes a handle by force. If it opened the replica, dirty pages are lost, and nothing says
+   whether a flush failed. What an attached one has pinned is unpinned; if these were more than 32
+   pages at once, some may stay in their frames for ever.
    Refused: WARM_ATTACHED. */
 int warm_abandon(warm *handle);
 
-/* Writes what the replica was opened with: defaults in place of zeros, and devices null. Of
-   latches, one a frame, that of a slot has the index slot.shard * (frames / shards) + slot.index.
-   Refused: WARM_BAD_OPTIONS by its size. */
+/* Writes what the replica was opened with: defaults in place of zeros, and devices null. With one
+   latch a frame, that of a slot has the index slot.shard * (frames / shards) + slot.index.
+   Refused: WARM_BAD_OPTIONS for options->size. */
 int warm_settings(warm *handle, warm_options *options);
 
-/* The version. */
+/* The version; and a status: its name, a colon, and words. */
 const char *warm_version(void);
-
-/* A status in words, behind its name and a colon. */
 const char *warm_strerror(int status);
 
 /* ---- pages: but for warm_step, these calls allocate nothing ---- */
 
 /* Pins a page: it is read into a frame, if it is in none, and stays there until its last unpin. A
-   pin is no reference: absorb one, too. A page to evict that is skipped, or whose write fails, is
-   passed over, up to 8 of them; warm_last_failure has the first, also with WARM_OK, or the failed
-   read.
+   pin is no reference: absorb one, too. If the page to evict is skipped, or its write fails,
+   another one is evicted, after up to 8 such pages. warm_last_failure has the first of them, also
+   with WARM_OK, or the failed read.
    Refused: WARM_NO_DEVICE, WARM_NO_PAGE; of a page in a frame WARM_PINS_FULL; else
    WARM_ALL_PINNED, WARM_PINS_FULL, WARM_READ_FAULT, WARM_EVICT_FAULT. */
 int warm_pin(warm *handle, warm_page page, warm_slot *slot);
@@ -243,7 +243,7 @@ int warm_pin_bytes(warm *handle, warm_page page, warm_slot *slot, const uint8_t 
 int warm_pin_zeroed(warm *handle, warm_page page, warm_slot *slot);
 
 /* Takes back one pin.
-   Refused: WARM_STALE_SLOT, also where the handle has no pin.
+   Refused: WARM_STALE_SLOT, also if the handle has no pins.
    Caller: unpins as often as it pinned, by the same handle. */
 int warm_unpin(warm *handle, warm_slot slot);
 
@@ -256,7 +256,7 @@ int warm_write(warm *handle, warm_slot slot, size_t at, const void *bytes, size_
 
 /* Writes where the page_size bytes of the slot's page are until its last unpin.
    Refused: WARM_STALE_SLOT.
-   Caller: reads them until then, and while no other thread writes to the page. */
+   Caller: reads them until then, while no other thread writes to the page. */
 int warm_bytes(warm *handle, warm_slot slot, const uint8_t **bytes);
 
 /* The same for writing; the page is dirty now.
@@ -266,67 +266,69 @@ int warm_bytes(warm *handle, warm_slot slot, const uint8_t **bytes);
    without warm_mark_dirty. */
 int warm_bytes_mut(warm *handle, warm_slot slot, uint8_t **bytes);
 
-/* Makes the slot's page dirty: after writing by a pointer, before latch and pin are released.
-   Refused: WARM_STALE_SLOT. */
+/* Makes the slot's page dirty: call it after writing by a pointer, before latch and pin are
+   released. Refused: WARM_STALE_SLOT. */
 int warm_mark_dirty(warm *handle, warm_slot slot);
 
 /* Writes whether a page is in a frame. */
 int warm_resident(warm *handle, warm_page page, bool *resident);
 
-/* Writes which pages of a shard would be evicted next, in order, and how many: up to room or 64,
-   none where all are pinned.
-   Refused: WARM_NO_SHARD; WARM_ALL_PINNED at 2^32 - 1 pins. */
+/* Writes which pages of a shard would be evicted next, in order, and how many: up to room or 64.
+   Refused: WARM_NO_SHARD; WARM_ALL_PINNED if a page has 2^32 - 1 pins. */
 int warm_victims(warm *handle, size_t shard, warm_page *pages, size_t room, size_t *count);
 
-/* A step of a warm-up: reads the hottest page of a shard that is in no frame, of as many of its
-   hottest as it has frames. Writes whether there was one, else the pool is warm; and which. The
-   shards have turns. After changes a step ranks the history again.
-   Refused, and the next shard has its turn: WARM_MEMORY, WARM_ALL_PINNED, WARM_PINS_FULL,
-   WARM_READ_FAULT, WARM_EVICT_FAULT. */
+/* A step of a warm-up. Of a shard's hottest pages, as many as it has frames, it loads the hottest
+   that is in no frame. Writes whether there was one, and which; if not, the pool is warm. Shards
+   take turns, also after a refusal. After changes a step ranks the history again.
+   Refused: WARM_MEMORY, WARM_ALL_PINNED, WARM_PINS_FULL, WARM_READ_FAULT, WARM_EVICT_FAULT. */
 int warm_step(warm *handle, bool *found, warm_page *page);
 
-/* Loads a page that is in no frame, without a pin. Refused as warm_pin. */
+/* Loads a page, if it is in no frame, without a pin. Refused as warm_pin. */
 int warm_prefetch(warm *handle, warm_page page);
 
 /* ---- write-back: but for warm_replace, these calls allocate nothing ---- */
 
-/* Writes all dirty pages, and then flushes each device that waits for it, once, with no shard
+/* Writes all dirty pages, and then flushes each device with unflushed writes, once, with no shard
    locked. A page that fails keeps back those behind it of its shard and device; all else goes on. A
-   device with a failed write is not flushed. A failed flush is remembered: each later one of the
-   device fails, as the system may have dropped what was written.
-   Refused: WARM_WRITE_FAULT where a write or a flush failed, else WARM_SKIPPED. What is not
-   written stays dirty. */
+   device with a failed write is not flushed. After a failed flush each later one of the device
+   fails, as the system may have dropped what was written.
+   Refused: WARM_WRITE_FAULT if a write or a flush failed, else WARM_SKIPPED. What is not written
+   stays dirty. */
 int warm_write_back_all(warm *handle);
 
 /* Writes at most limit dirty pages, flushes nothing, and says how many are left. Each call begins
-   with the shard behind that of the call before.
-   Refused: WARM_WRITE_FAULT, WARM_SKIPPED, as above; left is then as it was. */
+   with the shard after that of the call before.
+   Refused: WARM_WRITE_FAULT, WARM_SKIPPED. */
 int warm_write_back_some(warm *handle, size_t limit, size_t *left);
+
+/* Writes a page if it is dirty, and says whether it was; flushes nothing.
+   Refused: WARM_WRITE_FAULT, WARM_SKIPPED. */
+int warm_write_back_page(warm *handle, warm_page page, bool *written);
 
 /* warm_write_back_all for one device. Refused: WARM_NO_DEVICE, WARM_WRITE_FAULT, WARM_SKIPPED. */
 int warm_flush_device(warm *handle, uint16_t dev);
 
-/* Makes the pages of a device from this number on leave their frames, for a file that is cut.
-   What is dirty is lost; the history stays. Refused: WARM_NO_DEVICE, WARM_PINNED. */
+/* Drops the pages of a device from this number on, for a file that is cut. Dirty ones are lost; the
+   history stays. Refused: WARM_NO_DEVICE, WARM_PINNED. */
 int warm_forget_pages(warm *handle, uint16_t dev, uint64_t from);
 
-/* Replaces a device: the old one is flushed with its dirty pages, which leave their frames; the
+/* Replaces a device: writes and flushes the old one's dirty pages, and drops all its pages. The
    history stays.
-   Refused, with the old device: WARM_NO_DEVICE, WARM_BAD_DEVICE, WARM_APPENDS, WARM_SAME_FILE,
-   WARM_PINNED, WARM_WRITE_FAULT (also of a skipped page); WARM_MEMORY at any point. Pages may have
-   been written, and have left their frames. After WARM_MEMORY some of several shards may have the
-   new device, without pages of it: call it again, with either, before anything but warm_abandon.
+   Refused, and the old device stays: WARM_NO_DEVICE, WARM_BAD_DEVICE, WARM_APPENDS, WARM_SAME_FILE,
+   WARM_PINNED, WARM_WRITE_FAULT (also for a skipped page); WARM_MEMORY at any point. Pages may have
+   been written and dropped. After WARM_MEMORY some of several shards may have the new device,
+   without pages of it: call it again, with either one, before anything but warm_abandon.
    Caller: as warm_open asks of a device. */
 int warm_replace(warm *handle, uint16_t dev, const warm_device *device);
 
 /* ---- history ---- */
 
-/* Adds references, in any order; a repeated one changes nothing, so each use has another time.
-   Refused: WARM_BAD_REPLICA; WARM_MEMORY, where each shard has all of its pages or none: add them
-   again. */
+/* Adds references, in any order. A repeated one changes nothing, so give each use another time.
+   Refused: WARM_BAD_REPLICA; WARM_MEMORY, when each shard has added all of its references or none:
+   add them again. */
 int warm_absorb(warm *handle, const warm_reference *references, size_t count);
 
-/* Raises the horizon: forgets stamps before this time. Writes the horizon, which may be later. */
+/* Raises the horizon, the time before which stamps are forgotten. Writes it: it may be later. */
 int warm_raise(warm *handle, uint64_t time, uint64_t *horizon);
 
 /* Writes the hottest pages, hottest first, and how many: up to room. Refused: WARM_MEMORY. */
@@ -337,68 +339,68 @@ int warm_history_length(warm *handle, size_t *length);
 
 /* ---- gossip ---- */
 
-/* Writes the message with the digests of the history, and its length. Its receiver answers it
-   with what differs; no answer: both know the same. Refused: WARM_MEMORY, WARM_BUFFER_TOO_SMALL. */
+/* Writes a message with digests of the history, and its length. A receiver answers it with what
+   differs; no answer: both know the same. Refused: WARM_MEMORY, WARM_BUFFER_TOO_SMALL. */
 int warm_offer(warm *handle, void *message, size_t room, size_t *length);
 
-/* Takes in a whole message. Its answers wait at this handle, in place of those before: take these
-   first.
+/* Takes in a whole message. Its answers wait at this handle, in place of those to the one before:
+   take those first.
    Refused: WARM_TRUNCATED to WARM_BAD_ORDER; WARM_LATE_HORIZON, WARM_LATE_STAMP and
-   WARM_TOO_MANY_PAGES by the limits; WARM_MEMORY at any point, where some shards may have their
+   WARM_TOO_MANY_PAGES by the limits; WARM_MEMORY at any point, when some shards may have their
    part: receive it again.
    Caller: detects what a transport changes; a message has no checksum. */
 int warm_receive(warm *handle, const void *message, size_t length);
 
-/* Writes the next answer to the message that this handle received last; a length of 0: no more.
+/* Writes the next answer to the message that this handle received last; length 0: no more.
    Refused: WARM_MEMORY, WARM_BUFFER_TOO_SMALL. */
 int warm_next_answer(warm *handle, void *message, size_t room, size_t *length);
 
-/* Where warm_send is in a bucket. Begin with bucket and since, and all else zero. */
+/* How far warm_send is in a bucket. Begin with bucket, since and zeros. */
 typedef struct warm_sending {
     uint64_t since;  /* pages without a stamp from this time on are left out; 0: none */
-    warm_page after; /* the last page that was sent, where has_after */
+    warm_page after; /* the last page that was sent, if has_after */
     uint8_t bucket;
     bool has_after;
     bool more;       /* entries follow: call again */
 } warm_sending;
 
-/* Writes the message with the next entries of a bucket, and its length. For a history that is
-   published one way: each bucket, while more follow.
+/* Writes a message with the next entries (pages with stamps) of a bucket, and its length. To
+   publish a history one way, send each bucket, while more follow.
    Refused: WARM_BAD_BUCKET, WARM_MEMORY, WARM_BUFFER_TOO_SMALL. */
 int warm_send(warm *handle, warm_sending *sending, void *message, size_t room, size_t *length);
 
-/* Sets a limit: each message with a later time is refused. With a clock: the current time plus a
-   tolerance, before each message. It protects from clocks that are ahead, and not from malice: a
-   horizon up to the limit erases older stamps, and entries of pages that no device has take memory
-   and ranks. */
+/* Sets a limit: messages with a later time are refused. If times are a clock's, set the current
+   time plus a tolerance before each message. It protects from clocks that are ahead, not from
+   malice: a horizon up to the limit erases older stamps, and entries of pages that no device has
+   take memory and ranks. */
 int warm_limit(warm *handle, uint64_t time);
 
-/* Sets two more, of horizons (as the current time less a retention) and of the pages that the
-   history knows. Each entry counts as a new page. At first no limit refuses; dumps have none. */
+/* Sets two more: of horizons (as the current time less a retention) and of pages that the history
+   knows. Each entry counts as a new page. At first there is no limit; dumps have none. */
 int warm_limit_history(warm *handle, uint64_t horizon, size_t pages);
 
 /* ---- dumps ---- */
 
 /* Writes a dump of the history to a file, from byte 0 on, and syncs it.
-   Refused, with any part in the file: WARM_MEMORY, WARM_DUMP_NOT_WRITTEN.
+   Refused, and the file may have a part: WARM_MEMORY, WARM_DUMP_NOT_WRITTEN.
    Caller: the file is empty, open for writing without O_APPEND and O_DIRECT, and no device. */
 int warm_save(warm *handle, int fd);
 
-/* Joins the history in the first length bytes of a file to the replica's.
+/* Joins the history in a file of this length to the replica's.
    Refused: WARM_BAD_MAGIC to WARM_BAD_ORDER, WARM_CUT_SHORT to WARM_MORE_FOLLOWS;
-   WARM_DUMP_NOT_READ; WARM_MEMORY, where some shards may have their part: load it again.
-   Caller: length is the file's; it is open without O_DIRECT, and does not change meanwhile. */
+   WARM_DUMP_NOT_READ; WARM_MEMORY, when some shards may have their part: load it again.
+   Caller: the file is open without O_DIRECT, and does not change meanwhile. */
 int warm_load(warm *handle, int fd, uint64_t length);
 
-/* The same by a device: a descriptor with before_write, by which a save may end early, or calls of
-   its own. no is then the first byte's place, length any, and pages not used. Refused as these;
-   WARM_BAD_DEVICE. */
+/* The same by a device: a descriptor with before_write, which may end a save early, or functions of
+   the engine. Each gets the first byte's place as no, and any length; pages is not used. Refused
+   as these; WARM_BAD_DEVICE. */
 int warm_save_to(warm *handle, const warm_device *file);
 int warm_load_from(warm *handle, const warm_device *file, uint64_t length);
 
 /* ---- figures: these calls allocate nothing ---- */
 
-/* What the pools did since warm_open, modulo 2^64, and have now. */
+/* What the pool did since warm_open, modulo 2^64, and has now. */
 typedef struct warm_counters {
     uint64_t hits, misses; /* pins that were not refused */
     uint64_t evictions;    /* pages that left for another one */
@@ -408,13 +410,13 @@ typedef struct warm_counters {
     uint64_t reserved[10]; /* 0 */
 } warm_counters;
 
-/* Writes them, and looks at each frame. */
+/* Writes them; looks at each frame. */
 int warm_counts(warm *handle, warm_counters *counters);
 
-/* What was asked of a device since it has its number, up to 2^64 - 1. */
+/* Calls of a device since it has its number, up to 2^64 - 1. */
 typedef struct warm_device_counters {
-    uint64_t reads, writes; /* of pages, failed and skipped ones, too */
-    uint64_t flushes;       /* by each shard; they share one sync */
+    uint64_t reads, writes; /* of pages, also those that failed or were skipped */
+    uint64_t flushes;       /* by each shard; shards share one sync */
     uint64_t failures;      /* of all these, and skips */
     uint64_t reserved[4];   /* 0 */
 } warm_device_counters;
@@ -424,18 +426,17 @@ int warm_device_counts(warm *handle, uint16_t dev, warm_device_counters *counter
 
 enum { WARM_FAILED_READ = 1, WARM_FAILED_WRITE = 2, WARM_FAILED_FLUSH = 3 };
 
-/* A failed call of a device. */
+/* A failed device call. */
 typedef struct warm_failure {
     uint16_t dev;
-    uint16_t what;        /* WARM_FAILED_READ, WARM_FAILED_WRITE or WARM_FAILED_FLUSH */
+    uint16_t what;        /* see above */
     int32_t error;        /* errno; EAGAIN: skipped */
     uint64_t no;          /* of the page; 0 of a flush */
     uint64_t reserved[2]; /* 0 */
 } warm_failure;
 
 /* Writes whether a device's call ever failed or was skipped in a call of this handle, and which
-   last: of a call that went on, its first failure, else skip. failure is as it was where none
-   has. */
+   last: of a call that went on, its first failure, else skip. If none has, failure is unchanged. */
 int warm_last_failure(warm *handle, bool *found, warm_failure *failure);
 
 #ifdef __cplusplus

@@ -328,13 +328,27 @@ static void release(struct player *player, int left) {
     }
 }
 
+/* Writes what would leave a shard next; others may write it first, or make it dirty again. */
+static int clean_victims(struct player *player) {
+    warm_page list[8];
+    size_t count = 0;
+    int status = WARM_OK;
+    OK(warm_victims(&player->handle, draw(player) % shards, list, 8, &count));
+    for (size_t at = 0; at < count && status == WARM_OK; at++) {
+        bool written = false;
+        status = warm_write_back_page(&player->handle, list[at], &written);
+    }
+    return status;
+}
+
 /* While other threads write in place. */
 static void write_back(struct player *player) {
     size_t left = 0;
     int status;
-    switch (draw(player) % 4) {
+    switch (draw(player) % 5) {
     case 0: status = warm_write_back_all(&player->handle); break;
     case 1: status = warm_flush_device(&player->handle, draw(player) % DEVICES); break;
+    case 2: status = clean_victims(player); break;
     default: status = warm_write_back_some(&player->handle, 8, &left);
     }
     MUST((status == WARM_OK || status == WARM_SKIPPED) && left <= FRAMES);

@@ -217,10 +217,12 @@ static void open_dirty(warm *handle, int first, int second) {
 static void portions(void) {
     int first = temporary(), second = temporary(), kept = dup(first);
     size_t left = 99;
+    bool written = true;
     warm handle = {0};
     EXPECT(WARM_CLOSED, warm_write_back_some(&handle, 1, &left));
     EXPECT(WARM_CLOSED, warm_flush_device(&handle, 0));
-    MUST(left == 99);
+    EXPECT(WARM_CLOSED, warm_write_back_page(&handle, page_of(0, 0), &written));
+    MUST(left == 99 && written);
     open_dirty(&handle, first, second);
     OK(warm_write_back_some(&handle, 0, &left));
     MUST(left == 6 && lseek(first, 0, SEEK_END) == 0);
@@ -231,12 +233,19 @@ static void portions(void) {
     MUST(lseek(first, 0, SEEK_END) == place_of(0, 1) + PAGE_SIZE && byte_at(second, place_of(1, 2)) == 'b');
     OK(warm_write_back_some(&handle, SIZE_MAX, &left));
     MUST(left == 0 && byte_at(first, place_of(0, 2)) == 'a');
+    OK(warm_write_back_page(&handle, page_of(0, 0), &written));
+    MUST(!written);
     write_to(&handle, page_of(0, 0), 'd');
+    write_to(&handle, page_of(0, 2), 'e');
+    OK(warm_write_back_page(&handle, page_of(0, 2), &written));
+    OK(warm_write_back_some(&handle, 0, &left));
+    MUST(written && left == 1 && byte_at(first, place_of(0, 2)) == 'e' && byte_at(first, place_of(0, 0)) == 'a');
     put_null_under(first, O_RDONLY); /* the file takes no byte for a time */
     left = 99;
     EXPECT(WARM_WRITE_FAULT, warm_write_back_some(&handle, 1, &left));
+    EXPECT(WARM_WRITE_FAULT, warm_write_back_page(&handle, page_of(0, 0), &written));
     EXPECT(WARM_WRITE_FAULT, warm_flush_device(&handle, 0));
-    MUST(left == 99 && dup2(kept, first) == first);
+    MUST(left == 99 && written && dup2(kept, first) == first);
     OK(warm_flush_device(&handle, 0));
     MUST(byte_at(first, place_of(0, 0)) == 'd');
     OK(warm_abandon(&handle));

@@ -61,7 +61,7 @@ int main(void) {
     for (CHECK(warm_step(&standby, &found, &page)); found;
          CHECK(warm_step(&standby, &found, &page)))
         printf("loaded page %llu\n", (unsigned long long)page.no);
-    CHECK(warm_write_back_all(&primary)); /* or warm_close is refused: pages are dirty */
+    CHECK(warm_write_back_all(&primary)); /* warm_close refuses to lose dirty pages */
     CHECK(warm_close(&primary));
     CHECK(warm_close(&standby));
     return close(fds[0]) | close(fds[1]);

@@ -266,7 +266,7 @@ static void unrefused(warm *handle) {
     uint8_t *bytes, read;
     size_t left;
     uint64_t horizon;
-    bool resident, has_failed;
+    bool resident, written = false, has_failed;
     warm_page page;
     size_t count;
     warm_options options = {.size = sizeof options};
@@ -281,8 +281,9 @@ static void unrefused(warm *handle) {
     UNREFUSED(warm_read(handle, slot, PAGE_SIZE - 1, &read, 1));
     MUST(read == 'z');
     UNREFUSED(warm_resident(handle, (warm_page){.no = 3}, &resident));
+    UNREFUSED(warm_write_back_page(handle, (warm_page){.no = 3}, &written));
     UNREFUSED(warm_write_back_some(handle, 1, &left));
-    MUST(resident && left == 0);
+    MUST(resident && written && left == 0);
     UNREFUSED(warm_flush_device(handle, 0));
     UNREFUSED(warm_unpin(handle, slot));
     UNREFUSED(warm_victims(handle, 0, &page, 1, &count));

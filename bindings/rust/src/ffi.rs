@@ -164,6 +164,7 @@ extern "C" {
     pub fn warm_prefetch(handle: *mut Warm, page: Page) -> c_int;
     pub fn warm_write_back_all(handle: *mut Warm) -> c_int;
     pub fn warm_write_back_some(handle: *mut Warm, limit: usize, left: *mut usize) -> c_int;
+    pub fn warm_write_back_page(handle: *mut Warm, page: Page, written: *mut bool) -> c_int;
     pub fn warm_flush_device(handle: *mut Warm, dev: u16) -> c_int;
     pub fn warm_forget_pages(handle: *mut Warm, dev: u16, from: u64) -> c_int;
     pub fn warm_absorb(handle: *mut Warm, references: *const Reference, count: usize) -> c_int;

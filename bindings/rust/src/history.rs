@@ -98,6 +98,17 @@ impl Handle {
         Ok(left)
     }
 
+    /// Writes a page where it is in a frame and dirty, flushes nothing, and returns whether it was.
+    ///
+    /// Refused: [`Error::WriteFault`], [`Error::Skipped`].
+    pub fn write_back_page(&self, page: Page) -> Result<bool> {
+        let raw = self.enter()?;
+        let mut written = false;
+        // SAFETY: as above.
+        result(unsafe { ffi::warm_write_back_page(raw, page, &mut written) })?;
+        Ok(written)
+    }
+
     /// [`Handle::write_back_all`] for one device.
     ///
     /// Refused: [`Error::NoDevice`], [`Error::WriteFault`], [`Error::Skipped`].

@@ -198,6 +198,10 @@ fn dirty_pages_are_written_in_parts_and_devices_flushed_by_themselves() {
     let counted = [0, 1].map(|dev| handle.device_counts(dev).unwrap());
     assert_eq!(counted[0].writes + counted[1].writes, 2);
     assert_eq!(counted[0].flushes + counted[1].flushes, 0);
+    assert_eq!(handle.write_back_page(page(3)), Ok(true));
+    assert_eq!(first.first(3), Some(1));
+    assert_eq!([3, 9].map(|no| handle.write_back_page(page(no))), [Ok(false); 2]);
+    assert_eq!(handle.write_back_some(0), Ok(3));
     handle.flush_device(1).unwrap();
     assert_eq!(second.first(7), Some(2));
     let counted = handle.device_counts(1).unwrap();

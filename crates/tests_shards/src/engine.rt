@@ -110,6 +110,21 @@ fn dirty_pages_of_a_shard_are_written_in_portions(rt: HostRuntime) {
 }
 
 #[test]
+fn one_page_of_its_shard_is_written_back(rt: HostRuntime) {
+    // The second device reads two pages; the write of the second one fails once.
+    let mut two = two_over(&rt, rt.alloc(), 3);
+    for no in 1..5 {
+        change(&rt, &mut two, no);
+    }
+    assert!(rt; two.write_back_page(page(5)) == Ok(false));
+    assert!(rt; two.write_back_page(page(3)) == Err(FAULT));
+    assert!(rt; dirty(&two, 0) == 2 && dirty(&two, 1) == 2);
+    assert!(rt; two.write_back_page(page(3)) == Ok(true));
+    assert!(rt; two.write_back_page(page(3)) == Ok(false));
+    assert!(rt; dirty(&two, 0) == 2 && dirty(&two, 1) == 1);
+}
+
+#[test]
 fn a_device_of_a_shard_is_flushed(rt: HostRuntime) {
     // The second device reads page 1 and writes it; its flush fails once.
     let mut two = two_over(&rt, rt.alloc(), 3);

@@ -1,10 +1,11 @@
 -- What the calls do by which an engine holds its pages: beside pins, reads and writes.
-use Rattle.std.specs.Prelude.{ℕ, ◌≡◌, Ok, Err}
+use Rattle.std.specs.Prelude.{ℕ, ◌≡◌, Bool, IsTrue, Ok, Err}
 use Rattle.warm_pool.specs.declared.fault.PoolFault.TheVariants.{Fault}
 use Rattle.warm_pool.specs.Forgetting.{ForgetRefused, Forgets, MayForget}
 use Rattle.warm_pool.specs.Keeping.{KeepsFrames, SameButFailures}
 use Rattle.warm_pool.specs.View.{view_of, Holds}
-use Rattle.warm_pool.specs.WritingSome.{FlushRefused, IsSettledOn, SomeFails, WritesBackSome}
+use Rattle.warm_pool.specs.WritingSome.{FlushRefused, IsSettledOn, PageFails, SomeFails}
+use Rattle.warm_pool.specs.WritingSome.{WritesBackPage, WritesBackSome}
 use Rattle.warm_pool.specs.Zeroing.{PinnedZeroed, TakesZeroed, ZeroedRefused}
 use Rattle.warm_gossip.specs.declared.fault.NodeFault.TheVariants.{Pool}
 use Rattle.warm_gossip.specs.Clauses.{SameView}
@@ -13,7 +14,7 @@ use Rattle.warm_c.specs.declared.status.Refusal.TheVariants.{Node}
 use Rattle.warm_c.specs.declared.values.PinnedSlot.{PinnedSlot}
 use Rattle.warm_c.specs.declared.values.WarmPage.{WarmPage}
 use Rattle.warm_c.specs.Calls.{Ending, SameDevices}
-use Rattle.warm_c.specs.Values.{page_of_c, pinned_slot}
+use Rattle.warm_c.specs.Values.{IsBool, page_of_c, pinned_slot}
 
 -- the id, the history and the devices that the handle was given are as they were
 pub record SameButPool (old new : OpenNode) : Type 0 where
@@ -51,6 +52,18 @@ WritesSome limit before left old (Ok given) new = SameView old.node new.node
 WritesSome limit before left old (Err (Node (Pool Fault))) new =
     SomeFails limit old.node.pool new.node.pool × SameButPool old new × (left ≡ before)
 WritesSome limit before left old (Err why) new = ⊥
+
+-- the page is written back where it is dirty, and whether it was is given; a refused call gives
+-- nothing
+abbrev pub WritesPage : WarmPage → ℕ → ℕ → OpenNode → Ending → OpenNode → Type 0
+WritesPage page before written old (Ok given) new = (was_dirty : Bool)
+    × SameView old.node new.node
+    × WritesBackPage old.node.pool (page_of_c page) was_dirty new.node.pool
+    × IsBool written (IsTrue was_dirty) × SameDevices old new
+WritesPage page before written old (Err (Node (Pool Fault))) new =
+    PageFails old.node.pool (page_of_c page) new.node.pool × SameButPool old new
+    × (written ≡ before)
+WritesPage page before written old (Err why) new = ⊥
 
 -- the pages of one device are written back and it is flushed, or the call says why not
 abbrev pub FlushesDevice : ℕ → OpenNode → Ending → OpenNode → Type 0

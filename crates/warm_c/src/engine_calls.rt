@@ -1,7 +1,7 @@
 //! The calls on an open handle by which an engine holds its pages, beside pins, reads and writes.
 ghost use Rattle.std.specs.Prelude.{◌≡◌, IfErr, IfOk};
 ghost use Rattle.warm_c.specs.Engine.{FlushesDevice, ForgetsPages, PinsZeroed, SaysMayForget};
-ghost use Rattle.warm_c.specs.Engine.{WritesSome};
+ghost use Rattle.warm_c.specs.Engine.{WritesPage, WritesSome};
 ghost use Rattle.warm_c.specs.Filling.{PinsFilled};
 ghost use Rattle.warm_c.specs.declared.status.Refusal.TheVariants.{Node};
 ghost use Rattle.warm_gossip.specs.State.{node_view};
@@ -10,7 +10,7 @@ ghost use Rattle.warm_gossip.specs.declared.fault.NodeFault.TheVariants.{Memory}
 
 use crate::open_node::OpenNode;
 use crate::status::Refusal;
-use crate::values::{PinnedSlot, WarmPage};
+use crate::values::{PinnedSlot, WarmPage, c_bool};
 use warm_pool::NewPoolFault;
 use warm_stamps::PageId;
 
@@ -72,6 +72,19 @@ impl OpenNode {
     {
         let dirty = self.node.write_back_some(limit)?;
         *left = dirty;
+        Ok(())
+    }
+
+    /// Calls [`warm_gossip::Node::write_back_page`], and writes whether the page was dirty, 1 or
+    /// 0.
+    ///
+    /// # Errors
+    /// `Node`: the node's own. `written` is unchanged.
+    pub fn write_back_page(&mut self, page: WarmPage, written: &mut u8) -> Result<(), Refusal>
+        ensures { WritesPage page written.old written.new self.old result self.new }
+    {
+        let was_dirty = self.node.write_back_page(page.page())?;
+        *written = c_bool(was_dirty);
         Ok(())
     }
 

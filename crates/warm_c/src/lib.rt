@@ -33,7 +33,8 @@ ghost use Rattle.warm_c.specs.Calls.{ReadsPage, Saves, SaysResident, StepsWarmUp
 ghost use Rattle.warm_c.specs.Calls.{WritesBack};
 ghost use Rattle.warm_c.specs.Counting.{CountsDevice, CountsPool, SaysFailure};
 ghost use Rattle.warm_c.specs.Devices.{Replaces};
-ghost use Rattle.warm_c.specs.Engine.{FlushesDevice, ForgetsPages, PinsZeroed, WritesSome};
+ghost use Rattle.warm_c.specs.Engine.{FlushesDevice, ForgetsPages, PinsZeroed, WritesPage};
+ghost use Rattle.warm_c.specs.Engine.{WritesSome};
 ghost use Rattle.warm_c.specs.Filling.{NamesNext, PinsFilled};
 ghost use Rattle.warm_c.specs.Handles.{Called, Opens, Surely, open_request};
 ghost use Rattle.warm_c.specs.Lending.{Lends, LendsMut};
@@ -539,6 +540,30 @@ pub extern "C" fn node_write_back_some(
         return closed();
     };
     let done = node.write_back_some(limit, left);
+    put_back(handle, node, done)
+}
+
+/// Writes back one page, where it is in a frame and dirty, and writes whether it was, 1 or 0. No
+/// device is flushed.
+///
+/// # Errors
+/// 12: the write failed. Of what a caller sees, only counts of failures have changed; `written` is
+/// unchanged.
+#[unsafe(no_mangle)]
+pub extern "C" fn node_write_back_page(
+    alloc: Global,
+    handle: &mut Handle,
+    page: WarmPage,
+    written: &mut u8,
+) -> i32
+    ensures called { Called (WritesPage page written.old written.new) handle.old.held.node result
+        handle.new.held.node }
+    ensures closed { handle.old.held.node ≡ None → written.new ≡ written.old }
+{
+    let Some(mut node) = handle.take(alloc) else {
+        return closed();
+    };
+    let done = node.write_back_page(page, written);
     put_back(handle, node, done)
 }
 

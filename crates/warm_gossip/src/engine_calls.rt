@@ -14,7 +14,8 @@ ghost use Rattle.warm_pool.specs.Calls.{FlushesNone, FlushesOnce, ReadsNone};
 ghost use Rattle.warm_pool.specs.Retiring.{KeepsElsewhere};
 ghost use Rattle.warm_pool.specs.View.{view_of, Holds};
 ghost use Rattle.warm_pool.specs.WritingSome.{FlushRefused, IsSettledOn, KeepsOtherDevices};
-ghost use Rattle.warm_pool.specs.WritingSome.{SomeFails, WritesBackSome};
+ghost use Rattle.warm_pool.specs.WritingSome.{PageFails, SomeFails, WritesBackPage};
+ghost use Rattle.warm_pool.specs.WritingSome.{WritesBackSome};
 ghost use Rattle.warm_pool.specs.Zeroing.{LeavesUnread, PinnedZeroed, TakesZeroed, ZeroedRefused};
 ghost use Rattle.warm_gossip.specs.declared.fault.NodeFault.TheVariants.{Pool};
 ghost use Rattle.warm_gossip.specs.declared.call.Call.TheVariants.{Pin};
@@ -120,6 +121,28 @@ impl<D: PageDevice> Node<D> {
     {
         let left = self.pool.write_back_some(limit)?;
         Ok(left)
+    }
+
+    /// Writes back one page, where it is resident and dirty, and returns whether it was, as
+    /// [`warm_pool::Pool::write_back_page`] does; otherwise nothing is changed. Its device is called
+    /// once, and no other one. No device is flushed. Allocation-free.
+    ///
+    /// # Errors
+    /// `Pool(Fault)`: the write failed, and its device's count of failures has increased. Frames
+    /// are unchanged, so the page is dirty as before.
+    pub fn write_back_page(&mut self, page: PageId) -> Result<bool, NodeFault>
+        ensures id { self.new.id ≡ self.old.id }
+        ensures history { self.new.history ≡ self.old.history }
+        ensures same { OnOk result (SameView self.old self.new) }
+        ensures written { IfOk result (λ was_dirty. WritesBackPage
+            self.old.pool page was_dirty self.new.pool) }
+        ensures refused { IfErr result (λ why. (why ≡ Pool Fault)
+            × PageFails self.old.pool page self.new.pool) }
+        ensures unflushed { FlushesNone self.old.pool.devices self.new.pool.devices }
+        ensures ranked { KeepsRanks self.old.pool self.new.pool }
+    {
+        let was_dirty = self.pool.write_back_page(page)?;
+        Ok(was_dirty)
     }
 
     /// Writes back the dirty pages of one device, and flushes it where it is unflushed, as

@@ -16,6 +16,7 @@ pub mod Lagging
 pub mod Lents
 pub mod Loads
 pub mod MoveLemmas
+pub mod OnePage
 pub mod OnePin
 pub mod Opens
 pub mod Pins

@@ -10,7 +10,7 @@ use Rattle.warm_devices.specs.declared.fault.DeviceFault.{DeviceFault}
 use Rattle.warm_pool.specs.Frames.{FrameState, FramesState, nth_frame, fresh_frame, cleaned}
 use Rattle.warm_pool.specs.State.{PoolState, IsPool, no_device, nth_device}
 use Rattle.warm_pool.specs.View.{frame_view, view_of, PoolView, FrameView}
-use Rattle.warm_pool.specs.WritingBack.{KeptDevices, Cleans, CleanFails}
+use Rattle.warm_pool.specs.WritingBack.{KeptDevices, Cleans, CleanFails, WritesFrame}
 use Rattle.warm_pool.specs.DeviceCalls.{PageWrite}
 use Rattle.warm_pool.proofs.Keeps.{pool_from, set_keeps_pool, view-set, devices_keep_pool, view_of_kept}
 use Rattle.warm_pool.proofs.FlushLemmas.{same_shape, may_fail}
@@ -136,3 +136,19 @@ pub cleaned_to : (old new : FramesState) {spare : ℕ} {devices ds : List Device
 cleaned_to old new {spare} {devices} {ds} {i} {q} {bytes} {result} h ok e =
     subst (λ x. IsPool (pool_from x spare ds) × Cleans (pool_from old spare devices) i (pool_from x spare ds)) (sym e)
     (cleaned_pool (pool_from old spare devices) ds i q bytes result h ok, write_cleans (pool_from old spare devices) ds i q bytes result h ok)
+
+-- the call of the device, if one was made
+pub wrote_frame : (f : FrameState) (old new : List DeviceState) (q : PageId) (bytes : List ℕ)
+    (result : Result (Unit {0}) DeviceFault) → f.page ≡ Some q → bytes ≡ f.bytes
+    → PageWrite old new q.dev q.no bytes result → WritesFrame f old new result
+wrote_frame f old new q bytes result holds is call p at dirty =
+    subst (λ (r : PageId). PageWrite old new r.dev r.no f.bytes result) (same_Some q p (sym holds ∙ at))
+    (subst (λ (given : List ℕ). PageWrite old new q.dev q.no given result) is call)
+
+pub no_page : (f : FrameState) (old new : List DeviceState)
+    (result : Result (Unit {0}) DeviceFault) → f.page ≡ None → WritesFrame f old new result
+no_page f old new result none p at dirty = let no : None ≡ Some p = sym none ∙ at in absurd (cc)
+
+pub no_write : (f : FrameState) (old new : List DeviceState)
+    (result : Result (Unit {0}) DeviceFault) → f.dirty ≡ false → WritesFrame f old new result
+no_write f old new result clean p at dirty = let no : true ≡ false = sym dirty ∙ clean in absurd (cc)

@@ -1,9 +1,11 @@
 -- Writing back: the page of one frame, those of the selected frames, and those of all frames.
 use Rattle.std.specs.Prelude.{ℕ, ◌≡◌, ◌≢◌, ◌<◌, ◌≤◌, ◌==◌, Bool, false, IsTrue, List, map, length}
 use Rattle.std.specs.Prelude.{Option, Some, None, if◌then◌else◌, true, ◌++◌, take, drop, set, ◌&&◌}
-use Rattle.std.specs.Prelude.{nat_le}
+use Rattle.std.specs.Prelude.{Result, nat_le}
 use Rattle.warm_stamps.specs.declared.PageId.{PageId}
 use Rattle.warm_devices.specs.Device.{DeviceState, SameShape}
+use Rattle.warm_devices.specs.declared.fault.DeviceFault.{DeviceFault}
+use Rattle.warm_pool.specs.DeviceCalls.{PageWrite}
 use Rattle.warm_pool.specs.Frames.{FrameState, nth_frame, cleaned}
 use Rattle.warm_pool.specs.State.{PoolState, nth_device, IsNowhere}
 use Rattle.warm_pool.specs.View.{stored, view_of}
@@ -47,6 +49,12 @@ abbrev pub WaitsFor : PoolState → ℕ → List DeviceState → Type 0
 WaitsFor old i devices =
     (nth_frame old.frames i).dirty ≡ true → (p : PageId) → (nth_frame old.frames i).page ≡ Some p
     → (nth_device devices p.dev).waiting ≡ true
+
+-- where the frame has a dirty page, one call of its device wrote its bytes, with this result
+abbrev pub WritesFrame : FrameState → List DeviceState → List DeviceState
+    → Result (Unit {0}) DeviceFault → Type 0
+WritesFrame f old new result =
+    (p : PageId) → f.page ≡ Some p → f.dirty ≡ true → PageWrite old new p.dev p.no f.bytes result
 
 -- The page of the frame is written back, and nothing has changed for a caller. The device of a page
 -- that was written is unflushed until its next flush.

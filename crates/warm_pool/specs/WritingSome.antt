@@ -1,13 +1,15 @@
--- Writing back some pages, and those of one device.
+-- Writing back some pages, one page, and those of one device.
 use Rattle.std.specs.Prelude.{ℕ, ◌≡◌, ◌≢◌, ◌<◌, ◌≤◌, ◌+◌, ◌-◌, ◌==◌, Bool, true, false, IsTrue, List, [], ◌∷◌}
-use Rattle.std.specs.Prelude.{length, take, Option, Some, None, if◌then◌else◌, ◌⊎◌}
+use Rattle.std.specs.Prelude.{length, take, set, Option, Some, None, Ok, Err, if◌then◌else◌, ◌⊎◌}
 use Rattle.warm_stamps.specs.declared.PageId.{PageId}
-use Rattle.warm_pool.specs.Frames.{FrameState, nth_frame}
+use Rattle.warm_devices.specs.declared.fault.DeviceFault.TheVariants.{Write}
+use Rattle.warm_pool.specs.Frames.{FrameState, nth_frame, cleaned}
 use Rattle.warm_pool.specs.declared.fault.PoolFault.{PoolFault}
 use Rattle.warm_pool.specs.declared.fault.PoolFault.TheVariants.{NoDevice, Fault}
 use Rattle.warm_pool.specs.State.{PoolState, nth_device}
 use Rattle.warm_pool.specs.View.{view_of}
 use Rattle.warm_pool.specs.Calls.{FlushesNone}
+use Rattle.warm_pool.specs.DeviceCalls.{PageWrite}
 use Rattle.warm_pool.specs.Keeping.{FailsAt}
 use Rattle.warm_pool.specs.WritingBack.{StopsAt, WritesBack, cleaned_selected, cleaned_to, is_on}
 use Rattle.warm_pool.specs.declared.selection.Devices.TheVariants.{One}
@@ -58,6 +60,42 @@ pub record SomeFails (limit : ℕ) (old new : PoolState) : Type 0 where
 -- how many more dirty pages may be written, after one frame; none where no more may
 abbrev pub room_after : Bool → ℕ → Option ℕ
 room_after dirty room = if dirty then (if room == 0 then None else Some (room - 1)) else Some room
+
+-- One page
+
+-- a frame has the page, and the page is dirty
+pub record IsDirtyIn (s : PoolState) (page : PageId) (frame : ℕ) : Type 0 where
+  pub there : frame < length s.frames
+  pub holds : (nth_frame s.frames frame).page ≡ Some page
+  pub dirty : (nth_frame s.frames frame).dirty ≡ true
+
+-- One call of its device wrote the bytes of the dirty page. Its frame is clean, and no other frame
+-- has changed.
+pub record CleansPage (old : PoolState) (page : PageId) (new : PoolState) : Type 0 where
+  pub frame : ℕ
+  pub was : IsDirtyIn old page frame
+  pub wrote : PageWrite old.devices new.devices page.dev page.no
+      (nth_frame old.frames frame).bytes (Ok tt)
+  pub frames : new.frames ≡ set old.frames frame (cleaned (nth_frame old.frames frame))
+
+-- That call failed. No frame has changed, so the page is dirty as before.
+pub record PageFails (old : PoolState) (page : PageId) (new : PoolState) : Type 0 where
+  pub frame : ℕ
+  pub was : IsDirtyIn old page frame
+  pub wrote : PageWrite old.devices new.devices page.dev page.no
+      (nth_frame old.frames frame).bytes (Err Write)
+  pub frames : new.frames ≡ old.frames
+  pub fails : FailsAt (view_of old) page.dev (view_of new)
+
+-- the page is in no frame, or in a clean one
+abbrev pub IsNotDirty : PoolState → PageId → Type 0
+IsNotDirty s page = (frame : ℕ) → (nth_frame s.frames frame).page ≡ Some page
+    → (nth_frame s.frames frame).dirty ≡ false
+
+-- whether the page was written: it was where it was dirty, and otherwise nothing has changed
+abbrev pub WritesBackPage : PoolState → PageId → Bool → PoolState → Type 0
+WritesBackPage old page true new = CleansPage old page new
+WritesBackPage old page false new = IsNotDirty old page × (new ≡ old)
 
 -- Those of one device
 

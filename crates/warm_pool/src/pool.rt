@@ -15,7 +15,7 @@ ghost use Rattle.warm_pool.specs.Keeping.{KeepsOthers};
 ghost use Rattle.warm_pool.specs.Calls.{FlushesNone, ReadsNone};
 ghost use Rattle.warm_pool.specs.DeviceCalls.{read_at};
 ghost use Rattle.warm_pool.specs.Opening.{IsUpTo, IsSize, NewPoolRefused};
-ghost use Rattle.warm_pool.specs.WritingBack.{Cleans, CleanFails, KeepsDevicesBut};
+ghost use Rattle.warm_pool.specs.WritingBack.{Cleans, CleanFails, KeepsDevicesBut, WritesFrame};
 ghost use Rattle.warm_pool.specs.Pinning.{Pinned, PinRefused, Loaded, IsPlaced, LoadRefused};
 ghost use Rattle.warm_pool.specs.Pinning.{PutsIn, PutRefused, unpinned, current_slot, IsNextVictim};
 ghost use Rattle.warm_pool.specs.Pinning.{LoadsInto, LoadFails, FixesPage, FixRefused};
@@ -648,6 +648,8 @@ pub(crate) fn write_back<D: PageDevice>(
     ensures failed { OnErr result (CleanFails
         (pool_over D.state frames.old frames.old.page_size devices.old.items) at
         (pool_over D.state frames.new frames.old.page_size devices.new.items)) }
+    ensures wrote { WritesFrame (nth_frame frames.old.frames at) (map D.state devices.old.items)
+        (map D.state devices.new.items) result }
     ensures others { KeepsDevicesBut (nth_frame frames.old.frames at).page
         (pool_over D.state frames.old frames.old.page_size devices.old.items)
         (pool_over D.state frames.new frames.old.page_size devices.new.items) }

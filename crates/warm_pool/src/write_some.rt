@@ -1,18 +1,21 @@
-//! Writing back some of a pool's pages, and those of one device.
+//! Writing back some of a pool's pages, one page, and those of one device.
 ghost use Rattle.std.specs.Prelude.{◌≡◌, ◌<◌, length, OnOk, IfErr, IfOk, OnErr};
 ghost use Rattle.warm_pool.specs.Frames.{nth_frame};
 ghost use Rattle.warm_pool.specs.View.{view_of};
 ghost use Rattle.warm_pool.specs.Keeping.{KeepsRanks};
 ghost use Rattle.warm_pool.specs.Calls.{FlushesNone, FlushesOnce};
 ghost use Rattle.warm_pool.specs.Retiring.{KeepsElsewhere};
+ghost use Rattle.warm_pool.specs.WritingBack.{CleanFails, Cleans, WritesFrame};
 ghost use Rattle.warm_pool.specs.WritingSome.{CleansFirst, FlushRefused, IsSettledOn, SomeFails, KeepsOtherDevices};
-ghost use Rattle.warm_pool.specs.WritingSome.{WritesBackSome, dirty_count, one_if, room_after};
+ghost use Rattle.warm_pool.specs.WritingSome.{PageFails, WritesBackPage, WritesBackSome};
+ghost use Rattle.warm_pool.specs.WritingSome.{dirty_count, one_if, room_after};
 ghost use Rattle.warm_pool.specs.declared.fault.PoolFault.TheVariants.{Fault};
 
 use crate::fault::PoolFault;
-use crate::pool::Pool;
+use crate::pool::{Pool, write_back};
 use crate::selection::Devices;
 use warm_devices::{DeviceFault, PageDevice};
+use warm_stamps::PageId;
 
 impl<D: PageDevice> Pool<D> {
     /// Writes back at most `limit` dirty pages, those of the first dirty frames, and returns how
@@ -37,6 +40,33 @@ impl<D: PageDevice> Pool<D> {
     {
         self.clean_first(limit).map_err(|_| PoolFault::Fault)?;
         Ok(self.dirty())
+    }
+
+    /// Writes back one page, where it is resident and dirty, and returns whether it was; otherwise
+    /// nothing is changed. A pinned page is written too. Its device is called once, and no other
+    /// one. No device is flushed: what was written is durable only after [`Pool::flush_device`] or
+    /// [`Pool::write_back_all`]. So a page cleaner writes the next victims, before a pin has to.
+    ///
+    /// # Errors
+    /// `Fault` where the write failed, and its device's count of failures has increased. Frames are
+    /// unchanged, so the page is dirty as before.
+    pub fn write_back_page(&mut self, page: PageId) -> Result<bool, PoolFault>
+        ensures ranked { KeepsRanks self.old self.new }
+        ensures same { OnOk result (view_of self.new ≡ view_of self.old) }
+        ensures written { IfOk result (λ was_dirty. WritesBackPage
+            self.old page was_dirty self.new) }
+        ensures refused { IfErr result (λ fault. (fault ≡ Fault)
+            × PageFails self.old page self.new) }
+        ensures unflushed { FlushesNone self.old.devices self.new.devices }
+    {
+        let Some(at) = self.frames.find(page) else {
+            return Ok(false);
+        };
+        if !self.frames.is_dirty(at) {
+            return Ok(false);
+        }
+        self.clean_at(at).map_err(|_| PoolFault::Fault)?;
+        Ok(true)
     }
 
     /// Writes back the dirty pages of one device, in the order of frames, and flushes it where it
@@ -81,6 +111,18 @@ impl<D: PageDevice> Pool<D> {
         ensures { result ≡ (nth_frame self.now.frames at).dirty }
     {
         self.frames.is_dirty(at)
+    }
+
+    // Writes back the page of a frame, where it is dirty.
+    fn clean_at(&mut self, at: usize) -> Result<(), DeviceFault>
+        requires { at < length self.old.frames }
+        ensures down { OnOk result (Cleans self.old at self.new) }
+        ensures failed { OnErr result (CleanFails self.old at self.new) }
+        ensures wrote { WritesFrame (nth_frame self.old.frames at)
+            self.old.devices self.new.devices result }
+        ensures unflushed { FlushesNone self.old.devices self.new.devices }
+    {
+        write_back(&mut self.frames, &mut self.devices, &mut self.tally, at)
     }
 
     // Writes back the pages of the first dirty frames, at most `limit`.

@@ -14,7 +14,7 @@ use Rattle.warm_pool.specs.Retiring.{RetireRefused, Retired, emptied}
 use Rattle.warm_pool.specs.State.{PoolState}
 use Rattle.warm_pool.specs.View.{FrameView, PoolView, frame_at, frame_view, view_of}
 use Rattle.warm_pool.specs.WritingBack.{is_from, is_on}
-use Rattle.warm_pool.specs.WritingSome.{FlushRefused, SomeFails}
+use Rattle.warm_pool.specs.WritingSome.{FlushRefused, PageFails, SomeFails}
 use Rattle.warm_pool.specs.Zeroing.{PinnedZeroed, PutsZeros}
 use Rattle.warm_pool.proofs.Slots.{at_set}
 use Rattle.warm_gossip.specs.declared.fault.NodeFault.{NodeFault}
@@ -81,6 +81,17 @@ pub some_own : (P : PageId → Type 0) (n m : NodeState) (limit : ℕ) (result :
 some_own P n m limit (Ok left) own known same refused =
     record { alone = known_pool n m known; own = seen_own P n m same own }
 some_own P n m limit (Err why) own known same refused = record {
+  alone = known_pool n m known;
+  own = same_own P (view_of n.pool) (view_of m.pool) (ap (λ (x : PoolView). x.frames) refused.1.fails.becomes) own;
+}
+
+pub page_own : (P : PageId → Type 0) (n m : NodeState) (page : PageId)
+    (result : Result Bool NodeFault) → HasOnly P (view_of n.pool) → KeepsKnown n m
+    → OnOk result (SameView n m)
+    → IfErr result (λ why. (why ≡ Pool Fault) × PageFails n.pool page m.pool) → OnlyPool P n m
+page_own P n m page (Ok was_dirty) own known same refused =
+    record { alone = known_pool n m known; own = seen_own P n m same own }
+page_own P n m page (Err why) own known same refused = record {
   alone = known_pool n m known;
   own = same_own P (view_of n.pool) (view_of m.pool) (ap (λ (x : PoolView). x.frames) refused.1.fails.becomes) own;
 }

@@ -11,7 +11,8 @@ ghost use Rattle.warm_pool.specs.Filling.{AreFromDevice, TakesFilled};
 ghost use Rattle.warm_pool.specs.Retiring.{KeepsElsewhere, RetireRefused, Retired};
 ghost use Rattle.warm_pool.specs.View.{Holds, view_of};
 ghost use Rattle.warm_pool.specs.WritingSome.{FlushRefused, IsSettledOn, KeepsOtherDevices};
-ghost use Rattle.warm_pool.specs.WritingSome.{SomeFails, StopsAtDevice, WritesBackSome};
+ghost use Rattle.warm_pool.specs.WritingSome.{PageFails, SomeFails, StopsAtDevice};
+ghost use Rattle.warm_pool.specs.WritingSome.{WritesBackPage, WritesBackSome};
 ghost use Rattle.warm_pool.specs.Zeroing.{LeavesUnread, PinnedZeroed, TakesZeroed, ZeroedRefused};
 ghost use Rattle.warm_pool.specs.declared.fault.PoolFault.TheVariants.{Fault, ReadFault};
 ghost use Rattle.warm_shards.specs.Clauses.{KeepsKnown, KeepsOthers};
@@ -133,6 +134,30 @@ impl<D: PageDevice> Shards<D> {
         ensures others { KeepsOthers self.old shard self.new }
     {
         self.nodes[shard].write_back_some(limit)
+    }
+
+    /// Writes back one page, where it is resident and dirty, and returns whether it was: as
+    /// [`warm_gossip::Node::write_back_page`] of its shard. No device is flushed. Allocation-free.
+    ///
+    /// # Errors
+    /// Those of [`warm_gossip::Node::write_back_page`] of the shard, with the same effects.
+    pub fn write_back_page(&mut self, page: PageId) -> Result<bool, NodeFault>
+        ensures known { let i = shard_of (length self.old) page in
+            KeepsKnown (shard_at self.old i) (shard_at self.new i) }
+        ensures same { let i = shard_of (length self.old) page in
+            OnOk result (SameView (shard_at self.old i) (shard_at self.new i)) }
+        ensures written { let i = shard_of (length self.old) page in
+            IfOk result (λ was_dirty. WritesBackPage (shard_at self.old i).pool page was_dirty
+            (shard_at self.new i).pool) }
+        ensures refused { let i = shard_of (length self.old) page in
+            IfErr result (λ why. (why ≡ Pool Fault)
+            × PageFails (shard_at self.old i).pool page (shard_at self.new i).pool) }
+        ensures unflushed { let i = shard_of (length self.old) page in
+            FlushesNone (shard_at self.old i).pool.devices (shard_at self.new i).pool.devices }
+        ensures others { KeepsOthers self.old (shard_of (length self.old) page) self.new }
+    {
+        let shard = self.shard_of(page);
+        self.nodes[shard].write_back_page(page)
     }
 
     /// Writes back the dirty pages of one device of a shard, and flushes it: as

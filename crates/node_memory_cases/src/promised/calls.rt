@@ -113,12 +113,18 @@ fn is_lent(node: &mut Node<MemDevice>, slot: Slot) -> bool {
     bytes.len() == 16
 }
 
-// A page is pinned with zeros, its bytes are lent, it is written back, and it is forgotten.
+// A page is pinned with zeros and written back, its bytes are lent, it is written back once more, and
+// it is forgotten.
 fn lent<P: Print>(rt: &P, met: &mut Met, node: &mut Node<MemDevice>) -> Result<(), Ended> {
     takes_none(rt, "pin_zeroed")?;
     let Ok(slot) = node.pin_zeroed(page(3)) else {
         return Err(met.broken("a pin with zeros is refused"));
     };
+    takes_none(rt, "write_back_page")?;
+    met.holds(
+        matches!(node.write_back_page(page(3)), Ok(true)),
+        "one page is not written back",
+    )?;
     takes_none(rt, "bytes_mut")?;
     met.holds(is_lent(node, slot), "no bytes are lent to be written to")?;
     takes_none(rt, "bytes")?;

@@ -67,6 +67,11 @@ fn written<P: Print>(
     shards: &mut TwoShards,
     at: ShardSlot,
 ) -> Result<(), Ended> {
+    takes_none(rt, "write_back_page of shards")?;
+    met.holds(
+        matches!(shards.write_back_page(page(1)), Ok(true)),
+        "a page of shards is not written back",
+    )?;
     takes_none(rt, "write of shards")?;
     met.holds(
         shards.write(at, 0, b"warm").is_ok(),

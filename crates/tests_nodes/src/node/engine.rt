@@ -168,6 +168,16 @@ fn a_node_writes_back_a_few_pages(rt: HostRuntime) {
     assert!(rt; node.write_back_some(1) == Ok(0));
 }
 
+#[test]
+fn a_node_writes_back_one_page(rt: HostRuntime) {
+    let mut node = fresh(&rt, rt.alloc(), 1);
+    assert!(rt; fills(&mut node, 1, slot(0, 1)));
+    assert!(rt; fills(&mut node, 2, slot(1, 1)));
+    assert!(rt; node.write_back_page(page(3)) == Ok(false) && node.pool().dirty() == 2);
+    assert!(rt; node.write_back_page(page(2)) == Ok(true) && node.pool().dirty() == 1);
+    assert!(rt; node.write_back_page(page(2)) == Ok(false) && node.pool().dirty() == 1);
+}
+
 // The second call of the device fails: the write of page 2.
 #[test]
 fn a_failed_write_leaves_the_rest_dirty(rt: HostRuntime) {

@@ -26,6 +26,17 @@ fn writes_back<D: PageDevice>(
     pool.write_back_some(limit)
 }
 
+fn writes_one<D: PageDevice>(
+    pool: &mut Pool<D>,
+    history: &History,
+    no: u64,
+) -> Result<bool, PoolFault>
+    requires { RankedBy pool.old history.now }
+    ensures { RankedBy pool.new history.now }
+{
+    pool.write_back_page(page(no))
+}
+
 fn flushes<D: PageDevice>(pool: &mut Pool<D>, history: &History, dev: u16) -> Result<(), PoolFault>
     requires { RankedBy pool.old history.now }
     ensures { RankedBy pool.new history.now }
@@ -114,6 +125,40 @@ fn pages_are_written_back_a_few_at_a_time(rt: HostRuntime) {
     assert!(rt; pool.counts() == counted(1, 3, 0, 4) && pool.last_failure().is_none());
     assert!(rt; flushes(&mut pool, &history, 1) == Err(PoolFault::NoDevice));
     assert!(rt; pool.close().is_ok());
+}
+
+// Page 3 is in no frame; page 1 is pinned.
+#[test]
+fn one_page_is_written_back_where_it_is_dirty(rt: HostRuntime) {
+    let alloc = rt.alloc();
+    let history = History::new(alloc);
+    let mut pool = pool_over(&rt, alloc, 4, memory(alloc, 8).expect(&rt, AMPLE));
+    assert!(rt; fills(&mut pool, &history, 1));
+    assert!(rt; fills(&mut pool, &history, 2));
+    assert!(rt; writes_one(&mut pool, &history, 3) == Ok(false));
+    assert!(rt; !pool.resident(page(3)) && pool.dirty() == 2);
+    assert!(rt; writes_one(&mut pool, &history, 2) == Ok(true) && pool.dirty() == 1);
+    assert!(rt; writes_one(&mut pool, &history, 2) == Ok(false));
+    assert!(rt; held(&mut pool, &history, 1) == Some(slot(0, 1)));
+    assert!(rt; writes_one(&mut pool, &history, 1) == Ok(true) && pool.dirty() == 0);
+    assert!(rt; reads(&pool, slot(0, 1), &[0xAA; 16]));
+    assert!(rt; pool.counts() == counted(1, 2, 0, 2) && pool.last_failure().is_none());
+    drop(pool);
+}
+
+// Two pages are read, so the third call of the device is the write of page 2.
+#[test]
+fn a_page_whose_write_fails_stays_dirty(rt: HostRuntime) {
+    let alloc = rt.alloc();
+    let history = History::new(alloc);
+    let mut pool = pool_over(&rt, alloc, 4, flaky(alloc, 8, 3).expect(&rt, AMPLE));
+    assert!(rt; fills(&mut pool, &history, 1));
+    assert!(rt; fills(&mut pool, &history, 2));
+    assert!(rt; writes_one(&mut pool, &history, 2) == Err(PoolFault::Fault));
+    assert!(rt; pool.dirty() == 2 && pool.resident(page(2)));
+    assert!(rt; pool.counts() == counted(0, 2, 0, 0) && pool.last_failure().is_some());
+    assert!(rt; writes_one(&mut pool, &history, 2) == Ok(true) && pool.dirty() == 1);
+    drop(pool);
 }
 
 #[test]

@@ -1,6 +1,8 @@
 use Rattle.std.proofs.Common.{refl, sym, ◌∙◌}
+use Rattle.std.proofs.lemmas.Result.{err_from_is_err_and}
+use Rattle.warm_pool.specs.Frames.{nth_frame}
 use Rattle.warm_pool.proofs.FlushLemmas.{on_err}
-use Rattle.warm_pool.proofs.WriteBacks.{already_clean, wrote_back, write_failed, failed_pool, cleaned_to}
+use Rattle.warm_pool.proofs.WriteBacks.{already_clean, wrote_back, write_failed, failed_pool, cleaned_to, wrote_frame, no_page, no_write}
 use Rattle.warm_pool.proofs.OtherDevices.{wrote_on}
 use Rattle.warm_pool.proofs.CallLemmas.{write_none, write_unread}
 use Rattle.warm_pool.proofs.pool.write_back.Goals as goal
@@ -50,3 +52,18 @@ returns-in_err-write_page-clause-unread g c =
 pub returns-clause-unread : goal.returns-clause-unread
 returns-clause-unread g c =
     write_unread _ _ _ _ _ _ (c.requires.fit.has_device c.args.at _ (sym c.page.ensures ∙ c.in-Some.is)) c.in_ok-write_page.ensures
+
+pub returns-in_default-clause-wrote : goal.returns-in_default-clause-wrote
+returns-in_default-clause-wrote g c = no_page (nth_frame c.args.frames.now.frames c.args.at) _ _ _ (sym c.page.ensures ∙ c.in_default.is)
+
+pub returns-then-not-is_dirty-clause-wrote : goal.returns-then-not-is_dirty-clause-wrote
+returns-then-not-is_dirty-clause-wrote g c = no_write (nth_frame c.args.frames.now.frames c.args.at) _ _ _ (sym c.is_dirty.ensures ∙ c.if-not-is_dirty.true)
+
+pub returns-in_err-write_page-clause-wrote : goal.returns-in_err-write_page-clause-wrote
+returns-in_err-write_page-clause-wrote g c =
+    let given = err_from_is_err_and c.from_residual.result c.from_residual.ensures.1 in
+    rw (given.1, given.2) (wrote_frame (nth_frame c.args.frames.now.frames c.args.at) _ _ _ _ _ (sym c.page.ensures ∙ c.in-Some.is) c.bytes.ensures c.in_err-write_page.ensures)
+
+pub returns-clause-wrote : goal.returns-clause-wrote
+returns-clause-wrote g c =
+    wrote_frame (nth_frame c.args.frames.now.frames c.args.at) _ _ _ _ _ (sym c.page.ensures ∙ c.in-Some.is) c.bytes.ensures c.in_ok-write_page.ensures

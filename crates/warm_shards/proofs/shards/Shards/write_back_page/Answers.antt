@@ -1,0 +1,14 @@
+use Rattle.std.proofs.Common.{◌≡◌, ◌<◌, List, length, sym, subst}
+use Rattle.warm_gossip.specs.State.{NodeState}
+use Rattle.warm_shards.specs.Shards.{shard_of}
+use Rattle.warm_shards.proofs.PoolCalls.{after_call}
+use Rattle.warm_shards.proofs.EngineCalls.{page_own}
+use Rattle.warm_shards.proofs.shards.Shards.write_back_page.Goals as goal
+
+pub invariant_of-self : goal.invariant_of-self
+invariant_of-self g c =
+    let ns = c.self.inside.nodes.items in
+    let i = c.shard_of-shard.result in
+    let lt : i < length ns = subst (λ (xs : List NodeState). i < length xs) (sym c.self.view_is) c.shard_of-shard.ensures.below in
+    after_call ns i c.index_mut.result.now c.write_back_page.new.self c.index_mut.result.now c.self.invariant lt c.index_mut.ensures.value (λ old.
+    page_own (λ p. shard_of (length ns) p ≡ i) c.index_mut.result.now c.write_back_page.new.self c.args.page c.write_back_page.result old.own.resident (record { id = c.write_back_page.ensures.id; history = c.write_back_page.ensures.history }) c.write_back_page.ensures.same c.write_back_page.ensures.refused)
