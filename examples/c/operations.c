@@ -35,6 +35,7 @@ static struct {
 /* Latches are hashed by page. A thread takes one at a time. */
 static pthread_rwlock_t latches[LATCHES];
 static uint64_t checkpoint; /* the log is needed from here on */
+static _Atomic uint64_t clock_ticks; /* no two references have one time */
 static atomic_bool is_stopping;
 
 static void check(bool good, const char *what) {
@@ -144,7 +145,7 @@ static void *write_pages(void *its_handle) {
         drawn = drawn * 6364136223846793005u + 1442695040888963407u;
         uint64_t no = (drawn >> 33) % PAGES;
         change(handle, no);
-        used[at % COMMIT] = (warm_reference){.replica = 1, .no = no, .time = (uint64_t)at};
+        used[at % COMMIT] = (warm_reference){.replica = 1, .no = no, .time = ++clock_ticks};
         if (at % COMMIT < COMMIT - 1) continue;
         sync_log(); /* a transaction commits */
         OK(warm_absorb(handle, used, COMMIT));

@@ -6,7 +6,7 @@ use std::marker::Model;
 use warm_history::History;
 
 /// A history in a heap box: a pointer, whereas a [`History`] contains the roots of its 64 maps,
-/// some 1.5 KB. Contracts see the history.
+/// some 3 KB. Contracts see the history.
 #[derive(Debug, Drop)]
 pub struct ShownHistory {
     history: Box<History>,
