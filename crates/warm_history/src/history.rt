@@ -234,8 +234,9 @@ impl History {
     /// Takes in all entries of the other history, and returns the buckets whose entries changed, as
     /// [`History::absorb`] does.
     ///
-    /// The other history is scanned once, and each of its pages is looked up in this one.
-    /// `AllocError` occurs where the allocation of the undo list (the old values of these pages) or
+    /// If all pages of the other history are of devices below 64, each of its buckets and this
+    /// history's are read in one walk. Otherwise each of its pages is looked up in this one.
+    /// `AllocError` occurs where the allocation of the undo list (what was known of these pages) or
     /// of a new page fails, and changes nothing.
     pub fn join(&mut self, other: &History) -> Result<BucketSet, AllocError>
         ensures ok { OnOk result (TakesIn self.old (references_of other.now) self.new) }
