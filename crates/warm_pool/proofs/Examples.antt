@@ -7,10 +7,11 @@ use Rattle.warm_history.specs.Histories.{history_of_entries as alone, references
 use Rattle.warm_rank.specs.Ranking.{IsBefore}
 use Rattle.warm_devices.specs.Calls.{no_calls}
 use Rattle.warm_devices.specs.Device.{DeviceState}
-use Rattle.warm_pool.specs.Frames.{FrameState, fresh_frame}
+use Rattle.warm_pool.specs.Frames.{FrameState, cleaned, fresh_frame}
 use Rattle.warm_pool.specs.State.{PoolState}
 use Rattle.warm_pool.specs.View.{view_of, PoolView, contents_at, frame_at, unfixed_pages}
 use Rattle.warm_pool.specs.WritingBack.{cleaned_to}
+use Rattle.warm_pool.specs.WritingSome.{IsNextDirty, NoneDirty}
 use Rattle.warm_pool.specs.Pinning.{HasNoFreeFrame, IsFrameToLoad, unpinned}
 use Rattle.warm_pool.specs.PageBytes.{patched}
 use Rattle.warm_pool.specs.Retiring.{emptied}
@@ -87,6 +88,22 @@ first_is_clean : cleaned_to 1 (history_of_entries 1 0 [] ∷ history_of_entries 
     ≡ (let f : FrameState = record (history_of_entries 1 0 []) { dirty = false } in f)
     ∷ history_of_entries 2 0 [] ∷ []
 first_is_clean = refl
+
+-- ---- the next dirty page
+
+-- of a clean frame and a dirty one the second is next, and none is after it
+clean_is_passed : IsNextDirty
+    (two_frames true (cleaned (history_of_entries 1 0 [])) (history_of_entries 2 0 [])) 0
+    (Some (record { frame = 1; page = page 2 }))
+clean_is_passed = (omega arith, passed, record { there = omega arith; holds = refl; dirty = refl })
+  where
+    passed : NoneDirty (cleaned (history_of_entries 1 0 []) ∷ history_of_entries 2 0 [] ∷ []) 0 1
+    passed zero low high = refl
+    passed (suc i) low high = absurd (omega arith)
+
+none_after : IsNextDirty (two_frames true (history_of_entries 1 0 []) (history_of_entries 2 0 [])) 2
+    None
+none_after i low high = absurd (omega arith)
 
 -- ---- the frame into which a page is loaded
 

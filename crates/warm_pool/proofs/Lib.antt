@@ -5,6 +5,7 @@ pub mod ChainLemmas
 pub mod ClosingLemmas
 pub mod CountLemmas
 pub mod DeviceSteps
+pub mod DirtyPages
 pub mod EmptyLemmas
 pub mod Examples
 pub mod FlushLemmas

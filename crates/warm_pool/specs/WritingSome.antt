@@ -4,6 +4,7 @@ use Rattle.std.specs.Prelude.{length, take, set, Option, Some, None, Ok, Err, if
 use Rattle.warm_stamps.specs.declared.PageId.{PageId}
 use Rattle.warm_devices.specs.declared.fault.DeviceFault.TheVariants.{Write}
 use Rattle.warm_pool.specs.Frames.{FrameState, nth_frame, cleaned}
+use Rattle.warm_pool.specs.declared.dirty.DirtyFrame.{DirtyFrame}
 use Rattle.warm_pool.specs.declared.fault.PoolFault.{PoolFault}
 use Rattle.warm_pool.specs.declared.fault.PoolFault.TheVariants.{NoDevice, Fault}
 use Rattle.warm_pool.specs.State.{PoolState, nth_device}
@@ -25,6 +26,32 @@ one_if false = 0
 abbrev pub dirty_count : List FrameState → ℕ
 dirty_count [] = 0
 dirty_count (f ∷ frames) = one_if f.dirty + dirty_count frames
+
+-- a frame has the page, and the page is dirty
+pub record IsDirtyIn (s : PoolState) (page : PageId) (frame : ℕ) : Type 0 where
+  pub there : frame < length s.frames
+  pub holds : (nth_frame s.frames frame).page ≡ Some page
+  pub dirty : (nth_frame s.frames frame).dirty ≡ true
+
+-- the page is in some frame, and dirty
+abbrev pub IsDirty : PoolState → PageId → Type 0
+IsDirty s page = (frame : ℕ) × IsDirtyIn s page frame
+
+-- the page in a frame, where it is dirty
+abbrev pub IsDirtyPage : PoolState → ℕ → Option PageId → Type 0
+IsDirtyPage s frame (Some page) = IsDirtyIn s page frame
+IsDirtyPage s frame None = (nth_frame s.frames frame).dirty ≡ false
+
+-- no frame from one number up to another, which is not included, is dirty
+abbrev pub NoneDirty : List FrameState → ℕ → ℕ → Type 0
+NoneDirty frames from upto =
+    (i : ℕ) → from ≤ i → i < upto → (nth_frame frames i).dirty ≡ false
+
+-- the first dirty frame from a number on, and its page; none where no frame from there on is dirty
+abbrev pub IsNextDirty : PoolState → ℕ → Option DirtyFrame → Type 0
+IsNextDirty s from (Some next) = (from ≤ next.frame) × NoneDirty s.frames from next.frame
+    × IsDirtyIn s next.page next.frame
+IsNextDirty s from None = NoneDirty s.frames from (length s.frames)
 
 -- Some of them
 
@@ -62,12 +89,6 @@ abbrev pub room_after : Bool → ℕ → Option ℕ
 room_after dirty room = if dirty then (if room == 0 then None else Some (room - 1)) else Some room
 
 -- One page
-
--- a frame has the page, and the page is dirty
-pub record IsDirtyIn (s : PoolState) (page : PageId) (frame : ℕ) : Type 0 where
-  pub there : frame < length s.frames
-  pub holds : (nth_frame s.frames frame).page ≡ Some page
-  pub dirty : (nth_frame s.frames frame).dirty ≡ true
 
 -- One call of its device wrote the bytes of the dirty page. Its frame is clean, and no other frame
 -- has changed.

@@ -27,6 +27,7 @@ mod close;
 mod competing;
 mod counting;
 mod device_list;
+mod dirty;
 mod fault;
 mod filled;
 mod flush;
@@ -46,6 +47,7 @@ mod zeroed;
 
 pub use close::CloseError;
 pub use device_list::all_sized;
+pub use dirty::DirtyFrame;
 pub use fault::{NewPoolError, NewPoolFault, PoolFault, RetireError};
 pub use named::NamesPage;
 pub use pool::Pool;

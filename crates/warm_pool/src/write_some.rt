@@ -8,7 +8,7 @@ ghost use Rattle.warm_pool.specs.Retiring.{KeepsElsewhere};
 ghost use Rattle.warm_pool.specs.WritingBack.{CleanFails, Cleans, WritesFrame};
 ghost use Rattle.warm_pool.specs.WritingSome.{CleansFirst, FlushRefused, IsSettledOn, SomeFails, KeepsOtherDevices};
 ghost use Rattle.warm_pool.specs.WritingSome.{PageFails, WritesBackPage, WritesBackSome};
-ghost use Rattle.warm_pool.specs.WritingSome.{dirty_count, one_if, room_after};
+ghost use Rattle.warm_pool.specs.WritingSome.{room_after};
 ghost use Rattle.warm_pool.specs.declared.fault.PoolFault.TheVariants.{Fault};
 
 use crate::fault::PoolFault;
@@ -94,25 +94,6 @@ impl<D: PageDevice> Pool<D> {
         Ok(())
     }
 
-    /// The number of dirty pages. The cost is linear in the number of frames.
-    pub fn dirty(&self) -> usize
-        ensures { result ≡ dirty_count self.now.frames }
-    {
-        let mut count = 0;
-        for at in 0..self.frames.len() {
-            count += one_if(self.is_dirty(at));
-        }
-        count
-    }
-
-    // Whether the page in a frame is dirty.
-    fn is_dirty(&self, at: usize) -> bool
-        requires { at < length self.now.frames }
-        ensures { result ≡ (nth_frame self.now.frames at).dirty }
-    {
-        self.frames.is_dirty(at)
-    }
-
     // Writes back the page of a frame, where it is dirty.
     fn clean_at(&mut self, at: usize) -> Result<(), DeviceFault>
         requires { at < length self.old.frames }
@@ -142,13 +123,6 @@ impl<D: PageDevice> Pool<D> {
         }
         Ok(())
     }
-}
-
-// 1 where it holds, else 0.
-fn one_if(holds: bool) -> usize
-    ensures { result ≡ one_if holds }
-{
-    if holds { 1 } else { 0 }
 }
 
 // How many more dirty pages may be written, after a frame.

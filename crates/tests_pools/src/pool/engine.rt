@@ -6,7 +6,7 @@ use super::{AMPLE, Said, counted, fills, given, held, pool_over, reads, slot, un
 use test_kit::{flaky, memory, page};
 use warm_devices::PageDevice;
 use warm_history::History;
-use warm_pool::{Pool, PoolFault, Slot};
+use warm_pool::{DirtyFrame, Pool, PoolFault, Slot};
 
 fn zeroed<D: PageDevice>(pool: &mut Pool<D>, history: &History, no: u64) -> Said
     requires { RankedBy pool.old history.now }
@@ -54,6 +54,14 @@ fn forgets<D: PageDevice>(
     ensures { RankedBy pool.new history.now }
 {
     pool.forget_pages(dev, from)
+}
+
+// The frame of this number with the page of device 0, which is dirty.
+fn dirty(frame: usize, no: u64) -> Option<DirtyFrame> {
+    Some(DirtyFrame {
+        frame,
+        page: page(no),
+    })
 }
 
 // Writes AA to all bytes of the slot's page, as they are lent; returns whether the slot holds it.
@@ -143,6 +151,26 @@ fn one_page_is_written_back_where_it_is_dirty(rt: HostRuntime) {
     assert!(rt; writes_one(&mut pool, &history, 1) == Ok(true) && pool.dirty() == 0);
     assert!(rt; reads(&pool, slot(0, 1), &[0xAA; 16]));
     assert!(rt; pool.counts() == counted(1, 2, 0, 2) && pool.last_failure().is_none());
+    drop(pool);
+}
+
+// Pages 5, 2 and 7 are in frames 0, 1 and 2; page 2 is clean, and frame 3 has no page.
+#[test]
+fn dirty_pages_are_named_by_their_frames(rt: HostRuntime) {
+    let alloc = rt.alloc();
+    let history = History::new(alloc);
+    let mut pool = pool_over(&rt, alloc, 4, memory(alloc, 8).expect(&rt, AMPLE));
+    assert!(rt; pool.next_dirty(0).is_none());
+    assert!(rt; fills(&mut pool, &history, 5));
+    assert!(rt; fills(&mut pool, &history, 2));
+    assert!(rt; fills(&mut pool, &history, 7));
+    assert!(rt; writes_one(&mut pool, &history, 2) == Ok(true));
+    assert!(rt; pool.has_dirty(page(5)) && !pool.has_dirty(page(2)) && pool.has_dirty(page(7)));
+    assert!(rt; !pool.has_dirty(page(3)));
+    assert!(rt; pool.next_dirty(0) == dirty(0, 5) && pool.next_dirty(1) == dirty(2, 7));
+    assert!(rt; pool.next_dirty(2) == dirty(2, 7) && pool.next_dirty(3).is_none());
+    assert!(rt; pool.next_dirty(4).is_none() && pool.next_dirty(usize::MAX).is_none());
+    assert!(rt; writes_back(&mut pool, &history, 2) == Ok(0) && pool.next_dirty(0).is_none());
     drop(pool);
 }
 
