@@ -6,8 +6,8 @@ use Rattle.std.proofs.lemmas.Result.{IfOk-from_err}
 use Rattle.warm_turn.specs.declared.table.Entry.{Entry}
 use Rattle.warm_turn.specs.declared.table.EndedPass.{EndedPass}
 use Rattle.warm_turn.specs.declared.table.View.{View}
-use Rattle.warm_turn.specs.CallHistories.{Joined, Widened, as_ended, new_pass}
-use Rattle.warm_turn.proofs.Passes.{Widened-self, Widened-joined, Widened-trans}
+use Rattle.warm_turn.specs.CallHistories.{Joined, Widened, as_ended, halved, new_pass}
+use Rattle.warm_turn.proofs.Passes.{Widened-self, Widened-halved, Widened-joined, Widened-trans}
 use Rattle.warm_replica.specs.Jobs.{AllGave, JobWent, WentAs}
 use Rattle.warm_replica.specs.Pairs.{Triples}
 use Rattle.warm_gossip.specs.declared.call.Call.{Call}
@@ -42,10 +42,10 @@ module _ {X C R : Type 0} where
   pub fan_more : {A B : Type 0} (P : A → B → EndedPass C R → Type 0) (goes : X → C → R → X → Type 0)
       (v u m t w : View X C R) (xs : List A) (x : A) (ys : List B) (y : B)
       (more : List (EndedPass C R))
-      → u ≡ v → Widened u more m → Triples P xs ys more → Joined goes m t w → t.ended ≡ []
+      → u ≡ halved v → Widened u more m → Triples P xs ys more → Joined goes m t w → t.ended ≡ []
       → P x y (as_ended t)
       → (all : List (EndedPass C R)) × Widened v all w × Triples P (xs ++ x ∷ []) (ys ++ y ∷ []) all
-  fan_more P goes v u m t w xs x ys y more e h th j none p = (more ++ as_ended t ∷ [], widened_more goes v m t w more (subst (λ q. Widened q more m) e h) j none, triples_more P xs ys more x y (as_ended t) th p)
+  fan_more P goes v u m t w xs x ys y more e h th j none p = (more ++ as_ended t ∷ [], widened_more goes v m t w more (Widened-halved v m more (subst (λ q. Widened q more m) e h)) j none, triples_more P xs ys more x y (as_ended t) th p)
 
 module _ {X : Type 0} where
   -- what is known of a job by equal names
@@ -74,14 +74,15 @@ module _ {X C R : Type 0} where
   fan_none P v xs ys a b = ([], widened_none v, subst (λ l. Triples P l ys []) (sym a) (subst (λ l. Triples P [] l []) (sym b) tt))
 
   pub fan_err : (goes : X → C → R → X → Type 0) (v u m t w : View X C R)
-      (more : List (EndedPass C R)) → u ≡ v → Widened u more m → Joined goes m t w → t.ended ≡ []
+      (more : List (EndedPass C R)) → u ≡ halved v → Widened u more m → Joined goes m t w
+      → t.ended ≡ []
       → (all : List (EndedPass C R)) × Widened v all w × Unit {0}
-  fan_err goes v u m t w more e h j none = (more ++ as_ended t ∷ [], widened_more goes v m t w more (subst (λ q. Widened q more m) e h) j none, tt)
+  fan_err goes v u m t w more e h j none = (more ++ as_ended t ∷ [], widened_more goes v m t w more (Widened-halved v m more (subst (λ q. Widened q more m) e h)) j none, tt)
 
   pub fan_stop : {T E : Type 0} (P : List (EndedPass C R) → Type 0) (v w : View X C R)
-      (r : Result T E) → IsErr r → w ≡ v
+      (r : Result T E) → IsErr r → w ≡ halved v
       → (all : List (EndedPass C R)) × Widened v all w × OnOk r (P all)
-  fan_stop P v w r failed e = ([], subst (λ u. Widened v [] u) (sym e) (widened_none v), IfOk-from_err r (λ _. P []) failed)
+  fan_stop P v w r failed e = ([], subst (λ u. Widened v [] u) (sym e) (Widened-halved v (halved v) [] (widened_none (halved v))), IfOk-from_err r (λ _. P []) failed)
 
 pub fan_fits : {A B D : Type 0} (P : A → B → D → Type 0) (js xs : List A) (x : A) (ys : List B)
     (more : List D) → js ≡ xs ++ x ∷ [] → Triples P xs ys more → (was now : ℕ) → length js ≤ was
@@ -90,6 +91,6 @@ fan_fits P js xs x ys more is th was now a b = omega (arith, ap length is, lengt
 
 module _ {X C R : Type 0} where
   pub fan_ends : (goes : X → C → R → X → Type 0) (v own w : View X C R) (n : ℕ)
-      (more : List (EndedPass C R)) → Widened (new_pass v n) more own → Joined goes v own w
+      (more : List (EndedPass C R)) → Widened (new_pass v n) more own → Joined goes (halved v) own w
       → Widened v (as_ended own ∷ more) w
-  fan_ends goes v own w n more h j = subst (λ (l : List (EndedPass C R)). Widened v (as_ended own ∷ l) w) h.ended (Widened-joined goes v own w j)
+  fan_ends goes v own w n more h j = subst (λ (l : List (EndedPass C R)). Widened v (as_ended own ∷ l) w) h.ended (Widened-halved v w (as_ended own ∷ own.ended) (Widened-joined goes (halved v) own w j))

@@ -3,7 +3,7 @@ use Rattle.std.proofs.Common.{ℕ, List, [], ◌∷◌, sym, subst}
 use Rattle.std.specs.Global.{Vec}
 use Rattle.warm_turn.specs.declared.table.EndedPass.{EndedPass}
 use Rattle.warm_turn.specs.declared.table.View.{View}
-use Rattle.warm_turn.specs.CallHistories.{Joined, Widened, as_ended, new_pass}
+use Rattle.warm_turn.specs.CallHistories.{Joined, Widened, as_ended, halved, new_pass}
 use Rattle.warm_gossip.specs.declared.call.Call.{Call}
 use Rattle.warm_gossip.specs.declared.call.Reply.{Reply}
 use Rattle.warm_replica.specs.declared.job.Job.{Job}
@@ -33,12 +33,12 @@ pairs_triples P Q S f (a ∷ xs) (b ∷ ys) (d ∷ zs) [] h g = absurd g
 module _ {X : Type 0} (goes : X → Call → Reply → X → Type 0) where
   -- the pass of a run of jobs was ended into this one
   pub has_seen_more : (v own w : View X Call Reply) (n : ℕ) (more : List (EndedPass Call Reply))
-      → Widened (new_pass v n) more own → Joined goes v own w → HasSeenMore v w
+      → Widened (new_pass v n) more own → Joined goes (halved v) own w → HasSeenMore v w
   has_seen_more v own w n more wide joined = (as_ended own ∷ more, fan_ends goes v own w n more wide joined)
 
   pub jobs_went : (v own w : View X Call Reply) (n : ℕ) (jobs : List Job)
       (prepared : List PreparedJob) (all : List Replied) (more : List (EndedPass Call Reply))
-      → ArePrepared jobs prepared → Widened (new_pass v n) more own → Joined goes v own w
+      → ArePrepared jobs prepared → Widened (new_pass v n) more own → Joined goes (halved v) own w
       → Triples PreparedJobWentAs prepared all more → JobsWent v jobs all w
   jobs_went v own w n jobs prepared all more same wide joined went = (
     as_ended own,

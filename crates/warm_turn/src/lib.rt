@@ -16,7 +16,8 @@
 //!   ends a pass into another. Both lists begin the new one.
 //! - [`Turn::opening_note`] is for code that was given a turn and a pass: contracts then know that
 //!   the pass that learns it has the turn's opening state.
-//! - [`Turn::close`] gives the machine back, in a state that such a history reaches.
+//! - [`Turn::close`] gives the machine back, in a state that such a history reaches. Each pass has a
+//!   share of the right to close, and one with the whole right is never refused.
 //!
 //! It is a ticket lock (D. P. Reed and R. K. Kanodia, "Synchronization with Eventcounts and
 //! Sequencers", CACM 1979; J. M. Mellor-Crummey and M. L. Scott, "Algorithms for Scalable
@@ -29,7 +30,7 @@
 //!
 //! Passes, notes and turns may cross threads where the machine may: for a function that is generic
 //! in `M: Machine + Send` the lemmas are in `proofs/Sent.antt`. Lemmas on what calls, notes and
-//! ends say of a pass are in `proofs/Passes.antt`.
+//! ends say of a pass are in `proofs/Passes.antt`, and lemmas on shares in `proofs/Shares.antt`.
 #![tactic(auto)]
 
 mod counter;

@@ -30,6 +30,15 @@ pub struct EndedPass<C, R> {
     pub calls: LinkedList<Entry<C, R>>,
 }
 
+/// A share of the right to close a turn: `parts` of `whole`. It exists only in contracts, where
+/// numbers have no bound.
+pub struct Share {
+    /// How many parts it has.
+    pub parts: u64,
+    /// How many parts the whole right has.
+    pub whole: u64,
+}
+
 /// What a seat at the table knows. It exists only in contracts.
 pub struct View<X, C, R> {
     /// False for a used-up seat.
@@ -42,6 +51,8 @@ pub struct View<X, C, R> {
     pub serves: bool,
     /// The last number, `u64::MAX`, was found in the ticket word.
     pub found_last: bool,
+    /// Its share of the right to close the turn.
+    pub share: Share,
     /// The number of the pass, which no other pass of the turn has.
     pub number: u64,
     /// The ticket, where one was taken.

@@ -1,16 +1,17 @@
 //! The turn, its passes and notes.
 ghost use Rattle.std.specs.Prelude.{◌≡◌, ◌≢◌, ℕ, ◌<◌, [], ◌∷◌, Some};
-ghost use Rattle.std.specs.Prelude.{IfOk, IfErr, OnOk};
+ghost use Rattle.std.specs.Prelude.{IfOk, IfErr, IsOk, OnOk};
 ghost use Rattle.warm_turn.specs.declared.table.CellContents.{CellContents};
 ghost use Rattle.warm_turn.specs.CallHistories.{calls_by, first_pass, new_pass, note_of, marked};
 ghost use Rattle.warm_turn.specs.CallHistories.{IsPass, IsStep, IsLast, Called, Learned, Joined};
-ghost use Rattle.warm_turn.specs.CallHistories.{MadeVisit};
+ghost use Rattle.warm_turn.specs.CallHistories.{MadeVisit, halved};
+ghost use Rattle.warm_turn.specs.Shares.{IsWhole};
 ghost use Rattle.warm_turn.specs.Rule.{IsTicketTable, AreWords, MarkShows};
 ghost use Rattle.warm_turn.specs.Steps.{IsMade, Served, HasPassedOn};
 
 use crate::fault::{Busy, Memory, TurnsSpent};
 use crate::machine::Machine;
-use crate::plays::{Become, CatchUp, Come, End, GiveNote, Learn, PassOn};
+use crate::plays::{Become, CatchUp, Come, End, GiveNote, GivePass, Learn, PassOn};
 use crate::table::{BoxedMachine, CellContents, MachineCell, SharedTable, TicketTable, TurnSeat};
 use crate::visit::{Calling, Visit, Visited};
 use crate::waiting::{take_ticket, wait_turn};
@@ -54,7 +55,10 @@ impl<M: Machine> Model for Turn<M> {
 /// Its mark, `found_last`, says that it was refused with [`TurnsSpent`]. It stays, and a pass that
 /// has it is never answered again. It may still learn, be ended and close the turn.
 ///
-/// A pass that is dropped leaves its calls in the history, and its number is not used again.
+/// It has a `share` of the right to close the turn. All passes together have the whole right.
+///
+/// A pass that is dropped leaves its calls in the history, and its number is not used again. Its
+/// share is lost.
 #[derive(Drop)]
 pub struct Pass<M: Machine> {
     seat: TurnSeat<M>,
@@ -234,16 +238,18 @@ impl<M: Machine> Turn<M> {
     }
 
     /// A new pass, which has seen what this one has. It has a number of its own, of which that list
-    /// has no entry, and no calls, and no pass was ended into it. This pass is unchanged.
+    /// has no entry, and no calls, and no pass was ended into it. It gets half of this pass's share
+    /// of the right to close. This pass keeps the other half, and is otherwise unchanged.
     pub fn pass(&self, pass: &mut Pass<M>) -> Pass<M>
         requires { pass.old.table ≡ self.now.table }
-        ensures same { pass.new ≡ pass.old }
+        ensures half { pass.new.view ≡ halved pass.old.view }
+        ensures stays { pass.new.table ≡ self.now.table }
         ensures table { result.table ≡ self.now.table }
         ensures given { (n : ℕ) × (result.view ≡ new_pass pass.old.view n)
             × (calls_by n pass.old.view.seen ≡ []) }
         ensures legal { IsPass M.goes result.view }
     {
-        let mut seat = self.table.shared.split_seat::<GiveNote>(&mut pass.seat);
+        let mut seat = self.table.shared.split_seat::<GivePass>(&mut pass.seat);
         self.table.shared.load::<Become>(&mut seat, 0);
         Pass { seat }
     }
@@ -285,8 +291,8 @@ impl<M: Machine> Turn<M> {
 
     /// Ends the other pass into this one. This pass's list then begins with what both had seen, and
     /// it holds the other's number and calls, and those that the other held. All these numbers
-    /// differ. Both have the same opening state. Its own calls and its mark stay, and the other's
-    /// mark is dropped.
+    /// differ. Both have the same opening state. This pass's share of the right to close becomes the
+    /// sum of both. Its own calls and its mark stay, and the other's mark is dropped.
     pub fn end(&self, pass: &mut Pass<M>, other: Pass<M>)
         requires { (pass.old.table ≡ self.now.table) × (other.table ≡ self.now.table) }
         ensures table { pass.new.table ≡ self.now.table }
@@ -367,6 +373,10 @@ impl<M: Machine> Turn<M> {
     /// state that the rule of the turn allows, in which a pass knows what this one does: the
     /// history has one call for each served ticket. The turn and the pass are consumed, and a
     /// machine in the slot is dropped.
+    ///
+    /// A pass with the whole right to close gets the machine back: it is the only pass, so nobody
+    /// waits. The first pass has the whole right, and has it again once all others were ended into
+    /// it. [`Turn::pass`] gives half of a share away, and [`Turn::end`] adds the other's.
     pub fn close(self, pass: Pass<M>) -> Result<M, Busy>
     where
         M: Drop,
@@ -375,6 +385,7 @@ impl<M: Machine> Turn<M> {
         ensures busy { IfErr result (λ b. b.serving < b.ticket) }
         ensures words { IfErr result (AreWords M.view M.goes self.opening pass.view) }
         ensures mark { IfErr result (MarkShows pass.view) }
+        ensures whole { IsWhole pass.view.share → IsOk result }
     {
         let Turn { table } = self;
         let Pass { seat } = pass;

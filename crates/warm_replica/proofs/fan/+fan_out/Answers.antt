@@ -9,7 +9,7 @@ pub returns-in_default-clause-fanned : goal.returns-in_default-clause-fanned
 returns-in_default-clause-fanned g t c = fan_none _ c.args.pass.now.view c.args.jobs.items c.args.all.now.items (search rules) c.requires.capacity.0
 
 pub returns-in_err-child-clause-fanned : goal.returns-in_err-child-clause-fanned
-returns-in_err-child-clause-fanned g t c = fan_stop (Triples PreparedJobWentAs c.args.jobs.items c.args.all.now.items) c.args.pass.now.view _ c.from_residual.result c.from_residual.ensures.0 (ap (λ p. p.view) c.pass-mine.ensures.same)
+returns-in_err-child-clause-fanned g t c = fan_stop (Triples PreparedJobWentAs c.args.jobs.items c.args.all.now.items) c.args.pass.now.view _ c.from_residual.result c.from_residual.ensures.0 c.pass-mine.ensures.half
 
 pub returns-in-Err-clause-fanned : goal.returns-in-Err-clause-fanned
 returns-in-Err-clause-fanned g t c =
@@ -21,7 +21,7 @@ returns-in-Err-clause-fanned g t c =
     let end = c.join-theirs.result.0.view in
     let ran = job_as c.in_ok-child.child.promise.buffer.value.capacity c.in-Some.prepared.buffer.capacity c.in_ok-child.child.promise.steps.value.items c.in-Some.prepared.steps.items c.join-theirs.result.1.items c.in_ok-child.child.promise.pass.value.view (new_pass v n) end (ap (λ b. b.capacity) buffer) (ap (λ s. s.items) steps) (ap (λ p. p.view) start ∙ c.pass-mine.ensures.given.1) c.join-theirs.ensures.1 in
     let kept = c.fan_out-rest.ensures.fanned in
-    fan_err g.M.Machine.goes v c.pass-mine.new.pass.view c.fan_out-rest.new.pass.view end c.end.new.pass.view kept.0 (ap (λ p. p.view) c.pass-mine.ensures.same) kept.1 c.end.ensures.seen (none_ended c.in-Some.prepared.buffer.capacity c.in-Some.prepared.steps.items c.join-theirs.result.1.items v end n ran)
+    fan_err g.M.Machine.goes v c.pass-mine.new.pass.view c.fan_out-rest.new.pass.view end c.end.new.pass.view kept.0 c.pass-mine.ensures.half kept.1 c.end.ensures.seen (none_ended c.in-Some.prepared.buffer.capacity c.in-Some.prepared.steps.items c.join-theirs.result.1.items v end n ran)
 
 pub push_reserved-requires : goal.push_reserved-requires
 push_reserved-requires g t c =
@@ -40,5 +40,5 @@ returns-clause-fanned g t c =
     let ran = job_as c.in_ok-child.child.promise.buffer.value.capacity c.in-Some.prepared.buffer.capacity c.in_ok-child.child.promise.steps.value.items c.in-Some.prepared.steps.items c.join-theirs.result.1.items c.in_ok-child.child.promise.pass.value.view (new_pass v n) end (ap (λ b. b.capacity) buffer) (ap (λ s. s.items) steps) (ap (λ p. p.view) start ∙ c.pass-mine.ensures.given.1) c.join-theirs.ensures.1 in
     let kept = c.in_default-rest.ensures.fanned in
     rw (c.in-Some.ensures.items, c.push_reserved.ensures.items)
-    (fan_more PreparedJobWentAs g.M.Machine.goes v c.pass-mine.new.pass.view c.fan_out-rest.new.pass.view end c.end.new.pass.view c.pop.new.self.items c.in-Some.prepared c.fan_out-rest.new.all.items c.join-theirs.result.1 kept.0 (ap (λ p. p.view) c.pass-mine.ensures.same) kept.1 kept.2 c.end.ensures.seen
+    (fan_more PreparedJobWentAs g.M.Machine.goes v c.pass-mine.new.pass.view c.fan_out-rest.new.pass.view end c.end.new.pass.view c.pop.new.self.items c.in-Some.prepared c.fan_out-rest.new.all.items c.join-theirs.result.1 kept.0 c.pass-mine.ensures.half kept.1 kept.2 c.end.ensures.seen
     (none_ended c.in-Some.prepared.buffer.capacity c.in-Some.prepared.steps.items c.join-theirs.result.1.items v end n ran) (ran_as c.in-Some.prepared.buffer.capacity c.in-Some.prepared.steps.items c.join-theirs.result.1.items v end n ran))

@@ -15,7 +15,7 @@ returns-clause-went g c =
     jobs_went g.M.Machine.goes v own c.end.new.pass.view given.0 c.args.jobs.items c.in_ok-prepared.prepared.items c.in_ok-replies.replies.items fanned.0
     c.in_ok-prepared.ensures
     (subst (λ u. Widened u fanned.0 own) given.1 fanned.1)
-    (subst (λ u. Joined g.M.Machine.goes u own c.end.new.pass.view) (ap (λ p. p.view) c.pass-own.ensures.same) c.end.ensures.seen)
+    (subst (λ u. Joined g.M.Machine.goes u own c.end.new.pass.view) c.pass-own.ensures.half c.end.ensures.seen)
     (IfOk-at_ok (λ w. Triples PreparedJobWentAs c.in_ok-prepared.prepared.items w.items fanned.0) c.in_ok-replies.was fanned.2)
 
 pub returns-in_err-replies-clause-started : goal.returns-in_err-replies-clause-started
@@ -25,4 +25,4 @@ returns-in_err-replies-clause-started g c = λ _.
     let fanned = c.run_prepared-own.ensures.fanned in
     has_seen_more g.M.Machine.goes c.args.pass.now.view own c.end.new.pass.view given.0 fanned.0
     (subst (λ u. Widened u fanned.0 own) given.1 fanned.1)
-    (subst (λ u. Joined g.M.Machine.goes u own c.end.new.pass.view) (ap (λ p. p.view) c.pass-own.ensures.same) c.end.ensures.seen)
+    (subst (λ u. Joined g.M.Machine.goes u own c.end.new.pass.view) c.pass-own.ensures.half c.end.ensures.seen)
