@@ -22,14 +22,14 @@ use Rattle.warm_stamps.specs.declared.PageId.{PageId}
 use Rattle.warm_shards.specs.Shards.{shard_of}
 use Rattle.warm_shared.specs.declared.call.ShardCall.{ShardCall}
 use Rattle.warm_shared.specs.declared.call.ShardCall.TheVariants.{Absorb, Raise, Pin, Unpin, Read}
-use Rattle.warm_shared.specs.declared.call.ShardCall.TheVariants.{Write, Victim, WarmStep}
+use Rattle.warm_shared.specs.declared.call.ShardCall.TheVariants.{Write, Victim, WarmStep, WarmList}
 use Rattle.warm_shared.specs.declared.call.ShardCall.TheVariants.{Answer, Offer, Send}
 use Rattle.warm_shared.specs.declared.call.ShardCall.TheVariants.{WritePages, WriteBack}
 use Rattle.warm_shared.specs.declared.call.ShardCall.TheVariants.{Look, Change}
 use Rattle.warm_shared.specs.declared.call.ShardReply.{ShardReply}
 use Rattle.warm_shared.specs.declared.call.ShardReply.TheVariants.{Done, Kept, Pinned, Bytes, Page}
 use Rattle.warm_shared.specs.declared.call.ShardReply.TheVariants.{Loaded, Sent, Answers, Foreign}
-use Rattle.warm_shared.specs.declared.call.ShardReply.TheVariants.{Refused, Looked, Changed}
+use Rattle.warm_shared.specs.declared.call.ShardReply.TheVariants.{Pages, Refused, Looked, Changed}
 
 -- a shard: how many there are, its number, and its node
 pub record ShardState : Type 0 where
@@ -79,6 +79,7 @@ asked_of (Read slot at len) = of_node (node_call.Read slot at len)
 asked_of (Write slot at bytes) = of_node (node_call.Write slot at bytes)
 asked_of Victim = of_node node_call.Victim
 asked_of WarmStep = of_node node_call.WarmStep
+asked_of (WarmList n) = of_node (node_call.WarmList n)
 asked_of Offer = of_node node_call.Offer
 asked_of (Send bucket after) = of_node (node_call.Send bucket after)
 asked_of (Answer request) = of_node (node_call.Receive (request_for request))
@@ -95,6 +96,7 @@ node_reply_of (Pinned slot) = Some (node_reply.Pinned slot)
 node_reply_of (Bytes bytes) = Some (node_reply.Bytes bytes)
 node_reply_of (Page page) = Some (node_reply.Page page)
 node_reply_of (Loaded page) = Some (node_reply.Loaded page)
+node_reply_of (Pages pages) = Some (node_reply.Pages pages)
 node_reply_of (Sent message) = Some (node_reply.Sent message)
 node_reply_of (Answers messages) = Some (node_reply.Answers messages)
 node_reply_of (Refused why) = Some (node_reply.Refused why)

@@ -5,7 +5,7 @@ use boxcar::tag::Tag;
 use warm_frames::{BoxedMessage, MessageList};
 use warm_gossip::NodeFault;
 use warm_pool::Slot;
-use warm_stamps::{Bucket, BucketSet, ByteList, PageId, RefList};
+use warm_stamps::{Bucket, BucketSet, ByteList, PageId, PageList, RefList};
 
 /// A call of a shard: a call of its node, one that writes back, or one that pins a page, uses its
 /// bytes where they lie, and unpins it.
@@ -41,6 +41,8 @@ pub enum ShardCall {
     Victim,
     /// Load the hottest page of the shard that is not resident.
     WarmStep,
+    /// List this many of the hottest pages of the shard, or all where there are fewer.
+    WarmList(usize),
     /// Give the digests of all buckets. Those of other shards' buckets are of no entry.
     Offer,
     /// Give the first entries of a bucket, of those whose page is greater than `after`.
@@ -77,6 +79,8 @@ pub enum ShardReply {
     Page(Option<PageId>),
     /// The page that was loaded, if any.
     Loaded(Option<PageId>),
+    /// The hottest pages, hottest first.
+    Pages(PageList),
     /// The requested message.
     Sent(BoxedMessage),
     /// The messages with the requested entries, in order.

@@ -194,6 +194,7 @@ fn answer<D: PageDevice>(
         }
         ShardCall::Victim => Ok(ShardReply::Page(node.victim())),
         ShardCall::WarmStep => Ok(ShardReply::Loaded(node.warm_step()?)),
+        ShardCall::WarmList(n) => Ok(ShardReply::Pages(node.warm_list(n)?)),
         ShardCall::Offer => Ok(ShardReply::Sent(offered(alloc, node)?)),
         ShardCall::Send { bucket, after } => {
             Ok(ShardReply::Sent(sent(alloc, node, bucket, after)?))
