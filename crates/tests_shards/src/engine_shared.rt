@@ -1,10 +1,12 @@
-//! What an engine asks of shared shards, each in one turn of a shard: the hottest pages.
+//! What an engine asks of shared shards, each in one turn of a shard: the hottest pages, and what is
+//! new since a time.
 ghost use Rattle.warm_shared.specs.Attached.{AreOf};
 
-use crate::kit::{batch, shared_of};
+use crate::kit::{batch, bytes_of, shared_of};
 use std::sync::Wait;
-use test_kit::{SeenAt, page};
+use test_kit::{SeenAt, bucket, page};
 use warm_devices::MemDevice;
+use warm_frames::Message;
 use warm_shared::{Attached, SharedShards};
 use warm_stamps::PageList;
 
@@ -44,4 +46,32 @@ fn the_hottest_pages_of_a_shard_are_listed(rt: HostRuntime) {
     assert!(rt; one.as_slice() == [page(1)].as_slice());
     let other = hottest(&rt, &shared, &mut first, 0, 8).expect(&rt, "memory for a list");
     assert!(rt; other.as_slice() == [page(2)].as_slice());
+}
+
+// The pages of a message of entries.
+fn known_in(message: &Message) -> usize {
+    match message {
+        Message::Entries { entries, .. } => entries.as_slice().len(),
+        Message::Digest { .. } | Message::Want { .. } => 0,
+    }
+}
+
+#[test]
+fn what_is_new_in_a_bucket_is_sent(rt: HostRuntime) {
+    let alloc = rt.alloc();
+    let (shared, mut first) = shared_of(&rt, alloc, 1, 2);
+    let given = batch(&rt, alloc, GIVEN);
+    assert!(rt; shared.absorb(&rt, alloc, &mut first, &given).is_ok());
+    let whole = shared.send(&rt, &mut first, bucket(1), None);
+    let whole = whole.ok().expect(&rt, "memory for a message");
+    let all = shared.send_since(&rt, &mut first, bucket(1), 0, None);
+    let all = all.ok().expect(&rt, "memory for a message");
+    assert!(rt; !all.more);
+    assert!(rt; bytes_of(&rt, alloc, &all.message) == bytes_of(&rt, alloc, &whole));
+    let late = shared.send_since(&rt, &mut first, bucket(1), 4, None);
+    let late = late.ok().expect(&rt, "memory for a message");
+    assert!(rt; !late.more && known_in(&late.message) == 1);
+    let past = shared.send_since(&rt, &mut first, bucket(1), 0, Some(page(1)));
+    let past = past.ok().expect(&rt, "memory for a message");
+    assert!(rt; !past.more && known_in(&past.message) == 1);
 }

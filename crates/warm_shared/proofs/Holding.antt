@@ -7,7 +7,7 @@ use Rattle.warm_gossip.specs.declared.call.Call.{Call}
 use Rattle.warm_gossip.specs.declared.call.Reply.{Reply}
 use Rattle.warm_gossip.specs.declared.call.Call.TheVariants as node_call
 use Rattle.warm_gossip.specs.declared.call.Reply.TheVariants as node_reply
-use Rattle.warm_gossip.specs.declared.fault.NodeFault.TheVariants.{Pool}
+use Rattle.warm_gossip.specs.declared.fault.NodeFault.TheVariants.{Memory, Pool}
 use Rattle.warm_gossip.specs.State.{NodeState, NodeView, node_view}
 use Rattle.warm_shards.specs.Laws.{BringsOwn}
 use Rattle.warm_shards.specs.Shards.{AreShards, HoldsPagesOf, shard_at}
@@ -15,11 +15,11 @@ use Rattle.warm_shards.proofs.Staying.{failures_stay, steps_stay}
 use Rattle.warm_shared.specs.declared.call.ShardCall.{ShardCall}
 use Rattle.warm_shared.specs.declared.call.ShardCall.TheVariants.{Absorb, Change, Look, Pin}
 use Rattle.warm_shared.specs.declared.call.ShardReply.{ShardReply}
-use Rattle.warm_shared.specs.declared.call.ShardReply.TheVariants.{Changed, Foreign, Looked, Refused}
+use Rattle.warm_shared.specs.declared.call.ShardReply.TheVariants.{Changed, Foreign, Looked, Portion, Refused}
 use Rattle.warm_shared.specs.Attached.{Known, ShardTurn}
 use Rattle.warm_shared.specs.Laws.{ShardsHoldTheirPages}
 use Rattle.warm_shared.specs.Opening.{ClosesShard, shards_from, shards_over, view_at}
-use Rattle.warm_shared.specs.ShardSteps.{Asked, of_node, writing_back, looking, changing, IsOwn, NodeGoes, NodeStep, ShardStep, ShardView, WritesBack, asked_of, node_reply_of, shard_view}
+use Rattle.warm_shared.specs.ShardSteps.{Asked, of_node, writing_back, sending_since, looking, changing, IsOwn, NodeGoes, NodeStep, ShardStep, ShardView, WritesBack, asked_of, node_reply_of, shard_view}
 use Rattle.warm_shared.proofs.Steps.{runs_keep}
 
 -- ---- a node after one step
@@ -46,6 +46,7 @@ module _ (count i : ℕ) where
   abbrev BringsAsked : Asked → Type 0
   BringsAsked (of_node c) = BringsOwn count i c
   BringsAsked writing_back = Unit {0}
+  BringsAsked (sending_since bucket since after) = Unit {0}
   BringsAsked (looking p) = BringsOwn count i (node_call.Pin p)
   BringsAsked (changing p) = BringsOwn count i (node_call.Pin p)
 
@@ -60,6 +61,9 @@ module _ (count i : ℕ) where
       → HoldsPagesOf count i o → NodeGoes o a r y → HoldsPagesOf count i y
   goes_own o y (of_node c) r brings own step = node_step_own o y (Some c) (node_reply_of r) brings own step
   goes_own o y writing_back r brings own step = node_step_own o y None (node_reply_of r) tt own step
+  goes_own o y (sending_since bucket since after) (Portion message more) brings own step = subst (HoldsPagesOf count i) (sym step.1) own
+  goes_own o y (sending_since bucket since after) (Refused Memory) brings own step = subst (HoldsPagesOf count i) (sym step) own
+  goes_own o y (sending_since bucket since after) r brings own step = absurd step
   goes_own o y (looking p) (Looked slot bytes) brings own step =
       let pinned = steps_stay count i o step.mid (node_call.Pin p) (node_reply.Pinned slot) brings own step.pins in
       steps_stay count i step.mid y (node_call.Unpin slot) node_reply.Done tt pinned step.unpins

@@ -35,7 +35,8 @@ step_entries by call None = []
 step_entries by call (Some reply) = entry by call reply ∷ []
 
 -- The calls of the node and the write-backs that an entry of a shard stands for: of a look a pin
--- and an unpin, of a change a write between them, and of either a pin where it was refused.
+-- and an unpin, of a change a write between them, and of either a pin where it was refused. What is
+-- sent of a bucket since a time is no call of the node, and changes nothing.
 abbrev pub asked_steps : ℕ → Asked → ShardReply → List (Entry (Option Call) Reply)
 asked_steps by (of_node call) reply = step_entries by (Some call) (node_reply_of reply)
 asked_steps by writing_back reply = step_entries by None (node_reply_of reply)

@@ -1,5 +1,6 @@
 -- A shard as a machine: the calls of a node that it answers, and its steps.
-use Rattle.std.specs.Prelude.{◌≡◌, ℕ, ◌%◌, ◌<◌, List, length, Option, Some, None, Result, Ok, Err}
+use Rattle.std.specs.Prelude.{◌≡◌, ◌↔◌, ℕ, ◌%◌, ◌<◌, Bool, IsTrue, List, length}
+use Rattle.std.specs.Prelude.{Option, Some, None, Result, Ok, Err}
 use Rattle.std.specs.Int.{bit_at}
 use Rattle.std.specs.List.{All}
 use Rattle.warm_stamps.specs.declared.TheConstants.{BUCKETS}
@@ -10,10 +11,11 @@ use Rattle.warm_gossip.specs.declared.call.Call.TheVariants as node_call
 use Rattle.warm_gossip.specs.declared.call.Reply.{Reply}
 use Rattle.warm_gossip.specs.declared.call.Reply.TheVariants as node_reply
 use Rattle.warm_gossip.specs.declared.fault.NodeFault.{NodeFault}
-use Rattle.warm_gossip.specs.declared.fault.NodeFault.TheVariants.{Pool}
+use Rattle.warm_gossip.specs.declared.fault.NodeFault.TheVariants.{Memory, Pool}
 use Rattle.warm_pool.specs.declared.fault.PoolFault.TheVariants.{Fault}
 use Rattle.warm_pool.specs.State.{IsSettled}
 use Rattle.warm_pool.specs.WritingSome.{CleansFirst, SomeFails}
+use Rattle.warm_gossip.specs.Since.{HasMoreSince, sent_since}
 use Rattle.warm_gossip.specs.State.{NodeState, NodeView, node_view, empty_node}
 use Rattle.warm_gossip.specs.Step.{IsFailed, OnPool, Refuses, Step}
 use Rattle.warm_pool.specs.PageBytes.{IsLent}
@@ -23,13 +25,13 @@ use Rattle.warm_shards.specs.Shards.{shard_of}
 use Rattle.warm_shared.specs.declared.call.ShardCall.{ShardCall}
 use Rattle.warm_shared.specs.declared.call.ShardCall.TheVariants.{Absorb, Raise, Pin, Unpin, Read}
 use Rattle.warm_shared.specs.declared.call.ShardCall.TheVariants.{Write, Victim, WarmStep, WarmList}
-use Rattle.warm_shared.specs.declared.call.ShardCall.TheVariants.{Answer, Offer, Send}
+use Rattle.warm_shared.specs.declared.call.ShardCall.TheVariants.{Answer, Offer, Send, SendSince}
 use Rattle.warm_shared.specs.declared.call.ShardCall.TheVariants.{WritePages, WriteBack}
 use Rattle.warm_shared.specs.declared.call.ShardCall.TheVariants.{Look, Change}
 use Rattle.warm_shared.specs.declared.call.ShardReply.{ShardReply}
 use Rattle.warm_shared.specs.declared.call.ShardReply.TheVariants.{Done, Kept, Pinned, Bytes, Page}
 use Rattle.warm_shared.specs.declared.call.ShardReply.TheVariants.{Loaded, Sent, Answers, Foreign}
-use Rattle.warm_shared.specs.declared.call.ShardReply.TheVariants.{Pages, Refused, Looked, Changed}
+use Rattle.warm_shared.specs.declared.call.ShardReply.TheVariants.{Pages, Portion, Refused, Looked, Changed}
 
 -- a shard: how many there are, its number, and its node
 pub record ShardState : Type 0 where
@@ -61,11 +63,12 @@ no_shard_view = record { count = 0; number = 0; node = empty_node }
 abbrev pub request_for : ℕ → Message
 request_for request = Want 1 0 request
 
--- what a shard asks of its node: a call; to write back; or several calls in one turn, of a page
--- that is looked at, or changed
+-- what a shard asks of its node: a call; to write back; what is new in a bucket since a time, after
+-- a page; or several calls in one turn, of a page that is looked at, or changed
 pub data Asked : Type 0 where
   of_node : Call → Asked
   writing_back : Asked
+  sending_since : ℕ → ℕ → Option PageId → Asked
   looking : PageId → Asked
   changing : PageId → Asked
 
@@ -82,6 +85,7 @@ asked_of WarmStep = of_node node_call.WarmStep
 asked_of (WarmList n) = of_node (node_call.WarmList n)
 asked_of Offer = of_node node_call.Offer
 asked_of (Send bucket after) = of_node (node_call.Send bucket after)
+asked_of (SendSince bucket since after) = sending_since bucket since after
 asked_of (Answer request) = of_node (node_call.Receive (request_for request))
 asked_of WritePages = writing_back
 asked_of WriteBack = writing_back
@@ -100,6 +104,7 @@ node_reply_of (Pages pages) = Some (node_reply.Pages pages)
 node_reply_of (Sent message) = Some (node_reply.Sent message)
 node_reply_of (Answers messages) = Some (node_reply.Answers messages)
 node_reply_of (Refused why) = Some (node_reply.Refused why)
+node_reply_of (Portion message more) = None
 node_reply_of (Looked slot bytes) = None
 node_reply_of (Changed slot before after) = None
 node_reply_of Foreign = None
@@ -137,6 +142,12 @@ NodeStep old call None new = ⊥
 NodeStep old (Some call) (Some reply) new = Step old call reply new
 NodeStep old None (Some reply) new = WritesBack old reply new
 
+-- the message of what is new in a bucket since a time, and whether more follows
+abbrev pub IsPortion : NodeView → ℕ → ℕ → Option PageId → Message → Bool → Type 0
+IsPortion s bucket since after message more =
+    (message ≡ sent_since s.id s.history bucket since after)
+    × (IsTrue more ↔ HasMoreSince s.history bucket since after)
+
 -- A look at a page: the page is pinned, its bytes are lent, and it is unpinned.
 pub record Looks (old : NodeView) (page : PageId) (slot : Slot) (bytes : List ℕ) (new : NodeView)
     : Type 0 where
@@ -161,6 +172,10 @@ pub record Changes (old : NodeView) (page : PageId) (slot : Slot) (before after 
 abbrev pub NodeGoes : NodeView → Asked → ShardReply → NodeView → Type 0
 NodeGoes old (of_node call) reply new = NodeStep old (Some call) (node_reply_of reply) new
 NodeGoes old writing_back reply new = NodeStep old None (node_reply_of reply) new
+NodeGoes old (sending_since bucket since after) (Portion message more) new =
+    IsPortion old bucket since after message more × (new ≡ old)
+NodeGoes old (sending_since bucket since after) (Refused Memory) new = new ≡ old
+NodeGoes old (sending_since bucket since after) reply new = ⊥
 NodeGoes old (looking page) (Looked slot bytes) new = Looks old page slot bytes.numbers new
 NodeGoes old (looking page) (Refused why) new = Refuses old (node_call.Pin page) why new
 NodeGoes old (looking page) reply new = ⊥

@@ -7,8 +7,8 @@ use warm_gossip::NodeFault;
 use warm_pool::Slot;
 use warm_stamps::{Bucket, BucketSet, ByteList, PageId, PageList, RefList};
 
-/// A call of a shard: a call of its node, one that writes back, or one that pins a page, uses its
-/// bytes where they lie, and unpins it.
+/// A call of a shard: a call of its node, one that writes back, one that sends what is new since a
+/// time, or one that pins a page, uses its bytes where they lie, and unpins it.
 #[derive(Drop)]
 pub enum ShardCall {
     /// Add these references to the history. All must be to pages of the shard.
@@ -52,6 +52,16 @@ pub enum ShardCall {
         /// The page after which they begin, or `None` for the first of the bucket.
         after: Option<PageId>,
     },
+    /// Give the first entries of a bucket, of those whose page is greater than `after` and whose
+    /// latest stamp is not before `since`.
+    SendSince {
+        /// The bucket.
+        bucket: Bucket,
+        /// The time.
+        since: u64,
+        /// The page after which they begin, or `None` for the first of the bucket.
+        after: Option<PageId>,
+    },
     /// Give the entries of these buckets, in messages. All must be buckets of the shard.
     Answer(BucketSet),
     /// Write back all dirty pages of the shard. No device is flushed.
@@ -83,6 +93,13 @@ pub enum ShardReply {
     Pages(PageList),
     /// The requested message.
     Sent(BoxedMessage),
+    /// A message of entries, and whether more of the requested entries follow.
+    Portion {
+        /// The message.
+        message: BoxedMessage,
+        /// Whether more follow.
+        more: bool,
+    },
     /// The messages with the requested entries, in order.
     Answers(MessageList),
     /// The call brings a page, or a bucket, of another shard. Nothing has changed.

@@ -8,7 +8,8 @@ ghost use Rattle.warm_gossip.specs.Clauses.{Answered, NodeWriteBackFails, SameVi
 ghost use Rattle.warm_shards.specs.Shards.{IsShardCount, shard_of};
 ghost use Rattle.warm_shared.specs.ShardSteps.{AnsweredAs, AreOwnBuckets, IsOwn, LeavesWritten};
 ghost use Rattle.warm_shared.specs.ShardSteps.{ShardStep, WrittenAs, request_for, shard_view};
-ghost use Rattle.warm_shared.specs.declared.call.ShardCall.TheVariants.{Change, Look};
+ghost use Rattle.warm_shared.specs.declared.call.ShardCall.TheVariants.{Change, Look, SendSince};
+ghost use Rattle.warm_shared.specs.declared.call.ShardCall.TheVariants.{Unpin, Write};
 
 use crate::call::{ShardCall, ShardReply};
 use crate::lending::{Left, Shown, change_in, look_in};
@@ -16,9 +17,10 @@ use std::alloc::Global;
 use std::marker::Model;
 use warm_devices::PageDevice;
 use warm_frames::{BoxedMessage, Message, MessageList};
-use warm_gossip::{Node, NodeFault};
+use warm_gossip::{Node, NodeFault, SentPortion};
+use warm_pool::Slot;
 use warm_shards::shard_of;
-use warm_stamps::{BUCKETS, Bucket, BucketSet, PageId, Reference, ReplicaId};
+use warm_stamps::{BUCKETS, Bucket, BucketSet, ByteList, PageId, Reference, ReplicaId};
 use warm_turn::Machine;
 
 /// One shard of a replica: a node, how many shards there are, and which of them it is.
@@ -132,6 +134,25 @@ fn sent<D: PageDevice>(
     Ok(boxed)
 }
 
+// What is new in a bucket since a time, in a box.
+fn sent_since<D: PageDevice>(
+    alloc: Global,
+    node: &Node<D>,
+    bucket: Bucket,
+    since: u64,
+    after: Option<PageId>,
+) -> Result<ShardReply, NodeFault>
+    ensures { AnsweredAs node.now (SendSince bucket since after) result node.now }
+{
+    let portion = node.send_since(bucket, since, after)?;
+    let SentPortion { message, more } = portion;
+    let boxed = BoxedMessage::new(alloc, message)?;
+    Ok(ShardReply::Portion {
+        message: boxed,
+        more,
+    })
+}
+
 // The entries of these buckets, in messages. It has the room for a message, so it is a function of
 // its own.
 fn requested<D: PageDevice>(
@@ -183,15 +204,9 @@ fn answer<D: PageDevice>(
         }
         ShardCall::Raise(time) => Ok(ShardReply::Kept(node.raise(time))),
         ShardCall::Pin(page) => Ok(ShardReply::Pinned(node.pin(page)?)),
-        ShardCall::Unpin(slot) => {
-            node.unpin(slot)?;
-            Ok(ShardReply::Done)
-        }
+        ShardCall::Unpin(slot) => unpinned(node, slot),
         ShardCall::Read { slot, at, len } => Ok(ShardReply::Bytes(node.read(slot, at, len)?)),
-        ShardCall::Write { slot, at, bytes } => {
-            node.write(slot, at, bytes.as_slice())?;
-            Ok(ShardReply::Done)
-        }
+        ShardCall::Write { slot, at, bytes } => written(node, slot, at, bytes),
         ShardCall::Victim => Ok(ShardReply::Page(node.victim())),
         ShardCall::WarmStep => Ok(ShardReply::Loaded(node.warm_step()?)),
         ShardCall::WarmList(n) => Ok(ShardReply::Pages(node.warm_list(n)?)),
@@ -199,6 +214,11 @@ fn answer<D: PageDevice>(
         ShardCall::Send { bucket, after } => {
             Ok(ShardReply::Sent(sent(alloc, node, bucket, after)?))
         }
+        ShardCall::SendSince {
+            bucket,
+            since,
+            after,
+        } => sent_since(alloc, node, bucket, since, after),
         ShardCall::Answer(request) => Ok(ShardReply::Answers(requested(node, request)?)),
         ShardCall::WritePages => {
             write_pages(node)?;
@@ -211,6 +231,27 @@ fn answer<D: PageDevice>(
         ShardCall::Look(page) => looked(node, page),
         ShardCall::Change(page) => changed(node, page),
     }
+}
+
+// Removes a pin.
+fn unpinned<D: PageDevice>(node: &mut Node<D>, slot: Slot) -> Result<ShardReply, NodeFault>
+    ensures { AnsweredAs node.old (Unpin slot) result node.new }
+{
+    node.unpin(slot)?;
+    Ok(ShardReply::Done)
+}
+
+// Writes bytes into a slot's page.
+fn written<D: PageDevice>(
+    node: &mut Node<D>,
+    slot: Slot,
+    at: usize,
+    bytes: ByteList,
+) -> Result<ShardReply, NodeFault>
+    ensures { AnsweredAs node.old (Write slot at bytes) result node.new }
+{
+    node.write(slot, at, bytes.as_slice())?;
+    Ok(ShardReply::Done)
 }
 
 // A look by nobody: the page is loaded where it isn't resident.
