@@ -1,13 +1,14 @@
-//! What an engine asks of shared shards, each in one turn of a shard: the hottest pages, and what is
-//! new since a time.
+//! What an engine asks of shared shards, each in one turn of a shard: the hottest pages, what is new
+//! since a time, and pages written back in portions.
 ghost use Rattle.warm_shared.specs.Attached.{AreOf};
 
-use crate::kit::{batch, bytes_of, shared_of};
+use crate::kit::{batch, bytes_of, closed, dirty, shared_of};
+use crate::shared::is_written;
 use std::sync::Wait;
 use test_kit::{SeenAt, bucket, page};
 use warm_devices::MemDevice;
 use warm_frames::Message;
-use warm_shared::{Attached, SharedShards};
+use warm_shared::{Attached, SharedFault, SharedShards};
 use warm_stamps::PageList;
 
 type Shared = SharedShards<MemDevice>;
@@ -74,4 +75,34 @@ fn what_is_new_in_a_bucket_is_sent(rt: HostRuntime) {
     let past = shared.send_since(&rt, &mut first, bucket(1), 0, Some(page(1)));
     let past = past.ok().expect(&rt, "memory for a message");
     assert!(rt; !past.more && known_in(&past.message) == 1);
+}
+
+fn some_written<R: Wait>(
+    rt: &R,
+    shared: &Shared,
+    thread: &mut Thread,
+    shard: usize,
+    limit: usize,
+) -> Result<usize, SharedFault>
+    requires { AreOf shared.now thread.old.passes }
+    ensures { AreOf shared.now thread.new.passes }
+{
+    if shard >= shared.count() {
+        return Ok(0);
+    }
+    let left = shared.write_back_some(rt, thread, shard, limit)?;
+    Ok(left)
+}
+
+#[test]
+fn dirty_pages_of_a_shard_are_written_in_portions(rt: HostRuntime) {
+    let alloc = rt.alloc();
+    let (shared, mut first) = shared_of(&rt, alloc, 1, 2);
+    assert!(rt; is_written(&rt, alloc, &shared, &mut first, 1));
+    assert!(rt; is_written(&rt, alloc, &shared, &mut first, 2));
+    assert!(rt; is_written(&rt, alloc, &shared, &mut first, 3));
+    assert!(rt; is_written(&rt, alloc, &shared, &mut first, 5));
+    assert!(rt; some_written(&rt, &shared, &mut first, 1, 0) == Ok(3));
+    assert!(rt; some_written(&rt, &shared, &mut first, 1, 2) == Ok(1));
+    assert!(rt; dirty(&closed(&rt, alloc, shared, first)) == 2);
 }

@@ -15,11 +15,11 @@ use Rattle.warm_shards.proofs.Staying.{failures_stay, steps_stay}
 use Rattle.warm_shared.specs.declared.call.ShardCall.{ShardCall}
 use Rattle.warm_shared.specs.declared.call.ShardCall.TheVariants.{Absorb, Change, Look, Pin}
 use Rattle.warm_shared.specs.declared.call.ShardReply.{ShardReply}
-use Rattle.warm_shared.specs.declared.call.ShardReply.TheVariants.{Changed, Foreign, Looked, Portion, Refused}
+use Rattle.warm_shared.specs.declared.call.ShardReply.TheVariants.{Changed, Dirty, Foreign, Looked, Portion, Refused}
 use Rattle.warm_shared.specs.Attached.{Known, ShardTurn}
 use Rattle.warm_shared.specs.Laws.{ShardsHoldTheirPages}
 use Rattle.warm_shared.specs.Opening.{ClosesShard, shards_from, shards_over, view_at}
-use Rattle.warm_shared.specs.ShardSteps.{Asked, of_node, writing_back, sending_since, looking, changing, IsOwn, NodeGoes, NodeStep, ShardStep, ShardView, WritesBack, asked_of, node_reply_of, shard_view}
+use Rattle.warm_shared.specs.ShardSteps.{Asked, of_node, writing_back, writing_some, sending_since, looking, changing, IsOwn, NodeGoes, NodeStep, ShardStep, ShardView, WritesBack, asked_of, node_reply_of, shard_view}
 use Rattle.warm_shared.proofs.Steps.{runs_keep}
 
 -- ---- a node after one step
@@ -46,6 +46,7 @@ module _ (count i : ℕ) where
   abbrev BringsAsked : Asked → Type 0
   BringsAsked (of_node c) = BringsOwn count i c
   BringsAsked writing_back = Unit {0}
+  BringsAsked writing_some = Unit {0}
   BringsAsked (sending_since bucket since after) = Unit {0}
   BringsAsked (looking p) = BringsOwn count i (node_call.Pin p)
   BringsAsked (changing p) = BringsOwn count i (node_call.Pin p)
@@ -61,6 +62,9 @@ module _ (count i : ℕ) where
       → HoldsPagesOf count i o → NodeGoes o a r y → HoldsPagesOf count i y
   goes_own o y (of_node c) r brings own step = node_step_own o y (Some c) (node_reply_of r) brings own step
   goes_own o y writing_back r brings own step = node_step_own o y None (node_reply_of r) tt own step
+  goes_own o y writing_some (Dirty left) brings own step = written_own o y node_reply.Done own step
+  goes_own o y writing_some (Refused why) brings own step = written_own o y (node_reply.Refused why) own step
+  goes_own o y writing_some r brings own step = absurd step
   goes_own o y (sending_since bucket since after) (Portion message more) brings own step = subst (HoldsPagesOf count i) (sym step.1) own
   goes_own o y (sending_since bucket since after) (Refused Memory) brings own step = subst (HoldsPagesOf count i) (sym step) own
   goes_own o y (sending_since bucket since after) r brings own step = absurd step

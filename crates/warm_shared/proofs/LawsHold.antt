@@ -21,12 +21,12 @@ use Rattle.warm_stamps.specs.declared.Reference.{Reference}
 use Rattle.warm_shared.specs.declared.call.ShardCall.{ShardCall}
 use Rattle.warm_shared.specs.declared.call.ShardCall.TheVariants.{Absorb, Answer, Offer}
 use Rattle.warm_shared.specs.declared.call.ShardReply.{ShardReply}
-use Rattle.warm_shared.specs.declared.call.ShardReply.TheVariants.{Answers, Changed, Done, Foreign, Kept, Looked, Portion, Refused}
+use Rattle.warm_shared.specs.declared.call.ShardReply.TheVariants.{Answers, Changed, Dirty, Done, Foreign, Kept, Looked, Portion, Refused}
 use Rattle.warm_shared.specs.Answering.{AnswersPart, Offers, offer_at, offer_reply}
 use Rattle.warm_shared.specs.Attached.{Known, ShardPass, known_of, no_pass, shard_pass}
 use Rattle.warm_shared.specs.Clauses.{Answered, Got}
 use Rattle.warm_shared.specs.Laws.{CallsAreANodes, OnlySeesMore, SeesMore, ShardIsOfGiven, StepOrWriteBack, TogetherAreOfGiven, all_of, asked_steps, call_entries, calls_in, held_by, node_steps, step_entries}
-use Rattle.warm_shared.specs.ShardSteps.{Asked, of_node, writing_back, sending_since, looking, changing, NodeGoes, NodeStep, ShardStep, ShardView, asked_of, node_reply_of}
+use Rattle.warm_shared.specs.ShardSteps.{Asked, of_node, writing_back, writing_some, sending_since, looking, changing, NodeGoes, NodeStep, ShardStep, ShardView, asked_of, node_reply_of}
 use Rattle.warm_shared.specs.Whole.{AbsorbsPart, Does, First, Raises, part_of}
 use Rattle.warm_shared.proofs.Places.{at_each}
 
@@ -41,6 +41,9 @@ asked_run : (x y : NodeView) (by : ℕ) (a : Asked) (r : ShardReply) → NodeGoe
     → Runs StepOrWriteBack x (asked_steps by a r) y
 asked_run x y by (of_node c) r step = of_reply x y by (Some c) (node_reply_of r) step
 asked_run x y by writing_back r step = of_reply x y by None (node_reply_of r) step
+asked_run x y by writing_some (Dirty left) step = (y, step, refl)
+asked_run x y by writing_some (Refused why) step = (y, step, refl)
+asked_run x y by writing_some r step = absurd step
 asked_run x y by (sending_since bucket since after) (Portion message more) step = sym step.1
 asked_run x y by (sending_since bucket since after) (Refused node_fault.Memory) step = sym step
 asked_run x y by (sending_since bucket since after) r step = absurd step
@@ -54,6 +57,7 @@ asked_run x y by (changing p) r step = absurd step
 foreign_none : (by : ℕ) (a : Asked) → asked_steps by a Foreign ≡ []
 foreign_none by (of_node c) = refl
 foreign_none by writing_back = refl
+foreign_none by writing_some = refl
 foreign_none by (sending_since bucket since after) = refl
 foreign_none by (looking p) = refl
 foreign_none by (changing p) = refl

@@ -22,8 +22,9 @@ use Rattle.warm_shared.specs.Answering.{AnswersFirst, OffersFirst}
 use Rattle.warm_shared.specs.Attached.{Known, ShardPass, ShardTurn, known_of}
 use Rattle.warm_shared.specs.Clauses.{Answered}
 use Rattle.warm_shared.specs.Opening.{AreJoined, ClosesShard, shards_over, view_at}
-use Rattle.warm_shared.specs.declared.call.ShardReply.TheVariants.{Changed, Looked}
-use Rattle.warm_shared.specs.ShardSteps.{Asked, of_node, writing_back, looking, changing, NodeStep}
+use Rattle.warm_shared.specs.declared.call.ShardReply.TheVariants.{Changed, Dirty, Looked}
+use Rattle.warm_shared.specs.ShardSteps.{Asked, of_node, writing_back, writing_some, looking}
+use Rattle.warm_shared.specs.ShardSteps.{changing, NodeStep}
 use Rattle.warm_shared.specs.ShardSteps.{ShardStep, ShardView, asked_of, node_reply_of}
 use Rattle.warm_shared.specs.Whole.{AbsorbsFirst, DoneFirst, RaisesFirst}
 
@@ -40,6 +41,8 @@ step_entries by call (Some reply) = entry by call reply ∷ []
 abbrev pub asked_steps : ℕ → Asked → ShardReply → List (Entry (Option Call) Reply)
 asked_steps by (of_node call) reply = step_entries by (Some call) (node_reply_of reply)
 asked_steps by writing_back reply = step_entries by None (node_reply_of reply)
+asked_steps by writing_some (Dirty left) = entry by None node_reply.Done ∷ []
+asked_steps by writing_some (Refused why) = entry by None (node_reply.Refused why) ∷ []
 asked_steps by (looking page) (Looked slot bytes) =
     entry by (Some (node_call.Pin page)) (node_reply.Pinned slot)
     ∷ entry by (Some (node_call.Unpin slot)) node_reply.Done ∷ []

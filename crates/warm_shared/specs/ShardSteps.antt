@@ -14,7 +14,7 @@ use Rattle.warm_gossip.specs.declared.fault.NodeFault.{NodeFault}
 use Rattle.warm_gossip.specs.declared.fault.NodeFault.TheVariants.{Memory, Pool}
 use Rattle.warm_pool.specs.declared.fault.PoolFault.TheVariants.{Fault}
 use Rattle.warm_pool.specs.State.{IsSettled}
-use Rattle.warm_pool.specs.WritingSome.{CleansFirst, SomeFails}
+use Rattle.warm_pool.specs.WritingSome.{CleansFirst, SomeFails, WritesBackSome}
 use Rattle.warm_gossip.specs.Since.{HasMoreSince, sent_since}
 use Rattle.warm_gossip.specs.State.{NodeState, NodeView, node_view, empty_node}
 use Rattle.warm_gossip.specs.Step.{IsFailed, OnPool, Refuses, Step}
@@ -26,12 +26,13 @@ use Rattle.warm_shared.specs.declared.call.ShardCall.{ShardCall}
 use Rattle.warm_shared.specs.declared.call.ShardCall.TheVariants.{Absorb, Raise, Pin, Unpin, Read}
 use Rattle.warm_shared.specs.declared.call.ShardCall.TheVariants.{Write, Victim, WarmStep, WarmList}
 use Rattle.warm_shared.specs.declared.call.ShardCall.TheVariants.{Answer, Offer, Send, SendSince}
-use Rattle.warm_shared.specs.declared.call.ShardCall.TheVariants.{WritePages, WriteBack}
+use Rattle.warm_shared.specs.declared.call.ShardCall.TheVariants.{WritePages, WriteSome, WriteBack}
 use Rattle.warm_shared.specs.declared.call.ShardCall.TheVariants.{Look, Change}
 use Rattle.warm_shared.specs.declared.call.ShardReply.{ShardReply}
 use Rattle.warm_shared.specs.declared.call.ShardReply.TheVariants.{Done, Kept, Pinned, Bytes, Page}
 use Rattle.warm_shared.specs.declared.call.ShardReply.TheVariants.{Loaded, Sent, Answers, Foreign}
-use Rattle.warm_shared.specs.declared.call.ShardReply.TheVariants.{Pages, Portion, Refused, Looked, Changed}
+use Rattle.warm_shared.specs.declared.call.ShardReply.TheVariants.{Pages, Portion, Dirty, Refused}
+use Rattle.warm_shared.specs.declared.call.ShardReply.TheVariants.{Looked, Changed}
 
 -- a shard: how many there are, its number, and its node
 pub record ShardState : Type 0 where
@@ -63,11 +64,12 @@ no_shard_view = record { count = 0; number = 0; node = empty_node }
 abbrev pub request_for : ℕ → Message
 request_for request = Want 1 0 request
 
--- what a shard asks of its node: a call; to write back; what is new in a bucket since a time, after
--- a page; or several calls in one turn, of a page that is looked at, or changed
+-- what a shard asks of its node: a call; to write back all pages, or some; what is new in a bucket
+-- since a time, after a page; or several calls in one turn, of a page that is looked at, or changed
 pub data Asked : Type 0 where
   of_node : Call → Asked
   writing_back : Asked
+  writing_some : Asked
   sending_since : ℕ → ℕ → Option PageId → Asked
   looking : PageId → Asked
   changing : PageId → Asked
@@ -88,6 +90,7 @@ asked_of (Send bucket after) = of_node (node_call.Send bucket after)
 asked_of (SendSince bucket since after) = sending_since bucket since after
 asked_of (Answer request) = of_node (node_call.Receive (request_for request))
 asked_of WritePages = writing_back
+asked_of (WriteSome limit) = writing_some
 asked_of WriteBack = writing_back
 asked_of (Look page) = looking page
 asked_of (Change page) = changing page
@@ -104,6 +107,7 @@ node_reply_of (Pages pages) = Some (node_reply.Pages pages)
 node_reply_of (Sent message) = Some (node_reply.Sent message)
 node_reply_of (Answers messages) = Some (node_reply.Answers messages)
 node_reply_of (Refused why) = Some (node_reply.Refused why)
+node_reply_of (Dirty left) = None
 node_reply_of (Portion message more) = None
 node_reply_of (Looked slot bytes) = None
 node_reply_of (Changed slot before after) = None
@@ -172,6 +176,9 @@ pub record Changes (old : NodeView) (page : PageId) (slot : Slot) (before after 
 abbrev pub NodeGoes : NodeView → Asked → ShardReply → NodeView → Type 0
 NodeGoes old (of_node call) reply new = NodeStep old (Some call) (node_reply_of reply) new
 NodeGoes old writing_back reply new = NodeStep old None (node_reply_of reply) new
+NodeGoes old writing_some (Dirty left) new = WritesBack old node_reply.Done new
+NodeGoes old writing_some (Refused why) new = WritesBack old (node_reply.Refused why) new
+NodeGoes old writing_some reply new = ⊥
 NodeGoes old (sending_since bucket since after) (Portion message more) new =
     IsPortion old bucket since after message more × (new ≡ old)
 NodeGoes old (sending_since bucket since after) (Refused Memory) new = new ≡ old
@@ -201,12 +208,15 @@ AnsweredAs old call (Err why) new =
     NodeGoes (node_view old) (asked_of call) (Refused why) (node_view new)
 
 -- What a caller does not see of a shard that writes back: all its dirty pages were written, since
--- no more are dirty than there are frames; or those before the one whose write failed. After
--- `WriteBack` no page is dirty and no device is unflushed.
+-- no more are dirty than there are frames, or as many as were asked for; or those before the one
+-- whose write failed. After `WriteBack` no page is dirty and no device is unflushed.
 abbrev pub LeavesWritten : NodeState → ShardCall → ShardReply → NodeState → Type 0
 LeavesWritten old WritePages Done new = CleansFirst (length old.pool.frames) old.pool new.pool
 LeavesWritten old WritePages (Refused why) new =
     SomeFails (length old.pool.frames) old.pool new.pool
+LeavesWritten old (WriteSome limit) (Dirty left) new =
+    WritesBackSome limit old.pool left new.pool
+LeavesWritten old (WriteSome limit) (Refused why) new = SomeFails limit old.pool new.pool
 LeavesWritten old WriteBack Done new = IsSettled new.pool
 LeavesWritten old call reply new = Unit {0}
 

@@ -66,6 +66,8 @@ pub enum ShardCall {
     Answer(BucketSet),
     /// Write back all dirty pages of the shard. No device is flushed.
     WritePages,
+    /// Write back at most this many dirty pages of the shard. No device is flushed.
+    WriteSome(usize),
     /// Write back the dirty pages of the shard, and flush its unflushed devices.
     WriteBack,
     /// Show the bytes of a page of the shard, and load it where it isn't resident.
@@ -81,6 +83,8 @@ pub enum ShardReply {
     Done,
     /// The horizon afterwards.
     Kept(u64),
+    /// How many pages of the shard are dirty.
+    Dirty(usize),
     /// The slot of the pinned page.
     Pinned(Slot),
     /// The requested bytes.

@@ -1,6 +1,7 @@
 //! One shard as a machine that threads share by turns.
-ghost use Rattle.std.specs.Prelude.{◌≡◌, ◌↔◌, IfErr, IsTrue, OnErr, OnOk, length};
-ghost use Rattle.warm_pool.specs.WritingSome.{CleansFirst, SomeFails};
+ghost use Rattle.std.specs.Prelude.{◌≡◌, ◌↔◌, IfErr, IfOk, IsTrue, OnErr, OnOk};
+ghost use Rattle.std.specs.Prelude.{length};
+ghost use Rattle.warm_pool.specs.WritingSome.{CleansFirst, SomeFails, WritesBackSome};
 ghost use Rattle.std.specs.List.{All};
 ghost use Rattle.warm_gossip.specs.declared.call.Call.TheVariants.{Offer, Receive, Send};
 ghost use Rattle.warm_gossip.specs.declared.call.Reply.TheVariants.{Answers, Sent};
@@ -188,6 +189,18 @@ fn write_pages<D: PageDevice>(node: &mut Node<D>) -> Result<(), NodeFault>
     Ok(())
 }
 
+// Writes back some dirty pages of a node, and returns how many are left. No device is flushed.
+fn write_some<D: PageDevice>(node: &mut Node<D>, limit: usize) -> Result<usize, NodeFault>
+    ensures same { OnOk result (SameView node.old node.new) }
+    ensures written { IfOk result (λ left. WritesBackSome limit node.old.pool left
+        node.new.pool) }
+    ensures refused { IfErr result (λ why. NodeWriteBackFails node.old why node.new) }
+    ensures failed { OnErr result (SomeFails limit node.old.pool node.new.pool) }
+{
+    let left = node.write_back_some(limit)?;
+    Ok(left)
+}
+
 // Has the node answer the call, or returns why it is refused.
 fn answer<D: PageDevice>(
     alloc: Global,
@@ -224,6 +237,7 @@ fn answer<D: PageDevice>(
             write_pages(node)?;
             Ok(ShardReply::Done)
         }
+        ShardCall::WriteSome(limit) => Ok(ShardReply::Dirty(write_some(node, limit)?)),
         ShardCall::WriteBack => {
             node.write_back()?;
             Ok(ShardReply::Done)
@@ -298,8 +312,8 @@ impl<D: PageDevice> Shard<D> {
     }
 
     /// Answers a call: `ShardStep`. A call that brings a page, or a bucket, of another shard is
-    /// answered `Foreign`, and nothing has changed. What `WritePages` and `WriteBack` leave of
-    /// dirty pages and unflushed devices, no caller of the shard sees: `LeavesWritten`.
+    /// answered `Foreign`, and nothing has changed. What `WritePages`, `WriteSome` and `WriteBack`
+    /// leave of dirty pages and unflushed devices, no caller of the shard sees: `LeavesWritten`.
     pub fn call(&mut self, call: ShardCall) -> ShardReply
         ensures step { ShardStep (shard_view self.old) call result (shard_view self.new) }
         ensures written { LeavesWritten self.old.node call result self.new.node }
