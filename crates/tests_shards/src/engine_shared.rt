@@ -1,13 +1,16 @@
 //! What an engine asks of shared shards, each in one turn of a shard: the hottest pages, what is new
-//! since a time, and pages written back in portions.
+//! since a time, pages written back in portions, and pages of zeros.
 ghost use Rattle.warm_shared.specs.Attached.{AreOf};
 
 use crate::kit::{batch, bytes_of, closed, dirty, shared_of};
+use crate::looking::seen_in;
 use crate::shared::is_written;
 use std::sync::Wait;
 use test_kit::{SeenAt, bucket, page};
 use warm_devices::MemDevice;
 use warm_frames::Message;
+use warm_gossip::NodeFault;
+use warm_pool::PoolFault;
 use warm_shared::{Attached, SharedFault, SharedShards};
 use warm_stamps::PageList;
 
@@ -105,4 +108,21 @@ fn dirty_pages_of_a_shard_are_written_in_portions(rt: HostRuntime) {
     assert!(rt; some_written(&rt, &shared, &mut first, 1, 0) == Ok(3));
     assert!(rt; some_written(&rt, &shared, &mut first, 1, 2) == Ok(1));
     assert!(rt; dirty(&closed(&rt, alloc, shared, first)) == 2);
+}
+
+#[test]
+fn a_page_of_a_shard_gets_zeros(rt: HostRuntime) {
+    let alloc = rt.alloc();
+    let (shared, mut first) = shared_of(&rt, alloc, 1, 2);
+    assert!(rt; is_written(&rt, alloc, &shared, &mut first, 1));
+    assert!(rt; shared.write_back(&rt, &mut first).is_ok());
+    assert!(rt; seen_in(&rt, &shared, &mut first, 1) == Ok(7));
+    let at = shared.pin_zeroed(&rt, &mut first, page(1));
+    let at = at.ok().expect(&rt, "page 1 is pinned");
+    assert!(rt; at.shard == 1 && first.pins() == 1);
+    assert!(rt; seen_in(&rt, &shared, &mut first, 1) == Ok(0));
+    assert!(rt; shared.unpin(&rt, &mut first, at).is_ok());
+    let absent = Err(SharedFault::Node(NodeFault::Pool(PoolFault::NoPage)));
+    assert!(rt; shared.pin_zeroed(&rt, &mut first, page(256)) == absent);
+    assert!(rt; dirty(&closed(&rt, alloc, shared, first)) == 1);
 }

@@ -1,28 +1,48 @@
 -- What a shard holds: its own pages alone, after any call.
-use Rattle.std.proofs.Common.{◌≡◌, ℕ, zero, suc, ◌<◌, List, [], ◌∷◌, length, Option, Some, None, Ok, refl, sym, subst, arith}
+use Rattle.std.proofs.Common.{◌≡◌, inl, inr, ℕ, zero, suc, ◌<◌, List, [], ◌∷◌, length, Option, Some, None, Ok, refl, sym, ap, subst, arith}
+use Rattle.std.specs.List.{AllByRecursion}
+use Rattle.warm_stamps.specs.declared.PageId.{PageId}
+use Rattle.warm_history.specs.Histories.{HistoryView, entries_of}
 use Rattle.warm_pool.specs.declared.fault.PoolFault.TheVariants.{Fault}
+use Rattle.warm_pool.specs.declared.slot.Slot.{Slot}
+use Rattle.warm_pool.specs.View.{FrameView, PoolView, frame_at}
+use Rattle.warm_pool.specs.Zeroing.{PinnedZeroed, PutsZeros}
+use Rattle.warm_pool.proofs.Slots.{at_set}
 use Rattle.warm_turn.specs.declared.table.Entry.{Entry}
 use Rattle.warm_turn.specs.CallHistories.{Runs}
 use Rattle.warm_gossip.specs.declared.call.Call.{Call}
 use Rattle.warm_gossip.specs.declared.call.Reply.{Reply}
 use Rattle.warm_gossip.specs.declared.call.Call.TheVariants as node_call
 use Rattle.warm_gossip.specs.declared.call.Reply.TheVariants as node_reply
-use Rattle.warm_gossip.specs.declared.fault.NodeFault.TheVariants.{Memory, Pool}
+use Rattle.warm_gossip.specs.declared.fault.NodeFault.TheVariants.{Memory, Pool, StaleSlot}
 use Rattle.warm_gossip.specs.State.{NodeState, NodeView, node_view}
+use Rattle.warm_gossip.proofs.VictimLemmas.{fixes_change}
 use Rattle.warm_shards.specs.Laws.{BringsOwn}
-use Rattle.warm_shards.specs.Shards.{AreShards, HoldsPagesOf, shard_at}
+use Rattle.warm_shards.specs.Shards.{AreShards, HasPagesOf, HoldsPagesOf, shard_at, shard_of}
+use Rattle.warm_shards.proofs.Calls.{HasOnly, only_kept}
+use Rattle.warm_shards.proofs.EngineCalls.{same_own}
 use Rattle.warm_shards.proofs.Staying.{failures_stay, steps_stay}
 use Rattle.warm_shared.specs.declared.call.ShardCall.{ShardCall}
-use Rattle.warm_shared.specs.declared.call.ShardCall.TheVariants.{Absorb, Change, Look, Pin}
+use Rattle.warm_shared.specs.declared.call.ShardCall.TheVariants.{Absorb, Change, Look, Pin, PinZeroed}
 use Rattle.warm_shared.specs.declared.call.ShardReply.{ShardReply}
 use Rattle.warm_shared.specs.declared.call.ShardReply.TheVariants.{Changed, Dirty, Foreign, Looked, Portion, Refused}
 use Rattle.warm_shared.specs.Attached.{Known, ShardTurn}
 use Rattle.warm_shared.specs.Laws.{ShardsHoldTheirPages}
 use Rattle.warm_shared.specs.Opening.{ClosesShard, shards_from, shards_over, view_at}
-use Rattle.warm_shared.specs.ShardSteps.{Asked, of_node, writing_back, writing_some, sending_since, looking, changing, IsOwn, NodeGoes, NodeStep, ShardStep, ShardView, WritesBack, asked_of, node_reply_of, shard_view}
+use Rattle.warm_shared.specs.ShardSteps.{Asked, doing, writing_some, sending_since, looking, changing, IsOwn, NodeGoes, NodeStep, ShardStep, ShardView, Work, calling, writing, zeroing, WritesBack, Zeroes, asked_of, node_reply_of, shard_view}
 use Rattle.warm_shared.proofs.Steps.{runs_keep}
 
 -- ---- a node after one step
+
+abbrev no_frame : FrameView
+no_frame = record { page = None; generation = 0; fixes = 0 }
+
+-- a page was put into a frame, with zeros
+put_zeros : (P : PageId → Type 0) (h : HistoryView) (v w : PoolView) (p : PageId) (slot : Slot)
+    → PutsZeros h v p slot w → P p → HasOnly P v → HasOnly P w
+put_zeros P h v w p slot puts is own k q at =
+    subst (λ (x : PoolView). (frame_at x k).page ≡ Some q → P q) (sym puts.becomes)
+    (at_set no_frame (λ j f. f.page ≡ Some q → P q) v.frames slot.index _ (elim puts.to_load [ inl free ↦ free.there | inr victim ↦ victim.there ]) (λ here. let e : p ≡ q = cc in subst P e is) (λ j other there. own j q there) k) at
 
 module _ (count i : ℕ) where
   -- a write-back leaves each page in its frame
@@ -32,20 +52,47 @@ module _ (count i : ℕ) where
   written_own o y (node_reply.Refused (Pool Fault)) own step = failures_stay count i o y step own
   written_own o y r own step = absurd step
 
-  abbrev BringsAny : Option Call → Type 0
-  BringsAny None = Unit {0}
-  BringsAny (Some c) = BringsOwn count i c
+  -- the pool alone has changed, and has pages of this shard alone
+  pool_own : (o y : NodeView) → HoldsPagesOf count i o → y ≡ record o { pool = y.pool }
+      → HasPagesOf count i y.pool → HoldsPagesOf count i y
+  pool_own o y own alone pages = record {
+    known = subst (λ (h : HistoryView). AllByRecursion (λ e. shard_of count e.page ≡ i) (entries_of h)) (sym (ap (λ (v : NodeView). v.history) alone)) own.known;
+    resident = pages;
+  }
 
-  node_step_own : (o y : NodeView) (c : Option Call) (r : Option Reply) → BringsAny c
-      → HoldsPagesOf count i o → NodeStep o c r y → HoldsPagesOf count i y
-  node_step_own o y c None brings own step = absurd step
-  node_step_own o y (Some c) (Some r) brings own step = steps_stay count i o y c r brings own step
-  node_step_own o y None (Some r) brings own step = written_own o y r own step
+  -- a page of this shard was pinned, and has zeros
+  zeros_own : (h : HistoryView) (v w : PoolView) (p : PageId) (slot : Slot) → shard_of count p ≡ i
+      → HasPagesOf count i v → PinnedZeroed h v p slot w → HasPagesOf count i w
+  zeros_own h v w p slot is own pinned = elim pinned.1 [
+    | inl fixes ↦
+        let between : HasOnly (λ q. shard_of count q ≡ i) fixes.between = only_kept (λ q. shard_of count q ≡ i) v fixes.between (fixes_change v fixes.between slot.index _ fixes.adds.there (ap (λ (x : PoolView). x.frames) fixes.adds.becomes)) own in
+        same_own (λ q. shard_of count q ≡ i) fixes.between w (ap (λ (x : PoolView). x.frames) fixes.written.becomes) between
+    | inr puts ↦ put_zeros (λ q. shard_of count q ≡ i) h v w p slot puts is own
+  ]
+
+  zeroes_own : (o y : NodeView) (p : PageId) (r : Reply) → shard_of count p ≡ i
+      → HoldsPagesOf count i o → Zeroes o p r y → HoldsPagesOf count i y
+  zeroes_own o y p (node_reply.Pinned slot) is own step = pool_own o y own step.0 (zeros_own o.history o.pool y.pool p slot is own.resident step.1)
+  zeroes_own o y p (node_reply.Refused (Pool why)) is own step = steps_stay count i o y (node_call.Pin p) (node_reply.Refused (Pool why)) is own (step.0, step.1.0)
+  zeroes_own o y p (node_reply.Refused Memory) is own step = absurd step.1
+  zeroes_own o y p (node_reply.Refused StaleSlot) is own step = absurd step.1
+  zeroes_own o y p r is own step = absurd step
+
+  abbrev BringsAny : Work → Type 0
+  BringsAny (calling c) = BringsOwn count i c
+  BringsAny writing = Unit {0}
+  BringsAny (zeroing p) = shard_of count p ≡ i
+
+  node_step_own : (o y : NodeView) (w : Work) (r : Option Reply) → BringsAny w
+      → HoldsPagesOf count i o → NodeStep o w r y → HoldsPagesOf count i y
+  node_step_own o y w None brings own step = absurd step
+  node_step_own o y (calling c) (Some r) brings own step = steps_stay count i o y c r brings own step
+  node_step_own o y writing (Some r) brings own step = written_own o y r own step
+  node_step_own o y (zeroing p) (Some r) brings own step = zeroes_own o y p r brings own step
 
   -- so does all that a shard asks of its node for a call of own pages
   abbrev BringsAsked : Asked → Type 0
-  BringsAsked (of_node c) = BringsOwn count i c
-  BringsAsked writing_back = Unit {0}
+  BringsAsked (doing w) = BringsAny w
   BringsAsked writing_some = Unit {0}
   BringsAsked (sending_since bucket since after) = Unit {0}
   BringsAsked (looking p) = BringsOwn count i (node_call.Pin p)
@@ -54,14 +101,14 @@ module _ (count i : ℕ) where
   own_brings : (c : ShardCall) → IsOwn count i c → BringsAsked (asked_of c)
   own_brings (Absorb batch) own = own
   own_brings (Pin p) own = own
+  own_brings (PinZeroed p) own = own
   own_brings (Look p) own = own
   own_brings (Change p) own = own
   own_brings c own = tt
 
   goes_own : (o y : NodeView) (a : Asked) (r : ShardReply) → BringsAsked a
       → HoldsPagesOf count i o → NodeGoes o a r y → HoldsPagesOf count i y
-  goes_own o y (of_node c) r brings own step = node_step_own o y (Some c) (node_reply_of r) brings own step
-  goes_own o y writing_back r brings own step = node_step_own o y None (node_reply_of r) tt own step
+  goes_own o y (doing w) r brings own step = node_step_own o y w (node_reply_of r) brings own step
   goes_own o y writing_some (Dirty left) brings own step = written_own o y node_reply.Done own step
   goes_own o y writing_some (Refused why) brings own step = written_own o y (node_reply.Refused why) own step
   goes_own o y writing_some r brings own step = absurd step

@@ -25,22 +25,21 @@ use Rattle.warm_shared.specs.declared.call.ShardReply.TheVariants.{Answers, Chan
 use Rattle.warm_shared.specs.Answering.{AnswersPart, Offers, offer_at, offer_reply}
 use Rattle.warm_shared.specs.Attached.{Known, ShardPass, known_of, no_pass, shard_pass}
 use Rattle.warm_shared.specs.Clauses.{Answered, Got}
-use Rattle.warm_shared.specs.Laws.{CallsAreANodes, OnlySeesMore, SeesMore, ShardIsOfGiven, StepOrWriteBack, TogetherAreOfGiven, all_of, asked_steps, call_entries, calls_in, held_by, node_steps, step_entries}
-use Rattle.warm_shared.specs.ShardSteps.{Asked, of_node, writing_back, writing_some, sending_since, looking, changing, NodeGoes, NodeStep, ShardStep, ShardView, asked_of, node_reply_of}
+use Rattle.warm_shared.specs.Laws.{CallsAreANodes, OnlySeesMore, SeesMore, ShardIsOfGiven, TogetherAreOfGiven, Works, all_of, asked_steps, call_entries, calls_in, held_by, node_steps, step_entries}
+use Rattle.warm_shared.specs.ShardSteps.{Asked, doing, writing_some, sending_since, looking, changing, NodeGoes, NodeStep, ShardStep, ShardView, Work, calling, writing, zeroing, asked_of, node_reply_of}
 use Rattle.warm_shared.specs.Whole.{AbsorbsPart, Does, First, Raises, part_of}
 use Rattle.warm_shared.proofs.Places.{at_each}
 
 -- ---- the steps of a shard are a node's
 
-of_reply : (x y : NodeView) (by : ℕ) (c : Option Call) (k : Option Reply) → NodeStep x c k y
-    → Runs StepOrWriteBack x (step_entries by c k) y
-of_reply x y by c None step = absurd step
-of_reply x y by c (Some r) step = (y, step, refl)
+of_reply : (x y : NodeView) (by : ℕ) (w : Work) (k : Option Reply) → NodeStep x w k y
+    → Runs Works x (step_entries by w k) y
+of_reply x y by w None step = absurd step
+of_reply x y by w (Some r) step = (y, step, refl)
 
 asked_run : (x y : NodeView) (by : ℕ) (a : Asked) (r : ShardReply) → NodeGoes x a r y
-    → Runs StepOrWriteBack x (asked_steps by a r) y
-asked_run x y by (of_node c) r step = of_reply x y by (Some c) (node_reply_of r) step
-asked_run x y by writing_back r step = of_reply x y by None (node_reply_of r) step
+    → Runs Works x (asked_steps by a r) y
+asked_run x y by (doing w) r step = of_reply x y by w (node_reply_of r) step
 asked_run x y by writing_some (Dirty left) step = (y, step, refl)
 asked_run x y by writing_some (Refused why) step = (y, step, refl)
 asked_run x y by writing_some r step = absurd step
@@ -55,17 +54,16 @@ asked_run x y by (changing p) (Refused why) step = (y, step, refl)
 asked_run x y by (changing p) r step = absurd step
 
 foreign_none : (by : ℕ) (a : Asked) → asked_steps by a Foreign ≡ []
-foreign_none by (of_node c) = refl
-foreign_none by writing_back = refl
+foreign_none by (doing w) = refl
 foreign_none by writing_some = refl
 foreign_none by (sending_since bucket since after) = refl
 foreign_none by (looking p) = refl
 foreign_none by (changing p) = refl
 
 shard_run : (o y : ShardView) (by : ℕ) (c : ShardCall) (r : ShardReply) → ShardStep o c r y
-    → Runs StepOrWriteBack o.node (asked_steps by (asked_of c) r) y.node
+    → Runs Works o.node (asked_steps by (asked_of c) r) y.node
 shard_run o y by c Foreign step =
-    subst (λ (es : List (Entry (Option Call) Reply)). Runs StepOrWriteBack o.node es y.node) (sym (foreign_none by (asked_of c))) (ap (λ (s : ShardView). s.node) (sym step.1))
+    subst (λ (es : List (Entry Work Reply)). Runs Works o.node es y.node) (sym (foreign_none by (asked_of c))) (ap (λ (s : ShardView). s.node) (sym step.1))
 shard_run o y by c r step = asked_run o.node y.node by (asked_of c) r step.2
 
 -- one run after another
@@ -77,7 +75,7 @@ runs_on goes x y z (e ∷ xs) ys one rest = (one.0, one.1, runs_on goes one.0 y 
 pub calls_are_a_nodes : CallsAreANodes
 calls_are_a_nodes o z [] runs = ap (λ (s : ShardView). s.node) runs
 calls_are_a_nodes o z (e ∷ es) runs =
-    runs_on StepOrWriteBack o.node runs.0.node z.node (asked_steps e.by (asked_of e.call) e.reply) (node_steps es)
+    runs_on Works o.node runs.0.node z.node (asked_steps e.by (asked_of e.call) e.reply) (node_steps es)
     (shard_run o runs.0 e.by e.call e.reply runs.1) (calls_are_a_nodes runs.0 z es runs.2)
 
 -- ---- what a shard was given
@@ -87,18 +85,21 @@ given_after : (S : ReferenceSet) (xs ys : List (Entry Call Reply))
 given_after S [] ys = refl
 given_after S (e ∷ xs) ys = given_after (given_by_call S e.call e.reply) xs ys
 
--- after one call, or one write-back, a node has the history of what it was given
-one_given : (S : ReferenceSet) (o y : NodeView) (by : ℕ) (c : Option Call) (r : Reply)
-    → o.history ≡ history S → NodeStep o c (Some r) y
-    → y.history ≡ history (given_by_calls S (call_entries by c r))
-one_given S o y by (Some c) r stands step = told_is_history S o y (entry by c r ∷ []) stands (y, step, refl)
-one_given S o y by None node_reply.Done stands step = ap (λ (n : NodeView). n.history) step ∙ stands
-one_given S o y by None (node_reply.Refused (node_fault.Pool pool_fault.Fault)) stands step = ap (λ (n : NodeView). n.history) step.0 ∙ stands
-one_given S o y by None r stands step = absurd step
+-- after one step a node has the history of what it was given
+one_given : (S : ReferenceSet) (o y : NodeView) (by : ℕ) (w : Work) (r : Reply)
+    → o.history ≡ history S → NodeStep o w (Some r) y
+    → y.history ≡ history (given_by_calls S (call_entries by w r))
+one_given S o y by (calling c) r stands step = told_is_history S o y (entry by c r ∷ []) stands (y, step, refl)
+one_given S o y by writing node_reply.Done stands step = ap (λ (n : NodeView). n.history) step ∙ stands
+one_given S o y by writing (node_reply.Refused (node_fault.Pool pool_fault.Fault)) stands step = ap (λ (n : NodeView). n.history) step.0 ∙ stands
+one_given S o y by writing r stands step = absurd step
+one_given S o y by (zeroing p) (node_reply.Pinned slot) stands step = ap (λ (n : NodeView). n.history) step.0 ∙ stands
+one_given S o y by (zeroing p) (node_reply.Refused why) stands step = ap (λ (n : NodeView). n.history) step.0 ∙ stands
+one_given S o y by (zeroing p) r stands step = absurd step
 
 -- and so after many
-steps_given : (S : ReferenceSet) (o z : NodeView) (es : List (Entry (Option Call) Reply))
-    → o.history ≡ history S → Runs StepOrWriteBack o es z
+steps_given : (S : ReferenceSet) (o z : NodeView) (es : List (Entry Work Reply))
+    → o.history ≡ history S → Runs Works o es z
     → z.history ≡ history (given_by_calls S (calls_in es))
 steps_given S o z [] stands runs = ap (λ (n : NodeView). n.history) (sym runs) ∙ stands
 steps_given S o z (e ∷ es) stands runs =

@@ -23,55 +23,54 @@ use Rattle.warm_shared.specs.Attached.{Known, ShardPass, ShardTurn, known_of}
 use Rattle.warm_shared.specs.Clauses.{Answered}
 use Rattle.warm_shared.specs.Opening.{AreJoined, ClosesShard, shards_over, view_at}
 use Rattle.warm_shared.specs.declared.call.ShardReply.TheVariants.{Changed, Dirty, Looked}
-use Rattle.warm_shared.specs.ShardSteps.{Asked, of_node, writing_back, writing_some, looking}
-use Rattle.warm_shared.specs.ShardSteps.{changing, NodeStep}
+use Rattle.warm_shared.specs.ShardSteps.{Asked, doing, writing_some, looking, changing}
+use Rattle.warm_shared.specs.ShardSteps.{NodeStep, Work, calling, writing}
 use Rattle.warm_shared.specs.ShardSteps.{ShardStep, ShardView, asked_of, node_reply_of}
 use Rattle.warm_shared.specs.Whole.{AbsorbsFirst, DoneFirst, RaisesFirst}
 
 -- One shard
 
--- a call with its reply, where the reply is one of a node; without a call, a write-back
-abbrev pub step_entries : ℕ → Option Call → Option Reply → List (Entry (Option Call) Reply)
-step_entries by call None = []
-step_entries by call (Some reply) = entry by call reply ∷ []
+-- what the node did with its reply, where the reply is one of a node
+abbrev pub step_entries : ℕ → Work → Option Reply → List (Entry Work Reply)
+step_entries by work None = []
+step_entries by work (Some reply) = entry by work reply ∷ []
 
--- The calls of the node and the write-backs that an entry of a shard stands for: of a look a pin
--- and an unpin, of a change a write between them, and of either a pin where it was refused. What is
--- sent of a bucket since a time is no call of the node, and changes nothing.
-abbrev pub asked_steps : ℕ → Asked → ShardReply → List (Entry (Option Call) Reply)
-asked_steps by (of_node call) reply = step_entries by (Some call) (node_reply_of reply)
-asked_steps by writing_back reply = step_entries by None (node_reply_of reply)
-asked_steps by writing_some (Dirty left) = entry by None node_reply.Done ∷ []
-asked_steps by writing_some (Refused why) = entry by None (node_reply.Refused why) ∷ []
+-- What the node did for an entry of a shard, step by step: for a look a pin and an unpin, for a
+-- change a write between them, and for either a pin where it was refused. What is sent of a bucket
+-- since a time is no step of the node, and changes nothing.
+abbrev pub asked_steps : ℕ → Asked → ShardReply → List (Entry Work Reply)
+asked_steps by (doing work) reply = step_entries by work (node_reply_of reply)
+asked_steps by writing_some (Dirty left) = entry by writing node_reply.Done ∷ []
+asked_steps by writing_some (Refused why) = entry by writing (node_reply.Refused why) ∷ []
 asked_steps by (looking page) (Looked slot bytes) =
-    entry by (Some (node_call.Pin page)) (node_reply.Pinned slot)
-    ∷ entry by (Some (node_call.Unpin slot)) node_reply.Done ∷ []
+    entry by (calling (node_call.Pin page)) (node_reply.Pinned slot)
+    ∷ entry by (calling (node_call.Unpin slot)) node_reply.Done ∷ []
 asked_steps by (changing page) (Changed slot before after) =
-    entry by (Some (node_call.Pin page)) (node_reply.Pinned slot)
-    ∷ entry by (Some (node_call.Write slot 0 after.numbers)) node_reply.Done
-    ∷ entry by (Some (node_call.Unpin slot)) node_reply.Done ∷ []
+    entry by (calling (node_call.Pin page)) (node_reply.Pinned slot)
+    ∷ entry by (calling (node_call.Write slot 0 after.numbers)) node_reply.Done
+    ∷ entry by (calling (node_call.Unpin slot)) node_reply.Done ∷ []
 asked_steps by (looking page) (Refused why) =
-    entry by (Some (node_call.Pin page)) (node_reply.Refused why) ∷ []
+    entry by (calling (node_call.Pin page)) (node_reply.Refused why) ∷ []
 asked_steps by (changing page) (Refused why) =
-    entry by (Some (node_call.Pin page)) (node_reply.Refused why) ∷ []
+    entry by (calling (node_call.Pin page)) (node_reply.Refused why) ∷ []
 asked_steps by asked reply = []
 
--- the calls of the node and the write-backs, in their order: all but those for calls that brought
--- pages of another shard
-abbrev pub node_steps : List (Entry ShardCall ShardReply) → List (Entry (Option Call) Reply)
+-- what the node did for these entries, in their order: nothing for calls that brought pages of
+-- another shard
+abbrev pub node_steps : List (Entry ShardCall ShardReply) → List (Entry Work Reply)
 node_steps [] = []
 node_steps (e ∷ es) = asked_steps e.by (asked_of e.call) e.reply ++ node_steps es
 
--- a step of the node, or a write-back
-abbrev pub StepOrWriteBack : NodeView → Option Call → Reply → NodeView → Type 0
-StepOrWriteBack old call reply new = NodeStep old call (Some reply) new
+-- a step of the node: a call, or one beside its calls
+abbrev pub Works : NodeView → Work → Reply → NodeView → Type 0
+Works old work reply new = NodeStep old work (Some reply) new
 
 -- the calls of the node among these
-abbrev pub call_entries : ℕ → Option Call → Reply → List (Entry Call Reply)
-call_entries by None reply = []
-call_entries by (Some call) reply = entry by call reply ∷ []
+abbrev pub call_entries : ℕ → Work → Reply → List (Entry Call Reply)
+call_entries by (calling call) reply = entry by call reply ∷ []
+call_entries by work reply = []
 
-abbrev pub calls_in : List (Entry (Option Call) Reply) → List (Entry Call Reply)
+abbrev pub calls_in : List (Entry Work Reply) → List (Entry Call Reply)
 calls_in [] = []
 calls_in (e ∷ es) = call_entries e.by e.call e.reply ++ calls_in es
 
@@ -79,10 +78,10 @@ calls_in (e ∷ es) = call_entries e.by e.call e.reply ++ calls_in es
 abbrev pub node_calls : List (Entry ShardCall ShardReply) → List (Entry Call Reply)
 node_calls calls = calls_in (node_steps calls)
 
--- a legal list of calls of a shard is one of its node, with the write-backs between
+-- a legal list of calls of a shard is one of its node, with the steps beside its calls between
 abbrev pub CallsAreANodes : Type 0
 CallsAreANodes = (opening last : ShardView) (calls : List (Entry ShardCall ShardReply))
-    → Runs ShardStep opening calls last → Runs StepOrWriteBack opening.node (node_steps calls) last.node
+    → Runs ShardStep opening calls last → Runs Works opening.node (node_steps calls) last.node
 
 -- the references that a shard was given by these calls, from these on
 abbrev pub given_to_shard : ReferenceSet → List (Entry ShardCall ShardReply) → ReferenceSet

@@ -14,7 +14,9 @@ use Rattle.warm_gossip.specs.declared.fault.NodeFault.{NodeFault}
 use Rattle.warm_gossip.specs.declared.fault.NodeFault.TheVariants.{Memory, Pool}
 use Rattle.warm_pool.specs.declared.fault.PoolFault.TheVariants.{Fault}
 use Rattle.warm_pool.specs.State.{IsSettled}
+use Rattle.warm_pool.specs.Zeroing.{PinnedZeroed, TakesZeroed, ZeroedRefused}
 use Rattle.warm_pool.specs.WritingSome.{CleansFirst, SomeFails, WritesBackSome}
+use Rattle.warm_gossip.specs.Clauses.{OfPool}
 use Rattle.warm_gossip.specs.Since.{HasMoreSince, sent_since}
 use Rattle.warm_gossip.specs.State.{NodeState, NodeView, node_view, empty_node}
 use Rattle.warm_gossip.specs.Step.{IsFailed, OnPool, Refuses, Step}
@@ -27,7 +29,7 @@ use Rattle.warm_shared.specs.declared.call.ShardCall.TheVariants.{Absorb, Raise,
 use Rattle.warm_shared.specs.declared.call.ShardCall.TheVariants.{Write, Victim, WarmStep, WarmList}
 use Rattle.warm_shared.specs.declared.call.ShardCall.TheVariants.{Answer, Offer, Send, SendSince}
 use Rattle.warm_shared.specs.declared.call.ShardCall.TheVariants.{WritePages, WriteSome, WriteBack}
-use Rattle.warm_shared.specs.declared.call.ShardCall.TheVariants.{Look, Change}
+use Rattle.warm_shared.specs.declared.call.ShardCall.TheVariants.{Look, Change, PinZeroed}
 use Rattle.warm_shared.specs.declared.call.ShardReply.{ShardReply}
 use Rattle.warm_shared.specs.declared.call.ShardReply.TheVariants.{Done, Kept, Pinned, Bytes, Page}
 use Rattle.warm_shared.specs.declared.call.ShardReply.TheVariants.{Loaded, Sent, Answers, Foreign}
@@ -64,21 +66,31 @@ no_shard_view = record { count = 0; number = 0; node = empty_node }
 abbrev pub request_for : ℕ → Message
 request_for request = Want 1 0 request
 
--- what a shard asks of its node: a call; to write back all pages, or some; what is new in a bucket
--- since a time, after a page; or several calls in one turn, of a page that is looked at, or changed
+-- what a node does in one step: a call, a write-back, or a pin of a page that gets zeros
+pub data Work : Type 0 where
+  calling : Call → Work
+  writing : Work
+  zeroing : PageId → Work
+
+-- what a shard asks of its node: one step; to write back some pages; what is new in a bucket since a
+-- time, after a page; or several calls in one turn, of a page that is looked at, or changed
 pub data Asked : Type 0 where
-  of_node : Call → Asked
-  writing_back : Asked
+  doing : Work → Asked
   writing_some : Asked
   sending_since : ℕ → ℕ → Option PageId → Asked
   looking : PageId → Asked
   changing : PageId → Asked
+
+-- a call of the node is asked for
+abbrev pub of_node : Call → Asked
+of_node call = doing (calling call)
 
 -- what this call asks of the node
 abbrev pub asked_of : ShardCall → Asked
 asked_of (Absorb batch) = of_node (node_call.Absorb batch)
 asked_of (Raise time) = of_node (node_call.Horizon time)
 asked_of (Pin page) = of_node (node_call.Pin page)
+asked_of (PinZeroed page) = doing (zeroing page)
 asked_of (Unpin slot) = of_node (node_call.Unpin slot)
 asked_of (Read slot at len) = of_node (node_call.Read slot at len)
 asked_of (Write slot at bytes) = of_node (node_call.Write slot at bytes)
@@ -89,9 +101,9 @@ asked_of Offer = of_node node_call.Offer
 asked_of (Send bucket after) = of_node (node_call.Send bucket after)
 asked_of (SendSince bucket since after) = sending_since bucket since after
 asked_of (Answer request) = of_node (node_call.Receive (request_for request))
-asked_of WritePages = writing_back
+asked_of WritePages = doing writing
 asked_of (WriteSome limit) = writing_some
-asked_of WriteBack = writing_back
+asked_of WriteBack = doing writing
 asked_of (Look page) = looking page
 asked_of (Change page) = changing page
 
@@ -126,6 +138,7 @@ AreOwnBuckets count number buckets = (bucket : ℕ) → bucket < BUCKETS → bit
 abbrev pub IsOwn : ℕ → ℕ → ShardCall → Type 0
 IsOwn count number (Absorb batch) = All (λ r. shard_of count r.page ≡ number) batch
 IsOwn count number (Pin page) = shard_of count page ≡ number
+IsOwn count number (PinZeroed page) = shard_of count page ≡ number
 IsOwn count number (Answer request) = AreOwnBuckets count number request
 IsOwn count number (Look page) = shard_of count page ≡ number
 IsOwn count number (Change page) = shard_of count page ≡ number
@@ -140,11 +153,20 @@ WritesBack old node_reply.Done new = new ≡ old
 WritesBack old (node_reply.Refused (Pool Fault)) new = OnPool IsFailed old new
 WritesBack old reply new = ⊥
 
--- the step of a node with this reply, if it is one of a node; without a call, it writes back
-abbrev pub NodeStep : NodeView → Option Call → Option Reply → NodeView → Type 0
-NodeStep old call None new = ⊥
-NodeStep old (Some call) (Some reply) new = Step old call reply new
-NodeStep old None (Some reply) new = WritesBack old reply new
+-- a pin of a page that gets zeros; it is refused as a pin is, but for a read that failed
+abbrev pub Zeroes : NodeView → PageId → Reply → NodeView → Type 0
+Zeroes old page (node_reply.Pinned slot) new =
+    OnPool (λ v w. PinnedZeroed old.history v page slot w) old new
+Zeroes old page (node_reply.Refused why) new =
+    OnPool (λ v w. OfPool (λ fault. ZeroedRefused old.history v page fault w) why) old new
+Zeroes old page reply new = ⊥
+
+-- the step of a node with this reply, if it is one of a node
+abbrev pub NodeStep : NodeView → Work → Option Reply → NodeView → Type 0
+NodeStep old work None new = ⊥
+NodeStep old (calling call) (Some reply) new = Step old call reply new
+NodeStep old writing (Some reply) new = WritesBack old reply new
+NodeStep old (zeroing page) (Some reply) new = Zeroes old page reply new
 
 -- the message of what is new in a bucket since a time, and whether more follows
 abbrev pub IsPortion : NodeView → ℕ → ℕ → Option PageId → Message → Bool → Type 0
@@ -174,8 +196,7 @@ pub record Changes (old : NodeView) (page : PageId) (slot : Slot) (before after 
 
 -- The step of a node that was asked so. A look and a change are refused as a pin of the page is.
 abbrev pub NodeGoes : NodeView → Asked → ShardReply → NodeView → Type 0
-NodeGoes old (of_node call) reply new = NodeStep old (Some call) (node_reply_of reply) new
-NodeGoes old writing_back reply new = NodeStep old None (node_reply_of reply) new
+NodeGoes old (doing work) reply new = NodeStep old work (node_reply_of reply) new
 NodeGoes old writing_some (Dirty left) new = WritesBack old node_reply.Done new
 NodeGoes old writing_some (Refused why) new = WritesBack old (node_reply.Refused why) new
 NodeGoes old writing_some reply new = ⊥
@@ -209,7 +230,8 @@ AnsweredAs old call (Err why) new =
 
 -- What a caller does not see of a shard that writes back: all its dirty pages were written, since
 -- no more are dirty than there are frames, or as many as were asked for; or those before the one
--- whose write failed. After `WriteBack` no page is dirty and no device is unflushed.
+-- whose write failed. After `WriteBack` no page is dirty and no device is unflushed. A page that
+-- gets zeros is dirty.
 abbrev pub LeavesWritten : NodeState → ShardCall → ShardReply → NodeState → Type 0
 LeavesWritten old WritePages Done new = CleansFirst (length old.pool.frames) old.pool new.pool
 LeavesWritten old WritePages (Refused why) new =
@@ -218,6 +240,7 @@ LeavesWritten old (WriteSome limit) (Dirty left) new =
     WritesBackSome limit old.pool left new.pool
 LeavesWritten old (WriteSome limit) (Refused why) new = SomeFails limit old.pool new.pool
 LeavesWritten old WriteBack Done new = IsSettled new.pool
+LeavesWritten old (PinZeroed page) (Pinned slot) new = TakesZeroed old.pool page slot new.pool
 LeavesWritten old call reply new = Unit {0}
 
 -- the same of a node that was asked to answer the call

@@ -7,8 +7,8 @@ use warm_gossip::NodeFault;
 use warm_pool::Slot;
 use warm_stamps::{Bucket, BucketSet, ByteList, PageId, PageList, RefList};
 
-/// A call of a shard: a call of its node, one that writes back, one that sends what is new since a
-/// time, or one that pins a page, uses its bytes where they lie, and unpins it.
+/// A call of a shard: a call of its node, what an engine asks of a node beside the calls, or one
+/// that pins a page, uses its bytes where they lie, and unpins it.
 #[derive(Drop)]
 pub enum ShardCall {
     /// Add these references to the history. All must be to pages of the shard.
@@ -17,6 +17,8 @@ pub enum ShardCall {
     Raise(u64),
     /// Pin a page of the shard, and load it where it isn't resident.
     Pin(PageId),
+    /// Pin a page of the shard, and fill it with zeros. It isn't read.
+    PinZeroed(PageId),
     /// Remove a pin from the slot's page.
     Unpin(Slot),
     /// Give bytes of the slot's page.

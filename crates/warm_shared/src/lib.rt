@@ -4,6 +4,7 @@
 mod answering;
 mod attaching;
 mod call;
+mod engine_calls;
 mod fault;
 mod gossip;
 mod history_calls;

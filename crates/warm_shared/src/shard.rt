@@ -9,8 +9,8 @@ ghost use Rattle.warm_gossip.specs.Clauses.{Answered, NodeWriteBackFails, SameVi
 ghost use Rattle.warm_shards.specs.Shards.{IsShardCount, shard_of};
 ghost use Rattle.warm_shared.specs.ShardSteps.{AnsweredAs, AreOwnBuckets, IsOwn, LeavesWritten};
 ghost use Rattle.warm_shared.specs.ShardSteps.{ShardStep, WrittenAs, request_for, shard_view};
-ghost use Rattle.warm_shared.specs.declared.call.ShardCall.TheVariants.{Change, Look, SendSince};
-ghost use Rattle.warm_shared.specs.declared.call.ShardCall.TheVariants.{Unpin, Write};
+ghost use Rattle.warm_shared.specs.declared.call.ShardCall.TheVariants.{Change, Look, PinZeroed};
+ghost use Rattle.warm_shared.specs.declared.call.ShardCall.TheVariants.{SendSince, Unpin, Write};
 
 use crate::call::{ShardCall, ShardReply};
 use crate::lending::{Left, Shown, change_in, look_in};
@@ -103,9 +103,10 @@ fn is_own(count: usize, number: usize, call: &ShardCall) -> bool
 {
     match call {
         ShardCall::Absorb(batch) => are_own(count, number, batch.as_slice()),
-        ShardCall::Pin(page) | ShardCall::Look(page) | ShardCall::Change(page) => {
-            is_own_page(count, number, *page)
-        }
+        ShardCall::Pin(page)
+        | ShardCall::PinZeroed(page)
+        | ShardCall::Look(page)
+        | ShardCall::Change(page) => is_own_page(count, number, *page),
         ShardCall::Answer(request) => are_own_buckets(count, number, *request),
         _ => true,
     }
@@ -217,6 +218,7 @@ fn answer<D: PageDevice>(
         }
         ShardCall::Raise(time) => Ok(ShardReply::Kept(node.raise(time))),
         ShardCall::Pin(page) => Ok(ShardReply::Pinned(node.pin(page)?)),
+        ShardCall::PinZeroed(page) => zeroed(node, page),
         ShardCall::Unpin(slot) => unpinned(node, slot),
         ShardCall::Read { slot, at, len } => Ok(ShardReply::Bytes(node.read(slot, at, len)?)),
         ShardCall::Write { slot, at, bytes } => written(node, slot, at, bytes),
@@ -245,6 +247,15 @@ fn answer<D: PageDevice>(
         ShardCall::Look(page) => looked(node, page),
         ShardCall::Change(page) => changed(node, page),
     }
+}
+
+// Pins a page, and fills it with zeros.
+fn zeroed<D: PageDevice>(node: &mut Node<D>, page: PageId) -> Result<ShardReply, NodeFault>
+    ensures answered { AnsweredAs node.old (PinZeroed page) result node.new }
+    ensures written { WrittenAs node.old (PinZeroed page) result node.new }
+{
+    let slot = node.pin_zeroed(page)?;
+    Ok(ShardReply::Pinned(slot))
 }
 
 // Removes a pin.
@@ -312,8 +323,9 @@ impl<D: PageDevice> Shard<D> {
     }
 
     /// Answers a call: `ShardStep`. A call that brings a page, or a bucket, of another shard is
-    /// answered `Foreign`, and nothing has changed. What `WritePages`, `WriteSome` and `WriteBack`
-    /// leave of dirty pages and unflushed devices, no caller of the shard sees: `LeavesWritten`.
+    /// answered `Foreign`, and nothing has changed. What `WritePages`, `WriteSome`, `WriteBack` and
+    /// `PinZeroed` leave of dirty pages and unflushed devices, no caller of the shard sees:
+    /// `LeavesWritten`.
     pub fn call(&mut self, call: ShardCall) -> ShardReply
         ensures step { ShardStep (shard_view self.old) call result (shard_view self.new) }
         ensures written { LeavesWritten self.old.node call result self.new.node }
