@@ -1,5 +1,5 @@
-//! What an engine asks of shared shards, each in one turn of a shard: the hottest pages, what is new
-//! since a time, pages written back in portions, and pages of zeros.
+//! What an engine asks of shared shards, in turns of the shards: the hottest pages, what is new
+//! since a time, pages written back in portions, pages of zeros, and pages that are forgotten.
 ghost use Rattle.warm_shared.specs.Attached.{AreOf};
 
 use crate::kit::{batch, bytes_of, closed, dirty, shared_of};
@@ -11,7 +11,7 @@ use warm_devices::MemDevice;
 use warm_frames::Message;
 use warm_gossip::NodeFault;
 use warm_pool::PoolFault;
-use warm_shared::{Attached, SharedFault, SharedShards};
+use warm_shared::{Attached, SharedFault, SharedShards, Stopped};
 use warm_stamps::PageList;
 
 type Shared = SharedShards<MemDevice>;
@@ -124,5 +124,34 @@ fn a_page_of_a_shard_gets_zeros(rt: HostRuntime) {
     assert!(rt; shared.unpin(&rt, &mut first, at).is_ok());
     let absent = Err(SharedFault::Node(NodeFault::Pool(PoolFault::NoPage)));
     assert!(rt; shared.pin_zeroed(&rt, &mut first, page(256)) == absent);
+    assert!(rt; dirty(&closed(&rt, alloc, shared, first)) == 1);
+}
+
+// A call that is refused so at a shard.
+fn stopped_at(shard: usize, fault: PoolFault) -> Result<(), Stopped> {
+    let fault = SharedFault::Node(NodeFault::Pool(fault));
+    Err(Stopped { fault, shard })
+}
+
+#[test]
+fn pages_from_a_number_on_are_forgotten(rt: HostRuntime) {
+    let alloc = rt.alloc();
+    let (shared, mut first) = shared_of(&rt, alloc, 1, 2);
+    assert!(rt; is_written(&rt, alloc, &shared, &mut first, 1));
+    assert!(rt; is_written(&rt, alloc, &shared, &mut first, 2));
+    assert!(rt; is_written(&rt, alloc, &shared, &mut first, 5));
+    let at = shared.pin(&rt, &mut first, page(5));
+    let at = at.ok().expect(&rt, "page 5 is pinned");
+    // Shard 0 forgets page 2, and shard 1 has a pinned page.
+    let fixed = stopped_at(1, PoolFault::Fixed);
+    assert!(rt; shared.forget_pages(&rt, &mut first, 0, 2) == fixed);
+    assert!(rt; seen_in(&rt, &shared, &mut first, 2) == Ok(0));
+    assert!(rt; seen_in(&rt, &shared, &mut first, 5) == Ok(7));
+    assert!(rt; shared.unpin(&rt, &mut first, at).is_ok());
+    assert!(rt; shared.forget_pages(&rt, &mut first, 0, 2).is_ok());
+    assert!(rt; seen_in(&rt, &shared, &mut first, 5) == Ok(0));
+    assert!(rt; seen_in(&rt, &shared, &mut first, 1) == Ok(7));
+    let absent = stopped_at(0, PoolFault::NoDevice);
+    assert!(rt; shared.forget_pages(&rt, &mut first, 1, 0) == absent);
     assert!(rt; dirty(&closed(&rt, alloc, shared, first)) == 1);
 }

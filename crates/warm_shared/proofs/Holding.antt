@@ -1,11 +1,13 @@
 -- What a shard holds: its own pages alone, after any call.
-use Rattle.std.proofs.Common.{◌≡◌, inl, inr, ℕ, zero, suc, ◌<◌, List, [], ◌∷◌, length, Option, Some, None, Ok, refl, sym, ap, subst, arith}
+use Rattle.std.proofs.Common.{◌≡◌, inl, inr, ℕ, zero, suc, ◌<◌, List, [], ◌∷◌, length, Option, Some, None, Ok, refl, sym, ap, subst, ◌∙◌, arith}
 use Rattle.std.specs.List.{AllByRecursion}
 use Rattle.warm_stamps.specs.declared.PageId.{PageId}
 use Rattle.warm_history.specs.Histories.{HistoryView, entries_of}
-use Rattle.warm_pool.specs.declared.fault.PoolFault.TheVariants.{Fault}
+use Rattle.warm_pool.specs.declared.fault.PoolFault.TheVariants.{Fault, Fixed, NoDevice}
 use Rattle.warm_pool.specs.declared.slot.Slot.{Slot}
-use Rattle.warm_pool.specs.View.{FrameView, PoolView, frame_at}
+use Rattle.warm_pool.specs.Forgetting.{ForgetRefused, Forgets}
+use Rattle.warm_pool.specs.State.{PoolState}
+use Rattle.warm_pool.specs.View.{FrameView, PoolView, frame_at, view_of}
 use Rattle.warm_pool.specs.Zeroing.{PinnedZeroed, PutsZeros}
 use Rattle.warm_pool.proofs.Slots.{at_set}
 use Rattle.warm_turn.specs.declared.table.Entry.{Entry}
@@ -14,13 +16,16 @@ use Rattle.warm_gossip.specs.declared.call.Call.{Call}
 use Rattle.warm_gossip.specs.declared.call.Reply.{Reply}
 use Rattle.warm_gossip.specs.declared.call.Call.TheVariants as node_call
 use Rattle.warm_gossip.specs.declared.call.Reply.TheVariants as node_reply
+use Rattle.warm_gossip.specs.declared.fault.NodeFault.{NodeFault}
 use Rattle.warm_gossip.specs.declared.fault.NodeFault.TheVariants.{Memory, Pool, StaleSlot}
-use Rattle.warm_gossip.specs.State.{NodeState, NodeView, node_view}
+use Rattle.warm_gossip.specs.Clauses.{OfPool}
+use Rattle.warm_gossip.specs.State.{NodeState, NodeView, node_view, opened_node}
 use Rattle.warm_gossip.proofs.VictimLemmas.{fixes_change}
+use Rattle.warm_shards.specs.Clauses.{KeepsKnown}
 use Rattle.warm_shards.specs.Laws.{BringsOwn}
 use Rattle.warm_shards.specs.Shards.{AreShards, HasPagesOf, HoldsPagesOf, shard_at, shard_of}
 use Rattle.warm_shards.proofs.Calls.{HasOnly, only_kept}
-use Rattle.warm_shards.proofs.EngineCalls.{same_own}
+use Rattle.warm_shards.proofs.EngineCalls.{forgotten_own, same_own}
 use Rattle.warm_shards.proofs.Staying.{failures_stay, steps_stay}
 use Rattle.warm_shared.specs.declared.call.ShardCall.{ShardCall}
 use Rattle.warm_shared.specs.declared.call.ShardCall.TheVariants.{Absorb, Change, Look, Pin, PinZeroed}
@@ -29,7 +34,7 @@ use Rattle.warm_shared.specs.declared.call.ShardReply.TheVariants.{Changed, Dirt
 use Rattle.warm_shared.specs.Attached.{Known, ShardTurn}
 use Rattle.warm_shared.specs.Laws.{ShardsHoldTheirPages}
 use Rattle.warm_shared.specs.Opening.{ClosesShard, shards_from, shards_over, view_at}
-use Rattle.warm_shared.specs.ShardSteps.{Asked, doing, writing_some, sending_since, looking, changing, IsOwn, NodeGoes, NodeStep, ShardStep, ShardView, Work, calling, writing, zeroing, WritesBack, Zeroes, asked_of, node_reply_of, shard_view}
+use Rattle.warm_shared.specs.ShardSteps.{Asked, doing, writing_some, sending_since, looking, changing, ForgetsPages, IsOwn, NodeGoes, NodeStep, ShardStep, ShardView, SomePool, Work, calling, writing, zeroing, forgetting, WritesBack, Zeroes, asked_of, node_reply_of, shard_view}
 use Rattle.warm_shared.proofs.Steps.{runs_keep}
 
 -- ---- a node after one step
@@ -43,6 +48,15 @@ put_zeros : (P : PageId → Type 0) (h : HistoryView) (v w : PoolView) (p : Page
 put_zeros P h v w p slot puts is own k q at =
     subst (λ (x : PoolView). (frame_at x k).page ≡ Some q → P q) (sym puts.becomes)
     (at_set no_frame (λ j f. f.page ≡ Some q → P q) v.frames slot.index _ (elim puts.to_load [ inl free ↦ free.there | inr victim ↦ victim.there ]) (λ here. let e : p ≡ q = cc in subst P e is) (λ j other there. own j q there) k) at
+
+-- nothing was forgotten
+same_pool : (s t : PoolState) (dev from : ℕ) (why : NodeFault)
+    → OfPool (λ fault. ForgetRefused s dev from fault t) why → t ≡ s
+same_pool s t dev from (Pool NoDevice) refused = refused.1
+same_pool s t dev from (Pool Fixed) refused = refused.2
+same_pool s t dev from (Pool fault) refused = absurd refused
+same_pool s t dev from Memory refused = absurd refused
+same_pool s t dev from StaleSlot refused = absurd refused
 
 module _ (count i : ℕ) where
   -- a write-back leaves each page in its frame
@@ -78,10 +92,34 @@ module _ (count i : ℕ) where
   zeroes_own o y p (node_reply.Refused StaleSlot) is own step = absurd step.1
   zeroes_own o y p r is own step = absurd step
 
+  -- pages of a device have left their frames
+  left_own : (v w : PoolView) (dev from : ℕ) → HasPagesOf count i v
+      → SomePool (λ s t. Forgets s dev from t) v w → HasPagesOf count i w
+  left_own v w dev from own (s, t, first, second, forgets) =
+      let known : KeepsKnown (opened_node 0 s) (opened_node 0 t) = record { id = refl; history = refl } in
+      let before : HasPagesOf count i (view_of s) = subst (HasPagesOf count i) (sym first) own in
+      let kept = forgotten_own (λ p. shard_of count p ≡ i) (opened_node 0 s) (opened_node 0 t) dev from before known forgets in
+      subst (HasPagesOf count i) second kept.own
+
+  -- or all are where they were
+  stayed_own : (v w : PoolView) (dev from : ℕ) (why : NodeFault) → HasPagesOf count i v
+      → SomePool (λ s t. OfPool (λ fault. ForgetRefused s dev from fault t) why) v w
+      → HasPagesOf count i w
+  stayed_own v w dev from why own (s, t, first, second, refused) =
+      let same : view_of t ≡ view_of s = ap view_of (same_pool s t dev from why refused) in
+      subst (HasPagesOf count i) (sym first ∙ sym same ∙ second) own
+
+  forgets_own : (o y : NodeView) (dev from : ℕ) (r : Reply) → HoldsPagesOf count i o
+      → ForgetsPages o dev from r y → HoldsPagesOf count i y
+  forgets_own o y dev from node_reply.Done own step = pool_own o y own step.0 (left_own o.pool y.pool dev from own.resident step.1)
+  forgets_own o y dev from (node_reply.Refused why) own step = pool_own o y own step.0 (stayed_own o.pool y.pool dev from why own.resident step.1)
+  forgets_own o y dev from r own step = absurd step
+
   abbrev BringsAny : Work → Type 0
   BringsAny (calling c) = BringsOwn count i c
   BringsAny writing = Unit {0}
   BringsAny (zeroing p) = shard_of count p ≡ i
+  BringsAny (forgetting dev from) = Unit {0}
 
   node_step_own : (o y : NodeView) (w : Work) (r : Option Reply) → BringsAny w
       → HoldsPagesOf count i o → NodeStep o w r y → HoldsPagesOf count i y
@@ -89,6 +127,7 @@ module _ (count i : ℕ) where
   node_step_own o y (calling c) (Some r) brings own step = steps_stay count i o y c r brings own step
   node_step_own o y writing (Some r) brings own step = written_own o y r own step
   node_step_own o y (zeroing p) (Some r) brings own step = zeroes_own o y p r brings own step
+  node_step_own o y (forgetting dev from) (Some r) brings own step = forgets_own o y dev from r own step
 
   -- so does all that a shard asks of its node for a call of own pages
   abbrev BringsAsked : Asked → Type 0

@@ -26,7 +26,7 @@ use Rattle.warm_shared.specs.Answering.{AnswersPart, Offers, offer_at, offer_rep
 use Rattle.warm_shared.specs.Attached.{Known, ShardPass, known_of, no_pass, shard_pass}
 use Rattle.warm_shared.specs.Clauses.{Answered, Got}
 use Rattle.warm_shared.specs.Laws.{CallsAreANodes, OnlySeesMore, SeesMore, ShardIsOfGiven, TogetherAreOfGiven, Works, all_of, asked_steps, call_entries, calls_in, held_by, node_steps, step_entries}
-use Rattle.warm_shared.specs.ShardSteps.{Asked, doing, writing_some, sending_since, looking, changing, NodeGoes, NodeStep, ShardStep, ShardView, Work, calling, writing, zeroing, asked_of, node_reply_of}
+use Rattle.warm_shared.specs.ShardSteps.{Asked, doing, writing_some, sending_since, looking, changing, NodeGoes, NodeStep, ShardStep, ShardView, Work, calling, writing, zeroing, forgetting, asked_of, node_reply_of}
 use Rattle.warm_shared.specs.Whole.{AbsorbsPart, Does, First, Raises, part_of}
 use Rattle.warm_shared.proofs.Places.{at_each}
 
@@ -96,6 +96,9 @@ one_given S o y by writing r stands step = absurd step
 one_given S o y by (zeroing p) (node_reply.Pinned slot) stands step = ap (λ (n : NodeView). n.history) step.0 ∙ stands
 one_given S o y by (zeroing p) (node_reply.Refused why) stands step = ap (λ (n : NodeView). n.history) step.0 ∙ stands
 one_given S o y by (zeroing p) r stands step = absurd step
+one_given S o y by (forgetting dev from) node_reply.Done stands step = ap (λ (n : NodeView). n.history) step.0 ∙ stands
+one_given S o y by (forgetting dev from) (node_reply.Refused why) stands step = ap (λ (n : NodeView). n.history) step.0 ∙ stands
+one_given S o y by (forgetting dev from) r stands step = absurd step
 
 -- and so after many
 steps_given : (S : ReferenceSet) (o z : NodeView) (es : List (Entry Work Reply))

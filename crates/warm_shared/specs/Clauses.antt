@@ -7,6 +7,7 @@ use Rattle.warm_gossip.specs.declared.fault.NodeFault.TheVariants.{StaleSlot}
 use Rattle.warm_shared.specs.declared.call.ShardCall.{ShardCall}
 use Rattle.warm_shared.specs.declared.call.ShardCall.TheVariants.{Absorb, Write}
 use Rattle.warm_shared.specs.declared.call.ShardCall.TheVariants.{WritePages, WriteBack}
+use Rattle.warm_shared.specs.declared.call.ShardCall.TheVariants.{ForgetPages}
 use Rattle.warm_shared.specs.declared.call.ShardReply.{ShardReply}
 use Rattle.warm_shared.specs.declared.call.ShardReply.TheVariants.{Done, Refused}
 use Rattle.warm_shared.specs.declared.fault.SharedFault.{SharedFault}
@@ -64,4 +65,5 @@ IsDoneCall count i (Absorb batch) = IsOwn count i (Absorb batch)
 IsDoneCall count i (Write slot at bytes) = Unit {0}
 IsDoneCall count i WritePages = Unit {0}
 IsDoneCall count i WriteBack = Unit {0}
+IsDoneCall count i (ForgetPages dev from) = Unit {0}
 IsDoneCall count i call = ⊥

@@ -13,7 +13,9 @@ use Rattle.warm_gossip.specs.declared.call.Reply.TheVariants as node_reply
 use Rattle.warm_gossip.specs.declared.fault.NodeFault.{NodeFault}
 use Rattle.warm_gossip.specs.declared.fault.NodeFault.TheVariants.{Memory, Pool}
 use Rattle.warm_pool.specs.declared.fault.PoolFault.TheVariants.{Fault}
-use Rattle.warm_pool.specs.State.{IsSettled}
+use Rattle.warm_pool.specs.Forgetting.{ForgetRefused, Forgets}
+use Rattle.warm_pool.specs.State.{IsSettled, PoolState}
+use Rattle.warm_pool.specs.View.{PoolView, view_of}
 use Rattle.warm_pool.specs.Zeroing.{PinnedZeroed, TakesZeroed, ZeroedRefused}
 use Rattle.warm_pool.specs.WritingSome.{CleansFirst, SomeFails, WritesBackSome}
 use Rattle.warm_gossip.specs.Clauses.{OfPool}
@@ -30,6 +32,7 @@ use Rattle.warm_shared.specs.declared.call.ShardCall.TheVariants.{Write, Victim,
 use Rattle.warm_shared.specs.declared.call.ShardCall.TheVariants.{Answer, Offer, Send, SendSince}
 use Rattle.warm_shared.specs.declared.call.ShardCall.TheVariants.{WritePages, WriteSome, WriteBack}
 use Rattle.warm_shared.specs.declared.call.ShardCall.TheVariants.{Look, Change, PinZeroed}
+use Rattle.warm_shared.specs.declared.call.ShardCall.TheVariants.{ForgetPages}
 use Rattle.warm_shared.specs.declared.call.ShardReply.{ShardReply}
 use Rattle.warm_shared.specs.declared.call.ShardReply.TheVariants.{Done, Kept, Pinned, Bytes, Page}
 use Rattle.warm_shared.specs.declared.call.ShardReply.TheVariants.{Loaded, Sent, Answers, Foreign}
@@ -66,14 +69,16 @@ no_shard_view = record { count = 0; number = 0; node = empty_node }
 abbrev pub request_for : ℕ → Message
 request_for request = Want 1 0 request
 
--- what a node does in one step: a call, a write-back, or a pin of a page that gets zeros
+-- what a node does in one step: a call; a write-back; a pin of a page that gets zeros; or to forget
+-- the pages of a device from a number on
 pub data Work : Type 0 where
   calling : Call → Work
   writing : Work
   zeroing : PageId → Work
+  forgetting : ℕ → ℕ → Work
 
--- what a shard asks of its node: one step; to write back some pages; what is new in a bucket since a
--- time, after a page; or several calls in one turn, of a page that is looked at, or changed
+-- what a shard asks of its node: one step; to write back some pages; what is new in a bucket since
+-- a time, after a page; or several calls in one turn, of a page that is looked at, or changed
 pub data Asked : Type 0 where
   doing : Work → Asked
   writing_some : Asked
@@ -104,6 +109,7 @@ asked_of (Answer request) = of_node (node_call.Receive (request_for request))
 asked_of WritePages = doing writing
 asked_of (WriteSome limit) = writing_some
 asked_of WriteBack = doing writing
+asked_of (ForgetPages dev from) = doing (forgetting dev from)
 asked_of (Look page) = looking page
 asked_of (Change page) = changing page
 
@@ -161,12 +167,27 @@ Zeroes old page (node_reply.Refused why) new =
     OnPool (λ v w. OfPool (λ fault. ZeroedRefused old.history v page fault w) why) old new
 Zeroes old page reply new = ⊥
 
+-- some pool that a caller sees as the first one has become so one that it sees as the second
+abbrev pub SomePool : (PoolState → PoolState → Type 0) → PoolView → PoolView → Type 0
+SomePool change old new = (s : PoolState) × (t : PoolState)
+    × (view_of s ≡ old) × (view_of t ≡ new) × change s t
+
+-- Pages of a device from a number on are forgotten, or it is refused. A caller does not see the
+-- bytes that devices have, which are then those of these pages: so it is of some pool.
+abbrev pub ForgetsPages : NodeView → ℕ → ℕ → Reply → NodeView → Type 0
+ForgetsPages old dev from node_reply.Done new =
+    OnPool (SomePool (λ s t. Forgets s dev from t)) old new
+ForgetsPages old dev from (node_reply.Refused why) new =
+    OnPool (SomePool (λ s t. OfPool (λ fault. ForgetRefused s dev from fault t) why)) old new
+ForgetsPages old dev from reply new = ⊥
+
 -- the step of a node with this reply, if it is one of a node
 abbrev pub NodeStep : NodeView → Work → Option Reply → NodeView → Type 0
 NodeStep old work None new = ⊥
 NodeStep old (calling call) (Some reply) new = Step old call reply new
 NodeStep old writing (Some reply) new = WritesBack old reply new
 NodeStep old (zeroing page) (Some reply) new = Zeroes old page reply new
+NodeStep old (forgetting dev from) (Some reply) new = ForgetsPages old dev from reply new
 
 -- the message of what is new in a bucket since a time, and whether more follows
 abbrev pub IsPortion : NodeView → ℕ → ℕ → Option PageId → Message → Bool → Type 0
@@ -231,7 +252,7 @@ AnsweredAs old call (Err why) new =
 -- What a caller does not see of a shard that writes back: all its dirty pages were written, since
 -- no more are dirty than there are frames, or as many as were asked for; or those before the one
 -- whose write failed. After `WriteBack` no page is dirty and no device is unflushed. A page that
--- gets zeros is dirty.
+-- gets zeros is dirty, and one that is forgotten has the bytes that its device has.
 abbrev pub LeavesWritten : NodeState → ShardCall → ShardReply → NodeState → Type 0
 LeavesWritten old WritePages Done new = CleansFirst (length old.pool.frames) old.pool new.pool
 LeavesWritten old WritePages (Refused why) new =
@@ -241,6 +262,7 @@ LeavesWritten old (WriteSome limit) (Dirty left) new =
 LeavesWritten old (WriteSome limit) (Refused why) new = SomeFails limit old.pool new.pool
 LeavesWritten old WriteBack Done new = IsSettled new.pool
 LeavesWritten old (PinZeroed page) (Pinned slot) new = TakesZeroed old.pool page slot new.pool
+LeavesWritten old (ForgetPages dev from) Done new = Forgets old.pool dev from new.pool
 LeavesWritten old call reply new = Unit {0}
 
 -- the same of a node that was asked to answer the call

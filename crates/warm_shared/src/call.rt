@@ -72,6 +72,13 @@ pub enum ShardCall {
     WriteSome(usize),
     /// Write back the dirty pages of the shard, and flush its unflushed devices.
     WriteBack,
+    /// Evict the shard's pages of a device from a number on, and do not write them.
+    ForgetPages {
+        /// The device.
+        dev: u16,
+        /// The number of the first page.
+        from: u64,
+    },
     /// Show the bytes of a page of the shard, and load it where it isn't resident.
     Look(PageId),
     /// Let the bytes of a page of the shard be changed, and load it where it isn't resident.

@@ -9,8 +9,9 @@ ghost use Rattle.warm_gossip.specs.Clauses.{Answered, NodeWriteBackFails, SameVi
 ghost use Rattle.warm_shards.specs.Shards.{IsShardCount, shard_of};
 ghost use Rattle.warm_shared.specs.ShardSteps.{AnsweredAs, AreOwnBuckets, IsOwn, LeavesWritten};
 ghost use Rattle.warm_shared.specs.ShardSteps.{ShardStep, WrittenAs, request_for, shard_view};
-ghost use Rattle.warm_shared.specs.declared.call.ShardCall.TheVariants.{Change, Look, PinZeroed};
-ghost use Rattle.warm_shared.specs.declared.call.ShardCall.TheVariants.{SendSince, Unpin, Write};
+ghost use Rattle.warm_shared.specs.declared.call.ShardCall.TheVariants.{Change, ForgetPages, Look};
+ghost use Rattle.warm_shared.specs.declared.call.ShardCall.TheVariants.{PinZeroed, SendSince};
+ghost use Rattle.warm_shared.specs.declared.call.ShardCall.TheVariants.{Unpin, Write};
 
 use crate::call::{ShardCall, ShardReply};
 use crate::lending::{Left, Shown, change_in, look_in};
@@ -244,6 +245,7 @@ fn answer<D: PageDevice>(
             node.write_back()?;
             Ok(ShardReply::Done)
         }
+        ShardCall::ForgetPages { dev, from } => forgotten(node, dev, from),
         ShardCall::Look(page) => looked(node, page),
         ShardCall::Change(page) => changed(node, page),
     }
@@ -277,6 +279,21 @@ fn written<D: PageDevice>(
 {
     node.write(slot, at, bytes.as_slice())?;
     Ok(ShardReply::Done)
+}
+
+// Forgets the pages of a device from a number on.
+fn forgotten<D: PageDevice>(
+    node: &mut Node<D>,
+    dev: u16,
+    from: u64,
+) -> Result<ShardReply, NodeFault>
+    ensures answered { AnsweredAs node.old (ForgetPages dev from) result node.new }
+    ensures written { WrittenAs node.old (ForgetPages dev from) result node.new }
+{
+    match node.forget_pages(dev, from) {
+        Ok(()) => Ok(ShardReply::Done),
+        Err(why) => Err(why),
+    }
 }
 
 // A look by nobody: the page is loaded where it isn't resident.
@@ -323,9 +340,9 @@ impl<D: PageDevice> Shard<D> {
     }
 
     /// Answers a call: `ShardStep`. A call that brings a page, or a bucket, of another shard is
-    /// answered `Foreign`, and nothing has changed. What `WritePages`, `WriteSome`, `WriteBack` and
-    /// `PinZeroed` leave of dirty pages and unflushed devices, no caller of the shard sees:
-    /// `LeavesWritten`.
+    /// answered `Foreign`, and nothing has changed. What `WritePages`, `WriteSome`, `WriteBack`,
+    /// `PinZeroed` and `ForgetPages` leave of dirty pages, and of what devices have, no caller of
+    /// the shard sees: `LeavesWritten`.
     pub fn call(&mut self, call: ShardCall) -> ShardReply
         ensures step { ShardStep (shard_view self.old) call result (shard_view self.new) }
         ensures written { LeavesWritten self.old.node call result self.new.node }
