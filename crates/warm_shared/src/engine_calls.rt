@@ -108,8 +108,7 @@ impl<D: PageDevice + Send> SharedShards<D> {
 
     /// Evicts the pages of a device with the number `from` and above, and does not write them: each
     /// shard forgets its own in one turn, in the order of the shards, in which the call
-    /// `ForgetPages` is answered. What only their frames hold is lost. That they are not written,
-    /// `Shard::call` says (`written`), and no clause of this call does. Another thread may pin such
+    /// `ForgetPages` is answered. What only their frames hold is lost. Another thread may pin such
     /// pages again meanwhile, and later calls read them again. Allocation-free.
     ///
     /// # Errors

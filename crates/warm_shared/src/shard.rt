@@ -1,24 +1,20 @@
 //! One shard as a machine that threads share by turns.
-ghost use Rattle.std.specs.Prelude.{◌≡◌, ◌↔◌, IfErr, IfOk, IsTrue, OnErr, OnOk};
-ghost use Rattle.std.specs.Prelude.{length};
-ghost use Rattle.warm_pool.specs.WritingSome.{CleansFirst, SomeFails, WritesBackSome};
+ghost use Rattle.std.specs.Prelude.{◌≡◌, ◌↔◌, IsTrue};
 ghost use Rattle.std.specs.List.{All};
-ghost use Rattle.warm_gossip.specs.declared.call.Call.TheVariants.{Offer, Receive, Send};
-ghost use Rattle.warm_gossip.specs.declared.call.Reply.TheVariants.{Answers, Sent};
-ghost use Rattle.warm_gossip.specs.Clauses.{Answered, NodeWriteBackFails, SameView};
 ghost use Rattle.warm_shards.specs.Shards.{IsShardCount, shard_of};
-ghost use Rattle.warm_shared.specs.ShardSteps.{AnsweredAs, AreOwnBuckets, IsOwn, LeavesWritten};
-ghost use Rattle.warm_shared.specs.ShardSteps.{ShardStep, WrittenAs, request_for, shard_view};
-ghost use Rattle.warm_shared.specs.declared.call.ShardCall.TheVariants.{Change, ForgetPages, Look};
-ghost use Rattle.warm_shared.specs.declared.call.ShardCall.TheVariants.{PinZeroed, SendSince};
-ghost use Rattle.warm_shared.specs.declared.call.ShardCall.TheVariants.{Unpin, Write};
+ghost use Rattle.warm_shared.specs.ShardSteps.{AnsweredAs, AreOwnBuckets, IsOwn, ShardStep};
+ghost use Rattle.warm_shared.specs.declared.call.ShardCall.TheVariants.{Answer, Change, Look, Offer};
+ghost use Rattle.warm_shared.specs.declared.call.ShardCall.TheVariants.{ForgetPages, PinZeroed};
+ghost use Rattle.warm_shared.specs.declared.call.ShardCall.TheVariants.{Send, SendSince, Unpin};
+ghost use Rattle.warm_shared.specs.declared.call.ShardCall.TheVariants.{Write, WritePages};
+ghost use Rattle.warm_shared.specs.declared.call.ShardCall.TheVariants.{WriteSome};
 
 use crate::call::{ShardCall, ShardReply};
 use crate::lending::{Left, Shown, change_in, look_in};
 use std::alloc::Global;
 use std::marker::Model;
 use warm_devices::PageDevice;
-use warm_frames::{BoxedMessage, Message, MessageList};
+use warm_frames::{BoxedMessage, Message};
 use warm_gossip::{Node, NodeFault, SentPortion};
 use warm_pool::Slot;
 use warm_shards::shard_of;
@@ -115,26 +111,26 @@ fn is_own(count: usize, number: usize, call: &ShardCall) -> bool
 
 // The digests that a node offers, in a box. It has the room for a message, so it is a function of
 // its own.
-fn offered<D: PageDevice>(alloc: Global, node: &mut Node<D>) -> Result<BoxedMessage, NodeFault>
-    ensures { Answered node.old Offer Sent result node.new }
+fn offered<D: PageDevice>(alloc: Global, node: &mut Node<D>) -> Result<ShardReply, NodeFault>
+    ensures { AnsweredAs node.old Offer result node.new }
 {
     let message = node.offer()?;
     let boxed = BoxedMessage::new(alloc, message)?;
-    Ok(boxed)
+    Ok(ShardReply::Sent(boxed))
 }
 
 // The entries that a node sends, in a box.
 fn sent<D: PageDevice>(
     alloc: Global,
-    node: &mut Node<D>,
+    node: &Node<D>,
     bucket: Bucket,
     after: Option<PageId>,
-) -> Result<BoxedMessage, NodeFault>
-    ensures { Answered node.old (Send bucket after) Sent result node.new }
+) -> Result<ShardReply, NodeFault>
+    ensures { AnsweredAs node.now (Send bucket after) result node.now }
 {
     let message = node.send(bucket, after)?;
     let boxed = BoxedMessage::new(alloc, message)?;
-    Ok(boxed)
+    Ok(ShardReply::Sent(boxed))
 }
 
 // What is new in a bucket since a time, in a box.
@@ -158,11 +154,8 @@ fn sent_since<D: PageDevice>(
 
 // The entries of these buckets, in messages. It has the room for a message, so it is a function of
 // its own.
-fn requested<D: PageDevice>(
-    node: &mut Node<D>,
-    request: BucketSet,
-) -> Result<MessageList, NodeFault>
-    ensures { Answered node.old (Receive (request_for request)) Answers result node.new }
+fn requested<D: PageDevice>(node: &mut Node<D>, request: BucketSet) -> Result<ShardReply, NodeFault>
+    ensures { AnsweredAs node.old (Answer request) result node.new }
 {
     let Ok(sender) = ReplicaId::new(1) else {
         unreachable!()
@@ -173,34 +166,25 @@ fn requested<D: PageDevice>(
         request,
     };
     let messages = node.receive(want)?;
-    Ok(messages)
+    Ok(ShardReply::Answers(messages))
 }
 
 // Writes back all dirty pages of a node. No device is flushed.
-fn write_pages<D: PageDevice>(node: &mut Node<D>) -> Result<(), NodeFault>
-    ensures same { OnOk result (SameView node.old node.new) }
-    ensures written { OnOk result (CleansFirst (length node.old.pool.frames) node.old.pool
-        node.new.pool) }
-    ensures refused { IfErr result (λ why. NodeWriteBackFails node.old why node.new) }
-    ensures failed { OnErr result (SomeFails (length node.old.pool.frames) node.old.pool
-        node.new.pool) }
+fn write_pages<D: PageDevice>(node: &mut Node<D>) -> Result<ShardReply, NodeFault>
+    ensures { AnsweredAs node.old WritePages result node.new }
 {
     // No more pages are dirty than there are frames.
     let frames = node.pool().frames();
     node.write_back_some(frames)?;
-    Ok(())
+    Ok(ShardReply::Done)
 }
 
-// Writes back some dirty pages of a node, and returns how many are left. No device is flushed.
-fn write_some<D: PageDevice>(node: &mut Node<D>, limit: usize) -> Result<usize, NodeFault>
-    ensures same { OnOk result (SameView node.old node.new) }
-    ensures written { IfOk result (λ left. WritesBackSome limit node.old.pool left
-        node.new.pool) }
-    ensures refused { IfErr result (λ why. NodeWriteBackFails node.old why node.new) }
-    ensures failed { OnErr result (SomeFails limit node.old.pool node.new.pool) }
+// Writes back some dirty pages of a node, and says how many are left. No device is flushed.
+fn write_some<D: PageDevice>(node: &mut Node<D>, limit: usize) -> Result<ShardReply, NodeFault>
+    ensures { AnsweredAs node.old (WriteSome limit) result node.new }
 {
     let left = node.write_back_some(limit)?;
-    Ok(left)
+    Ok(ShardReply::Dirty(left))
 }
 
 // Has the node answer the call, or returns why it is refused.
@@ -209,8 +193,7 @@ fn answer<D: PageDevice>(
     node: &mut Node<D>,
     call: ShardCall,
 ) -> Result<ShardReply, NodeFault>
-    ensures answered { AnsweredAs node.old call result node.new }
-    ensures written { WrittenAs node.old call result node.new }
+    ensures { AnsweredAs node.old call result node.new }
 {
     match call {
         ShardCall::Absorb(batch) => {
@@ -226,21 +209,16 @@ fn answer<D: PageDevice>(
         ShardCall::Victim => Ok(ShardReply::Page(node.victim())),
         ShardCall::WarmStep => Ok(ShardReply::Loaded(node.warm_step()?)),
         ShardCall::WarmList(n) => Ok(ShardReply::Pages(node.warm_list(n)?)),
-        ShardCall::Offer => Ok(ShardReply::Sent(offered(alloc, node)?)),
-        ShardCall::Send { bucket, after } => {
-            Ok(ShardReply::Sent(sent(alloc, node, bucket, after)?))
-        }
+        ShardCall::Offer => offered(alloc, node),
+        ShardCall::Send { bucket, after } => sent(alloc, node, bucket, after),
         ShardCall::SendSince {
             bucket,
             since,
             after,
         } => sent_since(alloc, node, bucket, since, after),
-        ShardCall::Answer(request) => Ok(ShardReply::Answers(requested(node, request)?)),
-        ShardCall::WritePages => {
-            write_pages(node)?;
-            Ok(ShardReply::Done)
-        }
-        ShardCall::WriteSome(limit) => Ok(ShardReply::Dirty(write_some(node, limit)?)),
+        ShardCall::Answer(request) => requested(node, request),
+        ShardCall::WritePages => write_pages(node),
+        ShardCall::WriteSome(limit) => write_some(node, limit),
         ShardCall::WriteBack => {
             node.write_back()?;
             Ok(ShardReply::Done)
@@ -253,8 +231,7 @@ fn answer<D: PageDevice>(
 
 // Pins a page, and fills it with zeros.
 fn zeroed<D: PageDevice>(node: &mut Node<D>, page: PageId) -> Result<ShardReply, NodeFault>
-    ensures answered { AnsweredAs node.old (PinZeroed page) result node.new }
-    ensures written { WrittenAs node.old (PinZeroed page) result node.new }
+    ensures { AnsweredAs node.old (PinZeroed page) result node.new }
 {
     let slot = node.pin_zeroed(page)?;
     Ok(ShardReply::Pinned(slot))
@@ -287,13 +264,10 @@ fn forgotten<D: PageDevice>(
     dev: u16,
     from: u64,
 ) -> Result<ShardReply, NodeFault>
-    ensures answered { AnsweredAs node.old (ForgetPages dev from) result node.new }
-    ensures written { WrittenAs node.old (ForgetPages dev from) result node.new }
+    ensures { AnsweredAs node.old (ForgetPages dev from) result node.new }
 {
-    match node.forget_pages(dev, from) {
-        Ok(()) => Ok(ShardReply::Done),
-        Err(why) => Err(why),
-    }
+    node.forget_pages(dev, from)?;
+    Ok(ShardReply::Done)
 }
 
 // A look by nobody: the page is loaded where it isn't resident.
@@ -340,12 +314,9 @@ impl<D: PageDevice> Shard<D> {
     }
 
     /// Answers a call: `ShardStep`. A call that brings a page, or a bucket, of another shard is
-    /// answered `Foreign`, and nothing has changed. What `WritePages`, `WriteSome`, `WriteBack`,
-    /// `PinZeroed` and `ForgetPages` leave of dirty pages, and of what devices have, no caller of
-    /// the shard sees: `LeavesWritten`.
+    /// answered `Foreign`, and nothing has changed.
     pub fn call(&mut self, call: ShardCall) -> ShardReply
-        ensures step { ShardStep (shard_view self.old) call result (shard_view self.new) }
-        ensures written { LeavesWritten self.old.node call result self.new.node }
+        ensures { ShardStep self.old call result self.new }
     {
         if !is_own(self.count, self.number, &call) {
             return ShardReply::Foreign;
@@ -370,31 +341,31 @@ impl<D: PageDevice> Shard<D> {
     }
 }
 
-/// The state of a shard that threads share: what a caller sees of it. No value of the type is made;
-/// contracts see it as a `ShardView`.
-pub struct ViewOfShard {
+/// The state of a shard that threads share: the whole of it, with its devices and dirty flags. No
+/// value of the type is made; contracts see it as a `ShardState`.
+pub struct StateOfShard {
     _none: (),
 }
 
-impl Model for ViewOfShard {
-    ghost use Rattle.warm_shared.specs.ShardSteps.{ShardView, no_shard_view};
+impl Model for StateOfShard {
+    ghost use Rattle.warm_shared.specs.ShardSteps.{ShardState, no_state};
 
-    ghost Value = { ShardView };
+    ghost Value = { ShardState };
 
-    ghost view = { λ _. no_shard_view };
+    ghost view = { λ _. no_state };
 }
 
 /// Every call is a step, so the replies of a turn are those of one legal history of steps.
 impl<D: PageDevice + Send> Machine for Shard<D> {
-    ghost use Rattle.warm_shared.specs.ShardSteps.{ShardStep, shard_view};
+    ghost use Rattle.warm_shared.specs.ShardSteps.{ShardStep};
 
     type Call = ShardCall;
 
     type Reply = ShardReply;
 
-    type State = ViewOfShard;
+    type State = StateOfShard;
 
-    ghost view = { λ s. shard_view s };
+    ghost view = { λ s. s };
 
     ghost goes = { ShardStep };
 

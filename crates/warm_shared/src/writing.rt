@@ -100,7 +100,7 @@ impl<D: PageDevice + Send> SharedShards<D> {
     /// Writes back the dirty pages of all shards, each in one turn of its shard, and then flushes
     /// the unflushed devices of each, each in one more. So devices that share a file can make it
     /// durable once. A page that another thread makes dirty in between is written before its shard
-    /// flushes: `Shard::call` says so (`written`), and no clause of this call does.
+    /// flushes.
     ///
     /// # Errors
     /// [`NotWritten`] says which shards have written and flushed. `Node(Pool(Fault))`: a device
@@ -125,9 +125,7 @@ impl<D: PageDevice + Send> SharedShards<D> {
 
     /// Writes back at most `limit` dirty pages of a shard, and returns how many of its pages are
     /// then still dirty: one turn of the shard, in which the call `WriteSome` is answered. So a
-    /// checkpoint goes on in portions between other calls. No device is flushed. How many pages
-    /// were written and are dirty, `Shard::call` says (`written`), and no clause of this call does.
-    /// Allocation-free.
+    /// checkpoint goes on in portions between other calls. No device is flushed. Allocation-free.
     ///
     /// # Errors
     /// `Node(Pool(Fault))`: a write failed; of what a caller sees of the shard, only one count of
