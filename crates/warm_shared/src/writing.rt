@@ -104,8 +104,8 @@ impl<D: PageDevice + Send> SharedShards<D> {
     ///
     /// # Errors
     /// [`NotWritten`] says which shards have written and flushed. `Node(Pool(Fault))`: a device
-    /// failed; of what a caller sees of that shard, only one count of failures has changed.
-    /// `TurnsSpent`. To write back once more does no harm.
+    /// failed, and its count of failures has increased; the pages of that shard that were written
+    /// before are clean. `TurnsSpent`. To write back once more does no harm.
     pub fn write_back<R: Wait>(&self, rt: &R, attached: &mut Attached<D>) -> Result<(), NotWritten>
         requires { AreOf self.now attached.old.passes }
         ensures attached { AreOf self.now attached.new.passes }
@@ -128,8 +128,9 @@ impl<D: PageDevice + Send> SharedShards<D> {
     /// checkpoint goes on in portions between other calls. No device is flushed. Allocation-free.
     ///
     /// # Errors
-    /// `Node(Pool(Fault))`: a write failed; of what a caller sees of the shard, only one count of
-    /// failures has changed. `TurnsSpent`.
+    /// `Node(Pool(Fault))`: a write failed, and its device's count of failures has increased. The
+    /// pages written before it are clean, and all others dirty as before. `TurnsSpent`: nothing has
+    /// changed.
     pub fn write_back_some<R: Wait>(
         &self,
         rt: &R,
