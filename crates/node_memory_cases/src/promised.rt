@@ -8,6 +8,7 @@ mod kept;
 mod pools;
 mod posts;
 mod shards;
+mod shared;
 mod sizes;
 
 use crate::promised::filled::Filled;
@@ -45,7 +46,9 @@ pub(crate) fn play<P: Print, R: Wait>(
     let handed_back = HandedBack::new(alloc)?;
     let filled = Filled::new(alloc)?;
     let posts = Posts::new(alloc)?;
+    let (shared, thread) = shared::opened(alloc)?;
     // from here on nothing is allocated
+    shared::rows(rt, met, waits, shared, thread)?;
     calls::rows(rt, met, &mut node, ByteList::of(bytes))?;
     sharded.rows(rt, met, alloc)?;
     handed_back.rows(rt, met)?;

@@ -9,6 +9,8 @@ mod alike;
 #[cfg(test)]
 mod engine;
 #[cfg(test)]
+mod engine_shared;
+#[cfg(test)]
 mod forming;
 #[cfg(test)]
 mod gossip_shared;

@@ -33,7 +33,7 @@ fn first_of(bytes: &[u8]) -> u8 {
 }
 
 // The first byte of a page.
-fn seen_in<R: Wait>(
+pub(crate) fn seen_in<R: Wait>(
     rt: &R,
     shared: &Shared,
     thread: &mut Thread,

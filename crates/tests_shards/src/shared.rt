@@ -64,7 +64,7 @@ fn a_thread_with_pins_stays(rt: HostRuntime) {
 }
 
 // Absorbs a reference to a page, and writes a byte into it.
-fn is_written<R: Wait + Abort>(
+pub(crate) fn is_written<R: Wait + Abort>(
     rt: &R,
     alloc: Global,
     shared: &SharedShards<MemDevice>,

@@ -8,39 +8,43 @@ use Rattle.warm_history.proofs.JoinLemmas.{history_first, history_second}
 use Rattle.warm_turn.specs.declared.table.Entry.{Entry}
 use Rattle.warm_turn.specs.CallHistories.{Runs, entry}
 use Rattle.warm_turn.proofs.Passes.{Extended-called, Widened-joined}
+use Rattle.warm_gossip.specs.Clauses.{NodeWriteBackFails, SameView}
 use Rattle.warm_gossip.specs.Given.{given_by_call, given_by_calls}
-use Rattle.warm_gossip.specs.State.{NodeView}
+use Rattle.warm_gossip.specs.State.{NodeState, NodeView, node_view}
 use Rattle.warm_gossip.specs.declared.call.Call.{Call}
 use Rattle.warm_gossip.specs.declared.call.Reply.{Reply}
-use Rattle.warm_gossip.specs.declared.call.Reply.TheVariants as node_reply
-use Rattle.warm_gossip.specs.declared.fault.NodeFault.TheVariants as node_fault
-use Rattle.warm_pool.specs.declared.fault.PoolFault.TheVariants as pool_fault
+use Rattle.warm_gossip.specs.declared.fault.NodeFault.{NodeFault}
 use Rattle.warm_gossip.proofs.Given.{told_is_history}
 use Rattle.warm_frames.specs.declared.message.Message.{Message}
 use Rattle.warm_stamps.specs.declared.Reference.{Reference}
 use Rattle.warm_shared.specs.declared.call.ShardCall.{ShardCall}
 use Rattle.warm_shared.specs.declared.call.ShardCall.TheVariants.{Absorb, Answer, Offer}
 use Rattle.warm_shared.specs.declared.call.ShardReply.{ShardReply}
-use Rattle.warm_shared.specs.declared.call.ShardReply.TheVariants.{Answers, Changed, Done, Foreign, Kept, Looked, Refused}
+use Rattle.warm_shared.specs.declared.call.ShardReply.TheVariants.{Answers, Changed, Dirty, Done, Foreign, Kept, Looked, Pinned, Portion, Refused}
 use Rattle.warm_shared.specs.Answering.{AnswersPart, Offers, offer_at, offer_reply}
 use Rattle.warm_shared.specs.Attached.{Known, ShardPass, known_of, no_pass, shard_pass}
 use Rattle.warm_shared.specs.Clauses.{Answered, Got}
-use Rattle.warm_shared.specs.Laws.{CallsAreANodes, OnlySeesMore, SeesMore, ShardIsOfGiven, StepOrWriteBack, TogetherAreOfGiven, all_of, asked_steps, call_entries, calls_in, held_by, node_steps, step_entries}
-use Rattle.warm_shared.specs.ShardSteps.{Asked, of_node, writing_back, looking, changing, NodeGoes, NodeStep, ShardStep, ShardView, asked_of, node_reply_of}
+use Rattle.warm_shared.specs.Laws.{CallsAreANodes, OnlySeesMore, SeesMore, ShardIsOfGiven, TogetherAreOfGiven, all_of, asked_steps, call_entries, calls_in, held_by, node_steps, reply_entries}
+use Rattle.warm_shared.specs.ShardSteps.{Asked, doing, looking, changing, CallGoes, NodeGoes, NodeStep, ShardState, ShardStep, Work, calling, writing_pages, writing_some, writing_back, zeroing, forgetting, sending_since, asked_of, node_reply_of}
 use Rattle.warm_shared.specs.Whole.{AbsorbsPart, Does, First, Raises, part_of}
 use Rattle.warm_shared.proofs.Places.{at_each}
 
 -- ---- the steps of a shard are a node's
 
-of_reply : (x y : NodeView) (by : ℕ) (c : Option Call) (k : Option Reply) → NodeStep x c k y
-    → Runs StepOrWriteBack x (step_entries by c k) y
-of_reply x y by c None step = absurd step
-of_reply x y by c (Some r) step = (y, step, refl)
+-- a node never answers that a page is of another shard
+not_foreign : (x y : NodeState) (w : Work) → NodeStep x w Foreign y → ⊥
+not_foreign x y (calling c) step = step
+not_foreign x y writing_pages step = step
+not_foreign x y (writing_some limit) step = step
+not_foreign x y writing_back step = step
+not_foreign x y (zeroing p) step = step
+not_foreign x y (forgetting dev from) step = step
+not_foreign x y (sending_since bucket since after) step = step
 
-asked_run : (x y : NodeView) (by : ℕ) (a : Asked) (r : ShardReply) → NodeGoes x a r y
-    → Runs StepOrWriteBack x (asked_steps by a r) y
-asked_run x y by (of_node c) r step = of_reply x y by (Some c) (node_reply_of r) step
-asked_run x y by writing_back r step = of_reply x y by None (node_reply_of r) step
+asked_run : (x y : NodeState) (by : ℕ) (a : Asked) (r : ShardReply) → NodeGoes x a r y
+    → Runs NodeStep x (asked_steps by a r) y
+asked_run x y by (doing w) Foreign step = absurd (not_foreign x y w step)
+asked_run x y by (doing w) r step = (y, step, refl)
 asked_run x y by (looking p) (Looked slot bytes) step = (step.mid, step.pins, (y, step.unpins, refl))
 asked_run x y by (looking p) (Refused why) step = (y, step, refl)
 asked_run x y by (looking p) r step = absurd step
@@ -49,15 +53,14 @@ asked_run x y by (changing p) (Refused why) step = (y, step, refl)
 asked_run x y by (changing p) r step = absurd step
 
 foreign_none : (by : ℕ) (a : Asked) → asked_steps by a Foreign ≡ []
-foreign_none by (of_node c) = refl
-foreign_none by writing_back = refl
+foreign_none by (doing w) = refl
 foreign_none by (looking p) = refl
 foreign_none by (changing p) = refl
 
-shard_run : (o y : ShardView) (by : ℕ) (c : ShardCall) (r : ShardReply) → ShardStep o c r y
-    → Runs StepOrWriteBack o.node (asked_steps by (asked_of c) r) y.node
+shard_run : (o y : ShardState) (by : ℕ) (c : ShardCall) (r : ShardReply) → ShardStep o c r y
+    → Runs NodeStep o.node (asked_steps by (asked_of c) r) y.node
 shard_run o y by c Foreign step =
-    subst (λ (es : List (Entry (Option Call) Reply)). Runs StepOrWriteBack o.node es y.node) (sym (foreign_none by (asked_of c))) (ap (λ (s : ShardView). s.node) (sym step.1))
+    subst (λ (es : List (Entry Work ShardReply)). Runs NodeStep o.node es y.node) (sym (foreign_none by (asked_of c))) (ap (λ (s : ShardState). s.node) (sym step.1))
 shard_run o y by c r step = asked_run o.node y.node by (asked_of c) r step.2
 
 -- one run after another
@@ -67,9 +70,9 @@ runs_on goes x y z [] ys one rest = subst (λ w. Runs goes w ys z) (sym one) res
 runs_on goes x y z (e ∷ xs) ys one rest = (one.0, one.1, runs_on goes one.0 y z xs ys one.2 rest)
 
 pub calls_are_a_nodes : CallsAreANodes
-calls_are_a_nodes o z [] runs = ap (λ (s : ShardView). s.node) runs
+calls_are_a_nodes o z [] runs = ap (λ (s : ShardState). s.node) runs
 calls_are_a_nodes o z (e ∷ es) runs =
-    runs_on StepOrWriteBack o.node runs.0.node z.node (asked_steps e.by (asked_of e.call) e.reply) (node_steps es)
+    runs_on NodeStep o.node runs.0.node z.node (asked_steps e.by (asked_of e.call) e.reply) (node_steps es)
     (shard_run o runs.0 e.by e.call e.reply runs.1) (calls_are_a_nodes runs.0 z es runs.2)
 
 -- ---- what a shard was given
@@ -79,20 +82,66 @@ given_after : (S : ReferenceSet) (xs ys : List (Entry Call Reply))
 given_after S [] ys = refl
 given_after S (e ∷ xs) ys = given_after (given_by_call S e.call e.reply) xs ys
 
--- after one call, or one write-back, a node has the history of what it was given
-one_given : (S : ReferenceSet) (o y : NodeView) (by : ℕ) (c : Option Call) (r : Reply)
-    → o.history ≡ history S → NodeStep o c (Some r) y
-    → y.history ≡ history (given_by_calls S (call_entries by c r))
-one_given S o y by (Some c) r stands step = told_is_history S o y (entry by c r ∷ []) stands (y, step, refl)
-one_given S o y by None node_reply.Done stands step = ap (λ (n : NodeView). n.history) step ∙ stands
-one_given S o y by None (node_reply.Refused (node_fault.Pool pool_fault.Fault)) stands step = ap (λ (n : NodeView). n.history) step.0 ∙ stands
-one_given S o y by None r stands step = absurd step
+-- after a call a node has the history of what it was given
+call_given : (S : ReferenceSet) (o y : NodeState) (by : ℕ) (c : Call) (k : Option Reply)
+    → o.history ≡ history S → CallGoes o c k y
+    → y.history ≡ history (given_by_calls S (reply_entries by c k))
+call_given S o y by c None stands step = absurd step
+call_given S o y by c (Some r) stands step =
+    told_is_history S (node_view o) (node_view y) (entry by c r ∷ []) stands (node_view y, step.0, refl)
+
+-- the history that a caller sees is unchanged
+same_history : (o y : NodeState) → SameView o y → y.history ≡ o.history
+same_history o y same = ap (λ (n : NodeView). n.history) same
+
+failed_history : (o y : NodeState) (why : NodeFault) → NodeWriteBackFails o why y
+    → y.history ≡ o.history
+failed_history o y why fails = ap (λ (n : NodeView). n.history) fails.1.0
+
+-- so it is beside the calls
+abbrev IsBeside : Work → Type 0
+IsBeside (calling c) = ⊥
+IsBeside w = Unit {0}
+
+beside : (o y : NodeState) (w : Work) (r : ShardReply) → IsBeside w → NodeStep o w r y
+    → y.history ≡ o.history
+beside o y (calling c) r not step = absurd not
+beside o y writing_pages Done is step = same_history o y step.0
+beside o y writing_pages (Refused why) is step = failed_history o y why step.0
+beside o y writing_pages r is step = absurd step
+beside o y (writing_some limit) (Dirty left) is step = same_history o y step.0
+beside o y (writing_some limit) (Refused why) is step = failed_history o y why step.0
+beside o y (writing_some limit) r is step = absurd step
+beside o y writing_back Done is step = same_history o y step.0
+beside o y writing_back (Refused why) is step = failed_history o y why step.0
+beside o y writing_back r is step = absurd step
+beside o y (zeroing p) (Pinned slot) is step = step.0.history
+beside o y (zeroing p) (Refused why) is step = step.0.history
+beside o y (zeroing p) r is step = absurd step
+beside o y (forgetting dev from) Done is step = step.0.history
+beside o y (forgetting dev from) (Refused why) is step = step.0.history
+beside o y (forgetting dev from) r is step = absurd step
+beside o y (sending_since bucket since after) (Portion message more) is step = ap (λ (n : NodeState). n.history) step.2
+beside o y (sending_since bucket since after) (Refused why) is step = ap (λ (n : NodeState). n.history) step.1
+beside o y (sending_since bucket since after) r is step = absurd step
+
+-- after one step a node has the history of what it was given
+one_given : (S : ReferenceSet) (o y : NodeState) (by : ℕ) (w : Work) (r : ShardReply)
+    → o.history ≡ history S → NodeStep o w r y
+    → y.history ≡ history (given_by_calls S (call_entries by w r))
+one_given S o y by (calling c) r stands step = call_given S o y by c (node_reply_of r) stands step
+one_given S o y by writing_pages r stands step = beside o y writing_pages r tt step ∙ stands
+one_given S o y by (writing_some limit) r stands step = beside o y (writing_some limit) r tt step ∙ stands
+one_given S o y by writing_back r stands step = beside o y writing_back r tt step ∙ stands
+one_given S o y by (zeroing p) r stands step = beside o y (zeroing p) r tt step ∙ stands
+one_given S o y by (forgetting dev from) r stands step = beside o y (forgetting dev from) r tt step ∙ stands
+one_given S o y by (sending_since bucket since after) r stands step = beside o y (sending_since bucket since after) r tt step ∙ stands
 
 -- and so after many
-steps_given : (S : ReferenceSet) (o z : NodeView) (es : List (Entry (Option Call) Reply))
-    → o.history ≡ history S → Runs StepOrWriteBack o es z
+steps_given : (S : ReferenceSet) (o z : NodeState) (es : List (Entry Work ShardReply))
+    → o.history ≡ history S → Runs NodeStep o es z
     → z.history ≡ history (given_by_calls S (calls_in es))
-steps_given S o z [] stands runs = ap (λ (n : NodeView). n.history) (sym runs) ∙ stands
+steps_given S o z [] stands runs = ap (λ (n : NodeState). n.history) (sym runs) ∙ stands
 steps_given S o z (e ∷ es) stands runs =
     let one = call_entries e.by e.call e.reply in
     steps_given (given_by_calls S one) runs.0 z es (one_given S o runs.0 e.by e.call e.reply stands runs.1) runs.2

@@ -10,11 +10,12 @@ use Rattle.warm_pool.proofs.Pins.{puts_holds}
 use Rattle.warm_gossip.specs.declared.call.Call.TheVariants.{Pin, Unpin, Write}
 use Rattle.warm_gossip.specs.declared.call.Reply.TheVariants.{Done, Pinned}
 use Rattle.warm_gossip.specs.Lending.{relent_node}
-use Rattle.warm_gossip.specs.State.{NodeState, NodeView, node_view}
+use Rattle.warm_gossip.specs.State.{NodeState, NodeView}
 use Rattle.warm_gossip.specs.Step.{Refuses, Step}
 use Rattle.warm_gossip.specs.declared.fault.NodeFault.{NodeFault}
 use Rattle.warm_gossip.specs.declared.fault.NodeFault.TheVariants.{StaleSlot}
 use Rattle.warm_gossip.proofs.Lents.{lent_bytes}
+use Rattle.warm_shared.specs.ShardSteps.{CallStep}
 
 adds_holds : (v w : PoolView) (p : PageId) (slot : Slot) → AddsFix v p slot w → Holds w slot
 adds_holds v w p slot x =
@@ -37,8 +38,8 @@ pinned_holds o m p slot step = elim step.1.1 [
 -- the bytes of a whole page that were left are written
 pub left_written : (s : NodeState) (slot : Slot) (w : List ℕ) → IsPool s.pool
     → Holds (view_of s.pool) slot → length w ≡ s.pool.page_size
-    → Step (node_view s) (Write slot 0 w) Done (node_view (relent_node s slot.index w))
-left_written s slot w pool holds size = (lent_bytes s slot w pool holds size).0
+    → CallStep s (Write slot 0 w) Done (relent_node s slot.index w)
+left_written s slot w pool holds size = lent_bytes s slot w pool holds size
 
 -- and the page is still held
 pub written_held : (o m : NodeView) (slot : Slot) (w : List ℕ) → Step o (Write slot 0 w) Done m

@@ -1,11 +1,11 @@
 -- Shards that are numbered.
-use Rattle.std.proofs.Common.{◌≡◌, ℕ, zero, suc, ◌+◌, ◌<◌, List, [], ◌∷◌, ◌++◌, length, map, refl, sym, ap, subst, ◌∙◌, arith}
-use Rattle.std.proofs.lemmas.List.{length-map, map-append}
+use Rattle.std.proofs.Common.{◌≡◌, ℕ, zero, suc, ◌+◌, ◌<◌, List, [], ◌∷◌, ◌++◌, length, refl, sym, ap, subst, ◌∙◌, arith}
+use Rattle.std.proofs.lemmas.List.{length-map}
 use Rattle.warm_gossip.specs.State.{NodeState}
 use Rattle.warm_shards.specs.Shards.{IsShardCount}
 use Rattle.warm_shared.specs.Attached.{AreTurns, ShardTurn, shard_turn}
-use Rattle.warm_shared.specs.Opening.{AreFirst, AreNumbered, openings, shards_from, shards_over, view_at}
-use Rattle.warm_shared.specs.ShardSteps.{ShardState, ShardView, shard_over, shard_view}
+use Rattle.warm_shared.specs.Opening.{AreFirst, AreNumbered, openings, shards_from, shards_over, state_at}
+use Rattle.warm_shared.specs.ShardSteps.{ShardState, shard_over}
 
 -- one node more
 pub from_more : (count i : ℕ) (ns : List NodeState) (n : NodeState)
@@ -19,13 +19,13 @@ from_long count i [] = refl
 from_long count i (n ∷ ns) = omega (arith, from_long count (suc i) ns)
 
 from_count : (count j : ℕ) (ns : List NodeState) (i : ℕ) → i < length ns
-    → (view_at (shards_from count j ns) i).count ≡ count
+    → (state_at (shards_from count j ns) i).count ≡ count
 from_count count j [] i lt = absurd (omega arith)
 from_count count j (n ∷ ns) zero lt = refl
 from_count count j (n ∷ ns) (suc i) lt = from_count count (suc j) ns i (omega arith)
 
 from_number : (count j : ℕ) (ns : List NodeState) (i : ℕ) → i < length ns
-    → (view_at (shards_from count j ns) i).number ≡ j + i
+    → (state_at (shards_from count j ns) i).number ≡ j + i
 from_number count j [] i lt = absurd (omega arith)
 from_number count j (n ∷ ns) zero lt = omega arith
 from_number count j (n ∷ ns) (suc i) lt = from_number count (suc j) ns i (omega arith) ∙ omega arith
@@ -41,19 +41,17 @@ numbered ns count =
 
 -- one shard more
 pub next_shard : (count k : ℕ) (ss : List ShardState) (s : ShardState) (ns : List NodeState)
-    (n : NodeState) → map shard_view ss ≡ shards_from count 0 ns
-    → s ≡ record { count = count; number = k; node = n } → k ≡ length ns
-    → map shard_view (ss ++ s ∷ []) ≡ shards_from count 0 (ns ++ n ∷ [])
+    (n : NodeState) → ss ≡ shards_from count 0 ns → s ≡ shard_over count k n → k ≡ length ns
+    → ss ++ s ∷ [] ≡ shards_from count 0 (ns ++ n ∷ [])
 next_shard count k ss s ns n same is number =
     let place : k ≡ 0 + length ns = omega (arith, number) in
-    map-append shard_view ss (s ∷ [])
-    ∙ ap (λ l. l ++ shard_view s ∷ []) same
-    ∙ ap (λ (x : ShardState). shards_from count 0 ns ++ shard_view x ∷ []) is
+    ap (λ (l : List ShardState). l ++ s ∷ []) same
+    ∙ ap (λ (x : ShardState). shards_from count 0 ns ++ x ∷ []) is
     ∙ ap (λ j. shards_from count 0 ns ++ shard_over count j n ∷ []) place
     ∙ sym (from_more count 0 ns n)
 
 -- turns that opened so
-opening_at : (ts : List ShardTurn) (i : ℕ) → view_at (openings ts) i ≡ (shard_turn ts i).opening
+opening_at : (ts : List ShardTurn) (i : ℕ) → state_at (openings ts) i ≡ (shard_turn ts i).opening
 opening_at [] i = refl
 opening_at (t ∷ ts) zero = refl
 opening_at (t ∷ ts) (suc i) = opening_at ts i
@@ -63,8 +61,8 @@ turns_numbered ts are =
     let long : length (openings ts) ≡ length ts = length-map ts (λ t. t.opening) in
     record {
       count = subst IsShardCount long are.count;
-      counts = λ i lt. ap (λ (v : ShardView). v.count) (sym (opening_at ts i)) ∙ are.counts i (omega (arith, long)) ∙ long;
-      numbers = λ i lt. ap (λ (v : ShardView). v.number) (sym (opening_at ts i)) ∙ are.numbers i (omega (arith, long));
+      counts = λ i lt. ap (λ (v : ShardState). v.count) (sym (opening_at ts i)) ∙ are.counts i (omega (arith, long)) ∙ long;
+      numbers = λ i lt. ap (λ (v : ShardState). v.number) (sym (opening_at ts i)) ∙ are.numbers i (omega (arith, long));
     }
 
 pub none_first : AreFirst [] []

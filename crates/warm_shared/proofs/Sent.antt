@@ -10,8 +10,8 @@ use Rattle.warm_turn.specs.declared.machine.Machine as Machine
 use Rattle.warm_turn.specs.contracts.turn.Pass as Pass
 use Rattle.warm_shared.specs.contracts.call.ShardCall as ShardCall
 use Rattle.warm_shared.specs.contracts.call.ShardReply as ShardReply
-use Rattle.warm_shared.specs.contracts.shard.ViewOfShard as ViewOfShard
-use Rattle.warm_shared.specs.ShardSteps.{ShardState, ShardStep, ShardView, shard_view}
+use Rattle.warm_shared.specs.contracts.shard.StateOfShard as StateOfShard
+use Rattle.warm_shared.specs.ShardSteps.{ShardState, ShardStep}
 use Rattle.warm_turn.proofs.Sent.{pass_send, turn_sync}
 use Rattle.warm_shared.specs.contracts.shard.Shard as Shard
 use Rattle.warm_shared.proofs.shard.Shard.TheSendSync.{the_send}
@@ -24,15 +24,15 @@ pub shard_send : (D : RattleType) (g : Ghosts D.Denot) → IsSend D → IsSend (
 shard_send D g s = search (sendable, the_send) depth 20
 
 -- a shard is such a machine
-abbrev machine : Machine.Ghosts ShardState ShardCall.the_row.Denot ShardReply.the_row.Denot ShardView
-machine = record { view = shard_view; goes = ShardStep }
+abbrev machine : Machine.Ghosts ShardState ShardCall.the_row.Denot ShardReply.the_row.Denot ShardState
+machine = record { view = λ s. s; goes = ShardStep }
 
 pub attached_send : (D : RattleType) (g : Ghosts D.Denot) → IsSend D
     → IsSend (Attached.the_row D g)
 attached_send D g s =
-    let pass : IsSend (Pass.the_row (Shard.the_row D g) ShardCall.the_row ShardReply.the_row ViewOfShard.the_row machine) =
-    pass_send (Shard.the_row D g) ShardCall.the_row ShardReply.the_row ViewOfShard.the_row machine (shard_send D g s) in
-    let passes = Vec-send (Pass.the_row (Shard.the_row D g) ShardCall.the_row ShardReply.the_row ViewOfShard.the_row machine) pass in
+    let pass : IsSend (Pass.the_row (Shard.the_row D g) ShardCall.the_row ShardReply.the_row StateOfShard.the_row machine) =
+    pass_send (Shard.the_row D g) ShardCall.the_row ShardReply.the_row StateOfShard.the_row machine (shard_send D g s) in
+    let passes = Vec-send (Pass.the_row (Shard.the_row D g) ShardCall.the_row ShardReply.the_row StateOfShard.the_row machine) pass in
     let fields : IsSend (Struct (Declared.shape (AttachedInside.the_type D g))) =
     struct_send (Declared.shape (AttachedInside.the_type D g)) (passes, (search (sendable, crosses) depth 20, tt)) in
     let inner : IsSend (AttachedInside.the_row D g) = search (sendable, fields) depth 20 in

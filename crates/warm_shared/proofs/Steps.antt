@@ -8,23 +8,23 @@ use Rattle.warm_shared.specs.declared.call.ShardReply.{ShardReply}
 use Rattle.warm_shared.specs.declared.call.ShardReply.TheVariants.{Foreign}
 use Rattle.warm_shared.specs.Attached.{Known}
 use Rattle.warm_shared.specs.Clauses.{MayAnswer}
-use Rattle.warm_shared.specs.ShardSteps.{IsOwn, NodeGoes, ShardStep, ShardView, asked_of}
+use Rattle.warm_shared.specs.ShardSteps.{IsOwn, NodeGoes, ShardStep, ShardState, asked_of}
 
 -- the shard is the same one
-abbrev pub SameShard : ShardView → ShardView → Type 0
+abbrev pub SameShard : ShardState → ShardState → Type 0
 SameShard x y = (y.count ≡ x.count) × (y.number ≡ x.number)
 
-only_node : (x y : ShardView) → y ≡ record x { node = y.node } → SameShard x y
-only_node x y is = (ap (λ (s : ShardView). s.count) is, ap (λ (s : ShardView). s.number) is)
+only_node : (x y : ShardState) → y ≡ record x { node = y.node } → SameShard x y
+only_node x y is = (ap (λ (s : ShardState). s.count) is, ap (λ (s : ShardState). s.number) is)
 
-pub step_keeps : (x y : ShardView) (c : ShardCall) (r : ShardReply) → ShardStep x c r y
+pub step_keeps : (x y : ShardState) (c : ShardCall) (r : ShardReply) → ShardStep x c r y
     → SameShard x y
-step_keeps x y c Foreign step = (ap (λ (s : ShardView). s.count) step.1, ap (λ (s : ShardView). s.number) step.1)
+step_keeps x y c Foreign step = (ap (λ (s : ShardState). s.count) step.1, ap (λ (s : ShardState). s.number) step.1)
 step_keeps x y c r step = only_node x y step.1
 
-pub runs_keep : (x z : ShardView) (es : List (Entry ShardCall ShardReply)) → Runs ShardStep x es z
+pub runs_keep : (x z : ShardState) (es : List (Entry ShardCall ShardReply)) → Runs ShardStep x es z
     → SameShard x z
-runs_keep x z [] runs = (ap (λ (s : ShardView). s.count) (sym runs), ap (λ (s : ShardView). s.number) (sym runs))
+runs_keep x z [] runs = (ap (λ (s : ShardState). s.count) (sym runs), ap (λ (s : ShardState). s.number) (sym runs))
 runs_keep x z (e ∷ es) runs =
     let one = step_keeps x runs.0 e.call e.reply runs.1 in
     let rest = runs_keep runs.0 z es runs.2 in
@@ -40,12 +40,12 @@ last_of goes x z (f ∷ fs) e runs =
     (rest.0, (runs.0, runs.1, rest.1), rest.2)
 
 -- a call of own pages is answered as a node answers it
-pub own_step : (x y : ShardView) (c : ShardCall) (r : ShardReply) → IsOwn x.count x.number c
+pub own_step : (x y : ShardState) (c : ShardCall) (r : ShardReply) → IsOwn x.count x.number c
     → ShardStep x c r y → NodeGoes x.node (asked_of c) r y.node
 own_step x y c Foreign own step = absurd (step.0 own)
 own_step x y c r own step = step.2
 
-pub may_answer : (v w : Known) (c : ShardCall) (r : ShardReply) (o : ShardView)
+pub may_answer : (v w : Known) (c : ShardCall) (r : ShardReply) (o : ShardState)
     → v.opening ≡ Some o → Called ShardStep v c r w → MayAnswer o.count o.number c r
 may_answer v w c r o opens called own =
     let legal = called.legal.legal in
@@ -53,7 +53,7 @@ may_answer v w c r o opens called own =
     let runs = subst (λ (es : List (Entry ShardCall ShardReply)). Runs ShardStep legal.0 es legal.1) called.seen legal.3 in
     let last = last_of ShardStep legal.0 legal.1 (v.seen ++ called.between) (entry v.number c r) runs in
     let kept = runs_keep legal.0 last.0 (v.seen ++ called.between) last.1 in
-    let count : o.count ≡ last.0.count = sym (kept.0 ∙ ap (λ (s : ShardView). s.count) same) in
-    let number : o.number ≡ last.0.number = sym (kept.1 ∙ ap (λ (s : ShardView). s.number) same) in
+    let count : o.count ≡ last.0.count = sym (kept.0 ∙ ap (λ (s : ShardState). s.count) same) in
+    let number : o.number ≡ last.0.number = sym (kept.1 ∙ ap (λ (s : ShardState). s.number) same) in
     let own' : IsOwn last.0.count last.0.number c = subst (λ n. IsOwn last.0.count n c) number (subst (λ n. IsOwn n o.number c) count own) in
     (last.0.node, legal.1.node, own_step last.0 legal.1 c r own' last.2)

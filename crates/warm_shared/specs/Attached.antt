@@ -6,17 +6,17 @@ use Rattle.warm_turn.specs.declared.table.View.{View}
 use Rattle.warm_shards.specs.Shards.{IsShardCount}
 use Rattle.warm_shared.specs.declared.call.ShardCall.{ShardCall}
 use Rattle.warm_shared.specs.declared.call.ShardReply.{ShardReply}
-use Rattle.warm_shared.specs.ShardSteps.{ShardView, no_shard_view}
+use Rattle.warm_shared.specs.ShardSteps.{ShardState, no_state}
 
 -- the turn of a shard, the pass of one, and what a pass knows
 abbrev pub ShardTurn : Type 0
-ShardTurn = TurnView ShardView
+ShardTurn = TurnView ShardState
 
 abbrev pub ShardPass : Type 0
-ShardPass = PassView ShardView ShardCall ShardReply
+ShardPass = PassView ShardState ShardCall ShardReply
 
 abbrev pub Known : Type 0
-Known = View ShardView ShardCall ShardReply
+Known = View ShardState ShardCall ShardReply
 
 -- no table at all
 abbrev pub no_table : TableId
@@ -32,7 +32,7 @@ no_table =
     }
 
 abbrev pub no_turn : ShardTurn
-no_turn = turn_at no_table no_shard_view
+no_turn = turn_at no_table no_state
 
 abbrev pub no_pass : ShardPass
 no_pass = record { table = no_table; view = nobody }

@@ -2,11 +2,12 @@
 use Rattle.std.specs.Prelude.{◌≡◌, ℕ, ◌<◌, ◌≤◌, List, length}
 use Rattle.std.specs.Prelude.{Result, Ok, Err}
 use Rattle.warm_turn.specs.CallHistories.{Called, marked}
-use Rattle.warm_gossip.specs.State.{NodeView}
+use Rattle.warm_gossip.specs.State.{NodeState}
 use Rattle.warm_gossip.specs.declared.fault.NodeFault.TheVariants.{StaleSlot}
 use Rattle.warm_shared.specs.declared.call.ShardCall.{ShardCall}
 use Rattle.warm_shared.specs.declared.call.ShardCall.TheVariants.{Absorb, Write}
 use Rattle.warm_shared.specs.declared.call.ShardCall.TheVariants.{WritePages, WriteBack}
+use Rattle.warm_shared.specs.declared.call.ShardCall.TheVariants.{ForgetPages}
 use Rattle.warm_shared.specs.declared.call.ShardReply.{ShardReply}
 use Rattle.warm_shared.specs.declared.call.ShardReply.TheVariants.{Done, Refused}
 use Rattle.warm_shared.specs.declared.fault.SharedFault.{SharedFault}
@@ -56,7 +57,7 @@ done given = Done
 -- a node could give this reply to the call, if all its pages are of this shard
 abbrev pub MayAnswer : ℕ → ℕ → ShardCall → ShardReply → Type 0
 MayAnswer count i call reply = IsOwn count i call
-    → (x : NodeView) × (y : NodeView) × NodeGoes x (asked_of call) reply y
+    → (x : NodeState) × (y : NodeState) × NodeGoes x (asked_of call) reply y
 
 -- a call of own pages that has no result: a node answers it `Done`, or refuses it
 abbrev pub IsDoneCall : ℕ → ℕ → ShardCall → Type 0
@@ -64,4 +65,5 @@ IsDoneCall count i (Absorb batch) = IsOwn count i (Absorb batch)
 IsDoneCall count i (Write slot at bytes) = Unit {0}
 IsDoneCall count i WritePages = Unit {0}
 IsDoneCall count i WriteBack = Unit {0}
+IsDoneCall count i (ForgetPages dev from) = Unit {0}
 IsDoneCall count i call = ⊥

@@ -9,65 +9,56 @@ use Rattle.warm_frames.specs.declared.message.Message.{Message}
 use Rattle.warm_gossip.specs.declared.call.Call.{Call}
 use Rattle.warm_gossip.specs.declared.call.Call.TheVariants as node_call
 use Rattle.warm_gossip.specs.declared.call.Reply.{Reply}
-use Rattle.warm_gossip.specs.declared.call.Reply.TheVariants as node_reply
 use Rattle.warm_gossip.specs.Given.{given_by_calls}
-use Rattle.warm_gossip.specs.State.{NodeState, NodeView, node_view}
-use Rattle.warm_shards.specs.Shards.{AreShards, HoldsPagesOf}
+use Rattle.warm_gossip.specs.State.{NodeState}
+use Rattle.warm_shards.specs.Shards.{AreShards, HoldsShard}
 use Rattle.warm_stamps.specs.declared.Reference.{Reference}
 use Rattle.warm_shared.specs.declared.answering.Offered.{Offered}
 use Rattle.warm_shared.specs.declared.call.ShardCall.{ShardCall}
 use Rattle.warm_shared.specs.declared.call.ShardReply.{ShardReply}
-use Rattle.warm_shared.specs.declared.call.ShardReply.TheVariants.{Refused}
 use Rattle.warm_shared.specs.Answering.{AnswersFirst, OffersFirst}
 use Rattle.warm_shared.specs.Attached.{Known, ShardPass, ShardTurn, known_of}
 use Rattle.warm_shared.specs.Clauses.{Answered}
-use Rattle.warm_shared.specs.Opening.{AreJoined, ClosesShard, shards_over, view_at}
-use Rattle.warm_shared.specs.declared.call.ShardReply.TheVariants.{Changed, Looked}
-use Rattle.warm_shared.specs.ShardSteps.{Asked, of_node, writing_back, looking, changing, NodeStep}
-use Rattle.warm_shared.specs.ShardSteps.{ShardStep, ShardView, asked_of, node_reply_of}
+use Rattle.warm_shared.specs.Opening.{AreJoined, ClosesShard, shards_over, state_at}
+use Rattle.warm_shared.specs.declared.call.ShardReply.TheVariants.{Changed, Done, Foreign, Looked}
+use Rattle.warm_shared.specs.declared.call.ShardReply.TheVariants.{Pinned}
+use Rattle.warm_shared.specs.ShardSteps.{Asked, NodeStep, Work, calling, changing, doing, looking}
+use Rattle.warm_shared.specs.ShardSteps.{ShardState, ShardStep, asked_of, node_reply_of}
 use Rattle.warm_shared.specs.Whole.{AbsorbsFirst, DoneFirst, RaisesFirst}
 
 -- One shard
 
--- a call with its reply, where the reply is one of a node; without a call, a write-back
-abbrev pub step_entries : ℕ → Option Call → Option Reply → List (Entry (Option Call) Reply)
-step_entries by call None = []
-step_entries by call (Some reply) = entry by call reply ∷ []
-
--- The calls of the node and the write-backs that an entry of a shard stands for: of a look a pin
--- and an unpin, of a change a write between them, and of either a pin where it was refused.
-abbrev pub asked_steps : ℕ → Asked → ShardReply → List (Entry (Option Call) Reply)
-asked_steps by (of_node call) reply = step_entries by (Some call) (node_reply_of reply)
-asked_steps by writing_back reply = step_entries by None (node_reply_of reply)
+-- What the node did for an entry of a shard, step by step: for a look a pin and an unpin, for a
+-- change a write between them, and for either a pin where it was refused. For a call that brought a
+-- page of another shard it did nothing.
+abbrev pub asked_steps : ℕ → Asked → ShardReply → List (Entry Work ShardReply)
+asked_steps by asked Foreign = []
+asked_steps by (doing work) reply = entry by work reply ∷ []
 asked_steps by (looking page) (Looked slot bytes) =
-    entry by (Some (node_call.Pin page)) (node_reply.Pinned slot)
-    ∷ entry by (Some (node_call.Unpin slot)) node_reply.Done ∷ []
+    entry by (calling (node_call.Pin page)) (Pinned slot)
+    ∷ entry by (calling (node_call.Unpin slot)) Done ∷ []
 asked_steps by (changing page) (Changed slot before after) =
-    entry by (Some (node_call.Pin page)) (node_reply.Pinned slot)
-    ∷ entry by (Some (node_call.Write slot 0 after.numbers)) node_reply.Done
-    ∷ entry by (Some (node_call.Unpin slot)) node_reply.Done ∷ []
-asked_steps by (looking page) (Refused why) =
-    entry by (Some (node_call.Pin page)) (node_reply.Refused why) ∷ []
-asked_steps by (changing page) (Refused why) =
-    entry by (Some (node_call.Pin page)) (node_reply.Refused why) ∷ []
-asked_steps by asked reply = []
+    entry by (calling (node_call.Pin page)) (Pinned slot)
+    ∷ entry by (calling (node_call.Write slot 0 after.numbers)) Done
+    ∷ entry by (calling (node_call.Unpin slot)) Done ∷ []
+asked_steps by (looking page) reply = entry by (calling (node_call.Pin page)) reply ∷ []
+asked_steps by (changing page) reply = entry by (calling (node_call.Pin page)) reply ∷ []
 
--- the calls of the node and the write-backs, in their order: all but those for calls that brought
--- pages of another shard
-abbrev pub node_steps : List (Entry ShardCall ShardReply) → List (Entry (Option Call) Reply)
+-- what the node did for these entries, in their order
+abbrev pub node_steps : List (Entry ShardCall ShardReply) → List (Entry Work ShardReply)
 node_steps [] = []
 node_steps (e ∷ es) = asked_steps e.by (asked_of e.call) e.reply ++ node_steps es
 
--- a step of the node, or a write-back
-abbrev pub StepOrWriteBack : NodeView → Option Call → Reply → NodeView → Type 0
-StepOrWriteBack old call reply new = NodeStep old call (Some reply) new
+-- the calls of the node among these, each with its reply
+abbrev pub reply_entries : ℕ → Call → Option Reply → List (Entry Call Reply)
+reply_entries by call None = []
+reply_entries by call (Some reply) = entry by call reply ∷ []
 
--- the calls of the node among these
-abbrev pub call_entries : ℕ → Option Call → Reply → List (Entry Call Reply)
-call_entries by None reply = []
-call_entries by (Some call) reply = entry by call reply ∷ []
+abbrev pub call_entries : ℕ → Work → ShardReply → List (Entry Call Reply)
+call_entries by (calling call) reply = reply_entries by call (node_reply_of reply)
+call_entries by work reply = []
 
-abbrev pub calls_in : List (Entry (Option Call) Reply) → List (Entry Call Reply)
+abbrev pub calls_in : List (Entry Work ShardReply) → List (Entry Call Reply)
 calls_in [] = []
 calls_in (e ∷ es) = call_entries e.by e.call e.reply ++ calls_in es
 
@@ -75,10 +66,11 @@ calls_in (e ∷ es) = call_entries e.by e.call e.reply ++ calls_in es
 abbrev pub node_calls : List (Entry ShardCall ShardReply) → List (Entry Call Reply)
 node_calls calls = calls_in (node_steps calls)
 
--- a legal list of calls of a shard is one of its node, with the write-backs between
+-- A legal list of calls of a shard is one of steps of its node: of calls, and of what it does beside
+-- them.
 abbrev pub CallsAreANodes : Type 0
-CallsAreANodes = (opening last : ShardView) (calls : List (Entry ShardCall ShardReply))
-    → Runs ShardStep opening calls last → Runs StepOrWriteBack opening.node (node_steps calls) last.node
+CallsAreANodes = (opening last : ShardState) (calls : List (Entry ShardCall ShardReply))
+    → Runs ShardStep opening calls last → Runs NodeStep opening.node (node_steps calls) last.node
 
 -- the references that a shard was given by these calls, from these on
 abbrev pub given_to_shard : ReferenceSet → List (Entry ShardCall ShardReply) → ReferenceSet
@@ -87,7 +79,7 @@ given_to_shard S calls = given_by_calls S (node_calls calls)
 -- a shard in a state that a legal list of its calls reaches has the history of the references that
 -- it was given
 abbrev pub ShardIsOfGiven : Type 0
-ShardIsOfGiven = (S : ReferenceSet) (opening last : ShardView)
+ShardIsOfGiven = (S : ReferenceSet) (opening last : ShardState)
     (calls : List (Entry ShardCall ShardReply)) → StandsFor opening.node.history S
     → Runs ShardStep opening calls last → StandsFor last.node.history (given_to_shard S calls)
 
@@ -97,15 +89,15 @@ ShardIsOfGiven = (S : ReferenceSet) (opening last : ShardView)
 -- legal list of its calls, and so does its node once the shard is closed.
 pub record ShardsHoldTheirPages : Type 0 where
   pub opened : (nodes : List NodeState) (i : ℕ) → AreShards nodes → i < length nodes
-      → HoldsPagesOf (length nodes) i (view_at (shards_over nodes) i).node
-  pub called : (opening last : ShardView) (calls : List (Entry ShardCall ShardReply))
-      → HoldsPagesOf opening.count opening.number opening.node
+      → HoldsShard (length nodes) i (state_at (shards_over nodes) i).node
+  pub called : (opening last : ShardState) (calls : List (Entry ShardCall ShardReply))
+      → HoldsShard opening.count opening.number opening.node
       → Runs ShardStep opening calls last
-      → HoldsPagesOf opening.count opening.number last.node
+      → HoldsShard opening.count opening.number last.node
   pub closed : (turn : ShardTurn) (known : Known) (node : NodeState)
-      → HoldsPagesOf turn.opening.count turn.opening.number turn.opening.node
+      → HoldsShard turn.opening.count turn.opening.number turn.opening.node
       → ClosesShard turn known (Ok node)
-      → HoldsPagesOf turn.opening.count turn.opening.number (node_view node)
+      → HoldsShard turn.opening.count turn.opening.number node
 
 -- All shards
 

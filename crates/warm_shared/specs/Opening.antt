@@ -12,31 +12,30 @@ use Rattle.warm_shared.specs.declared.fault.SharedFault.{SharedFault}
 use Rattle.warm_shared.specs.declared.fault.SharedFault.TheVariants.{Node, PinsHeld}
 use Rattle.warm_shared.specs.Attached.{Known, ShardPass, ShardTurn, known_of, shard_pass}
 use Rattle.warm_shared.specs.Attached.{shard_turn}
-use Rattle.warm_shared.specs.ShardSteps.{ShardState, ShardStep, ShardView, no_shard_view, shard_over}
-use Rattle.warm_shared.specs.ShardSteps.{shard_view}
+use Rattle.warm_shared.specs.ShardSteps.{ShardState, ShardStep, no_state, shard_over}
 
 -- the shards over these nodes, numbered from i on, of this many
-abbrev pub shards_from : ℕ → ℕ → List NodeState → List ShardView
+abbrev pub shards_from : ℕ → ℕ → List NodeState → List ShardState
 shards_from count i [] = []
 shards_from count i (n ∷ ns) = shard_over count i n ∷ shards_from count (suc i) ns
 
 -- all shards over these nodes
-abbrev pub shards_over : List NodeState → List ShardView
+abbrev pub shards_over : List NodeState → List ShardState
 shards_over nodes = shards_from (length nodes) 0 nodes
 
 -- the shards with which turns opened
-abbrev pub openings : List ShardTurn → List ShardView
+abbrev pub openings : List ShardTurn → List ShardState
 openings turns = map (λ t. t.opening) turns
 
 -- the shard of this number, from 0
-abbrev pub view_at : List ShardView → ℕ → ShardView
-view_at views i = slice_index_or views i no_shard_view
+abbrev pub state_at : List ShardState → ℕ → ShardState
+state_at shards i = slice_index_or shards i no_state
 
 -- all shards of a replica, each with its number
-pub record AreNumbered (views : List ShardView) : Type 0 where
-  pub count : IsShardCount (length views)
-  pub counts : (i : ℕ) → i < length views → (view_at views i).count ≡ length views
-  pub numbers : (i : ℕ) → i < length views → (view_at views i).number ≡ i
+pub record AreNumbered (shards : List ShardState) : Type 0 where
+  pub count : IsShardCount (length shards)
+  pub counts : (i : ℕ) → i < length shards → (state_at shards i).count ≡ length shards
+  pub numbers : (i : ℕ) → i < length shards → (state_at shards i).number ≡ i
 
 -- the passes are the first ones of their turns: they have seen nothing and called nothing
 pub record AreFirst (turns : List ShardTurn) (passes : List ShardPass) : Type 0 where
@@ -73,7 +72,7 @@ pub record AreJoined (old other new : List ShardPass) : Type 0 where
 -- way, and the node is lost
 abbrev pub ClosesShard : ShardTurn → Known → Result NodeState Busy → Type 0
 ClosesShard turn known (Ok node) = (s : ShardState) × (s.node ≡ node)
-    × IsLast ShardStep turn.opening known (shard_view s)
+    × IsLast ShardStep turn.opening known s
 ClosesShard turn known (Err busy) = (busy.serving < busy.ticket) × MarkShows known busy
     × (¬ IsWhole known.share)
 

@@ -5,10 +5,10 @@ use boxcar::tag::Tag;
 use warm_frames::{BoxedMessage, MessageList};
 use warm_gossip::NodeFault;
 use warm_pool::Slot;
-use warm_stamps::{Bucket, BucketSet, ByteList, PageId, RefList};
+use warm_stamps::{Bucket, BucketSet, ByteList, PageId, PageList, RefList};
 
-/// A call of a shard: a call of its node, one that writes back, or one that pins a page, uses its
-/// bytes where they lie, and unpins it.
+/// A call of a shard: a call of its node, what an engine asks of a node beside the calls, or one
+/// that pins a page, uses its bytes where they lie, and unpins it.
 #[derive(Drop)]
 pub enum ShardCall {
     /// Add these references to the history. All must be to pages of the shard.
@@ -17,6 +17,8 @@ pub enum ShardCall {
     Raise(u64),
     /// Pin a page of the shard, and load it where it isn't resident.
     Pin(PageId),
+    /// Pin a page of the shard, and fill it with zeros. It isn't read.
+    PinZeroed(PageId),
     /// Remove a pin from the slot's page.
     Unpin(Slot),
     /// Give bytes of the slot's page.
@@ -41,6 +43,8 @@ pub enum ShardCall {
     Victim,
     /// Load the hottest page of the shard that is not resident.
     WarmStep,
+    /// List this many of the hottest pages of the shard, or all where there are fewer.
+    WarmList(usize),
     /// Give the digests of all buckets. Those of other shards' buckets are of no entry.
     Offer,
     /// Give the first entries of a bucket, of those whose page is greater than `after`.
@@ -50,12 +54,31 @@ pub enum ShardCall {
         /// The page after which they begin, or `None` for the first of the bucket.
         after: Option<PageId>,
     },
+    /// Give the first entries of a bucket, of those whose page is greater than `after` and whose
+    /// latest stamp is not before `since`.
+    SendSince {
+        /// The bucket.
+        bucket: Bucket,
+        /// The time.
+        since: u64,
+        /// The page after which they begin, or `None` for the first of the bucket.
+        after: Option<PageId>,
+    },
     /// Give the entries of these buckets, in messages. All must be buckets of the shard.
     Answer(BucketSet),
     /// Write back all dirty pages of the shard. No device is flushed.
     WritePages,
+    /// Write back at most this many dirty pages of the shard. No device is flushed.
+    WriteSome(usize),
     /// Write back the dirty pages of the shard, and flush its unflushed devices.
     WriteBack,
+    /// Evict the shard's pages of a device from a number on, and do not write them.
+    ForgetPages {
+        /// The device.
+        dev: u16,
+        /// The number of the first page.
+        from: u64,
+    },
     /// Show the bytes of a page of the shard, and load it where it isn't resident.
     Look(PageId),
     /// Let the bytes of a page of the shard be changed, and load it where it isn't resident.
@@ -69,6 +92,8 @@ pub enum ShardReply {
     Done,
     /// The horizon afterwards.
     Kept(u64),
+    /// How many pages of the shard are dirty.
+    Dirty(usize),
     /// The slot of the pinned page.
     Pinned(Slot),
     /// The requested bytes.
@@ -77,8 +102,17 @@ pub enum ShardReply {
     Page(Option<PageId>),
     /// The page that was loaded, if any.
     Loaded(Option<PageId>),
+    /// The hottest pages, hottest first.
+    Pages(PageList),
     /// The requested message.
     Sent(BoxedMessage),
+    /// A message of entries, and whether more of the requested entries follow.
+    Portion {
+        /// The message.
+        message: BoxedMessage,
+        /// Whether more follow.
+        more: bool,
+    },
     /// The messages with the requested entries, in order.
     Answers(MessageList),
     /// The call brings a page, or a bucket, of another shard. Nothing has changed.

@@ -9,8 +9,8 @@ ghost use Rattle.warm_shared.specs.Gossip.{Receives, RequestStops, TakeStops, Ta
 ghost use Rattle.warm_shared.specs.Gossip.{TakesEntries, TakesRequest};
 ghost use Rattle.warm_shared.specs.ShardSteps.{shard_of_bucket};
 ghost use Rattle.warm_shared.specs.Whole.{AbsorbFails, AbsorbsFirst};
-ghost use Rattle.warm_shared.specs.declared.call.ShardCall.TheVariants.{Send};
-ghost use Rattle.warm_shared.specs.declared.call.ShardReply.TheVariants.{Sent};
+ghost use Rattle.warm_shared.specs.declared.call.ShardCall.TheVariants.{Send, SendSince};
+ghost use Rattle.warm_shared.specs.declared.call.ShardReply.TheVariants.{Portion, Sent};
 
 use crate::answering::{Offered, answer_all, gather};
 use crate::call::{ShardCall, ShardReply};
@@ -23,7 +23,7 @@ use std::sync::Wait;
 use warm_devices::PageDevice;
 use warm_digest::differing;
 use warm_frames::{BoxedMessage, DigestTable, Message, MessageList};
-use warm_gossip::NodeFault;
+use warm_gossip::{NodeFault, SentPortion};
 use warm_history::Entry;
 use warm_shards::references_in;
 use warm_stamps::{Bucket, BucketSet, PageId};
@@ -90,6 +90,38 @@ fn send_in<D: PageDevice + Send, R: Wait>(
 {
     match call_shard(rt, turns, passes, shard, ShardCall::Send { bucket, after })? {
         ShardReply::Sent(message) => Ok(message),
+        ShardReply::Refused(why) => Err(SharedFault::Node(why)),
+        _ => unreachable!(),
+    }
+}
+
+// Sends what is new in a bucket of a shard since a time.
+fn send_since_in<D: PageDevice + Send, R: Wait>(
+    rt: &R,
+    turns: &Vec<Turn<Shard<D>>>,
+    passes: &mut Vec<Pass<Shard<D>>>,
+    shard: usize,
+    bucket: Bucket,
+    since: u64,
+    after: Option<PageId>,
+) -> Result<SentPortion, SharedFault>
+    requires turns { AreTurns turns.now.items }
+    requires passes { AreOf turns.now.items passes.old.items }
+    requires there { shard < length turns.now.items }
+    ensures passes { AreOf turns.now.items passes.new.items }
+    ensures ends { CallEnds passes.old.items shard (SendSince bucket since after)
+        (λ sent. Portion sent.message sent.more) result passes.new.items }
+{
+    let call = ShardCall::SendSince {
+        bucket,
+        since,
+        after,
+    };
+    match call_shard(rt, turns, passes, shard, call)? {
+        ShardReply::Portion { message, more } => Ok(SentPortion {
+            message: message.into_message(),
+            more,
+        }),
         ShardReply::Refused(why) => Err(SharedFault::Node(why)),
         _ => unreachable!(),
     }
@@ -237,6 +269,36 @@ impl<D: PageDevice + Send> SharedShards<D> {
         let shard = usize::from(bucket.get()) % self.turns.len();
         let boxed = send_in(rt, &self.turns, &mut attached.passes, shard, bucket, after)?;
         Ok(boxed.into_message())
+    }
+
+    /// A message of the first entries of a bucket, of those whose page is greater than `after` and
+    /// whose latest stamp is not before the time `since`, up to MAX_ENTRIES, and whether more of
+    /// these follow: as [`warm_gossip::Node::send_since`] of the shard that has the pages of the
+    /// bucket, in one turn of that shard, in which the call `SendSince` is answered.
+    ///
+    /// # Errors
+    /// `Node(Memory)`: an allocation failed in the shard. `TurnsSpent`. Nothing has changed in any
+    /// shard.
+    pub fn send_since<R: Wait>(
+        &self,
+        rt: &R,
+        attached: &mut Attached<D>,
+        bucket: Bucket,
+        since: u64,
+        after: Option<PageId>,
+    ) -> Result<SentPortion, SharedFault>
+        requires { AreOf self.now attached.old.passes }
+        ensures attached { AreOf self.now attached.new.passes }
+        ensures ends { CallEnds attached.old.passes (shard_of_bucket (length self.now) bucket)
+            (SendSince bucket since after) (λ sent. Portion sent.message sent.more) result
+            attached.new.passes }
+        ensures pins { attached.new.pins ≡ attached.old.pins }
+    {
+        let count = self.turns.len();
+        let shard = usize::from(bucket.get()) % count;
+        let passes = &mut attached.passes;
+        let sent = send_since_in(rt, &self.turns, passes, shard, bucket, since, after)?;
+        Ok(sent)
     }
 
     /// A message of the digests of all buckets: each shard makes an offer in one turn, in the order

@@ -1,10 +1,10 @@
-//! The calls that take references in, and forget them: shard by shard.
+//! The calls that take references in, forget them, and list the hottest pages: shard by shard.
 ghost use Rattle.std.specs.Prelude.{◌≡◌, ◌<◌, [], length, IfErr, IfOk, OnOk};
 ghost use Rattle.warm_shards.specs.Shards.{IsShardCount};
 ghost use Rattle.warm_shared.specs.Attached.{AreOf, AreTurns};
 ghost use Rattle.warm_shared.specs.Clauses.{CallEnds};
-ghost use Rattle.warm_shared.specs.declared.call.ShardCall.TheVariants.{Raise};
-ghost use Rattle.warm_shared.specs.declared.call.ShardReply.TheVariants.{Kept};
+ghost use Rattle.warm_shared.specs.declared.call.ShardCall.TheVariants.{Raise, WarmList};
+ghost use Rattle.warm_shared.specs.declared.call.ShardReply.TheVariants.{Kept, Pages};
 ghost use Rattle.warm_shared.specs.Whole.{AbsorbFails, AbsorbsFirst, ArePartsOf, RaiseFails};
 ghost use Rattle.warm_shared.specs.Whole.{RaisesFirst};
 
@@ -18,7 +18,7 @@ use std::sync::Wait;
 use warm_devices::PageDevice;
 use warm_gossip::NodeFault;
 use warm_shards::shard_of;
-use warm_stamps::{RefList, Reference};
+use warm_stamps::{PageList, RefList, Reference};
 use warm_turn::{Pass, Turn};
 
 /// Where a call of the whole stopped, and why: the shards before this one have made their part of
@@ -162,6 +162,27 @@ pub(crate) fn raise_all<D: PageDevice + Send, R: Wait>(
     Ok(())
 }
 
+// Lists the hottest pages of a shard.
+fn warm_list_in<D: PageDevice + Send, R: Wait>(
+    rt: &R,
+    turns: &Vec<Turn<Shard<D>>>,
+    passes: &mut Vec<Pass<Shard<D>>>,
+    shard: usize,
+    n: usize,
+) -> Result<PageList, SharedFault>
+    requires turns { AreTurns turns.now.items }
+    requires passes { AreOf turns.now.items passes.old.items }
+    requires there { shard < length turns.now.items }
+    ensures passes { AreOf turns.now.items passes.new.items }
+    ensures ends { CallEnds passes.old.items shard (WarmList n) Pages result passes.new.items }
+{
+    match call_shard(rt, turns, passes, shard, ShardCall::WarmList(n))? {
+        ShardReply::Pages(pages) => Ok(pages),
+        ShardReply::Refused(why) => Err(SharedFault::Node(why)),
+        _ => unreachable!(),
+    }
+}
+
 impl<D: PageDevice + Send> SharedShards<D> {
     /// Adds references to the history: each shard that has a part of the batch absorbs it in one
     /// turn, in the order of the shards. The batch is read once.
@@ -213,5 +234,29 @@ impl<D: PageDevice + Send> SharedShards<D> {
     {
         raise_all(rt, &self.turns, &mut attached.passes, time)?;
         Ok(())
+    }
+
+    /// The `n` hottest pages of a shard, hottest first, or all where there are fewer: one turn of
+    /// the shard, in which the call `WarmList` is answered. It says nothing of other shards.
+    ///
+    /// # Errors
+    /// `Node(Memory)`: an allocation failed in the shard. `TurnsSpent`. Nothing has changed in any
+    /// shard.
+    pub fn warm_list<R: Wait>(
+        &self,
+        rt: &R,
+        attached: &mut Attached<D>,
+        shard: usize,
+        n: usize,
+    ) -> Result<PageList, SharedFault>
+        requires passes { AreOf self.now attached.old.passes }
+        requires there { shard < length self.now }
+        ensures attached { AreOf self.now attached.new.passes }
+        ensures ends { CallEnds attached.old.passes shard (WarmList n) Pages result
+            attached.new.passes }
+        ensures pins { attached.new.pins ≡ attached.old.pins }
+    {
+        let pages = warm_list_in(rt, &self.turns, &mut attached.passes, shard, n)?;
+        Ok(pages)
     }
 }

@@ -8,8 +8,9 @@ ghost use Rattle.warm_shared.specs.contracts.shared.SharedShards.{the_row as sha
 
 use warm_devices::PageDevice;
 
-/// A legal list of calls of a shard is a legal list of calls of its node, with write-backs between
-/// them, of which a caller sees at most a count of failures.
+/// A legal list of calls of a shard is a legal list of calls of its node. Between these stand
+/// write-backs, of which a caller sees at most a count of failures, pins of pages that get zeros,
+/// and the forgetting of pages.
 pub fn calls_are_a_nodes()
     ensures { CallsAreANodes }
 {}

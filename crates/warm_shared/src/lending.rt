@@ -1,10 +1,7 @@
 //! A page of a node is pinned, its bytes are lent to a closure where they lie, and it is unpinned.
 ghost use Rattle.std.specs.Prelude.{◌≡◌, IfErr, IfOk};
 ghost use Rattle.std.specs.Fn.{FnOnceReturnsAt, FnOnceReturnsAtMut};
-ghost use Rattle.warm_gossip.specs.State.{node_view};
-ghost use Rattle.warm_gossip.specs.Step.{Refuses};
-ghost use Rattle.warm_gossip.specs.declared.call.Call.TheVariants.{Pin};
-ghost use Rattle.warm_shared.specs.ShardSteps.{Changes, Looks};
+ghost use Rattle.warm_shared.specs.ShardSteps.{Changes, IsNotPinned, Looks};
 
 use boxcar::tag::{Names, Tag};
 use warm_devices::PageDevice;
@@ -49,12 +46,11 @@ pub(crate) fn look_in<D: PageDevice, T, F: FnOnce(&[u8]) -> T + Drop>(
     f: F,
 ) -> Result<Shown<T>, NodeFault>
     requires callable { F.IsAlwaysCallable f }
-    ensures looked { IfOk result (λ shown. Looks (node_view node.old) page shown.slot
-        shown.bytes.numbers (node_view node.new)) }
+    ensures looked { IfOk result (λ shown. Looks node.old page shown.slot shown.bytes.numbers
+        node.new) }
     ensures shown { IfOk result (λ shown. FnOnceReturnsAt F.FnOnce f shown.bytes.numbers
         shown.output) }
-    ensures refused { IfErr result (λ why. Refuses (node_view node.old) (Pin page) why
-        (node_view node.new)) }
+    ensures refused { IfErr result (λ why. IsNotPinned node.old page why node.new) }
 {
     let slot = node.pin(page)?;
     let lent = node.pool().bytes(slot);
@@ -78,12 +74,11 @@ pub(crate) fn change_in<D: PageDevice, T, F: FnOnce(&mut [u8]) -> T + Drop>(
     f: F,
 ) -> Result<Left<T>, NodeFault>
     requires callable { F.IsAlwaysCallable f }
-    ensures changed { IfOk result (λ left. Changes (node_view node.old) page left.slot
-        left.before.numbers left.after.numbers (node_view node.new)) }
+    ensures changed { IfOk result (λ left. Changes node.old page left.slot left.before.numbers
+        left.after.numbers node.new) }
     ensures left { IfOk result (λ left. FnOnceReturnsAtMut F.FnOnce f left.before.numbers
         left.output left.after.numbers) }
-    ensures refused { IfErr result (λ why. Refuses (node_view node.old) (Pin page) why
-        (node_view node.new)) }
+    ensures refused { IfErr result (λ why. IsNotPinned node.old page why node.new) }
 {
     let slot = node.pin(page)?;
     node.pool().prove_is_pool();

@@ -4,6 +4,7 @@
 mod answering;
 mod attaching;
 mod call;
+mod engine_calls;
 mod fault;
 mod gossip;
 mod history_calls;
@@ -22,7 +23,7 @@ pub use call::{ShardCall, ShardReply};
 pub use fault::SharedFault;
 pub use gossip::NotReceived;
 pub use history_calls::Stopped;
-pub use shard::{Shard, ViewOfShard};
+pub use shard::{Shard, StateOfShard};
 pub use shared::{Attached, SharedShards};
 pub use sharing::Sharing;
 pub use writing::NotWritten;

@@ -1,24 +1,24 @@
 //! One shard as a machine that threads share by turns.
-ghost use Rattle.std.specs.Prelude.{◌≡◌, ◌↔◌, IfErr, IsTrue, OnErr, OnOk, length};
-ghost use Rattle.warm_pool.specs.WritingSome.{CleansFirst, SomeFails};
+ghost use Rattle.std.specs.Prelude.{◌≡◌, ◌↔◌, IsTrue};
 ghost use Rattle.std.specs.List.{All};
-ghost use Rattle.warm_gossip.specs.declared.call.Call.TheVariants.{Offer, Receive, Send};
-ghost use Rattle.warm_gossip.specs.declared.call.Reply.TheVariants.{Answers, Sent};
-ghost use Rattle.warm_gossip.specs.Clauses.{Answered, NodeWriteBackFails, SameView};
 ghost use Rattle.warm_shards.specs.Shards.{IsShardCount, shard_of};
-ghost use Rattle.warm_shared.specs.ShardSteps.{AnsweredAs, AreOwnBuckets, IsOwn, LeavesWritten};
-ghost use Rattle.warm_shared.specs.ShardSteps.{ShardStep, WrittenAs, request_for, shard_view};
-ghost use Rattle.warm_shared.specs.declared.call.ShardCall.TheVariants.{Change, Look};
+ghost use Rattle.warm_shared.specs.ShardSteps.{AnsweredAs, AreOwnBuckets, IsOwn, ShardStep};
+ghost use Rattle.warm_shared.specs.declared.call.ShardCall.TheVariants.{Answer, Change, Look, Offer};
+ghost use Rattle.warm_shared.specs.declared.call.ShardCall.TheVariants.{ForgetPages, PinZeroed};
+ghost use Rattle.warm_shared.specs.declared.call.ShardCall.TheVariants.{Send, SendSince, Unpin};
+ghost use Rattle.warm_shared.specs.declared.call.ShardCall.TheVariants.{Write, WritePages};
+ghost use Rattle.warm_shared.specs.declared.call.ShardCall.TheVariants.{WriteSome};
 
 use crate::call::{ShardCall, ShardReply};
 use crate::lending::{Left, Shown, change_in, look_in};
 use std::alloc::Global;
 use std::marker::Model;
 use warm_devices::PageDevice;
-use warm_frames::{BoxedMessage, Message, MessageList};
-use warm_gossip::{Node, NodeFault};
+use warm_frames::{BoxedMessage, Message};
+use warm_gossip::{Node, NodeFault, SentPortion};
+use warm_pool::Slot;
 use warm_shards::shard_of;
-use warm_stamps::{BUCKETS, Bucket, BucketSet, PageId, Reference, ReplicaId};
+use warm_stamps::{BUCKETS, Bucket, BucketSet, ByteList, PageId, Reference, ReplicaId};
 use warm_turn::Machine;
 
 /// One shard of a replica: a node, how many shards there are, and which of them it is.
@@ -100,9 +100,10 @@ fn is_own(count: usize, number: usize, call: &ShardCall) -> bool
 {
     match call {
         ShardCall::Absorb(batch) => are_own(count, number, batch.as_slice()),
-        ShardCall::Pin(page) | ShardCall::Look(page) | ShardCall::Change(page) => {
-            is_own_page(count, number, *page)
-        }
+        ShardCall::Pin(page)
+        | ShardCall::PinZeroed(page)
+        | ShardCall::Look(page)
+        | ShardCall::Change(page) => is_own_page(count, number, *page),
         ShardCall::Answer(request) => are_own_buckets(count, number, *request),
         _ => true,
     }
@@ -110,35 +111,51 @@ fn is_own(count: usize, number: usize, call: &ShardCall) -> bool
 
 // The digests that a node offers, in a box. It has the room for a message, so it is a function of
 // its own.
-fn offered<D: PageDevice>(alloc: Global, node: &mut Node<D>) -> Result<BoxedMessage, NodeFault>
-    ensures { Answered node.old Offer Sent result node.new }
+fn offered<D: PageDevice>(alloc: Global, node: &mut Node<D>) -> Result<ShardReply, NodeFault>
+    ensures { AnsweredAs node.old Offer result node.new }
 {
     let message = node.offer()?;
     let boxed = BoxedMessage::new(alloc, message)?;
-    Ok(boxed)
+    Ok(ShardReply::Sent(boxed))
 }
 
 // The entries that a node sends, in a box.
 fn sent<D: PageDevice>(
     alloc: Global,
-    node: &mut Node<D>,
+    node: &Node<D>,
     bucket: Bucket,
     after: Option<PageId>,
-) -> Result<BoxedMessage, NodeFault>
-    ensures { Answered node.old (Send bucket after) Sent result node.new }
+) -> Result<ShardReply, NodeFault>
+    ensures { AnsweredAs node.now (Send bucket after) result node.now }
 {
     let message = node.send(bucket, after)?;
     let boxed = BoxedMessage::new(alloc, message)?;
-    Ok(boxed)
+    Ok(ShardReply::Sent(boxed))
+}
+
+// What is new in a bucket since a time, in a box.
+fn sent_since<D: PageDevice>(
+    alloc: Global,
+    node: &Node<D>,
+    bucket: Bucket,
+    since: u64,
+    after: Option<PageId>,
+) -> Result<ShardReply, NodeFault>
+    ensures { AnsweredAs node.now (SendSince bucket since after) result node.now }
+{
+    let portion = node.send_since(bucket, since, after)?;
+    let SentPortion { message, more } = portion;
+    let boxed = BoxedMessage::new(alloc, message)?;
+    Ok(ShardReply::Portion {
+        message: boxed,
+        more,
+    })
 }
 
 // The entries of these buckets, in messages. It has the room for a message, so it is a function of
 // its own.
-fn requested<D: PageDevice>(
-    node: &mut Node<D>,
-    request: BucketSet,
-) -> Result<MessageList, NodeFault>
-    ensures { Answered node.old (Receive (request_for request)) Answers result node.new }
+fn requested<D: PageDevice>(node: &mut Node<D>, request: BucketSet) -> Result<ShardReply, NodeFault>
+    ensures { AnsweredAs node.old (Answer request) result node.new }
 {
     let Ok(sender) = ReplicaId::new(1) else {
         unreachable!()
@@ -149,22 +166,25 @@ fn requested<D: PageDevice>(
         request,
     };
     let messages = node.receive(want)?;
-    Ok(messages)
+    Ok(ShardReply::Answers(messages))
 }
 
 // Writes back all dirty pages of a node. No device is flushed.
-fn write_pages<D: PageDevice>(node: &mut Node<D>) -> Result<(), NodeFault>
-    ensures same { OnOk result (SameView node.old node.new) }
-    ensures written { OnOk result (CleansFirst (length node.old.pool.frames) node.old.pool
-        node.new.pool) }
-    ensures refused { IfErr result (λ why. NodeWriteBackFails node.old why node.new) }
-    ensures failed { OnErr result (SomeFails (length node.old.pool.frames) node.old.pool
-        node.new.pool) }
+fn write_pages<D: PageDevice>(node: &mut Node<D>) -> Result<ShardReply, NodeFault>
+    ensures { AnsweredAs node.old WritePages result node.new }
 {
     // No more pages are dirty than there are frames.
     let frames = node.pool().frames();
     node.write_back_some(frames)?;
-    Ok(())
+    Ok(ShardReply::Done)
+}
+
+// Writes back some dirty pages of a node, and says how many are left. No device is flushed.
+fn write_some<D: PageDevice>(node: &mut Node<D>, limit: usize) -> Result<ShardReply, NodeFault>
+    ensures { AnsweredAs node.old (WriteSome limit) result node.new }
+{
+    let left = node.write_back_some(limit)?;
+    Ok(ShardReply::Dirty(left))
 }
 
 // Has the node answer the call, or returns why it is refused.
@@ -173,8 +193,7 @@ fn answer<D: PageDevice>(
     node: &mut Node<D>,
     call: ShardCall,
 ) -> Result<ShardReply, NodeFault>
-    ensures answered { AnsweredAs node.old call result node.new }
-    ensures written { WrittenAs node.old call result node.new }
+    ensures { AnsweredAs node.old call result node.new }
 {
     match call {
         ShardCall::Absorb(batch) => {
@@ -183,33 +202,72 @@ fn answer<D: PageDevice>(
         }
         ShardCall::Raise(time) => Ok(ShardReply::Kept(node.raise(time))),
         ShardCall::Pin(page) => Ok(ShardReply::Pinned(node.pin(page)?)),
-        ShardCall::Unpin(slot) => {
-            node.unpin(slot)?;
-            Ok(ShardReply::Done)
-        }
+        ShardCall::PinZeroed(page) => zeroed(node, page),
+        ShardCall::Unpin(slot) => unpinned(node, slot),
         ShardCall::Read { slot, at, len } => Ok(ShardReply::Bytes(node.read(slot, at, len)?)),
-        ShardCall::Write { slot, at, bytes } => {
-            node.write(slot, at, bytes.as_slice())?;
-            Ok(ShardReply::Done)
-        }
+        ShardCall::Write { slot, at, bytes } => written(node, slot, at, bytes),
         ShardCall::Victim => Ok(ShardReply::Page(node.victim())),
         ShardCall::WarmStep => Ok(ShardReply::Loaded(node.warm_step()?)),
-        ShardCall::Offer => Ok(ShardReply::Sent(offered(alloc, node)?)),
-        ShardCall::Send { bucket, after } => {
-            Ok(ShardReply::Sent(sent(alloc, node, bucket, after)?))
-        }
-        ShardCall::Answer(request) => Ok(ShardReply::Answers(requested(node, request)?)),
-        ShardCall::WritePages => {
-            write_pages(node)?;
-            Ok(ShardReply::Done)
-        }
+        ShardCall::WarmList(n) => Ok(ShardReply::Pages(node.warm_list(n)?)),
+        ShardCall::Offer => offered(alloc, node),
+        ShardCall::Send { bucket, after } => sent(alloc, node, bucket, after),
+        ShardCall::SendSince {
+            bucket,
+            since,
+            after,
+        } => sent_since(alloc, node, bucket, since, after),
+        ShardCall::Answer(request) => requested(node, request),
+        ShardCall::WritePages => write_pages(node),
+        ShardCall::WriteSome(limit) => write_some(node, limit),
         ShardCall::WriteBack => {
             node.write_back()?;
             Ok(ShardReply::Done)
         }
+        ShardCall::ForgetPages { dev, from } => forgotten(node, dev, from),
         ShardCall::Look(page) => looked(node, page),
         ShardCall::Change(page) => changed(node, page),
     }
+}
+
+// Pins a page, and fills it with zeros.
+fn zeroed<D: PageDevice>(node: &mut Node<D>, page: PageId) -> Result<ShardReply, NodeFault>
+    ensures { AnsweredAs node.old (PinZeroed page) result node.new }
+{
+    let slot = node.pin_zeroed(page)?;
+    Ok(ShardReply::Pinned(slot))
+}
+
+// Removes a pin.
+fn unpinned<D: PageDevice>(node: &mut Node<D>, slot: Slot) -> Result<ShardReply, NodeFault>
+    ensures { AnsweredAs node.old (Unpin slot) result node.new }
+{
+    node.unpin(slot)?;
+    Ok(ShardReply::Done)
+}
+
+// Writes bytes into a slot's page.
+fn written<D: PageDevice>(
+    node: &mut Node<D>,
+    slot: Slot,
+    at: usize,
+    bytes: ByteList,
+) -> Result<ShardReply, NodeFault>
+    ensures { AnsweredAs node.old (Write slot at bytes) result node.new }
+{
+    node.write(slot, at, bytes.as_slice())?;
+    Ok(ShardReply::Done)
+}
+
+// Forgets the pages of a device from a number on.
+fn forgotten<D: PageDevice>(
+    node: &mut Node<D>,
+    dev: u16,
+    from: u64,
+) -> Result<ShardReply, NodeFault>
+    ensures { AnsweredAs node.old (ForgetPages dev from) result node.new }
+{
+    node.forget_pages(dev, from)?;
+    Ok(ShardReply::Done)
 }
 
 // A look by nobody: the page is loaded where it isn't resident.
@@ -256,11 +314,9 @@ impl<D: PageDevice> Shard<D> {
     }
 
     /// Answers a call: `ShardStep`. A call that brings a page, or a bucket, of another shard is
-    /// answered `Foreign`, and nothing has changed. What `WritePages` and `WriteBack` leave of
-    /// dirty pages and unflushed devices, no caller of the shard sees: `LeavesWritten`.
+    /// answered `Foreign`, and nothing has changed.
     pub fn call(&mut self, call: ShardCall) -> ShardReply
-        ensures step { ShardStep (shard_view self.old) call result (shard_view self.new) }
-        ensures written { LeavesWritten self.old.node call result self.new.node }
+        ensures { ShardStep self.old call result self.new }
     {
         if !is_own(self.count, self.number, &call) {
             return ShardReply::Foreign;
@@ -285,31 +341,31 @@ impl<D: PageDevice> Shard<D> {
     }
 }
 
-/// The state of a shard that threads share: what a caller sees of it. No value of the type is made;
-/// contracts see it as a `ShardView`.
-pub struct ViewOfShard {
+/// The state of a shard that threads share: the whole of it, with its devices and dirty flags. No
+/// value of the type is made; contracts see it as a `ShardState`.
+pub struct StateOfShard {
     _none: (),
 }
 
-impl Model for ViewOfShard {
-    ghost use Rattle.warm_shared.specs.ShardSteps.{ShardView, no_shard_view};
+impl Model for StateOfShard {
+    ghost use Rattle.warm_shared.specs.ShardSteps.{ShardState, no_state};
 
-    ghost Value = { ShardView };
+    ghost Value = { ShardState };
 
-    ghost view = { λ _. no_shard_view };
+    ghost view = { λ _. no_state };
 }
 
 /// Every call is a step, so the replies of a turn are those of one legal history of steps.
 impl<D: PageDevice + Send> Machine for Shard<D> {
-    ghost use Rattle.warm_shared.specs.ShardSteps.{ShardStep, shard_view};
+    ghost use Rattle.warm_shared.specs.ShardSteps.{ShardStep};
 
     type Call = ShardCall;
 
     type Reply = ShardReply;
 
-    type State = ViewOfShard;
+    type State = StateOfShard;
 
-    ghost view = { λ s. shard_view s };
+    ghost view = { λ s. s };
 
     ghost goes = { ShardStep };
 

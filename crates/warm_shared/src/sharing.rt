@@ -1,9 +1,8 @@
 //! Putting each shard behind a turn.
-ghost use Rattle.std.specs.Prelude.{◌≡◌, ◌≤◌, ◌+◌, ◌<◌, ◌++◌, [], length, map, IfErr, IfOk, OnOk};
+ghost use Rattle.std.specs.Prelude.{◌≡◌, ◌≤◌, ◌+◌, ◌<◌, ◌++◌, [], length, IfErr, IfOk, OnOk};
 ghost use Rattle.std.specs.Prelude.{vec_capacity};
 ghost use Rattle.warm_shared.specs.Attached.{AreOf};
 ghost use Rattle.warm_shared.specs.Opening.{AreFirst, openings, shards_over};
-ghost use Rattle.warm_shared.specs.ShardSteps.{shard_view};
 
 use crate::shard::Shard;
 use crate::shared::{Attached, SharedShards};
@@ -42,16 +41,16 @@ impl<D: PageDevice + Send> Drop for Sharing<D> {
 }
 
 impl<D: PageDevice + Send> Model for Sharing<D> {
-    ghost use Rattle.std.specs.Prelude.{List, ◌++◌, map};
+    ghost use Rattle.std.specs.Prelude.{List, ◌++◌};
     ghost use Rattle.warm_shared.specs.Opening.{AreFirst, AreNumbered, openings};
-    ghost use Rattle.warm_shared.specs.ShardSteps.{ShardView, shard_view};
+    ghost use Rattle.warm_shared.specs.ShardSteps.{ShardState};
 
-    ghost Value = { List ShardView };
+    ghost Value = { List ShardState };
 
-    ghost view = { λ s. map shard_view s.shards.items ++ openings s.turns.items };
+    ghost view = { λ s. s.shards.items ++ openings s.turns.items };
 
     ghost invariant = { λ s. AreFirst s.turns.items s.passes.items
-        × AreNumbered (map shard_view s.shards.items ++ openings s.turns.items) };
+        × AreNumbered (s.shards.items ++ openings s.turns.items) };
 }
 
 // Puts the last shard that is not behind a turn behind one.
@@ -66,8 +65,8 @@ fn put_last<D: PageDevice + Send>(
     requires passes { length passes.old.items < vec_capacity passes.old }
     requires first { AreFirst turns.old.items passes.old.items }
     ensures first { AreFirst turns.new.items passes.new.items }
-    ensures same { map shard_view shards.new.items ++ openings turns.new.items
-        ≡ map shard_view shards.old.items ++ openings turns.old.items }
+    ensures same { shards.new.items ++ openings turns.new.items
+        ≡ shards.old.items ++ openings turns.old.items }
     ensures fewer { OnOk result (length shards.new.items + 1 ≡ length shards.old.items) }
     ensures room { OnOk result ((vec_capacity turns.old ≤ vec_capacity turns.new)
         × (vec_capacity passes.old ≤ vec_capacity passes.new)) }
@@ -102,8 +101,8 @@ fn put_all<D: PageDevice + Send>(
 ) -> Result<(), AllocError>
     requires first { AreFirst turns.old.items passes.old.items }
     ensures first { AreFirst turns.new.items passes.new.items }
-    ensures same { map shard_view shards.new.items ++ openings turns.new.items
-        ≡ map shard_view shards.old.items ++ openings turns.old.items }
+    ensures same { shards.new.items ++ openings turns.new.items
+        ≡ shards.old.items ++ openings turns.old.items }
     ensures all { OnOk result (shards.new.items ≡ []) }
 {
     let count = shards.len();

@@ -2,7 +2,7 @@
 ghost use Rattle.std.specs.Prelude.{◌≡◌, ℕ, List, None, length};
 ghost use Rattle.std.specs.Fn.{FnOnceReturnsAt, FnOnceReturnsAtMut};
 ghost use Rattle.warm_shared.specs.Visits.{ReadsInto, Shows, ShowsBoth, WentAs};
-ghost use Rattle.warm_shared.specs.ShardSteps.{ShardStep, shard_view};
+ghost use Rattle.warm_shared.specs.ShardSteps.{ShardStep};
 ghost use Rattle.warm_shared.specs.declared.call.ShardCall.TheVariants.{Change, Look, Pin, Read};
 ghost use Rattle.warm_shared.specs.declared.call.ShardCall.TheVariants.{Unpin};
 ghost use Rattle.warm_shared.specs.declared.call.ShardReply.TheVariants.{Bytes, Done, Pinned};
@@ -217,8 +217,8 @@ impl<D: PageDevice> Shard<D> {
         ensures call { result.made.call.value ≡ Pin page }
         ensures reply { WentAs (λ slot said. said ≡ Pinned slot)
             result.output result.made.reply.value }
-        ensures step { ShardStep (shard_view self.old) (Pin page) result.made.reply.value
-            (shard_view self.new) }
+        ensures step { ShardStep self.old (Pin page) result.made.reply.value
+            self.new }
     {
         let call = ShardCall::Pin(page);
         if !is_own_page(self.count, self.number, page) {
@@ -235,8 +235,8 @@ impl<D: PageDevice> Shard<D> {
         ensures call { result.made.call.value ≡ Unpin slot }
         ensures reply { WentAs (λ given said. said ≡ Done)
             result.output result.made.reply.value }
-        ensures step { ShardStep (shard_view self.old) (Unpin slot) result.made.reply.value
-            (shard_view self.new) }
+        ensures step { ShardStep self.old (Unpin slot) result.made.reply.value
+            self.new }
     {
         let call = ShardCall::Unpin(slot);
         match self.node.unpin(slot) {
@@ -256,8 +256,8 @@ impl<D: PageDevice> Shard<D> {
         ensures call { result.made.call.value ≡ Read slot at (length into.items) }
         ensures reply { ReadsInto into.items result.output.refused result.output.into.items
             result.made.reply.value }
-        ensures step { ShardStep (shard_view self.now) (Read slot at (length into.items))
-            result.made.reply.value (shard_view self.now) }
+        ensures step { ShardStep self.now (Read slot at (length into.items))
+            result.made.reply.value self.now }
     {
         let len = into.len();
         let read = self.node.read_into(slot, at, &mut into);
@@ -285,8 +285,8 @@ impl<D: PageDevice> Shard<D> {
         ensures call { result.made.call.value ≡ Look page }
         ensures reply { WentAs (λ given. Shows (λ bytes. FnOnceReturnsAt F.FnOnce f bytes given))
             result.output result.made.reply.value }
-        ensures step { ShardStep (shard_view self.old) (Look page) result.made.reply.value
-            (shard_view self.new) }
+        ensures step { ShardStep self.old (Look page) result.made.reply.value
+            self.new }
     {
         if !is_own_page(self.count, self.number, page) {
             return visited(ShardCall::Look(page), ShardReply::Foreign, Went::Foreign);
@@ -322,8 +322,8 @@ impl<D: PageDevice> Shard<D> {
         ensures reply { WentAs (λ given. ShowsBoth (λ before after.
             FnOnceReturnsAtMut F.FnOnce f before given after))
             result.output result.made.reply.value }
-        ensures step { ShardStep (shard_view self.old) (Change page) result.made.reply.value
-            (shard_view self.new) }
+        ensures step { ShardStep self.old (Change page) result.made.reply.value
+            self.new }
     {
         if !is_own_page(self.count, self.number, page) {
             return visited(ShardCall::Change(page), ShardReply::Foreign, Went::Foreign);

@@ -1,15 +1,18 @@
-//! Writing back: each shard writes its pages, and then each flushes.
-ghost use Rattle.std.specs.Prelude.{length, IfErr, OnOk};
+//! Writing back: each shard writes its pages, and then each flushes; or one shard writes some.
+ghost use Rattle.std.specs.Prelude.{◌≡◌, ◌<◌, length, IfErr, OnOk};
 ghost use Rattle.warm_shared.specs.Attached.{AreOf, AreTurns};
-ghost use Rattle.std.specs.Prelude.{◌≡◌};
+ghost use Rattle.warm_shared.specs.Clauses.{CallEnds};
 ghost use Rattle.warm_shared.specs.Whole.{DoneFails, DoneFirst, WriteBackStops, WritesBackAll};
 ghost use Rattle.warm_shared.specs.declared.call.ShardCall.TheVariants.{WriteBack, WritePages};
+ghost use Rattle.warm_shared.specs.declared.call.ShardCall.TheVariants.{WriteSome};
+ghost use Rattle.warm_shared.specs.declared.call.ShardReply.TheVariants.{Dirty};
 
-use crate::call::ShardCall;
+use crate::call::{ShardCall, ShardReply};
+use crate::fault::SharedFault;
 use crate::history_calls::Stopped;
 use crate::pool_calls::do_in;
 use crate::shard::Shard;
-use crate::shared::{Attached, SharedShards};
+use crate::shared::{Attached, SharedShards, call_shard};
 use std::sync::Wait;
 use warm_devices::PageDevice;
 use warm_turn::{Pass, Turn};
@@ -71,16 +74,38 @@ fn flush_each<D: PageDevice + Send, R: Wait>(
     Ok(())
 }
 
+// Writes back some dirty pages of a shard.
+fn write_some_in<D: PageDevice + Send, R: Wait>(
+    rt: &R,
+    turns: &Vec<Turn<Shard<D>>>,
+    passes: &mut Vec<Pass<Shard<D>>>,
+    shard: usize,
+    limit: usize,
+) -> Result<usize, SharedFault>
+    requires turns { AreTurns turns.now.items }
+    requires passes { AreOf turns.now.items passes.old.items }
+    requires there { shard < length turns.now.items }
+    ensures passes { AreOf turns.now.items passes.new.items }
+    ensures ends { CallEnds passes.old.items shard (WriteSome limit) Dirty result
+        passes.new.items }
+{
+    match call_shard(rt, turns, passes, shard, ShardCall::WriteSome(limit))? {
+        ShardReply::Dirty(left) => Ok(left),
+        ShardReply::Refused(why) => Err(SharedFault::Node(why)),
+        _ => unreachable!(),
+    }
+}
+
 impl<D: PageDevice + Send> SharedShards<D> {
     /// Writes back the dirty pages of all shards, each in one turn of its shard, and then flushes
     /// the unflushed devices of each, each in one more. So devices that share a file can make it
     /// durable once. A page that another thread makes dirty in between is written before its shard
-    /// flushes: `Shard::call` says so (`written`), and no clause of this call does.
+    /// flushes.
     ///
     /// # Errors
     /// [`NotWritten`] says which shards have written and flushed. `Node(Pool(Fault))`: a device
-    /// failed; of what a caller sees of that shard, only one count of failures has changed.
-    /// `TurnsSpent`. To write back once more does no harm.
+    /// failed, and its count of failures has increased; the pages of that shard that were written
+    /// before are clean. `TurnsSpent`. To write back once more does no harm.
     pub fn write_back<R: Wait>(&self, rt: &R, attached: &mut Attached<D>) -> Result<(), NotWritten>
         requires { AreOf self.now attached.old.passes }
         ensures attached { AreOf self.now attached.new.passes }
@@ -96,5 +121,31 @@ impl<D: PageDevice + Send> SharedShards<D> {
             return Err(NotWritten::Devices(at));
         }
         Ok(())
+    }
+
+    /// Writes back at most `limit` dirty pages of a shard, and returns how many of its pages are
+    /// then still dirty: one turn of the shard, in which the call `WriteSome` is answered. So a
+    /// checkpoint goes on in portions between other calls. No device is flushed. Allocation-free.
+    ///
+    /// # Errors
+    /// `Node(Pool(Fault))`: a write failed, and its device's count of failures has increased. The
+    /// pages written before it are clean, and all others dirty as before. `TurnsSpent`: nothing has
+    /// changed.
+    pub fn write_back_some<R: Wait>(
+        &self,
+        rt: &R,
+        attached: &mut Attached<D>,
+        shard: usize,
+        limit: usize,
+    ) -> Result<usize, SharedFault>
+        requires passes { AreOf self.now attached.old.passes }
+        requires there { shard < length self.now }
+        ensures attached { AreOf self.now attached.new.passes }
+        ensures ends { CallEnds attached.old.passes shard (WriteSome limit) Dirty result
+            attached.new.passes }
+        ensures pins { attached.new.pins ≡ attached.old.pins }
+    {
+        let left = write_some_in(rt, &self.turns, &mut attached.passes, shard, limit)?;
+        Ok(left)
     }
 }

@@ -8,7 +8,7 @@ use crate::refused::shards::{TwoShards, made};
 use std::alloc::Global;
 use std::sync::Wait;
 use test_kit::cases::{Ended, Met};
-use test_kit::{entry, once, page, references_to};
+use test_kit::{bucket, entry, once, page, references_to};
 use warm_devices::MemDevice;
 use warm_frames::Message;
 use warm_gossip::NodeFault;
@@ -175,6 +175,40 @@ fn read<R: Wait>(met: &mut Met, rt: &R, shared: &Shared, thread: &mut Thread) ->
     )
 }
 
+// Lists the hottest pages of a shard.
+fn list<R: Wait>(met: &mut Met, rt: &R, shared: &Shared, thread: &mut Thread) -> Result<(), Ended>
+    requires { AreOf shared.now thread.old.passes }
+    ensures { AreOf shared.now thread.new.passes }
+{
+    if shared.count() < 2 {
+        return Err(met.broken("two shards are shared"));
+    }
+    let mut listed = shared.warm_list(rt, thread, 1, 8);
+    if let Err(fault) = listed {
+        met.refuse(fault == MEMORY, "a list is refused for memory alone")?;
+        listed = shared.warm_list(rt, thread, 1, 8);
+    }
+    met.holds(listed.is_ok(), "a list is refused again by shared shards")
+}
+
+// Sends what is new in a bucket.
+fn publish<R: Wait>(
+    met: &mut Met,
+    rt: &R,
+    shared: &Shared,
+    thread: &mut Thread,
+) -> Result<(), Ended>
+    requires { AreOf shared.now thread.old.passes }
+    ensures { AreOf shared.now thread.new.passes }
+{
+    let mut sent = shared.send_since(rt, thread, bucket(1), 10, None);
+    if let Err(fault) = sent {
+        met.refuse(fault == MEMORY, "a portion is refused for memory alone")?;
+        sent = shared.send_since(rt, thread, bucket(1), 10, None);
+    }
+    met.holds(sent.is_ok(), "a portion is refused again by shared shards")
+}
+
 // Entries of the pages 8 and 9, one of each shard, at the horizon 15, which drops what was known.
 // A refused message has raised the horizon of both shards.
 fn receive<R: Wait>(
@@ -281,6 +315,8 @@ pub(crate) fn rows<R: Wait>(met: &mut Met, rt: &R, alloc: Global) -> Result<(), 
     answer(met, rt, alloc, &shared, &mut thread, &digest(0))?;
     answer(met, rt, alloc, &shared, &mut thread, &request(0))?;
     read(met, rt, &shared, &mut thread)?;
+    list(met, rt, &shared, &mut thread)?;
+    publish(met, rt, &shared, &mut thread)?;
     receive(met, rt, alloc, &shared, &mut thread)?;
     close(met, alloc, shared, thread)
 }

@@ -1,6 +1,5 @@
-use Rattle.std.proofs.Common.{◌≡◌, ◌≤◌, ◌+◌, ◌++◌, length, map, vec_capacity}
+use Rattle.std.proofs.Common.{◌≡◌, ◌≤◌, ◌+◌, ◌++◌, length, vec_capacity}
 use Rattle.warm_shared.specs.Opening.{AreFirst, openings}
-use Rattle.warm_shared.specs.ShardSteps.{shard_view}
 use Rattle.warm_shared.proofs.sharing.put_all.Given as goal
 
 -- the last shards are behind turns, and there is room for the others
@@ -10,5 +9,5 @@ invariant-loop-shard g l = record {
   turns : length l.turns.items + length l.shards.items ≤ vec_capacity l.turns;
   passes : length l.passes.items + length l.shards.items ≤ vec_capacity l.passes;
   first : AreFirst l.turns.items l.passes.items;
-  same : map shard_view l.shards.items ++ openings l.turns.items ≡ map shard_view l.fn.shards.items ++ openings l.fn.turns.items;
+  same : l.shards.items ++ openings l.turns.items ≡ l.fn.shards.items ++ openings l.fn.turns.items;
 }

@@ -1,8 +1,7 @@
-use Rattle.std.proofs.Common.{◌≡◌, ◌∷◌, [], ◌++◌, length, map, append_assoc, append-nil, sym, ap, subst, ◌∙◌, arith}
+use Rattle.std.proofs.Common.{◌≡◌, ◌∷◌, [], ◌++◌, length, append_assoc, append-nil, sym, ap, subst, ◌∙◌, arith}
 use Rattle.std.proofs.lemmas.List.{length-append, nil_from_length}
 use Rattle.warm_shards.specs.Shards.{IsShardCount}
 use Rattle.warm_shared.specs.Opening.{AreNumbered, openings, shards_from, shards_over}
-use Rattle.warm_shared.specs.ShardSteps.{shard_view}
 use Rattle.warm_shared.proofs.Numbering.{next_shard, none_first, numbered}
 use Rattle.warm_shared.proofs.sharing.Sharing.new.Goals as goal
 
@@ -13,7 +12,7 @@ loop-node-preserved g c =
     let node = c.in-Some.node in
     let number : c.len-number.result ≡ length so_far = omega (arith, c.len-number.ensures, c.loop-node.all.ok.0, i.number) in
     record {
-      same = ap (map shard_view) c.push_reserved.ensures.items ∙ next_shard c.count-count.result c.len-number.result c.loop-node.all.items c.new.result so_far node i.same c.new.ensures number;
+      same = c.push_reserved.ensures.items ∙ next_shard c.count-count.result c.len-number.result c.loop-node.all.items c.new.result so_far node i.same c.new.ensures number;
       rest = append_assoc so_far (node ∷ []) c.next.new.self.rest.items ∙ (ap (λ r. so_far ++ r) (sym c.in-Some.ensures.steps.0) ∙ i.rest);
       number = ap length c.push_reserved.ensures.items ∙ omega (arith, length-append c.loop-node.all.items (c.new.result ∷ []), length-append so_far (node ∷ []), i.number);
       count = i.count;
@@ -23,7 +22,7 @@ loop-node-preserved g c =
 pub invariant_of-result : goal.invariant_of-result
 invariant_of-result g c =
     let i = c.loop-node.invariant in
-    let ss = map shard_view c.loop-node.all.items in
+    let ss = c.loop-node.all.items in
     let rest = c.loop-node.node-iterator.rest in
     let none : rest.items ≡ [] = nil_from_length rest.items (omega (arith, rest.ok.0, c.in-None.ensures.steps.0)) in
     let whole : c.loop-node.yielded ≡ c.args.shards = sym (append-nil c.loop-node.yielded) ∙ (ap (λ r. c.loop-node.yielded ++ r) (sym none) ∙ i.rest) in

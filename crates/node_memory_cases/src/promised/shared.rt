@@ -1,0 +1,66 @@
+//! The allocation-free calls of shards that threads share.
+ghost use Rattle.std.specs.Prelude.{IfOk};
+ghost use Rattle.warm_shared.specs.Attached.{AreOf};
+
+use crate::promised::calls::empty;
+use std::alloc::Global;
+use std::io::Print;
+use std::sync::Wait;
+use test_kit::cases::{Ended, Met, takes_none};
+use test_kit::{page, replica};
+use warm_devices::MemDevice;
+use warm_shards::Shards;
+use warm_shared::{Attached, SharedShards, Sharing};
+
+type Shared = SharedShards<MemDevice>;
+
+type Thread = Attached<MemDevice>;
+
+// Two shards behind turns, and what a thread has of them.
+pub(crate) fn opened(alloc: Global) -> Result<(Shared, Thread), Ended>
+    ensures { IfOk result (λ made. AreOf made.0 made.1.passes) }
+{
+    let mut nodes = Vec::with_capacity(alloc, 2)?;
+    nodes.push_reserved(empty(alloc, 2)?);
+    nodes.push_reserved(empty(alloc, 2)?);
+    let Ok(shards) = Shards::new(alloc, replica(1), nodes) else {
+        return Err(Ended::Broken);
+    };
+    let Ok(sharing) = Sharing::new(alloc, shards) else {
+        return Err(Ended::NoMemory);
+    };
+    match sharing.share() {
+        Ok(made) => Ok(made),
+        Err(_) => Err(Ended::NoMemory),
+    }
+}
+
+pub(crate) fn rows<P: Print, R: Wait>(
+    rt: &P,
+    met: &mut Met,
+    waits: &R,
+    shared: Shared,
+    mut thread: Thread,
+) -> Result<(), Ended>
+    requires { AreOf shared thread.passes }
+{
+    if shared.count() < 2 {
+        return Err(met.broken("two shards are shared"));
+    }
+    takes_none(rt, "pin_zeroed of shared shards")?;
+    let Ok(at) = shared.pin_zeroed(waits, &mut thread, page(1)) else {
+        return Err(met.broken("zeros of shared shards are refused"));
+    };
+    takes_none(rt, "unpin of shared shards")?;
+    let unpinned = shared.unpin(waits, &mut thread, at);
+    met.holds(unpinned.is_ok(), "an unpin of shared shards is refused")?;
+    takes_none(rt, "write_back_some of a shared shard")?;
+    let left = shared.write_back_some(waits, &mut thread, 1, 1);
+    met.holds(left == Ok(0), "a shared shard's page is not written back")?;
+    takes_none(rt, "forget_pages of shared shards")?;
+    let forgotten = shared.forget_pages(waits, &mut thread, 0, 1);
+    met.holds(
+        forgotten.is_ok(),
+        "pages of shared shards are not forgotten",
+    )
+}
