@@ -112,6 +112,14 @@ int node_pin_filled(
  * Refused: WARM_MEMORY. */
 int node_next(node *handle, bool *found, node_page *page);
 
+/* Writes whether the page is in a frame and dirty. */
+int node_dirty(node *handle, node_page page, bool *dirty);
+
+/* Writes whether a frame with the number from or a higher one is dirty, the number of the first
+ * such frame, and its page. Frames are numbered from 0. Where there is none, as for a number beyond
+ * the last frame, frame and page are as they were. */
+int node_next_dirty(node *handle, size_t from, bool *found, size_t *frame, node_page *page);
+
 /* The digests of all buckets, that of bucket 0 first. */
 typedef struct node_table {
     uint8_t digests[64][32];

@@ -1,10 +1,12 @@
 -- What the calls do by which an engine holds its pages: beside pins, reads and writes.
-use Rattle.std.specs.Prelude.{ℕ, ◌≡◌, Bool, IsTrue, Ok, Err}
+use Rattle.std.specs.Prelude.{ℕ, ◌≡◌, Bool, IsTrue, Option, Ok, Err}
+use Rattle.warm_pool.specs.declared.dirty.DirtyFrame.{DirtyFrame}
 use Rattle.warm_pool.specs.declared.fault.PoolFault.TheVariants.{Fault}
 use Rattle.warm_pool.specs.Forgetting.{ForgetRefused, Forgets, MayForget}
 use Rattle.warm_pool.specs.Keeping.{KeepsFrames, SameButFailures}
 use Rattle.warm_pool.specs.View.{view_of, Holds}
-use Rattle.warm_pool.specs.WritingSome.{FlushRefused, IsSettledOn, PageFails, SomeFails}
+use Rattle.warm_pool.specs.WritingSome.{FlushRefused, IsDirty, IsNextDirty, IsSettledOn}
+use Rattle.warm_pool.specs.WritingSome.{PageFails, SomeFails}
 use Rattle.warm_pool.specs.WritingSome.{WritesBackPage, WritesBackSome}
 use Rattle.warm_pool.specs.Zeroing.{PinnedZeroed, TakesZeroed, ZeroedRefused}
 use Rattle.warm_gossip.specs.declared.fault.NodeFault.TheVariants.{Pool}
@@ -14,7 +16,7 @@ use Rattle.warm_c.specs.declared.status.Refusal.TheVariants.{Node}
 use Rattle.warm_c.specs.declared.values.PinnedSlot.{PinnedSlot}
 use Rattle.warm_c.specs.declared.values.WarmPage.{WarmPage}
 use Rattle.warm_c.specs.Calls.{Ending, SameDevices}
-use Rattle.warm_c.specs.Values.{IsBool, page_of_c, pinned_slot}
+use Rattle.warm_c.specs.Values.{IsBool, IsOptionalDirty, page_of_c, pinned_slot}
 
 -- the id, the history and the devices that the handle was given are as they were
 pub record SameButPool (old new : OpenNode) : Type 0 where
@@ -64,6 +66,17 @@ WritesPage page before written old (Err (Node (Pool Fault))) new =
     PageFails old.node.pool (page_of_c page) new.node.pool × SameButPool old new
     × (written ≡ before)
 WritesPage page before written old (Err why) new = ⊥
+
+-- whether the page is in a frame and dirty
+abbrev pub SaysDirty : WarmPage → ℕ → OpenNode → OpenNode → Type 0
+SaysDirty page number old new =
+    IsBool number (IsDirty old.node.pool (page_of_c page)) × (new ≡ old)
+
+-- the first dirty frame from a number on is given, and its page, where there is one
+abbrev pub NamesDirty : ℕ → ℕ → WarmPage → ℕ → ℕ → WarmPage → OpenNode → OpenNode → Type 0
+NamesDirty from frame page found frame' page' old new = (next : Option DirtyFrame)
+    × IsNextDirty old.node.pool from next × IsOptionalDirty next frame page found frame' page'
+    × (new ≡ old)
 
 -- the pages of one device are written back and it is flushed, or the call says why not
 abbrev pub FlushesDevice : ℕ → OpenNode → Ending → OpenNode → Type 0

@@ -3,6 +3,7 @@ use Rattle.std.specs.Prelude.{ℕ, ◌≡◌, ◌↔◌, ◌≤◌, Bool, true, 
 use Rattle.std.specs.Prelude.{Some, None}
 use Rattle.warm_stamps.specs.declared.PageId.{PageId}
 use Rattle.warm_stamps.specs.declared.Reference.{Reference}
+use Rattle.warm_pool.specs.declared.dirty.DirtyFrame.{DirtyFrame}
 use Rattle.warm_pool.specs.declared.slot.Slot.{Slot}
 use Rattle.warm_c.specs.declared.values.PinnedSlot.{PinnedSlot}
 use Rattle.warm_c.specs.declared.values.WarmPage.{WarmPage}
@@ -25,6 +26,14 @@ page_if false p = None
 abbrev pub IsOptionalPage : Option PageId → WarmPage → ℕ → WarmPage → Type 0
 IsOptionalPage None before found page = (found ≡ 0) × (page ≡ before)
 IsOptionalPage (Some p) before found page = (found ≡ 1) × (page ≡ c_page p)
+
+-- whether there is a dirty frame, which, and its page; frame and page are as they were where there
+-- is none
+abbrev pub IsOptionalDirty : Option DirtyFrame → ℕ → WarmPage → ℕ → ℕ → WarmPage → Type 0
+IsOptionalDirty None frame page found frame' page' =
+    IsOptionalPage None page found page' × (frame' ≡ frame)
+IsOptionalDirty (Some d) frame page found frame' page' =
+    IsOptionalPage (Some d.page) page found page' × (frame' ≡ d.frame)
 
 -- a bool of C that says whether this holds
 abbrev pub IsBool : ℕ → Type 0 → Type 0

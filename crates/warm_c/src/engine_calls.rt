@@ -1,9 +1,11 @@
 //! The calls on an open handle by which an engine holds its pages, beside pins, reads and writes.
-ghost use Rattle.std.specs.Prelude.{◌≡◌, IfErr, IfOk};
+ghost use Rattle.std.specs.Prelude.{◌≡◌, ◌↔◌, IfErr, IfOk, IsTrue};
 ghost use Rattle.warm_c.specs.Engine.{FlushesDevice, ForgetsPages, PinsZeroed, SaysMayForget};
 ghost use Rattle.warm_c.specs.Engine.{WritesPage, WritesSome};
 ghost use Rattle.warm_c.specs.Filling.{PinsFilled};
+ghost use Rattle.warm_c.specs.Values.{page_of_c};
 ghost use Rattle.warm_c.specs.declared.status.Refusal.TheVariants.{Node};
+ghost use Rattle.warm_pool.specs.WritingSome.{IsDirty, IsNextDirty};
 ghost use Rattle.warm_gossip.specs.State.{node_view};
 ghost use Rattle.warm_gossip.specs.Step.{IsNextWarm};
 ghost use Rattle.warm_gossip.specs.declared.fault.NodeFault.TheVariants.{Memory};
@@ -11,7 +13,7 @@ ghost use Rattle.warm_gossip.specs.declared.fault.NodeFault.TheVariants.{Memory}
 use crate::open_node::OpenNode;
 use crate::status::Refusal;
 use crate::values::{PinnedSlot, WarmPage, c_bool};
-use warm_pool::NewPoolFault;
+use warm_pool::{DirtyFrame, NewPoolFault};
 use warm_stamps::PageId;
 
 impl OpenNode {
@@ -86,6 +88,20 @@ impl OpenNode {
         let was_dirty = self.node.write_back_page(page.page())?;
         *written = c_bool(was_dirty);
         Ok(())
+    }
+
+    /// Whether the page is in a frame of the pool, and dirty.
+    pub fn has_dirty(&self, page: WarmPage) -> bool
+        ensures { IsTrue result ↔ IsDirty self.now.node.pool (page_of_c page) }
+    {
+        self.node.pool().has_dirty(page.page())
+    }
+
+    /// The first dirty frame of the pool with the number `from` or a higher one, and its page.
+    pub fn next_dirty(&self, from: usize) -> Option<DirtyFrame>
+        ensures { IsNextDirty self.now.node.pool from result }
+    {
+        self.node.pool().next_dirty(from)
     }
 
     /// Calls [`warm_gossip::Node::flush_device`].

@@ -11,10 +11,10 @@
 //!   `Node::raise`.
 //! - [`node_history_length`] counts the pages of the node's history, [`node_save`] writes a dump of
 //!   it, and [`node_load`] joins the history of a dump (`Node::join`).
-//! - [`node_resident`], [`node_lend`], [`node_counts`], [`node_device_counts`] and
-//!   [`node_last_failure`] ask the node's pool, [`node_lend_mut`] makes `Node::bytes_mut`,
-//!   [`node_replace`] `Node::retire`, [`node_flush`] `Node::flush_device`, and [`node_forget`]
-//!   `Node::forget_pages`.
+//! - [`node_resident`], [`node_dirty`], [`node_next_dirty`], [`node_lend`], [`node_counts`],
+//!   [`node_device_counts`] and [`node_last_failure`] ask the node's pool, [`node_lend_mut`] makes
+//!   `Node::bytes_mut`, [`node_replace`] `Node::retire`, [`node_flush`] `Node::flush_device`, and
+//!   [`node_forget`] `Node::forget_pages`.
 //! - [`node_open`] and [`node_close`] create and drop the node. Each of the other functions that
 //!   take a handle returns 64 on a closed one, and changes nothing.
 //!
@@ -33,8 +33,8 @@ ghost use Rattle.warm_c.specs.Calls.{ReadsPage, Saves, SaysResident, StepsWarmUp
 ghost use Rattle.warm_c.specs.Calls.{WritesBack};
 ghost use Rattle.warm_c.specs.Counting.{CountsDevice, CountsPool, SaysFailure};
 ghost use Rattle.warm_c.specs.Devices.{Replaces};
-ghost use Rattle.warm_c.specs.Engine.{FlushesDevice, ForgetsPages, PinsZeroed, WritesPage};
-ghost use Rattle.warm_c.specs.Engine.{WritesSome};
+ghost use Rattle.warm_c.specs.Engine.{FlushesDevice, ForgetsPages, NamesDirty, PinsZeroed};
+ghost use Rattle.warm_c.specs.Engine.{SaysDirty, WritesPage, WritesSome};
 ghost use Rattle.warm_c.specs.Filling.{NamesNext, PinsFilled};
 ghost use Rattle.warm_c.specs.Handles.{Called, Opens, Surely, open_request};
 ghost use Rattle.warm_c.specs.Lending.{Lends, LendsMut};
@@ -77,7 +77,7 @@ use crate::open_node::OpenNode;
 use crate::opening::open;
 use crate::status::{Refusal, status_of};
 use crate::values::{
-    PinnedSlot, WarmDevice, WarmPage, WarmReference, WarmSlot, c_bool, page_if, put_page,
+    PinnedSlot, WarmDevice, WarmPage, WarmReference, WarmSlot, c_bool, page_if, put_dirty, put_page,
 };
 use std::alloc::Global;
 use warm_gossip::NodeFault;
@@ -342,6 +342,49 @@ pub extern "C" fn node_resident(
         return closed();
     };
     *resident = c_bool(node.resident(page));
+    put_back(handle, node, Ok(()))
+}
+
+/// Writes whether the page is in a frame and dirty, 1 or 0.
+#[unsafe(no_mangle)]
+pub extern "C" fn node_dirty(
+    alloc: Global,
+    handle: &mut Handle,
+    page: WarmPage,
+    dirty: &mut u8,
+) -> i32
+    ensures called { Called (Surely (SaysDirty page dirty.new)) handle.old.held.node result
+        handle.new.held.node }
+    ensures closed { handle.old.held.node ≡ None → dirty.new ≡ dirty.old }
+{
+    let Some(node) = handle.take(alloc) else {
+        return closed();
+    };
+    *dirty = c_bool(node.has_dirty(page));
+    put_back(handle, node, Ok(()))
+}
+
+/// Writes whether a frame with the number `from` or a higher one is dirty, 1 or 0, the number of
+/// the first such frame, and its page. Frames are numbered from 0. Where there is none, as for a
+/// `from` beyond the last frame, `frame` and `page` are unchanged.
+#[unsafe(no_mangle)]
+pub extern "C" fn node_next_dirty(
+    alloc: Global,
+    handle: &mut Handle,
+    from: usize,
+    found: &mut u8,
+    frame: &mut usize,
+    page: &mut WarmPage,
+) -> i32
+    ensures called { Called (Surely (NamesDirty from frame.old page.old found.new frame.new
+        page.new)) handle.old.held.node result handle.new.held.node }
+    ensures closed { handle.old.held.node ≡ None
+        → (found.new ≡ found.old) × (frame.new ≡ frame.old) × (page.new ≡ page.old) }
+{
+    let Some(node) = handle.take(alloc) else {
+        return closed();
+    };
+    put_dirty(node.next_dirty(from), found, frame, page);
     put_back(handle, node, Ok(()))
 }
 

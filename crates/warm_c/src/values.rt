@@ -1,9 +1,9 @@
 //! What crosses to C, beside numbers, bytes and a handle.
 ghost use Rattle.std.specs.Prelude.{◌≡◌, IsTrue};
 ghost use Rattle.warm_c.specs.Values.{c_page, c_slot, page_if, page_of_c, slot_of_c};
-ghost use Rattle.warm_c.specs.Values.{IsBool, IsOptionalPage};
+ghost use Rattle.warm_c.specs.Values.{IsBool, IsOptionalDirty, IsOptionalPage};
 
-use warm_pool::Slot;
+use warm_pool::{DirtyFrame, Slot};
 use warm_stamps::PageId;
 
 /// A page: its device, numbered from 0 in the order of the devices of `node_open`, and its number
@@ -142,5 +142,19 @@ pub fn put_page(given: Option<PageId>, found: &mut u8, page: &mut WarmPage)
             *page = WarmPage::of(given);
         }
         None => *found = 0,
+    }
+}
+
+/// Writes whether there is a dirty frame, as a bool of C, which, and its page; `frame` and `page`
+/// are unchanged where there is none.
+pub fn put_dirty(given: Option<DirtyFrame>, found: &mut u8, frame: &mut usize, page: &mut WarmPage)
+    ensures { IsOptionalDirty given frame.old page.old found.new frame.new page.new }
+{
+    match given {
+        Some(given) => {
+            *frame = given.frame;
+            put_page(Some(given.page), found, page);
+        }
+        None => put_page(None, found, page),
     }
 }

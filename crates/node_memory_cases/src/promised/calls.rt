@@ -120,6 +120,10 @@ fn lent<P: Print>(rt: &P, met: &mut Met, node: &mut Node<MemDevice>) -> Result<(
     let Ok(slot) = node.pin_zeroed(page(3)) else {
         return Err(met.broken("a pin with zeros is refused"));
     };
+    takes_none(rt, "has_dirty of a pool")?;
+    met.holds(node.pool().has_dirty(page(3)), "a page of zeros is clean")?;
+    takes_none(rt, "next_dirty of a pool")?;
+    met.holds(node.pool().next_dirty(0).is_some(), "no frame is dirty")?;
     takes_none(rt, "write_back_page")?;
     met.holds(
         matches!(node.write_back_page(page(3)), Ok(true)),
