@@ -134,12 +134,12 @@ void rattle_dealloc(void *block) { test_free(block); }
 
 static int test_init(pthread_mutex_t *lock, const pthread_mutexattr_t *kind) {
     if (!is_granted()) return EAGAIN;
-    locks_there++;
+    __atomic_add_fetch(&locks_there, 1, __ATOMIC_RELAXED);
     return pthread_mutex_init(lock, kind);
 }
 
 static int test_destroy(pthread_mutex_t *lock) {
-    locks_there--;
+    __atomic_sub_fetch(&locks_there, 1, __ATOMIC_RELAXED);
     return pthread_mutex_destroy(lock);
 }
 
@@ -164,12 +164,12 @@ static int test_unlock(pthread_mutex_t *lock) {
 
 static int test_cond_init(pthread_cond_t *made, const pthread_condattr_t *kind) {
     if (!is_granted()) return EAGAIN;
-    locks_there++;
+    __atomic_add_fetch(&locks_there, 1, __ATOMIC_RELAXED);
     return pthread_cond_init(made, kind);
 }
 
 static int test_cond_destroy(pthread_cond_t *made) {
-    locks_there--;
+    __atomic_sub_fetch(&locks_there, 1, __ATOMIC_RELAXED);
     return pthread_cond_destroy(made);
 }
 

@@ -167,7 +167,7 @@ bool was_there(struct shard *in, node_slot slot);
 
 /* Before a call of the node that may let a page leave for another, or says which one would: that
  * page, the table's victim, is then one that nobody holds. False where the call is to be refused
- * (WARM_ALL_PINNED). After the call, unpin_passed. */
+ * (WARM_ALL_PINNED). After the call, and before this is asked again, unpin_passed. */
 bool pass_over_held(struct opened *its, struct shard *in, bool leaves);
 void unpin_passed(struct shard *in);
 

@@ -185,10 +185,10 @@ static int write_victim(opened *its, shard *in, load *it, stuck_pages *all, node
 /* Leaves the shard to write the page that is to leave, or to wait for a frame whose page is being
  * written, and looks again which one is to leave, until the node can be asked. */
 static int load_after_writes(opened *its, shard *in, load *it, stuck_pages *all, int status) {
-    for (;;) {
-        bool waits = status == WARM_ALL_PINNED && is_victim_written(its, in);
-        if (status != WRITE_FIRST && !waits) return status;
+    while (status == WRITE_FIRST || status == WARM_ALL_PINNED) {
+        bool waits = status == WARM_ALL_PINNED;
         unpin_passed(in);
+        if (waits && !is_victim_written(its, in)) return status;
         unpin_stuck(in, all);
         if (waits) wait_for_any_write(in);
         else status = write_victim(its, in, it, all, in->table.victim);
@@ -197,6 +197,7 @@ static int load_after_writes(opened *its, shard *in, load *it, stuck_pages *all,
         pin_stuck(in, all);
         status = load_once(its, in, it);
     }
+    return status;
 }
 
 /* The node of a handle that is alone has read the page, and would read it again for each page that

@@ -62,19 +62,23 @@ static void write_page(opened *its, shard *in, node_page page, bool is_locked, w
     else add_unwritten(its, page, error, &of->status);
 }
 
+/* The first dirty page in this frame or behind it, and its frame. */
+static bool next_dirty(shard *in, size_t *frame, node_page *page) {
+    bool found = false;
+    node_next_dirty(&in->node, *frame, &found, frame, page);
+    return found;
+}
+
 /* Looks at one frame after another, and leaves the shard while a page is written: so a page that is
- * dirty at the call is written, by this call or another one, as it keeps its frame until then. A
- * page that another call writes may be dirty after that. One that cannot be written keeps back no
- * other. */
+ * dirty at the call is written, by this call or another one, as it keeps its frame until then. One
+ * that another call writes may be dirty after that. One that cannot be written keeps back no other.
+ */
 static void write_pages(opened *its, shard *in, bool is_locked, walk *of) {
     node_page page;
-    size_t frame = 0;
-    bool found = in->may_be_dirty;
-    while (found && of->written < of->limit) {
-        node_next_dirty(&in->node, frame, &found, &frame, &page);
-        if (!found) return;
+    if (!in->may_be_dirty) return;
+    for (size_t frame = 0; of->written < of->limit && next_dirty(in, &frame, &page);) {
         bool is_meant = of->dev == ALL || of->dev == page.dev;
-        if (is_meant && wait_for_write(in, page)) continue;
+        if (is_meant && wait_for_write(in, page)) continue; /* the frame is looked at again */
         if (is_meant) write_page(its, in, page, is_locked, of);
         frame++;
     }

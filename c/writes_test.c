@@ -520,6 +520,31 @@ static void test_no_other_frame(void) {
     }
 }
 
+/* A page that is held meanwhile stays held, and has its record. */
+static void test_held_meanwhile(void) {
+    for (int call = PINS; call <= PREFETCHES; call++) {
+        open_dirty(2);
+        pin_twice(&first, 1);
+        warm_slot slot = hold_page(&first, 1);
+        uint8_t byte;
+        stop_writes_of(bit(0));
+        begin(0, WRITES_ONE, page_at(0));
+        until_written(bit(0));
+        begin(1, call, page_at(5));
+        until_waiting(1);
+        OK(warm_read(&first, slot, 0, &byte, 1));
+        OK(warm_unpin(&callers[3].handle, hold_page(&callers[3].handle, 1)));
+        end_writes(bit(0));
+        MUST(end(0) == WARM_OK && end(1) == WARM_OK && byte == 'd');
+        look_at(&first, slot, 1);
+        OK(warm_read(&first, slot, 0, &byte, 1));
+        OK(warm_unpin(&first, hold_page(&first, 1)));
+        OK(warm_unpin(&first, slot));
+        if (call <= PINS_ZEROED) unpin(1);
+        close_all();
+    }
+}
+
 /* The same, where it is so only once the page was read. */
 static void test_no_other_frame_then(void) {
     for (int is_first_clean = 0; is_first_clean < 2; is_first_clean++) {
@@ -803,6 +828,7 @@ int main(void) {
     test_leaving_meanwhile();
     test_no_other_frame();
     test_no_other_frame_then();
+    test_held_meanwhile();
     test_stale_meanwhile();
     test_refused();
     test_alone();
