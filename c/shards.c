@@ -149,8 +149,8 @@ static bool is_victim_written(opened *its, shard *in) {
  * After that the node writes one, which leaves at once. */
 enum { STUCK = 8, TRIES = 8 };
 
-/* Pages that could not be written. The node has a pin of each that is still dirty while it is asked,
- * and none of them for this while the shard is left. */
+/* Pages that could not be written. The node has a pin of each that is still dirty, for this, while
+ * it is asked, and none while the shard is left. */
 typedef struct stuck_pages {
     size_t count, pinned;
     node_page pages[STUCK];

@@ -161,7 +161,7 @@ static void write_shard(opened *its, shard *in, walk *of) {
     leave(in, is_locked);
 }
 
-/* Syncs what was taken, if it was, and counts that; also where it is refused since a sync has failed
+/* Syncs what was taken, if it was, and counts that; also where it is refused since a sync failed
  * before. A failure is noted: in place of a page that was skipped, too. */
 static void sync_and_count(opened *its, uint16_t dev, sync_use *taken, int *all) {
     known_device *known = &its->of->known[dev];
