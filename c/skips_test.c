@@ -85,48 +85,46 @@ static void test_skipping(void) {
 }
 
 /* A portion has as many pages as it says, but for what is skipped, and what is left counts that. */
-static void skip_portions(bool is_shared) {
+static void skip_portions(size_t shards, bool is_shared) {
     enum { MANY = 12 };
-    for (size_t shards = 1; shards <= 4; shards *= 4) {
-        own its = {.skips = 0x5}; /* pages 0 and 2 */
-        const warm_device device = own_device_of(&its, &all_calls, 50);
-        warm handle = {0}, other = {0};
-        size_t left = 77;
-        bool written = true;
-        OK(open_with(&handle, 1, shards, 16 * shards, &device, 1));
-        if (is_shared) OK(warm_attach(&handle, &other));
-        write_each(&handle, 0, MANY);
-        OK(warm_write_back_some(&handle, 0, &left));
-        MUST(left == MANY && its.befores == 0);
-        MUST(warm_write_back_some(&handle, 3, &left) == WARM_SKIPPED && left == MANY &&
-             its.writes == 3);
-        must_have_failed(&handle, 0, 0, WARM_FAILED_WRITE, EAGAIN);
-        MUST(__builtin_popcountll(dirty_set(&handle, MANY)) == MANY - 3 &&
-             is_dirty_in(&handle, 0) && is_dirty_in(&handle, 2));
-        left = 77;
-        MUST(warm_write_back_some(&handle, SIZE_MAX, &left) == WARM_SKIPPED && left == 77 &&
-             its.writes == MANY - 2);
-        MUST(dirty_set(&handle, MANY) == 5 && its.syncs == 0);
-        has_written(&handle, MANY - 2, is_shared ? (uint64_t)its.befores - (MANY - 2) : 0, 0);
-        MUST(warm_write_back_page(&handle, page_at(2), &written) == WARM_SKIPPED && written &&
-             dirty_set(&handle, MANY) == 5);
-        must_have_failed(&handle, 2, 0, WARM_FAILED_WRITE, EAGAIN);
-        its.skips = 1;
-        MUST(warm_write_back_some(&handle, 1, &left) == (shards == 1 ? WARM_SKIPPED : WARM_OK) ||
-             left == 1 || shards > 1);
-        its.skips = 0;
-        OK(warm_write_back_page(&handle, page_at(0), &written));
-        MUST(written && !is_dirty_in(&handle, 0) && its.syncs == 0);
-        OK(warm_write_back_page(&handle, page_at(0), &written));
-        MUST(!written);
-        OK(warm_write_back_some(&handle, SIZE_MAX, &left));
-        MUST(left == 0 && dirty_set(&handle, MANY) == 0);
-        no_pins(&handle);
-        if (is_shared) OK(warm_close(&other));
-        OK(warm_close(&handle));
-        MUST(its.syncs == 1);
-        nothing_left();
-    }
+    own its = {.skips = 0x5}; /* pages 0 and 2 */
+    const warm_device device = own_device_of(&its, &all_calls, 50);
+    warm handle = {0}, other = {0};
+    size_t left = 77;
+    bool written = true;
+    OK(open_with(&handle, 1, shards, 16 * shards, &device, 1));
+    if (is_shared) OK(warm_attach(&handle, &other));
+    write_each(&handle, 0, MANY);
+    OK(warm_write_back_some(&handle, 0, &left));
+    MUST(left == MANY && its.befores == 0);
+    MUST(warm_write_back_some(&handle, 3, &left) == WARM_SKIPPED && left == MANY &&
+         its.writes == 3);
+    must_have_failed(&handle, 0, 0, WARM_FAILED_WRITE, EAGAIN);
+    MUST(__builtin_popcountll(dirty_set(&handle, MANY)) == MANY - 3 &&
+         is_dirty_in(&handle, 0) && is_dirty_in(&handle, 2));
+    left = 77;
+    MUST(warm_write_back_some(&handle, SIZE_MAX, &left) == WARM_SKIPPED && left == 77 &&
+         its.writes == MANY - 2);
+    MUST(dirty_set(&handle, MANY) == 5 && its.syncs == 0);
+    has_written(&handle, MANY - 2, is_shared ? (uint64_t)its.befores - (MANY - 2) : 0, 0);
+    MUST(warm_write_back_page(&handle, page_at(2), &written) == WARM_SKIPPED && written &&
+         dirty_set(&handle, MANY) == 5);
+    must_have_failed(&handle, 2, 0, WARM_FAILED_WRITE, EAGAIN);
+    its.skips = 1;
+    MUST(warm_write_back_some(&handle, 1, &left) == (shards == 1 ? WARM_SKIPPED : WARM_OK) ||
+         left == 1 || shards > 1);
+    its.skips = 0;
+    OK(warm_write_back_page(&handle, page_at(0), &written));
+    MUST(written && !is_dirty_in(&handle, 0) && its.syncs == 0);
+    OK(warm_write_back_page(&handle, page_at(0), &written));
+    MUST(!written);
+    OK(warm_write_back_some(&handle, SIZE_MAX, &left));
+    MUST(left == 0 && dirty_set(&handle, MANY) == 0);
+    no_pins(&handle);
+    if (is_shared) OK(warm_close(&other));
+    OK(warm_close(&handle));
+    MUST(its.syncs == 1);
+    nothing_left();
 }
 
 /* A failure comes before a page that was skipped, whichever is met first: the call says so, and
@@ -168,8 +166,10 @@ static void test_skips_and_failures(void) {
 }
 
 static void test_skipping_portions(void) {
-    skip_portions(false);
-    skip_portions(true);
+    for (size_t shards = 1; shards <= 4; shards *= 4) {
+        skip_portions(shards, false);
+        skip_portions(shards, true);
+    }
 }
 
 /* A page that the node cannot pin once more is written by the node, and what is skipped is passed
