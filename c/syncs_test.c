@@ -508,17 +508,23 @@ static void write_stuck(warm *handle, int call, int32_t error) {
 }
 
 static void test_stuck_pages(void) {
-    warm handle = {0};
+    warm handle = {0}, other = {0};
     stuck[0] = (warm_page){.no = 1};
     stuck[1] = (warm_page){.no = 2, .dev = 1};
     stuck[2] = (warm_page){.no = 3};
-    OK(open_with(&handle, 1, 4, 64, devices, FAKE_DEVICES));
-    for (int call = 0; call < 3; call++) {
-        write_stuck(&handle, call, ENOSPC);
-        write_stuck(&handle, call, EIO);
+    for (int is_shared = 0; is_shared < 2; is_shared++) {
+        OK(open_with(&handle, 1, 4, 64, devices, FAKE_DEVICES));
+        if (is_shared) OK(warm_attach(&handle, &other));
+        written_locked = 0;
+        for (int call = 0; call < 3; call++) {
+            write_stuck(&handle, call, ENOSPC);
+            write_stuck(&handle, call, EIO);
+        }
+        MUST(written_locked == 0);
+        if (is_shared) OK(warm_close(&other));
+        OK(warm_abandon(&handle));
+        nothing_left();
     }
-    OK(warm_abandon(&handle));
-    nothing_left();
 }
 
 /* What a write-back left unsynced, since a page of the device failed, the close syncs. */

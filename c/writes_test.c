@@ -430,6 +430,7 @@ static void test_flush_behind_a_miss(void) {
     stop_writes_of(bit(0));
     begin(0, PINS, page_at(5));
     until_written(bit(0));
+    OK(warm_flush_device(&first, 1)); /* which has no such page */
     begin(1, FLUSHES, page_at(0));
     until_waiting(1);
     not_over(1);
