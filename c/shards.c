@@ -172,10 +172,10 @@ static void unpin_stuck(shard *in, stuck_pages *all) {
 /* Writes the page that is to leave, with the shard left. What failed first is noted, also where the
  * call succeeds then. */
 static int write_victim(opened *its, shard *in, load *it, stuck_pages *all, node_page victim) {
-    int error = write_outside(its, in, victim);
-    if (error == NOT_OUTSIDE) it->is_for_node = true;
-    if (error == 0) it->is_for_node = ++it->tries >= TRIES;
-    if (error == NOT_OUTSIDE || error == 0) return WARM_OK;
+    int error = 0;
+    bool is_outside = write_outside(its, in, victim, &error);
+    if (error == 0) it->is_for_node = !is_outside || ++it->tries >= TRIES;
+    if (error == 0) return WARM_OK;
     if (all->count == 0) note_failure(its, victim, WARM_FAILED_WRITE, error);
     if (all->count == STUCK) return WARM_EVICT_FAULT;
     all->pages[all->count++] = victim;

@@ -56,8 +56,8 @@ static int write_by_node(shard *in, node_page page) {
 
 /* Writes a page that is dirty, and that nobody writes. */
 static void write_page(opened *its, shard *in, node_page page, bool is_locked, walk *of) {
-    int error = is_locked ? write_outside(its, in, page) : NOT_OUTSIDE;
-    if (error == NOT_OUTSIDE) error = write_by_node(in, page);
+    int error;
+    if (!is_locked || !write_outside(its, in, page, &error)) error = write_by_node(in, page);
     if (error == 0) of->written++;
     else add_unwritten(its, page, error, &of->status);
 }

@@ -85,8 +85,8 @@ static off_t place_of_page(const opened *its, node_page page) {
     return (off_t)(page.no * its->of->page_size);
 }
 
-/* Asks before_write, if there is one, with the shard left, and copies the page. Returns what
- * write_outside does. */
+/* Asks before_write, if there is one, with the shard left, and copies the page. Returns 0 or an
+ * errno. */
 static int copy_page(opened *its, shard *in, writing *it, int32_t number) {
     const uint8_t *bytes;
     size_t size = its->of->page_size;
@@ -128,16 +128,16 @@ static void count_failed_write(opened *its, uint16_t dev) {
     atomic_fetch_add(&known->failures, 1);
 }
 
-int write_outside(opened *its, shard *in, node_page page) {
+bool write_outside(opened *its, shard *in, node_page page, int *error) {
     writing it = {.page = page};
     int32_t number = its->of->devices[page.dev].number;
-    if (in->leaving > 0 || !pin_in_node(in, page, &it.slot)) return NOT_OUTSIDE;
+    if (in->leaving > 0 || !pin_in_node(in, page, &it.slot)) return false;
     begin_write(in, &it);
-    int error = copy_page(its, in, &it, number);
-    if (error == 0) error = put_copy(its, in, &it, number);
+    *error = copy_page(its, in, &it, number);
+    if (*error == 0) *error = put_copy(its, in, &it, number);
     end_write(in, &it);
-    if (error == 0) tell_node(its, in, &it, number);
+    if (*error == 0) tell_node(its, in, &it, number);
     else count_failed_write(its, page.dev);
     node_unpin(&in->node, it.slot);
-    return error;
+    return true;
 }

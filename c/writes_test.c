@@ -371,6 +371,7 @@ static void forget_last(int fd, off_t at) {
 static void test_passing_over(void) {
     passing_over(EAGAIN);
     passing_over(ENOSPC);
+    passing_over(-1); /* which is no errno */
     warm_device_ops ops = asking;
     ops.before_write = skip_last;
     const warm_device device = {.pages = ASKED, .fd = 10, .ops = &ops};
