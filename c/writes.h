@@ -38,9 +38,9 @@ typedef struct writing {
 
 /* All is called by who is in the shard. */
 
-/* Writes a page that is dirty, and that nobody writes. The shard is locked, and left meanwhile. What
- * came of it is 0; EAGAIN where before_write skipped the page; or another errno: with both the page
- * is dirty as before. False where the page cannot be written so now, and nothing was done. */
+/* Writes a page that is dirty, and that nobody writes. The shard is locked, and left meanwhile.
+ * What came of it is 0; EAGAIN where before_write skipped the page; or another errno: with both the
+ * page is dirty as before. False where it cannot be written so now, and nothing was done. */
 bool write_outside(struct opened *its, struct shard *in, node_page page, int *error);
 
 /* The entry of a page, or of the page of a slot, where one is being written; or NULL. */
