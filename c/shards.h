@@ -15,8 +15,9 @@
  *     descriptors (sync_once.c), of the devices that have calls of their own (devices.c), and of
  *     the heap (heap.c).
  * A call of the engine is made with none of the third kind. A read and a write are made with none
- * at all, and a sync with the second. But warm_replace writes and syncs with those of all shards,
- * and a write is made with its shard's where it is the node's (writes.h; and TRIES of shards.c).
+ * at all, and a sync with the second. But warm_replace writes and syncs with those of all shards;
+ * and a node writes with its shard's where somebody waits to forget pages (writes.h), where a page
+ * was written TRIES times in vain (shards.c), or has as many pins as it can have.
  */
 #ifndef SHARDS_H
 #define SHARDS_H
@@ -34,7 +35,7 @@ typedef struct shard {
     _Alignas(LINE) pthread_mutex_t lock;
     node node;
     reading *reads; /* pages that are being read */
-    _Alignas(LINE) pthread_cond_t call_over; /* of those that read or write, or its first part */
+    _Alignas(LINE) pthread_cond_t call_over; /* a read, a write, or its copying */
     bool may_be_dirty; /* where not, no page is, and the node need not look at each frame */
     unsigned leaving;  /* how many wait for writes, to forget pages or replace a device */
     writing *writes;   /* pages that are being written */
