@@ -632,7 +632,7 @@ static void test_alone(void) {
 }
 
 int main(void) {
-    alarm(120);
+    alarm(600);
     test_write_backs();
     test_victims();
     test_pinned_meanwhile();

@@ -180,7 +180,7 @@ static void play_threads(size_t shards, size_t frames) {
 }
 
 int main(void) {
-    alarm(120);
+    alarm(600);
     for (int dev = 0; dev < DISKS; dev++) {
         for (int no = 0; no < PAGES; no++) {
             disks[dev].bytes[no] = disks[dev].model[no] = (uint8_t)(no + 1);
