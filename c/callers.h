@@ -1,7 +1,7 @@
 /*
- * callers.h: for reads_test.c and stale_reads_test.c, over fake_library.h: threads that make one
- * call each, by handles of their own, and reads that a test stops. A test that hangs is ended by an
- * alarm.
+ * callers.h: for reads_test.c, stale_reads_test.c and writes_test.c, over fake_library.h: threads
+ * that make one call each, by handles of their own, and reads that a test stops. A test that hangs
+ * is ended by an alarm.
  */
 #ifndef CALLERS_H
 #define CALLERS_H
@@ -14,7 +14,20 @@ enum { MOST = 4 };
 typedef struct caller {
     pthread_t thread;
     warm handle;
-    enum { PINS, PINS_ZEROED, PREFETCHES, STEPS, FORGETS, REPLACES } call;
+    enum {
+        PINS,
+        PINS_ZEROED,
+        PREFETCHES,
+        STEPS,
+        FORGETS,
+        REPLACES,
+        WRITES,
+        MARKS,
+        WRITES_ONE,
+        WRITES_SOME,
+        WRITES_ALL,
+        FLUSHES
+    } call;
     warm_page page;
     const warm_device *device; /* that takes the place of another one */
     atomic_bool is_over;
@@ -27,14 +40,29 @@ static warm first;
 static caller callers[MOST];
 static const warm_device in_place = {.pages = 100, .fd = 20};
 
+/* Makes the page dirty, which has the byte then, or the one before. */
+static inline int change(warm *by, warm_page page, bool writes) {
+    warm_slot slot;
+    OK(warm_pin(by, page, &slot));
+    OK(writes ? warm_write(by, slot, 0, "n", 1) : warm_mark_dirty(by, slot));
+    return warm_unpin(by, slot);
+}
+
 static inline int make_call(caller *its) {
     warm *by = &its->handle;
+    size_t left;
     switch (its->call) {
     case PINS: return warm_pin(by, its->page, &its->slot);
     case PINS_ZEROED: return warm_pin_zeroed(by, its->page, &its->slot);
     case PREFETCHES: return warm_prefetch(by, its->page);
     case STEPS: return warm_step(by, &its->found, &its->page);
     case FORGETS: return warm_forget_pages(by, its->page.dev, its->page.no);
+    case WRITES: return change(by, its->page, true);
+    case MARKS: return change(by, its->page, false);
+    case WRITES_ONE: return warm_write_back_page(by, its->page, &its->found);
+    case WRITES_SOME: return warm_write_back_some(by, SIZE_MAX, &left);
+    case WRITES_ALL: return warm_write_back_all(by);
+    case FLUSHES: return warm_flush_device(by, its->page.dev);
     default: return warm_replace(by, its->page.dev, its->device);
     }
 }
@@ -104,6 +132,7 @@ static inline void open_over(
     at_read = stop;
     stops_at = -1;
     begun = may_end = reads = 0;
+    put = written_locked = syncs = 0;
     OK(open_with(&first, 1, shards, frames, of, device_count));
     for (int number = 0; number < MOST; number++) OK(warm_attach(&first, &callers[number].handle));
 }
@@ -132,7 +161,7 @@ static inline void close_all(void) {
     OK(warm_abandon(&first));
     MUST(waiting_now == 0);
     nothing_left();
-    at_read = NULL;
+    at_read = at_write = NULL;
     files_keep = false;
 }
 

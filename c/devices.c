@@ -188,82 +188,53 @@ static int failed_with(int error) {
     return -1;
 }
 
-/* How many writes of this thread did not fail. */
-static _Thread_local size_t written;
-
-size_t devices_written(void) { return written; }
-
-/* The engine's call may use other replicas, and what it asks of them leaves no sync for later,
- * passes over no page and counts no write: whoever asked for that does not know of them. */
-typedef struct aside {
-    bool is_for_later;
-    const passes *passed;
-    size_t written;
-} aside;
-
-static aside step_aside(void) {
-    return (aside){
-        .is_for_later = sync_later(false), .passed = devices_pass(NULL), .written = written};
-}
-
-static void step_back(aside from) {
-    sync_later(from.is_for_later);
-    devices_pass(from.passed);
-    written = from.written;
-}
-
+/* The engine's call may use other replicas, and what it asks of them leaves no sync for later:
+ * whoever asked for that does not know of them. */
 static int own_read(const own_device *its, uint64_t no, uint8_t *into, size_t length) {
-    aside before = step_aside();
+    bool before = sync_later(false);
     int error = its->ops.read(its->context, no, into, length);
-    step_back(before);
+    sync_later(before);
     return own_error(error);
 }
 
 static int own_write(const own_device *its, uint64_t no, const uint8_t *from, size_t length) {
-    aside before = step_aside();
+    bool before = sync_later(false);
     int error = its->ops.write(its->context, no, from, length);
-    step_back(before);
+    sync_later(before);
     return own_error(error);
 }
 
 static int ask_before(const own_device *its, uint64_t no, const uint8_t *from, size_t length) {
     if (its->ops.before_write == NULL) return 0;
-    aside before = step_aside();
+    bool before = sync_later(false);
     int error = its->ops.before_write(its->context, no, from, length);
-    step_back(before);
+    sync_later(before);
     return error == EINTR ? EIO : error;
 }
 
 static void tell_after(const own_device *its, uint64_t no, int error) {
     if (its->ops.after_write == NULL) return;
-    aside before = step_aside();
+    bool before = sync_later(false);
     its->ops.after_write(its->context, no, error);
-    step_back(before);
+    sync_later(before);
 }
 
 static int own_sync(const own_device *its) {
-    aside before = step_aside();
+    bool before = sync_later(false);
     int error = its->ops.sync(its->context);
-    step_back(before);
+    sync_later(before);
     return own_error(error);
 }
 
-/* ---- pages that are passed over ---- */
+/* ---- writes that were made ---- */
 
-static _Thread_local const passes *passed_over;
+static _Thread_local const made_write *made_before;
 
-const passes *devices_pass(const passes *pages) {
-    const passes *before = passed_over;
-    passed_over = pages;
-    return before;
-}
+void devices_answer(const made_write *it) { made_before = it; }
 
-static bool is_passed(int number, uint64_t no) {
-    if (passed_over == NULL) return false;
-    for (size_t at = 0; at < passed_over->count; at++) {
-        if (passed_over->at[at].number == number && passed_over->at[at].no == no) return true;
-    }
-    return false;
+static bool is_made(int number, off_t at) {
+    const made_write *it = made_before;
+    return it != NULL && it->number == number && it->at == at;
 }
 
 /* ---- devices ---- */
@@ -285,17 +256,39 @@ static int write_to_device(
     return own_error(error);
 }
 
-ssize_t device_write(int number, const uint8_t *from, size_t length, off_t at) {
+/* A descriptor has bytes, and no pages. */
+static uint64_t number_at(const own_device *its, off_t at) {
+    return its->page_size != 0 ? (uint64_t)at / its->page_size : 0;
+}
+
+static int put_page(
+    const own_device *its, int number, const uint8_t *from, size_t length, off_t at) {
+    uint64_t no = number_at(its, at);
+    int error = write_to_device(its, number, no, from, length, at);
+    tell_after(its, no, error);
+    return error;
+}
+
+bool device_asks(int number) {
+    return is_made_up(number) && device_of(number).ops.before_write != NULL;
+}
+
+int device_ask(int number, const uint8_t *from, size_t length, off_t at) {
     own_device its = device_of(number);
-    uint64_t no = its.page_size != 0 ? (uint64_t)at / its.page_size : 0;
-    if (is_passed(number, no)) return (ssize_t)length;
-    int error = ask_before(&its, no, from, length);
-    if (error != 0) return failed_with(error);
-    error = write_to_device(&its, number, no, from, length, at);
-    tell_after(&its, no, error);
-    if (error != 0) return failed_with(error);
-    written++;
-    return (ssize_t)length;
+    return ask_before(&its, number_at(&its, at), from, length);
+}
+
+int device_put(int number, const uint8_t *from, size_t length, off_t at) {
+    own_device its = device_of(number);
+    return put_page(&its, number, from, length, at);
+}
+
+ssize_t device_write(int number, const uint8_t *from, size_t length, off_t at) {
+    if (is_made(number, at)) return (ssize_t)length;
+    own_device its = device_of(number);
+    int error = ask_before(&its, number_at(&its, at), from, length);
+    if (error == 0) error = put_page(&its, number, from, length, at);
+    return error == 0 ? (ssize_t)length : failed_with(error);
 }
 
 int device_sync(int number) {

@@ -41,26 +41,23 @@ ssize_t device_read(int number, uint8_t *into, size_t length, off_t at);
 ssize_t device_write(int number, const uint8_t *from, size_t length, off_t at);
 int device_sync(int number);
 
+/* A write in two halves, each of which returns 0 or an errno: what before_write says, and, where
+ * that is 0, the write, of which after_write is told. */
+bool device_asks(int number); /* whether there is a before_write */
+int device_ask(int number, const uint8_t *from, size_t length, off_t at);
+int device_put(int number, const uint8_t *from, size_t length, off_t at);
+
 /* Writes what no two files have in common; false where there is no file. */
 bool device_identity(int number, uint8_t into[DEVICE_IDENTITY]);
 
-/* Pages that a thread passes over in a write-back: each of their writes is answered as if it was
- * made, and is not made. Who does so makes the pages dirty again, before another call sees them. */
-enum { PASSED = 16 };
+/* A write that was made by the two halves. */
+typedef struct made_write {
+    int32_t number;
+    off_t at;
+} made_write;
 
-typedef struct passes {
-    size_t count;
-    struct {
-        int32_t number;
-        uint64_t no;
-    } at[PASSED];
-} passes;
-
-/* From here on this thread passes over these pages, or over none (NULL). Returns what was so
- * before. */
-const passes *devices_pass(const passes *pages);
-
-/* How many writes of this thread were made, and did not fail. */
-size_t devices_written(void);
+/* From here on device_write answers a write of this thread to this place as made, and asks no
+ * device; or, with NULL, none. */
+void devices_answer(const made_write *it);
 
 #endif

@@ -182,22 +182,18 @@ static void test_counted_writes(void) {
         warm_device_ops ops = is_own ? all_calls : hooks;
         ops.after_write = look_after;
         warm_device device = own_device_of(&its, &ops, 40);
-        size_t before = devices_written();
         uint8_t byte = 'a';
         put = 0;
         MUST(device_add(&device, 1, &told_number) && sync_add(device_synced_as(told_number)));
         fails_with(device_write(told_number, &byte, 1, 1), EAGAIN);
-        MUST(sync_is_settled(device_synced_as(told_number)) && devices_written() == before &&
-             put == 0);
-        MUST(device_write(told_number, &byte, 1, 0) == 1 && devices_written() == before + 1 &&
-             put == !is_own);
+        MUST(sync_is_settled(device_synced_as(told_number)) && put == 0);
+        MUST(device_write(told_number, &byte, 1, 0) == 1 && put == !is_own);
         its.inside = 0;
         its.write_error = EIO;
         MUST(sync_once(device_synced_as(told_number)) == 0 &&
              sync_is_settled(device_synced_as(told_number)));
         if (is_own) fails_with(device_write(told_number, &byte, 1, 0), EIO);
-        MUST(sync_is_settled(device_synced_as(told_number)) == !is_own &&
-             devices_written() == before + 1);
+        MUST(sync_is_settled(device_synced_as(told_number)) == !is_own);
         sync_drop(device_synced_as(told_number));
         device_drop(told_number);
     }
@@ -211,15 +207,14 @@ static warm inner;
 
 static void use_inner(own *its) {
     (void)its;
-    MUST(passed_over == NULL && !sync_later(false));
+    MUST(!sync_later(false));
     syncs = 0;
     write_to(&inner, page_at(1), 'i');
     OK(warm_write_back_all(&inner));
-    MUST(syncs == 1 && devices_written() > 0);
+    MUST(syncs == 1);
 }
 
-/* They sync at once and pass over nothing, whatever the call is in that makes them; and that call
- * goes on as before. */
+/* They sync at once, whatever the call is in that makes them; and that call goes on as before. */
 static void test_inner_calls(void) {
     own its = {.at_before = use_inner, .skips = 1 << 3};
     const warm_device device = own_device_of(&its, &all_calls, 0);
@@ -380,7 +375,7 @@ static void test_replacing_devices(void) {
                     next = own_device_of(&its[1], &all_calls, 0);
         const warm_device file = {.pages = PAGES, .fd = 52},
                           bad = {.pages = INT64_MAX, .fd = INT32_MIN};
-        warm handle = {0};
+        warm handle = {0}, other = {0};
         OK(open_with(&handle, 1, shards, 16, &made, 1));
         write_each(&handle, 0, 4);
         MUST(warm_replace(&handle, 0, &bad) == WARM_BAD_DEVICE &&
@@ -390,12 +385,13 @@ static void test_replacing_devices(void) {
         MUST(own_count == 1 && its[0].writes == 4 && its[0].syncs == 1);
         write_each(&handle, 0, 4);
         its[1].skips = 2;
+        OK(warm_attach(&handle, &other)); /* so that it is not the nodes that write */
         MUST(warm_flush_device(&handle, 0) == WARM_SKIPPED &&
-             counted_writes(&handle) == 2 * shards - 1);
+             counted_writes(&handle) == 2 * shards + 1);
+        OK(warm_close(&other));
         its[1].skips = 0;
         OK(warm_replace(&handle, 0, &file));
-        MUST(counted_writes(&handle) ==
-             2 * shards); /* what was passed over was the other device's */
+        MUST(counted_writes(&handle) == 2 * shards); /* what was skipped was the other device's */
         MUST(own_count == 0 && its[1].writes == 4 && its[1].syncs == 2 && its[0].writes == 4);
         write_each(&handle, 0, 4);
         put = syncs = 0;

@@ -49,6 +49,7 @@ static void must(bool holds, const char *what, int line) {
 #define pthread_mutex_unlock test_unlock
 #define pthread_cond_wait test_cond_wait
 #include "reads.c"
+#include "writes.c"
 #include "holds.c"
 #include "shards.c"
 #include "opening.c"
@@ -181,7 +182,7 @@ static inline void no_pins(warm *handle) {
             const fake_frame *frame = &node_of(handle, number)->at[at];
             MUST(frame->pins == 0 && (in->may_be_dirty || !frame->is_dirty));
         }
-        MUST(in->table.passed_count == 0);
+        MUST(in->table.passed_count == 0 && in->writes == NULL && in->leaving == 0);
     }
 }
 
@@ -189,7 +190,7 @@ static inline void no_pins(warm *handle) {
 static void nothing_left(void) {
     for (size_t chain = 0; chain < CHAINS; chain++) MUST(chains[chain] == NULL);
     MUST(blocks == 0 && locks_there == 0 && held == 0 && remembered == 0 && own_devices == NULL &&
-         passed_over == NULL);
+         made_before == NULL);
 }
 
 /* The call, with nothing granted, then with one grant, and so on, until it succeeds; and what holds

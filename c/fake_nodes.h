@@ -92,22 +92,13 @@ void node_close(node *of) {
     *of = (node){0};
 }
 
-/* Whether a page cannot be written: where a test says so. */
-static bool (*is_stuck)(node_page page);
-static int32_t stuck_error = EIO;
-
-static bool fake_unwritten(fake *its, node_page page, int32_t error) {
-    its->failed =
-        (node_failure){.no = page.no, .dev = page.dev, .what = WARM_FAILED_WRITE, .error = error};
-    return false;
-}
-
 static bool fake_write(fake *its, fake_frame *frame) {
     node_page page = frame->page;
-    if (frame->is_in && is_stuck != NULL && is_stuck(page))
-        return fake_unwritten(its, page, stuck_error);
-    if (device_write(its->devices[page.dev].number, &frame->byte, 1, (off_t)page.no) != 1)
-        return fake_unwritten(its, page, errno);
+    if (device_write(its->devices[page.dev].number, &frame->byte, 1, (off_t)page.no) != 1) {
+        its->failed = (node_failure){
+            .no = page.no, .dev = page.dev, .what = WARM_FAILED_WRITE, .error = errno};
+        return false;
+    }
     its->waits[page.dev] = true;
     its->writes++;
     frame->is_dirty = false;
@@ -242,6 +233,25 @@ int node_resident(node *of, node_page page, bool *resident) {
     fake_frame *frame = fake_frame_for(fake_in(of), page);
     *resident =
         frame != NULL && frame->is_in && frame->page.no == page.no && frame->page.dev == page.dev;
+    return fake_out(of, WARM_OK);
+}
+
+int node_dirty(node *of, node_page page, bool *dirty) {
+    fake_frame *frame = fake_frame_for(fake_in(of), page);
+    *dirty = frame != NULL && frame->is_in && frame->is_dirty && frame->page.no == page.no &&
+             frame->page.dev == page.dev;
+    return fake_out(of, WARM_OK);
+}
+
+int node_next_dirty(node *of, size_t from, bool *found, size_t *frame, node_page *page) {
+    fake *its = fake_in(of);
+    *found = false;
+    for (size_t at = from; at < its->frames && !*found; at++) {
+        *found = its->at[at].is_in && its->at[at].is_dirty;
+        if (!*found) continue;
+        *frame = at;
+        *page = its->at[at].page;
+    }
     return fake_out(of, WARM_OK);
 }
 

@@ -7,6 +7,7 @@
 
 #include "fd_calls.h"
 #include "heap.h"
+#include "nodes.h"
 #include "sync_once.h"
 
 #include <errno.h>
@@ -46,11 +47,25 @@ enum { FILES = 32, FILE_BYTES = 512 };
 static uint8_t in_files[FILES][FILE_BYTES];
 static bool files_keep;
 
+/* Whether a page cannot be written, of the device whose descriptor is 10 and its number: where a
+ * test says so. What a test does while a byte is written; and how many were written, or tried to,
+ * with a shard locked. */
+static bool (*is_stuck)(node_page page);
+static int32_t stuck_error = EIO;
+static void (*at_write)(int fd, off_t at);
+static atomic_int written_locked;
+
 static ssize_t test_pwrite(int fd, const void *from, size_t length, off_t at) {
-    if (fd < 0 || put_error != 0) {
-        errno = fd < 0 ? EBADF : put_error;
+    uint8_t byte = *(const uint8_t *)from;
+    written_locked += held > 0;
+    if (at_write != NULL) at_write(fd, at);
+    node_page page = {.no = (uint64_t)at, .dev = (uint16_t)(fd - 10)};
+    bool is_one_stuck = fd >= 0 && is_stuck != NULL && is_stuck(page);
+    if (fd < 0 || put_error != 0 || is_one_stuck) {
+        errno = fd < 0 ? EBADF : is_one_stuck ? stuck_error : put_error;
         return -1;
     }
+    MUST(byte == *(const uint8_t *)from); /* nobody changes it meanwhile */
     if (files_keep) memcpy(&in_files[fd][at], from, length);
     put++;
     return (ssize_t)length;
@@ -119,12 +134,12 @@ void rattle_dealloc(void *block) { test_free(block); }
 
 static int test_init(pthread_mutex_t *lock, const pthread_mutexattr_t *kind) {
     if (!is_granted()) return EAGAIN;
-    locks_there++;
+    __atomic_add_fetch(&locks_there, 1, __ATOMIC_RELAXED);
     return pthread_mutex_init(lock, kind);
 }
 
 static int test_destroy(pthread_mutex_t *lock) {
-    locks_there--;
+    __atomic_sub_fetch(&locks_there, 1, __ATOMIC_RELAXED);
     return pthread_mutex_destroy(lock);
 }
 
@@ -149,12 +164,12 @@ static int test_unlock(pthread_mutex_t *lock) {
 
 static int test_cond_init(pthread_cond_t *made, const pthread_condattr_t *kind) {
     if (!is_granted()) return EAGAIN;
-    locks_there++;
+    __atomic_add_fetch(&locks_there, 1, __ATOMIC_RELAXED);
     return pthread_cond_init(made, kind);
 }
 
 static int test_cond_destroy(pthread_cond_t *made) {
-    locks_there--;
+    __atomic_sub_fetch(&locks_there, 1, __ATOMIC_RELAXED);
     return pthread_cond_destroy(made);
 }
 

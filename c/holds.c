@@ -299,18 +299,18 @@ static bool pass_over(opened *its, shard *in, record **last) {
     table *of = &in->table;
     for (;;) {
         uint32_t state;
-        bool found;
-        node_page page;
         *last = NULL;
-        if (node_victim(&in->node, &found, &page) != WARM_OK || !found) return true;
-        record *at = find_record(of, page, &state);
+        of->has_victim = false;
+        node_victim(&in->node, &of->has_victim, &of->victim);
+        if (!of->has_victim) return true;
+        record *at = find_record(of, of->victim, &state);
         if (at == NULL) return true;
         close_record(at);
         *last = at;
         if (!is_seen(of, word_for(its, in, at))) see_all(its, in);
         if (!is_seen(of, word_for(its, in, at))) return true;
         node_slot slot;
-        if (of->passed_count == of->room || !pin_in_node(in, page, &slot)) return false;
+        if (of->passed_count == of->room || !pin_in_node(in, of->victim, &slot)) return false;
         of->passed[of->passed_count++] = (passed){slot, at};
     }
 }

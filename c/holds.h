@@ -85,6 +85,8 @@ typedef struct table {
     uint64_t *seen;                /* the words of this shard that were seen, in any order */
     uint64_t *sorted; /* many of them also here, each at the place that its bits say or behind it */
     size_t seen_count, sorted_mask;
+    node_page victim; /* where has_victim, the page that would leave by the node's last answer */
+    bool has_victim;
     size_t frames, filled; /* filled: those that have a page. While one has none, no page leaves */
     size_t pinned;         /* pins in the node that callers have */
     uint64_t pins;         /* that holds.c made in the node: no caller's hits */
@@ -164,8 +166,8 @@ bool holds_none(const struct opened *its, const struct shard *in);
 bool was_there(struct shard *in, node_slot slot);
 
 /* Before a call of the node that may let a page leave for another, or says which one would: that
- * page is then one that nobody holds. False where the call is to be refused (WARM_ALL_PINNED).
- * After the call, unpin_passed. */
+ * page, the table's victim, is then one that nobody holds. False where the call is to be refused
+ * (WARM_ALL_PINNED). After the call, and before this is asked again, unpin_passed. */
 bool pass_over_held(struct opened *its, struct shard *in, bool leaves);
 void unpin_passed(struct shard *in);
 

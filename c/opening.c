@@ -61,14 +61,14 @@ static int are_devices(const warm_options *its) {
 
 static void destroy_locks(replica *of, size_t count) {
     for (size_t number = 0; number < count; number++) {
-        pthread_cond_destroy(&of->shards[number].read_over);
+        pthread_cond_destroy(&of->shards[number].call_over);
         pthread_mutex_destroy(&of->shards[number].lock);
     }
 }
 
 static bool make_lock(shard *of) {
     if (pthread_mutex_init(&of->lock, NULL) != 0) return false;
-    if (pthread_cond_init(&of->read_over, NULL) == 0) return true;
+    if (pthread_cond_init(&of->call_over, NULL) == 0) return true;
     pthread_mutex_destroy(&of->lock);
     return false;
 }
@@ -166,15 +166,20 @@ static int open_replica(replica *of, const warm_options *its) {
 
 /* ---- handles ---- */
 
-/* A page is read into the buffer also where that is done with O_DIRECT. */
-static bool take_buffer(opened *its) {
+/* A page is read into a buffer, or written from one, also where that is done with O_DIRECT. */
+static bool take_buffer(const opened *its, uint8_t **buffer) {
     tried taken = rattle_alloc(its->of->page_size, 1);
-    if (taken.ok) its->buffer = taken.p;
+    if (taken.ok) *buffer = taken.p;
     return taken.ok;
+}
+
+static bool take_buffers(opened *its) {
+    return take_buffer(its, &its->buffer) && take_buffer(its, &its->copy);
 }
 
 static void free_opened(opened *its) {
     if (its->buffer != NULL) rattle_dealloc(its->buffer);
+    if (its->copy != NULL) rattle_dealloc(its->copy);
     free(its->block);
 }
 
@@ -187,7 +192,7 @@ static opened *new_opened(replica *of) {
     made->shards = of->shards;
     made->count = of->count;
     made->block = block;
-    if (take_buffer(made) && take_holds(made)) return made;
+    if (take_buffers(made) && take_holds(made)) return made;
     free_opened(made);
     return NULL;
 }

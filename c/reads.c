@@ -10,7 +10,7 @@
 
 static void await(shard *in, reading *it) {
     it->is_awaited = true;
-    pthread_cond_wait(&in->read_over, &in->lock);
+    pthread_cond_wait(&in->call_over, &in->lock);
 }
 
 bool wait_for_read(shard *in, node_page page) {
@@ -20,16 +20,16 @@ bool wait_for_read(shard *in, node_page page) {
     return at != NULL;
 }
 
-static void begin_read(shard *in, reading *it) {
+void begin_read(shard *in, reading *it) {
     it->next = in->reads;
     in->reads = it;
 }
 
-static void end_read(shard *in, reading *it) {
+void end_read(shard *in, reading *it) {
     reading **place = &in->reads;
     while (*place != it) place = &(*place)->next;
     *place = it->next;
-    if (it->is_awaited) pthread_cond_broadcast(&in->read_over);
+    if (it->is_awaited) pthread_cond_broadcast(&in->call_over);
 }
 
 /* Counts a read, unless its device was replaced meanwhile. */
@@ -40,27 +40,20 @@ static void count_read(opened *its, uint16_t dev, unsigned replaced, bool is_rea
     if (!is_read) atomic_fetch_add(&known->failures, 1);
 }
 
-static int note_failed_read(opened *its, node_page page, int error) {
-    its->has_failed = true;
-    its->failure =
-        (node_failure){.no = page.no, .dev = page.dev, .what = WARM_FAILED_READ, .error = error};
-    return WARM_READ_FAULT;
-}
-
-int read_outside(opened *its, shard *in, node_page page, bool is_locked) {
-    reading it = {.page = page};
+int read_outside(opened *its, shard *in, const reading *it, bool is_locked) {
+    node_page page = it->page;
     int32_t number = its->of->devices[page.dev].number;
     unsigned replaced = its->of->known[page.dev].replaced;
     size_t size = its->of->page_size;
-    begin_read(in, &it);
     leave(in, is_locked);
     bool is_read = device_read(number, its->buffer, size, (off_t)(page.no * size)) >= 0;
     int error = errno;
     if (is_locked) pthread_mutex_lock(&in->lock);
-    end_read(in, &it);
     count_read(its, page.dev, replaced, is_read);
-    if (it.is_stale) return READ_AGAIN;
-    return is_read ? WARM_OK : note_failed_read(its, page, error);
+    if (it->is_stale) return READ_AGAIN;
+    if (is_read) return WARM_OK;
+    note_failure(its, page, WARM_FAILED_READ, error);
+    return WARM_READ_FAULT;
 }
 
 void make_stale(shard *in, uint16_t dev, uint64_t from) {

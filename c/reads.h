@@ -3,13 +3,14 @@
  *
  * Who is in a shard, and wants a page that is in no frame and that nobody reads, puts it into the
  * shard's list of reads, leaves the shard, reads the page into the buffer of the handle, enters the
- * shard again, takes the page from the list, and hands the bytes to the node, before the shard is
- * left again. Who wants a page that is in the list, be it to read it or to fill it with zeros,
- * waits until it is taken from there, and then looks again. So the bytes are those that the device
- * has:
+ * shard again, hands the bytes to the node, and takes the page from the list. Where the page that
+ * is to leave for it is dirty, the shard is left before that once more (writes.h): so who fills a
+ * page with zeros puts it into the list, too. Who wants a page that is in the list, be it to read
+ * it or to fill it with zeros, waits until it is taken from there, and then looks again. So the
+ * bytes are those that the device has:
  *  - Nobody writes a page to its device while the list has it: it is in no frame.
- *  - It was written before that: the node writes a dirty page before it gives its frame to another
- *    one, and a page that is skipped, or whose write fails, keeps its frame.
+ *  - It was written before that: a dirty page is written before its frame is given to another one,
+ *    and a page that is skipped, or whose write fails, keeps its frame.
  * A page that is forgotten meanwhile, or whose device is replaced, is read again: the caller may
  * then change the file. Who forgets or replaces waits, in no shard, until the old reads are over.
  *
@@ -42,9 +43,13 @@ enum { READ_AGAIN = -1 };
  * left meanwhile. */
 bool wait_for_read(struct shard *in, node_page page);
 
-/* Reads a page of a device, which is in no frame and which nobody reads, into the handle's buffer.
- * The shard is left meanwhile. Returns WARM_OK; WARM_READ_FAULT, which is noted; or READ_AGAIN. */
-int read_outside(struct opened *its, struct shard *in, node_page page, bool is_locked);
+/* Puts a page into the list, and takes it from there. */
+void begin_read(struct shard *in, reading *it);
+void end_read(struct shard *in, reading *it);
+
+/* Reads a page that is in the list into the handle's buffer. The shard is left meanwhile. Returns
+ * WARM_OK; WARM_READ_FAULT, which is noted; or READ_AGAIN. */
+int read_outside(struct opened *its, struct shard *in, const reading *it, bool is_locked);
 
 /* What is being read of the pages of a device, with this number and above, is of no use. */
 void make_stale(struct shard *in, uint16_t dev, uint64_t from);

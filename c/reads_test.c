@@ -233,7 +233,7 @@ static void test_much_room(void) {
     OK(warm_attach(&handle, &second));
     for (int round = 0; round < 2; round++) {
         for (uint64_t no = 0; no < FAKE_FRAMES; no++) {
-            int before = questions, asked = no < FAKE_FRAMES - 2 * HOLDS ? 1 : 3;
+            int before = questions, asked = no < FAKE_FRAMES - 2 * HOLDS ? 1 : 2;
             slots[no] = pin(no % 2 == 0 ? &handle : &second, no + FAKE_FRAMES * (uint64_t)round);
             MUST(slots[no].hit == 0 && questions - before == (round == 0 ? 0 : asked));
         }

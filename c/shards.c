@@ -83,6 +83,9 @@ typedef struct load {
     bool is_locked;       /* the shard, since there are other handles */
     bool is_alone;        /* nobody holds a page of the shard; what left is known after the call */
     bool is_hit;          /* whether the page was in a frame before */
+    bool is_for_node;     /* the page that leaves is written by the node, if it is dirty */
+    unsigned tries;       /* how many pages were written to leave for it */
+    const reading *begun; /* where the shard is locked, and the page in no frame */
     node_slot slot;       /* of a pin that was made */
     const uint8_t *bytes; /* of such a pin, but of LOAD_PINS_ZEROED */
 } load;
@@ -97,60 +100,144 @@ static int ask_node(opened *its, shard *in, load *it) {
     return status == WARM_OK ? node_lend(&in->node, it->slot, &it->bytes) : status;
 }
 
+/* No status: the page that is to leave is dirty, and is to be written before that. */
+enum { WRITE_FIRST = -2 };
+
+static bool is_victim_dirty(shard *in) {
+    bool is_dirty = false;
+    if (in->table.has_victim) node_dirty(&in->node, in->table.victim, &is_dirty);
+    return is_dirty;
+}
+
 /* The page that leaves is one that nobody holds: where none leaves, or nobody can hold one, the
  * node alone is asked. */
 static int load_once(opened *its, shard *in, load *it) {
     bool is_free = it->is_alone || in->table.filled < in->table.frames;
-    return is_free || pass_over_held(its, in, true) ? ask_node(its, in, it) : WARM_ALL_PINNED;
+    if (is_free) return ask_node(its, in, it);
+    if (!pass_over_held(its, in, true)) return WARM_ALL_PINNED;
+    bool is_first = it->is_locked && !it->is_for_node && is_victim_dirty(in);
+    return is_first ? WRITE_FIRST : ask_node(its, in, it);
+}
+
+static bool has_victim(opened *its, shard *in) {
+    bool is_so = pass_over_held(its, in, false) && in->table.has_victim;
+    unpin_passed(in);
+    return is_so;
 }
 
 /* Whether a page may be put into a frame, as it seems before it is read. There are not more pages
  * with pins than pins, nor more that are held than there is room for. */
 static bool has_room(opened *its, shard *in) {
     const table *of = &in->table;
-    bool found = false;
-    node_page page;
-    if (of->filled < of->frames || of->pinned + of->room < of->frames) return true;
-    if (pass_over_held(its, in, false)) node_victim(&in->node, &found, &page);
-    unpin_passed(in);
-    return found;
+    return of->filled < of->frames || of->pinned + of->room < of->frames || has_victim(its, in);
 }
 
-/* How many pages that cannot be written a load passes over. */
-enum { STUCK = 8 };
+/* Whether a page would leave if the node had no pins of those that are being written. */
+static bool is_victim_written(opened *its, shard *in) {
+    if (in->writes == NULL) return false;
+    for (writing *at = in->writes; at != NULL; at = at->next) node_unpin(&in->node, at->slot);
+    bool is_so = has_victim(its, in);
+    for (writing *at = in->writes; at != NULL; at = at->next)
+        pin_in_node(in, at->page, &at->slot);
+    return is_so;
+}
+
+/* ---- pages that are to leave, and are dirty ---- */
+
+/* How many pages that cannot be written a load passes over; and how many are written for it with
+ * the shard left, in which other calls may pin or change them, or let them leave for other pages.
+ * After that the node writes one, which leaves at once. */
+enum { STUCK = 8, TRIES = 8 };
+
+/* Pages that could not be written. The node has a pin of each that is still dirty, for this, while
+ * it is asked, and none while the shard is left. */
+typedef struct stuck_pages {
+    size_t count, pinned;
+    node_page pages[STUCK];
+    node_slot slots[STUCK];
+} stuck_pages;
+
+static void pin_stuck(shard *in, stuck_pages *all) {
+    for (size_t at = 0; at < all->count; at++) {
+        bool is_dirty = false;
+        node_dirty(&in->node, all->pages[at], &is_dirty);
+        if (is_dirty && pin_in_node(in, all->pages[at], &all->slots[all->pinned])) all->pinned++;
+    }
+}
+
+static void unpin_stuck(shard *in, stuck_pages *all) {
+    while (all->pinned > 0) node_unpin(&in->node, all->slots[--all->pinned]);
+}
+
+/* Writes the page that is to leave, with the shard left. What failed first is noted, also where the
+ * call succeeds then. */
+static int write_victim(opened *its, shard *in, load *it, stuck_pages *all, node_page victim) {
+    int error = 0;
+    bool is_outside = write_outside(its, in, victim, &error);
+    if (error == 0) it->is_for_node = !is_outside || ++it->tries >= TRIES;
+    if (error == 0) return WARM_OK;
+    if (all->count == 0) note_failure(its, victim, WARM_FAILED_WRITE, error);
+    if (all->count == STUCK) return WARM_EVICT_FAULT;
+    all->pages[all->count++] = victim;
+    return WARM_OK;
+}
+
+/* Leaves the shard to write the page that is to leave, or to wait for a frame whose page is being
+ * written, and looks again which one is to leave, until the node can be asked. */
+static int load_after_writes(opened *its, shard *in, load *it, stuck_pages *all, int status) {
+    while (status == WRITE_FIRST || status == WARM_ALL_PINNED) {
+        bool waits = status == WARM_ALL_PINNED;
+        unpin_passed(in);
+        if (waits && !is_victim_written(its, in)) return status;
+        unpin_stuck(in, all);
+        if (waits) wait_for_any_write(in);
+        else status = write_victim(its, in, it, all, in->table.victim);
+        if (status == WARM_EVICT_FAULT) return status;
+        if (it->begun->is_stale) return READ_AGAIN;
+        pin_stuck(in, all);
+        status = load_once(its, in, it);
+    }
+    return status;
+}
 
 /* The node of a handle that is alone has read the page, and would read it again for each page that
  * cannot be written. */
 static int load_read_once(opened *its, shard *in, load *it) {
     if (it->kind == LOAD_PINS) {
         if (!has_room(its, in)) return WARM_ALL_PINNED;
-        int status = read_outside(its, in, it->page, it->is_locked);
+        int status = read_outside(its, in, &(reading){.page = it->page}, it->is_locked);
         if (status != WARM_OK) return status;
         it->kind = LOAD_PINS_FILLED;
     }
     return load_once(its, in, it);
 }
 
-/* Where the page that is to leave cannot be written, the next one leaves: the node has a pin of the
- * first one meanwhile. What failed first is noted, also where the call succeeds then. */
-__attribute__((noinline)) static int load_again(opened *its, shard *in, load *it, int first) {
-    node_slot stuck[STUCK];
-    node_page page;
-    size_t count = 0;
-    int status = noted(its, in, first);
-    while (status == WARM_EVICT_FAULT && count < STUCK && pin_victim(in, &page, &stuck[count])) {
-        count++;
+/* Where the node cannot write the page that is to leave, the next one leaves. */
+static int load_again(opened *its, shard *in, load *it, stuck_pages *all, int status) {
+    if (all->count == 0) noted(its, in, status);
+    while (status == WARM_EVICT_FAULT && all->count < STUCK &&
+           pin_victim(in, &all->pages[all->count], &all->slots[all->pinned])) {
+        all->count++;
+        all->pinned++;
         unpin_passed(in);
         status = load_read_once(its, in, it);
     }
-    while (count > 0) node_unpin(&in->node, stuck[--count]);
-    return status == WARM_ALL_PINNED ? first : status;
+    return status;
+}
+
+__attribute__((noinline)) static int load_slowly(opened *its, shard *in, load *it, int status) {
+    stuck_pages all;
+    all.count = all.pinned = 0;
+    status = load_after_writes(its, in, it, &all, status);
+    if (status == WARM_EVICT_FAULT || status == WARM_READ_FAULT)
+        status = load_again(its, in, it, &all, status);
+    unpin_stuck(in, &all);
+    return status == WARM_ALL_PINNED && all.count > 0 ? WARM_EVICT_FAULT : status;
 }
 
 static inline int load_in(opened *its, shard *in, load *it) {
     int status = load_once(its, in, it);
-    if (status == WARM_EVICT_FAULT || status == WARM_READ_FAULT)
-        status = load_again(its, in, it, status);
+    if (status != WARM_OK) status = load_slowly(its, in, it, status);
     if (in->table.passed_count > 0) unpin_passed(in);
     return status;
 }
@@ -173,6 +260,8 @@ static int pin_alone(opened *its, shard *in, load *it) {
 }
 
 static int pin_resident(opened *its, shard *in, load *it) {
+    bool is_changed = it->kind == LOAD_PINS_ZEROED;
+    if (is_changed && !note_change(in, write_of_page(in, it->page))) return READ_AGAIN;
     int status = ask_node(its, in, it);
     if (status == WARM_OK && it->kind == LOAD_PINS)
         put_record(its, in, it->page, it->slot, it->bytes);
@@ -181,27 +270,44 @@ static int pin_resident(opened *its, shard *in, load *it) {
 
 /* ---- pages that are read with no shard locked ---- */
 
-/* What the node would refuse before it reads the page. */
-static int may_read(opened *its, shard *in, node_page page) {
+/* What the node would refuse before it needs the page's bytes. Where each page that could leave is
+ * being written, waits for one of them. */
+static int may_load(opened *its, shard *in, const load *it) {
     const replica *of = its->of;
-    if (page.dev >= of->device_count) return WARM_NO_DEVICE;
-    if (page.no >= of->devices[page.dev].pages) return WARM_NO_PAGE;
-    return has_room(its, in) ? WARM_OK : WARM_ALL_PINNED;
+    if (it->page.dev >= of->device_count) return WARM_NO_DEVICE;
+    if (it->page.no >= of->devices[it->page.dev].pages) return WARM_NO_PAGE;
+    if (it->kind == LOAD_PINS_ZEROED || has_room(its, in)) return WARM_OK;
+    if (!is_victim_written(its, in)) return WARM_ALL_PINNED;
+    wait_for_any_write(in);
+    return READ_AGAIN;
 }
 
-/* Reads a page that is in no frame, and that nobody reads, and pins it in the node; or READ_AGAIN.
- */
-__attribute__((noinline)) static int pin_read(opened *its, shard *in, load *it) {
-    int status = may_read(its, in, it->page);
-    if (status == WARM_OK) status = read_outside(its, in, it->page, it->is_locked);
+static int read_and_pin(opened *its, shard *in, load *it) {
+    int status = read_outside(its, in, it->begun, it->is_locked);
     if (status != WARM_OK) return status;
     it->kind = LOAD_PINS_FILLED;
-    return pin_absent(its, in, it);
+    status = pin_absent(its, in, it);
+    it->kind = LOAD_PINS; /* what was read is of no use for another try */
+    return status;
+}
+
+/* Reads a page that is in no frame, and that nobody reads, and pins it in the node, or pins it with
+ * zeros; or READ_AGAIN. */
+__attribute__((noinline)) static int pin_listed(opened *its, shard *in, load *it) {
+    reading begun = {.page = it->page};
+    int status = may_load(its, in, it);
+    if (status != WARM_OK) return status;
+    begin_read(in, &begun);
+    it->begun = &begun;
+    status = it->kind == LOAD_PINS ? read_and_pin(its, in, it) : pin_absent(its, in, it);
+    it->begun = NULL;
+    end_read(in, &begun);
+    return status;
 }
 
 /* The same, without the pin: the node has it for a moment, and has counted a miss. */
 static int load_read(opened *its, shard *in, load *it) {
-    int status = pin_read(its, in, it);
+    int status = pin_listed(its, in, it);
     if (status != WARM_OK) return status;
     in->table.loads++;
     return node_unpin(&in->node, it->slot);
@@ -222,9 +328,9 @@ static int pin_in_node_of(opened *its, shard *in, load *it) {
     if (is_alone) return pin_alone(its, in, it);
     do {
         it->is_hit = is_in_frame(in, it->page);
-        if (it->is_hit) return pin_resident(its, in, it);
-        bool is_read = it->is_locked && it->kind == LOAD_PINS;
-        status = is_read ? pin_read(its, in, it) : pin_absent(its, in, it);
+        status = it->is_hit      ? pin_resident(its, in, it)
+                 : it->is_locked ? pin_listed(its, in, it)
+                                 : pin_absent(its, in, it);
     } while (status == READ_AGAIN);
     return status;
 }
@@ -299,23 +405,26 @@ typedef struct visit {
     bool is_locked, is_pinned;
 } visit;
 
-/* Whether the handle is open and the shard there, or why not. */
-static int enter_slot(warm *handle, warm_slot slot, visit *made) {
+/* Whether the handle is open and the shard there, or why not. Who is about to change the page waits
+ * until it is copied, where that is about to be written. */
+static int enter_slot_to(warm *handle, warm_slot slot, visit *made, bool changes) {
     opened *its = handle->at;
     if (its == NULL) return WARM_CLOSED;
     if (slot.shard >= its->count) return WARM_STALE_SLOT;
-    made->slot = slot_in(slot);
-    made->in = &its->shards[slot.shard];
-    made->is_locked = enter(its, made->in);
-    made->is_pinned = pin_held(its, made->in, made->slot);
+    shard *in = &its->shards[slot.shard];
+    *made = (visit){.in = in, .slot = slot_in(slot), .is_locked = enter(its, in)};
+    while (changes && !note_change(in, write_of_slot(in, made->slot))) continue;
+    if (changes) in->may_be_dirty = true;
+    made->is_pinned = pin_held(its, in, made->slot);
     return WARM_OK;
 }
 
-/* The same, for a call that makes the page dirty. */
+static int enter_slot(warm *handle, warm_slot slot, visit *made) {
+    return enter_slot_to(handle, slot, made, false);
+}
+
 static int enter_slot_to_write(warm *handle, warm_slot slot, visit *made) {
-    int status = enter_slot(handle, slot, made);
-    if (status == WARM_OK) made->in->may_be_dirty = true;
-    return status;
+    return enter_slot_to(handle, slot, made, true);
 }
 
 static int leave_slot(const visit *made, int status) {

@@ -6,7 +6,7 @@
  * shard, between enter and leave, has its node to itself: by its lock, or since no other handle is
  * open. No call is in two shards at once but those that are in all, which enter them in their
  * order. A pin of a page that has a record, and its unpin, are in no shard (holds.h); nor is,
- * meanwhile, who reads a page (reads.h).
+ * meanwhile, who reads a page (reads.h) or writes one (writes.h).
  *
  * Who takes several locks takes them in this order:
  *  1. a shard's, or those of all shards;
@@ -14,9 +14,10 @@
  *  3. one of three that are held while nothing is waited for: that of what is counted of
  *     descriptors (sync_once.c), of the devices that have calls of their own (devices.c), and of
  *     the heap (heap.c).
- * A call of the engine is made with none of the third kind, and at most with these: a read with
- * none at all, a write with a shard's, a sync with the second; in warm_replace also with those of
- * all shards.
+ * A call of the engine is made with none of the third kind. A read and a write are made with none
+ * at all, and a sync with the second. But warm_replace writes and syncs with those of all shards;
+ * and a node writes with its shard's where somebody waits to forget pages (writes.h), where a page
+ * was written TRIES times in vain (shards.c), or has as many pins as it can have.
  */
 #ifndef SHARDS_H
 #define SHARDS_H
@@ -25,6 +26,7 @@
 #include "holds.h"
 #include "proved.h"
 #include "reads.h"
+#include "writes.h"
 
 #include <pthread.h>
 #include <stdatomic.h>
@@ -33,19 +35,20 @@ typedef struct shard {
     _Alignas(LINE) pthread_mutex_t lock;
     node node;
     reading *reads; /* pages that are being read */
-    _Alignas(LINE) pthread_cond_t read_over;
+    _Alignas(LINE) pthread_cond_t call_over; /* a read, a write, or its copying */
     bool may_be_dirty; /* where not, no page is, and the node need not look at each frame */
+    unsigned leaving;  /* how many wait for writes, to forget pages or replace a device */
+    writing *writes;   /* pages that are being written */
     _Alignas(LINE) table table;
 } shard;
 
-/* What is known of a device beside its number. Its counts have, beside those of the nodes, reads
- * that are made outside of the nodes, and which of them failed; flushes that were refused by what
- * is remembered of one before, and those that failed, of all that are made outside of the nodes.
- * And they have not the writes of pages that were passed over, which the nodes take for made. */
+/* What is known of a device beside its number. Reads and failures are counted beside those of the
+ * nodes: they are made outside. So are writes that failed or were skipped; of others the nodes are
+ * told. All flushes are counted here: no node asks for one, but to be replaced or closed. */
 typedef struct known_device {
     int synced_as; /* see devices.h; who is in a shard reads it, who is in all changes it */
     unsigned replaced; /* how often the device was; read and changed as synced_as is */
-    _Atomic uint64_t flushes, failures, passed, reads;
+    _Atomic uint64_t reads, writes, flushes, failures;
 } known_device;
 
 typedef struct replica {
@@ -59,8 +62,7 @@ typedef struct replica {
     atomic_size_t handles;   /* how many are open */
     _Atomic uint64_t limit, horizon_limit; /* of times in frames */
     atomic_size_t page_limit;              /* of pages known */
-    _Atomic uint64_t passed; /* writes that nodes took for made */
-    atomic_size_t hand;      /* the shard with which the next warm_write_back_some begins */
+    atomic_size_t hand; /* the shard with which the next warm_write_back_some begins */
     void *block;
     _Atomic(holds *) holds;     /* of all handles that are open or were */
     atomic_size_t holds_count; /* how many these are, and are about to be */
@@ -90,6 +92,7 @@ typedef struct opened {
     uint64_t pins; /* in nodes */
     holds *holds;
     uint8_t *buffer; /* of a page: one that is read is here first */
+    uint8_t *copy;   /* of one that is written */
     uint32_t used; /* bit i: hold i names a record */
     own_hold own[HOLDS];
     size_t turn; /* the shard with which the next warm_step begins */
@@ -130,6 +133,12 @@ static inline bool enter(opened *its, shard *in) {
 
 static inline void leave(shard *in, bool is_locked) {
     if (is_locked) pthread_mutex_unlock(&in->lock);
+}
+
+/* Notes which call of a device failed, or was skipped. */
+static inline void note_failure(opened *its, node_page page, uint16_t what, int error) {
+    its->has_failed = true;
+    its->failure = (node_failure){.no = page.no, .dev = page.dev, .what = what, .error = error};
 }
 
 /* Notes which call of a device failed in the shard, which is entered, and returns the status. */

@@ -172,6 +172,25 @@ static void call_messages(warm *handle, size_t all, bool is_shared) {
     TAKES(1, warm_send(handle, &sending, frame, sizeof frame, &number));
 }
 
+/* A shard is left while a page is written. */
+static void call_write_backs(warm *handle, size_t all, bool is_shared) {
+    const warm_page page = {.no = 3};
+    size_t left;
+    bool written;
+    TAKES(2, warm_write_back_page(handle, page, &written)); /* before it is written, and after */
+    MUST(written);
+    TAKES(1, warm_write_back_page(handle, page, &written));
+    MUST(!written);
+    write_to(handle, page, 'b');
+    TAKES(all + 1, warm_write_back_some(handle, 1, &left));
+    MUST(left == 0);
+    write_to(handle, page, 'c');
+    TAKES(all + 2, warm_flush_device(handle, 0)); /* the last one to find the descriptor */
+    write_to(handle, page, 'd');
+    TAKES(all + 1 + FAKE_DEVICES, warm_write_back_all(handle));
+    TAKES(all + FAKE_DEVICES, warm_write_back_all(handle));
+}
+
 /* Each function that takes one lock at a time. */
 static void call_each(warm *handle, size_t all, bool is_shared) {
     size_t number;
@@ -190,10 +209,7 @@ static void call_each(warm *handle, size_t all, bool is_shared) {
     call_histories(handle, all, is_shared);
     OK(warm_step(handle, &flag, &page));
     call_messages(handle, all, is_shared);
-    TAKES(1, warm_write_back_page(handle, page, &flag));
-    TAKES(all, warm_write_back_some(handle, 1, &number));
-    TAKES(all + 1, warm_flush_device(handle, 0)); /* the last one to find the descriptor */
-    TAKES(all + FAKE_DEVICES, warm_write_back_all(handle));
+    call_write_backs(handle, all, is_shared);
     TAKES(all, warm_counts(handle, &counters));
     TAKES(all, warm_device_counts(handle, 0, &of_device));
     TAKES(0, warm_last_failure(handle, &flag, &failure));

@@ -1,6 +1,6 @@
 /*
- * Tests what write_back.c does with pages that before_write skips, over fake_library.h: they are
- * passed over, and stay dirty; and latches of pages, by which they are skipped.
+ * Tests what write_back.c and writes.c do with pages that before_write skips, over fake_library.h:
+ * they are passed over, and stay dirty; and latches of pages, by which they are skipped.
  */
 #include "own_devices.h"
 
@@ -24,124 +24,107 @@ static uint64_t dirty_set(warm *handle, uint64_t count) {
     return set;
 }
 
-static void has_written(warm *handle, uint64_t writes, uint64_t failures, uint64_t syncs_made) {
+/* A fake node's counts of a device are fixed numbers; what is skipped is counted beside them where
+ * it was not the node that asked for it. */
+static void has_written(warm *handle, uint64_t writes, uint64_t skips, uint64_t flushes) {
     warm_device_counters of_device;
     warm_counters counters;
     OK(warm_counts(handle, &counters));
     OK(warm_device_counts(handle, 0, &of_device));
     size_t count = ((opened *)handle->at)->count;
-    MUST(counters.written_back == writes); /* a fake node's other counts are fixed numbers */
-    MUST(of_device.failures == count + failures && of_device.flushes == 3 * count + syncs_made);
+    MUST(counters.written_back == writes && of_device.flushes == flushes);
+    MUST(of_device.failures == count + skips && of_device.writes == 2 * count + skips);
 }
 
-/* A page that is about to be passed over is counted as passed, and not yet as written. */
-static void test_counting_meanwhile(void) {
-    warm handle = {0};
-    warm_counters counters;
-    OK(open_with(&handle, 1, 2, 4, devices, 1));
-    atomic_store(&((opened *)handle.at)->of->passed, 1);
-    OK(warm_counts(&handle, &counters));
-    MUST(counters.written_back == 0);
-    OK(warm_close(&handle));
-    nothing_left();
-}
-
-/* A write-back of all goes on behind what is skipped, up to PASSED pages in each shard; those stay
- * dirty, and unpinned. */
-static void skip_some(size_t shards, const warm_device_ops *ops, uint64_t skips, bool by_device) {
+/* A write-back of all goes on behind what is skipped; that stays dirty, and unpinned. */
+static void skip_some(
+    size_t shards, const warm_device_ops *ops, uint64_t skips, bool by_device, bool is_shared) {
     enum { MANY = 32 };
     own its = {.skips = skips};
     const warm_device made[] = {own_device_of(&its, ops, 50), {.pages = PAGES, .fd = 51}};
-    warm handle = {0};
+    warm handle = {0}, other = {0};
     OK(open_with(&handle, 1, shards, FAKE_FRAMES * (shards > 1 ? 2 : 1), made, 2));
+    if (is_shared) OK(warm_attach(&handle, &other));
     write_each(&handle, 0, MANY);
     syncs = 0;
     put = 0;
     int status = by_device ? warm_flush_device(&handle, 0) : warm_write_back_all(&handle);
-    uint64_t all = (UINT64_C(1) << MANY) - 1, skipped_pages = skips & all;
-    MUST(status == (skipped_pages != 0 ? WARM_SKIPPED : WARM_OK));
-    int skipped_count = __builtin_popcountll(skipped_pages);
-    if (shards > 1 || skipped_count <= PASSED) {
-        MUST(dirty_set(&handle, MANY) == skipped_pages && its.afters == MANY - skipped_count &&
-             its.asked == all);
-        MUST((ops == &hooks ? put : its.writes) == MANY - skipped_count);
-        has_written(&handle, (uint64_t)(MANY - skipped_count), 0, 0);
-    } else {
-        MUST((dirty_set(&handle, MANY) & skipped_pages) == skipped_pages && its.afters < MANY);
-    }
+    uint64_t all = (UINT64_C(1) << MANY) - 1, skipped = skips & all;
+    MUST(status == (skipped != 0 ? WARM_SKIPPED : WARM_OK));
+    int skipped_count = __builtin_popcountll(skipped), written = MANY - skipped_count;
+    MUST(dirty_set(&handle, MANY) == skipped && its.afters == written && its.asked == all &&
+         its.befores == MANY);
+    MUST((ops == &hooks ? put : its.writes) == written);
+    has_written(&handle, (uint64_t)written, is_shared ? (uint64_t)skipped_count : 0, written > 0);
     no_pins(&handle);
-    if (its.afters > 0) MUST((ops == &hooks ? syncs : its.syncs) == 1);
-    if (skipped_pages != 0)
-        must_have_failed(
-            &handle, (uint64_t)__builtin_ctzll(skipped_pages), 0, WARM_FAILED_WRITE, EAGAIN);
+    MUST((ops == &hooks ? syncs : its.syncs) == (written > 0));
+    if (skipped != 0)
+        must_have_failed(&handle, (uint64_t)__builtin_ctzll(skipped), 0, WARM_FAILED_WRITE, EAGAIN);
     size_t left;
     OK(warm_write_back_some(&handle, 0, &left));
-    MUST(left == (size_t)__builtin_popcountll(dirty_set(&handle, MANY)));
-    MUST(warm_close(&handle) == (skipped_pages != 0 ? WARM_DIRTY : WARM_OK));
+    MUST(left == (size_t)skipped_count);
+    if (is_shared) OK(warm_close(&other));
+    MUST(warm_close(&handle) == (skipped != 0 ? WARM_DIRTY : WARM_OK));
     its.skips = 0;
-    if (skipped_pages != 0) OK(warm_write_back_all(&handle));
-    if (skipped_pages != 0) OK(warm_close(&handle));
+    if (skipped != 0) OK(warm_write_back_all(&handle));
+    if (skipped != 0) OK(warm_close(&handle));
     MUST(its.told == all && its.inside == 0);
     nothing_left();
 }
 
 static void test_skipping(void) {
-    static const uint64_t sets[] = {
-        0, 1, UINT64_C(1) << 31, 6, 0x1111, 0xFFFF, 0x80000001, 0xFFFF0000};
+    static const uint64_t sets[] = {0, 1, UINT64_C(1) << 31, 6, 0x1111, 0xFFFF, 0x80000001,
+        0xFFFF0000, 0x1FFFF, 0xFFFFFFFF};
     for (size_t at = 0; at < sizeof sets / sizeof *sets; at++) {
-        for (int way = 0; way < 4; way++) {
-            skip_some(1, way % 2 == 0 ? &all_calls : &hooks, sets[at], way > 1);
-            skip_some(4, way % 2 == 0 ? &all_calls : &hooks, sets[at], way > 1);
+        for (int way = 0; way < 8; way++) {
+            const warm_device_ops *ops = way % 2 == 0 ? &all_calls : &hooks;
+            skip_some(1, ops, sets[at], way / 2 % 2, way > 3);
+            skip_some(4, ops, sets[at], way / 2 % 2, way > 3);
         }
-    }
-    for (int way = 0; way < 2; way++) {
-        skip_some(1, &all_calls, 0xFFFFFFFF, way); /* too many: those behind are kept back */
-        skip_some(1, &all_calls, 0x1FFFF, way);
-        skip_some(4, &all_calls, 0xFFFFFFFF, way);
     }
 }
 
 /* A portion has as many pages as it says, but for what is skipped, and what is left counts that. */
-static void test_skipping_portions(void) {
+static void skip_portions(size_t shards, bool is_shared) {
     enum { MANY = 12 };
-    for (size_t shards = 1; shards <= 4; shards *= 4) {
-        own its = {.skips = 0x5}; /* pages 0 and 2 */
-        const warm_device device = own_device_of(&its, &all_calls, 50);
-        warm handle = {0};
-        size_t left = 77;
-        bool written = true;
-        OK(open_with(&handle, 1, shards, 16 * shards, &device, 1));
-        write_each(&handle, 0, MANY);
-        OK(warm_write_back_some(&handle, 0, &left));
-        MUST(left == MANY && its.befores == 0);
-        MUST(warm_write_back_some(&handle, 3, &left) == WARM_SKIPPED && left == MANY &&
-             its.writes == 3);
-        must_have_failed(&handle, 0, 0, WARM_FAILED_WRITE, EAGAIN);
-        MUST(__builtin_popcountll(dirty_set(&handle, MANY)) == MANY - 3 &&
-             is_dirty_in(&handle, 0) && is_dirty_in(&handle, 2));
-        left = 77;
-        MUST(warm_write_back_some(&handle, SIZE_MAX, &left) == WARM_SKIPPED && left == 77 &&
-             its.writes == MANY - 2);
-        MUST(dirty_set(&handle, MANY) == 5 && its.syncs == 0);
-        has_written(&handle, MANY - 2, 0, 0);
-        MUST(warm_write_back_page(&handle, page_at(2), &written) == WARM_SKIPPED && written &&
-             dirty_set(&handle, MANY) == 5);
-        must_have_failed(&handle, 2, 0, WARM_FAILED_WRITE, EAGAIN);
-        its.skips = 1;
-        MUST(warm_write_back_some(&handle, 1, &left) == (shards == 1 ? WARM_SKIPPED : WARM_OK) ||
-             left == 1 || shards > 1);
-        its.skips = 0;
-        OK(warm_write_back_page(&handle, page_at(0), &written));
-        MUST(written && !is_dirty_in(&handle, 0) && its.syncs == 0);
-        OK(warm_write_back_page(&handle, page_at(0), &written));
-        MUST(!written);
-        OK(warm_write_back_some(&handle, SIZE_MAX, &left));
-        MUST(left == 0 && dirty_set(&handle, MANY) == 0);
-        no_pins(&handle);
-        OK(warm_close(&handle));
-        MUST(its.syncs == 1);
-        nothing_left();
-    }
+    own its = {.skips = 0x5}; /* pages 0 and 2 */
+    const warm_device device = own_device_of(&its, &all_calls, 50);
+    warm handle = {0}, other = {0};
+    size_t left = 77;
+    bool written = true;
+    OK(open_with(&handle, 1, shards, 16 * shards, &device, 1));
+    if (is_shared) OK(warm_attach(&handle, &other));
+    write_each(&handle, 0, MANY);
+    OK(warm_write_back_some(&handle, 0, &left));
+    MUST(left == MANY && its.befores == 0);
+    MUST(warm_write_back_some(&handle, 3, &left) == WARM_SKIPPED && left == MANY &&
+         its.writes == 3);
+    must_have_failed(&handle, 0, 0, WARM_FAILED_WRITE, EAGAIN);
+    MUST(__builtin_popcountll(dirty_set(&handle, MANY)) == MANY - 3 &&
+         is_dirty_in(&handle, 0) && is_dirty_in(&handle, 2));
+    left = 77;
+    MUST(warm_write_back_some(&handle, SIZE_MAX, &left) == WARM_SKIPPED && left == 77 &&
+         its.writes == MANY - 2);
+    MUST(dirty_set(&handle, MANY) == 5 && its.syncs == 0);
+    has_written(&handle, MANY - 2, is_shared ? (uint64_t)its.befores - (MANY - 2) : 0, 0);
+    MUST(warm_write_back_page(&handle, page_at(2), &written) == WARM_SKIPPED && written &&
+         dirty_set(&handle, MANY) == 5);
+    must_have_failed(&handle, 2, 0, WARM_FAILED_WRITE, EAGAIN);
+    its.skips = 1;
+    MUST(warm_write_back_some(&handle, 1, &left) == (shards == 1 ? WARM_SKIPPED : WARM_OK) ||
+         left == 1 || shards > 1);
+    its.skips = 0;
+    OK(warm_write_back_page(&handle, page_at(0), &written));
+    MUST(written && !is_dirty_in(&handle, 0) && its.syncs == 0);
+    OK(warm_write_back_page(&handle, page_at(0), &written));
+    MUST(!written);
+    OK(warm_write_back_some(&handle, SIZE_MAX, &left));
+    MUST(left == 0 && dirty_set(&handle, MANY) == 0);
+    no_pins(&handle);
+    if (is_shared) OK(warm_close(&other));
+    OK(warm_close(&handle));
+    MUST(its.syncs == 1);
+    nothing_left();
 }
 
 /* A failure comes before a page that was skipped, whichever is met first: the call says so, and
@@ -182,23 +165,34 @@ static void test_skips_and_failures(void) {
     }
 }
 
-/* A page that cannot be pinned once more is not passed over: it ends the write-back, and stays
- * dirty. */
+static void test_skipping_portions(void) {
+    for (size_t shards = 1; shards <= 4; shards *= 4) {
+        skip_portions(shards, false);
+        skip_portions(shards, true);
+    }
+}
+
+/* A page that the node cannot pin once more is written by the node, and what is skipped is passed
+ * over. */
 static void test_full_pins(void) {
     own its = {.skips = 2};
     const warm_device device = own_device_of(&its, &all_calls, 0);
-    warm handle = {0};
+    warm handle = {0}, other = {0};
     size_t left;
     OK(open_with(&handle, 1, 1, 4, &device, 1));
+    OK(warm_attach(&handle, &other));
     write_each(&handle, 0, 3);
     pins_are_full = true;
-    MUST(warm_write_back_all(&handle) == WARM_SKIPPED &&
-         warm_write_back_some(&handle, SIZE_MAX, &left) == WARM_SKIPPED);
+    MUST(warm_write_back_all(&handle) == WARM_SKIPPED && dirty_set(&handle, 3) == 2);
+    must_have_failed(&handle, 1, 0, WARM_FAILED_WRITE, EAGAIN);
+    its.skips = 0;
+    OK(warm_write_back_some(&handle, SIZE_MAX, &left));
     pins_are_full = false;
-    MUST(dirty_set(&handle, 3) == 6 && its.writes == 1);
-    has_written(&handle, 1, 0, 0);
+    MUST(dirty_set(&handle, 3) == 0 && left == 0 && its.writes == 3);
+    has_written(&handle, 3, 0, 1);
     no_pins(&handle);
-    OK(warm_abandon(&handle));
+    OK(warm_close(&other));
+    OK(warm_close(&handle));
     nothing_left();
 }
 
@@ -303,7 +297,6 @@ static void test_latches(void) {
 }
 
 int main(void) {
-    test_counting_meanwhile();
     test_skipping();
     test_skipping_portions();
     test_skips_and_failures();

@@ -460,12 +460,6 @@ int warm_next_answer(warm *handle, void *message, size_t room, size_t *length) {
 
 /* ---- counts ---- */
 
-/* Pages are counted as passed over before the nodes take them for written: where a thread is about
- * to pass over one, no count falls below 0. */
-static void take_from(uint64_t *count, uint64_t passed) {
-    *count -= passed < *count ? passed : *count;
-}
-
 int warm_counts(warm *handle, warm_counters *counters) {
     opened *its = handle->at;
     warm_counters all = {0};
@@ -484,7 +478,6 @@ int warm_counts(warm *handle, warm_counters *counters) {
         all.resident += part.resident;
         all.dirty += part.dirty;
     }
-    take_from(&all.written_back, atomic_load(&its->of->passed));
     *counters = all;
     return WARM_OK;
 }
@@ -497,9 +490,9 @@ static void add_to(uint64_t *count, uint64_t more) {
 /* What was counted beside the nodes. */
 static void add_known(const known_device *known, warm_device_counters *all) {
     add_to(&all->reads, atomic_load(&known->reads));
+    add_to(&all->writes, atomic_load(&known->writes));
     add_to(&all->flushes, atomic_load(&known->flushes));
     add_to(&all->failures, atomic_load(&known->failures));
-    if (all->writes != UINT64_MAX) take_from(&all->writes, atomic_load(&known->passed));
 }
 
 int warm_device_counts(warm *handle, uint16_t dev, warm_device_counters *counters) {
@@ -515,7 +508,6 @@ int warm_device_counts(warm *handle, uint16_t dev, warm_device_counters *counter
         if (status != WARM_OK) return status;
         add_to(&all.reads, part.reads);
         add_to(&all.writes, part.writes);
-        add_to(&all.flushes, part.flushes);
         add_to(&all.failures, part.failures);
     }
     add_known(&its->of->known[dev], &all);

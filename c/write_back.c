@@ -11,202 +11,169 @@
 #include <errno.h>
 #include <string.h>
 
-/* ---- pages that are skipped ---- */
+/* ---- dirty pages of a shard ---- */
 
-/*
- * A node ends a write-back at the first page that is not written. Where before_write has skipped
- * that page, it is pinned, and the node is asked again: its write is then answered as made
- * (devices.h), so that the node goes on behind it. After that the page is made dirty again. All of
- * this is in the shard, so that no other call sees such a page clean; and what is pinned can be
- * made dirty.
- */
-typedef struct skipped {
-    passes pages;
-    node_slot slots[PASSED];
-} skipped;
+/* Which pages are to be written: of this device, or of all where it is ALL; how many at most; and
+ * how many were, and what the call is refused with. */
+enum { ALL = -1 };
 
-static bool is_skip(const node_failure *failed) {
-    return failed->what == WARM_FAILED_WRITE && failed->error == EAGAIN;
-}
+typedef struct walk {
+    int dev;
+    size_t limit, written;
+    int status;
+} walk;
 
-/* Passes over the page by which the node has failed, if it was skipped and there is room. */
-static bool pass_over_skipped(opened *its, shard *in, skipped *all) {
-    node_failure failed = {0};
-    bool found = false;
-    size_t at = all->pages.count;
-    node_last_failure(&in->node, &found, &failed);
-    if (!found || !is_skip(&failed) || at == PASSED) return false;
-    node_page page = {.no = failed.no, .dev = failed.dev};
-    if (!pin_in_node(in, page, &all->slots[at])) return false;
-    all->pages.at[at].number = its->of->devices[failed.dev].number;
-    all->pages.at[at].no = failed.no;
-    all->pages.count = at + 1;
-    atomic_fetch_add(&its->of->known[failed.dev].passed, 1);
-    atomic_fetch_add(&its->of->passed, 1);
-    return true;
-}
-
-static void make_dirty_again(shard *in, const skipped *all) {
-    if (all->pages.count > 0) in->may_be_dirty = true;
-    for (size_t at = 0; at < all->pages.count; at++) {
-        uint8_t *bytes;
-        node_lend_mut(&in->node, all->slots[at], &bytes);
-        node_unpin(&in->node, all->slots[at]);
-    }
-}
-
-/* ---- what a call that goes on is refused with ---- */
-
-/* Notes the status of a part of a call, with the failure of the shard, which is entered. The call
- * is refused with its first failure; with a page that was skipped, only where nothing has failed.
- */
-static void add_status(opened *its, shard *in, int status, int *all) {
-    node_failure failed = {0};
-    bool found = false;
-    if (status == WARM_OK || *all == WARM_WRITE_FAULT) return;
-    node_last_failure(&in->node, &found, &failed);
-    bool skips = found && is_skip(&failed);
-    if (skips && *all == WARM_SKIPPED) return;
-    noted(its, in, status);
-    *all = skips ? WARM_SKIPPED : status;
-}
-
-/* Where a write has failed, its device is not synced by this call: the descriptor may be another
- * file's by now, or none, and a sync that fails is remembered. A page that was skipped says nothing
- * of the descriptor. */
-static void mark_unwritten(opened *its, shard *in, node_failure *failed) {
-    bool found = false;
-    node_last_failure(&in->node, &found, failed);
-    if (!found || failed->what != WARM_FAILED_WRITE || is_skip(failed)) return;
-    its->unwritten[failed->dev / 8] |= (uint8_t)(1 << failed->dev % 8);
+/* The call is refused with its first failure; with a page that was skipped, only where nothing has
+ * failed. Where a write has failed, its device is not synced by this call: the descriptor may be
+ * another file's by now, or none, and a sync that fails is remembered. A page that was skipped says
+ * nothing of the descriptor. */
+static void add_unwritten(opened *its, node_page page, int error, int *all) {
+    bool is_skip = error == EAGAIN;
+    if (!is_skip) its->unwritten[page.dev / 8] |= (uint8_t)(1 << page.dev % 8);
+    if (*all == WARM_WRITE_FAULT || (is_skip && *all == WARM_SKIPPED)) return;
+    note_failure(its, page, WARM_FAILED_WRITE, error);
+    *all = is_skip ? WARM_SKIPPED : WARM_WRITE_FAULT;
 }
 
 static bool is_unwritten(const opened *its, size_t dev) {
     return (its->unwritten[dev / 8] >> dev % 8 & 1) != 0;
 }
 
+/* What a call is refused with, at its end. */
+static int status_of(opened *its, const walk *of) {
+    if (of->status != WARM_OK) memset(its->unwritten, 0, bytes_of_devices(its->of));
+    return of->status;
+}
+
+/* Returns 0 or an errno. */
+static int write_by_node(shard *in, node_page page) {
+    node_failure failed = {0};
+    bool is_so;
+    if (node_write_back_page(&in->node, page, &is_so) == WARM_OK) return 0;
+    node_last_failure(&in->node, &is_so, &failed);
+    return failed.error != 0 ? failed.error : EIO;
+}
+
+/* Writes a page that is dirty, and that nobody writes. */
+static void write_page(opened *its, shard *in, node_page page, bool is_locked, walk *of) {
+    int error;
+    if (!is_locked || !write_outside(its, in, page, &error)) error = write_by_node(in, page);
+    if (error == 0) of->written++;
+    else add_unwritten(its, page, error, &of->status);
+}
+
+/* The first dirty page in this frame or behind it, and its frame. */
+static bool next_dirty(shard *in, size_t *frame, node_page *page) {
+    bool found = false;
+    node_next_dirty(&in->node, *frame, &found, frame, page);
+    return found;
+}
+
+/* Looks at one frame after another, and leaves the shard while a page is written: so a page that is
+ * dirty at the call is written, by this call or another one, as it keeps its frame until then. One
+ * that another call writes may be dirty after that. One that cannot be written keeps back no other.
+ */
+static void write_pages(opened *its, shard *in, bool is_locked, walk *of) {
+    node_page page;
+    if (!in->may_be_dirty) return;
+    for (size_t frame = 0; of->written < of->limit && next_dirty(in, &frame, &page);) {
+        bool is_meant = of->dev == ALL || of->dev == page.dev;
+        if (is_meant && wait_for_write(in, page)) continue; /* the frame is looked at again */
+        if (is_meant) write_page(its, in, page, is_locked, of);
+        frame++;
+    }
+}
+
+/* Returns how many pages of a shard are dirty. */
+static size_t dirty_in(shard *in) {
+    size_t count = 0;
+    node_write_back_some(&in->node, 0, &count);
+    return count;
+}
+
 /* ---- portions, and one page ---- */
 
-/* Writes a portion of what waits in a shard, and says how many were written and, where nothing was
- * refused, how many are left. For the node a page that is passed over is one of the portion. */
-static void write_portion(
-    opened *its, shard *in, size_t limit, size_t *written, size_t *left, int *all) {
-    *written = *left = 0;
-    if (!in->may_be_dirty) return;
-    skipped over = {0};
-    const passes *outer = devices_pass(&over.pages);
-    size_t before = devices_written();
-    int status;
-    do {
-        size_t rest = limit - *written;
-        if (over.pages.count > 0 && rest < SIZE_MAX) rest++;
-        status = node_write_back_some(&in->node, rest, left);
-        add_status(its, in, status, all);
-        *written = devices_written() - before;
-    } while (status != WARM_OK && *written < limit && pass_over_skipped(its, in, &over));
-    devices_pass(outer);
-    if (status == WARM_OK && *left == 0) in->may_be_dirty = false;
-    make_dirty_again(in, &over);
+/* Writes a portion of what waits in a shard, and returns how many pages are left. */
+static size_t write_portion(opened *its, shard *in, walk *of) {
+    size_t left = 0;
+    bool is_locked = enter(its, in);
+    if (in->may_be_dirty) {
+        write_pages(its, in, is_locked, of);
+        left = dirty_in(in);
+        in->may_be_dirty = left > 0;
+    }
+    leave(in, is_locked);
+    return left;
 }
 
 /* Each shard behind that of the last portion has its turn, also where one before it is refused. */
 int warm_write_back_some(warm *handle, size_t limit, size_t *left) {
     opened *its = handle->at;
     size_t all = 0;
-    int status = WARM_OK;
+    walk of = {.dev = ALL, .limit = limit};
     if (its == NULL) return WARM_CLOSED;
     size_t first = atomic_load(&its->of->hand), hand = first;
     for (size_t asked = 0; asked < its->count; asked++) {
-        size_t written, after = 0, number = (first + asked) % its->count;
-        shard *in = &its->shards[number];
-        if (limit > 0) hand = number + 1;
-        bool is_locked = enter(its, in);
-        write_portion(its, in, limit, &written, &after, &status);
-        leave(in, is_locked);
-        limit -= written;
-        all += after;
+        size_t number = (first + asked) % its->count;
+        if (of.written < limit) hand = number + 1;
+        all += write_portion(its, &its->shards[number], &of);
     }
     atomic_store(&its->of->hand, hand % its->count);
-    if (status == WARM_OK) *left = all;
-    return status;
+    if (of.status == WARM_OK) *left = all;
+    return status_of(its, &of);
 }
 
 int warm_write_back_page(warm *handle, warm_page page, bool *written) {
     opened *its = handle->at;
-    int status = WARM_OK;
+    node_page its_page = page_in(page);
+    bool is_dirty = false;
+    walk of = {0};
     if (its == NULL) return WARM_CLOSED;
-    shard *in = shard_of(its, page_in(page));
+    shard *in = shard_of(its, its_page);
     bool is_locked = enter(its, in);
-    add_status(its, in, node_write_back_page(&in->node, page_in(page), written), &status);
+    while (wait_for_write(in, its_page)) continue;
+    node_dirty(&in->node, its_page, &is_dirty);
+    if (is_dirty) write_page(its, in, its_page, is_locked, &of);
     leave(in, is_locked);
-    return status;
+    if (of.status == WARM_OK) *written = is_dirty;
+    return status_of(its, &of);
 }
 
 /* All nodes are asked: what was not known to be dirty would be lost. */
 size_t dirty_pages(opened *its) {
     size_t all = 0;
     for (size_t number = 0; number < its->count; number++) {
-        size_t part = 0;
         shard *in = &its->shards[number];
         bool is_locked = enter(its, in);
-        node_write_back_some(&in->node, 0, &part);
+        all += dirty_in(in);
         leave(in, is_locked);
-        all += part;
     }
     return all;
 }
 
 /* ---- all pages, or those of a device ---- */
 
-/* Which pages of a shard are to be written: of this device, or of all where it is ALL. */
-enum { ALL = -1 };
-
-/* Asks the node until nothing fails, or what fails was not skipped, or too many pages were. Writes
- * what failed last. */
-static int write_past_skipped(opened *its, shard *in, int dev, node_failure *failed, int *all) {
-    skipped over = {0};
-    const passes *outer = devices_pass(&over.pages);
-    int status;
-    do {
-        status = dev == ALL ? node_write_back(&in->node) : node_flush(&in->node, (uint16_t)dev);
-        if (status != WARM_OK) mark_unwritten(its, in, failed);
-        add_status(its, in, status, all);
-    } while (status != WARM_OK && pass_over_skipped(its, in, &over));
-    devices_pass(outer);
-    if (status == WARM_OK && dev == ALL) in->may_be_dirty = false;
-    make_dirty_again(in, &over);
-    return status;
-}
-
-/* Where the node has ended at a page, the other devices have theirs written after that. */
-static void write_all_in(opened *its, shard *in, int *all) {
-    node_failure failed = {0}, of_other;
-    if (write_past_skipped(its, in, ALL, &failed, all) == WARM_OK) return;
-    for (size_t dev = 0; dev < its->of->device_count; dev++) {
-        if (dev != failed.dev) write_past_skipped(its, in, (int)dev, &of_other, all);
-    }
-}
-
-/* Writes what waits in a shard, of this device or of all, and leaves the syncs for later. */
-static void write_shard(opened *its, shard *in, int dev, int *all) {
-    node_failure failed;
-    bool is_locked = enter(its, in), before = sync_later(true);
-    if (dev == ALL) write_all_in(its, in, all);
-    else write_past_skipped(its, in, dev, &failed, all);
-    sync_later(before);
+/* Writes what waits in a shard. A page may have become dirty behind the walk's back. */
+static void write_shard(opened *its, shard *in, walk *of) {
+    bool is_locked = enter(its, in);
+    write_pages(its, in, is_locked, of);
+    if (in->may_be_dirty && of->dev == ALL) in->may_be_dirty = dirty_in(in) > 0;
     leave(in, is_locked);
 }
 
-/* Counts a sync that failed, or was refused since one failed before, and notes it: in place of a
- * page that was skipped, too. */
-static void add_failed_sync(opened *its, uint16_t dev, bool is_made, int error, int *all) {
+/* Syncs what was taken, if it was, and counts that; also where it is refused since a sync failed
+ * before. A failure is noted: in place of a page that was skipped, too. */
+static void sync_and_count(opened *its, uint16_t dev, sync_use *taken, int *all) {
     known_device *known = &its->of->known[dev];
-    if (!is_made) atomic_fetch_add(&known->flushes, 1);
+    bool is_made;
+    if (taken == NULL) return;
+    int error = sync_taken(taken, &is_made) == 0 ? 0 : errno;
+    if (is_made || error != 0) atomic_fetch_add(&known->flushes, 1);
+    if (error == 0) return;
     atomic_fetch_add(&known->failures, 1);
     if (*all == WARM_WRITE_FAULT) return;
     *all = WARM_WRITE_FAULT;
-    its->has_failed = true;
-    its->failure = (node_failure){.dev = dev, .what = WARM_FAILED_FLUSH, .error = error};
+    note_failure(its, (node_page){.dev = dev}, WARM_FAILED_FLUSH, error);
 }
 
 /* Syncs a device where that waits, with no shard entered. A thread that replaces the device
@@ -214,11 +181,10 @@ static void add_failed_sync(opened *its, uint16_t dev, bool is_made, int error, 
 static void sync_device(opened *its, uint16_t dev, int *all) {
     shard *in = &its->shards[0];
     if (is_unwritten(its, dev)) return;
-    bool is_made, is_locked = enter(its, in);
+    bool is_locked = enter(its, in);
     sync_use *taken = sync_take(its->of->known[dev].synced_as);
     leave(in, is_locked);
-    if (taken != NULL && sync_taken(taken, &is_made) != 0)
-        add_failed_sync(its, dev, is_made, errno, all);
+    sync_and_count(its, dev, taken, all);
 }
 
 int sync_devices(opened *its) {
@@ -232,26 +198,24 @@ int sync_devices(opened *its) {
  * synced once. */
 int warm_write_back_all(warm *handle) {
     opened *its = handle->at;
-    int status = WARM_OK;
+    walk of = {.dev = ALL, .limit = SIZE_MAX};
     if (its == NULL) return WARM_CLOSED;
     for (size_t number = 0; number < its->count; number++)
-        write_shard(its, &its->shards[number], ALL, &status);
+        write_shard(its, &its->shards[number], &of);
     for (size_t dev = 0; dev < its->of->device_count; dev++)
-        sync_device(its, (uint16_t)dev, &status);
-    memset(its->unwritten, 0, bytes_of_devices(its->of));
-    return status;
+        sync_device(its, (uint16_t)dev, &of.status);
+    return status_of(its, &of);
 }
 
 int warm_flush_device(warm *handle, uint16_t dev) {
     opened *its = handle->at;
-    int status = WARM_OK;
+    walk of = {.dev = dev, .limit = SIZE_MAX};
     if (its == NULL) return WARM_CLOSED;
     if (dev >= its->of->device_count) return WARM_NO_DEVICE;
     for (size_t number = 0; number < its->count; number++)
-        write_shard(its, &its->shards[number], dev, &status);
-    sync_device(its, dev, &status);
-    its->unwritten[dev / 8] = 0;
-    return status;
+        write_shard(its, &its->shards[number], &of);
+    sync_device(its, dev, &of.status);
+    return status_of(its, &of);
 }
 
 /* ---- pages of a device that leave ---- */
@@ -266,6 +230,26 @@ static bool enter_all(opened *its) {
 
 static void leave_all(opened *its, bool are_locked) {
     for (size_t number = its->count; number-- > 0;) leave(&its->shards[number], are_locked);
+}
+
+/* The same, where no page of a device is being written, with this number and above: else waits for
+ * that, with the shards left. Meanwhile none begins to be. */
+static bool enter_all_unwritten(opened *its, uint16_t dev, uint64_t from) {
+    bool are_locked = enter_all(its), is_any = false;
+    for (size_t number = 0; number < its->count; number++)
+        is_any = is_any || are_written(&its->shards[number], dev, from);
+    if (!is_any) return are_locked;
+    for (size_t number = 0; number < its->count; number++) its->shards[number].leaving++;
+    leave_all(its, are_locked);
+    for (size_t number = 0; number < its->count; number++) {
+        shard *in = &its->shards[number];
+        bool is_locked = enter(its, in);
+        wait_for_writes(in, dev, from);
+        leave(in, is_locked);
+    }
+    are_locked = enter_all(its);
+    for (size_t number = 0; number < its->count; number++) its->shards[number].leaving--;
+    return are_locked;
 }
 
 /* Whether no shard would be refused to forget these pages, or why one is. All shards are entered.
@@ -285,7 +269,7 @@ static int may_all_forget(opened *its, uint16_t dev, uint64_t from) {
 int warm_forget_pages(warm *handle, uint16_t dev, uint64_t from) {
     opened *its = handle->at;
     if (its == NULL) return WARM_CLOSED;
-    bool are_locked = enter_all(its);
+    bool are_locked = enter_all_unwritten(its, dev, from);
     int status = may_all_forget(its, dev, from);
     for (size_t number = 0; number < its->count && status == WARM_OK; number++) {
         shard *in = &its->shards[number];
@@ -304,7 +288,6 @@ int warm_forget_pages(warm *handle, uint16_t dev, uint64_t from) {
  * a file that another device has, a pinned page, a write or a flush that fails, also one that
  * failed before or that a call has left for later. All shards are entered. */
 static int settle_in_all(opened *its, uint16_t dev, const node_device *device) {
-    bool is_made;
     int status = node_may_replace(&its->shards[0].node, dev, device);
     if (status == WARM_OK) status = may_all_forget(its, dev, 0);
     bool before = sync_later(true); /* one sync for all shards */
@@ -313,9 +296,8 @@ static int settle_in_all(opened *its, uint16_t dev, const node_device *device) {
         status = noted(its, in, node_flush(&in->node, dev));
     }
     sync_later(before);
-    sync_use *taken = status == WARM_OK ? sync_take(its->of->known[dev].synced_as) : NULL;
-    if (taken != NULL && sync_taken(taken, &is_made) != 0)
-        add_failed_sync(its, dev, is_made, errno, &status);
+    if (status == WARM_OK)
+        sync_and_count(its, dev, sync_take(its->of->known[dev].synced_as), &status);
     return status;
 }
 
@@ -347,11 +329,11 @@ static int replace_in_all(opened *its, uint16_t dev, const node_device *device) 
     return WARM_OK;
 }
 
-/* A device with a flush that has failed is replaced by none: the failures were of reads. */
 static void begin_counts(known_device *known) {
     known->replaced++;
-    atomic_store(&known->passed, 0);
     atomic_store(&known->reads, 0);
+    atomic_store(&known->writes, 0);
+    atomic_store(&known->flushes, 0);
     atomic_store(&known->failures, 0);
 }
 
@@ -377,7 +359,7 @@ static int replace_entered(opened *its, uint16_t dev, node_device *device, int *
 static int replace_numbered(opened *its, uint16_t dev, node_device *device) {
     int synced_as = device_synced_as(device->number);
     if (!sync_add(synced_as)) return WARM_MEMORY;
-    bool are_locked = enter_all(its);
+    bool are_locked = enter_all_unwritten(its, dev, 0);
     fd_calls_remember(its->of->device_count);
     int status = replace_entered(its, dev, device, &synced_as);
     fd_calls_forget();

@@ -17,12 +17,12 @@
    2-distance.
 
    Threads. Each thread has its own handle (warm_attach). A call on a page, a slot or a bucket locks
-   its shard, but not while it reads a page. A call on the whole replica locks one shard after
-   another; warm_forget_pages and warm_replace lock all at once, and then wait for reads of their
-   pages. A pin of a page pinned twice since it was loaded, and its unpin, usually take no lock, for
-   8 pages of a handle at a time. A call waits for a page that another call reads; if that read
-   fails, it reads itself. The calls on a shard have one order; a call on several shards is not one
-   step.
+   its shard, but not while it reads or writes a page. A call on the whole replica locks one shard
+   after another; warm_forget_pages and warm_replace lock all at once, and wait for reads and writes
+   of their pages. A pin of a page pinned twice since it was loaded, and its unpin, usually take no
+   lock, for 8 pages of a handle at a time. A call waits for a page that another call reads, or
+   writes if it would write it, too; if that fails, it does so itself. The calls on a shard have one
+   order; a call on several shards is not one step.
 
    You may pass any slot, page, number, length, message or descriptor: the call is refused, or does
    what its description says. The library starts no thread.
@@ -153,7 +153,8 @@ typedef struct warm_slot {
    (WARM_READ_FAULT). sync makes durable all writes that had returned.
    before_write, if not null, is asked before each write of a page. It returns 0: write; EAGAIN:
    skip this page now, as its latch is held or its log not synced; an errno: the write fails. A
-   skipped page stays dirty: a write-back passes over 16 in a shard, and ends there at the next.
+   skipped page stays dirty. Calls that change the page wait for the answer, and others rarely: it
+   may sync a log.
    after_write, if not null, is told the error (or 0) of each write that was made, by the thread
    that asked before_write.
    Any thread that uses the replica may call them, several at once, for different pages.
@@ -289,10 +290,9 @@ int warm_prefetch(warm *handle, warm_page page);
 
 /* ---- write-back: but for warm_replace, these calls allocate nothing ---- */
 
-/* Writes all dirty pages, and then flushes each device with unflushed writes, once, with no shard
-   locked. A page that fails keeps back those in later frames of its shard and device; all else goes
-   on. A device with a failed write is not flushed. After a failed flush each later one of the
-   device fails, as the system may have dropped what was written.
+/* Writes all dirty pages, and then flushes each device with unflushed writes, once. A page that
+   fails keeps back no other, but its device is not flushed. After a failed flush each later one of
+   the device fails, as the system may have dropped what was written.
    Refused: WARM_WRITE_FAULT if a write or a flush failed, else WARM_SKIPPED. What is not written
    stays dirty. */
 int warm_write_back_all(warm *handle);
@@ -419,7 +419,7 @@ int warm_counts(warm *handle, warm_counters *counters);
 /* Calls of a device since it has its number, up to 2^64 - 1. */
 typedef struct warm_device_counters {
     uint64_t reads, writes; /* of pages, also failed or skipped ones */
-    uint64_t flushes;       /* by each shard; shards share one sync */
+    uint64_t flushes;       /* shards share one */
     uint64_t failures;      /* of all these, and skips */
     uint64_t reserved[4];   /* 0 */
 } warm_device_counters;

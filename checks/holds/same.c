@@ -3,7 +3,7 @@
  *
  * Each call that is drawn is made by one of the handles, and of a node of its own for each shard, over copies of the files: pins, unpins, reads and
  * writes by slots that any handle pins or nobody does, references, victims, warm-up steps, pages that are loaded without a pin, pages that are
- * forgotten, a file that is replaced. Each status, slot, byte, victim and count is that of the node, which knows of each pin, and reads each page
+ * forgotten, a file that is replaced, pages that are written back. Each status, slot, byte, victim and count is that of the node, which knows of each pin, and reads each page
  * by itself. Prints how many calls were made.
  */
 #define _GNU_SOURCE /* mkstemp */
@@ -222,6 +222,22 @@ static void write_back(void) {
     for (; number < shards; number++) MUST(node_write_back_some(&nodes[number], SIZE_MAX, &wanted) == WARM_OK && wanted == 0);
 }
 
+/* A page, a device, or a portion: of one shard, as those of several are in no order that a node has. */
+static void write_some(void) {
+    warm_page page = draw_page();
+    bool is_written = false, is_wanted = false;
+    size_t left, wanted, limit = draw(4);
+    MUST(warm_write_back_page(draw_handle(), page, &is_written) == WARM_OK);
+    MUST(node_write_back_page(&nodes[shard_of(page)], page_in(page), &is_wanted) == WARM_OK && is_written == is_wanted);
+    if (draw(4) == 0) {
+        MUST(warm_flush_device(draw_handle(), page.dev) == WARM_OK);
+        for (size_t number = 0; number < shards; number++) MUST(node_flush(&nodes[number], page.dev) == WARM_OK);
+    }
+    if (shards > 1) return;
+    MUST(warm_write_back_some(draw_handle(), limit, &left) == WARM_OK && node_write_back_some(&nodes[0], limit, &wanted) == WARM_OK);
+    MUST(left == wanted);
+}
+
 static void check_counts(void) {
     warm_counters counted, all = {0};
     node_counters part;
@@ -276,7 +292,7 @@ static void call_one(void) {
     else if (what < 59) look();
     else if (what < 60) draw(2) == 0 ? step() : prefetch();
     else if (what < 61) attach();
-    else if (what < 62) draw(4) == 0 ? write_back() : forget();
+    else if (what < 62) draw(4) == 0 ? write_back() : draw(3) == 0 ? write_some() : forget();
     else if (what < 63) draw(2) == 0 ? check_counts() : check_device_counts();
     else if (draw(16) == 0) {
         while (pin_count > 0) unpin(0);

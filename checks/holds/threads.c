@@ -2,7 +2,8 @@
  * threads.c: threads that pin pages of a small pool, most of which leave soon: threads SHARDS THREADS SECONDS SEED. Each page of the file is
  * full of its number. Whatever the other threads do, a page that is pinned has it, where it was found first. With the word "sharing" there are
  * more frames than records that the pages may have, which take these from each other. With the word "forgetting" they forget pages, too, so
- * that few leave for others. Prints how many pins were made.
+ * that few leave for others. With the word "writing" they make pages dirty, which have the same bytes afterwards, so that most are written before
+ * they leave, and write some back. Prints how many pins were made.
  */
 #define _GNU_SOURCE /* mkstemp */
 #include <pthread.h>
@@ -41,7 +42,7 @@ struct player {
 static struct player players[MOST_THREADS];
 static uint64_t numbers[PAGES]; /* of the pages */
 static size_t shards;
-static bool is_forgetting;
+static bool is_forgetting, is_writing;
 static atomic_bool is_over;
 
 static uint64_t draw(struct player *player, uint64_t below) {
@@ -69,6 +70,14 @@ static void forget(struct player *player) {
     MUST(status == WARM_OK || status == WARM_PINNED);
 }
 
+static void change(struct player *player, struct kept one) {
+    size_t left;
+    int status = WARM_OK;
+    MUST(warm_mark_dirty(&player->handle, one.slot) == WARM_OK);
+    if (draw(player, 16) == 0) status = warm_write_back_some(&player->handle, 2, &left);
+    MUST(status == WARM_OK);
+}
+
 static void play_once(struct player *player) {
     struct kept one = {.no = numbers[draw(player, PAGES)]};
     int status = warm_pin_bytes(&player->handle, (warm_page){.no = one.no}, &one.slot, &one.bytes);
@@ -77,6 +86,7 @@ static void play_once(struct player *player) {
     if (status == WARM_OK) {
         player->pins++;
         check_bytes(&one);
+        if (is_writing && draw(player, 2) == 0) change(player, one);
         player->kept[player->count++] = one;
     }
     if (player->count > 0 && (player->count == MOST_KEPT || draw(player, 4) != 0)) unpin(player, (int)draw(player, (uint64_t)player->count));
@@ -114,13 +124,22 @@ static int file_of_pages(void) {
     return fd;
 }
 
+static void check_file(int fd) {
+    for (int page = 0; page < PAGES; page++) {
+        uint64_t words[WORDS];
+        MUST(pread(fd, words, PAGE_SIZE, (off_t)numbers[page] * PAGE_SIZE) == PAGE_SIZE);
+        for (int at = 0; at < WORDS; at++) MUST(words[at] == numbers[page]);
+    }
+}
+
 int main(int count, char **words) {
     if (count != 5 && count != 6) {
-        fprintf(stderr, "usage: threads SHARDS THREADS SECONDS SEED [sharing|forgetting]\n");
+        fprintf(stderr, "usage: threads SHARDS THREADS SECONDS SEED [sharing|forgetting|writing]\n");
         return 2;
     }
     bool are_sharing = count == 6 && strcmp(words[5], "sharing") == 0;
     is_forgetting = count == 6 && strcmp(words[5], "forgetting") == 0;
+    is_writing = count == 6 && strcmp(words[5], "writing") == 0;
     number_pages(are_sharing);
     size_t frames = are_sharing ? MORE_FRAMES : FRAMES;
     warm first = {0};
@@ -128,7 +147,8 @@ int main(int count, char **words) {
     shards = strtoul(words[1], NULL, 10);
     size_t threads = strtoul(words[2], NULL, 10);
     MUST(threads <= MOST_THREADS);
-    const warm_device device = {.pages = numbers[PAGES - 1] + 1, .fd = file_of_pages()};
+    int fd = file_of_pages();
+    const warm_device device = {.pages = numbers[PAGES - 1] + 1, .fd = fd};
     const warm_options options = {.size = sizeof options, .replica = 1, .shards = shards, .frames = frames * shards, .page_size = PAGE_SIZE,
         .devices = &device, .device_count = 1};
     MUST(warm_open(&first, &options) == WARM_OK);
@@ -143,7 +163,9 @@ int main(int count, char **words) {
         MUST(pthread_join(players[at].thread, NULL) == 0);
         pins += players[at].pins;
     }
+    MUST(warm_write_back_all(&first) == WARM_OK);
     MUST(warm_forget_pages(&first, 0, 0) == WARM_OK); /* no pin is left */
+    check_file(fd);
     MUST(warm_close(&first) == WARM_OK);
     printf("threads: %zu shards, %zu threads, %llu pins as expected\n", shards, threads, (unsigned long long)pins);
     return 0;

@@ -12,7 +12,8 @@
  * page that is known, once. Prints how many calls were made.
  *
  * Latches on pages are the caller's (docs/C.md): a page's latch is held while its bytes are read or written. There is no other: before a page is
- * written to its file the device tries the page's latch, and skips the page where another thread has it to write.
+ * written to its file the device tries the page's latch, and skips the page where another thread has it to write. While it has the latch the page is
+ * as the model says, and so is what is written.
  */
 #define _GNU_SOURCE /* mkstemp */
 #include <errno.h>
@@ -91,7 +92,7 @@ static struct page {
     latch latch;
     uint64_t version; /* 0: zeros */
     uint64_t writes;  /* how often a version was given */
-    atomic_uint pins, reads; /* reads: of the file, under way */
+    atomic_uint pins, reads, asks; /* reads: of the file, under way; asks: of the device, before a write, until after it */
 } pages[DEVICES][PAGES];
 
 /* The two latest references to a page that a thread made; 0: none. */
@@ -157,39 +158,53 @@ static void check_bytes(const uint8_t *bytes, warm_page page) {
 
 static atomic_uint_fast64_t skipped;
 
+static uint16_t dev_of(const void *context) { return context == pages[1]; }
+
+/* One call at a time is asked about a page, and writes it. */
 static int try_latch(void *context, uint64_t no, const void *bytes, size_t length) {
     struct page *of = context;
-    (void)bytes;
-    MUST(no < PAGES && length == PAGE_SIZE);
-    if (try_shared(&of[no].latch)) return 0;
+    MUST(no < PAGES && length == PAGE_SIZE && atomic_fetch_add(&of[no].asks, 1) == 0);
+    if (try_shared(&of[no].latch)) {
+        check_bytes(bytes, (warm_page){.dev = dev_of(context), .no = no});
+        return 0;
+    }
+    atomic_fetch_sub(&of[no].asks, 1);
     atomic_fetch_add(&skipped, 1);
     return EAGAIN;
 }
 
 static void release_latch(void *context, uint64_t no, int error) {
     struct page *of = context;
-    MUST(error == 0);
+    MUST(error == 0 && atomic_fetch_sub(&of[no].asks, 1) == 1);
     unlatch(&of[no].latch);
 }
 
 static const warm_device_ops latching = {.size = sizeof latching, .before_write = try_latch, .after_write = release_latch};
 
-/* The second device has calls of its own. Threads wait for its slow reads; and no page is written while it is read. */
-static int file_of(const void *context) { return files[context == pages[1]]; }
+/* The second device has calls of its own. Threads wait for its slow reads, and go on while it is slow to write; and no page is written while it is
+ * read. */
+static int file_of(const void *context) { return files[dev_of(context)]; }
+
+static void wait_now_and_then(void) {
+    static _Thread_local unsigned calls;
+    if (++calls % 16 == 0) nanosleep(&(struct timespec){.tv_nsec = 100000}, NULL);
+}
 
 static int read_slowly(void *context, uint64_t no, void *into, size_t length) {
-    static _Thread_local unsigned calls;
     struct page *of = context;
     atomic_fetch_add(&of[no].reads, 1);
     memset(into, 0, length); /* past the end of the file are zeros */
     bool is_read = pread(file_of(context), into, length, (off_t)(no * PAGE_SIZE)) >= 0;
-    if (++calls % 16 == 0) nanosleep(&(struct timespec){.tv_nsec = 100000}, NULL);
+    wait_now_and_then();
     MUST(is_read && atomic_fetch_sub(&of[no].reads, 1) == 1); /* nobody else reads it */
     return 0;
 }
 
 static int write_whole(void *context, uint64_t no, const void *bytes, size_t length) {
     struct page *of = context;
+    check_bytes(bytes, (warm_page){.dev = dev_of(context), .no = no});
+    wait_now_and_then();
+    check_bytes(bytes, (warm_page){.dev = dev_of(context), .no = no});
     MUST(atomic_load(&of[no].reads) == 0 && pwrite(file_of(context), bytes, length, (off_t)(no * PAGE_SIZE)) == (ssize_t)length);
     MUST(atomic_load(&of[no].reads) == 0);
     return 0;

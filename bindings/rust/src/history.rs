@@ -50,7 +50,7 @@ pub struct DeviceCounters {
     pub reads: u64,
     /// Writes of pages, those that were skipped, too.
     pub writes: u64,
-    /// Flushes by each shard.
+    /// Flushes. Shards share one.
     pub flushes: u64,
     /// How many of all these failed.
     pub failures: u64,
