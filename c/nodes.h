@@ -70,8 +70,6 @@ int node_write(node *handle, node_slot slot, size_t at, const uint8_t *bytes, si
 int node_lend(node *handle, node_slot slot, const uint8_t **bytes);
 int node_lend_mut(node *handle, node_slot slot, uint8_t **bytes);
 int node_resident(node *handle, node_page page, bool *resident);
-int node_dirty(node *handle, node_page page, bool *dirty);
-int node_next_dirty(node *handle, size_t from, bool *found, size_t *frame, node_page *page);
 int node_victim(node *handle, bool *found, node_page *page);
 int node_list(node *handle, node_page *pages, size_t room, size_t *count);
 int node_step(node *handle, bool *found, node_page *page);
