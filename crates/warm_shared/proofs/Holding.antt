@@ -40,7 +40,7 @@ same_pool : (s t : PoolState) (dev from : ℕ) (why : NodeFault)
     → OfPool (λ fault. ForgetRefused s dev from fault t) why → t ≡ s
 same_pool s t dev from (Pool NoDevice) refused = refused.1
 same_pool s t dev from (Pool Fixed) refused = refused.2
-same_pool s t dev from (Pool fault) refused = absurd refused
+same_pool s t dev from (Pool _) refused = absurd refused
 same_pool s t dev from Memory refused = absurd refused
 same_pool s t dev from StaleSlot refused = absurd refused
 

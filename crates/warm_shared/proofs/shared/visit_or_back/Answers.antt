@@ -1,6 +1,6 @@
 use Rattle.std.proofs.Common.{◌≡◌, ◌<◌, length, arith}
 use Rattle.warm_shared.specs.Attached.{no_pass, shard_pass}
-use Rattle.warm_shared.proofs.Passing.{answered, called_of, may}
+use Rattle.warm_shared.proofs.Passing.{answered, may}
 use Rattle.warm_shared.proofs.Places.{read_at}
 use Rattle.warm_shared.proofs.shared.visit_or_back.Goals as goal
 
