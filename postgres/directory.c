@@ -96,13 +96,14 @@ sp_page_of(const BufferTag *tag, bool give, warm_page *page)
 	return true;
 }
 
-/* Writes the names of a page of the history; false where there is no such file. */
+/* Writes the names of a page of the history; false where there can be none of these names. */
 bool
 sp_names_of(warm_page page, SpPage *names)
 {
 	const SpDevice *device = device_of(page.dev);
 
-	if (device == NULL || page.no >> 32 == InvalidOid)
+	if (device == NULL || page.no >> 32 == InvalidOid ||
+		(BlockNumber) page.no == InvalidBlockNumber)
 		return false;
 	names->device = *device;
 	names->file = (Oid) (page.no >> 32);

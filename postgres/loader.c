@@ -23,10 +23,15 @@
 #define PAGES_A_LOCK	32
 #define IDLE_MS			1000
 #define IDLE_TURNS		10
-#define LOCK_TIMEOUT_MS "1000"
+#define MOST_BATCHES	1000	/* of a loader, whose cache of relations grows */
 #define BATCH_US		US_PER_S	/* of a primary's loader, however slow its reads */
 
 PGDLLEXPORT void standby_prewarm_loader_main(Datum main_arg);
+
+/* A locked catalog is waited for no longer.  By the others a database's owner could end a loader. */
+static const char *const settings[][2] = {
+	{"lock_timeout", "1000"}, {"exit_on_error", "off"}, {"transaction_timeout", "0"}
+};
 
 static SpLoader *slot;
 static uint64 epoch;
@@ -257,8 +262,9 @@ loader_begin(int number)
 	LWLockRelease(sp_shared->lock);
 	if (!OidIsValid(database))
 		proc_exit(0);			/* the slot is another's by now */
-	/* A catalog that is locked is waited for no longer than this. */
-	SetConfigOption("lock_timeout", LOCK_TIMEOUT_MS, PGC_SUSET, PGC_S_OVERRIDE);
+	for (int i = 0; i < lengthof(settings); i++)
+		if (GetConfigOption(settings[i][0], true, false) != NULL)
+			SetConfigOption(settings[i][0], settings[i][1], PGC_SUSET, PGC_S_OVERRIDE);
 	BackgroundWorkerInitializeConnectionByOid(database, InvalidOid, BGWORKER_BYPASS_ALLOWCONN);
 	is_connected = true;
 }
@@ -270,7 +276,7 @@ standby_prewarm_loader_main(Datum main_arg)
 	pqsignal(SIGHUP, SignalHandlerForConfigReload);
 	BackgroundWorkerUnblockSignals();
 	loader_begin(DatumGetInt32(main_arg));
-	for (int idle = 1; loader_is_needed(); idle++)
+	for (int idle = 1, batches = 0; loader_is_needed(); idle++)
 	{
 		uint32		count = loader_take_batch();
 		uint64		begun = sp_us();
@@ -283,9 +289,11 @@ standby_prewarm_loader_main(Datum main_arg)
 			loader_give_outcomes(count, sp_us() - begun);
 			(void) pgstat_report_stat(false);
 			idle = 0;
+			batches++;
 		}
 		/* a primary's does not stay: DROP DATABASE waits for it */
-		if (idle == IDLE_TURNS || sp_shared->stats.others_wait || !RecoveryInProgress())
+		if (idle == IDLE_TURNS || batches == MOST_BATCHES || sp_shared->stats.others_wait ||
+			!RecoveryInProgress())
 			break;
 		(void) sp_wait(IDLE_MS);
 	}

@@ -24,6 +24,7 @@ static XLogReaderState *reader = NULL;
 static char segment_path[MAXPGPATH];	/* of the segment that was looked for last */
 static XLogRecPtr own_end;		/* of the WAL that a primary begins with; of a standby invalid */
 static TimeLineID own_timeline;
+static bool is_cut;				/* own_end is within the record that was to be read */
 
 /* Up to where messages were taken in; invalid where none are. */
 XLogRecPtr	sp_received = InvalidXLogRecPtr;
@@ -66,10 +67,25 @@ read_page(XLogReaderState *state, XLogRecPtr page, int wanted, XLogRecPtr record
 	int			length;
 
 	if (page + wanted > end)
+	{
+		is_cut = !XLogRecPtrIsInvalid(own_end); /* others go on to write it */
 		return -1;
+	}
 	length = (int) Min(XLOG_BLCKSZ, end - page);
 	XLogReadDetermineTimeline(state, page, wanted, timeline);
 	return WALRead(state, into, page, length, state->currTLI, &error) ? length : -1;
+}
+
+/* Goes on at a place.  A record does not begin at a page, but behind its header. */
+static void
+begin_read(XLogRecPtr from)
+{
+	if (XLogSegmentOffset(from, wal_segment_size) == 0)
+		from += SizeOfXLogLongPHD;
+	else if (from % XLOG_BLCKSZ == 0)
+		from += SizeOfXLogShortPHD;
+	sp_received = from;
+	XLogBeginRead(reader, from);
 }
 
 /*
@@ -89,8 +105,7 @@ sp_receive_start(XLogRecPtr from, bool is_standby)
 	if (reader == NULL)
 		ereport(ERROR, (errcode(ERRCODE_OUT_OF_MEMORY), errmsg("out of memory")));
 	own_end = is_standby ? InvalidXLogRecPtr : GetFlushRecPtr(&own_timeline);
-	sp_received = from;
-	XLogBeginRead(reader, from);
+	begin_read(from);
 }
 
 void
@@ -168,10 +183,12 @@ look_at_record(void)
 	take_message((const uint8 *) message->message + sizeof SP_NAME, message->message_size);
 }
 
-/* Warns that WAL is skipped up to end, for what the reader says: nothing of a file that is gone. */
+/* WAL is skipped up to end, for what the reader says: nothing of a file that is gone. */
 static void
-log_skipped(XLogRecPtr end, const char *why)
+note_skipped(XLogRecPtr end, const char *why)
 {
+	sp_stats.wal_skipped += end - sp_received;
+	sp_stats.wal_read -= end - sp_received;
 	if (!sp_may_log(SP_FAULT_WAL))
 		return;
 	/* A crash or a promotion is followed by a checkpoint, after which WAL is recycled. */
@@ -197,18 +214,12 @@ sp_receive(void)
 		char	   *message;
 
 		CHECK_FOR_INTERRUPTS();
+		is_cut = false;
 		if (XLogReadRecord(reader, &message) == NULL)
 		{
-			log_skipped(end, message);
-			sp_stats.wal_skipped += end - sp_received;
-			sp_stats.wal_read -= end - sp_received;
-			sp_received = end;
-			/* A record does not begin at a page, but behind its header. */
-			if (XLogSegmentOffset(end, wal_segment_size) == 0)
-				sp_received += SizeOfXLogLongPHD;
-			else if (end % XLOG_BLCKSZ == 0)
-				sp_received += SizeOfXLogShortPHD;
-			XLogBeginRead(reader, sp_received);
+			if (!is_cut)
+				note_skipped(end, message);
+			begin_read(end);
 			break;
 		}
 		look_at_record();

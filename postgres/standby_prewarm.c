@@ -26,6 +26,7 @@ PGDLLEXPORT void standby_prewarm_main(Datum main_arg);
 #define LOG_AGAIN_US	(300 * US_PER_S)
 
 #define SHARE			9		/* what rests, rests so many times as long as it took */
+#define MOST_REST_US	(600 * US_PER_S)	/* but no longer: the machine may have stood still */
 
 SpShared   *sp_shared = NULL;
 SpStats		sp_stats;
@@ -228,7 +229,8 @@ next_time(uint64 begun, int interval)
 {
 	uint64		now = sp_us();
 
-	return Max(begun + interval * UINT64CONST(1000), now + (now - begun) * SHARE);
+	return Max(begun + interval * UINT64CONST(1000),
+			   now + Min((now - begun) * SHARE, MOST_REST_US));
 }
 
 static void
