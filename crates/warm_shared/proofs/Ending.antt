@@ -1,10 +1,10 @@
 -- Passes that are split off, ended and closed, shard by shard.
-use Rattle.std.proofs.Common.{◌≡◌, ℕ, ◌+◌, ◌<◌, ◌≤◌, List, [], length, set, Result, ap, subst, ◌∙◌, arith}
-use Rattle.warm_turn.specs.CallHistories.{Joined, calls_by, new_pass}
+use Rattle.std.proofs.Common.{◌≡◌, ℕ, ◌+◌, ◌<◌, ◌≤◌, List, [], length, set, Result, sym, ap, subst, ◌∙◌, arith}
+use Rattle.warm_turn.specs.CallHistories.{Joined, calls_by, halved, new_pass}
 use Rattle.warm_turn.specs.declared.fault.Busy.{Busy}
 use Rattle.warm_gossip.specs.State.{NodeState}
 use Rattle.warm_shared.specs.Attached.{AreOf, IsPassOf, Known, ShardPass, ShardTurn, known_of, no_pass, shard_pass, shard_turn}
-use Rattle.warm_shared.specs.Opening.{ClosesShard, IsSplit}
+use Rattle.warm_shared.specs.Opening.{ClosesShard, IsSplit, with_half}
 use Rattle.warm_shared.specs.ShardSteps.{ShardStep}
 use Rattle.warm_shared.proofs.Passing.{still_of}
 use Rattle.warm_shared.proofs.Places.{at_each}
@@ -51,6 +51,38 @@ module _ (turns : List ShardTurn) (start others now : List ShardPass) (i : ℕ) 
   pub later_next : (k : ℕ) → i + 1 ≤ k → shard_pass (set now i p) k ≡ shard_pass start k
   later_next k le =
       at_each (λ j q. i + 1 ≤ j → q ≡ shard_pass start j) now i p no_pass there (λ l. absurd (omega (arith, l))) (λ j apart l. later j (omega (arith, l))) k le
+
+module _ (turns : List ShardTurn) (start now : List ShardPass) (i : ℕ) (p n : ShardPass)
+    (t : ShardTurn) (are : AreOf turns now) (lt : i < length turns)
+    (later : (k : ℕ) → i ≤ k → shard_pass now k ≡ shard_pass start k) (at : n ≡ shard_pass now i)
+    (is : t ≡ shard_turn turns i) (half : p.view ≡ halved n.view) (table : p.table ≡ t.table) where
+  held : i < length now
+  held = omega (arith, are.count, lt)
+
+  -- the pass that was split is of its turn
+  pub halved_of : AreOf turns (set now i p)
+  halved_of =
+      still_of turns now i p are lt (record {
+        table = table ∙ ap (λ (x : ShardTurn). x.table) is;
+        opens = ap (λ (v : Known). v.opening) half ∙ ap (λ (q : ShardPass). q.view.opening) at ∙ (are.each i lt).opens;
+      })
+
+  -- it is as it was, but for its share
+  halved_one : p ≡ with_half (shard_pass start i)
+  halved_one =
+      let same : n ≡ shard_pass start i = at ∙ later i (omega arith) in
+      let own : p.table ≡ n.table = table ∙ ap (λ (x : ShardTurn). x.table) is ∙ sym (ap (λ (q : ShardPass). q.table) at ∙ (are.each i lt).table) in
+      let here : p ≡ with_half n = λ k. record { table = own k; view = half k } in
+      here ∙ ap with_half same
+
+  pub halved_next : ((k : ℕ) → k < i → shard_pass now k ≡ with_half (shard_pass start k))
+      → (k : ℕ) → k < i + 1 → shard_pass (set now i p) k ≡ with_half (shard_pass start k)
+  halved_next before k less =
+      at_each (λ j q. j < i + 1 → q ≡ with_half (shard_pass start j)) now i p no_pass held (λ l. halved_one) (λ j apart l. before j (omega (arith, l, apart))) k less
+
+  pub unsplit_next : (k : ℕ) → i + 1 ≤ k → shard_pass (set now i p) k ≡ shard_pass start k
+  unsplit_next k le =
+      at_each (λ j q. i + 1 ≤ j → q ≡ shard_pass start j) now i p no_pass held (λ l. absurd (omega (arith, l))) (λ j apart l. later j (omega (arith, l))) k le
 
 -- a shard was closed
 pub closes : (turn t : ShardTurn) (old n : ShardPass) (r : Result NodeState Busy) → t ≡ turn

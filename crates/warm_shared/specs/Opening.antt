@@ -1,8 +1,9 @@
 -- Sharing shards, attaching threads to them, and closing them.
-use Rattle.std.specs.Prelude.{◌≡◌, ◌≢◌, ℕ, suc, ◌<◌, List, [], ◌∷◌, length, map}
+use Rattle.std.specs.Prelude.{◌≡◌, ◌≢◌, ¬◌, ℕ, suc, ◌<◌, List, [], ◌∷◌, length, map}
 use Rattle.std.specs.Prelude.{Result, Ok, Err, slice_index_or}
 use Rattle.warm_turn.specs.declared.fault.Busy.{Busy}
-use Rattle.warm_turn.specs.CallHistories.{IsLast, Joined, calls_by, first_pass, new_pass}
+use Rattle.warm_turn.specs.CallHistories.{IsLast, Joined, calls_by, first_pass, halved, new_pass}
+use Rattle.warm_turn.specs.Shares.{IsWhole}
 use Rattle.warm_turn.specs.Rule.{MarkShows}
 use Rattle.warm_gossip.specs.State.{NodeState}
 use Rattle.warm_gossip.specs.declared.fault.NodeFault.TheVariants.{Memory}
@@ -52,6 +53,15 @@ pub record AreSplit (old new : List ShardPass) : Type 0 where
   pub count : length new ≡ length old
   pub each : (i : ℕ) → i < length old → IsSplit (known_of old i) (known_of new i)
 
+-- the pass with half of its share of the right to close
+abbrev pub with_half : ShardPass → ShardPass
+with_half p = record p { view = halved p.view }
+
+-- each pass gave half of its share away, and is otherwise unchanged
+pub record AreHalved (old new : List ShardPass) : Type 0 where
+  pub count : length new ≡ length old
+  pub each : (i : ℕ) → i < length old → shard_pass new i ≡ with_half (shard_pass old i)
+
 -- the passes of another thread were ended into these, shard by shard
 pub record AreJoined (old other new : List ShardPass) : Type 0 where
   pub count : length new ≡ length old
@@ -59,11 +69,13 @@ pub record AreJoined (old other new : List ShardPass) : Type 0 where
       → Joined ShardStep (known_of old i) (known_of other i) (known_of new i)
 
 -- the node of a closed shard is in a state that a legal history reaches, which begins with what the
--- pass has seen. Or a call of the shard was under way, and the node is lost
+-- pass has seen. Or the pass did not have the whole right to close, a call of the shard was under
+-- way, and the node is lost
 abbrev pub ClosesShard : ShardTurn → Known → Result NodeState Busy → Type 0
 ClosesShard turn known (Ok node) = (s : ShardState) × (s.node ≡ node)
     × IsLast ShardStep turn.opening known (shard_view s)
 ClosesShard turn known (Err busy) = (busy.serving < busy.ticket) × MarkShows known busy
+    × (¬ IsWhole known.share)
 
 pub record AreClosed (turns : List ShardTurn) (passes : List ShardPass)
     (nodes : List (Result NodeState Busy)) : Type 0 where

@@ -2,7 +2,7 @@
 ghost use Rattle.std.specs.Prelude.{◌≡◌, ◌≢◌, ◌≤◌, [], length, IfErr, IfOk, OnOk};
 ghost use Rattle.std.specs.Prelude.{vec_capacity};
 ghost use Rattle.warm_shared.specs.Attached.{AreOf};
-ghost use Rattle.warm_shared.specs.Opening.{AreClosed, AreJoined, AreSplit, ClosesShard};
+ghost use Rattle.warm_shared.specs.Opening.{AreClosed, AreHalved, AreJoined, AreSplit, ClosesShard};
 ghost use Rattle.warm_shared.specs.Opening.{IsCloseRefused};
 
 use crate::fault::SharedFault;
@@ -32,14 +32,16 @@ pub struct NotClosed<D: PageDevice + Send> {
     pub attached: Attached<D>,
 }
 
-// A new pass of each turn, split off these.
+// A new pass of each turn, split off these, with half of their shares.
 fn split_all<D: PageDevice + Send>(
     alloc: Global,
     turns: &Vec<Turn<Shard<D>>>,
     passes: &mut Vec<Pass<Shard<D>>>,
 ) -> Result<Vec<Pass<Shard<D>>>, AllocError>
     requires { AreOf turns.now.items passes.old.items }
-    ensures same { passes.new.items ≡ passes.old.items }
+    ensures here { AreOf turns.now.items passes.new.items }
+    ensures same { IfErr result (λ _. passes.new.items ≡ passes.old.items) }
+    ensures halved { OnOk result (AreHalved passes.old.items passes.new.items) }
     ensures passes { IfOk result (λ all. AreOf turns.now.items all.items) }
     ensures given { IfOk result (λ all. AreSplit passes.old.items all.items) }
 {
@@ -101,7 +103,8 @@ fn close_all<D: PageDevice + Send>(
 }
 
 impl<D: PageDevice + Send> SharedShards<D> {
-    /// What a further thread has of the shards. It has seen what this one has, and holds no pin.
+    /// What a further thread has of the shards. It has seen what this one has, and holds no pin. It
+    /// gets half of what this one has of the right to close, and this one keeps the other half.
     ///
     /// `AllocError` occurs only where an allocation fails; nothing has changed.
     pub fn attach(
@@ -110,7 +113,10 @@ impl<D: PageDevice + Send> SharedShards<D> {
         attached: &mut Attached<D>,
     ) -> Result<Attached<D>, AllocError>
         requires { AreOf self.now attached.old.passes }
-        ensures same { attached.new ≡ attached.old }
+        ensures here { AreOf self.now attached.new.passes }
+        ensures halved { OnOk result (AreHalved attached.old.passes attached.new.passes) }
+        ensures held { attached.new.pins ≡ attached.old.pins }
+        ensures same { IfErr result (λ _. attached.new ≡ attached.old) }
         ensures attached { IfOk result (λ more. AreOf self.now more.passes) }
         ensures given { IfOk result (λ more. AreSplit attached.old.passes more.passes) }
         ensures pins { IfOk result (λ more. more.pins ≡ 0) }
@@ -149,7 +155,8 @@ impl<D: PageDevice + Send> SharedShards<D> {
     /// that a legal history of its shard reaches, which begins with what the thread has seen.
     ///
     /// `Busy` in place of a node: fewer calls of the shard were answered than begun, and the node
-    /// is lost. No thread can be in a call while the shards are closed; that is not proved.
+    /// is lost. It does not occur where all other threads were detached into this one: then the
+    /// thread has the whole right to close.
     ///
     /// # Errors
     /// In this order: `PinsHeld`, where this thread holds pins; `Node(Memory)`, where an allocation

@@ -1,13 +1,16 @@
 use Rattle.std.proofs.Common.{◌≡◌, ◌≤◌, ℕ, ◌<◌, length, vec_capacity}
-use Rattle.warm_shared.specs.Attached.{IsPassOf, known_of, shard_pass, shard_turn}
-use Rattle.warm_shared.specs.Opening.{IsSplit}
+use Rattle.warm_shared.specs.Attached.{AreOf, IsPassOf, known_of, shard_pass, shard_turn}
+use Rattle.warm_shared.specs.Opening.{IsSplit, with_half}
 use Rattle.warm_shared.proofs.attaching.split_all.Given as goal
 
--- the first passes are split, and those that they were split off are as before
+-- the first passes are split, and those that they were split off have half of their shares
 abbrev pub invariant-loop-shard : goal.invariant-loop-shard
 invariant-loop-shard g l = record {
   count : l.count ≡ length l.fn.turns.items;
-  same : l.passes.items ≡ l.fn.passes.items;
+  of : AreOf l.fn.turns.items l.passes.items;
+  halved : (i : ℕ) → i < l.shard
+      → shard_pass l.passes.items i ≡ with_half (shard_pass l.fn.passes.items i);
+  later : (i : ℕ) → l.shard ≤ i → shard_pass l.passes.items i ≡ shard_pass l.fn.passes.items i;
   number : length l.all.items ≡ l.shard;
   capacity : l.count ≤ vec_capacity l.all;
   each : (i : ℕ) → i < l.shard
