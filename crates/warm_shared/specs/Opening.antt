@@ -1,5 +1,5 @@
 -- Sharing shards, attaching threads to them, and closing them.
-use Rattle.std.specs.Prelude.{◌≡◌, ◌≢◌, ¬◌, ℕ, suc, ◌<◌, List, [], ◌∷◌, length, map}
+use Rattle.std.specs.Prelude.{◌≡◌, ◌≢◌, ℕ, suc, ◌<◌, List, [], ◌∷◌, length, map}
 use Rattle.std.specs.Prelude.{Result, Ok, Err, slice_index_or}
 use Rattle.warm_turn.specs.declared.fault.Busy.{Busy}
 use Rattle.warm_turn.specs.CallHistories.{IsLast, Joined, calls_by, first_pass, halved, new_pass}
