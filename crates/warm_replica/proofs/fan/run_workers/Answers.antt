@@ -1,4 +1,4 @@
-use Rattle.std.proofs.Common.{ap, subst}
+use Rattle.std.proofs.Common.{subst}
 use Rattle.std.proofs.lemmas.Result.{IfOk-at_ok}
 use Rattle.warm_turn.specs.CallHistories.{Joined, Widened}
 use Rattle.warm_replica.specs.Fanning.{PreparedJobWentAs}
