@@ -260,9 +260,10 @@ static int pin_alone(opened *its, shard *in, load *it) {
 }
 
 static int pin_resident(opened *its, shard *in, load *it) {
-    bool is_changed = it->kind == LOAD_PINS_ZEROED;
-    if (is_changed && !note_change(in, write_of_page(in, it->page))) return READ_AGAIN;
+    writing *changed = it->kind == LOAD_PINS_ZEROED ? write_of_page(in, it->page) : NULL;
+    if (!may_change(in, changed)) return READ_AGAIN;
     int status = ask_node(its, in, it);
+    if (status == WARM_OK) note_change(changed);
     if (status == WARM_OK && it->kind == LOAD_PINS)
         put_record(its, in, it->page, it->slot, it->bytes);
     return status;
@@ -402,6 +403,7 @@ int warm_unpin(warm *handle, warm_slot slot) {
 typedef struct visit {
     shard *in;
     node_slot slot;
+    writing *changed; /* of the page, where the call changes it, and it is being written */
     bool is_locked, is_pinned;
 } visit;
 
@@ -413,7 +415,8 @@ static int enter_slot_to(warm *handle, warm_slot slot, visit *made, bool changes
     if (slot.shard >= its->count) return WARM_STALE_SLOT;
     shard *in = &its->shards[slot.shard];
     *made = (visit){.in = in, .slot = slot_in(slot), .is_locked = enter(its, in)};
-    while (changes && !note_change(in, write_of_slot(in, made->slot))) continue;
+    do made->changed = changes ? write_of_slot(in, made->slot) : NULL;
+    while (!may_change(in, made->changed));
     if (changes) in->may_be_dirty = true;
     made->is_pinned = pin_held(its, in, made->slot);
     return WARM_OK;
@@ -428,6 +431,7 @@ static int enter_slot_to_write(warm *handle, warm_slot slot, visit *made) {
 }
 
 static int leave_slot(const visit *made, int status) {
+    if (status == WARM_OK) note_change(made->changed);
     if (made->is_pinned) node_unpin(&made->in->node, made->slot);
     leave(made->in, made->is_locked);
     return status;

@@ -218,6 +218,25 @@ static void test_settling(void) {
     nothing_left();
 }
 
+/* A flush that fails is counted, be it the node's of a replica of one shard or made for all. */
+static void test_counting_refused(void) {
+    const warm_device in_place = {.pages = FAKE_PAGES, .fd = 22};
+    for (size_t count = 1; count <= 4; count *= 4) {
+        warm handle = {0};
+        open_shards(&handle, count);
+        write_to(&handle, page_at(0), 'a');
+        sync_errors[10] = EIO;
+        syncs = 0;
+        MUST(warm_replace(&handle, 0, &in_place) == WARM_WRITE_FAULT && syncs == 1);
+        must_have_failed(&handle, 0, 0, WARM_FAILED_FLUSH, EIO);
+        has_counted(&handle, 0, 1, count > 1); /* a fake node's own count does not change */
+        MUST(warm_replace(&handle, 0, &in_place) == WARM_WRITE_FAULT && syncs == 1);
+        has_counted(&handle, 0, 2, count > 1 ? 2 : 0); /* since one has failed */
+        OK(warm_abandon(&handle));
+        nothing_left();
+    }
+}
+
 /* A page that is pinned in one shard keeps those of all. */
 static void test_forgetting(void) {
     warm handle = {0};
@@ -720,6 +739,7 @@ int main(void) {
     test_replacing();
     test_going_back();
     test_settling();
+    test_counting_refused();
     test_forgetting();
     test_descriptors();
     test_later_syncs();

@@ -284,6 +284,15 @@ int warm_forget_pages(warm *handle, uint16_t dev, uint64_t from) {
 
 /* ---- a device in place of another ---- */
 
+/* What came of a call of the node's. A flush of its that failed is counted here as others are: where
+ * it did not, the device is replaced, and its counts begin again. */
+static int noted_and_counted(opened *its, shard *in, uint16_t dev, int status) {
+    noted(its, in, status);
+    bool is_flush = status == WARM_WRITE_FAULT && its->failure.what == WARM_FAILED_FLUSH;
+    if (is_flush) atomic_fetch_add(&its->of->known[dev].flushes, 1);
+    return status;
+}
+
 /* What may refuse a shard to replace a device, and is not memory, is met before the first one does:
  * a file that another device has, a pinned page, a write or a flush that fails, also one that
  * failed before or that a call has left for later. All shards are entered. */
@@ -293,7 +302,7 @@ static int settle_in_all(opened *its, uint16_t dev, const node_device *device) {
     bool before = sync_later(true); /* one sync for all shards */
     for (size_t number = 0; number < its->count && status == WARM_OK; number++) {
         shard *in = &its->shards[number];
-        status = noted(its, in, node_flush(&in->node, dev));
+        status = noted_and_counted(its, in, dev, node_flush(&in->node, dev));
     }
     sync_later(before);
     if (status == WARM_OK)
@@ -318,15 +327,12 @@ static bool is_for_node(opened *its, uint16_t dev) {
 /* Replaces the device in each shard, or goes back. All shards are entered. */
 static int replace_in_all(opened *its, uint16_t dev, const node_device *device) {
     int status = is_for_node(its, dev) ? WARM_OK : settle_in_all(its, dev, device);
-    if (status != WARM_OK) return status;
-    for (size_t number = 0; number < its->count; number++) {
+    for (size_t number = 0; number < its->count && status == WARM_OK; number++) {
         shard *in = &its->shards[number];
-        status = noted(its, in, node_replace(&in->node, dev, device));
-        if (status == WARM_OK) continue;
-        put_back(its, dev, number);
-        return status;
+        status = noted_and_counted(its, in, dev, node_replace(&in->node, dev, device));
+        if (status != WARM_OK) put_back(its, dev, number);
     }
-    return WARM_OK;
+    return status;
 }
 
 static void begin_counts(known_device *known) {

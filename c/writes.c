@@ -54,14 +54,14 @@ static void await_write(shard *in, writing *it) {
     pthread_cond_wait(&in->call_over, &in->lock);
 }
 
-bool note_change(shard *in, writing *at) {
-    if (at == NULL) return true;
-    if (at->is_asked) {
-        await_write(in, at);
-        return false;
-    }
-    at->is_changed = true;
-    return true;
+bool may_change(shard *in, writing *at) {
+    if (at == NULL || !at->is_asked) return true;
+    await_write(in, at);
+    return false;
+}
+
+void note_change(writing *at) {
+    if (at != NULL) at->is_changed = true;
 }
 
 bool wait_for_write(shard *in, node_page page) {

@@ -47,9 +47,12 @@ bool write_outside(struct opened *its, struct shard *in, node_page page, int *er
 writing *write_of_page(const struct shard *in, node_page page);
 writing *write_of_slot(const struct shard *in, node_slot slot);
 
-/* Notes that a page is about to be changed. False where it was not copied yet: waits for that,
- * and it is to be looked for again. */
-bool note_change(struct shard *in, writing *at);
+/* Whether a page with this entry, or with none (NULL), may be changed. False where it was not copied
+ * yet: waits for that, and its entry is to be looked for again. */
+bool may_change(struct shard *in, writing *at);
+
+/* Notes that it was changed: a call that is refused leaves it as it was. */
+void note_change(writing *at);
 
 /* Waits until a page is written, where somebody writes it, and returns whether it was so. */
 bool wait_for_write(struct shard *in, node_page page);

@@ -192,7 +192,7 @@ static void test_changes(void) {
 /* A change that is refused, and one of another page, changes nothing. */
 static void test_no_changes(void) {
     open_dirty(2);
-    warm_slot slot = pin(&first, 0), other = pin(&first, 1);
+    warm_slot slot = pin(&first, 0), other = pin(&first, 1), of_zeros;
     stop_writes_of(bit(0));
     begin(0, WRITES_ONE, page_at(0));
     until_written(bit(0));
@@ -200,6 +200,10 @@ static void test_no_changes(void) {
     slot.generation++;
     MUST(warm_write(&first, slot, 0, "n", 1) == WARM_STALE_SLOT);
     slot.generation--;
+    MUST(warm_write(&first, slot, 1, "n", 1) == WARM_OUT_OF_PAGE);
+    pins_are_full = true;
+    MUST(warm_pin_zeroed(&first, page_at(0), &of_zeros) == WARM_PINS_FULL);
+    pins_are_full = false;
     end_writes(bit(0));
     MUST(end(0) == WARM_OK && !is_dirty(0) && is_dirty(1));
     OK(warm_unpin(&first, slot));
