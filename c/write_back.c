@@ -284,8 +284,8 @@ int warm_forget_pages(warm *handle, uint16_t dev, uint64_t from) {
 
 /* ---- a device in place of another ---- */
 
-/* What came of a call of the node's. A flush of its that failed is counted here as others are: where
- * it did not, the device is replaced, and its counts begin again. */
+/* What came of a call of the node's. A flush of its that failed is counted here as others are:
+ * where it did not, the device is replaced, and its counts begin again. */
 static int noted_and_counted(opened *its, shard *in, uint16_t dev, int status) {
     noted(its, in, status);
     bool is_flush = status == WARM_WRITE_FAULT && its->failure.what == WARM_FAILED_FLUSH;

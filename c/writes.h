@@ -47,8 +47,8 @@ bool write_outside(struct opened *its, struct shard *in, node_page page, int *er
 writing *write_of_page(const struct shard *in, node_page page);
 writing *write_of_slot(const struct shard *in, node_slot slot);
 
-/* Whether a page with this entry, or with none (NULL), may be changed. False where it was not copied
- * yet: waits for that, and its entry is to be looked for again. */
+/* Whether a page with this entry, or with none (NULL), may be changed. False where it was not
+ * copied yet: waits for that, and its entry is to be looked for again. */
 bool may_change(struct shard *in, writing *at);
 
 /* Notes that it was changed: a call that is refused leaves it as it was. */

@@ -189,6 +189,26 @@ static void test_changes(void) {
     }
 }
 
+/* A page of another device with the same number is another one: it is changed and written. */
+static void test_same_number(void) {
+    const warm_page other = {.dev = 1};
+    warm_slot slot;
+    bool written;
+    open_dirty(2);
+    OK(warm_forget_pages(&first, 0, 1));
+    OK(warm_prefetch(&first, other));
+    stop_writes_of(bit(0));
+    begin(0, WRITES_ONE, page_at(0));
+    until_written(bit(0));
+    OK(warm_pin_zeroed(&first, other, &slot));
+    OK(warm_unpin(&first, slot));
+    OK(warm_write_back_page(&first, other, &written));
+    MUST(written && !atomic_load(&callers[0].is_over));
+    end_writes(bit(0));
+    MUST(end(0) == WARM_OK && !is_dirty(0) && written_locked == 0);
+    close_all();
+}
+
 /* A change that is refused, and one of another page, changes nothing. */
 static void test_no_changes(void) {
     open_dirty(2);
@@ -475,6 +495,28 @@ static void leaving_meanwhile(int call) {
     close_all();
 }
 
+/* All of them are waited for, in whichever order they end. */
+static void test_leaving_two(void) {
+    for (int way = 0; way < 4; way++) {
+        uint64_t ends = (uint64_t)way % 2;
+        open_dirty(2);
+        stop_writes_of(bit(0) | bit(1));
+        for (int number = 0; number < 2; number++) {
+            begin(number, WRITES_ONE, page_at((uint64_t)number));
+            until_written(bit((uint64_t)number));
+        }
+        begin(2, way < 2 ? FORGETS : REPLACES, page_at(0));
+        until_waiting(1);
+        end_writes(bit(ends));
+        MUST(end((int)ends) == WARM_OK);
+        not_over(2);
+        end_writes(bit(1 - ends));
+        MUST(end((int)(1 - ends)) == WARM_OK && end(2) == WARM_OK);
+        MUST(!is_in(&first, 0) && !is_in(&first, 1) && put == 2);
+        close_all();
+    }
+}
+
 /* One that a user has pinned, too, is pinned. */
 static void test_leaving_meanwhile(void) {
     leaving_meanwhile(FORGETS);
@@ -526,6 +568,26 @@ static void test_no_other_frame(void) {
         MUST(end(0) == WARM_OK);
         OK(warm_unpin(&callers[3].handle, other));
         OK(warm_unpin(&first, slot));
+        close_all();
+    }
+}
+
+/* Who waits for a frame has that of the page which is written first, whichever that is. */
+static void test_first_frame(void) {
+    for (uint64_t ends = 0; ends < 2; ends++) {
+        open_dirty(2);
+        stop_writes_of(bit(0) | bit(1));
+        for (int number = 0; number < 2; number++) {
+            begin(number, WRITES_ONE, page_at((uint64_t)number));
+            until_written(bit((uint64_t)number));
+        }
+        begin(2, PINS, page_at(5));
+        until_waiting(1);
+        end_writes(bit(ends));
+        MUST(end(2) == WARM_OK && callers[2].slot.index == ends && is_in(&first, 1 - ends));
+        end_writes(bit(1 - ends));
+        MUST(end(0) == WARM_OK && end(1) == WARM_OK && written_locked == 0);
+        unpin(2);
         close_all();
     }
 }
@@ -644,6 +706,7 @@ int main(void) {
     test_two_misses();
     test_changes();
     test_no_changes();
+    test_same_number();
     test_tries();
     test_copy_after_asking();
     test_changes_while_asked();
@@ -651,8 +714,10 @@ int main(void) {
     test_two_writers();
     test_flush_behind_a_miss();
     test_leaving_meanwhile();
+    test_leaving_two();
     test_no_other_frame();
     test_no_other_frame_then();
+    test_first_frame();
     test_held_meanwhile();
     test_stale_meanwhile();
     test_refused();
