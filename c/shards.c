@@ -407,6 +407,14 @@ typedef struct visit {
     bool is_locked, is_pinned;
 } visit;
 
+/* The entry of the slot's page, where it is being written and is copied; or NULL. */
+__attribute__((noinline)) static writing *copied_write(shard *in, node_slot slot) {
+    writing *at;
+    do at = write_of_slot(in, slot);
+    while (!may_change(in, at));
+    return at;
+}
+
 /* Whether the handle is open and the shard there, or why not. Who is about to change the page waits
  * until it is copied, where that is about to be written. */
 static int enter_slot_to(warm *handle, warm_slot slot, visit *made, bool changes) {
@@ -415,8 +423,7 @@ static int enter_slot_to(warm *handle, warm_slot slot, visit *made, bool changes
     if (slot.shard >= its->count) return WARM_STALE_SLOT;
     shard *in = &its->shards[slot.shard];
     *made = (visit){.in = in, .slot = slot_in(slot), .is_locked = enter(its, in)};
-    do made->changed = changes ? write_of_slot(in, made->slot) : NULL;
-    while (!may_change(in, made->changed));
+    if (changes && in->writes != NULL) made->changed = copied_write(in, made->slot);
     if (changes) in->may_be_dirty = true;
     made->is_pinned = pin_held(its, in, made->slot);
     return WARM_OK;
@@ -431,7 +438,7 @@ static int enter_slot_to_write(warm *handle, warm_slot slot, visit *made) {
 }
 
 static int leave_slot(const visit *made, int status) {
-    if (status == WARM_OK) note_change(made->changed);
+    if (made->changed != NULL && status == WARM_OK) note_change(made->changed);
     if (made->is_pinned) node_unpin(&made->in->node, made->slot);
     leave(made->in, made->is_locked);
     return status;
