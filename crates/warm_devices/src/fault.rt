@@ -3,7 +3,7 @@ ghost use Rattle.std.specs.Prelude.{◌≡◌};
 ghost use Rattle.warm_devices.specs.Faults.{device_fault_code, device_fault_name, open_fault_code};
 ghost use Rattle.warm_devices.specs.Faults.{open_fault_name};
 
-use std::io;
+use std::{fmt, io};
 use thiserror::Error;
 
 /// Why a call of a device failed: a read fails only with `Read`, a write with `Write`, and a flush
@@ -14,14 +14,11 @@ use thiserror::Error;
 #[derive(Clone, Copy, PartialEq, Eq, Debug, Error)]
 pub enum DeviceFault {
     /// 1: the page could not be read; contents are unchanged.
-    #[error("Read")]
     Read,
     /// 2: the page could not be written, and may hold any bytes; all other pages are unchanged.
-    #[error("Write")]
     Write,
     /// 3: the flush failed; what was unflushed still is, and the contents that reads return are
     /// unchanged.
-    #[error("Flush")]
     Flush,
 }
 
@@ -49,15 +46,20 @@ impl DeviceFault {
     }
 }
 
+/// Displays its name.
+impl fmt::Display for DeviceFault {
+    fn fmt<W: fmt::Write>(&self, f: &mut fmt::Formatter<W>) -> fmt::Result {
+        f.write_str(self.name())
+    }
+}
+
 /// Why a file was not opened as a device.
 #[derive(Clone, Copy, PartialEq, Eq, Debug, Error)]
 pub enum OpenFault {
     /// 1: the system or the allocator had no memory (an allocation failure).
-    #[error("Memory")]
     Memory,
     /// 2: the file could not be opened, created or extended, or it would be larger than the
     /// greatest file offset.
-    #[error("Open")]
     Open,
 }
 
@@ -80,6 +82,13 @@ impl OpenFault {
             OpenFault::Memory => "Memory",
             OpenFault::Open => "Open",
         }
+    }
+}
+
+/// Displays its name.
+impl fmt::Display for OpenFault {
+    fn fmt<W: fmt::Write>(&self, f: &mut fmt::Formatter<W>) -> fmt::Result {
+        f.write_str(self.name())
     }
 }
 

@@ -3,6 +3,7 @@ ghost use Rattle.std.specs.Prelude.{◌≡◌};
 ghost use Rattle.warm_dump.specs.Faults.{dump_fault_code, dump_fault_name};
 
 use std::alloc::AllocError;
+use std::fmt;
 use thiserror::Error;
 use warm_frames::FrameFault;
 
@@ -12,25 +13,18 @@ pub enum DumpFault {
     /// 1 to 11: the fault of a frame, with its number. `Memory` is any allocation failure.
     /// `BadKind` is also a request where entries or digests are expected. `Truncated` and `Failed`
     /// do not occur.
-    #[error("{0}")]
     Frame(FrameFault),
     /// 13: the bytes end before the digests do.
-    #[error("CutShort")]
     CutShort,
     /// 14: the digests are not those of the history that the entries give.
-    #[error("DigestsDiffer")]
     DigestsDiffer,
     /// 15: a message has another horizon than those before it.
-    #[error("HorizonsDiffer")]
     HorizonsDiffer,
     /// 16: bytes follow the digests.
-    #[error("MoreFollows")]
     MoreFollows,
     /// 17: the reader failed, or 2^40 reads did not reach its end.
-    #[error("ReadFault")]
     ReadFault,
     /// 18: the writer failed.
-    #[error("WriteFault")]
     WriteFault,
 }
 
@@ -75,6 +69,13 @@ impl DumpFault {
             DumpFault::ReadFault => "ReadFault",
             DumpFault::WriteFault => "WriteFault",
         }
+    }
+}
+
+/// Displays its name.
+impl fmt::Display for DumpFault {
+    fn fmt<W: fmt::Write>(&self, f: &mut fmt::Formatter<W>) -> fmt::Result {
+        f.write_str(self.name())
     }
 }
 

@@ -3,6 +3,7 @@ ghost use Rattle.std.specs.Prelude.{◌≡◌};
 ghost use Rattle.warm_frames.specs.Faults.{fault_code, fault_name};
 
 use std::alloc::{AllocError, AllocFailed};
+use std::fmt;
 use thiserror::Error;
 
 /// Why bytes were not decoded.
@@ -10,39 +11,28 @@ use thiserror::Error;
 pub enum FrameFault {
     /// 1: the allocation of the entries failed; of a [`crate::Decoder`], also that of the bytes
     /// that it holds or of the message that it returns.
-    #[error("Memory")]
     Memory,
     /// 2: the bytes end inside the header or the body.
-    #[error("Truncated")]
     Truncated,
     /// 3: the first four bytes are neither `L2G2` nor `L2G1`.
-    #[error("BadMagic")]
     BadMagic,
     /// 4: the kind is not 1, 2 or 3.
-    #[error("BadKind")]
     BadKind,
     /// 5: the sender's number is not a valid replica number.
-    #[error("BadSender")]
     BadSender,
     /// 6: the length is not valid for the kind, bytes follow the body, or the body's entries end
     /// before or after its end.
-    #[error("BadLength")]
     BadLength,
     /// 7: the count of entries is above [`crate::MAX_ENTRIES`].
-    #[error("BadCount")]
     BadCount,
     /// 8: the tag of an entry is neither 1 nor 2.
-    #[error("BadTag")]
     BadTag,
     /// 9: a stamp's replica number is not valid, or the second of two stamps isn't older than the
     /// first.
-    #[error("BadStamp")]
     BadStamp,
     /// 10: the page of an entry isn't greater than that of the entry before.
-    #[error("BadOrder")]
     BadOrder,
     /// 11: a [`crate::Decoder`] found a fault before.
-    #[error("Failed")]
     Failed,
 }
 
@@ -107,5 +97,12 @@ impl FrameFault {
             FrameFault::BadOrder => "BadOrder",
             FrameFault::Failed => "Failed",
         }
+    }
+}
+
+/// Displays its name.
+impl fmt::Display for FrameFault {
+    fn fmt<W: fmt::Write>(&self, f: &mut fmt::Formatter<W>) -> fmt::Result {
+        f.write_str(self.name())
     }
 }

@@ -13,6 +13,7 @@ ghost use Rattle.warm_frames.specs.Faults.{time_fault_code, time_fault_name};
 ghost use Rattle.warm_frames.specs.Limits.{horizon_in, entries_in, StampsBy, SpeaksBy};
 
 use crate::message::Message;
+use std::fmt;
 use thiserror::Error;
 use warm_history::{Entry, PageHist};
 
@@ -20,10 +21,8 @@ use warm_history::{Entry, PageHist};
 #[derive(Clone, Copy, Debug, PartialEq, Eq, Error)]
 pub enum TimeFault {
     /// 1: the horizon is.
-    #[error("LateHorizon")]
     LateHorizon,
     /// 2: the horizon is not, but a stamp of an entry is.
-    #[error("LateStamp")]
     LateStamp,
 }
 
@@ -46,6 +45,13 @@ impl TimeFault {
             TimeFault::LateHorizon => "LateHorizon",
             TimeFault::LateStamp => "LateStamp",
         }
+    }
+}
+
+/// Displays its name.
+impl fmt::Display for TimeFault {
+    fn fmt<W: fmt::Write>(&self, f: &mut fmt::Formatter<W>) -> fmt::Result {
+        f.write_str(self.name())
     }
 }
 

@@ -3,6 +3,7 @@ ghost use Rattle.std.specs.Prelude.{◌≡◌};
 ghost use Rattle.warm_gossip.specs.Faults.{code_of, name_of};
 
 use std::alloc::AllocError;
+use std::fmt;
 use thiserror::Error;
 use warm_pool::PoolFault;
 
@@ -10,14 +11,11 @@ use warm_pool::PoolFault;
 #[derive(Clone, Copy, PartialEq, Eq, Debug, Error)]
 pub enum NodeFault {
     /// 1: an allocation failed.
-    #[error("Memory")]
     Memory,
     /// 4 to 12: why its pool refuses. `SizeDiffers`, 3, is not among these: a device that is not
     /// retired comes back in an error of the pool's own.
-    #[error(transparent)]
     Pool(PoolFault),
     /// 13: the slot does not hold its page.
-    #[error("StaleSlot")]
     StaleSlot,
 }
 
@@ -66,5 +64,12 @@ impl NodeFault {
             NodeFault::Pool(why) => why.name(),
             NodeFault::StaleSlot => "StaleSlot",
         }
+    }
+}
+
+/// Displays its name.
+impl fmt::Display for NodeFault {
+    fn fmt<W: fmt::Write>(&self, f: &mut fmt::Formatter<W>) -> fmt::Result {
+        f.write_str(self.name())
     }
 }

@@ -8,6 +8,7 @@ use crate::commands::{ParsedLine, command_named, pin, read_fields, refer, unpin}
 use crate::fields::parse_bytes;
 use crate::text::{after_two, next_word};
 use std::alloc::{AllocError, Global};
+use std::fmt;
 use thiserror::Error;
 use warm_world::Event;
 
@@ -24,10 +25,8 @@ pub enum Line {
 #[derive(Clone, Copy, Debug, PartialEq, Eq, Error)]
 pub enum LineFault {
     /// The allocation for the bytes of a `put` failed: 1. Reading other lines is allocation-free.
-    #[error("Memory")]
     Memory,
     /// The line is not of the language: 2.
-    #[error("Bad")]
     Bad,
 }
 
@@ -50,6 +49,13 @@ impl LineFault {
             LineFault::Memory => "Memory",
             LineFault::Bad => "Bad",
         }
+    }
+}
+
+/// Displays its name.
+impl fmt::Display for LineFault {
+    fn fmt<W: fmt::Write>(&self, f: &mut fmt::Formatter<W>) -> fmt::Result {
+        f.write_str(self.name())
     }
 }
 

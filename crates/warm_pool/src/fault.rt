@@ -11,13 +11,10 @@ use warm_devices::PageDevice;
 #[derive(Clone, Copy, PartialEq, Eq, Debug, Error)]
 pub enum NewPoolFault {
     /// 1: the allocation of the frames failed.
-    #[error("Memory")]
     Memory,
     /// 2: the number of frames is outside 1 to 65,536.
-    #[error("BadFrames")]
     BadFrames,
     /// 3: the page size is outside 1 to 65,536 bytes, or is not that of each device.
-    #[error("SizeDiffers")]
     SizeDiffers,
 }
 
@@ -45,6 +42,13 @@ impl NewPoolFault {
     }
 }
 
+/// Displays its name.
+impl fmt::Display for NewPoolFault {
+    fn fmt<W: fmt::Write>(&self, f: &mut fmt::Formatter<W>) -> fmt::Result {
+        f.write_str(self.name())
+    }
+}
+
 /// An allocation failure is `Memory`.
 impl From<AllocError> for NewPoolFault {
     ghost use Rattle.std.specs.Prelude.{◌≡◌};
@@ -63,34 +67,24 @@ impl From<AllocError> for NewPoolFault {
 pub enum PoolFault {
     /// 3: the page size of a new device is not that of the pool. Only `replace` and `retire` return
     /// it.
-    #[error("SizeDiffers")]
     SizeDiffers,
     /// 4: the pool has no such device.
-    #[error("NoDevice")]
     NoDevice,
     /// 5: the device has no such page.
-    #[error("NoPage")]
     NoPage,
     /// 6: each frame has a page, and all pages are pinned.
-    #[error("AllFixed")]
     AllFixed,
     /// 7: the page couldn't be read from its device.
-    #[error("ReadFault")]
     ReadFault,
     /// 8: the victim couldn't be written back to its device.
-    #[error("WriteBack")]
     WriteBack,
     /// 9: the page has the greatest pin count, or the frame has the greatest generation.
-    #[error("FixesFull")]
     FixesFull,
     /// 10: the bytes reach beyond the end of the page.
-    #[error("OutOfPage")]
     OutOfPage,
     /// 11: a page that would be evicted is pinned.
-    #[error("Fixed")]
     Fixed,
     /// 12: a page couldn't be written to its device, or a device couldn't be flushed.
-    #[error("Fault")]
     Fault,
 }
 
@@ -129,6 +123,13 @@ impl PoolFault {
             PoolFault::Fixed => "Fixed",
             PoolFault::Fault => "Fault",
         }
+    }
+}
+
+/// Displays its name.
+impl fmt::Display for PoolFault {
+    fn fmt<W: fmt::Write>(&self, f: &mut fmt::Formatter<W>) -> fmt::Result {
+        f.write_str(self.name())
     }
 }
 

@@ -9,6 +9,7 @@ ghost use Rattle.std.specs.Prelude.{◌≡◌, ◌≤◌, ◌<◌, [], length, I
 ghost use Rattle.warm_refbuffer.specs.Buffered.{IsCapacity, cleared, with_last, code_of, name_of};
 
 use std::alloc::{AllocError, Global};
+use std::fmt;
 use std::marker::Model;
 use thiserror::Error;
 use warm_stamps::Reference;
@@ -40,10 +41,8 @@ impl Model for RefBuffer {
 #[derive(Clone, Copy, Debug, PartialEq, Eq, Error)]
 pub enum BufferFault {
     /// 1: the allocation of the buffer failed.
-    #[error("Memory")]
     Memory,
     /// 2: the capacity is outside 1 to [`MAX_CAPACITY`].
-    #[error("BadCapacity")]
     BadCapacity,
 }
 
@@ -78,6 +77,13 @@ impl BufferFault {
             BufferFault::Memory => "Memory",
             BufferFault::BadCapacity => "BadCapacity",
         }
+    }
+}
+
+/// Displays its name.
+impl fmt::Display for BufferFault {
+    fn fmt<W: fmt::Write>(&self, f: &mut fmt::Formatter<W>) -> fmt::Result {
+        f.write_str(self.name())
     }
 }
 

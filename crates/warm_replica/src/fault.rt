@@ -3,6 +3,7 @@ ghost use Rattle.std.specs.Prelude.{◌≡◌};
 ghost use Rattle.warm_replica.specs.Faults.{flush_code, flush_name, run_code, run_name};
 
 use std::alloc::AllocError;
+use std::fmt;
 use std::thread::SpawnError;
 use thiserror::Error;
 use warm_turn::TurnsSpent;
@@ -11,10 +12,8 @@ use warm_turn::TurnsSpent;
 #[derive(Clone, Copy, Debug, PartialEq, Eq, Error)]
 pub enum FlushFault {
     /// 1: an allocation failed, for the call or of the machine that answers it.
-    #[error("Memory")]
     Memory,
     /// 2: no ticket was left for a call, and none is left for any later call of this worker.
-    #[error("TurnsSpent")]
     TurnsSpent,
 }
 
@@ -62,6 +61,13 @@ impl FlushFault {
     }
 }
 
+/// Displays its name.
+impl fmt::Display for FlushFault {
+    fn fmt<W: fmt::Write>(&self, f: &mut fmt::Formatter<W>) -> fmt::Result {
+        f.write_str(self.name())
+    }
+}
+
 /// A thread could not be started; this includes an allocation failure on starting it.
 #[derive(Clone, Copy, Debug, PartialEq, Eq, Error)]
 #[error("NoThread")]
@@ -84,13 +90,10 @@ impl From<AllocError> for NoThread {
 #[derive(Clone, Copy, Debug, PartialEq, Eq, Error)]
 pub enum RunFault {
     /// 1: the allocation of the buffer or of the replies of a job failed.
-    #[error("Memory")]
     Memory,
     /// 2: a thread could not be started. Those that were started have run to their end.
-    #[error("NoThread")]
     NoThread,
     /// 3: a job requests an invalid buffer capacity: outside 1 to [`warm_refbuffer::MAX_CAPACITY`].
-    #[error("BadCapacity")]
     BadCapacity,
 }
 
@@ -137,5 +140,12 @@ impl RunFault {
             RunFault::NoThread => "NoThread",
             RunFault::BadCapacity => "BadCapacity",
         }
+    }
+}
+
+/// Displays its name.
+impl fmt::Display for RunFault {
+    fn fmt<W: fmt::Write>(&self, f: &mut fmt::Formatter<W>) -> fmt::Result {
+        f.write_str(self.name())
     }
 }

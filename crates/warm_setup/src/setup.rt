@@ -19,6 +19,7 @@ ghost use Rattle.warm_setup.specs.SetupView.{fields_of, settings_of, setup_and_d
 
 use crate::path::PathText;
 use std::alloc::{AllocError, AllocFailed, Global};
+use std::fmt;
 use thiserror::Error;
 use toml::{Table, Value};
 use warm_devices::MAX_PAGE_SIZE;
@@ -39,16 +40,12 @@ pub struct DeviceSpec {
 #[derive(Clone, Copy, Debug, PartialEq, Eq, Drop, Error)]
 pub enum SetupFault {
     /// An allocation failed. It says nothing about the text.
-    #[error("Memory")]
     Memory,
     /// The text is not a TOML document.
-    #[error("NotToml")]
     NotToml,
     /// An unknown key, a value of a wrong type, or a device without `pages`.
-    #[error("BadKey")]
     BadKey,
     /// A number out of its range, an empty `path`, no device or more than 16.
-    #[error("BadValue")]
     BadValue,
 }
 
@@ -75,6 +72,13 @@ impl SetupFault {
             SetupFault::BadKey => "BadKey",
             SetupFault::BadValue => "BadValue",
         }
+    }
+}
+
+/// Displays its name.
+impl fmt::Display for SetupFault {
+    fn fmt<W: fmt::Write>(&self, f: &mut fmt::Formatter<W>) -> fmt::Result {
+        f.write_str(self.name())
     }
 }
 

@@ -9,6 +9,7 @@ ghost use Rattle.warm_world.specs.Replicas.{answered};
 
 use crate::shown::ShownHistory;
 use std::alloc::AllocError;
+use std::fmt;
 use thiserror::Error;
 use warm_gossip::NodeFault;
 use warm_pool::Slot;
@@ -95,16 +96,12 @@ pub enum WorldFault {
     /// 1 and 4 to 13: the refusal of the replica's node. `Memory`, which is 1, also occurs where
     /// the allocation of a message or of a copy of a history fails; for Refer only where the buffer
     /// is full, and never for Pin, Unpin, Put, Victim, Restart and Horizon.
-    #[error(transparent)]
     Node(NodeFault),
     /// 14: no replica has the number.
-    #[error("NoSuchReplica")]
     NoSuchReplica,
     /// 15: the replica has no worker of the number.
-    #[error("NoSuchWorker")]
     NoSuchWorker,
     /// 16: no message has the number.
-    #[error("NoSuchFrame")]
     NoSuchFrame,
 }
 
@@ -134,6 +131,13 @@ impl WorldFault {
     }
 }
 
+/// Displays its name.
+impl fmt::Display for WorldFault {
+    fn fmt<W: fmt::Write>(&self, f: &mut fmt::Formatter<W>) -> fmt::Result {
+        f.write_str(self.name())
+    }
+}
+
 impl From<NodeFault> for WorldFault {
     ghost from_gives = { λ why e. e ≡ fault.Node why };
 
@@ -154,13 +158,10 @@ impl From<AllocError> for WorldFault {
 #[derive(Clone, Copy, Debug, PartialEq, Eq, Error)]
 pub enum BadWorld {
     /// 1: an allocation failed.
-    #[error("Memory")]
     Memory,
     /// 3: the page size of a device is not that of the setup.
-    #[error("SizeDiffers")]
     SizeDiffers,
     /// 17: the number of device lists is not the number of replicas.
-    #[error("DevicesDiffer")]
     DevicesDiffer,
 }
 
@@ -185,6 +186,13 @@ impl BadWorld {
             BadWorld::SizeDiffers => "SizeDiffers",
             BadWorld::DevicesDiffer => "DevicesDiffer",
         }
+    }
+}
+
+/// Displays its name.
+impl fmt::Display for BadWorld {
+    fn fmt<W: fmt::Write>(&self, f: &mut fmt::Formatter<W>) -> fmt::Result {
+        f.write_str(self.name())
     }
 }
 

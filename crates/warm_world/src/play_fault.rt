@@ -6,6 +6,7 @@ ghost use Rattle.std.specs.Prelude.{◌≡◌};
 ghost use Rattle.warm_world.specs.PlayFaults.{play_fault_code, play_fault_name};
 
 use std::alloc::AllocError;
+use std::fmt;
 use thiserror::Error;
 
 /// Why a play did not reach its end. How much was written before it is unspecified.
@@ -15,26 +16,20 @@ pub enum PlayFault {
     /// failure inside an event is not a fault of the play: it is printed, and the schedule
     /// continues. A play by threads returns it for each of its allocation failures, except those
     /// that prevent a thread from starting.
-    #[error("Memory")]
     Memory,
     /// The reader failed, or 2^40 reads did not reach the end of the input: 2.
-    #[error("ReadFault")]
     ReadFault,
     /// The writer failed: 3.
-    #[error("WriteFault")]
     WriteFault,
     /// The line of this number, counted from 1, cannot be played by threads: 4. Only a play by
     /// threads returns it, and nothing was written.
-    #[error("BadLine")]
     BadLine(u64),
     /// A thread could not be started, for an allocation failure or another reason, or left a call
     /// unfinished; or a replica ended before all was sent to it, and no replica has another fault:
     /// 5. Only a play by threads returns it. The threads that were started have run to their end.
-    #[error("NoThread")]
     NoThread,
     /// The world refused the devices, because of the number of their lists or the size of their
     /// pages: 6.
-    #[error("BadDevices")]
     BadDevices,
 }
 
@@ -65,6 +60,13 @@ impl PlayFault {
             PlayFault::NoThread => "NoThread",
             PlayFault::BadDevices => "BadDevices",
         }
+    }
+}
+
+/// Displays its name.
+impl fmt::Display for PlayFault {
+    fn fmt<W: fmt::Write>(&self, f: &mut fmt::Formatter<W>) -> fmt::Result {
+        f.write_str(self.name())
     }
 }
 
