@@ -22,7 +22,7 @@ pub use hooked::{HookedDevice, Hooks};
 pub use lists::{
     SeenAt, are_equal, history_of, history_of_pages, references, references_to, spread_references,
 };
-pub use note::{Found, Note, Noting, noting};
+pub use note::{DeviceNote, Found, Noting, noting};
 pub use streams::{BrokenReader, CountingReader, FullWriter, MarkingWriter, TrickleReader};
 pub use text::displays;
 pub use values::{bucket, entry, once, page, page_on, replica, seen, stamp, twice};

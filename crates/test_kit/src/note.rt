@@ -1,7 +1,7 @@
 //! Hooks that record what the drop of a device finds, and how often a device is written to and
 //! dropped.
 //!
-//! No contract can say what happens to a device that was dropped: a test reads the [`Note`].
+//! No contract can say what happens to a device that was dropped: a test reads the [`DeviceNote`].
 ghost use Rattle.std.specs.Prelude.{◌≡◌, IfOk};
 ghost use Rattle.test_kit.specs.HookedParts.{hooked_state};
 ghost use Rattle.warm_devices.specs.Device.{zeroed};
@@ -26,14 +26,14 @@ pub enum Found {
 /// The contents of a device when its drop began, and how often it was written to and dropped. It
 /// outlives the device.
 #[derive(Drop)]
-pub struct Note {
+pub struct DeviceNote {
     found: AtomicU8,
     writes: AtomicU64,
     drops: AtomicU64,
     pages: Vec<Vec<AtomicU8>>,
 }
 
-impl Note {
+impl DeviceNote {
     /// A note without entries, for a device of `pages` pages of `page_size` bytes.
     ///
     /// # Errors
@@ -42,7 +42,7 @@ impl Note {
         alloc: Global,
         pages: u64,
         page_size: usize,
-    ) -> Result<Arc<Note, Global>, AllocError> {
+    ) -> Result<Arc<DeviceNote, Global>, AllocError> {
         let mut all = Vec::with_capacity(alloc, pages as usize)?;
         for _ in 0..pages {
             let mut page = Vec::with_capacity(alloc, page_size)?;
@@ -51,7 +51,7 @@ impl Note {
             }
             all.push(page)?;
         }
-        let note = Note {
+        let note = DeviceNote {
             found: AtomicU8::new(0),
             writes: AtomicU64::new(0),
             drops: AtomicU64::new(0),
@@ -88,7 +88,7 @@ impl Note {
     }
 }
 
-impl Hooks for Arc<Note, Global> {
+impl Hooks for Arc<DeviceNote, Global> {
     fn before_read(&self) {}
 
     fn before_write(&self) {
@@ -112,7 +112,7 @@ impl Hooks for Arc<Note, Global> {
 }
 
 /// A device in memory that records its drop.
-pub type Noting = HookedDevice<Arc<Note, Global>>;
+pub type Noting = HookedDevice<Arc<DeviceNote, Global>>;
 
 /// A device of `pages` pages of `page_size` zeros that records its drop, and the note.
 ///
@@ -122,10 +122,10 @@ pub fn noting(
     alloc: Global,
     pages: u64,
     page_size: usize,
-) -> Result<(Noting, Arc<Note, Global>), AllocError>
+) -> Result<(Noting, Arc<DeviceNote, Global>), AllocError>
     ensures { IfOk result (λ made. hooked_state made.0 ≡ zeroed pages page_size) }
 {
-    let note = Note::blank(alloc, pages, page_size)?;
+    let note = DeviceNote::blank(alloc, pages, page_size)?;
     let other = Arc::try_clone(&note)?;
     let inner = MemDevice::new(alloc, pages, page_size)?;
     let device = HookedDevice::new(alloc, inner, other)?;

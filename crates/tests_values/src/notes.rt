@@ -7,7 +7,7 @@ ghost use Rattle.warm_devices.specs.Device.{zeroed};
 use std::alloc::Global;
 use std::process::Abort;
 use std::sync::Arc;
-use test_kit::{Found, Note, Noting};
+use test_kit::{DeviceNote, Found, Noting};
 use warm_devices::{Flaky, PageDevice};
 
 // A device that records its drop, and the note.
@@ -16,14 +16,14 @@ fn noting(
     alloc: Global,
     pages: u64,
     page_size: usize,
-) -> (Noting, Arc<Note, Global>)
+) -> (Noting, Arc<DeviceNote, Global>)
     ensures { hooked_state result.0 ≡ zeroed pages page_size }
 {
     test_kit::noting(alloc, pages, page_size).expect(rt, "memory for a device")
 }
 
 // Whether the note of three pages of two bytes has 7 and 8 on page 2, and zeros elsewhere.
-fn has_just(note: &Note) -> bool {
+fn has_just(note: &DeviceNote) -> bool {
     note.has(2, &[7, 8])
         && note.has(0, &[0, 0])
         && !note.has(2, &[7, 9])

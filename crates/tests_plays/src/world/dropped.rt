@@ -3,14 +3,14 @@
 use super::{answers, done_in, each_alone};
 use std::alloc::Global;
 use std::process::Abort;
-use test_kit::{Note, noting, page};
+use test_kit::{DeviceNote, noting, page};
 use warm_pool::Slot;
 use warm_stamps::ByteList;
 use warm_world::{Event, Setup, World};
 
 // Whether the device was dropped once, after this many writes, and page 1 had this byte throughout,
 // and page 0 zeros.
-fn is_kept(note: &Note, writes: u64, byte: u8) -> bool {
+fn is_kept(note: &DeviceNote, writes: u64, byte: u8) -> bool {
     note.has(0, &[0; 16]) && note.has(1, &[byte; 16]) && note.counts() == (writes, 1)
 }
 

@@ -9,7 +9,7 @@ use super::{
 use std::alloc::Global;
 use std::process::Abort;
 use std::sync::Arc;
-use test_kit::{Found, HookedDevice, Note, Noting, both};
+use test_kit::{DeviceNote, Found, HookedDevice, Noting, both};
 use warm_devices::{MemDevice, PageDevice};
 use warm_history::History;
 use warm_pool::{Pool, PoolFault, Slot};
@@ -18,8 +18,8 @@ use warm_pool::{Pool, PoolFault, Slot};
 const STORED: [u8; 16] = [0x55; 16];
 
 // A device that records what its drop finds, and the note.
-fn witness(rt: &impl Abort, alloc: Global) -> (Noting, Arc<Note, Global>) {
-    let note = Note::blank(alloc, 8, 16).expect(rt, AMPLE);
+fn witness(rt: &impl Abort, alloc: Global) -> (Noting, Arc<DeviceNote, Global>) {
+    let note = DeviceNote::blank(alloc, 8, 16).expect(rt, AMPLE);
     let mut device = MemDevice::new(alloc, 8, 16).expect(rt, AMPLE);
     for no in 0..8 {
         if no < device.pages() && device.page_size() == 16 {
@@ -34,12 +34,12 @@ fn witness(rt: &impl Abort, alloc: Global) -> (Noting, Arc<Note, Global>) {
 
 // Whether the device was flushed when its drop began, and its pages from this one on were as stored
 // before.
-fn has_stored(note: &Note, from: u64) -> bool {
+fn has_stored(note: &DeviceNote, from: u64) -> bool {
     note.found() == Found::Settled && (from..8).all(|no| note.has(no, &STORED))
 }
 
 // The same, and whether page 0 was as written.
-fn is_kept(note: &Note) -> bool {
+fn is_kept(note: &DeviceNote) -> bool {
     has_stored(note, 1) && note.has(0, &[0xAA; 16])
 }
 
@@ -48,7 +48,7 @@ fn noted_pool(
     rt: &impl Abort,
     alloc: Global,
     history: &History,
-) -> (Pool<Noting>, Slot, Arc<Note, Global>)
+) -> (Pool<Noting>, Slot, Arc<DeviceNote, Global>)
     ensures { RankedBy result.0 history.now }
 {
     let (device, note) = witness(rt, alloc);
@@ -64,7 +64,7 @@ fn exchanged(
     history: &History,
     held: Slot,
     device: Noting,
-    note: &Note,
+    note: &DeviceNote,
 )
     requires { RankedBy pool.old history.now }
     ensures { RankedBy pool.new history.now }
