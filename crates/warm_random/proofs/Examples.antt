@@ -4,7 +4,7 @@ use Rattle.std.specs.Fmt.{digits}
 use Rattle.rand_pcg.specs.Lcg.{started, increment_of}
 use Rattle.rand_pcg.specs.Pcg.{multiplier_64, pcg32}
 use Rattle.warm_random.specs.Drawing.{random_lines, schedule_text, seeded}
-use Rattle.warm_random.specs.declared.Line.TheVariants.{Ref, Deliver}
+use Rattle.warm_random.specs.declared.DrawnLine.TheVariants.{Ref, Deliver}
 
 -- the first word of the state 42 in the stream 54
 published_word : (pcg32 (started 64 multiplier_64 42 (increment_of 64 54))).0 ≡ 0xa15c02b7

@@ -4,8 +4,8 @@ use Rattle.std.specs.Prelude.{nat_le, count_by, flat_map, codes, decimal, if◌t
 use Rattle.rand_pcg.specs.Lcg.{Lcg, started, increment_of}
 use Rattle.rand_pcg.specs.Pcg.{multiplier_64, pcg32}
 use Rattle.warm_stamps.specs.declared.TheConstants.{BUCKETS}
-use Rattle.warm_random.specs.declared.Line.{Line}
-use Rattle.warm_random.specs.declared.Line.TheVariants.{Ref, Flush, Send, Deliver, Show}
+use Rattle.warm_random.specs.declared.DrawnLine.{DrawnLine}
+use Rattle.warm_random.specs.declared.DrawnLine.TheVariants.{Ref, Flush, Send, Deliver, Show}
 
 -- ---- drawing
 
@@ -40,7 +40,7 @@ draw_up_to n = word >>= λ r. always (1 + r % n)
 
 -- The fields of a line, in their order. `replicas` and `workers` are their numbers, `time` is the
 -- line's number, `sends` is the number of sends among the lines before it.
-abbrev pub fields : ℕ → ℕ → ℕ → ℕ → ℕ → Draw Line
+abbrev pub fields : ℕ → ℕ → ℕ → ℕ → ℕ → Draw DrawnLine
 fields replicas workers time sends kind =
     if nat_le kind 3 then
     (draw_up_to replicas >>= λ i. draw_up_to workers >>= λ w. below 256
@@ -53,15 +53,15 @@ fields replicas workers time sends kind =
     else (draw_up_to replicas >>= λ i. always (Show i)))))
 
 -- a word chooses the kind of the line
-abbrev pub line : ℕ → ℕ → ℕ → ℕ → Draw Line
+abbrev pub line : ℕ → ℕ → ℕ → ℕ → Draw DrawnLine
 line replicas workers time sends = below 8 >>= fields replicas workers time sends
 
-abbrev pub is_send : Line → Bool
+abbrev pub is_send : DrawnLine → Bool
 is_send (Send i b) = true
 is_send _ = false
 
 -- the first n lines
-unfoldable pub random_lines : ℕ → ℕ → ℕ → Draw (List Line)
+unfoldable pub random_lines : ℕ → ℕ → ℕ → Draw (List DrawnLine)
 random_lines replicas workers zero = always []
 random_lines replicas workers (suc n) =
     random_lines replicas workers n
@@ -70,7 +70,7 @@ random_lines replicas workers (suc n) =
 
 -- ---- text
 
-abbrev pub line_text : Line → List ℕ
+abbrev pub line_text : DrawnLine → List ℕ
 line_text (Ref i w p time) = codes "ref " ++ decimal i ++ codes " " ++ decimal w ++ codes " 0:"
     ++ decimal p ++ codes " " ++ decimal time ++ codes "\n"
 line_text (Flush i w) = codes "flush " ++ decimal i ++ codes " " ++ decimal w ++ codes "\n"

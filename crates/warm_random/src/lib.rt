@@ -17,7 +17,7 @@ use warm_stamps::BUCKETS;
 
 /// A line of a schedule. Its fields are the numbers that it contains.
 #[derive(Clone, Copy, Debug, PartialEq, Eq)]
-pub enum Line {
+pub enum DrawnLine {
     /// `ref REPLICA WORKER 0:PAGE TIME`: a page from 0 to 255 of device 0.
     Ref {
         replica: u64,
@@ -46,12 +46,12 @@ pub enum Line {
     },
 }
 
-impl Line {
+impl DrawnLine {
     fn is_send(self) -> bool
         ensures { result ≡ is_send self }
     {
         match self {
-            Line::Send { .. } => true,
+            DrawnLine::Send { .. } => true,
             _ => false,
         }
     }
@@ -62,16 +62,19 @@ impl Line {
             OnOk result (Appends (W.contents writer.old) (W.contents writer.new) text) }
     {
         match self {
-            Line::Ref {
+            DrawnLine::Ref {
                 replica,
                 worker,
                 page,
                 time,
             } => writeln!(writer, "ref {replica} {worker} 0:{page} {time}"),
-            Line::Flush { replica, worker } => writeln!(writer, "flush {replica} {worker}"),
-            Line::Send { replica, bucket } => writeln!(writer, "send {replica} {bucket}"),
-            Line::Deliver { replica, message } => writeln!(writer, "deliver {replica} {message}"),
-            Line::Show { replica } => writeln!(writer, "show {replica}"),
+            DrawnLine::Flush { replica, worker } => writeln!(writer, "flush {replica} {worker}"),
+            DrawnLine::Send { replica, bucket } => writeln!(writer, "send {replica} {bucket}"),
+            DrawnLine::Deliver { replica, message } => writeln!(
+                writer,
+                "deliver {replica} {message}"
+            ),
+            DrawnLine::Show { replica } => writeln!(writer, "show {replica}"),
         }
     }
 }
@@ -93,32 +96,38 @@ fn up_to(words: &mut Lcg64Xsh32, most: u64) -> u64
 
 // The next line. Its number is the time of a reference, and `sends` is the number of sends among
 // the lines before it.
-fn draw_line(words: &mut Lcg64Xsh32, replicas: u64, workers: u64, time: u64, sends: u64) -> Line
+fn draw_line(
+    words: &mut Lcg64Xsh32,
+    replicas: u64,
+    workers: u64,
+    time: u64,
+    sends: u64,
+) -> DrawnLine
     requires replicas { 0 < replicas }
     requires workers { 0 < workers }
     requires sends { sends + 1 < 2 ^ 64 }
     ensures { (result, words.new) ≡ line replicas workers time sends words.old }
 {
     match below(words, 8) {
-        0..=3 => Line::Ref {
+        0..=3 => DrawnLine::Ref {
             replica: up_to(words, replicas),
             worker: up_to(words, workers),
             page: below(words, 256),
             time,
         },
-        4 => Line::Flush {
+        4 => DrawnLine::Flush {
             replica: up_to(words, replicas),
             worker: up_to(words, workers),
         },
-        5 => Line::Send {
+        5 => DrawnLine::Send {
             replica: up_to(words, replicas),
             bucket: below(words, u64::from(BUCKETS)),
         },
-        6 => Line::Deliver {
+        6 => DrawnLine::Deliver {
             replica: up_to(words, replicas),
             message: up_to(words, sends + 1),
         },
-        _ => Line::Show {
+        _ => DrawnLine::Show {
             replica: up_to(words, replicas),
         },
     }
