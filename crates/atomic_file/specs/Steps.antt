@@ -1,11 +1,11 @@
 -- Which steps may fail where.
 use Rattle.std.specs.Prelude.{⊤}
-use Rattle.atomic_file.specs.declared.fault.Step.{Step}
-use Rattle.atomic_file.specs.declared.fault.Step.TheVariants.{Target, Folder, Create, Sync, Rename}
-use Rattle.atomic_file.specs.declared.fault.Step.TheVariants.{SyncFolder}
+use Rattle.atomic_file.specs.declared.fault.FileStep.{FileStep}
+use Rattle.atomic_file.specs.declared.fault.FileStep.TheVariants.{Target, Folder, Create, Sync}
+use Rattle.atomic_file.specs.declared.fault.FileStep.TheVariants.{Rename, SyncFolder}
 
 -- a step of making a draft: the old file is not touched
-abbrev pub IsOfMaking : Step → Type 0
+abbrev pub IsOfMaking : FileStep → Type 0
 IsOfMaking Target = ⊤
 IsOfMaking Folder = ⊤
 IsOfMaking Create = ⊤
@@ -14,7 +14,7 @@ IsOfMaking Rename = ⊥
 IsOfMaking SyncFolder = ⊥
 
 -- a step of putting it in place
-abbrev pub IsOfPlacing : Step → Type 0
+abbrev pub IsOfPlacing : FileStep → Type 0
 IsOfPlacing Target = ⊥
 IsOfPlacing Folder = ⊥
 IsOfPlacing Create = ⊥

@@ -2,7 +2,7 @@
 ghost use Rattle.std.specs.Prelude.{◌≡◌, IfErr};
 ghost use Rattle.atomic_file.specs.Steps.{IsOfMaking, IsOfPlacing};
 
-use crate::fault::{Step, StoreFault};
+use crate::fault::{FileStep, StoreFault};
 use crate::place::{Target, folder_of, make_new, permit, target_of};
 use std::alloc::Global;
 use std::fs::{File, Files, OpenFile};
@@ -26,7 +26,7 @@ pub struct Draft<'a, R: Files> {
     folder: R::File,
 }
 
-fn failed(step: Step, error: io::Error) -> StoreFault
+fn failed(step: FileStep, error: io::Error) -> StoreFault
     ensures { result.step ≡ step }
 {
     StoreFault { step, error }
@@ -62,10 +62,10 @@ fn put_in_place<R: Files>(
     ensures { IfErr result (λ why. IsOfPlacing why.step) }
 {
     if let Err(error) = file.sync_all() {
-        return Err(failed(Step::Sync, error));
+        return Err(failed(FileStep::Sync, error));
     }
     if let Err(error) = files.rename(path, target) {
-        return Err(failed(Step::Rename, error));
+        return Err(failed(FileStep::Rename, error));
     }
     Ok(())
 }
@@ -95,15 +95,15 @@ impl<'a, R: Files> Draft<'a, R> {
             permissions,
         } = match target_of(files, alloc, path) {
             Ok(target) => target,
-            Err(error) => return Err(failed(Step::Target, error)),
+            Err(error) => return Err(failed(FileStep::Target, error)),
         };
         let folder = match File::open(files, folder_of(target.as_str())) {
             Ok(folder) => folder,
-            Err(error) => return Err(failed(Step::Folder, error)),
+            Err(error) => return Err(failed(FileStep::Folder, error)),
         };
         let (path, file) = match make_free(files, alloc, folder_of(target.as_str()), number) {
             Ok(made) => made,
-            Err(error) => return Err(failed(Step::Create, error)),
+            Err(error) => return Err(failed(FileStep::Create, error)),
         };
         let draft = Draft {
             files,
@@ -113,7 +113,7 @@ impl<'a, R: Files> Draft<'a, R> {
             folder,
         };
         if let Err(error) = permit(&draft.file, permissions) {
-            return Err(failed(Step::Create, error));
+            return Err(failed(FileStep::Create, error));
         }
         Ok(draft)
     }
@@ -140,7 +140,7 @@ impl<'a, R: Files> Draft<'a, R> {
             return Err(fault);
         }
         if let Err(error) = folder.sync_all() {
-            return Err(failed(Step::SyncFolder, error));
+            return Err(failed(FileStep::SyncFolder, error));
         }
         Ok(())
     }

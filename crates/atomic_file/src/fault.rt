@@ -5,7 +5,7 @@ use thiserror::Error;
 
 /// What was being done.
 #[derive(Clone, Copy, Debug, PartialEq, Eq, Error)]
-pub enum Step {
+pub enum FileStep {
     /// Finding out what the path names: a folder, a device or anything else that is no regular
     /// file is not replaced.
     #[error("cannot replace it")]
@@ -33,7 +33,7 @@ pub enum Step {
 #[error("{step}: {error}")]
 pub struct StoreFault {
     /// What was being done.
-    pub step: Step,
+    pub step: FileStep,
     /// The system's error.
     pub error: io::Error,
 }

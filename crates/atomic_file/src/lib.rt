@@ -17,4 +17,4 @@ mod place;
 mod tests;
 
 pub use draft::{Draft, MAX_NAMES};
-pub use fault::{Step, StoreFault};
+pub use fault::{FileStep, StoreFault};

@@ -1,6 +1,6 @@
 //! Over a file system that notes what is asked of it, and fails at one step.
 
-use crate::{Draft, MAX_NAMES, Step};
+use crate::{Draft, FileStep, MAX_NAMES};
 use std::alloc::Global;
 use std::cell::Cell;
 use std::fs::{Files, Metadata, OpenFile, OpenOptions, Permissions};
@@ -197,7 +197,7 @@ impl<'a> Files for NotedFiles<'a> {
 
 // Replaces a file. `None` where its bytes could not be written; else the step that failed, where
 // one did.
-fn replaced(alloc: Global, note: &Note) -> Option<Option<Step>> {
+fn replaced(alloc: Global, note: &Note) -> Option<Option<FileStep>> {
     let files = NotedFiles { note };
     let mut draft = match Draft::create(&files, alloc, "place/file", 7) {
         Ok(draft) => draft,
@@ -218,14 +218,14 @@ fn each_step_may_fail(rt: HostRuntime) -> Result<(), Fail> {
     let rows = [
         (0, 0x123456789, Some(None)),
         (LOOK_AT_LINK, 0x123456789, Some(None)),
-        (LOOK, 0x12, Some(Some(Step::Target))),
-        (OPEN_FOLDER, 0x123, Some(Some(Step::Folder))),
-        (MAKE, 0x1234, Some(Some(Step::Create))),
-        (PERMIT, 0x12345A, Some(Some(Step::Create))),
+        (LOOK, 0x12, Some(Some(FileStep::Target))),
+        (OPEN_FOLDER, 0x123, Some(Some(FileStep::Folder))),
+        (MAKE, 0x1234, Some(Some(FileStep::Create))),
+        (PERMIT, 0x12345A, Some(Some(FileStep::Create))),
         (WRITE, 0x123456A, None),
-        (SYNC_FILE, 0x1234567A, Some(Some(Step::Sync))),
-        (RENAME, 0x12345678A, Some(Some(Step::Rename))),
-        (SYNC_FOLDER, 0x123456789, Some(Some(Step::SyncFolder))),
+        (SYNC_FILE, 0x1234567A, Some(Some(FileStep::Sync))),
+        (RENAME, 0x12345678A, Some(Some(FileStep::Rename))),
+        (SYNC_FOLDER, 0x123456789, Some(Some(FileStep::SyncFolder))),
         (REMOVE, 0x123456789, Some(None)),
     ];
     for (failing, asked, ended) in rows {
@@ -243,7 +243,7 @@ fn names_may_be_taken(rt: HostRuntime) -> Result<(), Fail> {
     let is_so = replaced(rt.alloc(), &note) == Some(None) && note.asked.get() == 0x12344456789;
     assert!(rt; is_so, "where two names are taken");
     let note = Note::new(0, MAX_NAMES);
-    let is_so = replaced(rt.alloc(), &note) == Some(Some(Step::Create));
+    let is_so = replaced(rt.alloc(), &note) == Some(Some(FileStep::Create));
     assert!(rt; is_so, "where all names are taken");
     Ok(())
 }
