@@ -1,5 +1,5 @@
 //! Histories and their horizons: joins and copies, and pages of all devices and buckets. The state
-//! after an allocation failure is tested by the program `memory_cases`.
+//! after an allocation failure is tested by the program `test_memory`.
 use std::alloc::Global;
 use std::process::Abort;
 use test_kit::{SeenAt, are_equal, bucket, entry, history_of, once, page, page_on, seen, twice};

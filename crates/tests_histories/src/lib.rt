@@ -3,7 +3,7 @@
 //! as files (warm_history, warm_rank, warm_digest, warm_dump).
 //!
 //! They have a crate of their own so that the gate proves those libraries once, and not again with
-//! their tests. Allocations that fail are in memory_cases.
+//! their tests. Allocations that fail are in test_memory.
 #![tactic(auto)]
 
 #[cfg(test)]

@@ -1,6 +1,6 @@
 //! Tests of a node, over only public calls: its replies, what it sends and takes in, what its calls
 //! refuse, and what its pool's devices hold (warm_gossip). Allocations that fail are in
-//! node_memory_cases.
+//! test_node_memory.
 #![tactic(auto)]
 
 #[cfg(test)]

@@ -2,7 +2,7 @@
 //! events, the output of schedules and how a play ends, also one by threads, the meanings of words
 //! and setup files, how a run ends, and what their faults display (warm_world, warm_player,
 //! warm_threads, warm_setup). The expected texts were derived by hand from docs/FORMATS.md.
-//! Allocations that fail are in world_memory_cases.
+//! Allocations that fail are in test_world_memory.
 #![tactic(auto)]
 
 #[cfg(test)]

@@ -1,6 +1,6 @@
 //! Tests of pools, over only public calls: where pages go in a pool, which are evicted, what is
 //! refused, and the contents of a device when its pool is dropped (warm_pool). Allocations that
-//! fail are in node_memory_cases.
+//! fail are in test_node_memory.
 #![tactic(auto)]
 
 #[cfg(test)]

@@ -1,6 +1,6 @@
 //! Tests of a replica that threads share, over only public calls: a counter that they share, and a
 //! node with its workers, jobs in threads of their own, and mail (warm_turn, warm_replica).
-//! Allocations that fail are in node_memory_cases.
+//! Allocations that fail are in test_node_memory.
 #![tactic(auto)]
 
 #[cfg(test)]

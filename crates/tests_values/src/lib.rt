@@ -4,7 +4,7 @@
 //! warm_refbuffer, warm_random, warm_frames, warm_devices, test_kit).
 //!
 //! They have a crate of their own so that the gate proves those libraries once, and not again with
-//! their tests. Allocations that fail are in memory_cases.
+//! their tests. Allocations that fail are in test_memory.
 #![tactic(auto)]
 
 #[cfg(test)]

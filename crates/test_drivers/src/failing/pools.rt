@@ -4,7 +4,7 @@ ghost use Rattle.std.specs.Prelude.{IfOk, IfSome};
 ghost use Rattle.warm_pool.specs.Keeping.{KeepsRanks};
 ghost use Rattle.warm_pool.specs.State.{IsRankedByAll, RankedBy};
 
-use crate::failing::line::{Asked, asked_in};
+use crate::failing::line::{PoolCall, asked_in};
 use anyhow::{Result, bail};
 use std::alloc::Global;
 use std::io::Print;
@@ -57,7 +57,7 @@ pub fn ask_all(
     let mut pool = pool;
     for line in lines.lines() {
         match asked_in(line)? {
-            Asked::Closes => match closed(rt, pool, history)? {
+            PoolCall::Closes => match closed(rt, pool, history)? {
                 Some(kept) => pool = kept,
                 None => return Ok(()),
             },
@@ -72,24 +72,24 @@ fn ask(
     rt: &impl Print,
     pool: &mut Pool<Failing>,
     history: &History,
-    asked: Asked,
+    asked: PoolCall,
     spare: &mut Vec<Failing>,
 ) -> Result<()>
     requires { RankedBy pool.old history.now }
     ensures { RankedBy pool.new history.now }
 {
     match asked {
-        Asked::Retires(dev) => retire(rt, pool, history, dev, spare),
-        Asked::Pins(page) => print_slot(rt, pool.pin(page, history)),
-        Asked::Loads(page) => print_slot(rt, pool.load(page, history)),
-        Asked::Unpins(slot) => unpin(rt, pool, history, slot),
-        Asked::Writes(slot, at, len, byte) => write(rt, pool, history, slot, at, len, byte),
-        Asked::Reads(slot) => read(rt, pool, slot),
-        Asked::Shows => show(rt, pool),
-        Asked::Counts => counts(rt, pool),
-        Asked::WritesBack => print_done(rt, pool.write_back_all()),
-        Asked::Empties => print_done(rt, pool.empty()),
-        Asked::Closes => bail!("a pool is closed by its owner"),
+        PoolCall::Retires(dev) => retire(rt, pool, history, dev, spare),
+        PoolCall::Pins(page) => print_slot(rt, pool.pin(page, history)),
+        PoolCall::Loads(page) => print_slot(rt, pool.load(page, history)),
+        PoolCall::Unpins(slot) => unpin(rt, pool, history, slot),
+        PoolCall::Writes(slot, at, len, byte) => write(rt, pool, history, slot, at, len, byte),
+        PoolCall::Reads(slot) => read(rt, pool, slot),
+        PoolCall::Shows => show(rt, pool),
+        PoolCall::Counts => counts(rt, pool),
+        PoolCall::WritesBack => print_done(rt, pool.write_back_all()),
+        PoolCall::Empties => print_done(rt, pool.empty()),
+        PoolCall::Closes => bail!("a pool is closed by its owner"),
     }
 }
 

@@ -12,7 +12,7 @@ const MAX_DEVICES: usize = 8;
 
 /// A call of a pool.
 #[derive(Clone, Copy, Debug)]
-pub enum Asked {
+pub enum PoolCall {
     /// `pin DEVICE PAGE`
     Pins(PageId),
     /// `load DEVICE PAGE`
@@ -80,7 +80,7 @@ fn number(word: Option<&str>) -> Result<u64> {
 ///
 /// # Errors
 /// Where the line is not one of those above.
-pub fn asked_in(line: &str) -> Result<Asked> {
+pub fn asked_in(line: &str) -> Result<PoolCall> {
     let mut words = line.split_whitespace();
     let word = words.next().context("a line has a word")?;
     let mut numbers = [0u64; MAX_NUMBERS];
@@ -95,23 +95,23 @@ pub fn asked_in(line: &str) -> Result<Asked> {
     asked_by(word, &numbers)
 }
 
-fn asked_by(word: &str, numbers: &[u64; MAX_NUMBERS]) -> Result<Asked> {
+fn asked_by(word: &str, numbers: &[u64; MAX_NUMBERS]) -> Result<PoolCall> {
     match word {
-        "pin" => Ok(Asked::Pins(page(numbers)?)),
-        "load" => Ok(Asked::Loads(page(numbers)?)),
-        "unpin" => Ok(Asked::Unpins(slot(numbers)?)),
+        "pin" => Ok(PoolCall::Pins(page(numbers)?)),
+        "load" => Ok(PoolCall::Loads(page(numbers)?)),
+        "unpin" => Ok(PoolCall::Unpins(slot(numbers)?)),
         "write" => {
             let (at, len) = (small(numbers[2])?, small(numbers[3])?);
             let byte = u8::try_from(numbers[4]).context("a byte")?;
-            Ok(Asked::Writes(slot(numbers)?, at as usize, len as usize, byte))
+            Ok(PoolCall::Writes(slot(numbers)?, at as usize, len as usize, byte))
         }
-        "read" => Ok(Asked::Reads(slot(numbers)?)),
-        "show" => Ok(Asked::Shows),
-        "counts" => Ok(Asked::Counts),
-        "writeback" => Ok(Asked::WritesBack),
-        "empty" => Ok(Asked::Empties),
-        "retire" => Ok(Asked::Retires(device(numbers[0])?)),
-        "close" => Ok(Asked::Closes),
+        "read" => Ok(PoolCall::Reads(slot(numbers)?)),
+        "show" => Ok(PoolCall::Shows),
+        "counts" => Ok(PoolCall::Counts),
+        "writeback" => Ok(PoolCall::WritesBack),
+        "empty" => Ok(PoolCall::Empties),
+        "retire" => Ok(PoolCall::Retires(device(numbers[0])?)),
+        "close" => Ok(PoolCall::Closes),
         _ => bail!("no call of a pool: {word}"),
     }
 }

@@ -4,7 +4,7 @@ use Rattle.std.specs.Ordering.{is_gt}
 use Rattle.warm_rank.specs.declared.RankKey.{RankKey}
 use Rattle.warm_rank.specs.Keys.{key_cmp}
 use Rattle.warm_rank.specs.Slots.{key_at, set_first_cmp}
-use Rattle.memory_cases.proofs.promised.calls.lower_of_two.Goals as goal
+use Rattle.test_memory.proofs.promised.calls.lower_of_two.Goals as goal
 
 pub returns : goal.returns
 returns c =
