@@ -2,7 +2,7 @@
 use Rattle.std.proofs.Common.{◌≡◌, sym, ap, ◌∙◌, List, [], ◌∷◌}
 use Rattle.warm_history.specs.ReferenceSets.{ReferenceSet}
 use Rattle.warm_history.specs.Histories.{history}
-use Rattle.warm_turn.specs.declared.table.Entry.{Entry}
+use Rattle.warm_turn.specs.declared.table.Operation.{Operation}
 use Rattle.warm_turn.specs.CallHistories.{Runs}
 use Rattle.warm_gossip.specs.declared.call.Call.{Call}
 use Rattle.warm_gossip.specs.declared.call.Reply.{Reply}
@@ -21,7 +21,7 @@ pub refused_keeps : (old : NodeView) (call : Call) (why : NodeFault) (new : Node
     → Refuses old call why new → new ≡ record old { pool = new.pool }
 refused_keeps old call why new r = (refused old new call why r).0
 
-goes_on : (S : ReferenceSet) (calls : List (Entry Call Reply)) (old last : NodeView)
+goes_on : (S : ReferenceSet) (calls : List (Operation Call Reply)) (old last : NodeView)
     → old.history ≡ history S → Runs Step old calls last
     → last.history ≡ history (given_by_calls S calls)
 goes_on S [] old last is runs = ap (λ (n : NodeView). n.history) (sym runs) ∙ is

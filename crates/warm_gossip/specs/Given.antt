@@ -3,7 +3,7 @@ use Rattle.std.specs.Prelude.{◌≡◌, List, [], ◌∷◌}
 use Rattle.warm_history.specs.ReferenceSets.{ReferenceSet, set_of_list, with_horizon, ◌∪◌}
 use Rattle.warm_history.specs.Histories.{history}
 use Rattle.warm_gossip.specs.Answers.{refs_in}
-use Rattle.warm_turn.specs.declared.table.Entry.{Entry}
+use Rattle.warm_turn.specs.declared.table.Operation.{Operation}
 use Rattle.warm_turn.specs.CallHistories.{Runs}
 use Rattle.warm_gossip.specs.declared.call.Call.{Call}
 use Rattle.warm_gossip.specs.declared.call.Call.TheVariants.{Absorb, Receive, Horizon, Restart}
@@ -21,13 +21,14 @@ given_by_call S Restart Done = set_of_list []
 given_by_call S call reply = S
 
 -- the references that a node was given since its last restart, from these on
-abbrev pub given_by_calls : ReferenceSet → List (Entry Call Reply) → ReferenceSet
+abbrev pub given_by_calls : ReferenceSet → List (Operation Call Reply) → ReferenceSet
 given_by_calls S [] = S
 given_by_calls S (e ∷ es) = given_by_calls (given_by_call S e.call e.reply) es
 
 -- each state that a legal list of calls reaches has the history of the references that the node was
 -- given
 abbrev pub HistoryIsOfGiven : Type 0
-HistoryIsOfGiven = (S : ReferenceSet) (opening last : NodeView) (calls : List (Entry Call Reply))
+HistoryIsOfGiven =
+    (S : ReferenceSet) (opening last : NodeView) (calls : List (Operation Call Reply))
     → opening.history ≡ history S → Runs Step opening calls last
     → last.history ≡ history (given_by_calls S calls)

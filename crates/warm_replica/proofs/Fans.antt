@@ -3,7 +3,7 @@ use Rattle.std.proofs.Common.{◌≡◌, ◌≤◌, ℕ, suc, Bool, false, List,
 use Rattle.std.specs.Prelude.{Result, IsErr, OnOk}
 use Rattle.std.proofs.lemmas.List.{length-append}
 use Rattle.std.proofs.lemmas.Result.{IfOk-from_err}
-use Rattle.warm_turn.specs.declared.table.Entry.{Entry}
+use Rattle.warm_turn.specs.declared.table.Operation.{Operation}
 use Rattle.warm_turn.specs.declared.table.EndedPass.{EndedPass}
 use Rattle.warm_turn.specs.declared.table.View.{View}
 use Rattle.warm_turn.specs.CallHistories.{Joined, Widened, as_ended, halved, new_pass}
@@ -61,7 +61,7 @@ module _ {X : Type 0} where
       let number : t.number ≡ n = h.3.number in
       let mine : t.mine ≡ h.1 = h.3.mine in
       let end : Bool = t.found_last in
-      (end, h.0, subst (λ (k : ℕ). AllGave capacity k false [] ss rs end h.0 t.mine) (sym number) (subst (λ (l : List (Entry Call Reply)). AllGave capacity n false [] ss rs end h.0 l) (sym mine) h.2))
+      (end, h.0, subst (λ (k : ℕ). AllGave capacity k false [] ss rs end h.0 t.mine) (sym number) (subst (λ (l : List (Operation Call Reply)). AllGave capacity n false [] ss rs end h.0 l) (sym mine) h.2))
 
   pub none_ended : (capacity : ℕ) (ss : List Step) (rs : List StepReply) (v t : View X Call Reply)
       (n : ℕ) → JobWent capacity ss rs (new_pass v n) t → t.ended ≡ []

@@ -5,7 +5,7 @@ use Rattle.warm_stamps.specs.declared.Reference.{Reference}
 use Rattle.warm_refbuffer.specs.declared.Full.{Full as Back}
 use Rattle.warm_refbuffer.specs.Buffered.{Buffered}
 use Rattle.warm_turn.specs.declared.table.View.{View}
-use Rattle.warm_turn.specs.CallHistories.{Called, Extended, PassView, entry, marked}
+use Rattle.warm_turn.specs.CallHistories.{Called, Extended, PassView, marked, operation}
 use Rattle.warm_turn.proofs.Passes.{Extended-self, Extended-marked, Extended-called}
 use Rattle.warm_gossip.specs.declared.call.Call.{Call}
 use Rattle.warm_gossip.specs.declared.call.Call.TheVariants.{Absorb}
@@ -85,8 +85,8 @@ module _ {X : Type 0} (v w : Working X Call Reply) (step : Step) where
   pub was_flushed : (goes : X → Call → Reply → X → Type 0) → step ≡ Flush → Flushes goes v w
       → StepWent v step Flushed w
   was_flushed goes is flushes = (
-    entry v.pass.view.number (Absorb v.buffer.refs) Done ∷ [],
-    subst (GaveTo Flushed (entry v.pass.view.number (Absorb v.buffer.refs) Done ∷ [])) (sym is)
+    operation v.pass.view.number (Absorb v.buffer.refs) Done ∷ [],
+    subst (GaveTo Flushed (operation v.pass.view.number (Absorb v.buffer.refs) Done ∷ [])) (sym is)
         (flushes.absorbs.unmarked.0, flushes.absorbs.unmarked.1, ap (λ (b : Buffered). b.refs) flushes.empties, refl),
     ap (λ (b : Buffered). b.capacity) flushes.empties,
     Extended-called goes v.pass.view w.pass.view (Absorb v.buffer.refs) Done flushes.absorbs,
@@ -109,8 +109,8 @@ module _ {X : Type 0} (v w : Working X Call Reply) (step : Step) where
         stays same,
       ))
       (λ (called : Called goes v.pass.view (Absorb v.buffer.refs) no_memory w.pass.view). (
-        entry v.pass.view.number (Absorb v.buffer.refs) no_memory ∷ [],
-        subst (GaveTo (Failed Memory) (entry v.pass.view.number (Absorb v.buffer.refs) no_memory ∷ [])) (sym is)
+        operation v.pass.view.number (Absorb v.buffer.refs) no_memory ∷ [],
+        subst (GaveTo (Failed Memory) (operation v.pass.view.number (Absorb v.buffer.refs) no_memory ∷ [])) (sym is)
             (ap (λ (b : Buffered). b.refs) kept.0, inr (called.unmarked.0, called.unmarked.1, refl)),
         ap (λ (b : Buffered). b.capacity) kept.0,
         Extended-called goes v.pass.view w.pass.view (Absorb v.buffer.refs) no_memory called,

@@ -3,10 +3,10 @@ use Rattle.std.specs.Prelude.{◌≡◌, ◌⊎◌, ℕ, ◌<◌, ◌≤◌, Lis
 use Rattle.std.specs.List.{All}
 use Rattle.warm_stamps.specs.declared.Reference.{Reference}
 use Rattle.warm_refbuffer.specs.Buffered.{IsCapacity}
-use Rattle.warm_turn.specs.declared.table.Entry.{Entry}
+use Rattle.warm_turn.specs.declared.table.Operation.{Operation}
 use Rattle.warm_turn.specs.declared.table.EndedPass.{EndedPass}
 use Rattle.warm_turn.specs.declared.table.View.{View}
-use Rattle.warm_turn.specs.CallHistories.{entry, Extended, Widened}
+use Rattle.warm_turn.specs.CallHistories.{Extended, operation, Widened}
 use Rattle.warm_gossip.specs.declared.call.Call.{Call}
 use Rattle.warm_gossip.specs.declared.call.Call.TheVariants.{Absorb}
 use Rattle.warm_gossip.specs.declared.call.Reply.{Reply}
@@ -26,7 +26,7 @@ use Rattle.warm_replica.specs.Working.{Working}
 
 -- calls of a node, each with its reply, in their order
 abbrev pub Calls : Type 0
-Calls = List (Entry Call Reply)
+Calls = List (Operation Call Reply)
 
 -- The reply of a step, where a buffer of this capacity holds these references, and the pass of
 -- number n has its mark or not: whether it has the mark afterwards, the buffer's contents
@@ -39,15 +39,15 @@ Gave capacity n spent held (Touch r) Touched after held' made = (length held < c
 Gave capacity n spent held (Touch r) (Full q) after held' made = (capacity ≤ length held) × (q ≡ r)
     × (after ≡ spent) × (held' ≡ held) × (made ≡ [])
 Gave capacity n spent held Flush Flushed after held' made = (spent ≡ false) × (after ≡ false)
-    × (held' ≡ []) × (made ≡ entry n (Absorb held) Done ∷ [])
+    × (held' ≡ []) × (made ≡ operation n (Absorb held) Done ∷ [])
 Gave capacity n spent held Flush (Failed Memory) after held' made =
     (held' ≡ held)
     × (((after ≡ spent) × (made ≡ []))
-    ⊎ ((spent ≡ false) × (after ≡ false) × (made ≡ entry n (Absorb held) no_memory ∷ [])))
+    ⊎ ((spent ≡ false) × (after ≡ false) × (made ≡ operation n (Absorb held) no_memory ∷ [])))
 Gave capacity n spent held Flush (Failed TurnsSpent) after held' made = (after ≡ true)
     × (held' ≡ held) × (made ≡ [])
 Gave capacity n spent held (job_step.Call call) (Answered reply) after held' made = (spent ≡ false)
-    × (after ≡ false) × (held' ≡ held) × (made ≡ entry n call reply ∷ [])
+    × (after ≡ false) × (held' ≡ held) × (made ≡ operation n call reply ∷ [])
 Gave capacity n spent held (job_step.Call call) (Failed TurnsSpent) after held' made =
     (after ≡ true) × (held' ≡ held) × (made ≡ [])
 Gave capacity n spent held step reply after held' made = ⊥

@@ -8,7 +8,7 @@ use Rattle.warm_pool.specs.Forgetting.{ForgetRefused}
 use Rattle.warm_pool.specs.Frames.{FrameState}
 use Rattle.warm_pool.specs.State.{PoolState}
 use Rattle.warm_pool.specs.View.{frame_view, view_of}
-use Rattle.warm_turn.specs.declared.table.Entry.{Entry}
+use Rattle.warm_turn.specs.declared.table.Operation.{Operation}
 use Rattle.warm_turn.specs.CallHistories.{Runs}
 use Rattle.warm_gossip.specs.declared.call.Call.{Call}
 use Rattle.warm_gossip.specs.declared.call.Reply.{Reply}
@@ -147,13 +147,13 @@ shard_step_own o y c Foreign own step = subst Holds (sym step.1) own
 shard_step_own o y c r own step =
     subst Holds (sym step.1) (goes_own o.count o.number o.node y.node (asked_of c) r (own_asked o.count o.number c step.0) own step.2)
 
-runs_own : (o z : ShardState) (es : List (Entry ShardCall ShardReply)) → Holds o
+runs_own : (o z : ShardState) (es : List (Operation ShardCall ShardReply)) → Holds o
     → Runs ShardStep o es z → Holds z
 runs_own o z [] own runs = subst Holds runs own
 runs_own o z (e ∷ es) own runs =
     runs_own runs.0 z es (shard_step_own o runs.0 e.call e.reply own runs.1) runs.2
 
-called : (o z : ShardState) (es : List (Entry ShardCall ShardReply)) → Holds o
+called : (o z : ShardState) (es : List (Operation ShardCall ShardReply)) → Holds o
     → Runs ShardStep o es z → HoldsShard o.count o.number z.node
 called o z es own runs =
     let same = runs_keep o z es runs in

@@ -5,8 +5,8 @@ use mathlib.Core.List.{IsPrefix}
 use Rattle.warm_history.specs.ReferenceSets.{ReferenceSet, ◌∪◌}
 use Rattle.warm_history.specs.Histories.{history, references_of}
 use Rattle.warm_history.proofs.JoinLemmas.{history_first, history_second}
-use Rattle.warm_turn.specs.declared.table.Entry.{Entry}
-use Rattle.warm_turn.specs.CallHistories.{Runs, entry}
+use Rattle.warm_turn.specs.declared.table.Operation.{Operation}
+use Rattle.warm_turn.specs.CallHistories.{Runs, operation}
 use Rattle.warm_turn.proofs.Passes.{Extended-called, Widened-joined}
 use Rattle.warm_gossip.specs.Clauses.{NodeWriteBackFails, SameView}
 use Rattle.warm_gossip.specs.Given.{given_by_call, given_by_calls}
@@ -24,7 +24,7 @@ use Rattle.warm_shared.specs.declared.call.ShardReply.TheVariants.{Answers, Chan
 use Rattle.warm_shared.specs.Answering.{AnswersPart, Offers, offer_at, offer_reply}
 use Rattle.warm_shared.specs.Attached.{Known, ShardPass, known_of, no_pass, shard_pass}
 use Rattle.warm_shared.specs.Clauses.{Answered, Got}
-use Rattle.warm_shared.specs.Laws.{CallsAreANodes, OnlySeesMore, SeesMore, ShardIsOfGiven, TogetherAreOfGiven, all_of, asked_steps, call_entries, calls_in, held_by, node_steps, reply_entries}
+use Rattle.warm_shared.specs.Laws.{CallsAreANodes, OnlySeesMore, SeesMore, ShardIsOfGiven, TogetherAreOfGiven, all_of, asked_steps, call_operations, calls_in, held_by, node_steps, reply_operations}
 use Rattle.warm_shared.specs.ShardSteps.{Asked, doing, looking, changing, CallGoes, NodeGoes, NodeStep, ShardState, ShardStep, Work, calling, writing_pages, writing_some, writing_back, zeroing, forgetting, sending_since, asked_of, node_reply_of}
 use Rattle.warm_shared.specs.Whole.{AbsorbsPart, Does, First, Raises, part_of}
 use Rattle.warm_shared.proofs.Places.{at_each}
@@ -60,11 +60,11 @@ foreign_none by (changing p) = refl
 shard_run : (o y : ShardState) (by : ℕ) (c : ShardCall) (r : ShardReply) → ShardStep o c r y
     → Runs NodeStep o.node (asked_steps by (asked_of c) r) y.node
 shard_run o y by c Foreign step =
-    subst (λ (es : List (Entry Work ShardReply)). Runs NodeStep o.node es y.node) (sym (foreign_none by (asked_of c))) (ap (λ (s : ShardState). s.node) (sym step.1))
+    subst (λ (es : List (Operation Work ShardReply)). Runs NodeStep o.node es y.node) (sym (foreign_none by (asked_of c))) (ap (λ (s : ShardState). s.node) (sym step.1))
 shard_run o y by c r step = asked_run o.node y.node by (asked_of c) r step.2
 
 -- one run after another
-runs_on : {X C R : Type 0} (goes : X → C → R → X → Type 0) (x y z : X) (xs ys : List (Entry C R))
+runs_on : {X C R : Type 0} (goes : X → C → R → X → Type 0) (x y z : X) (xs ys : List (Operation C R))
     → Runs goes x xs y → Runs goes y ys z → Runs goes x (xs ++ ys) z
 runs_on goes x y z [] ys one rest = subst (λ w. Runs goes w ys z) (sym one) rest
 runs_on goes x y z (e ∷ xs) ys one rest = (one.0, one.1, runs_on goes one.0 y z xs ys one.2 rest)
@@ -77,7 +77,7 @@ calls_are_a_nodes o z (e ∷ es) runs =
 
 -- ---- what a shard was given
 
-given_after : (S : ReferenceSet) (xs ys : List (Entry Call Reply))
+given_after : (S : ReferenceSet) (xs ys : List (Operation Call Reply))
     → given_by_calls (given_by_calls S xs) ys ≡ given_by_calls S (xs ++ ys)
 given_after S [] ys = refl
 given_after S (e ∷ xs) ys = given_after (given_by_call S e.call e.reply) xs ys
@@ -85,10 +85,10 @@ given_after S (e ∷ xs) ys = given_after (given_by_call S e.call e.reply) xs ys
 -- after a call a node has the history of what it was given
 call_given : (S : ReferenceSet) (o y : NodeState) (by : ℕ) (c : Call) (k : Option Reply)
     → o.history ≡ history S → CallGoes o c k y
-    → y.history ≡ history (given_by_calls S (reply_entries by c k))
+    → y.history ≡ history (given_by_calls S (reply_operations by c k))
 call_given S o y by c None stands step = absurd step
 call_given S o y by c (Some r) stands step =
-    told_is_history S (node_view o) (node_view y) (entry by c r ∷ []) stands (node_view y, step.0, refl)
+    told_is_history S (node_view o) (node_view y) (operation by c r ∷ []) stands (node_view y, step.0, refl)
 
 -- the history that a caller sees is unchanged
 same_history : (o y : NodeState) → SameView o y → y.history ≡ o.history
@@ -128,7 +128,7 @@ beside o y (sending_since bucket since after) r is step = absurd step
 -- after one step a node has the history of what it was given
 one_given : (S : ReferenceSet) (o y : NodeState) (by : ℕ) (w : Work) (r : ShardReply)
     → o.history ≡ history S → NodeStep o w r y
-    → y.history ≡ history (given_by_calls S (call_entries by w r))
+    → y.history ≡ history (given_by_calls S (call_operations by w r))
 one_given S o y by (calling c) r stands step = call_given S o y by c (node_reply_of r) stands step
 one_given S o y by writing_pages r stands step = beside o y writing_pages r tt step ∙ stands
 one_given S o y by (writing_some limit) r stands step = beside o y (writing_some limit) r tt step ∙ stands
@@ -138,12 +138,12 @@ one_given S o y by (forgetting dev from) r stands step = beside o y (forgetting 
 one_given S o y by (sending_since bucket since after) r stands step = beside o y (sending_since bucket since after) r tt step ∙ stands
 
 -- and so after many
-steps_given : (S : ReferenceSet) (o z : NodeState) (es : List (Entry Work ShardReply))
+steps_given : (S : ReferenceSet) (o z : NodeState) (es : List (Operation Work ShardReply))
     → o.history ≡ history S → Runs NodeStep o es z
     → z.history ≡ history (given_by_calls S (calls_in es))
 steps_given S o z [] stands runs = ap (λ (n : NodeState). n.history) (sym runs) ∙ stands
 steps_given S o z (e ∷ es) stands runs =
-    let one = call_entries e.by e.call e.reply in
+    let one = call_operations e.by e.call e.reply in
     steps_given (given_by_calls S one) runs.0 z es (one_given S o runs.0 e.by e.call e.reply stands runs.1) runs.2
     ∙ ap history (given_after S one (calls_in es))
 

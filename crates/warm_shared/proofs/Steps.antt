@@ -1,8 +1,8 @@
 -- What the steps of a shard keep, and which replies a shard gives to calls of its own pages.
 use Rattle.std.proofs.Common.{◌≡◌, List, [], ◌∷◌, ◌++◌, Some, refl, sym, ap, subst, ◌∙◌}
 use Rattle.std.proofs.lemmas.Option.{same_Some}
-use Rattle.warm_turn.specs.declared.table.Entry.{Entry}
-use Rattle.warm_turn.specs.CallHistories.{Called, Runs, entry}
+use Rattle.warm_turn.specs.declared.table.Operation.{Operation}
+use Rattle.warm_turn.specs.CallHistories.{Called, Runs, operation}
 use Rattle.warm_shared.specs.declared.call.ShardCall.{ShardCall}
 use Rattle.warm_shared.specs.declared.call.ShardReply.{ShardReply}
 use Rattle.warm_shared.specs.declared.call.ShardReply.TheVariants.{Foreign}
@@ -22,7 +22,7 @@ pub step_keeps : (x y : ShardState) (c : ShardCall) (r : ShardReply) → ShardSt
 step_keeps x y c Foreign step = (ap (λ (s : ShardState). s.count) step.1, ap (λ (s : ShardState). s.number) step.1)
 step_keeps x y c r step = only_node x y step.1
 
-pub runs_keep : (x z : ShardState) (es : List (Entry ShardCall ShardReply)) → Runs ShardStep x es z
+pub runs_keep : (x z : ShardState) (es : List (Operation ShardCall ShardReply)) → Runs ShardStep x es z
     → SameShard x z
 runs_keep x z [] runs = (ap (λ (s : ShardState). s.count) (sym runs), ap (λ (s : ShardState). s.number) (sym runs))
 runs_keep x z (e ∷ es) runs =
@@ -31,8 +31,8 @@ runs_keep x z (e ∷ es) runs =
     (rest.0 ∙ one.0, rest.1 ∙ one.1)
 
 -- the last step of a run
-pub last_of : {X C R : Type 0} (goes : X → C → R → X → Type 0) (x z : X) (es : List (Entry C R))
-    (e : Entry C R) → Runs goes x (es ++ e ∷ []) z
+pub last_of : {X C R : Type 0} (goes : X → C → R → X → Type 0) (x z : X) (es : List (Operation C R))
+    (e : Operation C R) → Runs goes x (es ++ e ∷ []) z
     → (y : X) × Runs goes x es y × goes y e.call e.reply z
 last_of goes x z [] e runs = (x, refl, subst (λ k. goes x e.call e.reply k) runs.2 runs.1)
 last_of goes x z (f ∷ fs) e runs =
@@ -50,8 +50,8 @@ pub may_answer : (v w : Known) (c : ShardCall) (r : ShardReply) (o : ShardState)
 may_answer v w c r o opens called own =
     let legal = called.legal.legal in
     let same : legal.0 ≡ o = same_Some legal.0 o (sym legal.2 ∙ called.opening ∙ opens) in
-    let runs = subst (λ (es : List (Entry ShardCall ShardReply)). Runs ShardStep legal.0 es legal.1) called.seen legal.3 in
-    let last = last_of ShardStep legal.0 legal.1 (v.seen ++ called.between) (entry v.number c r) runs in
+    let runs = subst (λ (es : List (Operation ShardCall ShardReply)). Runs ShardStep legal.0 es legal.1) called.seen legal.3 in
+    let last = last_of ShardStep legal.0 legal.1 (v.seen ++ called.between) (operation v.number c r) runs in
     let kept = runs_keep legal.0 last.0 (v.seen ++ called.between) last.1 in
     let count : o.count ≡ last.0.count = sym (kept.0 ∙ ap (λ (s : ShardState). s.count) same) in
     let number : o.number ≡ last.0.number = sym (kept.1 ∙ ap (λ (s : ShardState). s.number) same) in

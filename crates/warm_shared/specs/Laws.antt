@@ -3,8 +3,8 @@ use Rattle.std.specs.Prelude.{ℕ, ◌<◌, List, [], ◌∷◌, ◌++◌, lengt
 use mathlib.Core.List.{IsPrefix}
 use Rattle.warm_history.specs.ReferenceSets.{ReferenceSet, set_of_list, ◌∪◌}
 use Rattle.warm_history.specs.Histories.{HistoryView, StandsFor, references_of, history}
-use Rattle.warm_turn.specs.declared.table.Entry.{Entry}
-use Rattle.warm_turn.specs.CallHistories.{Runs, entry}
+use Rattle.warm_turn.specs.declared.table.Operation.{Operation}
+use Rattle.warm_turn.specs.CallHistories.{Runs, operation}
 use Rattle.warm_frames.specs.declared.message.Message.{Message}
 use Rattle.warm_gossip.specs.declared.call.Call.{Call}
 use Rattle.warm_gossip.specs.declared.call.Call.TheVariants as node_call
@@ -28,59 +28,59 @@ use Rattle.warm_shared.specs.Whole.{AbsorbsFirst, DoneFirst, RaisesFirst}
 
 -- One shard
 
--- What the node did for an entry of a shard, step by step: for a look a pin and an unpin, for a
+-- What the node did for an operation of a shard, step by step: for a look a pin and an unpin, for a
 -- change a write between them, and for either a pin where it was refused. For a call that brought a
 -- page of another shard it did nothing.
-abbrev pub asked_steps : ℕ → Asked → ShardReply → List (Entry Work ShardReply)
+abbrev pub asked_steps : ℕ → Asked → ShardReply → List (Operation Work ShardReply)
 asked_steps by asked Foreign = []
-asked_steps by (doing work) reply = entry by work reply ∷ []
+asked_steps by (doing work) reply = operation by work reply ∷ []
 asked_steps by (looking page) (Looked slot bytes) =
-    entry by (calling (node_call.Pin page)) (Pinned slot)
-    ∷ entry by (calling (node_call.Unpin slot)) Done ∷ []
+    operation by (calling (node_call.Pin page)) (Pinned slot)
+    ∷ operation by (calling (node_call.Unpin slot)) Done ∷ []
 asked_steps by (changing page) (Changed slot before after) =
-    entry by (calling (node_call.Pin page)) (Pinned slot)
-    ∷ entry by (calling (node_call.Write slot 0 after.numbers)) Done
-    ∷ entry by (calling (node_call.Unpin slot)) Done ∷ []
-asked_steps by (looking page) reply = entry by (calling (node_call.Pin page)) reply ∷ []
-asked_steps by (changing page) reply = entry by (calling (node_call.Pin page)) reply ∷ []
+    operation by (calling (node_call.Pin page)) (Pinned slot)
+    ∷ operation by (calling (node_call.Write slot 0 after.numbers)) Done
+    ∷ operation by (calling (node_call.Unpin slot)) Done ∷ []
+asked_steps by (looking page) reply = operation by (calling (node_call.Pin page)) reply ∷ []
+asked_steps by (changing page) reply = operation by (calling (node_call.Pin page)) reply ∷ []
 
--- what the node did for these entries, in their order
-abbrev pub node_steps : List (Entry ShardCall ShardReply) → List (Entry Work ShardReply)
+-- what the node did for these operations, in their order
+abbrev pub node_steps : List (Operation ShardCall ShardReply) → List (Operation Work ShardReply)
 node_steps [] = []
 node_steps (e ∷ es) = asked_steps e.by (asked_of e.call) e.reply ++ node_steps es
 
 -- the calls of the node among these, each with its reply
-abbrev pub reply_entries : ℕ → Call → Option Reply → List (Entry Call Reply)
-reply_entries by call None = []
-reply_entries by call (Some reply) = entry by call reply ∷ []
+abbrev pub reply_operations : ℕ → Call → Option Reply → List (Operation Call Reply)
+reply_operations by call None = []
+reply_operations by call (Some reply) = operation by call reply ∷ []
 
-abbrev pub call_entries : ℕ → Work → ShardReply → List (Entry Call Reply)
-call_entries by (calling call) reply = reply_entries by call (node_reply_of reply)
-call_entries by work reply = []
+abbrev pub call_operations : ℕ → Work → ShardReply → List (Operation Call Reply)
+call_operations by (calling call) reply = reply_operations by call (node_reply_of reply)
+call_operations by work reply = []
 
-abbrev pub calls_in : List (Entry Work ShardReply) → List (Entry Call Reply)
+abbrev pub calls_in : List (Operation Work ShardReply) → List (Operation Call Reply)
 calls_in [] = []
-calls_in (e ∷ es) = call_entries e.by e.call e.reply ++ calls_in es
+calls_in (e ∷ es) = call_operations e.by e.call e.reply ++ calls_in es
 
 -- the calls of the node, in their order
-abbrev pub node_calls : List (Entry ShardCall ShardReply) → List (Entry Call Reply)
+abbrev pub node_calls : List (Operation ShardCall ShardReply) → List (Operation Call Reply)
 node_calls calls = calls_in (node_steps calls)
 
--- A legal list of calls of a shard is one of steps of its node: of calls, and of what it does beside
--- them.
+-- A legal list of calls of a shard is one of steps of its node: of calls, and of what it does
+-- beside them.
 abbrev pub CallsAreANodes : Type 0
-CallsAreANodes = (opening last : ShardState) (calls : List (Entry ShardCall ShardReply))
+CallsAreANodes = (opening last : ShardState) (calls : List (Operation ShardCall ShardReply))
     → Runs ShardStep opening calls last → Runs NodeStep opening.node (node_steps calls) last.node
 
 -- the references that a shard was given by these calls, from these on
-abbrev pub given_to_shard : ReferenceSet → List (Entry ShardCall ShardReply) → ReferenceSet
+abbrev pub given_to_shard : ReferenceSet → List (Operation ShardCall ShardReply) → ReferenceSet
 given_to_shard S calls = given_by_calls S (node_calls calls)
 
 -- a shard in a state that a legal list of its calls reaches has the history of the references that
 -- it was given
 abbrev pub ShardIsOfGiven : Type 0
 ShardIsOfGiven = (S : ReferenceSet) (opening last : ShardState)
-    (calls : List (Entry ShardCall ShardReply)) → StandsFor opening.node.history S
+    (calls : List (Operation ShardCall ShardReply)) → StandsFor opening.node.history S
     → Runs ShardStep opening calls last → StandsFor last.node.history (given_to_shard S calls)
 
 -- The pages of a shard
@@ -90,7 +90,7 @@ ShardIsOfGiven = (S : ReferenceSet) (opening last : ShardState)
 pub record ShardsHoldTheirPages : Type 0 where
   pub opened : (nodes : List NodeState) (i : ℕ) → AreShards nodes → i < length nodes
       → HoldsShard (length nodes) i (state_at (shards_over nodes) i).node
-  pub called : (opening last : ShardState) (calls : List (Entry ShardCall ShardReply))
+  pub called : (opening last : ShardState) (calls : List (Operation ShardCall ShardReply))
       → HoldsShard opening.count opening.number opening.node
       → Runs ShardStep opening calls last
       → HoldsShard opening.count opening.number last.node

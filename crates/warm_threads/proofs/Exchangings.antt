@@ -8,7 +8,7 @@ use Rattle.warm_stamps.specs.declared.TheConstants.{BUCKETS}
 use Rattle.warm_history.specs.declared.hist.Entry.{Entry}
 use Rattle.warm_frames.specs.declared.layout.TheConstants.{MAX_ENTRIES}
 use Rattle.warm_frames.specs.declared.message.Message.{Message}
-use Rattle.warm_turn.specs.CallHistories.{Runs, entry}
+use Rattle.warm_turn.specs.CallHistories.{Runs, operation}
 use Rattle.warm_gossip.specs.declared.call.Call.{Call}
 use Rattle.warm_gossip.specs.declared.call.Call.TheVariants.{Send, Receive}
 use Rattle.warm_gossip.specs.declared.call.Reply.{Reply}
@@ -35,7 +35,7 @@ last_page_at (x ∷ y ∷ es) (suc i) e long is = last_page_at (y ∷ es) i e (o
 sends_more : (bucket : ℕ) (after : Option PageId) (message : Message) (more : Calls)
     → MAX_ENTRIES ≤ length (entries_in message)
     → SendsBucket bucket (last_page (entries_in message)) more
-    → SendsBucket bucket after (entry 0 (Send bucket after) (Sent message) ∷ more)
+    → SendsBucket bucket after (operation 0 (Send bucket after) (Sent message) ∷ more)
 sends_more bucket after message [] full h = absurd h
 sends_more bucket after message (e ∷ es) full h = (message, (refl, refl), full, h)
 
@@ -55,7 +55,7 @@ module _ {X : Type 0} (goes : X → Call → Reply → X → Type 0) where
       → MAX_ENTRIES ≤ length (entries_in message) → last_page (entries_in message) ≡ Some page
       → IsSending bucket x (Some page) z
   sending_more bucket x y z after message page h step full last =
-      let one = entry 0 (Send bucket after) (Sent message) in
+      let one = operation 0 (Send bucket after) (Sent message) in
       record {
         calls = h.calls ++ one ∷ [];
         runs = runs_then goes x y z h.calls (one ∷ []) h.runs (z, step, refl);
@@ -68,7 +68,7 @@ module _ {X : Type 0} (goes : X → Call → Reply → X → Type 0) where
       → length (entries_in message) < MAX_ENTRIES
       → LeadsBy goes (SendsBucket bucket None) x z
   sending_last bucket x y z after message h step few =
-      let one = entry 0 (Send bucket after) (Sent message) in
+      let one = operation 0 (Send bucket after) (Sent message) in
       (h.calls ++ one ∷ [], runs_then goes x y z h.calls (one ∷ []) h.runs (z, step, refl), h.rest (one ∷ []) (message, (refl, refl), few))
 
   -- calls have sent all buckets before this one
@@ -101,7 +101,7 @@ module _ {X : Type 0} (goes : X → Call → Reply → X → Type 0) where
   received_none x = ([], refl, λ k d low. absurd (omega (arith, low)))
 
   receipt : (message : Message) (answers : List Message)
-      → All IsReceipt (entry 0 (Receive message) (Answers answers) ∷ [])
+      → All IsReceipt (operation 0 (Receive message) (Answers answers) ∷ [])
   receipt message answers zero d low = (message, answers, refl, refl)
   receipt message answers (suc k) d low = absurd (omega (arith, low))
 
@@ -109,5 +109,5 @@ module _ {X : Type 0} (goes : X → Call → Reply → X → Type 0) where
       → (message : Message) (answers : List Message) → goes y (Receive message) (Answers answers) z
       → LeadsBy goes (All IsReceipt) x z
   received_more x y z h message answers step =
-      let one = entry 0 (Receive message) (Answers answers) in
+      let one = operation 0 (Receive message) (Answers answers) in
       (h.0 ++ one ∷ [], runs_then goes x y z h.0 (one ∷ []) h.1 (z, step, refl), All-append IsReceipt h.0 (one ∷ []) h.2 (receipt message answers))

@@ -6,7 +6,7 @@ use Rattle.warm_stamps.specs.declared.TheConstants.{BUCKETS}
 use Rattle.warm_frames.specs.declared.layout.TheConstants.{MAX_ENTRIES}
 use Rattle.warm_frames.specs.declared.message.Message.{Message}
 use Rattle.warm_frames.specs.Limits.{entries_in}
-use Rattle.warm_turn.specs.declared.table.Entry as turn
+use Rattle.warm_turn.specs.declared.table.Operation.{Operation}
 use Rattle.warm_gossip.specs.declared.call.Call.{Call}
 use Rattle.warm_gossip.specs.declared.call.Call.TheVariants.{Send, Receive}
 use Rattle.warm_gossip.specs.declared.call.Reply.{Reply}
@@ -16,7 +16,7 @@ use Rattle.warm_replica.specs.Jobs.{Calls}
 use Rattle.warm_threads.specs.Numbers.{NumberedFrom}
 
 -- the call requested the bucket's entries after this page, and the reply is this message
-abbrev pub IsSend : ℕ → Option PageId → Message → turn.Entry Call Reply → Type 0
+abbrev pub IsSend : ℕ → Option PageId → Message → Operation Call Reply → Type 0
 IsSend bucket after message e = (e.call ≡ Send bucket after) × (e.reply ≡ Sent message)
 
 -- The calls send the bucket's entries after this page: each requests those after the last page of
@@ -38,6 +38,6 @@ pub record SendsAll (calls : Calls) : Type 0 where
   pub each : NumberedFrom 0 (λ bucket part. SendsBucket bucket None part) parts
 
 -- a message was received, and answered
-abbrev pub IsReceipt : turn.Entry Call Reply → Type 0
+abbrev pub IsReceipt : Operation Call Reply → Type 0
 IsReceipt e = (message : Message) × (answers : List Message) × (e.call ≡ Receive message)
     × (e.reply ≡ Answers answers)

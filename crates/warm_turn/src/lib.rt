@@ -25,8 +25,8 @@
 //! calls have one total order, which is legal, and which respects the order of each pass and every
 //! hand-over between passes: calls are sequentially consistent, and causal between passes that met.
 //! The order in time of others, which linearizability would add (M. P. Herlihy and J. M. Wing, ACM
-//! TOPLAS 1990), is not specified. Nor are progress, fairness and waiting times, and an entry does
-//! not prove that its caller still runs.
+//! TOPLAS 1990), is not specified. Nor are progress, fairness and waiting times, and an operation
+//! does not prove that its caller still runs.
 //!
 //! Passes, notes and turns may cross threads where the machine may: for a function that is generic
 //! in `M: Machine + Send` the lemmas are in `proofs/Sent.antt`. Lemmas on what calls, notes and

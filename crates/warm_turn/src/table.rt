@@ -12,8 +12,8 @@ use std::collections::LinkedList;
 use std::marker::Model;
 use std::snapshot::Snapshot;
 
-/// One entry of a history. It exists only in contracts.
-pub struct Entry<C, R> {
+/// An operation of a history: a call with its reply. It exists only in contracts.
+pub struct Operation<C, R> {
     /// The number of the pass that called.
     pub by: u64,
     /// The call.
@@ -27,7 +27,7 @@ pub struct EndedPass<C, R> {
     /// Its number.
     pub number: u64,
     /// Its calls, in their order.
-    pub calls: LinkedList<Entry<C, R>>,
+    pub calls: LinkedList<Operation<C, R>>,
 }
 
 /// A share of the right to close a turn: `parts` of `whole`. It exists only in contracts, where
@@ -62,13 +62,13 @@ pub struct View<X, C, R> {
     /// The state of the machine that this seat has taken.
     pub state: Option<X>,
     /// A prefix of the history, as this seat has seen it.
-    pub seen: LinkedList<Entry<C, R>>,
+    pub seen: LinkedList<Operation<C, R>>,
     /// A prefix that was learned from another seat, and is not looked up yet.
-    pub also: LinkedList<Entry<C, R>>,
+    pub also: LinkedList<Operation<C, R>>,
     /// The turn's opening state, as it was learned.
     pub also_opening: Option<X>,
     /// The pass's own calls, in their order.
-    pub mine: LinkedList<Entry<C, R>>,
+    pub mine: LinkedList<Operation<C, R>>,
     /// The passes that were ended into this one, and those that they held.
     pub ended: LinkedList<EndedPass<C, R>>,
 }

@@ -49,7 +49,7 @@ impl<M: Machine> Model for Turn<M> {
 ///
 /// Contracts see what it knows (`view`): the list `seen`, a prefix of the turn's history that is
 /// legal from the `opening` state; its `number`; its own calls, `mine`; and the numbers and calls
-/// of the passes that were ended into it, `ended`. The entries that `seen` has of each of these
+/// of the passes that were ended into it, `ended`. The operations that `seen` has of each of these
 /// numbers are exactly that pass's calls, each once, in their order, and no number occurs twice.
 ///
 /// Its mark, `found_last`, says that it was refused with [`TurnsSpent`]. It stays, and a pass that
@@ -238,8 +238,8 @@ impl<M: Machine> Turn<M> {
     }
 
     /// A new pass, which has seen what this one has. It has a number of its own, of which that list
-    /// has no entry, and no calls, and no pass was ended into it. It gets half of this pass's share
-    /// of the right to close. This pass keeps the other half, and is otherwise unchanged.
+    /// has no operation, and no calls, and no pass was ended into it. It gets half of this pass's
+    /// share of the right to close. This pass keeps the other half, and is otherwise unchanged.
     pub fn pass(&self, pass: &mut Pass<M>) -> Pass<M>
         requires { pass.old.table ≡ self.now.table }
         ensures half { pass.new.view ≡ halved pass.old.view }
@@ -277,8 +277,8 @@ impl<M: Machine> Turn<M> {
     }
 
     /// Learns what the note has seen. Afterwards both the pass's earlier list and the note's list
-    /// are prefixes of the pass's list, which may have further entries of other passes. Both have
-    /// the same opening state. Its own calls, those that it holds and its mark stay.
+    /// are prefixes of the pass's list, which may have further operations of other passes. Both
+    /// have the same opening state. Its own calls, those that it holds and its mark stay.
     pub fn learn(&self, pass: &mut Pass<M>, note: Note<M>)
         requires { (pass.old.table ≡ self.now.table) × (note.table ≡ self.now.table) }
         ensures table { pass.new.table ≡ self.now.table }
@@ -291,8 +291,8 @@ impl<M: Machine> Turn<M> {
 
     /// Ends the other pass into this one. This pass's list then begins with what both had seen, and
     /// it holds the other's number and calls, and those that the other held. All these numbers
-    /// differ. Both have the same opening state. This pass's share of the right to close becomes the
-    /// sum of both. Its own calls and its mark stay, and the other's mark is dropped.
+    /// differ. Both have the same opening state. This pass's share of the right to close becomes
+    /// the sum of both. Its own calls and its mark stay, and the other's mark is dropped.
     pub fn end(&self, pass: &mut Pass<M>, other: Pass<M>)
         requires { (pass.old.table ≡ self.now.table) × (other.table ≡ self.now.table) }
         ensures table { pass.new.table ≡ self.now.table }
@@ -307,14 +307,14 @@ impl<M: Machine> Turn<M> {
     /// passes the turn on. It does most of its waiting before it takes the ticket, when it delays
     /// nobody.
     ///
-    /// The visit is one entry of the history, by the call and the reply that say what the visitor
-    /// did: the pass's list begins with the list that it had and ends with this entry, which is
-    /// added to its own calls. A pass whose visitor was let in had no mark, and has none.
+    /// The visit is one operation of the history, by the call and the reply that say what the
+    /// visitor did: the pass's list begins with the list that it had and ends with this operation,
+    /// which is added to its own calls. A pass whose visitor was let in had no mark, and has none.
     ///
     /// `TurnsSpent`, which occurs only where this pass found `u64::MAX` in the ticket word, gives
-    /// the visitor back, which has not run, adds no entry and leaves the pass unchanged except for
-    /// the mark. The waiting time is not specified: a visit may wait forever, for example where an
-    /// earlier visitor never returns.
+    /// the visitor back, which has not run, adds no operation and leaves the pass unchanged except
+    /// for the mark. The waiting time is not specified: a visit may wait forever, for example where
+    /// an earlier visitor never returns.
     pub fn visit<R: Wait, V: Visit<M>>(
         &self,
         rt: &R,
@@ -339,8 +339,8 @@ impl<M: Machine> Turn<M> {
     /// pass that is answered had no mark, and has none.
     ///
     /// `TurnsSpent` occurs as at [`Turn::visit`]. It gives the call back, which the machine has not
-    /// seen, adds no entry and leaves the pass unchanged except for the mark. The waiting time is
-    /// not specified: a call may wait forever, for example where an earlier call of the machine
+    /// seen, adds no operation and leaves the pass unchanged except for the mark. The waiting time
+    /// is not specified: a call may wait forever, for example where an earlier call of the machine
     /// never returns.
     pub fn call<R: Wait>(
         &self,
@@ -366,8 +366,8 @@ impl<M: Machine> Turn<M> {
     }
 
     /// Gives the machine back. Its state is one that a legal history reaches from the opening
-    /// state. That history begins with the pass's list, and has no further entry of any number that
-    /// the pass holds: it contains all calls of the passes that were ended into it.
+    /// state. That history begins with the pass's list, and has no further operation of any number
+    /// that the pass holds: it contains all calls of the passes that were ended into it.
     ///
     /// `Busy` occurs only where fewer tickets were served than were taken. Its words are those of a
     /// state that the rule of the turn allows, in which a pass knows what this one does: the
