@@ -3,8 +3,8 @@ use Rattle.std.specs.Prelude.{◌≡◌, List, [], ◌∷◌}
 use Rattle.warm_history.specs.ReferenceSets.{ReferenceSet, set_of_list, with_horizon, ◌∪◌}
 use Rattle.warm_history.specs.Histories.{history}
 use Rattle.warm_gossip.specs.Answers.{refs_in}
-use Rattle.warm_turn.specs.declared.table.Operation.{Operation}
-use Rattle.warm_turn.specs.CallHistories.{Runs}
+use Rattle.warm_machine.specs.declared.operation.Operation.{Operation}
+use Rattle.warm_machine.specs.Runs.{Runs}
 use Rattle.warm_gossip.specs.declared.call.Call.{Call}
 use Rattle.warm_gossip.specs.declared.call.Call.TheVariants.{Absorb, Receive, Horizon, Restart}
 use Rattle.warm_gossip.specs.declared.call.Reply.{Reply}

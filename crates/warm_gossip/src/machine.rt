@@ -3,7 +3,7 @@ use crate::call::{Call, Reply};
 use crate::node::Node;
 use std::marker::Model;
 use warm_devices::PageDevice;
-use warm_turn::Machine;
+use warm_machine::Machine;
 
 /// The state of a node that threads share: what a caller sees of it. No value of the type is made;
 /// contracts see it as a `NodeView`.

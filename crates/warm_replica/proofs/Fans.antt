@@ -3,7 +3,7 @@ use Rattle.std.proofs.Common.{◌≡◌, ◌≤◌, ℕ, suc, Bool, false, List,
 use Rattle.std.specs.Prelude.{Result, IsErr, OnOk}
 use Rattle.std.proofs.lemmas.List.{length-append}
 use Rattle.std.proofs.lemmas.Result.{IfOk-from_err}
-use Rattle.warm_turn.specs.declared.table.Operation.{Operation}
+use Rattle.warm_machine.specs.declared.operation.Operation.{Operation}
 use Rattle.warm_turn.specs.declared.table.EndedPass.{EndedPass}
 use Rattle.warm_turn.specs.declared.table.View.{View}
 use Rattle.warm_turn.specs.CallHistories.{Joined, Widened, as_ended, halved, new_pass}

@@ -5,7 +5,8 @@ use Rattle.warm_stamps.specs.declared.Reference.{Reference}
 use Rattle.warm_refbuffer.specs.declared.Full.{Full as Back}
 use Rattle.warm_refbuffer.specs.Buffered.{Buffered}
 use Rattle.warm_turn.specs.declared.table.View.{View}
-use Rattle.warm_turn.specs.CallHistories.{Called, Extended, PassView, marked, operation}
+use Rattle.warm_machine.specs.Runs.{operation}
+use Rattle.warm_turn.specs.CallHistories.{Called, Extended, PassView, marked}
 use Rattle.warm_turn.proofs.Passes.{Extended-self, Extended-marked, Extended-called}
 use Rattle.warm_gossip.specs.declared.call.Call.{Call}
 use Rattle.warm_gossip.specs.declared.call.Call.TheVariants.{Absorb}

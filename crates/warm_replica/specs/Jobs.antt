@@ -3,10 +3,11 @@ use Rattle.std.specs.Prelude.{◌≡◌, ◌⊎◌, ℕ, ◌<◌, ◌≤◌, Lis
 use Rattle.std.specs.List.{All}
 use Rattle.warm_stamps.specs.declared.Reference.{Reference}
 use Rattle.warm_refbuffer.specs.Buffered.{IsCapacity}
-use Rattle.warm_turn.specs.declared.table.Operation.{Operation}
+use Rattle.warm_machine.specs.declared.operation.Operation.{Operation}
 use Rattle.warm_turn.specs.declared.table.EndedPass.{EndedPass}
 use Rattle.warm_turn.specs.declared.table.View.{View}
-use Rattle.warm_turn.specs.CallHistories.{Extended, operation, Widened}
+use Rattle.warm_machine.specs.Runs.{operation}
+use Rattle.warm_turn.specs.CallHistories.{Extended, Widened}
 use Rattle.warm_gossip.specs.declared.call.Call.{Call}
 use Rattle.warm_gossip.specs.declared.call.Call.TheVariants.{Absorb}
 use Rattle.warm_gossip.specs.declared.call.Reply.{Reply}

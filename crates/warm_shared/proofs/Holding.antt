@@ -8,8 +8,8 @@ use Rattle.warm_pool.specs.Forgetting.{ForgetRefused}
 use Rattle.warm_pool.specs.Frames.{FrameState}
 use Rattle.warm_pool.specs.State.{PoolState}
 use Rattle.warm_pool.specs.View.{frame_view, view_of}
-use Rattle.warm_turn.specs.declared.table.Operation.{Operation}
-use Rattle.warm_turn.specs.CallHistories.{Runs}
+use Rattle.warm_machine.specs.declared.operation.Operation.{Operation}
+use Rattle.warm_machine.specs.Runs.{Runs}
 use Rattle.warm_gossip.specs.declared.call.Call.{Call}
 use Rattle.warm_gossip.specs.declared.call.Reply.{Reply}
 use Rattle.warm_gossip.specs.declared.call.Call.TheVariants as node_call

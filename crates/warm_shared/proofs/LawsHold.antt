@@ -5,8 +5,8 @@ use mathlib.Core.List.{IsPrefix}
 use Rattle.warm_history.specs.ReferenceSets.{ReferenceSet, ◌∪◌}
 use Rattle.warm_history.specs.Histories.{history, references_of}
 use Rattle.warm_history.proofs.JoinLemmas.{history_first, history_second}
-use Rattle.warm_turn.specs.declared.table.Operation.{Operation}
-use Rattle.warm_turn.specs.CallHistories.{Runs, operation}
+use Rattle.warm_machine.specs.declared.operation.Operation.{Operation}
+use Rattle.warm_machine.specs.Runs.{Runs, operation}
 use Rattle.warm_turn.proofs.Passes.{Extended-called, Widened-joined}
 use Rattle.warm_gossip.specs.Clauses.{NodeWriteBackFails, SameView}
 use Rattle.warm_gossip.specs.Given.{given_by_call, given_by_calls}

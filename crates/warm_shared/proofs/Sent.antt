@@ -6,7 +6,7 @@ use denote.Struct.Struct.{Struct}
 use denote.Struct.Declared as Declared
 use Rattle.std.proofs.Crossing.{crosses, Vec-send}
 use Rattle.warm_devices.specs.declared.device.PageDevice.{Ghosts}
-use Rattle.warm_turn.specs.declared.machine.Machine as Machine
+use Rattle.warm_machine.specs.declared.machine.Machine as Machine
 use Rattle.warm_turn.specs.contracts.turn.Pass as Pass
 use Rattle.warm_shared.specs.contracts.call.ShardCall as ShardCall
 use Rattle.warm_shared.specs.contracts.call.ShardReply as ShardReply

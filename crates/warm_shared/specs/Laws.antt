@@ -3,8 +3,8 @@ use Rattle.std.specs.Prelude.{ℕ, ◌<◌, List, [], ◌∷◌, ◌++◌, lengt
 use mathlib.Core.List.{IsPrefix}
 use Rattle.warm_history.specs.ReferenceSets.{ReferenceSet, set_of_list, ◌∪◌}
 use Rattle.warm_history.specs.Histories.{HistoryView, StandsFor, references_of, history}
-use Rattle.warm_turn.specs.declared.table.Operation.{Operation}
-use Rattle.warm_turn.specs.CallHistories.{Runs, operation}
+use Rattle.warm_machine.specs.declared.operation.Operation.{Operation}
+use Rattle.warm_machine.specs.Runs.{Runs, operation}
 use Rattle.warm_frames.specs.declared.message.Message.{Message}
 use Rattle.warm_gossip.specs.declared.call.Call.{Call}
 use Rattle.warm_gossip.specs.declared.call.Call.TheVariants as node_call

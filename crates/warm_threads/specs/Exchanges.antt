@@ -6,7 +6,7 @@ use Rattle.warm_stamps.specs.declared.TheConstants.{BUCKETS}
 use Rattle.warm_frames.specs.declared.layout.TheConstants.{MAX_ENTRIES}
 use Rattle.warm_frames.specs.declared.message.Message.{Message}
 use Rattle.warm_frames.specs.Limits.{entries_in}
-use Rattle.warm_turn.specs.declared.table.Operation.{Operation}
+use Rattle.warm_machine.specs.declared.operation.Operation.{Operation}
 use Rattle.warm_gossip.specs.declared.call.Call.{Call}
 use Rattle.warm_gossip.specs.declared.call.Call.TheVariants.{Send, Receive}
 use Rattle.warm_gossip.specs.declared.call.Reply.{Reply}

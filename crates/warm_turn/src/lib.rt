@@ -36,7 +36,6 @@
 mod counter;
 mod fault;
 pub mod laws;
-mod machine;
 mod plays;
 mod table;
 mod turn;
@@ -45,7 +44,7 @@ mod waiting;
 
 pub use counter::{Add, Added, Counter};
 pub use fault::{Busy, Memory, TurnsSpent};
-pub use machine::Machine;
 pub use table::CallMade;
 pub use turn::{Note, Pass, Turn};
 pub use visit::{Visit, Visited};
+pub use warm_machine::Machine;

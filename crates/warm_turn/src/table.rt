@@ -4,23 +4,13 @@
 ghost use Rattle.std.specs.Prelude.{◌≡◌, IfOk, IfErr};
 
 use crate::fault::Memory;
-use crate::machine::Machine;
 use crate::visit::{Visit, Visited};
 use atomic_table::{Seat, Shared, Table, TableRule};
 use std::alloc::{AllocFailed, Global};
 use std::collections::LinkedList;
 use std::marker::Model;
 use std::snapshot::Snapshot;
-
-/// An operation of a history: a call with its reply. It exists only in contracts.
-pub struct Operation<C, R> {
-    /// The number of the pass that called.
-    pub by: u64,
-    /// The call.
-    pub call: C,
-    /// The reply of the machine.
-    pub reply: R,
-}
+use warm_machine::{Machine, Operation};
 
 /// What is kept of an ended pass. It exists only in contracts.
 pub struct EndedPass<C, R> {

@@ -10,7 +10,6 @@ ghost use Rattle.warm_turn.specs.Rule.{IsTicketTable, AreWords, MarkShows};
 ghost use Rattle.warm_turn.specs.Steps.{IsMade, Served, HasPassedOn};
 
 use crate::fault::{Busy, Memory, TurnsSpent};
-use crate::machine::Machine;
 use crate::plays::{Become, CatchUp, Come, End, GiveNote, GivePass, Learn, PassOn};
 use crate::table::{BoxedMachine, CellContents, MachineCell, SharedTable, TicketTable, TurnSeat};
 use crate::visit::{Calling, Visit, Visited};
@@ -20,6 +19,7 @@ use std::alloc::{AllocFailed, Global};
 use std::marker::Model;
 use std::snapshot::Snapshot;
 use std::sync::Wait;
+use warm_machine::Machine;
 
 /// A machine that threads share: they call it through a `&`, each with a [`Pass`] of its own.
 ///

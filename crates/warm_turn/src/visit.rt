@@ -1,8 +1,8 @@
 //! Visits: a caller has the machine for one turn.
 
-use crate::machine::Machine;
 use crate::table::CallMade;
 use std::snapshot::Snapshot;
+use warm_machine::Machine;
 
 /// What a visitor hands back: its result, and what it did, as a call of the machine and the reply.
 pub struct Visited<C, R, T> {

@@ -7,12 +7,12 @@ ghost use Rattle.warm_turn.specs.CallHistories.{IsPass, marked};
 ghost use Rattle.warm_turn.specs.Rule.{IsTicketTable};
 ghost use Rattle.warm_turn.specs.Steps.{HasTicket, HasMachine};
 
-use crate::machine::Machine;
 use crate::plays::{Look, Take};
 use crate::table::{SharedTable, TurnSeat};
 use std::hint::spin_loop;
 use std::sync::Wait;
 use std::time::Duration;
+use warm_machine::Machine;
 
 // How often a waiting caller polls before it sleeps between polls. It spins in between, twice as
 // long each time, 255 spin hints in all, which is less than a context switch takes: a poll takes
