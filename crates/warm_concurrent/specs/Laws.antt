@@ -19,7 +19,7 @@ use Rattle.warm_concurrent.specs.declared.call.ShardReply.{ShardReply}
 use Rattle.warm_concurrent.specs.Answering.{AnswersFirst, OffersFirst}
 use Rattle.warm_concurrent.specs.Attached.{Known, ShardPass, ShardTurn, known_of}
 use Rattle.warm_concurrent.specs.Clauses.{Answered}
-use Rattle.warm_concurrent.specs.Opening.{AreJoined, ClosesShard, shards_over, state_at}
+use Rattle.warm_concurrent.specs.Opening.{ClosesShard, PassesAreJoined, shards_over, state_at}
 use Rattle.warm_concurrent.specs.declared.call.ShardReply.TheVariants.{Changed, Done, Foreign}
 use Rattle.warm_concurrent.specs.declared.call.ShardReply.TheVariants.{Looked, Pinned}
 use Rattle.warm_concurrent.specs.ShardSteps.{Asked, NodeStep, Work, calling, changing, doing}
@@ -143,4 +143,4 @@ pub record OnlySeesMore : Type 0 where
       → OffersFirst offers k old new → SeesMore old new
   pub answered : (old new : List ShardPass) (request : ℕ) (parts : List (List Message)) (k : ℕ)
       → AnswersFirst request parts k old new → SeesMore old new
-  pub joined : (old other new : List ShardPass) → AreJoined old other new → SeesMore old new
+  pub joined : (old other new : List ShardPass) → PassesAreJoined old other new → SeesMore old new

@@ -62,7 +62,7 @@ pub record AreHalved (old new : List ShardPass) : Type 0 where
   pub each : (i : ℕ) → i < length old → shard_pass new i ≡ with_half (shard_pass old i)
 
 -- the passes of another thread were ended into these, shard by shard
-pub record AreJoined (old other new : List ShardPass) : Type 0 where
+pub record PassesAreJoined (old other new : List ShardPass) : Type 0 where
   pub count : length new ≡ length old
   pub each : (i : ℕ) → i < length old
       → Joined ShardStep (known_of old i) (known_of other i) (known_of new i)

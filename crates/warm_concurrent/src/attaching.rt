@@ -2,8 +2,8 @@
 ghost use Rattle.std.specs.Prelude.{◌≡◌, ◌≢◌, ◌≤◌, [], length, IfErr, IfOk, OnOk};
 ghost use Rattle.std.specs.Prelude.{vec_capacity};
 ghost use Rattle.warm_concurrent.specs.Attached.{AreOf};
-ghost use Rattle.warm_concurrent.specs.Opening.{AreClosed, AreHalved, AreJoined, AreSplit};
-ghost use Rattle.warm_concurrent.specs.Opening.{ClosesShard, IsCloseRefused};
+ghost use Rattle.warm_concurrent.specs.Opening.{AreClosed, AreHalved, AreSplit, ClosesShard};
+ghost use Rattle.warm_concurrent.specs.Opening.{IsCloseRefused, PassesAreJoined};
 
 use crate::fault::SharedFault;
 use crate::shard::Shard;
@@ -63,7 +63,7 @@ fn end_all<D: PageDevice + Send>(
     requires these { AreOf turns.now.items passes.old.items }
     requires those { AreOf turns.now.items others.items }
     ensures passes { AreOf turns.now.items passes.new.items }
-    ensures joined { AreJoined passes.old.items others.items passes.new.items }
+    ensures joined { PassesAreJoined passes.old.items others.items passes.new.items }
 {
     let count = turns.len();
     for shard in 0..count {
@@ -138,7 +138,7 @@ impl<D: PageDevice + Send> SharedShards<D> {
         requires those { AreOf self.now other.passes }
         ensures attached { AreOf self.now attached.new.passes }
         ensures joined { OnOk result ((other.pins ≡ 0)
-            × AreJoined attached.old.passes other.passes attached.new.passes) }
+            × PassesAreJoined attached.old.passes other.passes attached.new.passes) }
         ensures pins { attached.new.pins ≡ attached.old.pins }
         ensures refused { IfErr result (λ not. (other.pins ≢ 0) × (not.attached ≡ other)
             × (attached.new ≡ attached.old)) }
