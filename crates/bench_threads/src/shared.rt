@@ -13,7 +13,7 @@
 //!
 //! With no argument a few hits of each kind are made, and the sums are printed.
 ghost use Rattle.std.specs.Prelude.{◌≡◌, IfOk};
-ghost use Rattle.warm_shared.specs.Attached.{AreOf};
+ghost use Rattle.warm_concurrent.specs.Attached.{AreOf};
 
 use crate::numbered::{Numbered, Pages, numbered_node, numbered_shards};
 use crate::parts::{added, next};
@@ -24,8 +24,8 @@ use std::io::Print;
 use std::sync::Wait;
 use std::thread::{Threads, join};
 use std::time::{Clock, Duration, Instant};
+use warm_concurrent::{Attached, SharedFault, SharedShards, Sharing};
 use warm_gossip::NodeFault;
-use warm_shared::{Attached, SharedFault, SharedShards, Sharing};
 use warm_stamps::PageId;
 
 const PAGE_SIZE: usize = 4_096;

@@ -1,17 +1,17 @@
 //! What an engine asks of shared shards, in turns of the shards: the hottest pages, what is new
 //! since a time, pages written back in portions, pages of zeros, and pages that are forgotten.
-ghost use Rattle.warm_shared.specs.Attached.{AreOf};
+ghost use Rattle.warm_concurrent.specs.Attached.{AreOf};
 
 use crate::kit::{batch, bytes_of, closed, dirty, shared_of};
 use crate::looking::seen_in;
 use crate::shared::is_written;
 use std::sync::Wait;
 use test_kit::{SeenAt, bucket, page};
+use warm_concurrent::{Attached, SharedFault, SharedShards, Stopped};
 use warm_devices::MemDevice;
 use warm_frames::Message;
 use warm_gossip::NodeFault;
 use warm_pool::PoolFault;
-use warm_shared::{Attached, SharedFault, SharedShards, Stopped};
 use warm_stamps::PageList;
 
 type Shared = SharedShards<MemDevice>;

@@ -1,16 +1,16 @@
 //! Replicas whose shards threads share, of different numbers of shards, exchange their histories by
 //! messages alone.
-ghost use Rattle.warm_shared.specs.Attached.{AreOf};
+ghost use Rattle.warm_concurrent.specs.Attached.{AreOf};
 
 use crate::kit::{batch, bytes_of, node, shared_of};
 use std::alloc::Global;
 use std::process::Abort;
 use std::sync::Wait;
 use test_kit::{SeenAt, page, replica};
+use warm_concurrent::{Attached, SharedShards};
 use warm_devices::MemDevice;
 use warm_frames::{Message, MessageList};
 use warm_gossip::Node;
-use warm_shared::{Attached, SharedShards};
 use warm_stamps::BucketSet;
 
 // Pages of many buckets and of three devices, some referenced twice.

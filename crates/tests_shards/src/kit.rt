@@ -1,15 +1,15 @@
 //! Nodes, shards and shared shards over devices in memory.
-ghost use Rattle.warm_shared.specs.Attached.{AreOf};
+ghost use Rattle.warm_concurrent.specs.Attached.{AreOf};
 
 use std::alloc::Global;
 use std::process::Abort;
 use test_kit::{SeenAt, alone, memory, references, replica};
+use warm_concurrent::{Attached, SharedShards, Sharing};
 use warm_devices::{MemDevice, PageDevice};
 use warm_frames::{Message, encode};
 use warm_gossip::Node;
 use warm_pool::Pool;
 use warm_shards::Shards;
-use warm_shared::{Attached, SharedShards, Sharing};
 use warm_stamps::Reference;
 
 /// A node of a replica with this many frames over a device.

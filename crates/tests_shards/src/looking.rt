@@ -1,16 +1,16 @@
 //! Looks and changes: pages of shared shards are read and written where they lie, each in one turn.
 ghost use Rattle.std.specs.Prelude.{◌≡◌};
-ghost use Rattle.warm_shared.specs.Attached.{AreOf};
+ghost use Rattle.warm_concurrent.specs.Attached.{AreOf};
 
 use crate::kit::{closed, dirty, more, shared_of};
 use std::process::Abort;
 use std::sync::Wait;
 use std::thread::{Threads, join};
 use test_kit::page;
+use warm_concurrent::{Attached, SharedFault, SharedShards};
 use warm_devices::MemDevice;
 use warm_gossip::NodeFault;
 use warm_pool::PoolFault;
-use warm_shared::{Attached, SharedFault, SharedShards};
 
 type Shared = SharedShards<MemDevice>;
 

@@ -1,17 +1,17 @@
 //! Shards that threads share: calls from one thread, what they leave, and each refusal.
-ghost use Rattle.warm_shared.specs.Attached.{AreOf};
+ghost use Rattle.warm_concurrent.specs.Attached.{AreOf};
 
 use crate::kit::{batch, bytes_of, closed, dirty, more, node, shared_of};
 use std::alloc::Global;
 use std::process::Abort;
 use std::sync::Wait;
 use test_kit::{SeenAt, page, seen};
+use warm_concurrent::{Attached, SharedFault, SharedShards};
 use warm_devices::MemDevice;
 use warm_frames::Message;
 use warm_gossip::{Node, NodeFault};
 use warm_pool::PoolFault;
 use warm_shards::ShardSlot;
-use warm_shared::{Attached, SharedFault, SharedShards};
 use warm_stamps::{Bucket, ByteList};
 
 // A node that has joined the histories of all nodes of closed shards.

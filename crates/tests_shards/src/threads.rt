@@ -1,7 +1,7 @@
 //! Up to eight threads over shared shards at once: the bytes and the history that they leave,
 //! devices that fail under two of the shards, and pins that threads still hold at the end.
 ghost use Rattle.std.specs.Prelude.{◌≡◌};
-ghost use Rattle.warm_shared.specs.Attached.{AreOf};
+ghost use Rattle.warm_concurrent.specs.Attached.{AreOf};
 
 use crate::kit::{closed, dirty, more, node_over, shared_from};
 use std::alloc::Global;
@@ -9,11 +9,11 @@ use std::process::Abort;
 use std::sync::Wait;
 use std::thread::{Threads, join};
 use test_kit::{flaky, page, replica, seen, twice};
+use warm_concurrent::{Attached, NotClosed, SharedFault, SharedShards};
 use warm_devices::{Flaky, MemDevice, PageDevice};
 use warm_gossip::Node;
 use warm_history::History;
 use warm_shards::{ShardSlot, Shards};
-use warm_shared::{Attached, NotClosed, SharedFault, SharedShards};
 use warm_stamps::{ByteList, PageId};
 
 type Device = Flaky<MemDevice>;

@@ -23,21 +23,21 @@ Ends goes status = (ending : Ending) × goes ending × (status ≡ status_of end
 -- One shard of many
 
 -- there can be this many shards, and this is the number of one of them
-pub record IsPart (shards shard : ℕ) : Type 0 where
+pub record IsShardNumber (shards shard : ℕ) : Type 0 where
   pub count : IsShardCount shards
   pub below : shard < shards
 
 -- why it is not
-abbrev pub IsNoPart : ℕ → ℕ → Refusal → Type 0
-IsNoPart shards shard why = ((why ≡ BadShards) × (IsShardCount shards → ⊥))
+abbrev pub IsNoShardNumber : ℕ → ℕ → Refusal → Type 0
+IsNoShardNumber shards shard why = ((why ≡ BadShards) × (IsShardCount shards → ⊥))
     ⊎ ((why ≡ NoShard) × IsShardCount shards × (shards ≤ shard))
 
 -- A call for one shard. Where there cannot be this many shards, or this is none of them, it is
 -- refused, and all is the same; else it goes so.
 abbrev pub OfPart : ℕ → ℕ → Ending → Type 0 → Type 0 → Type 0
 OfPart shards shard ending same goes =
-    ((why : Refusal) × (ending ≡ Err why) × IsNoPart shards shard why × same)
-    ⊎ (IsPart shards shard × goes)
+    ((why : Refusal) × (ending ≡ Err why) × IsNoShardNumber shards shard why × same)
+    ⊎ (IsShardNumber shards shard × goes)
 
 -- Batches
 

@@ -1,7 +1,7 @@
 //! Which shards entries are of, and which entries are for one shard.
 ghost use Rattle.std.specs.Prelude.{◌≡◌, ◌^◌, bit_or, IfErr, IfOk, OnOk};
 ghost use Rattle.warm_shards.specs.Shards.{IsShardCount, shard_of};
-ghost use Rattle.warm_c.specs.Parts.{HasBits, IsNoPart, IsPart, entry_pages};
+ghost use Rattle.warm_c.specs.Parts.{HasBits, IsNoShardNumber, IsShardNumber, entry_pages};
 ghost use Rattle.warm_c.specs.Parts.{part_of_entries, shards_of};
 
 use crate::status::Refusal;
@@ -15,8 +15,8 @@ use warm_stamps::PageId;
 /// # Errors
 /// In this order: `BadShards`, `NoShard`.
 pub fn check_part(shards: usize, shard: usize) -> Result<(), Refusal>
-    ensures part { OnOk result (IsPart shards shard) }
-    ensures refused { IfErr result (IsNoPart shards shard) }
+    ensures part { OnOk result (IsShardNumber shards shard) }
+    ensures refused { IfErr result (IsNoShardNumber shards shard) }
 {
     if !is_shard_count(shards) {
         return Err(Refusal::BadShards);

@@ -26,7 +26,7 @@ use Rattle.warm_gossip.specs.Clauses.{DevicesAfter, Goes, OfPool}
 use Rattle.warm_gossip.specs.State.{NodeState, NodeView, node_view}
 use Rattle.warm_gossip.specs.Step.{IsFailed, OnPool, Step}
 use Rattle.warm_shards.specs.Shards.{AreShards, IsShard, IsShardCount, held, no_shard, shard_at, shard_of, whole}
-use Rattle.warm_shards.specs.Through.{AreUnfixed, DeviceFails, FlushFails, ForgetsPages, HasFixed, HasForgotten, IsClean, IsUnchanged, IsWritten, OfEach, OfFirst, RestartRefused, RestartStops, Restarts, Rises, Settles, StopsAt, WriteBackStops, WriteFails}
+use Rattle.warm_shards.specs.Through.{AreUnfixed, DeviceFails, FlushFails, ForgetsPages, HasFixed, HasForgotten, IsClean, IsUnchanged, IsWritten, OfEach, OfFirst, RestartRefused, RestartStops, Restarts, Rises, Settles, StopsAtShard, WriteBackStops, WriteFails}
 use Rattle.warm_shards.proofs.Absorbing.{some_shards}
 use Rattle.warm_shards.proofs.Buckets.{shard_horizon}
 use Rattle.warm_shards.proofs.Calls.{HasOnly, pool_shard, read_at, same_shard}
@@ -65,7 +65,7 @@ gone_all change old ns k over have = record { count = have.count; each = λ i lt
 
 pub gone_stops : (change fails : Change) (old ns : List NodeState) (k : ℕ) (n m d : NodeState)
     → k < length ns → n ≡ get_or ns k d → fails n m → OfFirst change k old ns
-    → StopsAt change fails IsUnchanged old (set ns k m)
+    → StopsAtShard change fails IsUnchanged old (set ns k m)
 gone_stops change fails old ns k n m d lt at new have =
     let here : n ≡ shard_at old k = was_left change old ns k n d lt at have in
     record {
@@ -89,8 +89,8 @@ then_each f g h both old mid new x y = record {
 
 pub then_stops : (f g fails h h' : Change)
     → ((a b c : NodeState) → f a b → g b c → h a c) → ((a b c : NodeState) → f a b → fails b c → h' a c)
-    → (old mid new : List NodeState) → OfEach f old mid → StopsAt g fails IsUnchanged mid new
-    → StopsAt h h' f old new
+    → (old mid new : List NodeState) → OfEach f old mid → StopsAtShard g fails IsUnchanged mid new
+    → StopsAtShard h h' f old new
 then_stops f g fails h h' both stops old mid new x y = record {
   count = y.count ∙ x.count;
   shard = y.shard;
@@ -122,7 +122,7 @@ Either f g h = λ n m. f n m ⊎ (g n m ⊎ h n m)
 above : (i k : ℕ) → k ≤ i → i ≢ k → k < i
 above i k le other = omega (arith, le, other)
 
-stops_each : (done fails left : Change) (old new : List NodeState) → StopsAt done fails left old new
+stops_each : (done fails left : Change) (old new : List NodeState) → StopsAtShard done fails left old new
     → OfEach (Either done fails left) old new
 stops_each done fails left old new have = record {
   count = have.count;
@@ -143,7 +143,7 @@ pub stops_shards : (done fails left : Change) (old new : List NodeState)
     → StaysShard (shard_at old 0).history.horizon (shard_at old 0).history.horizon done
     → StaysShard (shard_at old 0).history.horizon (shard_at old 0).history.horizon fails
     → StaysShard (shard_at old 0).history.horizon (shard_at old 0).history.horizon left
-    → AreShards old → StopsAt done fails left old new → AreShards new
+    → AreShards old → StopsAtShard done fails left old new → AreShards new
 stops_shards done fails left old new one two three are have =
     each_shards (shard_at old 0).history.horizon (Either done fails left) old new (λ count number i n m was by. elim by [
       | inl x ↦ one count number i n m was x
@@ -291,8 +291,8 @@ rises_after horizon a b c x y =
 
 -- those before the one that fails are raised
 pub stops_risen : (horizon : ℕ) (fails : Change) (old mid new : List NodeState) (k : ℕ)
-    → (stops : StopsAt Restarts fails IsUnchanged old mid) → stops.shard ≡ k
-    → OfFirst (Rises horizon) k mid new → StopsAt (HasForgotten horizon) fails IsUnchanged old new
+    → (stops : StopsAtShard Restarts fails IsUnchanged old mid) → stops.shard ≡ k
+    → OfFirst (Rises horizon) k mid new → StopsAtShard (HasForgotten horizon) fails IsUnchanged old new
 stops_risen horizon fails old mid new k stops is risen = record {
   count = risen.count ∙ stops.count;
   shard = stops.shard;
@@ -305,7 +305,7 @@ stops_risen horizon fails old mid new k stops is risen = record {
 pub fails_risen : (horizon : ℕ) (fails : Change) (old ns new : List NodeState) (k : ℕ)
     (n m d : NodeState) → k < length ns → n ≡ get_or ns k d → fails n m
     → OfFirst Restarts k old ns → OfFirst (Rises horizon) k (set ns k m) new
-    → StopsAt (HasForgotten horizon) fails IsUnchanged old new
+    → StopsAtShard (HasForgotten horizon) fails IsUnchanged old new
 unfolding gone_stops
 fails_risen horizon fails old ns new k n m d lt at by have risen =
     stops_risen horizon fails old (set ns k m) new k (gone_stops Restarts fails old ns k n m d lt at by have) refl risen
@@ -380,12 +380,12 @@ settled_horizon old mid are settles =
 pub restart_stops : (old mid new : List NodeState) (horizon : ℕ) (result : Result Unit NodeFault)
     → horizon ≡ (whole old).horizon → OfEach Settles old mid
     → IfErr result (λ why. (why ≡ Pool Fault)
-    × StopsAt (HasForgotten horizon) DeviceFails IsUnchanged mid new)
+    × StopsAtShard (HasForgotten horizon) DeviceFails IsUnchanged mid new)
     → IfErr result (λ why. (why ≡ Pool Fault) × RestartStops old new)
 restart_stops old mid new horizon (Ok given) is settles stops = tt
 restart_stops old mid new horizon (Err why) is settles (fault, stops) = (
   fault,
-  inr (subst (λ (h : ℕ). StopsAt (HasForgotten h) FlushFails Settles old new) is
+  inr (subst (λ (h : ℕ). StopsAtShard (HasForgotten h) FlushFails Settles old new) is
       (then_stops Settles (HasForgotten horizon) DeviceFails (HasForgotten horizon) FlushFails (forgotten_after horizon) settled_fails old mid new settles stops)),
 )
 

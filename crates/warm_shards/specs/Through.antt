@@ -37,8 +37,8 @@ pub record OfFirst (change : NodeState → NodeState → Type 0) (k : ℕ) (old 
 
 -- the call stopped at one shard: those before it have changed in the first way, it has in the
 -- second, and those after it have in the third
-pub record StopsAt (done fails left : NodeState → NodeState → Type 0) (old new : List NodeState)
-    : Type 0 where
+pub record StopsAtShard (done fails left : NodeState → NodeState → Type 0)
+    (old new : List NodeState) : Type 0 where
   pub count : length new ≡ length old
   pub shard : ℕ
   pub there : shard < length old
@@ -101,8 +101,8 @@ FlushFails old new = OnPool IsFailed (node_view old) (node_view new) × IsClean 
 -- are unchanged. Or all shards have written theirs, and a device of one was not flushed: those
 -- before it are settled.
 abbrev pub WriteBackStops : List NodeState → List NodeState → Type 0
-WriteBackStops old new = StopsAt IsWritten WriteFails IsUnchanged old new
-    ⊎ StopsAt Settles FlushFails IsWritten old new
+WriteBackStops old new = StopsAtShard IsWritten WriteFails IsUnchanged old new
+    ⊎ StopsAtShard Settles FlushFails IsWritten old new
 
 -- Restarting
 
@@ -138,7 +138,7 @@ pub record HasForgotten (horizon : ℕ) (old new : NodeState) : Type 0 where
 -- all.
 abbrev pub RestartStops : List NodeState → List NodeState → Type 0
 RestartStops old new = WriteBackStops old new
-    ⊎ StopsAt (HasForgotten (whole old).horizon) FlushFails Settles old new
+    ⊎ StopsAtShard (HasForgotten (whole old).horizon) FlushFails Settles old new
 
 -- why shards do not restart: a page is pinned, and nothing has changed; or none is, and a device
 -- failed

@@ -10,7 +10,7 @@ ghost use Rattle.warm_shards.specs.Through.{AreUnfixed, DeviceFails, ForgetIsRef
 ghost use Rattle.warm_shards.specs.Through.{ForgetsPages, HasFixed, HasForgotten, IsUnchanged};
 ghost use Rattle.warm_shards.specs.Through.{IsWritten, MayForgetEach, OfEach, OfFirst};
 ghost use Rattle.warm_shards.specs.Through.{RestartRefused, RestartStops, Restarts, Rises};
-ghost use Rattle.warm_shards.specs.Through.{Settles, StopsAt, WriteBackStops, WriteFails};
+ghost use Rattle.warm_shards.specs.Through.{Settles, StopsAtShard, WriteBackStops, WriteFails};
 
 use crate::shards::Shards;
 use warm_devices::PageDevice;
@@ -60,7 +60,7 @@ fn write_one<D: PageDevice>(node: &mut Node<D>) -> Result<(), NodeFault>
 fn write_each<D: PageDevice>(nodes: &mut Vec<Node<D>>) -> Result<(), NodeFault>
     ensures written { OnOk result (OfEach IsWritten nodes.old.items nodes.new.items) }
     ensures refused { IfErr result (λ why. (why ≡ Pool Fault)
-        × StopsAt IsWritten WriteFails IsUnchanged nodes.old.items nodes.new.items) }
+        × StopsAtShard IsWritten WriteFails IsUnchanged nodes.old.items nodes.new.items) }
 {
     let count = nodes.len();
     for shard in 0..count {
@@ -73,7 +73,7 @@ fn write_each<D: PageDevice>(nodes: &mut Vec<Node<D>>) -> Result<(), NodeFault>
 fn flush_each<D: PageDevice>(nodes: &mut Vec<Node<D>>) -> Result<(), NodeFault>
     ensures settled { OnOk result (OfEach Settles nodes.old.items nodes.new.items) }
     ensures refused { IfErr result (λ why. (why ≡ Pool Fault)
-        × StopsAt Settles DeviceFails IsUnchanged nodes.old.items nodes.new.items) }
+        × StopsAtShard Settles DeviceFails IsUnchanged nodes.old.items nodes.new.items) }
 {
     let count = nodes.len();
     for shard in 0..count {
@@ -135,7 +135,8 @@ fn restart_each<D: PageDevice>(nodes: &mut Vec<Node<D>>, horizon: u64) -> Result
     requires { AreUnfixed nodes.old.items }
     ensures restarted { OnOk result (OfEach Restarts nodes.old.items nodes.new.items) }
     ensures refused { IfErr result (λ why. (why ≡ Pool Fault)
-        × StopsAt (HasForgotten horizon) DeviceFails IsUnchanged nodes.old.items nodes.new.items) }
+        × StopsAtShard (HasForgotten horizon) DeviceFails IsUnchanged nodes.old.items
+        nodes.new.items) }
 {
     let count = nodes.len();
     for shard in 0..count {

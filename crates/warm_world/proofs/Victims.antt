@@ -18,7 +18,7 @@ use Rattle.warm_world.specs.declared.event.WorldFault.TheVariants.{Node}
 use Rattle.warm_world.specs.Lists.{index_of_number}
 use Rattle.warm_world.specs.States.{ModelState, ReplicaState, node_of, no_replica, pool_of, reach_of, replica}
 use Rattle.warm_world.specs.Next.{Next, SomeNodeReplies, reply_of}
-use Rattle.warm_world.specs.Stands.{IsRightVictim, IsEvictedFrom, MayLoad, VictimsAreFarthest}
+use Rattle.warm_world.specs.Stands.{IsRightVictim, IsEvictedFrom, MayLoad, VictimsAreRight}
 use Rattle.warm_world.proofs.Worlds.{replica_there}
 
 -- the node of the replica was asked this call and replied; or nothing has changed
@@ -68,7 +68,7 @@ named_of : (old : ModelState) (i : ℕ) (page : PageId) (new : ModelState)
 named_of old i page new next = victim_is_farthest (history (reach_of old i)) (reach_of old i) refl (unfixed_pages (pool_of old i)) page next.1.1.0
 
 pub victims_are_farthest : (old : ModelState) (event : Event) (answer : Answer) (new : ModelState)
-    → Next old event answer new → VictimsAreFarthest old event answer new
+    → Next old event answer new → VictimsAreRight old event answer new
 victims_are_farthest old event answer new next = record {
   named = λ i page e a. named_of old i page new (subst (λ x. Next old (Victim i) x new) a (subst (λ v. Next old v answer new) e next));
   left = left_of old event answer new next;

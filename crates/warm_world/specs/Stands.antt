@@ -130,7 +130,7 @@ IsRightVictim i m page = IsFarthest (reach_of m i) (unfixed_pages (pool_of m i))
 
 -- The page that Victim names, and each page that is evicted for one that is pinned or warmed up, is
 -- an unpinned resident page of greatest backward 2-distance.
-pub record VictimsAreFarthest (old : ModelState) (event : Event) (answer : Answer)
+pub record VictimsAreRight (old : ModelState) (event : Event) (answer : Answer)
     (new : ModelState) : Type 0 where
   pub named : (i : ℕ) (page : PageId) → event ≡ Victim i → answer ≡ Page (Some page)
       → IsRightVictim i old page
@@ -142,7 +142,7 @@ abbrev pub EachVictim : (old : ModelState) (events : List Event) (answers : List
     (new : ModelState) → Run old events answers new → Type 0
 EachVictim old [] [] new run = Unit {0}
 EachVictim old (event ∷ events) (answer ∷ answers) new run =
-    VictimsAreFarthest old event answer run.0 × EachVictim run.0 events answers new run.2
+    VictimsAreRight old event answer run.0 × EachVictim run.0 events answers new run.2
 EachVictim old [] (answer ∷ answers) new run = ⊥
 EachVictim old (event ∷ events) [] new run = ⊥
 

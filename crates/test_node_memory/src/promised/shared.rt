@@ -1,6 +1,6 @@
 //! The allocation-free calls of shards that threads share.
 ghost use Rattle.std.specs.Prelude.{IfOk};
-ghost use Rattle.warm_shared.specs.Attached.{AreOf};
+ghost use Rattle.warm_concurrent.specs.Attached.{AreOf};
 
 use crate::promised::calls::empty;
 use std::alloc::Global;
@@ -8,9 +8,9 @@ use std::io::Print;
 use std::sync::Wait;
 use test_kit::cases::{Ended, Met, takes_none};
 use test_kit::{page, replica};
+use warm_concurrent::{Attached, SharedShards, Sharing};
 use warm_devices::MemDevice;
 use warm_shards::Shards;
-use warm_shared::{Attached, SharedShards, Sharing};
 
 type Shared = SharedShards<MemDevice>;
 

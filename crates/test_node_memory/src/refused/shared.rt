@@ -1,7 +1,7 @@
 //! Two shards of a replica that are shared by turns. A refused batch or message may have been taken
 //! in by the first.
 ghost use Rattle.std.specs.Prelude.{◌≡◌, IfOk};
-ghost use Rattle.warm_shared.specs.Attached.{AreOf};
+ghost use Rattle.warm_concurrent.specs.Attached.{AreOf};
 
 use crate::refused::nodes::{digest, request};
 use crate::refused::shards::{TwoShards, made};
@@ -9,10 +9,10 @@ use std::alloc::Global;
 use std::sync::Wait;
 use test_kit::cases::{Ended, Met};
 use test_kit::{bucket, entry, once, page, references_to};
+use warm_concurrent::{Attached, NotReceived, SharedFault, SharedShards, Sharing};
 use warm_devices::MemDevice;
 use warm_frames::Message;
 use warm_gossip::NodeFault;
-use warm_shared::{Attached, NotReceived, SharedFault, SharedShards, Sharing};
 use warm_stamps::Bucket;
 
 type Shared = SharedShards<MemDevice>;

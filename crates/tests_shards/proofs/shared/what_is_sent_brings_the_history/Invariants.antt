@@ -1,4 +1,4 @@
-use Rattle.warm_shared.specs.Attached.{AreOf}
+use Rattle.warm_concurrent.specs.Attached.{AreOf}
 use Rattle.tests_shards.proofs.shared.what_is_sent_brings_the_history.Given as goal
 
 -- the passes of both replicas are of their turns

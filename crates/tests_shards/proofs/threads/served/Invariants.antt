@@ -1,4 +1,4 @@
-use Rattle.warm_shared.specs.Attached.{AreOf}
+use Rattle.warm_concurrent.specs.Attached.{AreOf}
 use Rattle.tests_shards.proofs.threads.served.Given as goal
 
 -- the passes are of the turns

@@ -1,0 +1,182 @@
+-- What a shard holds: its own pages alone, after any call.
+use Rattle.std.proofs.Common.{◌≡◌, ℕ, zero, suc, ◌<◌, List, [], ◌∷◌, length, map, Option, Some, None, Ok, refl, sym, ap, subst, arith}
+use Rattle.std.specs.List.{AllByRecursion}
+use Rattle.warm_stamps.specs.declared.PageId.{PageId}
+use Rattle.warm_history.specs.Histories.{HistoryView, entries_of}
+use Rattle.warm_pool.specs.declared.fault.PoolFault.TheVariants.{Fixed, NoDevice}
+use Rattle.warm_pool.specs.Forgetting.{ForgetRefused}
+use Rattle.warm_pool.specs.Frames.{FrameState}
+use Rattle.warm_pool.specs.State.{PoolState}
+use Rattle.warm_pool.specs.View.{frame_view, view_of}
+use Rattle.warm_machine.specs.declared.operation.Operation.{Operation}
+use Rattle.warm_machine.specs.Runs.{Runs}
+use Rattle.warm_gossip.specs.declared.call.Call.{Call}
+use Rattle.warm_gossip.specs.declared.call.Reply.{Reply}
+use Rattle.warm_gossip.specs.declared.call.Call.TheVariants as node_call
+use Rattle.warm_gossip.specs.declared.call.Reply.TheVariants as node_reply
+use Rattle.warm_gossip.specs.declared.fault.NodeFault.{NodeFault}
+use Rattle.warm_gossip.specs.declared.fault.NodeFault.TheVariants.{Memory, Pool, StaleSlot}
+use Rattle.warm_gossip.specs.Clauses.{NodeWriteBackFails, OfPool, SameView}
+use Rattle.warm_gossip.specs.State.{NodeState, node_view}
+use Rattle.warm_shards.specs.Clauses.{KeepsKnown}
+use Rattle.warm_shards.specs.Laws.{BringsOwn}
+use Rattle.warm_shards.specs.Shards.{AreShards, HasPagesOf, HoldsPagesOf, HoldsShard, shard_at, shard_of}
+use Rattle.warm_shards.proofs.EngineCalls.{forgotten_own, same_own, zeroed_own}
+use Rattle.warm_shards.proofs.Staying.{failures_stay, steps_stay}
+use Rattle.warm_concurrent.specs.declared.call.ShardCall.{ShardCall}
+use Rattle.warm_concurrent.specs.declared.call.ShardCall.TheVariants.{Absorb, Change, Look, Pin, PinZeroed}
+use Rattle.warm_concurrent.specs.declared.call.ShardReply.{ShardReply}
+use Rattle.warm_concurrent.specs.declared.call.ShardReply.TheVariants.{Changed, Dirty, Done, Foreign, Looked, Pinned, Portion, Refused}
+use Rattle.warm_concurrent.specs.Attached.{Known, ShardTurn}
+use Rattle.warm_concurrent.specs.Laws.{ShardsHoldTheirPages}
+use Rattle.warm_concurrent.specs.Opening.{ClosesShard, shards_from, shards_over, state_at}
+use Rattle.warm_concurrent.specs.ShardSteps.{Asked, doing, looking, changing, CallGoes, CallStep, IsOwn, NodeGoes, NodeStep, ShardState, ShardStep, Work, calling, writing_pages, writing_some, writing_back, zeroing, forgetting, sending_since, asked_of, node_reply_of}
+use Rattle.warm_concurrent.proofs.Steps.{runs_keep}
+
+-- ---- a node after one step
+
+-- nothing was forgotten
+same_pool : (s t : PoolState) (dev from : ℕ) (why : NodeFault)
+    → OfPool (λ fault. ForgetRefused s dev from fault t) why → t ≡ s
+same_pool s t dev from (Pool NoDevice) refused = refused.1
+same_pool s t dev from (Pool Fixed) refused = refused.2
+same_pool s t dev from (Pool _) refused = absurd refused
+same_pool s t dev from Memory refused = absurd refused
+same_pool s t dev from StaleSlot refused = absurd refused
+
+module _ (count i : ℕ) where
+  abbrev IsHere : PageId → Type 0
+  IsHere p = shard_of count p ≡ i
+
+  -- a call
+  call_own : (n m : NodeState) (c : Call) (r : Reply) → BringsOwn count i c → HoldsShard count i n
+      → CallStep n c r m → HoldsShard count i m
+  call_own n m c r brings own step = steps_stay count i (node_view n) (node_view m) c r brings own step.0
+
+  goes_call : (n m : NodeState) (c : Call) (k : Option Reply) → BringsOwn count i c
+      → HoldsShard count i n → CallGoes n c k m → HoldsShard count i m
+  goes_call n m c None brings own step = absurd step
+  goes_call n m c (Some r) brings own step = call_own n m c r brings own step
+
+  -- a caller sees what it saw; or a device failed
+  same_stays : (n m : NodeState) → HoldsShard count i n → SameView n m → HoldsShard count i m
+  same_stays n m own same = subst (HoldsPagesOf count i) (sym same) own
+
+  fails_stays : (n m : NodeState) (why : NodeFault) → HoldsShard count i n
+      → NodeWriteBackFails n why m → HoldsShard count i m
+  fails_stays n m why own fails = failures_stay count i (node_view n) (node_view m) fails.1 own
+
+  -- the pool alone has changed, and has pages of this shard alone
+  pool_own : (n m : NodeState) → HoldsShard count i n → KeepsKnown n m
+      → HasPagesOf count i (view_of m.pool) → HoldsShard count i m
+  pool_own n m own known pages = record {
+    known = subst (λ (h : HistoryView). AllByRecursion (λ e. shard_of count e.page ≡ i) (entries_of h)) (sym known.history) own.known;
+    resident = pages;
+  }
+
+  abbrev BringsWork : Work → Type 0
+  BringsWork (calling c) = BringsOwn count i c
+  BringsWork (zeroing p) = IsHere p
+  BringsWork w = Unit {0}
+
+  step_own : (n m : NodeState) (w : Work) (r : ShardReply) → BringsWork w → HoldsShard count i n
+      → NodeStep n w r m → HoldsShard count i m
+  step_own n m (calling c) r brings own step = goes_call n m c (node_reply_of r) brings own step
+  step_own n m writing_pages Done brings own step = same_stays n m own step.0
+  step_own n m writing_pages (Refused why) brings own step = fails_stays n m why own step.0
+  step_own n m writing_pages r brings own step = absurd step
+  step_own n m (writing_some limit) (Dirty left) brings own step = same_stays n m own step.0
+  step_own n m (writing_some limit) (Refused why) brings own step = fails_stays n m why own step.0
+  step_own n m (writing_some limit) r brings own step = absurd step
+  step_own n m writing_back Done brings own step = same_stays n m own step.0
+  step_own n m writing_back (Refused why) brings own step = fails_stays n m why own step.0
+  step_own n m writing_back r brings own step = absurd step
+  step_own n m (zeroing p) (Pinned slot) brings own step =
+      pool_own n m own step.0 (zeroed_own IsHere n m p slot brings own.resident step.0 step.1).own
+  step_own n m (zeroing p) (Refused why) brings own step =
+      let same = ap (λ (fs : List FrameState). map frame_view fs) step.1 in
+      pool_own n m own step.0 (same_own IsHere (view_of n.pool) (view_of m.pool) same own.resident)
+  step_own n m (zeroing p) r brings own step = absurd step
+  step_own n m (forgetting dev from) Done brings own step =
+      pool_own n m own step.0 (forgotten_own IsHere n m dev from own.resident step.0 step.1).own
+  step_own n m (forgetting dev from) (Refused why) brings own step =
+      let same = same_pool n.pool m.pool dev from why step.1 in
+      pool_own n m own step.0 (subst (λ (s : PoolState). HasPagesOf count i (view_of s)) (sym same) own.resident)
+  step_own n m (forgetting dev from) r brings own step = absurd step
+  step_own n m (sending_since bucket since after) (Portion message more) brings own step = subst (HoldsShard count i) (sym step.2) own
+  step_own n m (sending_since bucket since after) (Refused why) brings own step = subst (HoldsShard count i) (sym step.1) own
+  step_own n m (sending_since bucket since after) r brings own step = absurd step
+
+  -- so does all that a shard asks of its node for a call of own pages
+  abbrev BringsAsked : Asked → Type 0
+  BringsAsked (doing w) = BringsWork w
+  BringsAsked (looking p) = IsHere p
+  BringsAsked (changing p) = IsHere p
+
+  own_asked : (c : ShardCall) → IsOwn count i c → BringsAsked (asked_of c)
+  own_asked (Absorb batch) own = own
+  own_asked (Pin p) own = own
+  own_asked (PinZeroed p) own = own
+  own_asked (Look p) own = own
+  own_asked (Change p) own = own
+  own_asked c own = tt
+
+  goes_own : (n m : NodeState) (a : Asked) (r : ShardReply) → BringsAsked a → HoldsShard count i n
+      → NodeGoes n a r m → HoldsShard count i m
+  goes_own n m (doing w) r brings own step = step_own n m w r brings own step
+  goes_own n m (looking p) (Looked slot bytes) brings own step =
+      let pinned = call_own n step.mid (node_call.Pin p) (node_reply.Pinned slot) brings own step.pins in
+      call_own step.mid m (node_call.Unpin slot) node_reply.Done tt pinned step.unpins
+  goes_own n m (looking p) (Refused why) brings own step = call_own n m (node_call.Pin p) (node_reply.Refused why) brings own step
+  goes_own n m (looking p) r brings own step = absurd step
+  goes_own n m (changing p) (Changed slot before after) brings own step =
+      let pinned = call_own n step.mid (node_call.Pin p) (node_reply.Pinned slot) brings own step.pins in
+      let written = call_own step.mid step.left (node_call.Write slot 0 after.numbers) node_reply.Done tt pinned step.writes in
+      call_own step.left m (node_call.Unpin slot) node_reply.Done tt written step.unpins
+  goes_own n m (changing p) (Refused why) brings own step = call_own n m (node_call.Pin p) (node_reply.Refused why) brings own step
+  goes_own n m (changing p) r brings own step = absurd step
+
+-- ---- a shard after a run
+
+abbrev Holds : ShardState → Type 0
+Holds s = HoldsShard s.count s.number s.node
+
+shard_step_own : (o y : ShardState) (c : ShardCall) (r : ShardReply) → Holds o → ShardStep o c r y
+    → Holds y
+shard_step_own o y c Foreign own step = subst Holds (sym step.1) own
+shard_step_own o y c r own step =
+    subst Holds (sym step.1) (goes_own o.count o.number o.node y.node (asked_of c) r (own_asked o.count o.number c step.0) own step.2)
+
+runs_own : (o z : ShardState) (es : List (Operation ShardCall ShardReply)) → Holds o
+    → Runs ShardStep o es z → Holds z
+runs_own o z [] own runs = subst Holds runs own
+runs_own o z (e ∷ es) own runs =
+    runs_own runs.0 z es (shard_step_own o runs.0 e.call e.reply own runs.1) runs.2
+
+called : (o z : ShardState) (es : List (Operation ShardCall ShardReply)) → Holds o
+    → Runs ShardStep o es z → HoldsShard o.count o.number z.node
+called o z es own runs =
+    let same = runs_keep o z es runs in
+    subst (λ n. HoldsShard o.count n z.node) same.1 (subst (λ c. HoldsShard c z.number z.node) same.0 (runs_own o z es own runs))
+
+-- ---- shards that are opened and closed
+
+node_at : (count j : ℕ) (ns : List NodeState) (i : ℕ) → i < length ns
+    → (state_at (shards_from count j ns) i).node ≡ shard_at ns i
+node_at count j [] i lt = absurd (omega arith)
+node_at count j (n ∷ ns) zero lt = refl
+node_at count j (n ∷ ns) (suc i) lt = node_at count (suc j) ns i (omega arith)
+
+opened : (ns : List NodeState) (i : ℕ) → AreShards ns → i < length ns
+    → HoldsShard (length ns) i (state_at (shards_over ns) i).node
+opened ns i are lt =
+    subst (HoldsShard (length ns) i) (sym (node_at (length ns) 0 ns i lt)) (are.each i lt).own
+
+closed : (turn : ShardTurn) (known : Known) (n : NodeState) → Holds turn.opening
+    → ClosesShard turn known (Ok n)
+    → HoldsShard turn.opening.count turn.opening.number n
+closed turn known n own (s, same, last) =
+    subst (λ m. HoldsShard turn.opening.count turn.opening.number m) same (called turn.opening s last.history own last.reaches)
+
+pub shards_hold_their_pages : ShardsHoldTheirPages
+shards_hold_their_pages = record { opened = opened; called = called; closed = closed }

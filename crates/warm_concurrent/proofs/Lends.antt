@@ -1,0 +1,55 @@
+-- A page that was pinned is held, and what was left in its bytes is written.
+use Rattle.std.proofs.Common.{◌≡◌, ℕ, ◌<◌, ◌+◌, inl, inr, List, length, sym, ap, subst, ◌∙◌, arith}
+use Rattle.std.proofs.lemmas.List.{get_or-set_same, length-set}
+use Rattle.warm_stamps.specs.declared.PageId.{PageId}
+use Rattle.warm_pool.specs.declared.slot.Slot.{Slot}
+use Rattle.warm_pool.specs.Pinning.{AddsFix}
+use Rattle.warm_pool.specs.State.{IsPool}
+use Rattle.warm_pool.specs.View.{FrameView, PoolView, frame_at, view_of, Holds}
+use Rattle.warm_pool.proofs.Pins.{puts_holds}
+use Rattle.warm_gossip.specs.declared.call.Call.TheVariants.{Pin, Unpin, Write}
+use Rattle.warm_gossip.specs.declared.call.Reply.TheVariants.{Done, Pinned}
+use Rattle.warm_gossip.specs.Lending.{relent_node}
+use Rattle.warm_gossip.specs.State.{NodeState, NodeView}
+use Rattle.warm_gossip.specs.Step.{Refuses, Step}
+use Rattle.warm_gossip.specs.declared.fault.NodeFault.{NodeFault}
+use Rattle.warm_gossip.specs.declared.fault.NodeFault.TheVariants.{StaleSlot}
+use Rattle.warm_gossip.proofs.Lents.{lent_bytes}
+use Rattle.warm_concurrent.specs.ShardSteps.{CallStep}
+
+adds_holds : (v w : PoolView) (p : PageId) (slot : Slot) → AddsFix v p slot w → Holds w slot
+adds_holds v w p slot x =
+    let f : FrameView = record (frame_at v slot.index) { fixes = (frame_at v slot.index).fixes + 1 } in
+    let seen : frame_at w slot.index ≡ f = ap (λ u. frame_at u slot.index) x.becomes ∙ get_or-set_same v.frames slot.index f _ x.there in
+    record {
+      there = subst (λ m. slot.index < m) (sym (ap (λ u. length u.frames) x.becomes ∙ length-set v.frames slot.index f)) x.there;
+      current = x.current ∙ sym (ap (λ g. g.generation) seen);
+      fixed = subst (λ g. 0 < g.fixes) (sym seen) (omega arith);
+    }
+
+-- a pinned page is held
+pub pinned_holds : (o m : NodeView) (p : PageId) (slot : Slot) → Step o (Pin p) (Pinned slot) m
+    → Holds m.pool slot
+pinned_holds o m p slot step = elim step.1.1 [
+  | inl adds ↦ adds_holds o.pool m.pool p slot adds
+  | inr puts ↦ puts_holds o.history o.pool p slot m.pool puts
+]
+
+-- the bytes of a whole page that were left are written
+pub left_written : (s : NodeState) (slot : Slot) (w : List ℕ) → IsPool s.pool
+    → Holds (view_of s.pool) slot → length w ≡ s.pool.page_size
+    → CallStep s (Write slot 0 w) Done (relent_node s slot.index w)
+left_written s slot w pool holds size = lent_bytes s slot w pool holds size
+
+-- and the page is still held
+pub written_held : (o m : NodeView) (slot : Slot) (w : List ℕ) → Step o (Write slot 0 w) Done m
+    → Holds m.pool slot
+written_held o m slot w step =
+    let h = step.0 in
+    subst (λ v. Holds v slot) (sym step.1.1.becomes) (record { there = h.there; current = h.current; fixed = h.fixed })
+
+-- a held page is unpinned
+pub held_unpins : (o m : NodeView) (slot : Slot) (why : NodeFault) → Holds o.pool slot
+    → Refuses o (Unpin slot) why m → ⊥
+held_unpins o m slot StaleSlot held refused = refused.0 held
+held_unpins o m slot why held refused = refused

@@ -1,0 +1,19 @@
+use Rattle.std.proofs.Common.{◌≡◌, ◌≤◌, ℕ, ◌<◌, length, vec_capacity}
+use Rattle.warm_concurrent.specs.Attached.{AreOf, IsPassOf, known_of, shard_pass, shard_turn}
+use Rattle.warm_concurrent.specs.Opening.{IsSplit, with_half}
+use Rattle.warm_concurrent.proofs.attaching.split_all.Given as goal
+
+-- the first passes are split, and those that they were split off have half of their shares
+abbrev pub invariant-loop-shard : goal.invariant-loop-shard
+invariant-loop-shard g l = record {
+  count : l.count ≡ length l.fn.turns.items;
+  of : AreOf l.fn.turns.items l.passes.items;
+  halved : (i : ℕ) → i < l.shard
+      → shard_pass l.passes.items i ≡ with_half (shard_pass l.fn.passes.items i);
+  later : (i : ℕ) → l.shard ≤ i → shard_pass l.passes.items i ≡ shard_pass l.fn.passes.items i;
+  number : length l.all.items ≡ l.shard;
+  capacity : l.count ≤ vec_capacity l.all;
+  each : (i : ℕ) → i < l.shard
+      → IsPassOf (shard_turn l.fn.turns.items i) (shard_pass l.all.items i)
+      × IsSplit (known_of l.fn.passes.items i) (known_of l.all.items i);
+}

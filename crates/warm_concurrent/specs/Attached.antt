@@ -1,0 +1,74 @@
+-- What contracts see of shards that threads share, and of what a thread has of them.
+use Rattle.std.specs.Prelude.{◌≡◌, ℕ, ◌<◌, List, [], length, Some, slice_index_or, slice_set}
+use Rattle.atomic_table.specs.Seated.{TableId}
+use Rattle.warm_turn.specs.CallHistories.{PassView, TurnView, nobody, turn_at}
+use Rattle.warm_turn.specs.declared.table.View.{View}
+use Rattle.warm_shards.specs.Shards.{IsShardCount}
+use Rattle.warm_concurrent.specs.declared.call.ShardCall.{ShardCall}
+use Rattle.warm_concurrent.specs.declared.call.ShardReply.{ShardReply}
+use Rattle.warm_concurrent.specs.ShardSteps.{ShardState, no_state}
+
+-- the turn of a shard, the pass of one, and what a pass knows
+abbrev pub ShardTurn : Type 0
+ShardTurn = TurnView ShardState
+
+abbrev pub ShardPass : Type 0
+ShardPass = PassView ShardState ShardCall ShardReply
+
+abbrev pub Known : Type 0
+Known = View ShardState ShardCall ShardReply
+
+-- no table at all
+abbrev pub no_table : TableId
+no_table =
+    record {
+      words = 0;
+      slots = 0;
+      views_name = 0;
+      atom = 0;
+      block = 0;
+      offset = 0;
+      slot_names = [];
+    }
+
+abbrev pub no_turn : ShardTurn
+no_turn = turn_at no_table no_state
+
+abbrev pub no_pass : ShardPass
+no_pass = record { table = no_table; view = nobody }
+
+-- the turn of the shard of this number, and the pass of it
+abbrev pub shard_turn : List ShardTurn → ℕ → ShardTurn
+shard_turn turns i = slice_index_or turns i no_turn
+
+abbrev pub shard_pass : List ShardPass → ℕ → ShardPass
+shard_pass passes i = slice_index_or passes i no_pass
+
+-- what the thread has seen of the shard of this number, and done there
+abbrev pub known_of : List ShardPass → ℕ → Known
+known_of passes i = (shard_pass passes i).view
+
+-- what a thread has: a pass of each shard, that of shard 0 first, and how many pins it holds
+pub record AttachedView : Type 0 where
+  pub passes : List ShardPass
+  pub pins : ℕ
+
+-- the pass is of this turn, and opened with it
+pub record IsPassOf (turn : ShardTurn) (pass : ShardPass) : Type 0 where
+  pub table : pass.table ≡ turn.table
+  pub opens : pass.view.opening ≡ Some turn.opening
+
+-- there is one pass of each turn, in their order
+pub record AreOf (turns : List ShardTurn) (passes : List ShardPass) : Type 0 where
+  pub count : length passes ≡ length turns
+  pub each : (i : ℕ) → i < length turns → IsPassOf (shard_turn turns i) (shard_pass passes i)
+
+-- the turns are those of all shards of a replica, each with its number
+pub record AreTurns (turns : List ShardTurn) : Type 0 where
+  pub count : IsShardCount (length turns)
+  pub counts : (i : ℕ) → i < length turns → (shard_turn turns i).opening.count ≡ length turns
+  pub numbers : (i : ℕ) → i < length turns → (shard_turn turns i).opening.number ≡ i
+
+-- every pass but that of this shard is unchanged
+abbrev pub KeepsOthers : List ShardPass → ℕ → List ShardPass → Type 0
+KeepsOthers old i new = new ≡ slice_set old i (shard_pass new i)

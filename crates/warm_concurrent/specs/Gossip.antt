@@ -1,0 +1,105 @@
+-- Exchanging histories: the messages that all shards take in, and what they answer.
+use Rattle.std.specs.Prelude.{◌≡◌, ◌≢◌, ℕ, ◌^◌, ◌<◌, List, [], ◌∷◌, ◌++◌, length}
+use Rattle.warm_history.specs.declared.hist.Entry.{Entry}
+use Rattle.warm_history.specs.ListHistories.{list_references_of}
+use Rattle.warm_digest.specs.BucketDigests.{MarksDiffering}
+use Rattle.warm_frames.specs.declared.message.Message.{Message}
+use Rattle.warm_frames.specs.declared.message.Message.TheVariants.{Entries, Digest, Want}
+use Rattle.warm_concurrent.specs.declared.answering.Offered.{Offered}
+use Rattle.warm_concurrent.specs.declared.fault.SharedFault.{SharedFault}
+use Rattle.warm_concurrent.specs.declared.gossip.NotReceived.{NotReceived}
+use Rattle.warm_concurrent.specs.declared.gossip.NotReceived.TheVariants.{Raising, Absorbing}
+use Rattle.warm_concurrent.specs.declared.gossip.NotReceived.TheVariants.{Comparing, Answering}
+use Rattle.warm_concurrent.specs.Answering.{AnswerFails, AnswersAll, GathersAll, OfferFails}
+use Rattle.warm_concurrent.specs.Attached.{ShardPass}
+use Rattle.warm_concurrent.specs.Whole.{AbsorbFails, AbsorbsFirst, RaiseFails, RaisesFirst}
+
+-- Entries
+
+-- each shard forgot all stamps before the horizon, and then each that has a part of the references
+-- of these entries absorbed it
+abbrev pub TakesEntries : ℕ → List Entry → List ShardPass → List ShardPass → Type 0
+TakesEntries horizon entries old new = (mid : List ShardPass)
+    × RaisesFirst horizon (length old) old mid
+    × AbsorbsFirst (list_references_of entries) (length old) mid new
+
+-- a shard was not raised; or all were, and one has not absorbed its part
+abbrev pub TakeStops : ℕ → List Entry → NotReceived → List ShardPass → List ShardPass → Type 0
+TakeStops horizon entries (Raising at) old new = RaiseFails horizon at.shard at.fault old new
+TakeStops horizon entries (Absorbing at) old new = (mid : List ShardPass)
+    × RaisesFirst horizon (length old) old mid
+    × AbsorbFails (list_references_of entries) at.shard at.fault mid new
+TakeStops horizon entries why old new = ⊥
+
+-- A request
+
+-- each shard forgot all stamps before the horizon, and then those that have requested buckets
+-- answered
+abbrev pub TakesRequest : ℕ → ℕ → List Message → List ShardPass → List ShardPass → Type 0
+TakesRequest horizon request messages old new = (mid : List ShardPass)
+    × RaisesFirst horizon (length old) old mid × AnswersAll request messages mid new
+
+-- a shard was not raised; or all were, and one has not answered
+abbrev pub RequestStops : ℕ → ℕ → NotReceived → List ShardPass → List ShardPass → Type 0
+RequestStops horizon request (Raising at) old new = RaiseFails horizon at.shard at.fault old new
+RequestStops horizon request (Answering at) old new = (mid : List ShardPass)
+    × RaisesFirst horizon (length old) old mid
+    × AnswerFails request at.shard at.fault mid new
+RequestStops horizon request why old new = ⊥
+
+-- Digests
+
+-- the buckets whose digests differ between a table and an offer
+abbrev pub IsDifferent : List (List ℕ) → Offered → ℕ → Type 0
+IsDifferent digests own request = (request < 2 ^ 64) × MarksDiffering request digests own.digests
+
+-- The answer to digests beside an offer: the entries of the buckets that differ, and then a request
+-- for these; nothing, and no turn was entered, where none differs.
+abbrev pub Compares : List (List ℕ) → Offered → List Message → List ShardPass → List ShardPass
+    → Type 0
+Compares digests own messages old new = (request : ℕ) × IsDifferent digests own request
+    × (request ≡ 0 → (messages ≡ []) × (new ≡ old))
+    × (request ≢ 0 → (entries : List Message) × AnswersAll request entries old new
+    × (messages ≡ entries ++ Want own.sender own.horizon request ∷ []))
+
+-- some buckets differ, and the shard k has not answered a request for these
+abbrev pub CompareFails : List (List ℕ) → Offered → ℕ → SharedFault → List ShardPass
+    → List ShardPass → Type 0
+CompareFails digests own k why old new = (request : ℕ) × IsDifferent digests own request
+    × (request ≢ 0) × AnswerFails request k why old new
+
+-- each shard forgot all stamps before the horizon, then each made an offer, and then those answered
+-- that have buckets which differ
+abbrev pub TakesDigests : ℕ → List (List ℕ) → List Message → List ShardPass → List ShardPass
+    → Type 0
+TakesDigests horizon digests messages old new = (raised : List ShardPass) × (later : List ShardPass)
+    × (own : Offered) × RaisesFirst horizon (length old) old raised × GathersAll own raised later
+    × Compares digests own messages later new
+
+-- a shard was not raised; or all were, and one has not made its offer; or all have, and one has not
+-- answered
+abbrev pub DigestsStop : ℕ → List (List ℕ) → NotReceived → List ShardPass → List ShardPass → Type 0
+DigestsStop horizon digests (Raising at) old new = RaiseFails horizon at.shard at.fault old new
+DigestsStop horizon digests (Comparing at) old new = (mid : List ShardPass)
+    × RaisesFirst horizon (length old) old mid × OfferFails at.shard at.fault mid new
+DigestsStop horizon digests (Answering at) old new = (raised : List ShardPass)
+    × (later : List ShardPass) × (own : Offered) × RaisesFirst horizon (length old) old raised
+    × GathersAll own raised later × CompareFails digests own at.shard at.fault later new
+DigestsStop horizon digests why old new = ⊥
+
+-- Any message
+
+-- all shards took the message in, and answered with these messages
+abbrev pub Receives : Message → List Message → List ShardPass → List ShardPass → Type 0
+Receives (Entries sender horizon entries) messages old new = (messages ≡ [])
+    × TakesEntries horizon entries old new
+Receives (Digest sender horizon digests) messages old new =
+    TakesDigests horizon digests messages old new
+Receives (Want sender horizon request) messages old new =
+    TakesRequest horizon request messages old new
+
+-- where taking it in stopped
+abbrev pub ReceiveStops : Message → NotReceived → List ShardPass → List ShardPass → Type 0
+ReceiveStops (Entries sender horizon entries) why old new = TakeStops horizon entries why old new
+ReceiveStops (Digest sender horizon digests) why old new = DigestsStop horizon digests why old new
+ReceiveStops (Want sender horizon request) why old new = RequestStops horizon request why old new

@@ -1,0 +1,269 @@
+-- A shard as a machine: the calls of a node that it answers, and its steps.
+use Rattle.std.specs.Prelude.{◌≡◌, ◌↔◌, ℕ, ◌%◌, ◌<◌, IsTrue, List, length, Option, Some, None}
+use Rattle.std.specs.Prelude.{Result, Ok, Err}
+use Rattle.std.specs.Int.{bit_at}
+use Rattle.std.specs.List.{All}
+use Rattle.warm_stamps.specs.declared.TheConstants.{BUCKETS}
+use Rattle.warm_stamps.specs.declared.PageId.{PageId}
+use Rattle.warm_frames.specs.declared.message.Message.{Message}
+use Rattle.warm_frames.specs.declared.message.Message.TheVariants.{Want}
+use Rattle.warm_pool.specs.declared.slot.Slot.{Slot}
+use Rattle.warm_pool.specs.Forgetting.{ForgetRefused, Forgets}
+use Rattle.warm_pool.specs.Keeping.{KeepsFrames}
+use Rattle.warm_pool.specs.PageBytes.{IsLent}
+use Rattle.warm_pool.specs.State.{IsSettled}
+use Rattle.warm_pool.specs.View.{view_of}
+use Rattle.warm_pool.specs.WritingBack.{WriteBackFails}
+use Rattle.warm_pool.specs.WritingSome.{CleansFirst, SomeFails, WritesBackSome}
+use Rattle.warm_pool.specs.Zeroing.{LeavesUnread, PinnedZeroed, TakesZeroed, ZeroedRefused}
+use Rattle.warm_gossip.specs.declared.call.Call.{Call}
+use Rattle.warm_gossip.specs.declared.call.Call.TheVariants as node_call
+use Rattle.warm_gossip.specs.declared.call.Reply.{Reply}
+use Rattle.warm_gossip.specs.declared.call.Reply.TheVariants as node_reply
+use Rattle.warm_gossip.specs.declared.fault.NodeFault.{NodeFault}
+use Rattle.warm_gossip.specs.declared.fault.NodeFault.TheVariants.{Memory}
+use Rattle.warm_gossip.specs.Clauses.{DevicesAfter, Goes, NodeWriteBackFails, OfPool, SameView}
+use Rattle.warm_gossip.specs.Since.{HasMoreSince, sent_since}
+use Rattle.warm_gossip.specs.State.{NodeState}
+use Rattle.warm_shards.specs.Clauses.{KeepsKnown}
+use Rattle.warm_shards.specs.Shards.{no_shard, shard_of}
+use Rattle.warm_concurrent.specs.declared.call.ShardCall.{ShardCall}
+use Rattle.warm_concurrent.specs.declared.call.ShardCall.TheVariants.{Absorb, Raise, Pin, Unpin}
+use Rattle.warm_concurrent.specs.declared.call.ShardCall.TheVariants.{Read, Write, Victim, WarmStep}
+use Rattle.warm_concurrent.specs.declared.call.ShardCall.TheVariants.{WarmList, Answer, Offer, Send}
+use Rattle.warm_concurrent.specs.declared.call.ShardCall.TheVariants.{SendSince, WritePages}
+use Rattle.warm_concurrent.specs.declared.call.ShardCall.TheVariants.{WriteSome, WriteBack, Look}
+use Rattle.warm_concurrent.specs.declared.call.ShardCall.TheVariants.{Change, PinZeroed}
+use Rattle.warm_concurrent.specs.declared.call.ShardCall.TheVariants.{ForgetPages}
+use Rattle.warm_concurrent.specs.declared.call.ShardReply.{ShardReply}
+use Rattle.warm_concurrent.specs.declared.call.ShardReply.TheVariants.{Done, Kept, Pinned, Bytes}
+use Rattle.warm_concurrent.specs.declared.call.ShardReply.TheVariants.{Page, Loaded, Sent, Answers}
+use Rattle.warm_concurrent.specs.declared.call.ShardReply.TheVariants.{Foreign, Pages, Portion}
+use Rattle.warm_concurrent.specs.declared.call.ShardReply.TheVariants.{Dirty, Refused, Looked}
+use Rattle.warm_concurrent.specs.declared.call.ShardReply.TheVariants.{Changed}
+
+-- a shard: how many there are, its number, and its node
+pub record ShardState : Type 0 where
+  pub count : ℕ
+  pub number : ℕ
+  pub node : NodeState
+
+-- the shard of this number over a node
+abbrev pub shard_over : ℕ → ℕ → NodeState → ShardState
+shard_over count number node = record { count = count; number = number; node = node }
+
+-- no shard
+abbrev pub no_state : ShardState
+no_state = shard_over 0 0 no_shard
+
+-- Calls and replies
+
+-- a request for these buckets, without a horizon: an answer does not depend on its sender
+abbrev pub request_for : ℕ → Message
+request_for request = Want 1 0 request
+
+-- What a node does in one step: a call; to write back all pages, some, or all with a flush; a pin of
+-- a page that gets zeros; to forget the pages of a device from a number on; or to send what is new in
+-- a bucket since a time, after a page.
+pub data Work : Type 0 where
+  calling : Call → Work
+  writing_pages : Work
+  writing_some : ℕ → Work
+  writing_back : Work
+  zeroing : PageId → Work
+  forgetting : ℕ → ℕ → Work
+  sending_since : ℕ → ℕ → Option PageId → Work
+
+-- what a shard asks of its node: one step; or several calls in one turn, of a page that is looked
+-- at, or changed
+pub data Asked : Type 0 where
+  doing : Work → Asked
+  looking : PageId → Asked
+  changing : PageId → Asked
+
+-- a call of the node is asked for
+abbrev pub of_node : Call → Asked
+of_node call = doing (calling call)
+
+-- what this call asks of the node
+abbrev pub asked_of : ShardCall → Asked
+asked_of (Absorb batch) = of_node (node_call.Absorb batch)
+asked_of (Raise time) = of_node (node_call.Horizon time)
+asked_of (Pin page) = of_node (node_call.Pin page)
+asked_of (PinZeroed page) = doing (zeroing page)
+asked_of (Unpin slot) = of_node (node_call.Unpin slot)
+asked_of (Read slot at len) = of_node (node_call.Read slot at len)
+asked_of (Write slot at bytes) = of_node (node_call.Write slot at bytes)
+asked_of Victim = of_node node_call.Victim
+asked_of WarmStep = of_node node_call.WarmStep
+asked_of (WarmList n) = of_node (node_call.WarmList n)
+asked_of Offer = of_node node_call.Offer
+asked_of (Send bucket after) = of_node (node_call.Send bucket after)
+asked_of (SendSince bucket since after) = doing (sending_since bucket since after)
+asked_of (Answer request) = of_node (node_call.Receive (request_for request))
+asked_of WritePages = doing writing_pages
+asked_of (WriteSome limit) = doing (writing_some limit)
+asked_of WriteBack = doing writing_back
+asked_of (ForgetPages dev from) = doing (forgetting dev from)
+asked_of (Look page) = looking page
+asked_of (Change page) = changing page
+
+-- the reply of a node that this is, if it is one
+abbrev pub node_reply_of : ShardReply → Option Reply
+node_reply_of Done = Some node_reply.Done
+node_reply_of (Kept horizon) = Some (node_reply.Kept horizon)
+node_reply_of (Pinned slot) = Some (node_reply.Pinned slot)
+node_reply_of (Bytes bytes) = Some (node_reply.Bytes bytes)
+node_reply_of (Page page) = Some (node_reply.Page page)
+node_reply_of (Loaded page) = Some (node_reply.Loaded page)
+node_reply_of (Pages pages) = Some (node_reply.Pages pages)
+node_reply_of (Sent message) = Some (node_reply.Sent message)
+node_reply_of (Answers messages) = Some (node_reply.Answers messages)
+node_reply_of (Refused why) = Some (node_reply.Refused why)
+node_reply_of (Dirty left) = None
+node_reply_of (Portion message more) = None
+node_reply_of (Looked slot bytes) = None
+node_reply_of (Changed slot before after) = None
+node_reply_of Foreign = None
+
+-- the number of the shard that has the pages of a bucket, of this many shards
+abbrev pub shard_of_bucket : ℕ → ℕ → ℕ
+shard_of_bucket count bucket = bucket % count
+
+-- all these buckets are of the shard of this number
+abbrev pub AreOwnBuckets : ℕ → ℕ → ℕ → Type 0
+AreOwnBuckets count number buckets = (bucket : ℕ) → bucket < BUCKETS → bit_at buckets bucket ≡ 1
+    → shard_of_bucket count bucket ≡ number
+
+-- every page and every bucket that the call brings is of the shard of this number
+abbrev pub IsOwn : ℕ → ℕ → ShardCall → Type 0
+IsOwn count number (Absorb batch) = All (λ r. shard_of count r.page ≡ number) batch
+IsOwn count number (Pin page) = shard_of count page ≡ number
+IsOwn count number (PinZeroed page) = shard_of count page ≡ number
+IsOwn count number (Answer request) = AreOwnBuckets count number request
+IsOwn count number (Look page) = shard_of count page ≡ number
+IsOwn count number (Change page) = shard_of count page ≡ number
+IsOwn count number call = Unit {0}
+
+-- Steps of a node
+
+-- a call: what a caller of the node sees of it, and what it leaves of devices and dirty flags
+abbrev pub CallStep : NodeState → Call → Reply → NodeState → Type 0
+CallStep old call reply new = Goes old call reply new × DevicesAfter old call reply new
+
+-- the same, if the reply is one of a node
+abbrev pub CallGoes : NodeState → Call → Option Reply → NodeState → Type 0
+CallGoes old call None new = ⊥
+CallGoes old call (Some reply) new = CallStep old call reply new
+
+-- A caller of a node sees no write-back. All dirty pages were written, since no more are dirty than
+-- there are frames; or a write failed, after those of the pages before.
+abbrev pub WritesPages : NodeState → ShardReply → NodeState → Type 0
+WritesPages old Done new = SameView old new
+    × CleansFirst (length old.pool.frames) old.pool new.pool
+WritesPages old (Refused why) new = NodeWriteBackFails old why new
+    × SomeFails (length old.pool.frames) old.pool new.pool
+WritesPages old reply new = ⊥
+
+-- the same of at most this many dirty pages, and how many are still dirty
+abbrev pub WritesSome : NodeState → ℕ → ShardReply → NodeState → Type 0
+WritesSome old limit (Dirty left) new = SameView old new
+    × WritesBackSome limit old.pool left new.pool
+WritesSome old limit (Refused why) new = NodeWriteBackFails old why new
+    × SomeFails limit old.pool new.pool
+WritesSome old limit reply new = ⊥
+
+-- no page is dirty, and no device is unflushed; or a write or a flush failed
+abbrev pub WritesBack : NodeState → ShardReply → NodeState → Type 0
+WritesBack old Done new = SameView old new × IsSettled new.pool
+WritesBack old (Refused why) new = NodeWriteBackFails old why new
+    × WriteBackFails old.pool new.pool
+WritesBack old reply new = ⊥
+
+-- a pin of a page that gets zeros; it is refused as a pin is, but for a read that failed
+abbrev pub Zeroes : NodeState → PageId → ShardReply → NodeState → Type 0
+Zeroes old page (Pinned slot) new = KeepsKnown old new
+    × PinnedZeroed old.history (view_of old.pool) page slot (view_of new.pool)
+    × TakesZeroed old.pool page slot new.pool
+Zeroes old page (Refused why) new = KeepsKnown old new × KeepsFrames old.pool new.pool
+    × OfPool (λ fault. ZeroedRefused old.history (view_of old.pool) page fault
+    (view_of new.pool)) why
+    × OfPool (λ fault. LeavesUnread old.history old.pool fault new.pool) why
+Zeroes old page reply new = ⊥
+
+-- the pages of a device from a number on are forgotten, or it is refused
+abbrev pub ForgetsPages : NodeState → ℕ → ℕ → ShardReply → NodeState → Type 0
+ForgetsPages old dev from Done new = KeepsKnown old new × Forgets old.pool dev from new.pool
+ForgetsPages old dev from (Refused why) new = KeepsKnown old new
+    × OfPool (λ fault. ForgetRefused old.pool dev from fault new.pool) why
+ForgetsPages old dev from reply new = ⊥
+
+-- the message of what is new in a bucket since a time, and whether more follows
+abbrev pub SendsSince : NodeState → ℕ → ℕ → Option PageId → ShardReply → NodeState → Type 0
+SendsSince old bucket since after (Portion message more) new =
+    (message ≡ sent_since old.id old.history bucket since after)
+    × (IsTrue more ↔ HasMoreSince old.history bucket since after) × (new ≡ old)
+SendsSince old bucket since after (Refused why) new = (why ≡ Memory) × (new ≡ old)
+SendsSince old bucket since after reply new = ⊥
+
+-- one step of a node, with the reply of the shard
+abbrev pub NodeStep : NodeState → Work → ShardReply → NodeState → Type 0
+NodeStep old (calling call) reply new = CallGoes old call (node_reply_of reply) new
+NodeStep old writing_pages reply new = WritesPages old reply new
+NodeStep old (writing_some limit) reply new = WritesSome old limit reply new
+NodeStep old writing_back reply new = WritesBack old reply new
+NodeStep old (zeroing page) reply new = Zeroes old page reply new
+NodeStep old (forgetting dev from) reply new = ForgetsPages old dev from reply new
+NodeStep old (sending_since bucket since after) reply new =
+    SendsSince old bucket since after reply new
+
+-- Steps of a shard
+
+-- A look at a page: the page is pinned, its bytes are lent, and it is unpinned.
+pub record Looks (old : NodeState) (page : PageId) (slot : Slot) (bytes : List ℕ) (new : NodeState)
+    : Type 0 where
+  pub mid : NodeState
+  pub pins : CallStep old (node_call.Pin page) (node_reply.Pinned slot) mid
+  pub lends : IsLent (view_of mid.pool) slot bytes
+  pub unpins : CallStep mid (node_call.Unpin slot) node_reply.Done new
+
+-- A change of a page: the page is pinned, its bytes are lent, what is left in them is written as by
+-- a write of all bytes of the page, and the page is unpinned.
+pub record Changes (old : NodeState) (page : PageId) (slot : Slot) (before after : List ℕ)
+    (new : NodeState) : Type 0 where
+  pub mid : NodeState
+  pub left : NodeState
+  pub pins : CallStep old (node_call.Pin page) (node_reply.Pinned slot) mid
+  pub lends : IsLent (view_of mid.pool) slot before
+  pub size : length after ≡ length before
+  pub writes : CallStep mid (node_call.Write slot 0 after) node_reply.Done left
+  pub unpins : CallStep left (node_call.Unpin slot) node_reply.Done new
+
+-- why a page is not pinned
+abbrev pub IsNotPinned : NodeState → PageId → NodeFault → NodeState → Type 0
+IsNotPinned old page why new = CallStep old (node_call.Pin page) (node_reply.Refused why) new
+
+-- The step of a node that was asked so. A look and a change are refused as a pin of the page is.
+abbrev pub NodeGoes : NodeState → Asked → ShardReply → NodeState → Type 0
+NodeGoes old (doing work) reply new = NodeStep old work reply new
+NodeGoes old (looking page) (Looked slot bytes) new = Looks old page slot bytes.numbers new
+NodeGoes old (looking page) (Refused why) new = IsNotPinned old page why new
+NodeGoes old (looking page) reply new = ⊥
+NodeGoes old (changing page) (Changed slot before after) new =
+    Changes old page slot before.numbers after.numbers new
+NodeGoes old (changing page) (Refused why) new = IsNotPinned old page why new
+NodeGoes old (changing page) reply new = ⊥
+
+-- Of a shard only the node changes, and it goes as nodes go. A call that brings a page, or a bucket,
+-- of another shard is refused with `Foreign`, and nothing changes.
+abbrev pub ShardStep : ShardState → ShardCall → ShardReply → ShardState → Type 0
+ShardStep old call Foreign new = (IsOwn old.count old.number call → ⊥) × (new ≡ old)
+ShardStep old call reply new = IsOwn old.count old.number call
+    × (new ≡ record old { node = new.node })
+    × NodeGoes old.node (asked_of call) reply new.node
+
+-- the result of a node that was asked to answer this call: its reply is one of a node, or it
+-- refused
+abbrev pub AnsweredAs : NodeState → ShardCall → Result ShardReply NodeFault → NodeState → Type 0
+AnsweredAs old call (Ok reply) new = NodeGoes old (asked_of call) reply new
+AnsweredAs old call (Err why) new = NodeGoes old (asked_of call) (Refused why) new

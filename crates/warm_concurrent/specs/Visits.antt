@@ -1,0 +1,49 @@
+-- What visitors of a shard return, and by which replies they say what they did.
+use Rattle.std.specs.Prelude.{◌≡◌, ◌≢◌, ℕ, List, Option, Some, None}
+use Rattle.boxcar.specs.declared.tag.Tag.{Tag}
+use Rattle.warm_gossip.specs.declared.fault.NodeFault.{NodeFault}
+use Rattle.warm_gossip.specs.declared.fault.NodeFault.TheVariants.{Memory}
+use Rattle.warm_pool.specs.declared.slot.Slot.{Slot}
+use Rattle.warm_stamps.specs.declared.PageId.{PageId}
+use Rattle.warm_concurrent.specs.declared.call.ShardCall.TheVariants.{Change, Look}
+use Rattle.warm_concurrent.specs.declared.call.ShardReply.{ShardReply}
+use Rattle.warm_concurrent.specs.declared.call.ShardReply.TheVariants.{Bytes, Changed, Foreign}
+use Rattle.warm_concurrent.specs.declared.call.ShardReply.TheVariants.{Looked, Refused}
+use Rattle.warm_concurrent.specs.declared.visitors.Went.{Went}
+use Rattle.warm_concurrent.specs.declared.visitors.Went.TheVariants as went
+use Rattle.warm_concurrent.specs.Attached.{ShardPass}
+use Rattle.warm_concurrent.specs.Clauses.{Answered}
+
+-- this is so of the bytes that the reply shows
+abbrev pub Shows : (List ℕ → Type 0) → ShardReply → Type 0
+Shows so (Looked slot bytes) = so bytes.numbers
+Shows so reply = ⊥
+
+-- this is so of the bytes before and after that the reply shows
+abbrev pub ShowsBoth : (List ℕ → List ℕ → Type 0) → ShardReply → Type 0
+ShowsBoth so (Changed slot before after) = so before.numbers after.numbers
+ShowsBoth so reply = ⊥
+
+-- the reply of a visit that went so
+abbrev pub WentAs : {T : Type 0} → (T → ShardReply → Type 0) → Went T → ShardReply → Type 0
+WentAs so (went.Given given) reply = so given reply
+WentAs so (went.Refused why) reply = reply ≡ Refused why
+WentAs so went.Foreign reply = reply ≡ Foreign
+
+-- How a read into these bytes went, and what they then are: they are the reply; or they are as they
+-- were, and the reply is a refusal, though never for memory.
+abbrev pub ReadsInto : List ℕ → Option NodeFault → List ℕ → ShardReply → Type 0
+ReadsInto old None new reply = reply ≡ Bytes new
+ReadsInto old (Some why) new reply = (reply ≡ Refused why) × (new ≡ old) × (why ≢ Memory)
+
+-- the shard of this number showed bytes of the page of which this is so, in one turn, and no other
+-- was entered
+abbrev pub LooksAt : List ShardPass → ℕ → PageId → (List ℕ → Type 0) → List ShardPass → Type 0
+LooksAt old i page so new = (slot : Slot) × (bytes : Tag) × so bytes.numbers
+    × Answered old i (Look page) (Looked slot bytes) new
+
+-- the same of a change, of the bytes before and after
+abbrev pub ChangesAt : List ShardPass → ℕ → PageId → (List ℕ → List ℕ → Type 0) → List ShardPass
+    → Type 0
+ChangesAt old i page so new = (slot : Slot) × (before : Tag) × (after : Tag)
+    × so before.numbers after.numbers × Answered old i (Change page) (Changed slot before after) new

@@ -1,0 +1,89 @@
+-- Calls of the whole: shard by shard, in the order of their numbers.
+use Rattle.std.specs.Prelude.{◌≡◌, ◌≢◌, ◌⊎◌, ℕ, ◌<◌, ◌≤◌, List, [], length, filter, nat_eq}
+use Rattle.std.specs.Prelude.{slice_index_or}
+use Rattle.std.specs.Global.{Vec}
+use Rattle.warm_stamps.specs.declared.Reference.{Reference}
+use Rattle.warm_gossip.specs.declared.fault.NodeFault.TheVariants.{Memory}
+use Rattle.warm_shards.specs.Shards.{shard_of}
+use Rattle.warm_concurrent.specs.declared.call.ShardCall.TheVariants.{Absorb, Raise}
+use Rattle.warm_concurrent.specs.declared.call.ShardCall.TheVariants.{WritePages, WriteBack}
+use Rattle.warm_concurrent.specs.declared.call.ShardCall.{ShardCall}
+use Rattle.warm_concurrent.specs.declared.call.ShardReply.TheVariants.{Done, Kept}
+use Rattle.warm_concurrent.specs.declared.fault.SharedFault.{SharedFault}
+use Rattle.warm_concurrent.specs.declared.writing.NotWritten.{NotWritten}
+use Rattle.warm_concurrent.specs.declared.writing.NotWritten.TheVariants.{Pages, Devices}
+use Rattle.warm_concurrent.specs.declared.fault.SharedFault.TheVariants.{Node}
+use Rattle.warm_concurrent.specs.Attached.{ShardPass, shard_pass}
+use Rattle.warm_concurrent.specs.Clauses.{CallFails, Got}
+
+-- This is so of each shard below k, before and after. The passes of the others are unchanged.
+pub record First (So : ℕ → ShardPass → ShardPass → Type 0) (k : ℕ) (old new : List ShardPass)
+    : Type 0 where
+  pub count : length new ≡ length old
+  pub first : (i : ℕ) → i < k → So i (shard_pass old i) (shard_pass new i)
+  pub others : (i : ℕ) → k ≤ i → shard_pass new i ≡ shard_pass old i
+
+-- The references of a batch to the pages of one shard, in order.
+abbrev pub part_of : ℕ → ℕ → List Reference → List Reference
+part_of count i batch = filter (λ r. nat_eq (shard_of count r.page) i) batch
+
+-- a shard absorbed its part of the batch in one turn. Where it has none, its turn was not entered
+abbrev pub AbsorbsPart : ℕ → List Reference → ℕ → ShardPass → ShardPass → Type 0
+AbsorbsPart count batch i old new =
+    (part_of count i batch ≡ [] → new ≡ old)
+    × (part_of count i batch ≢ [] → Got old.view (Absorb (part_of count i batch)) Done new.view)
+
+-- the shards below k have absorbed their parts of the batch, and no other turn was entered
+abbrev pub AbsorbsFirst : List Reference → ℕ → List ShardPass → List ShardPass → Type 0
+AbsorbsFirst batch k old new = First (AbsorbsPart (length old) batch) k old new
+
+-- Each shard below k has its part of the batch. The shard k has a part, and refused it or found no
+-- ticket; or no memory was left for the parts, and nothing has changed. The others are unchanged.
+abbrev pub AbsorbFails : List Reference → ℕ → SharedFault → List ShardPass → List ShardPass → Type 0
+AbsorbFails batch k why old new = ((k ≡ 0) × (why ≡ Node Memory) × (new ≡ old))
+    ⊎ ((mid : List ShardPass) × (k < length old) × (part_of (length old) k batch ≢ [])
+    × AbsorbsFirst batch k old mid
+    × CallFails mid k (Absorb (part_of (length old) k batch)) why new)
+
+-- a shard forgot all stamps before this time
+abbrev pub Raises : ℕ → ℕ → ShardPass → ShardPass → Type 0
+Raises time i old new = (horizon : ℕ) × Got old.view (Raise time) (Kept horizon) new.view
+
+abbrev pub RaisesFirst : ℕ → ℕ → List ShardPass → List ShardPass → Type 0
+RaisesFirst time k old new = First (Raises time) k old new
+
+-- the shards below k forgot these, and the shard k found no ticket
+abbrev pub RaiseFails : ℕ → ℕ → SharedFault → List ShardPass → List ShardPass → Type 0
+RaiseFails time k why old new = (mid : List ShardPass) × (k < length old)
+    × RaisesFirst time k old mid × CallFails mid k (Raise time) why new
+
+-- these are the parts of a batch, of each shard its own
+pub record ArePartsOf (shards : ℕ) (batch : List Reference) (parts : List (Vec Reference)) : Type 0 where
+  pub count : length parts ≡ shards
+  pub each : (i : ℕ) (d : Vec Reference) → i < shards
+      → (slice_index_or parts i d).items ≡ part_of shards i batch
+
+-- Writing back
+
+-- a shard made this call, which has no result, in one turn
+abbrev pub Does : ShardCall → ℕ → ShardPass → ShardPass → Type 0
+Does call i old new = Got old.view call Done new.view
+
+abbrev pub DoneFirst : ShardCall → ℕ → List ShardPass → List ShardPass → Type 0
+DoneFirst call k old new = First (Does call) k old new
+
+-- the shards below k made this call, and the shard k refused it or found no ticket
+abbrev pub DoneFails : ShardCall → ℕ → SharedFault → List ShardPass → List ShardPass → Type 0
+DoneFails call k why old new = (mid : List ShardPass) × (k < length old)
+    × DoneFirst call k old mid × CallFails mid k call why new
+
+-- each shard wrote its pages in one turn, and then each wrote back in one more
+abbrev pub WritesBackAll : List ShardPass → List ShardPass → Type 0
+WritesBackAll old new = (mid : List ShardPass) × DoneFirst WritePages (length old) old mid
+    × DoneFirst WriteBack (length old) mid new
+
+-- a page of one shard was not written; or all were, and a device of one was not flushed
+abbrev pub WriteBackStops : NotWritten → List ShardPass → List ShardPass → Type 0
+WriteBackStops (Pages at) old new = DoneFails WritePages at.shard at.fault old new
+WriteBackStops (Devices at) old new = (mid : List ShardPass)
+    × DoneFirst WritePages (length old) old mid × DoneFails WriteBack at.shard at.fault mid new

@@ -1,0 +1,262 @@
+//! The calls that take references in, forget them, and list the hottest pages: shard by shard.
+ghost use Rattle.std.specs.Prelude.{◌≡◌, ◌<◌, [], length, IfErr, IfOk, OnOk};
+ghost use Rattle.warm_shards.specs.Shards.{IsShardCount};
+ghost use Rattle.warm_concurrent.specs.Attached.{AreOf, AreTurns};
+ghost use Rattle.warm_concurrent.specs.Clauses.{CallEnds};
+ghost use Rattle.warm_concurrent.specs.declared.call.ShardCall.TheVariants.{Raise, WarmList};
+ghost use Rattle.warm_concurrent.specs.declared.call.ShardReply.TheVariants.{Kept, Pages};
+ghost use Rattle.warm_concurrent.specs.Whole.{AbsorbFails, AbsorbsFirst, ArePartsOf, RaiseFails};
+ghost use Rattle.warm_concurrent.specs.Whole.{RaisesFirst};
+
+use crate::call::{ShardCall, ShardReply};
+use crate::fault::SharedFault;
+use crate::pool_calls::do_in;
+use crate::shard::Shard;
+use crate::shared::{Attached, SharedShards, call_shard};
+use std::alloc::{AllocError, Global};
+use std::sync::Wait;
+use warm_devices::PageDevice;
+use warm_gossip::NodeFault;
+use warm_shards::shard_of;
+use warm_stamps::{PageList, RefList, Reference};
+use warm_turn::{Pass, Turn};
+
+/// Where a call of the whole stopped, and why: the shards before this one have made their part of
+/// it. This one has not, nor have those after it.
+#[derive(Clone, Copy, PartialEq, Eq, Debug)]
+pub struct Stopped {
+    /// Why it stopped.
+    pub fault: SharedFault,
+    /// The number of the first shard that has not made its part.
+    pub shard: usize,
+}
+
+// The parts of a batch: of each shard its references, in order.
+fn parts_of(
+    alloc: Global,
+    batch: &[Reference],
+    count: usize,
+) -> Result<Vec<Vec<Reference>>, AllocError>
+    requires { IsShardCount count }
+    ensures { IfOk result (λ parts. ArePartsOf count batch.now parts.items) }
+{
+    let mut parts = no_parts(alloc, count)?;
+    for reference in batch {
+        let shard = shard_of(count, reference.page);
+        parts[shard].push(*reference)?;
+    }
+    Ok(parts)
+}
+
+// This many empty parts.
+fn no_parts(alloc: Global, count: usize) -> Result<Vec<Vec<Reference>>, AllocError>
+    ensures { IfOk result (λ parts. ArePartsOf count [] parts.items) }
+{
+    let mut parts = Vec::with_capacity(alloc, count)?;
+    for _shard in 0..count {
+        parts.push_reserved(Vec::new(alloc));
+    }
+    Ok(parts)
+}
+
+// Each shard that has a part absorbs it, in one turn.
+fn absorb_parts<D: PageDevice + Send, R: Wait>(
+    rt: &R,
+    turns: &Vec<Turn<Shard<D>>>,
+    passes: &mut Vec<Pass<Shard<D>>>,
+    batch: &[Reference],
+    parts: Vec<Vec<Reference>>,
+) -> Result<(), Stopped>
+    requires turns { AreTurns turns.now.items }
+    requires passes { AreOf turns.now.items passes.old.items }
+    requires parts { ArePartsOf (length turns.now.items) batch.now parts.items }
+    ensures passes { AreOf turns.now.items passes.new.items }
+    ensures absorbed { OnOk result (AbsorbsFirst batch.now (length turns.now.items)
+        passes.old.items passes.new.items) }
+    ensures stopped { IfErr result (λ at. AbsorbFails batch.now at.shard at.fault passes.old.items
+        passes.new.items) }
+{
+    let mut shard = 0;
+    for part in parts {
+        if part.is_empty() {
+            shard += 1;
+            continue;
+        }
+        let call = ShardCall::Absorb(RefList::of(part));
+        if let Err(fault) = do_in(rt, turns, passes, shard, call) {
+            return Err(Stopped { fault, shard });
+        }
+        shard += 1;
+    }
+    Ok(())
+}
+
+// Splits a batch, and has each shard that has a part absorb it.
+pub(crate) fn absorb_all<D: PageDevice + Send, R: Wait>(
+    rt: &R,
+    alloc: Global,
+    turns: &Vec<Turn<Shard<D>>>,
+    passes: &mut Vec<Pass<Shard<D>>>,
+    batch: &[Reference],
+) -> Result<(), Stopped>
+    requires turns { AreTurns turns.now.items }
+    requires passes { AreOf turns.now.items passes.old.items }
+    ensures passes { AreOf turns.now.items passes.new.items }
+    ensures absorbed { OnOk result (AbsorbsFirst batch.now (length turns.now.items)
+        passes.old.items passes.new.items) }
+    ensures stopped { IfErr result (λ at. AbsorbFails batch.now at.shard at.fault passes.old.items
+        passes.new.items) }
+{
+    let Ok(parts) = parts_of(alloc, batch, turns.len()) else {
+        return Err(Stopped {
+            fault: SharedFault::Node(NodeFault::Memory),
+            shard: 0,
+        });
+    };
+    absorb_parts(rt, turns, passes, batch, parts)?;
+    Ok(())
+}
+
+// Raises the horizon of one shard.
+fn raise_in<D: PageDevice + Send, R: Wait>(
+    rt: &R,
+    turns: &Vec<Turn<Shard<D>>>,
+    passes: &mut Vec<Pass<Shard<D>>>,
+    shard: usize,
+    time: u64,
+) -> Result<u64, SharedFault>
+    requires turns { AreTurns turns.now.items }
+    requires passes { AreOf turns.now.items passes.old.items }
+    requires there { shard < length turns.now.items }
+    ensures passes { AreOf turns.now.items passes.new.items }
+    ensures ends { CallEnds passes.old.items shard (Raise time) Kept result passes.new.items }
+{
+    match call_shard(rt, turns, passes, shard, ShardCall::Raise(time))? {
+        ShardReply::Kept(horizon) => Ok(horizon),
+        ShardReply::Refused(why) => Err(SharedFault::Node(why)),
+        _ => unreachable!(),
+    }
+}
+
+// Raises the horizon of each shard.
+pub(crate) fn raise_all<D: PageDevice + Send, R: Wait>(
+    rt: &R,
+    turns: &Vec<Turn<Shard<D>>>,
+    passes: &mut Vec<Pass<Shard<D>>>,
+    time: u64,
+) -> Result<(), Stopped>
+    requires turns { AreTurns turns.now.items }
+    requires passes { AreOf turns.now.items passes.old.items }
+    ensures passes { AreOf turns.now.items passes.new.items }
+    ensures raised { OnOk result (RaisesFirst time (length turns.now.items) passes.old.items
+        passes.new.items) }
+    ensures stopped { IfErr result (λ at. RaiseFails time at.shard at.fault passes.old.items
+        passes.new.items) }
+{
+    let count = turns.len();
+    for shard in 0..count {
+        if let Err(fault) = raise_in(rt, turns, passes, shard, time) {
+            return Err(Stopped { fault, shard });
+        }
+    }
+    Ok(())
+}
+
+// Lists the hottest pages of a shard.
+fn warm_list_in<D: PageDevice + Send, R: Wait>(
+    rt: &R,
+    turns: &Vec<Turn<Shard<D>>>,
+    passes: &mut Vec<Pass<Shard<D>>>,
+    shard: usize,
+    n: usize,
+) -> Result<PageList, SharedFault>
+    requires turns { AreTurns turns.now.items }
+    requires passes { AreOf turns.now.items passes.old.items }
+    requires there { shard < length turns.now.items }
+    ensures passes { AreOf turns.now.items passes.new.items }
+    ensures ends { CallEnds passes.old.items shard (WarmList n) Pages result passes.new.items }
+{
+    match call_shard(rt, turns, passes, shard, ShardCall::WarmList(n))? {
+        ShardReply::Pages(pages) => Ok(pages),
+        ShardReply::Refused(why) => Err(SharedFault::Node(why)),
+        _ => unreachable!(),
+    }
+}
+
+impl<D: PageDevice + Send> SharedShards<D> {
+    /// Adds references to the history: each shard that has a part of the batch absorbs it in one
+    /// turn, in the order of the shards. The batch is read once.
+    ///
+    /// # Errors
+    /// `Node(Memory)` at shard 0: no memory was left for the parts; nothing has changed. Else the
+    /// shards before the number given have absorbed their parts, and the others have not:
+    /// `Node(Memory)`, where that shard had no memory for its part, or `TurnsSpent`. So a batch
+    /// whose pages are all of one shard is absorbed, or nothing has changed. To absorb the batch
+    /// once more does no harm.
+    pub fn absorb<R: Wait>(
+        &self,
+        rt: &R,
+        alloc: Global,
+        attached: &mut Attached<D>,
+        batch: &[Reference],
+    ) -> Result<(), Stopped>
+        requires { AreOf self.now attached.old.passes }
+        ensures attached { AreOf self.now attached.new.passes }
+        ensures absorbed { OnOk result (AbsorbsFirst batch.now (length self.now)
+            attached.old.passes attached.new.passes) }
+        ensures stopped { IfErr result (λ at. AbsorbFails batch.now at.shard at.fault
+            attached.old.passes attached.new.passes) }
+        ensures pins { attached.new.pins ≡ attached.old.pins }
+    {
+        absorb_all(rt, alloc, &self.turns, &mut attached.passes, batch)?;
+        Ok(())
+    }
+
+    /// Forgets all stamps before this time in each shard, each in one turn, in the order of the
+    /// shards.
+    ///
+    /// # Errors
+    /// `TurnsSpent`: the shards before the number given have forgotten them, and the others have
+    /// not.
+    pub fn raise<R: Wait>(
+        &self,
+        rt: &R,
+        attached: &mut Attached<D>,
+        time: u64,
+    ) -> Result<(), Stopped>
+        requires { AreOf self.now attached.old.passes }
+        ensures attached { AreOf self.now attached.new.passes }
+        ensures raised { OnOk result (RaisesFirst time (length self.now) attached.old.passes
+            attached.new.passes) }
+        ensures stopped { IfErr result (λ at. RaiseFails time at.shard at.fault
+            attached.old.passes attached.new.passes) }
+        ensures pins { attached.new.pins ≡ attached.old.pins }
+    {
+        raise_all(rt, &self.turns, &mut attached.passes, time)?;
+        Ok(())
+    }
+
+    /// The `n` hottest pages of a shard, hottest first, or all where there are fewer: one turn of
+    /// the shard, in which the call `WarmList` is answered. It says nothing of other shards.
+    ///
+    /// # Errors
+    /// `Node(Memory)`: an allocation failed in the shard. `TurnsSpent`. Nothing has changed in any
+    /// shard.
+    pub fn warm_list<R: Wait>(
+        &self,
+        rt: &R,
+        attached: &mut Attached<D>,
+        shard: usize,
+        n: usize,
+    ) -> Result<PageList, SharedFault>
+        requires passes { AreOf self.now attached.old.passes }
+        requires there { shard < length self.now }
+        ensures attached { AreOf self.now attached.new.passes }
+        ensures ends { CallEnds attached.old.passes shard (WarmList n) Pages result
+            attached.new.passes }
+        ensures pins { attached.new.pins ≡ attached.old.pins }
+    {
+        let pages = warm_list_in(rt, &self.turns, &mut attached.passes, shard, n)?;
+        Ok(pages)
+    }
+}
