@@ -413,7 +413,7 @@ typedef struct warm_counters {
     uint64_t reserved[10]; /* 0 */
 } warm_counters;
 
-/* Writes them; looks at each frame. */
+/* Writes them. */
 int warm_counts(warm *handle, warm_counters *counters);
 
 /* Calls of a device since it has its number, up to 2^64 - 1. */

@@ -33,6 +33,7 @@ pub mod RetireLemmas
 pub mod SettleLemmas
 pub mod Slots
 pub mod SomeLemmas
+pub mod StatusLemmas
 pub mod VacateLemmas
 pub mod WriteBacks
 pub mod Writes

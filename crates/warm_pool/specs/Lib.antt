@@ -12,6 +12,7 @@ pub mod Calls
 pub mod Flushes
 pub mod WritingBack
 pub mod WritingSome
+pub mod Statuses
 pub mod Pinning
 pub mod PageBytes
 pub mod Lending

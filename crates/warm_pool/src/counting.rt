@@ -1,8 +1,7 @@
 //! What a pool says of itself: its counts, its resident pages, its devices.
 ghost use Rattle.std.specs.Prelude.{◌≡◌, length, map};
-ghost use Rattle.warm_rank.specs.Laws.{pages_in};
 ghost use Rattle.warm_pool.specs.View.{view_of};
-ghost use Rattle.warm_pool.specs.Counting.{one_if_held, resident_pages};
+ghost use Rattle.warm_pool.specs.Counting.{resident_pages};
 
 use crate::pool::Pool;
 use crate::tally::{FailedCall, PoolCounts};
@@ -23,11 +22,11 @@ impl<D: PageDevice> Pool<D> {
         self.tally.last_failure()
     }
 
-    /// The number of resident pages. The cost is linear in the number of frames.
+    /// The number of resident pages. The cost is constant.
     pub fn resident_count(&self) -> usize
         ensures { result ≡ length (resident_pages (view_of self.now)) }
     {
-        count_held(self.frames.pages())
+        self.frames.held()
     }
 
     /// The devices, by their numbers.
@@ -36,22 +35,4 @@ impl<D: PageDevice> Pool<D> {
     {
         &self.devices
     }
-}
-
-// The number of frames that have a page.
-fn count_held(pages: &[Option<PageId>]) -> usize
-    ensures { result ≡ length (pages_in pages.now) }
-{
-    let mut count = 0;
-    for at in 0..pages.len() {
-        count += one_if_held(pages[at]);
-    }
-    count
-}
-
-// 1 where there is a page, else 0.
-fn one_if_held(page: Option<PageId>) -> usize
-    ensures { result ≡ one_if_held page }
-{
-    if page.is_some() { 1 } else { 0 }
 }

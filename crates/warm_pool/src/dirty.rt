@@ -2,7 +2,7 @@
 ghost use Rattle.std.specs.Prelude.{◌≡◌, ◌↔◌, ◌<◌, length, IsTrue};
 ghost use Rattle.warm_pool.specs.Frames.{nth_frame};
 ghost use Rattle.warm_pool.specs.WritingSome.{IsDirty, IsDirtyPage, IsNextDirty};
-ghost use Rattle.warm_pool.specs.WritingSome.{dirty_count, one_if};
+ghost use Rattle.warm_pool.specs.WritingSome.{dirty_count};
 
 use crate::pool::Pool;
 use warm_devices::PageDevice;
@@ -18,15 +18,11 @@ pub struct DirtyFrame {
 }
 
 impl<D: PageDevice> Pool<D> {
-    /// The number of dirty pages. The cost is linear in the number of frames.
+    /// The number of dirty pages. The cost is constant.
     pub fn dirty(&self) -> usize
         ensures { result ≡ dirty_count self.now.frames }
     {
-        let mut count = 0;
-        for at in 0..self.frames.len() {
-            count += one_if(self.is_dirty(at));
-        }
-        count
+        self.frames.dirty()
     }
 
     /// Whether the page is resident and dirty.
@@ -74,11 +70,4 @@ impl<D: PageDevice> Pool<D> {
         }
         self.frames.page(at)
     }
-}
-
-// 1 where it holds, else 0.
-fn one_if(holds: bool) -> usize
-    ensures { result ≡ one_if holds }
-{
-    if holds { 1 } else { 0 }
 }

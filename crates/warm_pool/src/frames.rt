@@ -3,8 +3,9 @@ ghost use Rattle.std.specs.Prelude.{◌≡◌, ◌≢◌, None, ◌+◌, ◌-◌
 ghost use Rattle.std.specs.Prelude.{replicate, IfOk};
 ghost use Rattle.std.specs.Borrow.{sem};
 ghost use Rattle.warm_rank.specs.Keys.{key_cmp};
+ghost use Rattle.warm_rank.specs.Laws.{pages_in};
 ghost use Rattle.warm_rank.specs.Slots.{IsLeast};
-ghost use Rattle.warm_pool.specs.Frames.{nth_frame, fresh_body, unused_status, eviction_key};
+ghost use Rattle.warm_pool.specs.Frames.{nth_frame, fresh_body, eviction_key};
 ghost use Rattle.warm_pool.specs.Frames.{cleaned};
 ghost use Rattle.warm_pool.specs.FrameSteps.{fresh_frames, fresh_bodies, pages_held, changed_at};
 ghost use Rattle.warm_pool.specs.FrameSteps.{fixed, unfixed, ranked, loaded_frame, filled_body};
@@ -13,11 +14,13 @@ ghost use Rattle.warm_pool.specs.PageBytes.{patched};
 ghost use Rattle.warm_pool.specs.Lending.{LendsFrame};
 ghost use Rattle.warm_pool.specs.PageTable.{IsPlaceOf, IsFirstFree};
 ghost use Rattle.warm_pool.specs.Retiring.{AreClean, vacated_selected};
+ghost use Rattle.warm_pool.specs.WritingSome.{dirty_count};
 
 use crate::competing::Competing;
 use crate::frame::{Frame, Status, bytes_mut_of};
 use crate::page_table::PageTable;
 use crate::selection::Devices;
+use crate::statuses::Statuses;
 use std::alloc::{AllocError, Global};
 use std::marker::Model;
 use std::mem;
@@ -32,7 +35,7 @@ use warm_stamps::PageId;
 pub(crate) struct Frames {
     page_size: usize,
     page_table: PageTable,
-    statuses: Vec<Status>,
+    statuses: Statuses,
     frames: Vec<Frame>,
     contest: Contest,
 }
@@ -44,10 +47,10 @@ impl Model for Frames {
 
     ghost view = { λ f. record {
       page_size = f.page_size;
-      frames = frames_of f.page_table f.statuses.items f.frames.items;
+      frames = frames_of f.page_table f.statuses f.frames.items;
     } };
 
-    ghost invariant = { λ f. AreTied f.page_table f.statuses.items f.frames.items f.contest };
+    ghost invariant = { λ f. AreTied f.page_table f.statuses f.frames.items f.contest };
 }
 
 impl Frames {
@@ -58,7 +61,7 @@ impl Frames {
         ensures { IfOk result (λ made. made ≡ fresh_frames frames page_size) }
     {
         let page_table = PageTable::new(alloc, frames)?;
-        let statuses = unused(alloc, frames)?;
+        let statuses = Statuses::new(alloc, frames)?;
         let bodies = fresh_frames(alloc, frames, page_size)?;
         let contest = Contest::new(alloc, frames)?;
         Ok(Frames {
@@ -92,11 +95,18 @@ impl Frames {
         self.page_table.page(at)
     }
 
-    /// The page of each frame, if any.
-    pub(crate) fn pages(&self) -> &[Option<PageId>]
-        ensures { result.now ≡ pages_held self.now.frames }
+    /// The number of pages in frames.
+    pub(crate) fn held(&self) -> usize
+        ensures { result ≡ length (pages_in (pages_held self.now.frames)) }
     {
-        self.page_table.pages()
+        self.page_table.held()
+    }
+
+    /// The number of dirty pages.
+    pub(crate) fn dirty(&self) -> usize
+        ensures { result ≡ dirty_count self.now.frames }
+    {
+        self.statuses.dirty()
     }
 
     /// The pin count of the page in a frame.
@@ -104,7 +114,7 @@ impl Frames {
         requires { at < length self.now.frames }
         ensures { result ≡ (nth_frame self.now.frames at).fixes }
     {
-        self.statuses[at].fixes
+        self.statuses.get(at).fixes
     }
 
     /// Whether the page in a frame is dirty: written to since it was last equal to its device's
@@ -113,7 +123,7 @@ impl Frames {
         requires { at < length self.now.frames }
         ensures { result ≡ (nth_frame self.now.frames at).dirty }
     {
-        self.statuses[at].dirty
+        self.statuses.get(at).dirty
     }
 
     /// The generation of a frame: how many pages were loaded into it.
@@ -154,7 +164,7 @@ impl Frames {
     {
         let competing = Competing {
             pages: self.page_table.pages(),
-            statuses: &self.statuses,
+            statuses: self.statuses.all(),
             frames: &self.frames,
         };
         self.contest.settle(&competing)
@@ -166,8 +176,7 @@ impl Frames {
         requires below { (nth_frame self.old.frames at).fixes < 2 ^ 32 - 1 }
         ensures { self.new ≡ changed_at self.old at fixed }
     {
-        let status = &mut self.statuses[at];
-        status.fixes += 1;
+        self.statuses.fix(at);
     }
 
     /// Removes a pin. An unpinned page may be evicted.
@@ -177,9 +186,8 @@ impl Frames {
         requires fixed { 0 < (nth_frame self.old.frames at).fixes }
         ensures { self.new ≡ changed_at self.old at unfixed }
     {
-        let status = &mut self.statuses[at];
-        status.fixes -= 1;
-        if status.fixes > 0 {
+        let left = self.statuses.unfix(at);
+        if left > 0 {
             return;
         }
         // A key that the contest has is at most the page's rank.
@@ -219,10 +227,11 @@ impl Frames {
         let frame = &mut self.frames[at];
         fill(frame, key, bytes);
         let rank = frame.key;
-        self.statuses[at] = Status {
+        let status = Status {
             fixes,
             dirty: false,
         };
+        self.statuses.put(at, status);
         self.page_table.set(at, Some(page));
         // The slot still has its last page's key, mostly the least. It gets the new one at once, so
         // that the next victim is at the root.
@@ -234,8 +243,7 @@ impl Frames {
         requires there { at < length self.old.frames }
         ensures { self.new ≡ changed_at self.old at cleaned }
     {
-        let status = &mut self.statuses[at];
-        status.dirty = false;
+        self.statuses.mark(at, false);
     }
 
     /// Lends the bytes in a frame, whose page becomes dirty.
@@ -244,8 +252,7 @@ impl Frames {
         ensures* writes_back { sem 𝓛 (LendsFrame self.entry at result) }
         ensures bytes { result.now ≡ (nth_frame self.old.frames at).bytes }
     {
-        let status = &mut self.statuses[at];
-        status.dirty = true;
+        self.statuses.mark(at, true);
         bytes_mut_of(&mut self.frames, at)
     }
 
@@ -256,8 +263,7 @@ impl Frames {
         ensures { self.new ≡ changed_at self.old at (written from bytes.now) }
     {
         overwrite(&mut self.frames[at], from, bytes);
-        let status = &mut self.statuses[at];
-        status.dirty = true;
+        self.statuses.mark(at, true);
     }
 
     /// Evicts the pages of the selected frames, each of which is clean. Generations and bytes are
@@ -269,21 +275,6 @@ impl Frames {
         self.page_table.clear_selected(which);
         self.contest.clear_vacant(self.page_table.pages());
     }
-}
-
-// The statuses of frames without a page.
-fn unused(alloc: Global, frames: usize) -> Result<Vec<Status>, AllocError>
-    ensures { IfOk result (λ statuses. statuses.items ≡ replicate frames unused_status) }
-{
-    let mut statuses = Vec::new(alloc);
-    statuses.resize(
-        frames,
-        Status {
-            fixes: 0,
-            dirty: false,
-        },
-    )?;
-    Ok(statuses)
 }
 
 // Frames into which no page was ever loaded.

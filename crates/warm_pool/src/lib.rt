@@ -41,6 +41,7 @@ mod page_table;
 mod pool;
 mod selection;
 mod slot;
+mod statuses;
 mod tally;
 mod write_some;
 mod zeroed;

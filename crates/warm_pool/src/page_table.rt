@@ -6,10 +6,12 @@
 //! when the frames are made.
 ghost use Rattle.std.specs.Prelude.{◌≡◌, ℕ, List, ◌+◌, ◌<◌, ◌≤◌, length, map, replicate, set};
 ghost use Rattle.std.specs.Prelude.{slice_index, IfOk, IsTrue, None, Some, ◌↔◌};
+ghost use Rattle.warm_rank.specs.Laws.{pages_in};
 ghost use Rattle.warm_pool.specs.declared.selection.Devices.TheVariants.{All};
 ghost use Rattle.warm_pool.specs.Chains.{AreChains, AreInTurn, AreLinked, IsPredecessor, after};
 ghost use Rattle.warm_pool.specs.Chains.{chain_of, chains_of, hash_of, heads_with_link, link_after};
 ghost use Rattle.warm_pool.specs.Chains.{chains_without, mix_of, next_with_link, page_in};
+ghost use Rattle.warm_pool.specs.Counting.{one_if_held};
 ghost use Rattle.warm_pool.specs.PageTable.{IsFirstFree, IsPlaceOf};
 ghost use Rattle.warm_pool.specs.Retiring.{clear_if};
 
@@ -25,18 +27,20 @@ pub(crate) struct PageTable {
     pages: Vec<Option<PageId>>,
     heads: Vec<u32>,
     next: Vec<u32>,
+    held: usize,
 }
 
 impl Model for PageTable {
     ghost use Rattle.std.specs.Prelude.{List, Option};
     ghost use Rattle.warm_stamps.specs.declared.PageId.{PageId};
-    ghost use Rattle.warm_pool.specs.Chains.{AreLinked};
+    ghost use Rattle.warm_pool.specs.PageTable.{IsTable};
 
     ghost Value = { List (Option PageId) };
 
     ghost view = { λ page_table. page_table.pages.items };
 
-    ghost invariant = { λ index. AreLinked index.pages.items index.heads.items index.next.items };
+    ghost invariant = { λ table.
+        IsTable table.pages.items table.heads.items table.next.items table.held };
 }
 
 impl PageTable {
@@ -51,7 +55,12 @@ impl PageTable {
         let pages = no_pages(alloc, frames)?;
         let heads = heads_of_none(alloc, frames)?;
         let next = links_to_next(alloc, frames)?;
-        Ok(PageTable { pages, heads, next })
+        Ok(PageTable {
+            pages,
+            heads,
+            next,
+            held: 0,
+        })
     }
 
     /// The page of each frame, if any.
@@ -59,6 +68,13 @@ impl PageTable {
         ensures { result.now ≡ self.now }
     {
         &self.pages
+    }
+
+    /// The number of pages.
+    pub(crate) fn held(&self) -> usize
+        ensures { result ≡ length (pages_in self.now) }
+    {
+        self.held
     }
 
     /// The page in a frame, if there is one.
@@ -91,6 +107,7 @@ impl PageTable {
         ensures { self.new ≡ set self.old frame page }
     {
         move_frame(&self.pages, &mut self.heads, &mut self.next, frame, page);
+        self.held = held_after(self.held, self.pages[frame], page);
         self.pages[frame] = page;
     }
 
@@ -102,9 +119,11 @@ impl PageTable {
     {
         if let Devices::All = which {
             clear_all(&mut self.pages, &mut self.heads, &mut self.next);
+            self.held = 0;
             return;
         }
         clear_pages(&mut self.pages, which);
+        self.held = count_held(&self.pages);
         link_all(&self.pages, &mut self.heads, &mut self.next);
     }
 }
@@ -141,6 +160,33 @@ fn clear_pages(pages: &mut Vec<Option<PageId>>, which: Devices)
             pages[frame] = None;
         }
     }
+}
+
+// The number of frames that have a page.
+fn count_held(pages: &[Option<PageId>]) -> usize
+    ensures { result ≡ length (pages_in pages.now) }
+{
+    let mut count = 0;
+    for at in 0..pages.len() {
+        count += one_if_held(pages[at]);
+    }
+    count
+}
+
+// 1 where there is a page, else 0.
+fn one_if_held(page: Option<PageId>) -> usize
+    ensures { result ≡ one_if_held page }
+{
+    if page.is_some() { 1 } else { 0 }
+}
+
+// The number of pages after one frame's was replaced.
+fn held_after(held: usize, old: Option<PageId>, new: Option<PageId>) -> usize
+    requires some { one_if_held old ≤ held }
+    requires few { held ≤ MAX_FRAMES }
+    ensures { result + one_if_held old ≡ held + one_if_held new }
+{
+    held - one_if_held(old) + one_if_held(new)
 }
 
 fn no_pages(alloc: Global, frames: usize) -> Result<Vec<Option<PageId>>, AllocError>

@@ -1,11 +1,9 @@
-use Rattle.std.proofs.Common.{ap, ◌∙◌}
-use Rattle.warm_pool.proofs.FrameParts.{has_status, status_is, seen}
+use Rattle.std.proofs.Common.{ap, refl, ◌∙◌}
+use Rattle.warm_pool.proofs.FrameParts.{has_status, seen}
 use Rattle.warm_pool.proofs.frames.Frames.fixes.Goals as goal
 
-pub index-requires : goal.index-requires
-index-requires c = has_status c.self.invariant c.self.view_is c.args.at c.requires c.self.inside.statuses.ok.0
+pub get-requires : goal.get-requires
+get-requires c = has_status c.self.invariant c.self.view_is c.args.at c.requires refl
 
 pub returns : goal.returns
-returns c =
-    ap (λ s. s.fixes) (status_is c.self.invariant c.self.view_is c.args.at c.requires c.index.result.now c.index.ensures)
-    ∙ ap (λ f. f.fixes) (seen c.self.invariant c.self.view_is c.args.at c.requires)
+returns c = ap (λ s. s.fixes) c.get.ensures ∙ ap (λ f. f.fixes) (seen c.self.invariant c.self.view_is c.args.at c.requires)

@@ -14,8 +14,8 @@ fill-requires c =
     let generation = ap (λ b. b.generation) is ∙ ap (λ f. f.generation) (seen c.self.invariant c.self.view_is c.args.at c.requires.there) in
     omega (arith, generation, c.requires.below)
 
-pub index_mut-requires : goal.index_mut-requires
-index_mut-requires c = has_status c.self.invariant c.self.view_is c.args.at c.requires.there c.self.inside.statuses.ok.0
+pub put-requires : goal.put-requires
+put-requires c = has_status c.self.invariant c.self.view_is c.args.at c.requires.there refl
 
 pub set-requires : goal.set-requires
 set-requires c = has_page c.self.invariant c.self.view_is c.args.at c.requires.there
@@ -26,14 +26,14 @@ set-requires-2 c = has_slot c.self.invariant c.args.at (has_page c.self.invarian
 pub invariant_of-self : goal.invariant_of-self
 invariant_of-self c =
     let there = has_page c.self.invariant c.self.view_is c.args.at c.requires.there in
-    stay_tied c.self.invariant (record { pages = c.set.ensures; statuses = refl; bodies = refl }) there
+    stay_tied c.self.invariant (record { pages = c.set.ensures; statuses = c.put.ensures; bodies = refl }) there
     (subst (IsUpdated c.self.inside.contest c.args.at _) (sym c.set-2.ensures)
     (updated c.self.inside.contest c.args.at _ _ (has_slot c.self.invariant c.args.at there) (sym (ap (λ b. b.key) c.frame.view_is))))
 
 pub returns-clause-frames : goal.returns-clause-frames
 returns-clause-frames c =
     let is = body_is c.self.invariant c.self.view_is c.args.at c.requires.there _ c.index_mut-frame.result.now refl c.index_mut-frame.ensures.value in
-    becomes c.self.invariant c.self.view_is c.args.at c.requires.there (record { pages = c.set.ensures; statuses = refl; bodies = refl })
+    becomes c.self.invariant c.self.view_is c.args.at c.requires.there (record { pages = c.set.ensures; statuses = c.put.ensures; bodies = refl })
     (loaded_frame c.args.page c.args.key c.args.fixes c.args.bytes.now.items)
     (ap (frame_of (Some c.args.page) (record { fixes = c.args.fixes; dirty = false }))
     (c.fill.ensures.frame ∙ ap (filled_body c.args.key c.args.bytes.now.items) is))

@@ -3,7 +3,7 @@ use Rattle.warm_pool.specs.Frames.{frame_of, rank_in, unused_status}
 use Rattle.warm_pool.specs.FrameSteps.{written}
 use Rattle.warm_pool.specs.PageBytes.{patched}
 use Rattle.warm_pool.proofs.Lagging.{not_updated, lags_kept}
-use Rattle.warm_pool.proofs.FrameParts.{has_page, has_status, has_body, status_is, body_is, seen, page_stays, lags_at, stay_tied, becomes}
+use Rattle.warm_pool.proofs.FrameParts.{has_page, has_status, has_body, body_is, seen, page_stays, lags_at, stay_tied, becomes}
 use Rattle.warm_pool.proofs.frames.Frames.patch.Goals as goal
 
 pub index_mut-requires : goal.index_mut-requires
@@ -15,29 +15,24 @@ overwrite-requires c =
     let bytes = ap (λ b. b.bytes) is ∙ ap (λ f. f.bytes) (seen c.self.invariant c.self.view_is c.args.at c.requires.there) in
     subst (λ bs. c.args.from + length c.args.bytes.now ≤ length bs) (sym bytes) c.requires.within
 
-pub index_mut-status-requires : goal.index_mut-status-requires
-index_mut-status-requires c = has_status c.self.invariant c.self.view_is c.args.at c.requires.there c.self.inside.statuses.ok.0
+pub mark-requires : goal.mark-requires
+mark-requires c = has_status c.self.invariant c.self.view_is c.args.at c.requires.there refl
 
 pub invariant_of-self : goal.invariant_of-self
 invariant_of-self c =
     let page = get_or c.self.inside.page_table c.args.at None in
-    let now = c.index_mut-status.result.now in
-    let status_now = status_is c.self.invariant c.self.view_is c.args.at c.requires.there now c.index_mut-status.ensures.value in
     let body_now = body_is c.self.invariant c.self.view_is c.args.at c.requires.there _ c.index_mut.result.now refl c.index_mut.ensures.value in
     let there = has_page c.self.invariant c.self.view_is c.args.at c.requires.there in
-    stay_tied c.self.invariant (record { pages = page_stays _ c.args.at; statuses = refl; bodies = refl }) there
-    (not_updated _ c.args.at _ (lags_kept _ _ _ (lags_at c.self.invariant c.args.at there) (ap (λ s. s.fixes) status_now)
+    stay_tied c.self.invariant (record { pages = page_stays _ c.args.at; statuses = c.mark.ensures; bodies = refl }) there
+    (not_updated _ c.args.at _ (lags_kept _ _ _ (lags_at c.self.invariant c.args.at there) refl
     (ap (λ b. rank_in page b.key) c.overwrite.ensures ∙ ap (λ b. rank_in page b.key) body_now)))
 
 pub returns : goal.returns
 returns c =
     let page = get_or c.self.inside.page_table c.args.at None in
-    let status = get_or c.self.inside.statuses.items c.args.at unused_status in
-    let now = c.index_mut-status.result.now in
-    let status_now = status_is c.self.invariant c.self.view_is c.args.at c.requires.there now c.index_mut-status.ensures.value in
+    let status = get_or c.self.inside.statuses c.args.at unused_status in
     let body_now = body_is c.self.invariant c.self.view_is c.args.at c.requires.there _ c.index_mut.result.now refl c.index_mut.ensures.value in
-    becomes c.self.invariant c.self.view_is c.args.at c.requires.there (record { pages = page_stays _ c.args.at; statuses = refl; bodies = refl })
+    becomes c.self.invariant c.self.view_is c.args.at c.requires.there (record { pages = page_stays _ c.args.at; statuses = c.mark.ensures; bodies = refl })
     (written c.args.from c.args.bytes.now)
-    (ap (frame_of page (record now { dirty = true })) c.overwrite.ensures
-    ∙ ap (λ s. frame_of page (record s { dirty = true }) (record c.index_mut.result.now { bytes = patched c.index_mut.result.now.bytes c.args.from c.args.bytes.now })) status_now
+    (ap (frame_of page (record status { dirty = true })) c.overwrite.ensures
     ∙ ap (λ b. frame_of page (record status { dirty = true }) (record b { bytes = patched b.bytes c.args.from c.args.bytes.now })) body_now)

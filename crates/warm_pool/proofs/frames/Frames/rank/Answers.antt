@@ -23,7 +23,7 @@ invariant_of-self c =
 pub returns : goal.returns
 returns c =
     let page = get_or c.self.inside.page_table c.args.at None in
-    let status = get_or c.self.inside.statuses.items c.args.at unused_status in
+    let status = get_or c.self.inside.statuses c.args.at unused_status in
     let body = get_or c.self.inside.frames.items c.args.at (fresh_body []) in
     let is = body_is c.self.invariant c.self.view_is c.args.at c.requires.there _ c.index_mut-frame.result.now c.frame.view_is c.index_mut-frame.ensures.value in
     let some : page ≢ None = λ none. c.requires.held (ap (λ f. f.page) (sym (seen c.self.invariant c.self.view_is c.args.at c.requires.there)) ∙ none) in

@@ -6,9 +6,9 @@ use Rattle.warm_pool.proofs.page_table.PageTable.first_free.Goals as goal
 pub returns-then-first-frames : goal.returns-then-first-frames
 returns-then-first-frames c =
     subst (λ pages. IsFirstFree pages (Some c.index.result.now)) c.self.view_is
-    (free_found c.self.inside.pages.items _ _ c.len-frames.result c.index.result.now c.self.invariant (omega arith) c.index.ensures c.if-first-frames.true)
+    (free_found c.self.inside.pages.items _ _ c.len-frames.result c.index.result.now c.self.invariant.linked (omega arith) c.index.ensures c.if-first-frames.true)
 
 pub returns-else-first-frames : goal.returns-else-first-frames
 returns-else-first-frames c =
     subst (λ pages. IsFirstFree pages None) c.self.view_is
-    (free_full c.self.inside.pages.items _ _ c.len-frames.result c.index.result.now c.self.invariant (omega arith) c.index.ensures c.if-first-frames.false)
+    (free_full c.self.inside.pages.items _ _ c.len-frames.result c.index.result.now c.self.invariant.linked (omega arith) c.index.ensures c.if-first-frames.false)

@@ -4,4 +4,4 @@ use Rattle.warm_pool.proofs.CountLemmas.{seen_held}
 use Rattle.warm_pool.proofs.pool.Pool.resident_count.Goals as goal
 
 pub returns : goal.returns
-returns g c = rw (← c.self.view_is) (c.count_held.ensures ∙ ap (λ ps. length (pages_in ps)) (c.pages.ensures ∙ sym (seen_held _)))
+returns g c = rw (← c.self.view_is) (c.held.ensures ∙ ap (λ ps. length (pages_in ps)) (sym (seen_held c.self.inside.frames.frames)))

@@ -4,7 +4,7 @@ use Rattle.warm_rank.specs.Laws.{pages_in}
 use Rattle.warm_pool.specs.Chains.{page_in}
 use Rattle.warm_pool.specs.Counting.{one_if_held}
 use Rattle.warm_pool.proofs.CountLemmas.{held_more, held_most, one_held_most}
-use Rattle.warm_pool.proofs.counting.count_held.Goals as goal
+use Rattle.warm_pool.proofs.page_table.count_held.Goals as goal
 
 pub loop-at-preserved : goal.loop-at-preserved
 loop-at-preserved c =
