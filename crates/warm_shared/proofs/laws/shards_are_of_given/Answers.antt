@@ -1,5 +1,6 @@
-use Rattle.warm_shared.proofs.LawsHold.{shard_is_of_given}
-use Rattle.warm_shared.proofs.laws.shard_is_of_given.Goals as goal
+use Rattle.warm_shared.proofs.Headline.{shared_is_of_given}
+use Rattle.warm_shared.proofs.LawsHold.{shard_is_of_given, together_are_of_given}
+use Rattle.warm_shared.proofs.laws.shards_are_of_given.Goals as goal
 
 pub returns : goal.returns
-returns c = shard_is_of_given
+returns c = record { shard = shard_is_of_given; together = together_are_of_given; closed = shared_is_of_given }
