@@ -1,6 +1,6 @@
 -- What a thread's calls add to its own calls, and what these gave.
 use Rattle.std.specs.Prelude.{slice_index_or}
-use Rattle.std.proofs.Common.{◌≡◌, ◌≢◌, inl, inr, ℕ, zero, suc, ◌+◌, ◌<◌, ◌≤◌, Bool, List, [], ◌∷◌, ◌++◌, filter, length, map, max, get_or, refl, sym, ap, subst, ◌∙◌, arith, append-nil, append_assoc, add-one}
+use Rattle.std.proofs.Common.{◌≡◌, ℕ, zero, suc, ◌<◌, List, [], ◌∷◌, ◌++◌, length, map, max, refl, sym, ap, subst, ◌∙◌, arith, append-nil, append_assoc}
 use Rattle.std.proofs.lemmas.List.{length-append, map_push}
 use Rattle.warm_stamps.specs.declared.Reference.{Reference}
 use Rattle.warm_history.specs.declared.hist.Entry.{Entry as PageEntry}
@@ -8,25 +8,24 @@ use Rattle.warm_history.specs.ListHistories.{list_references_of}
 use Rattle.warm_history.specs.ReferenceSets.{ReferenceSet, set_of_list, ◌∪◌}
 use Rattle.warm_frames.specs.declared.message.Message.{Message}
 use Rattle.warm_frames.specs.declared.message.Message.TheVariants.{Entries, Digest, Want}
-use Rattle.warm_turn.specs.declared.table.Entry.{Entry}
 use Rattle.warm_turn.specs.CallHistories.{entry}
 use Rattle.warm_gossip.specs.Answers.{refs_in}
-use Rattle.warm_shards.specs.Shards.{IsShardCount, of_shard, shard_of}
+use Rattle.warm_shards.specs.Shards.{IsShardCount, of_shard}
 use Rattle.warm_shards.proofs.Absorbing.{some_count}
 use Rattle.warm_shared.specs.declared.call.ShardCall.{ShardCall}
 use Rattle.warm_shared.specs.declared.call.ShardCall.TheVariants.{Absorb, Answer, Offer, Raise}
 use Rattle.warm_shared.specs.declared.call.ShardReply.{ShardReply}
 use Rattle.warm_shared.specs.declared.call.ShardReply.TheVariants.{Answers, Done, Kept}
 use Rattle.warm_shared.specs.declared.answering.Offered.{Offered}
-use Rattle.warm_shared.specs.Answering.{AnswersAll, AnswersFirst, AnswersPart, GathersAll, Offers, OffersFirst, offer_at, offer_reply}
-use Rattle.warm_shared.specs.Attached.{Known, ShardPass, known_of, no_pass, shard_pass}
+use Rattle.warm_shared.specs.Answering.{AnswersAll, AnswersPart, GathersAll, Offers, offer_at, offer_reply}
+use Rattle.warm_shared.specs.Attached.{ShardPass, shard_pass}
 use Rattle.warm_shared.specs.Clauses.{Got}
-use Rattle.warm_shared.specs.Given.{HasGiven, HasMade, Log, SameGiven, gave, gave_call, gave_together, log_at, only_horizon}
+use Rattle.warm_shared.specs.Given.{HasGiven, Log, SameGiven, gave, gave_call, gave_together, log_at, only_horizon}
 use Rattle.warm_shared.specs.Gossip.{Compares, Receives, TakesDigests, TakesEntries, TakesRequest}
 use Rattle.warm_shared.specs.Laws.{all_of}
 use Rattle.warm_shared.specs.Whole.{AbsorbsFirst, AbsorbsPart, First, Raises, RaisesFirst, part_of}
 use Rattle.warm_shared.proofs.Places.{push_each}
-use Rattle.warm_shared.proofs.Sets.{all_of_push, gave_append, none_union, sum, sum_is, union_none}
+use Rattle.warm_shared.proofs.Sets.{all_of_push, gave_append, sum, sum_is, union_none}
 
 -- ---- one pass
 
@@ -110,8 +109,7 @@ made : (T : ℕ → ReferenceSet) (old new : List ShardPass) (k : ℕ)
 made T old new zero each = ([], refl, λ i lt. absurd (omega (arith, lt)), refl)
 made T old new (suc k) each =
     let rest = made T old new k (λ i lt. each i (omega (arith, lt))) in
-    let last = each k (omega arith) in
-    (
+    let last = each k (omega arith) in (
       rest.0 ++ last.0 ∷ [],
       length-append rest.0 (last.0 ∷ []) ∙ omega (arith, rest.1),
       λ i lt. push_each (λ j log. Adds (shard_pass old j) log (shard_pass new j)) rest.0 last.0 [] k rest.1 rest.2 last.1 i (omega (arith, lt)),
@@ -125,8 +123,7 @@ pub given_by_sum : (T : ℕ → ReferenceSet) (S : ReferenceSet) (old new : List
     → ((i : ℕ) → i < length old → Gives (T i) (shard_pass old i) (shard_pass new i))
     → SameGiven (sum T (length old)) S → HasGiven S old new
 given_by_sum T S old new each same =
-    let calls = made T old new (length old) each in
-    (
+    let calls = made T old new (length old) each in (
       calls.0,
       record {
         count = calls.1;

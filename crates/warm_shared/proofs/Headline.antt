@@ -1,31 +1,23 @@
 -- All shards together have what they were given.
-use Rattle.std.proofs.Common.{◌≡◌, ◌≢◌, inl, inr, ℕ, zero, suc, ◌+◌, ◌<◌, ◌≤◌, Bool, true, false, cond, List, [], ◌∷◌, ◌++◌, filter, length, map, max, get_or, Option, Some, None, Result, Ok, refl, sym, ap, subst, ◌∙◌, arith, append-nil, append_assoc}
-use Rattle.std.specs.Prelude.{nat_eq}
+use Rattle.std.proofs.Common.{◌≡◌, ℕ, zero, suc, ◌<◌, List, [], ◌∷◌, ◌++◌, length, map, get_or, Result, Ok, refl, sym, ap, subst, ◌∙◌, arith, append_assoc}
 use Rattle.std.proofs.lemmas.List.{get_or-map, length-append, length-map}
-use mathlib.Core.Option.{some}
-use lib.ListN.{get_elem?}
-use Rattle.warm_stamps.specs.declared.Reference.{Reference}
-use Rattle.warm_history.specs.ReferenceSets.{ReferenceSet, set_of_list, ◌∪◌}
-use Rattle.warm_history.specs.References.{IsIn}
-use Rattle.warm_history.specs.Histories.{HistoryView, IsBelow, StandsFor, history, references_of}
-use Rattle.warm_history.proofs.JoinLemmas.{both_assoc, history_first, history_of_own_references, history_of_union, history_second, history_swap}
+use Rattle.warm_history.specs.ReferenceSets.{ReferenceSet, ◌∪◌}
+use Rattle.warm_history.specs.Histories.{StandsFor, history, references_of}
+use Rattle.warm_history.proofs.JoinLemmas.{both_assoc, history_first, history_of_own_references, history_second}
 use Rattle.warm_turn.specs.declared.fault.Busy.{Busy}
 use Rattle.warm_turn.specs.declared.table.Entry.{Entry}
-use Rattle.warm_turn.specs.declared.table.EndedPass.{EndedPass}
-use Rattle.warm_turn.specs.CallHistories.{Runs, IsLast, calls_by, entry}
-use Rattle.warm_gossip.specs.declared.call.Call.{Call}
-use Rattle.warm_gossip.specs.declared.call.Reply.{Reply}
+use Rattle.warm_turn.specs.CallHistories.{Runs}
 use Rattle.warm_gossip.specs.Given.{given_by_calls}
 use Rattle.warm_gossip.specs.State.{NodeState}
-use Rattle.warm_shards.specs.Shards.{AreShards, held, no_shard, shard_at, whole}
+use Rattle.warm_shards.specs.Shards.{held, no_shard, shard_at, whole}
 use Rattle.warm_shards.proofs.Taking.{last_two}
 use Rattle.warm_shared.specs.declared.call.ShardCall.{ShardCall}
 use Rattle.warm_shared.specs.declared.call.ShardCall.TheVariants.{Absorb, Answer, Change, ForgetPages, Look, Offer, Pin, PinZeroed, Raise, Read, Send, SendSince, Unpin, Victim, WarmList, WarmStep, Write, WriteBack, WritePages, WriteSome}
 use Rattle.warm_shared.specs.declared.call.ShardReply.{ShardReply}
-use Rattle.warm_shared.specs.declared.call.ShardReply.TheVariants.{Answers, Bytes, Changed, Dirty, Done, Foreign, Kept, Loaded, Looked, Page, Pages, Pinned, Portion, Refused, Sent}
+use Rattle.warm_shared.specs.declared.call.ShardReply.TheVariants.{Answers, Done, Foreign, Kept}
 use Rattle.warm_shared.specs.Attached.{Known, ShardPass, ShardTurn, known_of, shard_turn}
-use Rattle.warm_shared.specs.Given.{AreLogs, HasMade, IsLog, Log, SameGiven, SharedIsOfGiven, gave, gave_call, gave_together, log_at}
-use Rattle.warm_shared.specs.Laws.{all_of, asked_steps, calls_in, call_entries, given_to_shard, node_steps}
+use Rattle.warm_shared.specs.Given.{IsLog, Log, SharedIsOfGiven, gave, gave_call, gave_together, log_at}
+use Rattle.warm_shared.specs.Laws.{asked_steps, calls_in, call_entries, given_to_shard, node_steps}
 use Rattle.warm_shared.specs.Opening.{AreClosed, ClosesShard, openings, shards_over, state_at}
 use Rattle.warm_shared.specs.ShardSteps.{ShardState, ShardStep, Work, asked_of}
 use Rattle.warm_shared.proofs.Holding.{node_at}
@@ -160,8 +152,7 @@ gather : {A : Type 0} (P : ℕ → A → Type 0) (d : A) (k : ℕ)
 gather P d zero each = ([], refl, λ i lt. absurd (omega (arith, lt)))
 gather P d (suc k) each =
     let rest = gather P d k (λ i lt. each i (omega (arith, lt))) in
-    let last = each k (omega arith) in
-    (
+    let last = each k (omega arith) in (
       rest.0 ++ last.0 ∷ [],
       length-append rest.0 (last.0 ∷ []) ∙ omega (arith, rest.1),
       λ i lt. push_each P rest.0 last.0 d k rest.1 rest.2 last.1 i (omega (arith, lt)),
@@ -197,14 +188,13 @@ shared_is_of_given S opened turns passes nodes are opens stands closed =
     let all = gather (λ i log. IsLog (shard_turn turns i) (known_of passes i) (shard_at nodes i) log) [] (length turns)
     (λ i lt. closed_log (shard_turn turns i) (known_of passes i) (shard_at nodes i) (closed_node turns passes nodes i closed lt)) in
     let each : EachGave opened all.0 nodes = λ i lt.
-        let log = all.2 i (omega (arith, lt, long)) in
-        let h = (shard_at opened i).history in
-        let own : (shard_turn turns i).opening.node.history ≡ history (references_of h) = ap (λ (n : NodeState). n.history) (opened_node opened turns i opens lt) ∙ sym (history_of_own_references h (are.each i lt).valid) in
-        ap (λ (n : NodeState). n.history) (sym log.node_is)
-        ∙ run_gave (references_of h) (shard_turn turns i).opening log.last (log_at all.0 i) own log.reaches
+    let log = all.2 i (omega (arith, lt, long)) in
+    let h = (shard_at opened i).history in
+    let own : (shard_turn turns i).opening.node.history ≡ history (references_of h) = ap (λ (n : NodeState). n.history) (opened_node opened turns i opens lt) ∙ sym (history_of_own_references h (are.each i lt).valid) in
+    ap (λ (n : NodeState). n.history) (sym log.node_is)
+    ∙ run_gave (references_of h) (shard_turn turns i).opening log.last (log_at all.0 i) own log.reaches
     in
-    let G = gave_together all.0 in
-    (
+    let G = gave_together all.0 in (
       all.0,
       record { count = all.1; each = all.2 },
       together opened all.0 nodes (back ∙ long) (all.1 ∙ long) each

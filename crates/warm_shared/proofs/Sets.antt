@@ -1,19 +1,16 @@
 -- What lists of calls gave, as sets of references: part by part, and together.
-use Rattle.std.proofs.Common.{◌≡◌, ◌≢◌, ◌⊎◌, inl, inr, ℕ, zero, suc, ◌+◌, ◌<◌, ◌≤◌, Bool, true, false, List, [], ◌∷◌, ◌++◌, filter, length, map, max, refl, sym, ap, subst, ◌∙◌, arith, append-nil}
+use Rattle.std.proofs.Common.{◌≡◌, inl, inr, ℕ, zero, suc, ◌<◌, ◌≤◌, true, List, [], ◌∷◌, ◌++◌, max, refl, sym, ap, ◌∙◌, arith, append-nil}
 use Rattle.std.specs.Prelude.{nat_eq}
-use Rattle.std.proofs.lemmas.Bool.{cases_eq, eq-eqb, eqb-true}
+use Rattle.std.proofs.lemmas.Bool.{cases_eq, eq-eqb}
 use Rattle.warm_stamps.specs.declared.Reference.{Reference}
 use Rattle.warm_history.specs.ReferenceSets.{ReferenceSet, is_kept, references, set_of_list, ◌∪◌}
 use Rattle.warm_history.specs.References.{IsIn, SameReferences}
-use Rattle.warm_history.specs.Histories.{HistoryView, history}
+use Rattle.warm_history.specs.Histories.{history}
 use Rattle.warm_history.proofs.JoinLemmas.{both_assoc, history_alike}
 use Rattle.warm_history.proofs.SetLemmas.{hist_of_set}
-use Rattle.warm_turn.specs.declared.table.Entry.{Entry}
 use Rattle.warm_shards.specs.Shards.{of_shard, shard_of}
 use Rattle.warm_shards.proofs.Lists.{from_filter, in_both, in_filter, in_first, in_second}
-use Rattle.warm_shared.specs.declared.call.ShardCall.{ShardCall}
-use Rattle.warm_shared.specs.declared.call.ShardReply.{ShardReply}
-use Rattle.warm_shared.specs.Given.{Log, SameGiven, gave, gave_call, gave_together}
+use Rattle.warm_shared.specs.Given.{Log, SameGiven, gave, gave_call}
 use Rattle.warm_shared.specs.Laws.{all_of}
 
 -- ---- unions
@@ -116,9 +113,6 @@ pub record Includes (S T : ReferenceSet) : Type 0 where
 
 pub includes_self : (S : ReferenceSet) → Includes S S
 includes_self S = record { horizon = omega arith; there = λ r here. here }
-
-pub includes_none : (S : ReferenceSet) → Includes S (set_of_list [])
-includes_none S = record { horizon = omega arith; there = λ r here. absurd here }
 
 pub includes_trans : (S T U : ReferenceSet) → Includes S T → Includes T U → Includes S U
 includes_trans S T U first second = record {

@@ -1,26 +1,24 @@
 -- Two threads that absorb a batch each, and one that closes: both batches are held.
-use Rattle.std.proofs.Common.{◌≡◌, ◌≢◌, inl, inr, ℕ, zero, suc, ◌+◌, ◌<◌, ◌≤◌, Bool, true, false, cond, List, [], ◌∷◌, ◌++◌, length, map, get_or, Option, Some, None, Ok, refl, sym, ap, subst, ◌∙◌, arith}
+use Rattle.std.proofs.Common.{◌≡◌, ℕ, suc, ◌<◌, Bool, true, false, List, [], ◌∷◌, ◌++◌, length, refl, sym, ap, subst, ◌∙◌, arith}
 use Rattle.std.specs.Prelude.{◌==◌}
 use mathlib.Core.Option.{some}
 use lib.ListN.{get_elem?}
-use Rattle.warm_stamps.specs.declared.Reference.{Reference}
 use Rattle.warm_history.specs.ReferenceSets.{ReferenceSet, set_of_list, ◌∪◌}
-use Rattle.warm_history.specs.Histories.{HistoryView, IsBelow, history, references_of}
+use Rattle.warm_history.specs.Histories.{HistoryView, IsBelow, history}
 use Rattle.warm_history.proofs.JoinLemmas.{history_of_union}
-use Rattle.warm_turn.specs.declared.table.Entry.{Entry}
 use Rattle.warm_turn.specs.declared.table.EndedPass.{EndedPass}
-use Rattle.warm_turn.specs.CallHistories.{as_ended, calls_by, first_pass, new_pass}
+use Rattle.warm_turn.specs.CallHistories.{as_ended, calls_by}
 use Rattle.warm_gossip.specs.State.{NodeState}
-use Rattle.warm_shards.specs.Shards.{IsShardCount, shard_at, whole}
+use Rattle.warm_shards.specs.Shards.{IsShardCount}
 use Rattle.warm_shared.specs.declared.call.ShardCall.{ShardCall}
 use Rattle.warm_shared.specs.declared.call.ShardReply.{ShardReply}
-use Rattle.warm_shared.specs.Attached.{Known, ShardPass, ShardTurn, known_of, shard_pass, shard_turn}
-use Rattle.warm_shared.specs.Given.{AreLogs, HasGiven, HasMade, IsLog, Log, TwoThreadsAreHeld, gave, gave_call, gave_together, log_at}
+use Rattle.warm_shared.specs.Attached.{Known, ShardPass, ShardTurn, known_of}
+use Rattle.warm_shared.specs.Given.{AreLogs, HasMade, Log, TwoThreadsAreHeld, gave, gave_call, gave_together, log_at}
 use Rattle.warm_shared.specs.Opening.{AreFirst, AreHalved, AreJoined, AreSplit}
 use Rattle.warm_shared.specs.Whole.{AbsorbsFirst}
 use Rattle.warm_shared.proofs.Headline.{shared_is_of_given, turns_long}
 use Rattle.warm_shared.proofs.Stopping.{threads_give}
-use Rattle.warm_shared.proofs.Sets.{Includes, includes_both, includes_left, includes_none, includes_right, includes_self, includes_trans, includes_unions, none_union, same_history, same_includes, with_included}
+use Rattle.warm_shared.proofs.Sets.{Includes, includes_both, includes_right, includes_self, includes_trans, includes_unions, none_union, same_history, same_includes, with_included}
 
 -- a log gives what the calls of one number in it give
 part_included : (n : ℕ) (log : Log) → Includes (gave log) (gave (calls_by n log))

@@ -1,5 +1,5 @@
 -- Victims of shards that threads share are farthest back over what the shard was given.
-use Rattle.std.proofs.Common.{◌≡◌, ◌≢◌, inl, inr, ℕ, ◌<◌, List, [], ◌∷◌, ◌++◌, length, map, get_or, Option, Some, None, refl, sym, ap, subst, ◌∙◌, arith}
+use Rattle.std.proofs.Common.{◌≡◌, ◌≢◌, inl, inr, ℕ, ◌<◌, List, [], ◌∷◌, ◌++◌, length, map, get_or, Option, Some, None, refl, sym, ap, subst, ◌∙◌}
 use Rattle.std.proofs.lemmas.Option.{same_Some}
 use Rattle.warm_stamps.specs.declared.PageId.{PageId}
 use Rattle.warm_history.specs.ReferenceSets.{ReferenceSet, ◌∪◌}
@@ -12,22 +12,20 @@ use Rattle.warm_pool.specs.Frames.{FrameState}
 use Rattle.warm_pool.specs.View.{FrameView, PoolView, frame_at, frame_view, unfixed_pages, view_of}
 use Rattle.warm_pool.specs.Zeroing.{PinnedZeroed, PutsZeros}
 use Rattle.warm_pool.proofs.Slots.{at_set}
-use Rattle.warm_turn.specs.declared.table.Entry.{Entry}
 use Rattle.warm_turn.specs.CallHistories.{Runs, entry}
 use Rattle.warm_gossip.specs.declared.call.Call.{Call}
 use Rattle.warm_gossip.specs.declared.call.Call.TheVariants as node_call
 use Rattle.warm_gossip.specs.declared.call.Reply.{Reply}
 use Rattle.warm_gossip.specs.declared.call.Reply.TheVariants as node_reply
 use Rattle.warm_gossip.specs.State.{NodeState, NodeView, node_view}
-use Rattle.warm_gossip.specs.Step.{Step}
 use Rattle.warm_gossip.specs.Victims.{IsEvicted}
 use Rattle.warm_gossip.proofs.VictimLemmas.{KeepsPages, fixes_change, no_frame, victims_are_farthest}
 use Rattle.warm_shared.specs.declared.call.ShardCall.{ShardCall}
 use Rattle.warm_shared.specs.declared.call.ShardCall.TheVariants.{Change, Look, Pin, PinZeroed, Victim, WarmStep}
 use Rattle.warm_shared.specs.declared.call.ShardReply.{ShardReply}
 use Rattle.warm_shared.specs.declared.call.ShardReply.TheVariants.{Changed, Foreign, Looked, Page, Pinned, Refused}
-use Rattle.warm_shared.specs.Attached.{Known, ShardPass, known_of}
-use Rattle.warm_shared.specs.Given.{AnswersAfter, FillsFrame, Log, SharedVictims, VictimsOver, gave}
+use Rattle.warm_shared.specs.Attached.{known_of}
+use Rattle.warm_shared.specs.Given.{FillsFrame, Log, SharedVictims, VictimsOver, gave}
 use Rattle.warm_shared.specs.ShardSteps.{CallGoes, CallStep, ShardState, ShardStep, node_reply_of}
 use Rattle.warm_shared.proofs.Headline.{run_gave}
 use Rattle.warm_shared.proofs.Steps.{last_of}
@@ -97,8 +95,8 @@ zeros_leave : (h : HistoryView) (v w : PoolView) (p : PageId) (slot : Slot) → 
 zeros_leave h v w p slot puts q (was, gone) =
     let P : ℕ → FrameView → Type 0 = λ i f. (frame_at v i).page ≡ Some q → f.page ≢ Some q → IsVictim (references_of h) (unfixed_pages v) (Some q) in
     let each : (i : ℕ) → P i (frame_at w i) = λ i.
-        subst (λ x. P i (frame_at x i)) (sym puts.becomes)
-        (at_set no_frame P v.frames slot.index _ (zeros_there h v w p slot puts) (λ held other. zeros_victim h v w p slot puts q held) (λ j other held none. absurd (none held)) i)
+    subst (λ x. P i (frame_at x i)) (sym puts.becomes)
+    (at_set no_frame P v.frames slot.index _ (zeros_there h v w p slot puts) (λ held other. zeros_victim h v w p slot puts q held) (λ j other held none. absurd (none held)) i)
     in
     each was.frame was.holds (gone was.frame)
 
@@ -186,8 +184,7 @@ shared_victims S opening old new i c r stands opens answered =
     let before : Log = v.seen ++ got.between in
     let run : Runs ShardStep opening (before ++ entry v.number c r ∷ []) legal.1 =
     subst (λ (o : ShardState). Runs ShardStep o (before ++ entry v.number c r ∷ []) legal.1) same (subst (λ (es : Log). Runs ShardStep legal.0 es legal.1) got.seen legal.3) in
-    let last = last_of ShardStep opening legal.1 before (entry v.number c r) run in
-    (
+    let last = last_of ShardStep opening legal.1 before (entry v.number c r) run in (
       before,
       last.0,
       legal.1,

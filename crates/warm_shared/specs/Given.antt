@@ -1,5 +1,5 @@
 -- What shards were given, all together, and what a thread's calls gave them.
-use Rattle.std.specs.Prelude.{◌≡◌, ℕ, ◌<◌, List, [], ◌∷◌, ◌++◌, length, map, Option, Some, Ok}
+use Rattle.std.specs.Prelude.{◌≡◌, ℕ, ◌<◌, List, [], ◌∷◌, ◌++◌, length, map, Some, Ok}
 use Rattle.std.specs.Prelude.{slice_index_or}
 use mathlib.Core.Option.{some}
 use mathlib.Core.List.{IsPrefix}
@@ -27,7 +27,7 @@ use Rattle.warm_shared.specs.declared.call.ShardReply.TheVariants.{Done, Kept, P
 use Rattle.warm_shared.specs.declared.fault.SharedFault.{SharedFault}
 use Rattle.warm_shared.specs.Attached.{Known, ShardPass, ShardTurn, known_of, shard_turn}
 use Rattle.warm_shared.specs.Clauses.{Answered}
-use Rattle.warm_shared.specs.Gossip.{Receives, TakesEntries}
+use Rattle.warm_shared.specs.Gossip.{Receives}
 use Rattle.warm_shared.specs.Laws.{all_of}
 use Rattle.warm_shared.specs.Opening.{AreClosed, AreFirst, AreHalved, AreJoined, AreSplit}
 use Rattle.warm_shared.specs.Opening.{openings, shards_over}
