@@ -13,7 +13,8 @@ use Rattle.warm_stamps.proofs.DistinctLemmas.{rising_filter}
 use Rattle.warm_history.specs.declared.hist.Entry.{Entry}
 use Rattle.warm_frames.specs.Entries.{FitsInFrame, IsEntryList}
 use Rattle.warm_shards.specs.Shards.{shard_of}
-use Rattle.warm_c.specs.Parts.{HasBits, part_of_entries}
+use Rattle.warm_shards.specs.Parts.{part_of_entries}
+use Rattle.warm_c.specs.Parts.{HasBits}
 
 -- one number more has its bit
 bit_more : (ns : List ℕ) (n bits : ℕ) → HasBits ns bits → HasBits (ns ++ n ∷ []) (bit_or bits (2 ^ n))

@@ -16,7 +16,8 @@ use Rattle.warm_c.specs.declared.status.Refusal.TheVariants.{Closed, Frame, Node
 use Rattle.warm_c.specs.declared.values.PinnedSlot.{PinnedSlot}
 use Rattle.warm_c.specs.declared.values.WarmPage.{WarmPage}
 use Rattle.warm_c.specs.Calls.{Ending, Pins, Replies, SameDevices}
-use Rattle.warm_c.specs.Parts.{OfPart, part_of_message}
+use Rattle.warm_shards.specs.Parts.{part_of_message}
+use Rattle.warm_c.specs.Parts.{OfPart}
 use Rattle.warm_c.specs.Statuses.{code_of, status_of}
 
 -- The page is pinned as by a pin, and an address is written. That it is that of the page's bytes is

@@ -1,13 +1,9 @@
--- What concerns one shard of many: of a page, of a batch, of a message and of a history.
+-- What concerns one shard of many: of a page and of a batch.
 use Rattle.std.specs.Prelude.{◌≡◌, ◌↔◌, ◌⊎◌, ℕ, ℤ, ◌<◌, ◌≤◌, List, map, filter, nat_eq, Err}
 use Rattle.std.specs.Prelude.{Contains}
 use Rattle.std.specs.Int.{bit_at}
 use Rattle.warm_stamps.specs.declared.PageId.{PageId}
 use Rattle.warm_history.specs.declared.hist.Entry.{Entry}
-use Rattle.warm_history.specs.Histories.{HistoryView, entries_of, history_of_entries_at}
-use Rattle.warm_frames.specs.declared.message.Message.{Message}
-use Rattle.warm_frames.specs.declared.message.Message.TheVariants.{Entries, Digest, Want}
-use Rattle.warm_frames.specs.Limits.{entries_in, horizon_in}
 use Rattle.warm_shards.specs.Shards.{IsShardCount, shard_of}
 use Rattle.warm_c.specs.declared.status.Refusal.{Refusal}
 use Rattle.warm_c.specs.declared.status.Refusal.TheVariants.{BadShards, NoShard}
@@ -57,26 +53,3 @@ HasBits numbers bits = (i : ℕ) → (bit_at bits i ≡ 1) ↔ Contains numbers 
 -- the pages of entries
 abbrev pub entry_pages : List Entry → List PageId
 entry_pages es = map (λ e. e.page) es
-
--- Messages and histories
-
--- the entries of pages of the shard, in order
-abbrev pub part_of_entries : ℕ → ℕ → List Entry → List Entry
-part_of_entries shards shard es = filter (λ e. nat_eq (shard_of shards e.page) shard) es
-
--- the replica that sent the message
-abbrev pub sender_in : Message → ℕ
-sender_in (Entries sender horizon entries) = sender
-sender_in (Digest sender horizon digests) = sender
-sender_in (Want sender horizon request) = sender
-
--- what a message brings to the shard: its horizon, and the entries of pages of the shard
-abbrev pub part_of_message : ℕ → ℕ → Message → Message
-part_of_message shards shard message =
-    Entries (sender_in message) (horizon_in message)
-    (part_of_entries shards shard (entries_in message))
-
--- what a history says of the pages of the shard
-abbrev pub part_of_history : ℕ → ℕ → HistoryView → HistoryView
-part_of_history shards shard h =
-    history_of_entries_at h.horizon (part_of_entries shards shard (entries_of h))

@@ -1,9 +1,11 @@
 //! Laws: of handles, and of the calls for one shard of many. Each function changes nothing: its
-//! contract is a theorem, which `specs/Laws.antt` states in full.
+//! contract is a theorem, which `specs/Laws.antt`, or `specs/PartLaws.antt` of `warm_shards`, states
+//! in full.
 ghost use Rattle.std.specs.Thread.{IsSend};
 ghost use Rattle.warm_c.specs.contracts.handle.Handle.{the_row as handle_row};
-ghost use Rattle.warm_c.specs.Laws.{BatchIsOfParts, DigestsAreGathered, GatheredIsWhole};
-ghost use Rattle.warm_c.specs.Laws.{HistoryIsOfParts, MessageIsOfParts, OneTakesIn};
+ghost use Rattle.warm_shards.specs.PartLaws.{DigestsAreGathered, GatheredIsWhole};
+ghost use Rattle.warm_shards.specs.PartLaws.{HistoryIsOfParts, MessageIsOfParts, OneTakesIn};
+ghost use Rattle.warm_c.specs.Laws.{BatchIsOfParts};
 
 /// A handle may go from one thread to another, with the node that it holds.
 pub fn handles_cross()

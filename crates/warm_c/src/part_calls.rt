@@ -5,7 +5,7 @@ ghost use Rattle.warm_frames.specs.Limits.{entries_in};
 ghost use Rattle.warm_shards.specs.Shards.{IsShardCount};
 ghost use Rattle.warm_c.specs.PartCalls.{Gathers, GivesDigests};
 ghost use Rattle.warm_c.specs.PartCalls.{PinsAndLends, ReceivesPart, gathered};
-ghost use Rattle.warm_c.specs.Parts.{part_of_entries, part_of_message, sender_in};
+ghost use Rattle.warm_shards.specs.Parts.{part_of_entries, part_of_message, sender_in};
 
 use crate::frame_parts::NodeTable;
 use crate::lending::address_of;

@@ -2,7 +2,8 @@
 ghost use Rattle.std.specs.Prelude.{◌≡◌, ◌^◌, bit_or, IfErr, IfOk, OnOk};
 ghost use Rattle.warm_shards.specs.Shards.{IsShardCount, shard_of};
 ghost use Rattle.warm_c.specs.Parts.{HasBits, IsNoShardNumber, IsShardNumber, entry_pages};
-ghost use Rattle.warm_c.specs.Parts.{part_of_entries, shards_of};
+ghost use Rattle.warm_c.specs.Parts.{shards_of};
+ghost use Rattle.warm_shards.specs.Parts.{part_of_entries};
 
 use crate::status::Refusal;
 use std::alloc::{AllocError, Global};

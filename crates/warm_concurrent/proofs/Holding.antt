@@ -161,7 +161,7 @@ called o z es own runs =
 
 -- ---- shards that are opened and closed
 
-node_at : (count j : ℕ) (ns : List NodeState) (i : ℕ) → i < length ns
+pub node_at : (count j : ℕ) (ns : List NodeState) (i : ℕ) → i < length ns
     → (state_at (shards_from count j ns) i).node ≡ shard_at ns i
 node_at count j [] i lt = absurd (omega arith)
 node_at count j (n ∷ ns) zero lt = refl

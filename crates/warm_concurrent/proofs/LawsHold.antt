@@ -77,7 +77,7 @@ calls_are_a_nodes o z (e ∷ es) runs =
 
 -- ---- what a shard was given
 
-given_after : (S : ReferenceSet) (xs ys : List (Operation Call Reply))
+pub given_after : (S : ReferenceSet) (xs ys : List (Operation Call Reply))
     → given_by_calls (given_by_calls S xs) ys ≡ given_by_calls S (xs ++ ys)
 given_after S [] ys = refl
 given_after S (e ∷ xs) ys = given_after (given_by_call S e.call e.reply) xs ys
@@ -178,7 +178,7 @@ called_more old new i call reply lt (got, others) j less =
     subst (λ (ps : List ShardPass). IsPrefix (known_of old j).seen (known_of ps j).seen) (sym others)
     (at_each (λ k q. IsPrefix (known_of old k).seen q.view.seen) old i (shard_pass new i) no_pass lt (got_more (known_of old i) (known_of new i) call reply got) (λ k apart. prefix_self (known_of old k).seen) j)
 
-below : (a b : ℕ) → (a < b) ⊎ (b ≤ a)
+pub below : (a b : ℕ) → (a < b) ⊎ (b ≤ a)
 below zero zero = inr (omega arith)
 below zero (suc b) = inl (omega arith)
 below (suc a) zero = inr (omega arith)

@@ -12,3 +12,9 @@ pub mod Sent
 pub mod Holding
 pub mod Lends
 pub mod Reading
+pub mod Sets
+pub mod Gave
+pub mod Stopping
+pub mod Headline
+pub mod Threads
+pub mod VictimsHold

@@ -51,7 +51,7 @@ next_shard count k ss s ns n same is number =
     ∙ sym (from_more count 0 ns n)
 
 -- turns that opened so
-opening_at : (ts : List ShardTurn) (i : ℕ) → state_at (openings ts) i ≡ (shard_turn ts i).opening
+pub opening_at : (ts : List ShardTurn) (i : ℕ) → state_at (openings ts) i ≡ (shard_turn ts i).opening
 opening_at [] i = refl
 opening_at (t ∷ ts) zero = refl
 opening_at (t ∷ ts) (suc i) = opening_at ts i

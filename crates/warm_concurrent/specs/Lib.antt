@@ -5,6 +5,7 @@ pub mod Faults
 pub mod Opening
 pub mod Whole
 pub mod Laws
+pub mod Given
 pub mod Answering
 pub mod Gossip
 pub mod Visits

@@ -1,5 +1,7 @@
 //! Laws of shared shards. Each function changes nothing: its contract is a theorem, which
 //! `specs/Laws.antt` states in full.
+ghost use Rattle.warm_concurrent.specs.Given.{SharedIsOfGiven, SharedVictims, ThreadsGive};
+ghost use Rattle.warm_concurrent.specs.Given.{TwoThreadsAreHeld};
 ghost use Rattle.warm_concurrent.specs.Laws.{CallsAreANodes, OnlySeesMore, ShardIsOfGiven};
 ghost use Rattle.warm_concurrent.specs.Laws.{ShardsHoldTheirPages, TogetherAreOfGiven};
 ghost use Rattle.std.specs.Thread.{IsSend, IsSync};
@@ -15,10 +17,31 @@ pub fn calls_are_a_nodes()
     ensures { CallsAreANodes }
 {}
 
-/// A shard in a state that a legal list of its calls reaches has the history of the references that
-/// these calls gave it.
-pub fn shard_is_of_given()
-    ensures { ShardIsOfGiven }
+/// The headline. Once the shards are closed, the nodes together hold the two latest stamps of every
+/// page among all references that any call of any thread gave any shard, and those with which the
+/// shards opened, not older than the latest horizon that any call gave. So of each shard: in a state
+/// that a legal list of its calls reaches, it has the history of the references that these gave it.
+pub fn shards_are_of_given()
+    ensures shard { ShardIsOfGiven }
+    ensures together { TogetherAreOfGiven }
+    ensures closed { SharedIsOfGiven }
+{}
+
+/// What a thread's call gives the shards: just the references of the batch that it absorbs, of one
+/// that stops just the parts of the shards before, just the horizon that it raises, just both of the
+/// message that it receives; and any other call nothing. So two threads absorb a batch each, one is
+/// detached into the other, which closes the shards: the nodes together hold what both batches say.
+pub fn threads_give()
+    ensures given { ThreadsGive }
+    ensures two { TwoThreadsAreHeld }
+{}
+
+/// The page that a shard names as its victim, and each that leaves it where a page is pinned, looked
+/// at, changed or warmed up, is an unpinned resident page of greatest backward 2-distance, over all
+/// references that the calls of all threads had given the shard until then, not older than its
+/// horizon.
+pub fn shared_victims_are_farthest()
+    ensures { SharedVictims }
 {}
 
 /// A shard holds the pages of its buckets alone: it knows no other page, and no other is in its
@@ -28,24 +51,15 @@ pub fn shards_hold_their_pages()
     ensures { ShardsHoldTheirPages }
 {}
 
-/// Where each shard has the history of the references that it was given, the histories of all
-/// shards together are that of all the references that all were given.
-pub fn together_are_of_given()
-    ensures { TogetherAreOfGiven }
-{}
-
 /// Whatever a thread calls, it has then seen of each shard all that it had seen, and maybe more. So
 /// a thread that reads several shards sees nothing older than it had seen, shard by shard.
 pub fn only_sees_more()
     ensures { OnlySeesMore }
 {}
 
-/// What a thread has of shards may go to it, where devices may go from one thread to another.
-pub fn attached_cross<D: PageDevice + Send>()
-    ensures { IsSend (attached_row D.row D.PageDevice) }
-{}
-
-/// Shards may be shared by threads, where devices may go from one thread to another.
+/// Where devices may go from one thread to another, threads may share shards, and what a thread has
+/// of them may go to it.
 pub fn shards_are_shared<D: PageDevice + Send>()
-    ensures { IsSync (shared_row D.row D.PageDevice) }
+    ensures attached { IsSend (attached_row D.row D.PageDevice) }
+    ensures shared { IsSync (shared_row D.row D.PageDevice) }
 {}

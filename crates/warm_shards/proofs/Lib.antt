@@ -26,5 +26,6 @@ pub mod Residents
 pub mod Formed
 pub mod Staying
 pub mod Asked
+pub mod WholeParts
 pub mod LawsHold
 pub mod Examples

@@ -7,3 +7,4 @@ pub mod Parts
 pub mod Through
 pub mod Forming
 pub mod Laws
+pub mod PartLaws

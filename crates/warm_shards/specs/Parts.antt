@@ -1,10 +1,13 @@
--- A batch or a message, by the shards of its pages.
-use Rattle.std.specs.Prelude.{◌≡◌, ℕ, ◌<◌, List, [], length, slice_index_or}
+-- A batch, a message or a history, by the shards of its pages.
+use Rattle.std.specs.Prelude.{◌≡◌, ℕ, ◌<◌, List, [], filter, length, nat_eq, slice_index_or}
 use Rattle.std.specs.List.{AllByRecursion}
 use Rattle.warm_stamps.specs.declared.Reference.{Reference}
+use Rattle.warm_history.specs.declared.hist.Entry.{Entry}
+use Rattle.warm_history.specs.Histories.{HistoryView, entries_of, history_of_entries_at}
 use Rattle.warm_history.specs.ReferenceSets.{set_of_list}
 use Rattle.warm_frames.specs.declared.message.Message.{Message}
-use Rattle.warm_frames.specs.declared.message.Message.TheVariants.{Entries}
+use Rattle.warm_frames.specs.declared.message.Message.TheVariants.{Entries, Digest, Want}
+use Rattle.warm_frames.specs.Limits.{entries_in, horizon_in}
 use Rattle.warm_shards.specs.Shards.{of_shard, shard_of}
 
 -- as many parts as shards, of each shard the references of the batch to its pages
@@ -19,3 +22,26 @@ abbrev pub IsOfShard : ℕ → ℕ → Message → Type 0
 IsOfShard count shard (Entries sender horizon entries) =
     AllByRecursion (λ e. shard_of count e.page ≡ shard) entries
 IsOfShard count shard message = ⊥
+
+-- Messages and histories
+
+-- the entries of pages of the shard, in order
+abbrev pub part_of_entries : ℕ → ℕ → List Entry → List Entry
+part_of_entries shards shard es = filter (λ e. nat_eq (shard_of shards e.page) shard) es
+
+-- the replica that sent the message
+abbrev pub sender_in : Message → ℕ
+sender_in (Entries sender horizon entries) = sender
+sender_in (Digest sender horizon digests) = sender
+sender_in (Want sender horizon request) = sender
+
+-- what a message brings to the shard: its horizon, and the entries of pages of the shard
+abbrev pub part_of_message : ℕ → ℕ → Message → Message
+part_of_message shards shard message =
+    Entries (sender_in message) (horizon_in message)
+    (part_of_entries shards shard (entries_in message))
+
+-- what a history says of the pages of the shard
+abbrev pub part_of_history : ℕ → ℕ → HistoryView → HistoryView
+part_of_history shards shard h =
+    history_of_entries_at h.horizon (part_of_entries shards shard (entries_of h))

@@ -1,4 +1,4 @@
-use Rattle.warm_c.proofs.WholeParts.{digests_are_gathered, gathered_is_whole}
+use Rattle.warm_shards.proofs.WholeParts.{digests_are_gathered, gathered_is_whole}
 use Rattle.warm_c.proofs.laws.gathered_is_whole.Goals as goal
 
 pub returns : goal.returns

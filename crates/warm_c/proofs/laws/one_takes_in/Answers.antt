@@ -1,4 +1,4 @@
-use Rattle.warm_c.proofs.WholeParts.{one_takes_in}
+use Rattle.warm_shards.proofs.WholeParts.{one_takes_in}
 use Rattle.warm_c.proofs.laws.one_takes_in.Goals as goal
 
 pub returns : goal.returns

@@ -1,4 +1,5 @@
-use Rattle.warm_c.proofs.WholeParts.{batch_is_of_parts, history_is_of_parts, message_is_of_parts}
+use Rattle.warm_shards.proofs.WholeParts.{history_is_of_parts, message_is_of_parts}
+use Rattle.warm_c.proofs.Batches.{batch_is_of_parts}
 use Rattle.warm_c.proofs.laws.parts_are_the_whole.Goals as goal
 
 pub returns : goal.returns

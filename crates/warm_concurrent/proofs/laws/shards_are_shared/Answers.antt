@@ -1,5 +1,7 @@
-use Rattle.warm_concurrent.proofs.Sent.{shards_sync}
+use Rattle.warm_concurrent.proofs.Sent.{attached_send, shards_sync}
 use Rattle.warm_concurrent.proofs.laws.shards_are_shared.Goals as goal
 
 pub returns : goal.returns
-returns g c = shards_sync _ g.D.PageDevice c.type_bounds.send-D
+returns g c =
+    let sends = c.type_bounds.send-D in
+    record { attached = attached_send _ g.D.PageDevice sends; shared = shards_sync _ g.D.PageDevice sends }

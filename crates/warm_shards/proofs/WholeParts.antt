@@ -8,7 +8,7 @@ use Rattle.warm_stamps.specs.declared.Stamp.{Stamp}
 use Rattle.warm_stamps.specs.declared.Reference.{Reference}
 use Rattle.warm_history.specs.declared.hist.Entry.{Entry}
 use Rattle.warm_history.specs.ListHistories.{hist_stamps, list_references_of, references_of_entry}
-use Rattle.warm_history.specs.ReferenceSets.{ReferenceSet, set_of_list, ◌∪◌}
+use Rattle.warm_history.specs.ReferenceSets.{ReferenceSet, ◌∪◌}
 use Rattle.warm_history.specs.Histories.{HistoryView, entries_of, history, join, references_of}
 use Rattle.warm_history.proofs.JoinLemmas.{history_first}
 use Rattle.warm_frames.specs.declared.message.Message.{Message}
@@ -22,10 +22,8 @@ use Rattle.warm_shards.proofs.Absorbing.{some_count, some_shards}
 use Rattle.warm_shards.proofs.Gathering.{AreGathered, all_gathered, digest_whole, gathered_more}
 use Rattle.warm_shards.proofs.Parts.{all_parts, next_part, no_part}
 use Rattle.warm_shards.proofs.Taking.{none_joined, one_takes, whole_more}
-use Rattle.warm_c.specs.Laws.{BatchIsOfParts, DigestsAreGathered, GatheredIsWhole, HistoryIsOfParts, MessageIsOfParts, OneTakesIn}
-use Rattle.warm_c.specs.declared.values.WarmReference.{WarmReference}
-use Rattle.warm_c.specs.Parts.{part_of_batch, part_of_entries, part_of_message}
-use Rattle.warm_c.specs.Values.{reference_of}
+use Rattle.warm_shards.specs.PartLaws.{DigestsAreGathered, GatheredIsWhole, HistoryIsOfParts, MessageIsOfParts, OneTakesIn}
+use Rattle.warm_shards.specs.Parts.{part_of_entries, part_of_message}
 
 pub one_takes_in : OneTakesIn
 one_takes_in shards i S n lt is = one_takes shards i S n lt is
@@ -66,7 +64,7 @@ mixed_all old new long =
 -- ---- references
 
 -- each shard has taken in the references of S to its pages
-abbrev TakeParts : ReferenceSet → List NodeState → List NodeState → Type 0
+abbrev pub TakeParts : ReferenceSet → List NodeState → List NodeState → Type 0
 TakeParts S old new = (i : ℕ) → i < length old
     → (shard_at new i).history ≡ history (references_of (shard_at old i).history ∪ of_shard (length old) i S)
 
@@ -105,7 +103,7 @@ taken_by_all : (S : ReferenceSet) (old new : List NodeState) → TakeParts S old
 taken_by_all S old new each zero is some = absurd (omega arith)
 taken_by_all S old new each (suc k) is some = taken S old new each k (omega (arith, is))
 
-parts_taken : (S : ReferenceSet) (old new : List NodeState) → IsShardCount (length old)
+pub parts_taken : (S : ReferenceSet) (old new : List NodeState) → IsShardCount (length old)
     → length new ≡ length old → TakeParts S old new
     → whole new ≡ history (references_of (whole old) ∪ S)
 parts_taken S old new valid long each =
@@ -160,30 +158,7 @@ message_part count i (Entries sender horizon es) = part_is count i horizon es
 message_part count i (Digest sender horizon digests) = refl
 message_part count i (Want sender horizon request) = refl
 
--- what is filtered before a map is what is filtered after it
-filtered_first : {A : Type 0} (test : Reference → Bool) (f : A → Reference) (xs : List A)
-    → map f (filter (λ x. test (f x)) xs) ≡ filter test (map f xs)
-filtered_first test f [] = refl
-filtered_first test f (x ∷ xs) = cases (test (f x)) refl (filtered_first test f xs)
-  where
-    cases : (b : Bool) → test (f x) ≡ b
-        → map f (filter (λ y. test (f y)) xs) ≡ filter test (map f xs)
-        → map f (filter (λ y. test (f y)) (x ∷ xs)) ≡ filter test (map f (x ∷ xs))
-    cases true is later = rw is (ap (λ rs. f x ∷ rs) later)
-    cases false is later = rw is later
-
-batch_part : (count i : ℕ) (batch : List WarmReference)
-    → set_of_list (map reference_of (part_of_batch count i batch))
-    ≡ of_shard count i (set_of_list (map reference_of batch))
-batch_part count i batch =
-    ap set_of_list (filtered_first (λ r. nat_eq (shard_of count r.page) i) reference_of batch)
-
 -- ---- the laws
-
-pub batch_is_of_parts : BatchIsOfParts
-batch_is_of_parts batch old new goes =
-    parts_taken (set_of_list (map reference_of batch)) old new goes.count goes.long
-    (λ i lt. ap (λ (n : NodeView). n.history) (goes.each i lt) ∙ ap (λ S. history (references_of (shard_at old i).history ∪ S)) (batch_part (length old) i batch))
 
 pub message_is_of_parts : MessageIsOfParts
 message_is_of_parts message old new goes =

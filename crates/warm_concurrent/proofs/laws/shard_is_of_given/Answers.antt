@@ -1,5 +1,0 @@
-use Rattle.warm_concurrent.proofs.LawsHold.{shard_is_of_given}
-use Rattle.warm_concurrent.proofs.laws.shard_is_of_given.Goals as goal
-
-pub returns : goal.returns
-returns c = shard_is_of_given

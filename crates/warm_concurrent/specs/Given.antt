@@ -1,0 +1,190 @@
+-- What shards were given, all together, and what a thread's calls gave them.
+use Rattle.std.specs.Prelude.{◌≡◌, ℕ, ◌<◌, List, [], ◌∷◌, ◌++◌, length, map, Some, Ok}
+use Rattle.std.specs.Prelude.{slice_index_or}
+use mathlib.Core.Option.{some}
+use mathlib.Core.List.{IsPrefix}
+use lib.ListN.{get_elem?}
+use Rattle.warm_stamps.specs.declared.PageId.{PageId}
+use Rattle.warm_stamps.specs.declared.Reference.{Reference}
+use Rattle.warm_history.specs.ReferenceSets.{ReferenceSet, set_of_list, ◌∪◌}
+use Rattle.warm_history.specs.References.{IsIn}
+use Rattle.warm_history.specs.Histories.{IsBelow, StandsFor, history}
+use Rattle.warm_rank.specs.Laws.{IsFarthest}
+use Rattle.warm_frames.specs.declared.message.Message.{Message}
+use Rattle.warm_pool.specs.View.{unfixed_pages, view_of}
+use Rattle.warm_machine.specs.declared.operation.Operation.{Operation}
+use Rattle.warm_turn.specs.declared.table.EndedPass.{EndedPass}
+use Rattle.warm_machine.specs.Runs.{Runs, operation}
+use Rattle.warm_turn.specs.CallHistories.{calls_by}
+use Rattle.warm_gossip.specs.Answers.{refs_in}
+use Rattle.warm_gossip.specs.State.{NodeState}
+use Rattle.warm_gossip.specs.Victims.{IsEvicted}
+use Rattle.warm_shards.specs.Shards.{AreShards, IsShardCount, of_first_shards, shard_at, whole}
+use Rattle.warm_concurrent.specs.declared.call.ShardCall.{ShardCall}
+use Rattle.warm_concurrent.specs.declared.call.ShardCall.TheVariants.{Absorb, Raise, Pin, Look, Change}
+use Rattle.warm_concurrent.specs.declared.call.ShardCall.TheVariants.{PinZeroed, Victim, WarmStep}
+use Rattle.warm_concurrent.specs.declared.call.ShardReply.{ShardReply}
+use Rattle.warm_concurrent.specs.declared.call.ShardReply.TheVariants.{Done, Kept, Page}
+use Rattle.warm_concurrent.specs.declared.fault.SharedFault.{SharedFault}
+use Rattle.warm_concurrent.specs.Attached.{Known, ShardPass, ShardTurn, known_of, shard_turn}
+use Rattle.warm_concurrent.specs.Clauses.{Answered}
+use Rattle.warm_concurrent.specs.Gossip.{Receives}
+use Rattle.warm_concurrent.specs.Laws.{all_of}
+use Rattle.warm_concurrent.specs.Opening.{AreClosed, AreFirst, AreHalved, PassesAreJoined, AreSplit}
+use Rattle.warm_concurrent.specs.Opening.{openings, shards_over}
+use Rattle.warm_concurrent.specs.ShardSteps.{ShardState, ShardStep}
+use Rattle.warm_concurrent.specs.Whole.{AbsorbFails, AbsorbsFirst, RaisesFirst}
+
+-- Sets of references
+
+-- the same references, whatever their order, at the same horizon
+pub record SameGiven (S T : ReferenceSet) : Type 0 where
+  pub horizon : S.horizon ≡ T.horizon
+  pub there : (r : Reference) → IsIn r S.given → IsIn r T.given
+  pub back : (r : Reference) → IsIn r T.given → IsIn r S.given
+
+-- no reference, at this horizon
+abbrev pub only_horizon : ℕ → ReferenceSet
+only_horizon time = record { horizon = time; given = [] }
+
+-- What calls gave
+
+-- calls of a shard, each with its reply, in their order
+abbrev pub Log : Type 0
+Log = List (Operation ShardCall ShardReply)
+
+-- the list of the shard of this number
+abbrev pub log_at : List Log → ℕ → Log
+log_at logs i = slice_index_or logs i []
+
+-- what a call with this reply gave its shard: the references of a batch, or a horizon
+abbrev pub gave_call : ShardCall → ShardReply → ReferenceSet
+gave_call (Absorb batch) Done = set_of_list batch
+gave_call (Raise time) (Kept horizon) = only_horizon time
+gave_call call reply = set_of_list []
+
+-- what these calls gave their shard
+abbrev pub gave : Log → ReferenceSet
+gave [] = set_of_list []
+gave (e ∷ es) = gave_call e.call e.reply ∪ gave es
+
+-- what the calls of all shards gave, together
+abbrev pub gave_together : List Log → ReferenceSet
+gave_together logs = all_of (map gave logs)
+
+-- After a close
+
+-- The log of a closed shard: a legal list of its calls leads from its opening to the node that is
+-- given back. It begins with what the pass has seen, has the calls of the pass, and of each pass
+-- that was ended into it the calls of that one.
+pub record IsLog (turn : ShardTurn) (known : Known) (node : NodeState) (log : Log) : Type 0 where
+  pub last : ShardState
+  pub node_is : last.node ≡ node
+  pub reaches : Runs ShardStep turn.opening log last
+  pub begins : IsPrefix known.seen log
+  pub own : calls_by known.number log ≡ known.mine
+  pub others : (a : ℕ) (e : EndedPass ShardCall ShardReply) → get_elem? known.ended a ≡ some e
+      → calls_by e.number log ≡ e.calls
+
+pub record AreLogs (turns : List ShardTurn) (passes : List ShardPass) (nodes : List NodeState)
+    (logs : List Log) : Type 0 where
+  pub count : length logs ≡ length turns
+  pub each : (i : ℕ) → i < length turns
+      → IsLog (shard_turn turns i) (known_of passes i) (shard_at nodes i) (log_at logs i)
+
+-- The headline: shards that opened with nodes which together stand for S, and were closed to these
+-- nodes. Together these hold the two latest stamps of every page among S and all references that
+-- any call gave any shard, not older than the latest horizon that any call gave.
+abbrev pub SharedIsOfGiven : Type 0
+SharedIsOfGiven = (S : ReferenceSet) (opened : List NodeState) (turns : List ShardTurn)
+    (passes : List ShardPass) (nodes : List NodeState) → AreShards opened
+    → openings turns ≡ shards_over opened → StandsFor (whole opened) S
+    → AreClosed turns passes (map (λ n. Ok n) nodes)
+    → (logs : List Log) × AreLogs turns passes nodes logs
+    × StandsFor (whole nodes) (S ∪ gave_together logs)
+
+-- What a thread gave
+
+-- the calls that a thread has made of each shard since, in their order
+pub record HasMade (old new : List ShardPass) (more : List Log) : Type 0 where
+  pub count : length more ≡ length old
+  pub numbers : (i : ℕ) → i < length old → (known_of new i).number ≡ (known_of old i).number
+  pub each : (i : ℕ) → i < length old
+      → (known_of new i).mine ≡ (known_of old i).mine ++ log_at more i
+
+-- together these gave just the references of S, at its horizon
+abbrev pub HasGiven : ReferenceSet → List ShardPass → List ShardPass → Type 0
+HasGiven S old new = (more : List Log) × HasMade old new more × SameGiven (gave_together more) S
+
+-- What a thread's call gave: the batch that it absorbed, or of one that stopped at a shard the parts
+-- of those before; the horizon that it raised; the references and the horizon of the message that it
+-- received; and what any other call of one shard gave that one.
+pub record CallsAreGiven (old new : List ShardPass) : Type 0 where
+  pub absorbed : (batch : List Reference) → AbsorbsFirst batch (length old) old new
+      → HasGiven (set_of_list batch) old new
+  pub stopped : (batch : List Reference) (k : ℕ) (why : SharedFault)
+      → AbsorbFails batch k why old new
+      → HasGiven (of_first_shards (length old) k (set_of_list batch)) old new
+  pub raised : (time : ℕ) → RaisesFirst time (length old) old new
+      → HasGiven (only_horizon time) old new
+  pub received : (message : Message) (answers : List Message) → Receives message answers old new
+      → HasGiven (refs_in message) old new
+  pub called : (i : ℕ) (call : ShardCall) (reply : ShardReply) → i < length old
+      → Answered old i call reply new → HasGiven (gave_call call reply) old new
+
+abbrev pub ThreadsGive : Type 0
+ThreadsGive = (old new : List ShardPass) → IsShardCount (length old) → CallsAreGiven old new
+
+-- Two threads, used
+
+-- A thread shares shards that stand for S, and attaches another. Each absorbs a batch, and the
+-- other is detached into the first, which closes the shards. Then the nodes together have all that
+-- S and both batches say: to join the history of these changes nothing.
+abbrev pub TwoThreadsAreHeld : Type 0
+TwoThreadsAreHeld = (S : ReferenceSet) (opened : List NodeState) (turns : List ShardTurn)
+    (first here there mine yours all : List ShardPass) (one two : List Reference)
+    (nodes : List NodeState) → AreShards opened → openings turns ≡ shards_over opened
+    → StandsFor (whole opened) S → AreFirst turns first → AreHalved first here
+    → AreSplit first there → AbsorbsFirst one (length turns) here mine
+    → AbsorbsFirst two (length turns) there yours → PassesAreJoined mine yours all
+    → AreClosed turns all (map (λ n. Ok n) nodes)
+    → IsBelow (history (S ∪ (set_of_list one ∪ set_of_list two))) (whole nodes)
+
+-- Victims
+
+-- the calls that put a page into a frame: one that the caller names, or the next one to warm up
+abbrev pub FillsFrame : ShardCall → Type 0
+FillsFrame (Pin page) = Unit {0}
+FillsFrame (PinZeroed page) = Unit {0}
+FillsFrame (Look page) = Unit {0}
+FillsFrame (Change page) = Unit {0}
+FillsFrame WarmStep = Unit {0}
+FillsFrame call = ⊥
+
+-- The page that a shard names as its victim, and each that leaves it where a page is put into a
+-- frame, is farthest back over these references, among its unpinned resident pages.
+pub record VictimsOver (G : ReferenceSet) (was : ShardState) (call : ShardCall)
+    (reply : ShardReply) (is : ShardState) : Type 0 where
+  pub named : (v : PageId) → call ≡ Victim → reply ≡ Page (Some v)
+      → IsFarthest G (unfixed_pages (view_of was.node.pool)) v
+  pub leaves : (v : PageId) → FillsFrame call
+      → IsEvicted (view_of was.node.pool) (view_of is.node.pool) v
+      → IsFarthest G (unfixed_pages (view_of was.node.pool)) v
+
+-- A call that a shard answered: the calls of its log before, and its states before and after.
+pub record AnswersAfter (opening : ShardState) (old new : Known) (call : ShardCall)
+    (reply : ShardReply) (before : Log) (was is : ShardState) : Type 0 where
+  pub seen : new.seen ≡ before ++ operation old.number call reply ∷ []
+  pub begins : IsPrefix old.seen before
+  pub reaches : Runs ShardStep opening before was
+  pub steps : ShardStep was call reply is
+
+-- Victims of a shard are farthest back over what it opened with and what the calls of its log had
+-- given it until then, whichever threads made them, not older than its horizon.
+abbrev pub SharedVictims : Type 0
+SharedVictims = (S : ReferenceSet) (opening : ShardState) (old new : List ShardPass) (i : ℕ)
+    (call : ShardCall) (reply : ShardReply) → StandsFor opening.node.history S
+    → (known_of old i).opening ≡ Some opening → Answered old i call reply new
+    → (before : Log) × (was : ShardState) × (is : ShardState)
+    × AnswersAfter opening (known_of old i) (known_of new i) call reply before was is
+    × VictimsOver (S ∪ gave before) was call reply is
