@@ -299,7 +299,7 @@ int warm_prefetch(warm *handle, warm_page page);
 int warm_write_back_all(warm *handle);
 
 /* Writes at most limit dirty pages, flushes nothing, and says how many are left. Each call begins
-   with the shard after that of the call before.
+   with the shard after that of the call before, and in each shard where the last one ended.
    Refused, with left unchanged, though pages may be written: WARM_WRITE_FAULT, WARM_SKIPPED. */
 int warm_write_back_some(warm *handle, size_t limit, size_t *left);
 
