@@ -588,7 +588,7 @@ static void test_turns_of_portions(void) {
     nothing_left();
 }
 
-/* So they do from frame to frame of a shard: a page that is changed again, or fails, is met once the
+/* So they do from frame to frame of a shard: a page that is changed again, or fails, is met once
  * others were. None is tried twice by a call. */
 static void turns_in_shard(warm *handle) {
     size_t left = 77;
