@@ -330,12 +330,19 @@ static void replace_device(warm *by) {
     if (status == WARM_OK) replaced_by = (int)(new - disks);
 }
 
-static void look_at_all(warm *by, warm_page which) {
-    warm_page next[4];
+/* A page that the thread has pinned is no victim. */
+static void look_at_victims(const user *its) {
+    warm_page next[8];
+    size_t count;
+    OK(warm_victims(its->handle, drawn(((opened *)its->handle->at)->count), next, 8, &count));
+    for (size_t at = 0; at < count; at++)
+        for (size_t own = 0; own < its->count; own++)
+            MUST(next[at].dev != its->all[own].page.dev || next[at].no != its->all[own].page.no);
+}
+
+static void look_at_counts(warm *by, warm_page which) {
     warm_counters counters;
     bool is_resident;
-    size_t count;
-    OK(warm_victims(by, 0, next, 4, &count));
     OK(warm_counts(by, &counters));
     OK(warm_resident(by, which, &is_resident));
 }
@@ -350,7 +357,8 @@ static void make_any_call(user *its) {
     else if (way < 28) write_back(its->handle, which);
     else if (way == 28) status = warm_forget_pages(its->handle, REPLACED, which.no);
     else if (way == 29) replace_device(its->handle);
-    else look_at_all(its->handle, which);
+    else if (way == 30) look_at_victims(its);
+    else look_at_counts(its->handle, which);
     MUST(may_be_refused(status) || (way == 28 && status == WARM_PINNED));
 }
 
