@@ -45,6 +45,9 @@ static void must(bool holds, const char *what, int line) {
 #include "sync_once.c"
 #include "devices.c"
 #include "fake_nodes.h"
+#undef pthread_mutex_lock /* schedules.h has its own */
+#undef pthread_mutex_unlock
+#undef pthread_cond_wait
 #define pthread_mutex_lock test_lock
 #define pthread_mutex_unlock test_unlock
 #define pthread_cond_wait test_cond_wait

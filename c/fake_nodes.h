@@ -3,8 +3,8 @@
  * part. A fake node has frames, each with one byte in place of a page, and in place of a history
  * how many references it took in. It writes pages and asks for syncs as the proved part does in the
  * end, by devices.h and sync_once.h. Where it reads a page, which it does for a handle that is
- * alone, it takes the byte that the file keeps (fake_system.h). Each call looks whether another
- * call is in the node.
+ * alone, it takes the byte that the file keeps (fake_system.h), or that the device's own call
+ * reads. Each call looks whether another call is in the node.
  */
 #ifndef FAKE_NODES_H
 #define FAKE_NODES_H
@@ -126,10 +126,14 @@ static int fake_unread(fake *its, node_page page) {
 /* How often a node has read a page, or tried to. */
 static int read_by_nodes;
 
-/* What a file keeps; of a device with calls of its own zeros. */
-static uint8_t fake_read(const fake *its, node_page page) {
+/* Whether the page can be read: what a file keeps, or what a device's own call reads. */
+static bool fake_read(const fake *its, node_page page, uint8_t *byte) {
     int32_t number = its->devices[page.dev].number;
-    return files_keep && number >= 0 ? in_files[number][page.no] : 0;
+    read_by_nodes++;
+    if (device_of(number).ops.read != NULL)
+        return device_read(number, byte, 1, (off_t)page.no) == 1;
+    *byte = files_keep && number >= 0 ? in_files[number][page.no] : 0;
+    return (off_t)page.no < unreadable;
 }
 
 /* Where no byte is given, the page is read. */
@@ -139,10 +143,10 @@ static int fake_pin(fake *its, node_page page, const uint8_t *given, node_slot *
     fake_frame *frame = fake_frame_for(its, page);
     if (frame == NULL) return WARM_ALL_PINNED;
     if (!frame->is_in || frame->page.no != page.no || frame->page.dev != page.dev) {
-        if (given == NULL) read_by_nodes++;
-        if (given == NULL && (off_t)page.no >= unreadable) return fake_unread(its, page);
+        uint8_t byte = 0;
+        if (given != NULL) byte = *given;
+        else if (!fake_read(its, page, &byte)) return fake_unread(its, page);
         if (frame->is_in && frame->is_dirty && !fake_write(its, frame)) return WARM_EVICT_FAULT;
-        uint8_t byte = given == NULL ? fake_read(its, page) : *given;
         *frame = (fake_frame){
             .is_in = true, .page = page, .generation = frame->generation + 1, .byte = byte};
     }

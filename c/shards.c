@@ -132,13 +132,23 @@ static bool has_room(opened *its, shard *in) {
     return of->filled < of->frames || of->pinned + of->room < of->frames || has_victim(its, in);
 }
 
-/* Whether a page would leave if the node had no pins of those that are being written. */
-static bool is_victim_written(opened *its, shard *in) {
-    if (in->writes == NULL) return false;
+/* The node's pins of pages that are being written, which no caller has: where it is asked what it
+ * would say without them, they are taken back before, and made again after that. */
+static void unpin_written(shard *in) {
     for (writing *at = in->writes; at != NULL; at = at->next) node_unpin(&in->node, at->slot);
-    bool is_so = has_victim(its, in);
+}
+
+static void pin_written(shard *in) {
     for (writing *at = in->writes; at != NULL; at = at->next)
         pin_in_node(in, at->page, &at->slot);
+}
+
+/* Whether a page would leave if none were being written. */
+static bool is_victim_written(opened *its, shard *in) {
+    if (in->writes == NULL) return false;
+    unpin_written(in);
+    bool is_so = has_victim(its, in);
+    pin_written(in);
     return is_so;
 }
 
@@ -518,7 +528,9 @@ int warm_victims(warm *handle, size_t number, warm_page *pages, size_t room, siz
     if (number >= its->count) return WARM_NO_SHARD;
     shard *in = &its->shards[number];
     bool is_locked = enter(its, in);
+    unpin_written(in);
     int status = find_victims(its, in, room < VICTIMS ? room : VICTIMS, next, &found);
+    pin_written(in);
     leave(in, is_locked);
     if (status != WARM_OK) return status;
     for (size_t at = 0; at < found; at++) pages[at] = page_out(next[at]);

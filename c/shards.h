@@ -39,6 +39,7 @@ typedef struct shard {
     bool may_be_dirty; /* where not, no page is, and the node need not look at each frame */
     unsigned leaving;  /* how many wait for writes, to forget pages or replace a device */
     writing *writes;   /* pages that are being written */
+    size_t hand;       /* the frame with which the next portion of a write-back begins */
     _Alignas(LINE) table table;
 } shard;
 

@@ -588,6 +588,47 @@ static void test_turns_of_portions(void) {
     nothing_left();
 }
 
+/* So they do from frame to frame of a shard: a page that is changed again, or fails, is met once
+ * others were. None is tried twice by a call. */
+static void turns_in_shard(warm *handle) {
+    size_t left = 77;
+    write_each(handle, 0, 4);
+    for (uint64_t no = 0; no < 4; no++) {
+        OK(warm_write_back_some(handle, 1, &left));
+        write_to(handle, page_at(0), 'b');
+        MUST(left == (no == 0 ? 3 : 4 - no) && is_dirty(handle, page_at(0)));
+        for (uint64_t other = 1; other < 4; other++)
+            MUST(is_dirty(handle, page_at(other)) == (other > no));
+    }
+    OK(warm_write_back_some(handle, 1, &left));
+    MUST(left == 0 && !is_dirty(handle, page_at(0)));
+    write_each(handle, 0, 4);
+    stuck[0] = stuck[1] = stuck[2] = (warm_page){.no = 2};
+    is_stuck = is_one_of_stuck;
+    failed_writes = 0;
+    MUST(warm_write_back_some(handle, 2, &left) == WARM_WRITE_FAULT && failed_writes == 1);
+    MUST(is_dirty(handle, page_at(0)) && is_dirty(handle, page_at(2)));
+    OK(warm_write_back_some(handle, 1, &left));
+    MUST(left == 1 && !is_dirty(handle, page_at(0)) && failed_writes == 1);
+    write_to(handle, page_at(1), 'b');
+    MUST(warm_write_back_some(handle, SIZE_MAX, &left) == WARM_WRITE_FAULT && failed_writes == 2);
+    MUST(!is_dirty(handle, page_at(1)) && is_dirty(handle, page_at(2)));
+    is_stuck = NULL;
+    OK(warm_write_back_all(handle));
+}
+
+static void test_turns_in_shard(void) {
+    for (int is_shared = 0; is_shared < 2; is_shared++) {
+        warm handle = {0}, other = {0};
+        OK(open_with(&handle, 1, 1, 4, devices, FAKE_DEVICES));
+        if (is_shared) OK(warm_attach(&handle, &other));
+        turns_in_shard(&handle);
+        OK(warm_close(&other));
+        OK(warm_close(&handle));
+        nothing_left();
+    }
+}
+
 /* One page is written where it is dirty, with no sync; where it cannot be, it is dirty as
  * before. */
 static void write_one(size_t count) {
@@ -750,6 +791,7 @@ int main(void) {
     test_stuck_pages();
     test_closing_after_failure();
     test_turns_of_portions();
+    test_turns_in_shard();
     test_stuck_victims();
     test_failing_read();
     puts("syncs_test: as expected");

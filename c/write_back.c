@@ -69,19 +69,20 @@ static bool next_dirty(shard *in, size_t *frame, node_page *page) {
     return found;
 }
 
-/* Looks at one frame after another, and leaves the shard while a page is written: so a page that is
- * dirty at the call is written, by this call or another one, as it keeps its frame until then. One
- * that another call writes may be dirty after that. One that cannot be written keeps back no other.
- */
-static void write_pages(opened *its, shard *in, bool is_locked, walk *of) {
+/* Looks at one frame after another, from this one until the end, and leaves the shard while a page
+ * is written: so a page that is dirty at the call is written, by this call or another one, as it
+ * keeps its frame until then. One that another call writes may be dirty after that. One that cannot
+ * be written keeps back no other. Returns the frame to go on with. */
+static size_t write_between(
+    opened *its, shard *in, bool is_locked, walk *of, size_t frame, size_t end) {
     node_page page;
-    if (!in->may_be_dirty) return;
-    for (size_t frame = 0; of->written < of->limit && next_dirty(in, &frame, &page);) {
+    while (of->written < of->limit && next_dirty(in, &frame, &page) && frame < end) {
         bool is_meant = of->dev == ALL || of->dev == page.dev;
         if (is_meant && wait_for_write(in, page)) continue; /* the frame is looked at again */
         if (is_meant) write_page(its, in, page, is_locked, of);
         frame++;
     }
+    return frame;
 }
 
 /* Returns how many pages of a shard are dirty. */
@@ -93,12 +94,20 @@ static size_t dirty_in(shard *in) {
 
 /* ---- portions, and one page ---- */
 
+/* Begins behind where the last portion of the shard ended, and goes on from the first frame: so no
+ * page waits for ever behind those that are changed again, or cannot be written. */
+static void write_from_hand(opened *its, shard *in, bool is_locked, walk *of) {
+    size_t first = in->hand;
+    in->hand = write_between(its, in, is_locked, of, first, SIZE_MAX);
+    if (of->written < of->limit) in->hand = write_between(its, in, is_locked, of, 0, first);
+}
+
 /* Writes a portion of what waits in a shard, and returns how many pages are left. */
 static size_t write_portion(opened *its, shard *in, walk *of) {
     size_t left = 0;
     bool is_locked = enter(its, in);
     if (in->may_be_dirty) {
-        write_pages(its, in, is_locked, of);
+        write_from_hand(its, in, is_locked, of);
         left = dirty_in(in);
         in->may_be_dirty = left > 0;
     }
@@ -156,7 +165,7 @@ size_t dirty_pages(opened *its) {
 /* Writes what waits in a shard. A page may have become dirty behind the walk's back. */
 static void write_shard(opened *its, shard *in, walk *of) {
     bool is_locked = enter(its, in);
-    write_pages(its, in, is_locked, of);
+    if (in->may_be_dirty) write_between(its, in, is_locked, of, 0, SIZE_MAX);
     if (in->may_be_dirty && of->dev == ALL) in->may_be_dirty = dirty_in(in) > 0;
     leave(in, is_locked);
 }

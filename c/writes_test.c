@@ -133,6 +133,43 @@ static void test_pinned_meanwhile(void) {
     }
 }
 
+/* The pages that would leave next are those without a caller's pin, also while they are written,
+ * whoever writes them. */
+static void victims_are(const char *numbers) {
+    warm_page pages[4];
+    size_t count;
+    OK(warm_victims(&callers[3].handle, 0, pages, 4, &count));
+    MUST(count == strlen(numbers));
+    for (size_t at = 0; at < count; at++) MUST(pages[at].no == (uint64_t)(numbers[at] - '0'));
+}
+
+static void test_named_victims(void) {
+    for (int is_miss = 0; is_miss < 2; is_miss++) {
+        open_dirty(4);
+        warm_slot slot = pin(&first, 2);
+        stop_writes_of(bit(0) | bit(1));
+        begin(0, is_miss ? PINS : WRITES_ONE, page_at(is_miss ? 5 : 0));
+        until_written(bit(0));
+        begin(1, WRITES_ONE, page_at(1));
+        until_written(bit(0) | bit(1));
+        victims_are("013");
+        pin_twice(&first, 0);
+        warm_slot other = hold_page(&first, 0);
+        victims_are("13");
+        OK(warm_unpin(&first, other));
+        victims_are("013"); /* and each keeps the pin by which it keeps its frame */
+        begin(2, PINS_ZEROED, page_at(6));
+        MUST(end(2) == WARM_OK && callers[2].slot.index == 3);
+        victims_are("01");
+        end_writes(bit(0) | bit(1));
+        MUST(end(0) == WARM_OK && end(1) == WARM_OK && written_locked == 0);
+        unpin(2);
+        if (is_miss) unpin(0);
+        OK(warm_unpin(&first, slot));
+        close_all();
+    }
+}
+
 /* A clean page leaves at once, and where a frame has none none leaves. */
 static void test_clean_victims(void) {
     open_all(1, 2);
@@ -702,6 +739,7 @@ int main(void) {
     test_write_backs();
     test_victims();
     test_pinned_meanwhile();
+    test_named_victims();
     test_clean_victims();
     test_two_misses();
     test_changes();

@@ -275,7 +275,8 @@ int warm_mark_dirty(warm *handle, warm_slot slot);
 int warm_resident(warm *handle, warm_page page, bool *resident);
 
 /* Writes which pages of a shard would be evicted next, in order, once no frame is free, and how
-   many: up to room or 64. Changes nothing. It looks at each frame only after many changes.
+   many: up to room or 64. One that is being written counts, and is evicted once that is over.
+   Changes nothing. It looks at each frame only after many changes.
    Refused: WARM_NO_SHARD; WARM_ALL_PINNED if a page has 2^32 - 1 pins. */
 int warm_victims(warm *handle, size_t shard, warm_page *pages, size_t room, size_t *count);
 
@@ -298,7 +299,7 @@ int warm_prefetch(warm *handle, warm_page page);
 int warm_write_back_all(warm *handle);
 
 /* Writes at most limit dirty pages, flushes nothing, and says how many are left. Each call begins
-   with the shard after that of the call before.
+   with the shard after that of the call before, and in each shard where the last one ended.
    Refused, with left unchanged, though pages may be written: WARM_WRITE_FAULT, WARM_SKIPPED. */
 int warm_write_back_some(warm *handle, size_t limit, size_t *left);
 

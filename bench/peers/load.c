@@ -1,8 +1,8 @@
 /*
  * load.c: plays a load on the pool of a program: PROGRAM KIND hits|misses PAGES SLICES THREADS SHARDS FILE. First each thread fills the pool. Then
  * it plays the slices, each of 1,024 calls; all threads begin a slice together. Prints the nanoseconds of a call of each thread in the
- * fastest slice, from the first thread's begin to the last thread's end, and how many reads of the system a call made in all slices. A slice
- * counts only if the last thread began in its first twentieth: on a busy machine there may be none, and that is "inf ns".
+ * fastest slice and in the median one, from the first thread's begin to the last thread's end, and how many reads of the system a call made in
+ * all slices. A slice counts only if the last thread began in its first twentieth: on a busy machine there may be none, and that is "inf ns".
  */
 #define _POSIX_C_SOURCE 200809L
 #include "load.h"
@@ -30,7 +30,8 @@ struct player {
 };
 
 static struct player players[MOST_THREADS];
-static uint64_t least = UINT64_MAX;
+static uint64_t *taken; /* by each slice that counts, in nanoseconds */
+static size_t counted;
 static uint64_t reads;
 
 static void fail(const char *what) {
@@ -94,7 +95,7 @@ __attribute__((noinline)) static uint64_t measured_slice(struct player *player) 
     return checksum;
 }
 
-static void take_least(const struct load *load) {
+static void take_time(const struct load *load) {
     uint64_t first_start = UINT64_MAX, last_start = 0, end = 0;
     for (const struct player *player = players; player < players + load->threads; player++) {
         if (player->start < first_start) first_start = player->start;
@@ -102,7 +103,7 @@ static void take_least(const struct load *load) {
         if (player->end > end) end = player->end;
     }
     bool is_together = last_start - first_start <= (end - first_start) / 20;
-    if (is_together && end - first_start < least) least = end - first_start;
+    if (is_together) taken[counted++] = end - first_start;
 }
 
 static void play_slices(struct player *player) {
@@ -113,7 +114,7 @@ static void play_slices(struct player *player) {
         uint64_t checksum = measured_slice(player);
         meet(load);
         check_read(player, checksum);
-        if (player == players) take_least(load);
+        if (player == players) take_time(load);
     }
 }
 
@@ -165,6 +166,16 @@ static bool is_load(const struct load *load, const char *what) {
     return is_kind && is_size && is_count && is_split && (load->is_of_misses || strcmp(what, "hits") == 0);
 }
 
+static int by_time(const void *one, const void *other) {
+    uint64_t first, second;
+    memcpy(&first, one, sizeof first);
+    memcpy(&second, other, sizeof second);
+    return (first > second) - (first < second);
+}
+
+/* The nanoseconds of a call in the slice at this place in the order of times. */
+static double call_at(size_t place) { return counted == 0 ? INFINITY : (double)taken[place] / SLICE; }
+
 int main(int count, char **words) {
     struct load load = {0};
     if (count == 8) {
@@ -185,9 +196,13 @@ int main(int count, char **words) {
     }
     load.fd = open(load.path, O_RDONLY);
     if (load.fd < 0) fail("the file cannot be opened");
+    taken = calloc(load.slices, sizeof *taken);
+    if (taken == NULL) fail("there is no memory");
     play_all(&load);
     close(load.fd);
-    printf("%.2f ns\n", least == UINT64_MAX ? INFINITY : (double)least / SLICE);
+    qsort(taken, counted, sizeof *taken, by_time);
+    printf("%.2f ns, %.2f in the median\n", call_at(0), call_at(counted / 2));
     printf("%.3f reads\n", (double)reads / SLICE / load.slices / load.threads);
+    free(taken);
     return 0;
 }

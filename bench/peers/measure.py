@@ -73,7 +73,7 @@ def compiled(command: list[str | Path], needs: str) -> None:
 
 
 def build(library: Path, folder: Path) -> None:
-    """The three programs, each linked with the same load.o."""
+    """The four programs, each linked with the same load.o."""
     c, cpp = os.environ.get("CC", "cc"), os.environ.get("CXX", "c++")
     for tool in (c, cpp, "valgrind"):
         if shutil.which(tool) is None:
@@ -87,6 +87,7 @@ def build(library: Path, folder: Path) -> None:
     compiled([c, *c_flags, *links, "-o", folder / "ours"], ours)
     mpool = "mpool.c needs the package libdb5.3-dev: run bench/peers/install"
     compiled([c, *c_flags, HERE / "mpool.c", load, "-ldb-5.3", "-lpthread", "-o", folder / "mpool"], mpool)
+    compiled([c, *c_flags, HERE / "array.c", load, "-lpthread", "-o", folder / "array"], "array.c needs a C compiler")
     rocks = "rocks.cc needs the package librocksdb-dev: run bench/peers/install"
     compiled([cpp, *cpp_flags, HERE / "rocks.cc", load, "-lrocksdb", "-lpthread", "-o", folder / "rocks"], rocks)
 

@@ -222,20 +222,23 @@ static void write_back(void) {
     for (; number < shards; number++) MUST(node_write_back_some(&nodes[number], SIZE_MAX, &wanted) == WARM_OK && wanted == 0);
 }
 
-/* A page, a device, or a portion: of one shard, as those of several are in no order that a node has. */
+/* A page, or a device; and how many pages are left. A portion is in an order that no node has (c/write_back.c): c/check tests that. */
 static void write_some(void) {
     warm_page page = draw_page();
     bool is_written = false, is_wanted = false;
-    size_t left, wanted, limit = draw(4);
+    size_t left, wanted, all = 0;
     MUST(warm_write_back_page(draw_handle(), page, &is_written) == WARM_OK);
     MUST(node_write_back_page(&nodes[shard_of(page)], page_in(page), &is_wanted) == WARM_OK && is_written == is_wanted);
     if (draw(4) == 0) {
         MUST(warm_flush_device(draw_handle(), page.dev) == WARM_OK);
         for (size_t number = 0; number < shards; number++) MUST(node_flush(&nodes[number], page.dev) == WARM_OK);
     }
-    if (shards > 1) return;
-    MUST(warm_write_back_some(draw_handle(), limit, &left) == WARM_OK && node_write_back_some(&nodes[0], limit, &wanted) == WARM_OK);
-    MUST(left == wanted);
+    MUST(warm_write_back_some(draw_handle(), 0, &left) == WARM_OK);
+    for (size_t number = 0; number < shards; number++) {
+        MUST(node_write_back_some(&nodes[number], 0, &wanted) == WARM_OK);
+        all += wanted;
+    }
+    MUST(left == all);
 }
 
 static void check_counts(void) {
