@@ -29,6 +29,7 @@ typedef struct walk {
  * nothing of the descriptor. */
 static void add_unwritten(opened *its, node_page page, int error, int *all) {
     bool is_skip = error == EAGAIN;
+    count_failure(its, *all);
     if (!is_skip) its->unwritten[page.dev / 8] |= (uint8_t)(1 << page.dev % 8);
     if (*all == WARM_WRITE_FAULT || (is_skip && *all == WARM_SKIPPED)) return;
     note_failure(its, page, WARM_FAILED_WRITE, error);
@@ -180,6 +181,7 @@ static void sync_and_count(opened *its, uint16_t dev, sync_use *taken, int *all)
     if (is_made || error != 0) atomic_fetch_add(&known->flushes, 1);
     if (error == 0) return;
     atomic_fetch_add(&known->failures, 1);
+    count_failure(its, *all);
     if (*all == WARM_WRITE_FAULT) return;
     *all = WARM_WRITE_FAULT;
     note_failure(its, (node_page){.dev = dev}, WARM_FAILED_FLUSH, error);
@@ -297,6 +299,7 @@ int warm_forget_pages(warm *handle, uint16_t dev, uint64_t from) {
  * where it did not, the device is replaced, and its counts begin again. */
 static int noted_and_counted(opened *its, shard *in, uint16_t dev, int status) {
     noted(its, in, status);
+    if (status == WARM_WRITE_FAULT) count_failure(its, WARM_OK);
     bool is_flush = status == WARM_WRITE_FAULT && its->failure.what == WARM_FAILED_FLUSH;
     if (is_flush) atomic_fetch_add(&its->of->known[dev].flushes, 1);
     return status;

@@ -699,6 +699,32 @@ static void test_stale_meanwhile(void) {
     }
 }
 
+/* Then also what failed first is that of the whole call, and all are counted. */
+static bool fails_as_before(node_page page) {
+    if (page.no != 0) return false;
+    stuck_error++;
+    return true;
+}
+
+static void test_failures_of_two_tries(void) {
+    open_dirty(2);
+    stop_writes_of(bit(0));
+    is_stuck = fails_as_before;
+    stuck_error = 40;
+    begin(0, PINS, page_at(5));
+    until_written(bit(0));
+    begin(1, FORGETS, page_at(5));
+    until_waiting(1);
+    end_writes(bit(0));
+    MUST(end(0) == WARM_OK && end(1) == WARM_OK && stuck_error == 42 && reads == 2);
+    must_have_failed(&callers[0].handle, 0, 0, WARM_FAILED_WRITE, 41);
+    MUST(failures(&callers[0].handle) == 2 && callers[0].slot.index == 1);
+    is_stuck = NULL;
+    stuck_error = EIO;
+    unpin(0);
+    close_all();
+}
+
 /* What is refused whichever page leaves is refused before one is written. */
 static void test_refused(void) {
     warm_slot slot;
@@ -758,6 +784,7 @@ int main(void) {
     test_first_frame();
     test_held_meanwhile();
     test_stale_meanwhile();
+    test_failures_of_two_tries();
     test_refused();
     test_alone();
     puts("writes_test: as expected");
