@@ -14,12 +14,14 @@
 /* ---- dirty pages of a shard ---- */
 
 /* Which pages are to be written: of this device, or of all where it is ALL; how many at most; and
- * how many were, and what the call is refused with. */
+ * how many were, and what the call is refused with. Where it passes pages that another call writes,
+ * it does not wait for these; and whether it has passed one. */
 enum { ALL = -1 };
 
 typedef struct walk {
     int dev;
     size_t limit, written;
+    bool passes, has_passed;
     int status;
 } walk;
 
@@ -70,6 +72,14 @@ static bool next_dirty(shard *in, size_t *frame, node_page *page) {
     return found;
 }
 
+/* Whether a page is to be written, or to be waited for. */
+static bool is_meant_by(walk *of, const shard *in, node_page page) {
+    if (of->dev != ALL && of->dev != page.dev) return false;
+    if (!of->passes || write_of_page(in, page) == NULL) return true;
+    of->has_passed = true;
+    return false;
+}
+
 /* Looks at one frame after another, from this one until the end, and leaves the shard while a page
  * is written: so a page that is dirty at the call is written, by this call or another one, as it
  * keeps its frame until then. One that another call writes may be dirty after that. One that cannot
@@ -78,7 +88,7 @@ static size_t write_between(
     opened *its, shard *in, bool is_locked, walk *of, size_t frame, size_t end) {
     node_page page;
     while (of->written < of->limit && next_dirty(in, &frame, &page) && frame < end) {
-        bool is_meant = of->dev == ALL || of->dev == page.dev;
+        bool is_meant = is_meant_by(of, in, page);
         if (is_meant && wait_for_write(in, page)) continue; /* the frame is looked at again */
         if (is_meant) write_page(its, in, page, is_locked, of);
         frame++;
@@ -96,11 +106,17 @@ static size_t dirty_in(shard *in) {
 /* ---- portions, and one page ---- */
 
 /* Begins behind where the last portion of the shard ended, and goes on from the first frame: so no
- * page waits for ever behind those that are changed again, or cannot be written. */
+ * page waits for ever behind those that are changed again, or cannot be written. Pages that another
+ * call writes are waited for in the end, where there are not enough others: else a portion would
+ * wait for each page of a write-back of all. */
 static void write_from_hand(opened *its, shard *in, bool is_locked, walk *of) {
     size_t first = in->hand;
+    of->passes = true;
+    of->has_passed = false;
     in->hand = write_between(its, in, is_locked, of, first, SIZE_MAX);
     if (of->written < of->limit) in->hand = write_between(its, in, is_locked, of, 0, first);
+    of->passes = false;
+    if (of->has_passed) write_between(its, in, is_locked, of, 0, SIZE_MAX);
 }
 
 /* Writes a portion of what waits in a shard, and returns how many pages are left. */

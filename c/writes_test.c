@@ -85,6 +85,29 @@ static void test_write_backs(void) {
     }
 }
 
+/* A portion waits for no page that another call writes, while others are left; and then it does. */
+static void test_portions_beside_another(void) {
+    for (int call = WRITES_ONE; call <= FLUSHES; call++) {
+        size_t left = 77;
+        open_dirty(4);
+        stop_writes_of(bit(0));
+        begin(0, call, page_at(0));
+        until_written(bit(0));
+        OK(warm_write_back_some(&first, 1, &left));
+        MUST(left == 3 && is_dirty(0) && !is_dirty(1) && is_dirty(2));
+        OK(warm_write_back_some(&first, 2, &left));
+        MUST(left == 1 && is_dirty(0) && !is_dirty(2) && !is_dirty(3));
+        begin(1, WRITES_SOME, page_at(0));
+        until_waiting(1);
+        write_to(&first, page_at(0), 'w'); /* so that it is written twice */
+        not_over(1);
+        end_writes(bit(0));
+        MUST(end(0) == WARM_OK && end(1) == WARM_OK && !is_dirty(0) && in_files[10][0] == 'w');
+        MUST(put == 5 && written_locked == 0);
+        close_all();
+    }
+}
+
 /* The page that is to leave for another one is found in its frame until then. */
 static void test_victims(void) {
     for (int call = PINS; call <= STEPS; call++) {
@@ -452,8 +475,9 @@ static void test_passing_over(void) {
 /* Who meets a page that another call writes waits, and does not write it where it is clean then; it
  * does where it is dirty. */
 static bool is_first_try(node_page page) {
+    if (page.no != 0) return false;
     is_stuck = NULL;
-    return page.no == 0;
+    return true;
 }
 
 static void two_writers(int call, bool fails, bool is_changed) {
@@ -763,6 +787,7 @@ static void test_alone(void) {
 int main(void) {
     alarm(600);
     test_write_backs();
+    test_portions_beside_another();
     test_victims();
     test_pinned_meanwhile();
     test_named_victims();
