@@ -108,6 +108,32 @@ static void test_portions_beside_another(void) {
     }
 }
 
+/* In the shards behind that one no page is tried twice, either. */
+static int second_tries;
+
+static bool is_second(node_page page) {
+    second_tries += page.no == 1;
+    return page.no == 1;
+}
+
+static void test_portions_of_shards(void) {
+    open_all(2, 4);
+    write_each(&first, 0, 2);
+    stop_writes_of(bit(0));
+    is_stuck = is_second;
+    second_tries = 0;
+    begin(0, WRITES_ONE, page_at(0));
+    until_written(bit(0));
+    begin(1, WRITES_SOME, page_at(0));
+    until_waiting(1);
+    end_writes(bit(0));
+    MUST(end(0) == WARM_OK && end(1) == WARM_WRITE_FAULT);
+    MUST(second_tries == 1 && failures(&callers[1].handle) == 1);
+    is_stuck = NULL;
+    OK(warm_write_back_all(&first));
+    close_all();
+}
+
 /* The page that is to leave for another one is found in its frame until then. */
 static void test_victims(void) {
     for (int call = PINS; call <= STEPS; call++) {
@@ -788,6 +814,7 @@ int main(void) {
     alarm(600);
     test_write_backs();
     test_portions_beside_another();
+    test_portions_of_shards();
     test_victims();
     test_pinned_meanwhile();
     test_named_victims();
