@@ -102,7 +102,7 @@ impl HotPages {
     pub fn is_empty(&self) -> bool
         ensures { IsTrue result ↔ self.now ≡ [] }
     {
-        self.keys.is_empty()
+        self.len() == 0
     }
 
     /// The page with this number, counted from 0, which is the hottest. Allocation-free.
