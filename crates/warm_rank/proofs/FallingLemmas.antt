@@ -1,27 +1,34 @@
 -- A list of keys sorted, with repeats dropped, and turned round; and the loops that find the
 -- candidates for a warm-up list.
-use Rattle.std.proofs.Common.{◌≡◌, ◌+◌, ℕ, Bool, true, false, not, List, [], ◌∷◌, ◌++◌, append_assoc, drop, map, reverse, sym, ap, refl, ◌∙◌, subst, Option, Some, None}
-use Rattle.std.specs.List.{Contains, cons_option, dedup}
-use Rattle.std.specs.List.Sorted.{IsPermutation, IsSorted, IsStrictlySortedBy}
+use Rattle.std.proofs.Common.{◌≡◌, ◌+◌, ◌<◌, ◌≤◌, ◌⊎◌, ℕ, Bool, true, false, not, List, [], ◌∷◌, ◌++◌, append_assoc, drop, length, get_or, map, reverse, sym, ap, refl, ◌∙◌, subst, Some, inl, inr, arith}
+use Rattle.std.specs.List.{Contains, HoldsAt, dedup}
+use Rattle.std.specs.List.Sorted.{IsPartitionPoint, IsPermutation, IsSorted, IsStrictlySortedBy}
 use Rattle.std.specs.Option.{option_map}
 use Rattle.std.specs.Ordering.{eq_by_cmp, is_eq, flip_args}
-use Rattle.std.proofs.lemmas.Cmp.{eq_by_cmp_equiv}
+use Rattle.std.specs.declared.cmp.Ordering.TheVariants.{Less, Equal, Greater}
+use Rattle.std.proofs.lemmas.Bool.{cases_Bool, cases_order}
+use Rattle.std.proofs.lemmas.Cmp.{eq_by_cmp_equiv, tied_itself}
+use Rattle.std.proofs.lemmas.List.{append-nil}
+use Rattle.std.proofs.lemmas.List.Elements.{filter-append, filter_map-append}
 use Rattle.std.proofs.lemmas.List.Kept.{Contains-dedup, Contains-from_dedup, IsStrictlySortedBy-dedup}
 use Rattle.std.proofs.lemmas.List.Sorted.{Contains-permutation, IsPermutation-reverse, IsPermutation-sym}
+use Rattle.std.proofs.lemmas.Map.Made.{is_member-Decides}
 use Rattle.warm_stamps.specs.declared.PageId.{PageId}
+use Rattle.warm_stamps.specs.Stamps.{page_cmp}
 use Rattle.warm_stamps.specs.Distinct.{distinct, IsAscending}
 use Rattle.warm_stamps.proofs.DistinctLemmas.{Has, distinct_rising, distinct_same, is_equal}
-use Rattle.warm_stamps.proofs.StampLemmas.{IsStrictOrder-flip}
-use Rattle.warm_history.specs.declared.hist.PageHist.{PageHist}
+use Rattle.warm_stamps.proofs.StampLemmas.{page_order, IsStrictOrder-flip}
 use Rattle.warm_history.specs.ReferenceSets.{ReferenceSet}
 use Rattle.warm_history.specs.Histories.{HistoryView, IsHistory, hist, references_of}
 use Rattle.warm_history.proofs.JoinLemmas.{history_of_own_references}
 use Rattle.warm_rank.specs.declared.RankKey.{RankKey}
+use Rattle.warm_rank.specs.contracts.RankKeyOrd.TheImpl as order
+use Rattle.warm_rank.specs.contracts.RankKeyPartialEq.TheImpl as derived
 use Rattle.warm_rank.specs.Keys.{rank_key, key_cmp, ranked_page}
 use Rattle.warm_rank.specs.Relisting.{AreHottest, RaisesOnly, WereHottest, candidates, greatest_keys, is_among, keys_of_others, named_keys}
 use Rattle.warm_rank.specs.WarmUp.{IsWarmUp, entry_keys}
-use Rattle.warm_rank.proofs.KeyLemmas.{key_order}
-use Rattle.warm_rank.proofs.Outranked.{contains_has, has_contains}
+use Rattle.warm_rank.proofs.KeyLemmas.{derived-key_cmp, key_order}
+use Rattle.warm_rank.proofs.Outranked.{contains_has, has_contains, same_item}
 use Rattle.warm_rank.proofs.RelistLemmas.{candidates_suffice}
 use Rattle.warm_rank.proofs.SortLemmas.{descending_reverse}
 use Rattle.warm_rank.proofs.WarmUpLemmas.{warm_from_keys}
@@ -33,6 +40,10 @@ rising_from_strict : (keys : List RankKey) → IsStrictlySortedBy key_cmp keys
 unfolding IsStrictlySortedBy
 rising_from_strict [] strict = tt
 rising_from_strict (k ∷ keys) strict = (strict.0, rising_from_strict keys strict.1)
+
+-- the derived test of equality is that of the order
+pub derived_ties : (j k : RankKey) → (derived.ghosts).eq j k ≡ eq_by_cmp key_cmp j k
+derived_ties j k = (order.ghosts).matches_eq j k ∙ ap is_eq (derived-key_cmp j k)
 
 -- where the test of equality, E, is that of the order
 pub falling_is : (E : RankKey → RankKey → Bool) → ((j k : RankKey) → E j k ≡ eq_by_cmp key_cmp j k)
@@ -68,44 +79,58 @@ falling_is E ties keys sorted once moved in_order is =
         let in_sorted = Contains-from_dedup E sorted k (subst (λ ks. Contains ks k) is in_once) in
         contains_has keys k (Contains-permutation sorted keys k (IsPermutation-sym keys sorted moved) in_sorted)
 
--- ---- the keys of other pages
+-- ---- loops that add the part of one item after the other
 
--- `done` are those of the first i keys, and k is the next
-pub other_passed : (pages : List PageId) (keys done : List RankKey) (i : ℕ) (k : RankKey)
-    → drop i keys ≡ k ∷ drop (i + 1) keys → is_among pages (ranked_page k) ≡ true
-    → done ++ keys_of_others pages (drop i keys) ≡ keys_of_others pages keys
-    → done ++ keys_of_others pages (drop (i + 1) keys) ≡ keys_of_others pages keys
-other_passed pages keys done i k next is_in so_far =
-    ap (λ ks. done ++ ks) (sym (ap (keys_of_others pages) next ∙ (rw is_in refl))) ∙ so_far
-
-pub other_added : (pages : List PageId) (keys done : List RankKey) (i : ℕ) (k : RankKey)
-    → drop i keys ≡ k ∷ drop (i + 1) keys → is_among pages (ranked_page k) ≡ false
-    → done ++ keys_of_others pages (drop i keys) ≡ keys_of_others pages keys
-    → (done ++ k ∷ []) ++ keys_of_others pages (drop (i + 1) keys) ≡ keys_of_others pages keys
-other_added pages keys done i k next is_out so_far =
-    append_assoc done (k ∷ []) (keys_of_others pages (drop (i + 1) keys))
-    ∙ ap (λ ks. done ++ ks) (sym (ap (keys_of_others pages) next ∙ (rw is_out refl)))
+-- `done` is the part of the first i items, x is the next, and `new` has its part too
+pub part_added : {A B : Type 0} (f : List A → List B)
+    → ((xs ys : List A) → f (xs ++ ys) ≡ f xs ++ f ys) → (xs : List A) (i : ℕ) (x : A)
+    → (done new all : List B) → drop i xs ≡ x ∷ drop (i + 1) xs → new ≡ done ++ f (x ∷ [])
+    → done ++ f (drop i xs) ≡ all → new ++ f (drop (i + 1) xs) ≡ all
+part_added f both xs i x done new all next is so_far =
+    let rest = drop (i + 1) xs in
+    ap (λ t. t ++ f rest) is
+    ∙ append_assoc done (f (x ∷ [])) (f rest)
+    ∙ ap (λ t. done ++ t) (sym (ap f next ∙ both (x ∷ []) rest))
     ∙ so_far
 
--- ---- the keys of named pages
+-- no item is left
+pub parts_are_all : {A B : Type 0} (f : List A → List B) → f [] ≡ [] → (left : List A)
+    → (done all : List B) → left ≡ [] → done ++ f left ≡ all → done ≡ all
+parts_are_all f none left done all is so_far =
+    sym (append-nil done) ∙ ap (λ t. done ++ t) (sym (ap f is ∙ none)) ∙ so_far
 
--- a page of which nothing is known gives none, any other one
-pub named_passed : (S : ReferenceSet) (pages : List PageId) (before done : List RankKey) (i : ℕ)
-    (p : PageId) → drop i pages ≡ p ∷ drop (i + 1) pages → hist S p ≡ None
-    → done ++ named_keys S (drop i pages) ≡ before ++ named_keys S pages
-    → done ++ named_keys S (drop (i + 1) pages) ≡ before ++ named_keys S pages
-named_passed S pages before done i p next none so_far =
-    ap (λ ks. done ++ ks) (sym (ap (named_keys S) next ∙ ap (λ x. cons_option (option_map (λ h. rank_key p (Some h)) x) (named_keys S (drop (i + 1) pages))) none)) ∙ so_far
+pub others_both : (pages : List PageId) (xs ys : List RankKey)
+    → keys_of_others pages (xs ++ ys) ≡ keys_of_others pages xs ++ keys_of_others pages ys
+others_both pages xs ys = filter-append (λ k. not (is_among pages (ranked_page k))) xs ys
 
-pub named_added : (S : ReferenceSet) (pages : List PageId) (before done : List RankKey) (i : ℕ)
-    (p : PageId) (h : PageHist) → drop i pages ≡ p ∷ drop (i + 1) pages → hist S p ≡ Some h
-    → done ++ named_keys S (drop i pages) ≡ before ++ named_keys S pages
-    → (done ++ rank_key p (Some h) ∷ []) ++ named_keys S (drop (i + 1) pages)
-    ≡ before ++ named_keys S pages
-named_added S pages before done i p h next some so_far =
-    append_assoc done (rank_key p (Some h) ∷ []) (named_keys S (drop (i + 1) pages))
-    ∙ ap (λ ks. done ++ ks) (sym (ap (named_keys S) next ∙ ap (λ x. cons_option (option_map (λ g. rank_key p (Some g)) x) (named_keys S (drop (i + 1) pages))) some))
-    ∙ so_far
+pub named_both : (S : ReferenceSet) (xs ys : List PageId)
+    → named_keys S (xs ++ ys) ≡ named_keys S xs ++ named_keys S ys
+named_both S xs ys = filter_map-append (λ p. option_map (λ h. rank_key p (Some h)) (hist S p)) xs ys
+
+-- ---- the search for a page among sorted ones
+
+pub found_among : (pages : List PageId) (page : PageId) (i : ℕ) → i < length pages
+    → HoldsAt (λ p. page_cmp p page ≡ Equal) pages i → is_among pages page ≡ true
+found_among pages page i there tied =
+    (is_member-Decides (same_item page_cmp page_order) pages page).1 (i, there, page_order.same (get_or pages i page) page (tied page))
+
+pub not_among : (pages : List PageId) (page : PageId) (i : ℕ)
+    → IsPartitionPoint (λ p. page_cmp p page ≡ Less) (λ p. page_cmp p page ≡ Greater) pages i
+    → is_among pages page ≡ false
+not_among pages page i (below, above) = elim (cases_Bool (is_among pages page)) [
+  | inr not_in ↦ not_in
+  | inl is ↦ absurd (nowhere ((is_member-Decides (same_item page_cmp page_order) pages page).0 is))
+]
+  where
+    itself : (k : ℕ) → get_or pages k page ≡ page → page_cmp (get_or pages k page) page ≡ Equal
+    itself k is = ap (λ p. page_cmp p page) is ∙ tied_itself page_order.total page
+
+    nowhere : Contains pages page → ⊥
+    nowhere (k, there, is) = elim (cases_order k i) [
+      | inl same ↦ let no : Greater ≡ Equal = sym (above k page (omega (arith, same)) there) ∙ itself k is in absurd (cc)
+      | inr (inl before) ↦ let no : Less ≡ Equal = sym (below k page (omega arith) before) ∙ itself k is in absurd (cc)
+      | inr (inr after) ↦ let no : Greater ≡ Equal = sym (above k page (omega (arith, after)) there) ∙ itself k is in absurd (cc)
+    ]
 
 -- ---- the list
 

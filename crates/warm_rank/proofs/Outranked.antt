@@ -75,7 +75,7 @@ pub record IsOutranked {A : Type 0} (cmp : A → A → Ordering) (items : List A
   pub before : (x : A) → Has first x → cmp x r ≡ Less
 
 module _ {A : Type 0} (cmp : A → A → Ordering) (order : IsStrictOrder cmp) where
-  same_item : (x y : A) → Decides (eq_by_cmp cmp x y) (x ≡ y)
+  pub same_item : (x y : A) → Decides (eq_by_cmp cmp x y) (x ≡ y)
   same_item x y = (λ tied. order.same x y (is_equal (cmp x y) tied), λ is. ap (λ z. is_eq (cmp x z)) (sym is) ∙ ap is_eq (tied_itself order.total x))
 
   -- ---- an item that comes after n others

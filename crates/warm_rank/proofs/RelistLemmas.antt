@@ -1,6 +1,5 @@
 -- After a raise, the hottest pages are among those listed before and those that rose.
 use Rattle.std.proofs.Common.{◌≡◌, ℕ, ◌≤◌, Bool, true, false, not, List, [], ◌∷◌, ◌++◌, map, length, take, is_some, sym, ap, refl, ◌∙◌, subst, Option, Some, None, inl, inr, ◌⊎◌, arith}
-use Rattle.std.specs.Bool.{Decides}
 use Rattle.std.specs.List.{AllByRecursion, Contains, IsDistinct, cons_option}
 use Rattle.std.specs.Option.{option_map}
 use Rattle.std.specs.Ordering.{eq_by_cmp, is_eq, is_lt, flip_args}
@@ -14,7 +13,7 @@ use Rattle.warm_stamps.specs.declared.PageId.{PageId}
 use Rattle.warm_stamps.specs.declared.Reference.{Reference}
 use Rattle.warm_stamps.specs.Stamps.{page_cmp}
 use Rattle.warm_stamps.specs.Distinct.{distinct, IsAscending}
-use Rattle.warm_stamps.proofs.DistinctLemmas.{Has, all_of_has, by_cases, flipped, is_equal, distinct_rises, has_distinct, has_from_distinct, rising_take}
+use Rattle.warm_stamps.proofs.DistinctLemmas.{Has, by_cases, flipped, distinct_rises, has_distinct, has_from_distinct, rising_take}
 use Rattle.warm_stamps.proofs.StampLemmas.{page_order, IsStrictOrder-flip}
 use Rattle.warm_history.specs.ReferenceSets.{ReferenceSet, references}
 use Rattle.warm_history.specs.declared.hist.PageHist.{PageHist}
@@ -27,7 +26,7 @@ use Rattle.warm_rank.specs.Keys.{rank_key, key_cmp, ranked_page}
 use Rattle.warm_rank.specs.Relisting.{CandidatesSuffice, RaisesOnly, candidates, greatest_keys, hottest_keys, is_among, keys_of_others, named_keys, page_key}
 use Rattle.warm_rank.specs.WarmUp.{entry_keys}
 use Rattle.warm_rank.proofs.KeyLemmas.{key_order, page_of-rank_key}
-use Rattle.warm_rank.proofs.Outranked.{IsOutranked, contains_has, has_contains, has_back, has_either, has_filter, has_front, has_from_filter, has_take, first_of_some, taken_or_behind}
+use Rattle.warm_rank.proofs.Outranked.{IsOutranked, contains_has, has_contains, has_back, has_either, has_filter, has_front, has_from_filter, has_take, first_of_some, same_item, taken_or_behind}
 use Rattle.warm_rank.proofs.WarmUpLemmas.{keys_of_pages}
 
 -- the hottest first
@@ -156,15 +155,12 @@ module _ (S T : ReferenceSet) (n : ℕ) (changed : List PageId) (raise : RaisesO
   ranked_falls : IsAscending hotter ranked
   ranked_falls = distinct_rises hotter hotter_order (entry_keys (history S))
 
-  same_page : (p q : PageId) → Decides (eq_by_cmp page_cmp p q) (p ≡ q)
-  same_page p q = (λ tied. page_order.same p q (is_equal (page_cmp p q) tied), λ is. ap (λ x. is_eq (page_cmp p x)) (sym is) ∙ ap is_eq (tied_itself page_order.total p))
-
   -- a page is among the changed ones, or says what it said
   changed_or_not : (p : PageId)
       → Has changed p ⊎ ((is_among changed p ≡ false) × (hist T p ≡ hist S p))
   changed_or_not p = elim (cases_Bool (is_among changed p)) [
-    | inl is ↦ inl (contains_has changed p ((is_member-Decides same_page changed p).0 is))
-    | inr not_in ↦ inr (not_in, raise.others_stay p (λ has. let no : false ≡ true = sym not_in ∙ (is_member-Decides same_page changed p).1 has in absurd (cc)))
+    | inl is ↦ inl (contains_has changed p ((is_member-Decides (same_item page_cmp page_order) changed p).0 is))
+    | inr not_in ↦ inr (not_in, raise.others_stay p (λ has. let no : false ≡ true = sym not_in ∙ (is_member-Decides (same_item page_cmp page_order) changed p).1 has in absurd (cc)))
   ]
 
   -- a listed key is that of a page of which something was known, and is
@@ -200,7 +196,7 @@ module _ (S T : ReferenceSet) (n : ℕ) (changed : List PageId) (raise : RaisesO
         let passed = has_from_filter (λ j. not (is_among changed (ranked_page j))) listed k stayed in
         let from = listed_from k passed.0 in
         let p = ranked_page k in
-        let same : hist T p ≡ hist S p = raise.others_stay p (λ named_it. let no : false ≡ true = ap not (sym ((is_member-Decides same_page changed p).1 named_it)) ∙ passed.1 in absurd (cc)) in
+        let same : hist T p ≡ hist S p = raise.others_stay p (λ named_it. let no : false ≡ true = ap not (sym ((is_member-Decides (same_item page_cmp page_order) changed p).1 named_it)) ∙ passed.1 in absurd (cc)) in
         subst (Has (entry_keys (history T))) (ap (rank_key p) same ∙ sym from.0) (entry_has T p (ap is_some same ∙ from.1))
   ]
 

@@ -1,10 +1,10 @@
 //! The pages to load first.
 ghost use Rattle.std.specs.Prelude.{◌≡◌, ◌<◌, ◌++◌, length, map, reverse, IfOk, IsPermutation};
-ghost use Rattle.std.specs.Prelude.{◌↔◌, [], IsSorted, IsTrue, OnOk};
+ghost use Rattle.std.specs.Prelude.{◌↔◌, [], ◌∷◌, IsSorted, IsTrue, OnOk};
 ghost use Rattle.warm_history.specs.Histories.{IsHistory, references_of};
 ghost use Rattle.warm_stamps.specs.Stamps.{page_cmp};
 ghost use Rattle.warm_rank.specs.Greatest.{AreGreatest};
-ghost use Rattle.warm_rank.specs.Keys.{entry_key, key_cmp};
+ghost use Rattle.warm_rank.specs.Keys.{entry_key, key_cmp, ranked_page};
 ghost use Rattle.warm_rank.specs.Relisting.{AreHottest, AreHottestOfKeys, WereHottest};
 ghost use Rattle.warm_rank.specs.Relisting.{greatest_keys, is_among, keys_of_others, listed_page};
 ghost use Rattle.warm_rank.specs.Relisting.{named_keys};
@@ -28,7 +28,7 @@ pub fn warm_list(alloc: Global, history: &History, n: usize) -> Result<Vec<PageI
     ensures { IfOk result (λ pages. IsWarmUp history.now n pages.items) }
 {
     let hot = HotPages::of(alloc, history, n)?;
-    hot.keys.iter().map(|key| key.page()).collect(alloc)
+    pages_of(alloc, &hot.keys)
 }
 
 /// A warm-up list with the ranks of its pages, so that it can follow a history that takes in
@@ -81,8 +81,7 @@ impl HotPages {
         requires { WereHottest history.now n changed.now self.now }
         ensures { IfOk result (λ hot. AreHottest history.now n hot) }
     {
-        let mut pages: Vec<PageId> = changed.iter().copied().collect(alloc)?;
-        pages.sort_unstable();
+        let pages = sorted_pages(alloc, changed)?;
         let mut candidates = others(alloc, &self.keys, &pages)?;
         // What a look-up gives is over the references that the history holds.
         prove_is_history(history);
@@ -167,18 +166,46 @@ fn descending_keys(alloc: Global, keys: &mut [FlatKey]) -> Result<Vec<FlatKey>, 
     keys.iter().rev().copied().collect(alloc)
 }
 
-// The keys of other pages than these, which are sorted, in their order.
+// The pages of keys, in their order.
+fn pages_of(alloc: Global, keys: &[FlatKey]) -> Result<Vec<PageId>, AllocError>
+    ensures { IfOk result (λ pages. pages.items ≡ map ranked_page keys.now) }
+{
+    keys.iter().map(|key| key.page()).collect(alloc)
+}
+
+// A copy of these pages, sorted.
+fn sorted_pages(alloc: Global, pages: &[PageId]) -> Result<Vec<PageId>, AllocError>
+    ensures same_pages { IfOk result (λ sorted. IsPermutation pages.now sorted.items) }
+    ensures sorted { IfOk result (λ sorted. IsSorted page_cmp sorted.items) }
+{
+    let mut sorted = pages.to_vec(alloc)?;
+    sorted.sort_unstable();
+    Ok(sorted)
+}
+
+// The keys of other pages than these, which are sorted; in their order.
 fn others(alloc: Global, keys: &[FlatKey], pages: &[PageId]) -> Result<Vec<FlatKey>, AllocError>
     requires { IsSorted page_cmp pages.now }
     ensures { IfOk result (λ others. others.items ≡ keys_of_others pages.now keys.now) }
 {
     let mut others = Vec::with_capacity(alloc, keys.len())?;
     for key in keys {
-        if !is_among(pages, key.page()) {
-            others.push(*key)?;
-        }
+        push_other(&mut others, pages, *key)?;
     }
     Ok(others)
+}
+
+// Adds a key, unless its page is one of these, which are sorted.
+fn push_other(others: &mut Vec<FlatKey>, pages: &[PageId], key: FlatKey) -> Result<(), AllocError>
+    requires { IsSorted page_cmp pages.now }
+    ensures { OnOk result (others.new.items
+        ≡ others.old.items ++ keys_of_others pages.now (key ∷ [])) }
+{
+    if is_among(pages, key.page()) {
+        return Ok(());
+    }
+    others.push(key)?;
+    Ok(())
 }
 
 // Whether a page is one of these, which are sorted.
@@ -199,11 +226,21 @@ fn add_named(keys: &mut Vec<FlatKey>, history: &History, pages: &[PageId]) -> Re
         ≡ keys.old.items ++ named_keys (references_of history.now) pages.now) }
 {
     for page in pages {
-        if let Some(hist) = history.get(*page) {
-            let page = *page;
-            keys.push(FlatKey::of_entry(Entry { page, hist }))?;
-        }
+        push_named(keys, history, *page)?;
     }
+    Ok(())
+}
+
+// Adds the key of a page, where the history knows it.
+fn push_named(keys: &mut Vec<FlatKey>, history: &History, page: PageId) -> Result<(), AllocError>
+    requires { IsHistory history.now }
+    ensures { OnOk result (keys.new.items
+        ≡ keys.old.items ++ named_keys (references_of history.now) (page ∷ [])) }
+{
+    let Some(hist) = history.get(page) else {
+        return Ok(());
+    };
+    keys.push(FlatKey::of_entry(Entry { page, hist }))?;
     Ok(())
 }
 
