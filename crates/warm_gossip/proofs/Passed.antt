@@ -16,9 +16,9 @@ use Rattle.warm_history.proofs.JoinLemmas.{history_of_own_references}
 use Rattle.warm_rank.specs.declared.RankKey.{RankKey}
 use Rattle.warm_rank.specs.Keys.{ranked_page}
 use Rattle.warm_rank.specs.Ranking.{IsBefore, eviction_cmp, hottest_pages}
-use Rattle.warm_rank.specs.Relisting.{RaisesOnly, WereHottest}
+use Rattle.warm_rank.specs.Relisting.{AreHottest, RaisesOnly, WereHottest}
 use Rattle.warm_rank.proofs.EvictionLemmas.{eviction_is_order, eviction_order}
-use Rattle.warm_rank.proofs.RaisedLemmas.{hottest_still, raises_both}
+use Rattle.warm_rank.proofs.RaisedLemmas.{hottest_now, hottest_still, raises_both}
 use Rattle.warm_pool.specs.declared.slot.Placed.{Placed}
 use Rattle.warm_pool.specs.declared.slot.Slot.{Slot}
 use Rattle.warm_pool.specs.View.{PoolView, frame_at}
@@ -91,6 +91,14 @@ noted g h v pages x y raise (inr (same, passed, more)) under =
       };
       past = u.past;
     }
+
+-- a list that was just made, of which none is passed
+pub listed_first : (h : HistoryView) (v : PoolView) (keys : List RankKey) (n : ℕ) → IsHistory h
+    → AreHottest h (length v.frames) keys → n ≡ 0 → IsListed h v [] keys n
+listed_first h v keys n whole hottest none = record {
+  hottest = hottest_now h (length v.frames) keys whole hottest;
+  past = λ j before. absurd (omega (arith, none, before));
+}
 
 -- ---- pins
 

@@ -173,7 +173,8 @@ fn take_list<D: PageDevice>(
     ensures kept { OnErr result (IsWarming history.now (view_of pool.now) warm_up.new) }
 {
     let Some(list) = warm_up.list.take() else {
-        return new_list(alloc, warm_up, history, pool.frames());
+        let list = new_list(alloc, warm_up, history, pool.frames())?;
+        return Ok(list);
     };
     if warm_up.changed.is_empty() {
         return Ok(list);
