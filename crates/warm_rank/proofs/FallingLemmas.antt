@@ -16,7 +16,7 @@ use Rattle.std.proofs.lemmas.Map.Made.{is_member-Decides}
 use Rattle.warm_stamps.specs.declared.PageId.{PageId}
 use Rattle.warm_stamps.specs.Stamps.{page_cmp}
 use Rattle.warm_stamps.specs.Distinct.{distinct, IsAscending}
-use Rattle.warm_stamps.proofs.DistinctLemmas.{Has, distinct_rising, distinct_same, is_equal}
+use Rattle.warm_stamps.proofs.DistinctLemmas.{IsStrictOrder, Has, distinct_rising, distinct_same, is_equal}
 use Rattle.warm_stamps.proofs.StampLemmas.{page_order, IsStrictOrder-flip}
 use Rattle.warm_history.specs.ReferenceSets.{ReferenceSet}
 use Rattle.warm_history.specs.Histories.{HistoryView, IsHistory, hist, references_of}
@@ -50,12 +50,9 @@ pub falling_is : (E : RankKey → RankKey → Bool) → ((j k : RankKey) → E j
     → (keys sorted once : List RankKey) → IsPermutation keys sorted → IsSorted key_cmp sorted
     → once ≡ dedup E sorted → reverse once ≡ distinct (flip_args key_cmp) keys
 falling_is E ties keys sorted once moved in_order is =
-    sym (distinct_same hotter hotter_order keys (reverse once) there back ∙ distinct_rising hotter hotter_order (reverse once) (descending_reverse key_cmp key_order once (rising_from_strict once strict)))
+    sym (distinct_same (flip_args key_cmp) hotter_order keys (reverse once) there back ∙ distinct_rising (flip_args key_cmp) hotter_order (reverse once) (descending_reverse key_cmp key_order once (rising_from_strict once strict)))
   where
-    hotter : _
-    hotter = flip_args key_cmp
-
-    hotter_order : _
+    hotter_order : IsStrictOrder (flip_args key_cmp)
     hotter_order = IsStrictOrder-flip key_cmp key_order
 
     test : E ≡ eq_by_cmp key_cmp
@@ -118,8 +115,8 @@ pub not_among : (pages : List PageId) (page : PageId) (i : ℕ)
     → IsPartitionPoint (λ p. page_cmp p page ≡ Less) (λ p. page_cmp p page ≡ Greater) pages i
     → is_among pages page ≡ false
 not_among pages page i (below, above) = elim (cases_Bool (is_among pages page)) [
-  | inr not_in ↦ not_in
   | inl is ↦ absurd (nowhere ((is_member-Decides (same_item page_cmp page_order) pages page).0 is))
+  | inr not_in ↦ not_in
 ]
   where
     itself : (k : ℕ) → get_or pages k page ≡ page → page_cmp (get_or pages k page) page ≡ Equal

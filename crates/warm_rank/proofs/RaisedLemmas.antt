@@ -13,7 +13,7 @@ use Rattle.warm_stamps.specs.declared.PageId.{PageId}
 use Rattle.warm_stamps.specs.declared.Reference.{Reference}
 use Rattle.warm_stamps.specs.Stamps.{stamp_cmp, page_cmp}
 use Rattle.warm_stamps.specs.Distinct.{insert_distinct, distinct, IsAscending}
-use Rattle.warm_stamps.proofs.DistinctLemmas.{by_cases, flipped, distinct_rises, distinct_swap}
+use Rattle.warm_stamps.proofs.DistinctLemmas.{IsStrictOrder, by_cases, flipped, distinct_rises, distinct_swap}
 use Rattle.warm_stamps.proofs.StampLemmas.{page_order, stamp_order, IsStrictOrder-flip}
 use Rattle.warm_history.specs.ReferenceSets.{ReferenceSet, is_kept, references_from, references, ◌∪◌}
 use Rattle.warm_history.specs.ListHistories.{first_two, list_hist}
@@ -47,7 +47,7 @@ not_below_both i j k first second = (ranks_by key_order.total (λ (k : RankKey).
 abbrev falls : Stamp → Stamp → Ordering
 falls = flip_args stamp_cmp
 
-falls_order : _
+falls_order : IsStrictOrder falls
 falls_order = IsStrictOrder-flip stamp_cmp stamp_order
 
 -- the key of a page with these stamps, which fall

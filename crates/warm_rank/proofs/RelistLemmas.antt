@@ -13,7 +13,7 @@ use Rattle.warm_stamps.specs.declared.PageId.{PageId}
 use Rattle.warm_stamps.specs.declared.Reference.{Reference}
 use Rattle.warm_stamps.specs.Stamps.{page_cmp}
 use Rattle.warm_stamps.specs.Distinct.{distinct, IsAscending}
-use Rattle.warm_stamps.proofs.DistinctLemmas.{Has, by_cases, flipped, distinct_rises, has_distinct, has_from_distinct, rising_take}
+use Rattle.warm_stamps.proofs.DistinctLemmas.{IsStrictOrder, Has, by_cases, flipped, distinct_rises, has_distinct, has_from_distinct, rising_take}
 use Rattle.warm_stamps.proofs.StampLemmas.{page_order, IsStrictOrder-flip}
 use Rattle.warm_history.specs.ReferenceSets.{ReferenceSet, references}
 use Rattle.warm_history.specs.declared.hist.PageHist.{PageHist}
@@ -33,7 +33,7 @@ use Rattle.warm_rank.proofs.WarmUpLemmas.{keys_of_pages}
 abbrev hotter : RankKey → RankKey → Ordering
 hotter = flip_args key_cmp
 
-hotter_order : _
+hotter_order : IsStrictOrder hotter
 hotter_order = IsStrictOrder-flip key_cmp key_order
 
 -- ---- the items of a list that is made item by item
@@ -50,6 +50,13 @@ has_from_map f (x ∷ xs) y (inl here) = (x, inl refl, here)
 has_from_map f (x ∷ xs) y (inr there) = let from = has_from_map f xs y there in (from.0, inr from.1, from.2)
 
 -- different items give different ones
+all_apart : {A B : Type 0} (before : A → A → Ordering) (cmp : B → B → Ordering) (f : A → B) (x : A)
+    (xs : List A) → AllByRecursion (λ y. before x y ≡ Less) xs
+    → ((y : A) → Has xs y → before x y ≡ Less → is_eq (cmp (f x) (f y)) ≡ false)
+    → AllByRecursion (λ z. is_eq (cmp (f x) z) ≡ false) (map f xs)
+all_apart before cmp f x [] all apart = tt
+all_apart before cmp f x (y ∷ ys) all apart = (apart y (inl refl) all.0, all_apart before cmp f x ys all.1 (λ z has. apart z (inr has)))
+
 distinct_map : {A B : Type 0} (before : A → A → Ordering) (cmp : B → B → Ordering) (f : A → B)
     (xs : List A) → IsAscending before xs
     → ((x y : A) → Has xs x → Has xs y → before x y ≡ Less → is_eq (cmp (f x) (f y)) ≡ false)
@@ -57,15 +64,9 @@ distinct_map : {A B : Type 0} (before : A → A → Ordering) (cmp : B → B →
 unfolding IsDistinct
 distinct_map before cmp f [] rising apart = tt
 distinct_map before cmp f (x ∷ xs) rising apart = (
-  all_apart xs rising.0 (λ y has. has),
-  distinct_map before cmp f xs rising.1 (λ y z has_y has_z less. apart y z (inr has_y) (inr has_z) less),
+  all_apart before cmp f x xs rising.0 (λ y has. apart x y (inl refl) (inr has)),
+  distinct_map before cmp f xs rising.1 (λ y z has_y has_z. apart y z (inr has_y) (inr has_z)),
 )
-  where
-    all_apart : (ys : List _) → AllByRecursion (λ y. before x y ≡ Less) ys
-        → ((y : _) → Has ys y → Has xs y)
-        → AllByRecursion (λ z. is_eq (cmp (f x) z) ≡ false) (map f ys)
-    all_apart [] all within = tt
-    all_apart (y ∷ ys) all within = (apart x y (inl refl) (inr (within y (inl refl))) all.0, all_apart ys all.1 (λ z has. within z (inr has)))
 
 -- ---- the pages of which something is known
 
@@ -191,13 +192,13 @@ module _ (S T : ReferenceSet) (n : ℕ) (changed : List PageId) (raise : RaisesO
   candidate_from : (k : RankKey) → Has (candidates T changed listed) k
       → Has (entry_keys (history T)) k
   candidate_from k has = elim (has_either (keys_of_others changed listed) (named_keys T changed) k has) [
-    | inr moved ↦ named_keys_from T changed k moved
     | inl stayed ↦
         let passed = has_from_filter (λ j. not (is_among changed (ranked_page j))) listed k stayed in
         let from = listed_from k passed.0 in
         let p = ranked_page k in
-        let same : hist T p ≡ hist S p = raise.others_stay p (λ named_it. let no : false ≡ true = ap not (sym ((is_member-Decides (same_item page_cmp page_order) changed p).1 named_it)) ∙ passed.1 in absurd (cc)) in
+        let same : hist T p ≡ hist S p = raise.others_stay p (λ moved. let no : false ≡ true = ap not (sym ((is_member-Decides (same_item page_cmp page_order) changed p).1 moved)) ∙ passed.1 in absurd (cc)) in
         subst (Has (entry_keys (history T))) (ap (rank_key p) same ∙ sym from.0) (entry_has T p (ap is_some same ∙ from.1))
+    | inr moved ↦ named_keys_from T changed k moved
   ]
 
   -- the pages of different listed keys have different keys after the raise
