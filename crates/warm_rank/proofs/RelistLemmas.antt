@@ -117,14 +117,15 @@ module _ (S : ReferenceSet) where
   named_keys_from : (ps : List PageId) (k : RankKey) → Has (named_keys S ps) k
       → Has (entry_keys (history S)) k
   named_keys_from [] k has = absurd has
-  named_keys_from (q ∷ ps) k has = cases (hist S q) refl has
+  named_keys_from (q ∷ ps) k has = cases (named_keys_from ps k) (hist S q) refl has
     where
-      cases : (x : Option PageHist) → hist S q ≡ x
+      cases : (Has (named_keys S ps) k → Has (entry_keys (history S)) k) → (x : Option PageHist)
+          → hist S q ≡ x
           → Has (cons_option (option_map (λ h. rank_key q (Some h)) x) (named_keys S ps)) k
           → Has (entry_keys (history S)) k
-      cases None is has = named_keys_from ps k has
-      cases (Some h) is (inl here) = subst (Has (entry_keys (history S))) (ap (rank_key q) is ∙ here) (entry_has q (ap is_some is))
-      cases (Some h) is (inr there) = named_keys_from ps k there
+      cases later None is has = later has
+      cases later (Some h) is (inl here) = subst (Has (entry_keys (history S))) (ap (rank_key q) is ∙ here) (entry_has q (ap is_some is))
+      cases later (Some h) is (inr there) = later there
 
 -- ---- raises
 
