@@ -1,6 +1,6 @@
 -- The progress of a node's warm-up, which is kept between its steps.
-use Rattle.std.specs.Prelude.{◌≡◌, ◌⊎◌, ℕ, ◌+◌, ◌<◌, ◌++◌, List, [], length, map, Option, Some, None}
-use Rattle.std.specs.Prelude.{IfSome}
+use Rattle.std.specs.Prelude.{◌≡◌, ◌⊎◌, ℕ, ◌+◌, ◌<◌, ◌++◌, List, [], length, map, Option, Some}
+use Rattle.std.specs.Prelude.{None, IfSome}
 use Rattle.warm_stamps.specs.declared.PageId.{PageId}
 use Rattle.warm_history.specs.Histories.{HistoryView, references_of}
 use Rattle.warm_rank.specs.declared.RankKey.{RankKey}
@@ -52,8 +52,8 @@ abbrev pub PassedAtNext : HistoryView → List PageId → ℕ → PageId → Pag
 PassedAtNext h pages at p evicted new = (new ≡ 0) ⊎ ((at < length pages) × (nth_page pages at ≡ p)
     × PassedAtLoad h p (Some evicted) at new)
 
--- after a pin of a page whose bytes were given: a list in which pages may have risen does not say in
--- which order its pages leave
+-- after a pin of a page whose bytes were given: a list in which pages may have risen does not say
+-- in which order its pages leave
 abbrev pub PassedAtFill : HistoryView → WarmUp → PageId → Option PageId → ℕ → Type 0
 PassedAtFill h warm_up p None new = new ≡ warm_up.passed
 PassedAtFill h warm_up p (Some evicted) new = IfSome warm_up.list (λ keys. (new ≡ 0)

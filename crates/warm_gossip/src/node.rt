@@ -21,8 +21,8 @@ use warm_stamps::ReplicaId;
 ///
 /// It caches the digests of its history's buckets until an entry of its history changes or it
 /// restarts, and its warm-up list, into which it merges the pages of references that came since
-/// ([`Node::warm_step`]). Calls that bring nothing new, as repeated gossip does, keep both: no offer
-/// and no warm-up step then recomputes them.
+/// ([`Node::warm_step`]). Calls that bring nothing new, as repeated gossip does, keep both: no
+/// offer and no warm-up step then recomputes them.
 ///
 /// A pin is not a reference: pages are ranked by the references that the node absorbed. A caller
 /// that pins a page also absorbs one.

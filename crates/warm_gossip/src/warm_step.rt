@@ -1,6 +1,6 @@
 //! Warming up a node's pool, a page at a time.
-ghost use Rattle.std.specs.Prelude.{◌≡◌, ◌↔◌, ◌<◌, ◌++◌, [], length, map, None, IfOk, IfErr, IsTrue};
-ghost use Rattle.std.specs.Prelude.{OnErr, OnOk};
+ghost use Rattle.std.specs.Prelude.{◌≡◌, ◌↔◌, ◌<◌, ◌++◌, [], length, map, None, IfOk, IfErr};
+ghost use Rattle.std.specs.Prelude.{IsTrue, OnErr, OnOk};
 ghost use Rattle.warm_history.specs.Histories.{IsHistory};
 ghost use Rattle.warm_rank.specs.Keys.{ranked_page};
 ghost use Rattle.warm_rank.specs.Relisting.{AreHottest};

@@ -1,8 +1,8 @@
--- How a warm-up list is kept while references are taken in: a page that none of them names keeps its
--- rank, and no page falls. So only the named pages move, and no page that is not listed passes one
--- that is, unless it is named.
-use Rattle.std.specs.Prelude.{◌≡◌, ℕ, ◌≤◌, Bool, not, false, List, ◌++◌, filter, map, take, Contains}
-use Rattle.std.specs.Prelude.{slice_index_or, Some, IsPermutation}
+-- How a warm-up list is kept while references are taken in: a page that none of them names keeps
+-- its rank, and no page falls. So only the named pages move, and no page that is not listed passes
+-- one that is, unless it is named.
+use Rattle.std.specs.Prelude.{◌≡◌, ℕ, ◌≤◌, Bool, not, false, List, ◌++◌, filter, map, take}
+use Rattle.std.specs.Prelude.{slice_index_or, Some, IsPermutation, Contains}
 use Rattle.std.specs.List.{filter_map}
 use Rattle.std.specs.Option.{option_map}
 use Rattle.std.specs.Ordering.{is_lt, eq_by_cmp, flip_args}
@@ -83,8 +83,8 @@ abbrev pub TakingInRaises : Type 0
 TakingInRaises = (S T : ReferenceSet) → T.horizon ≤ S.horizon
     → RaisesOnly (map (λ r. r.page) T.given) S (S ∪ T)
 
--- after a raise, the hottest pages are the hottest of those listed before and of those that may have
--- risen: no other page needs to be looked at
+-- after a raise, the hottest pages are the hottest of those listed before and of those that may
+-- have risen: no other page needs to be looked at
 abbrev pub CandidatesSuffice : Type 0
 CandidatesSuffice = (S T : ReferenceSet) (n : ℕ) (changed : List PageId) → RaisesOnly changed S T
     → hottest_keys T n ≡ greatest_keys (candidates T changed (hottest_keys S n)) n

@@ -53,13 +53,14 @@ pub fn victim_is_farthest()
     ensures { VictimIsFarthest }
 {}
 
-/// References that a set takes in, without a later horizon, raise only pages that they name. No page
-/// falls.
+/// References that a set takes in, without a later horizon, raise only pages that they name. No
+/// page falls.
 pub fn taking_in_raises()
     ensures { TakingInRaises }
 {}
 
-/// After a raise, the hottest pages are the hottest of those that were listed and of those that rose.
+/// After a raise, the hottest pages are the hottest of those that were listed and of those that
+/// rose.
 pub fn candidates_suffice()
     ensures { CandidatesSuffice }
 {}

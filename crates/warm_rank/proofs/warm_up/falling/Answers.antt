@@ -10,4 +10,4 @@ returns c =
     let sorted = c.sort.new.self.items in
     let once = c.dedup.new.self.items in
     c.truncate.ensures.items
-    ∙ ap (take c.args.n) (c.reverse.ensures.after ∙ falling_is _ derived_ties c.args.keys.items sorted once c.sort.ensures.permutation (subst (λ cmp. IsSorted cmp sorted) derived_order c.in_ok-sort.ensures.sorted) (dedup_is _ sorted once c.dedup.ensures.filtered))
+    ∙ ap (take c.args.n) (c.reverse.ensures.items ∙ falling_is _ derived_ties c.args.keys.items sorted once c.sort.ensures.permutation (subst (λ cmp. IsSorted cmp sorted) derived_order c.in_ok-sort.ensures.sorted) (dedup_is _ sorted once c.dedup.ensures.filtered))
