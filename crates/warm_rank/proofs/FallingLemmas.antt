@@ -22,7 +22,7 @@ use Rattle.warm_history.specs.ReferenceSets.{ReferenceSet}
 use Rattle.warm_history.specs.Histories.{HistoryView, IsHistory, hist, references_of}
 use Rattle.warm_history.proofs.JoinLemmas.{history_of_own_references}
 use Rattle.warm_rank.specs.declared.RankKey.{RankKey}
-use Rattle.warm_rank.specs.contracts.RankKeyOrd.TheImpl as order
+use Rattle.warm_rank.specs.contracts.RankKeyOrd.TheImpl.Laws as order
 use Rattle.warm_rank.specs.contracts.RankKeyPartialEq.TheImpl as derived
 use Rattle.warm_rank.specs.Keys.{rank_key, key_cmp, ranked_page}
 use Rattle.warm_rank.specs.Relisting.{AreHottest, RaisesOnly, WereHottest, candidates, greatest_keys, is_among, keys_of_others, named_keys}
@@ -43,7 +43,7 @@ rising_from_strict (k ∷ keys) strict = (strict.0, rising_from_strict keys stri
 
 -- the derived test of equality is that of the order
 pub derived_ties : (j k : RankKey) → (derived.ghosts).eq j k ≡ eq_by_cmp key_cmp j k
-derived_ties j k = (order.ghosts).matches_eq j k ∙ ap is_eq (derived-key_cmp j k)
+derived_ties j k = order.matches_eq-law j k ∙ ap is_eq (derived-key_cmp j k)
 
 -- where the test of equality, E, is that of the order
 pub falling_is : (E : RankKey → RankKey → Bool) → ((j k : RankKey) → E j k ≡ eq_by_cmp key_cmp j k)
