@@ -7,13 +7,9 @@ use Rattle.std.specs.declared.cmp.Ordering.TheVariants.{Less}
 use Rattle.warm_stamps.specs.declared.Stamp.{Stamp}
 use Rattle.warm_stamps.specs.declared.TheConstants.{MAX_REPLICAS}
 use Rattle.warm_stamps.specs.Replicas.{IsReplica}
-use Rattle.warm_stamps.specs.Stamps.{stamp_cmp}
+use Rattle.warm_stamps.specs.Stamps.{stamp_at, stamp_cmp}
 use Rattle.warm_history.specs.declared.hist.PageHist.{PageHist}
 use Rattle.warm_history.specs.declared.hist.PageHist.TheVariants.{Once, Twice}
-
--- a stamp of these two numbers
-abbrev pub stamp_at : ℕ → ℕ → Stamp
-stamp_at time replica = record { time = time; replica = replica }
 
 -- the history of these two stamps, or of the first alone where the second has no replica
 abbrev pub unpacked : Stamp → Stamp → PageHist

@@ -6,12 +6,11 @@ ghost use Rattle.std.specs.Prelude.{◌≡◌, ◌↔◌, ◌≢◌, ◌++◌, �
 ghost use Rattle.std.specs.Prelude.{None, Some};
 ghost use Rattle.std.specs.Ordering.{is_lt};
 ghost use Rattle.warm_stamps.specs.Replicas.{IsReplica};
-ghost use Rattle.warm_stamps.specs.Stamps.{stamp_cmp};
+ghost use Rattle.warm_stamps.specs.Stamps.{stamp_at, stamp_cmp};
 ghost use Rattle.warm_history.specs.ListHistories.{latest_of, hist_stamps, known_stamps};
 ghost use Rattle.warm_history.specs.ReferenceSets.{is_kept};
 ghost use Rattle.warm_history.specs.Histories.{IsKept};
 ghost use Rattle.warm_history.specs.KeptEntries.{kept_hist};
-ghost use Rattle.warm_history.specs.PackedHists.{stamp_at};
 
 use crate::hist::{PageHist, Two};
 use std::marker::Model;
@@ -35,8 +34,8 @@ impl Model for Packed {
       last_of,
       packed_again,
       prev_of,
-      stamp_at,
     };
+    ghost use Rattle.warm_stamps.specs.Stamps.{stamp_at};
 
     ghost Value = { PageHist };
 

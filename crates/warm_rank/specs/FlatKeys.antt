@@ -1,17 +1,14 @@
 -- Keys in half the room: the fields of a key, side by side.
-use Rattle.std.specs.Prelude.{◌≡◌, ◌≢◌, ℕ, ◌==◌, cond}
+use Rattle.std.specs.Prelude.{◌≡◌, ◌≢◌, ◌==◌, cond}
 use Rattle.std.specs.Ordering.{nat_cmp, on, then_cmp}
 use Rattle.std.specs.declared.cmp.Ordering.{Ordering}
 use Rattle.warm_stamps.specs.declared.Stamp.{Stamp}
 use Rattle.warm_stamps.specs.declared.PageId.{PageId}
 use Rattle.warm_stamps.specs.Replicas.{IsReplica}
+use Rattle.warm_stamps.specs.Stamps.{stamp_at}
 use Rattle.warm_rank.specs.declared.RankKey.{RankKey}
 use Rattle.warm_rank.specs.declared.RankKey.TheVariants.{Never, Once, Twice}
 use Rattle.warm_rank.specs.declared.flat_key.Fields.{Fields}
-
--- a stamp of these two numbers
-abbrev pub stamp_at : ℕ → ℕ → Stamp
-stamp_at time replica = record { time = time; replica = replica }
 
 -- the key that has these fields
 abbrev pub key_in : Fields → RankKey

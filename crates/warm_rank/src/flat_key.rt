@@ -6,8 +6,9 @@
 ghost use Rattle.std.specs.Prelude.{◌≡◌, IfSome, cond};
 ghost use Rattle.std.specs.declared.cmp.Ordering.TheVariants.{Greater, Less};
 ghost use Rattle.warm_stamps.specs.Replicas.{IsReplica};
+ghost use Rattle.warm_stamps.specs.Stamps.{stamp_at};
 ghost use Rattle.warm_rank.specs.declared.RankKey.TheVariants.{Never, Once, Twice};
-ghost use Rattle.warm_rank.specs.FlatKeys.{fields_cmp, stamp_at};
+ghost use Rattle.warm_rank.specs.FlatKeys.{fields_cmp};
 ghost use Rattle.warm_rank.specs.Keys.{entry_key, key_cmp, ranked_page};
 ghost use Rattle.warm_rank.specs.contracts.RankKeyPartialEq.TheImpl.Laws as equality;
 ghost use Rattle.warm_rank.specs.contracts.RankKeyEq.TheImpl.Laws as equivalence;

@@ -1,6 +1,6 @@
 use Rattle.std.proofs.Common.{◌++◌, ap, sym, ◌∙◌}
+use Rattle.warm_stamps.specs.Stamps.{stamp_at}
 use Rattle.warm_history.specs.ListHistories.{latest_of, hist_stamps}
-use Rattle.warm_history.specs.PackedHists.{stamp_at}
 use Rattle.warm_history.proofs.EntryLemmas.{latest_of_more}
 use Rattle.warm_history.proofs.PackedLemmas.{two_unpacked}
 use Rattle.warm_history.proofs.packed.Packed.joined.Goals as goal
