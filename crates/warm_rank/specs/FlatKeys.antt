@@ -11,8 +11,8 @@ use Rattle.warm_rank.specs.declared.RankKey.TheVariants.{Never, Once, Twice}
 use Rattle.warm_rank.specs.declared.flat_key.Fields.{Fields}
 
 -- the key that has these fields
-abbrev pub key_in : Fields → RankKey
-key_in f =
+abbrev pub key_of_fields : Fields → RankKey
+key_of_fields f =
     let page : PageId = record { dev = f.dev; no = f.no } in
     let older : Stamp = stamp_at f.older_time f.older_replica in
     cond (f.stamps == 0) (Never page)
@@ -55,7 +55,7 @@ fields_of (Twice a' a p) =
 
 -- these are the fields of a key whose replicas there may be
 pub record AreFields (f : Fields) : Type 0 where
-  pub again : fields_of (key_in f) ≡ f
+  pub again : fields_of (key_of_fields f) ≡ f
   pub older : f.stamps ≢ 0 → IsReplica f.older_replica
   pub later : f.stamps ≢ 0 → f.stamps ≢ 1 → IsReplica f.later_replica
 

@@ -42,11 +42,11 @@ pub(crate) struct FlatKey {
 
 impl Model for FlatKey {
     ghost use Rattle.warm_rank.specs.declared.RankKey.{RankKey};
-    ghost use Rattle.warm_rank.specs.FlatKeys.{AreFields, fields_of, key_in};
+    ghost use Rattle.warm_rank.specs.FlatKeys.{AreFields, fields_of, key_of_fields};
 
     ghost Value = { RankKey };
 
-    ghost view = { λ k. key_in k.fields };
+    ghost view = { λ k. key_of_fields k.fields };
 
     ghost invariant = { λ k. AreFields k.fields };
 
