@@ -9,10 +9,9 @@ use Rattle.warm_stamps.specs.Buckets.{page_bucket}
 use Rattle.warm_stamps.specs.Stamps.{page_cmp}
 use Rattle.warm_history.specs.declared.hist.Entry.{Entry}
 use Rattle.warm_history.specs.BucketMaps.{HoldsBucket}
-use Rattle.warm_history.specs.Carried.{is_next_in_bucket}
+use Rattle.warm_history.specs.Carried.{after_page, is_next_in_bucket, later_of_bucket}
 use Rattle.warm_history.specs.MapKeys.{first_key}
 use Rattle.warm_history.specs.MapPairs.{MapPairs, AreKept, as_entries, kept}
-use Rattle.warm_history.specs.Merges.{after_page, later_of_bucket}
 use Rattle.warm_history.proofs.BucketParts.{from_first_on}
 use Rattle.warm_history.proofs.BucketSteps.{AllIn}
 use Rattle.warm_history.proofs.MapKeyOrder.{above, at_most, in_bucket, of_bucket}

@@ -22,7 +22,7 @@ use Rattle.warm_history.specs.Cuts.{cut_pair, cut_at}
 use Rattle.warm_history.specs.ListHistories.{latest_of, hist_stamps, known_stamps}
 use Rattle.warm_history.specs.MapKeys.{full_key, first_far_key, page_of_key}
 use Rattle.warm_history.specs.MapPairs.{MapPairs, as_entries}
-use Rattle.warm_history.specs.Merges.{after_page}
+use Rattle.warm_history.specs.Carried.{after_page}
 use Rattle.warm_history.specs.NearPairs.{with_keys, widened, full, IsFar, IsMapOf}
 use Rattle.warm_history.specs.BucketMaps.{LiesIn, found, IsUndoNote, RecordsStamps}
 use Rattle.warm_history.specs.Undo.{put_back}

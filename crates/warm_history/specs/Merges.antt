@@ -1,24 +1,15 @@
 -- The parts of a history, each the entries of some buckets, and how they merge in page order.
 use Rattle.std.specs.Prelude.{ℕ, ◌&&◌, nat_lt, nat_le, cond, Bool, true, false, List, [], ◌∷◌}
 use Rattle.std.specs.Prelude.{filter, Option, Some, None}
-use Rattle.std.specs.Ordering.{is_gt, is_lt}
+use Rattle.std.specs.Ordering.{is_gt}
 use Rattle.warm_stamps.specs.declared.PageId.{PageId}
 use Rattle.warm_stamps.specs.Stamps.{page_cmp}
 use Rattle.warm_stamps.specs.Buckets.{page_bucket}
 use Rattle.warm_history.specs.declared.hist.Entry.{Entry}
 use Rattle.warm_history.specs.declared.merge_iter.BucketIter.{BucketIter}
 use Rattle.warm_history.specs.declared.merge_iter.MergeIter.{MergeIter}
-use Rattle.warm_history.specs.Carried.{is_next_in_bucket}
 use Rattle.warm_history.specs.MapPairs.{as_entries}
 use Rattle.warm_history.specs.NearPairs.{lent_entry}
-
--- the entries of a bucket whose page is greater than the given one, if one is given
-abbrev pub later_of_bucket : ℕ → Option PageId → List Entry → List Entry
-later_of_bucket bucket after es = filter (λ e. is_next_in_bucket bucket after e.page) es
-
--- the entries whose page is greater than the given one
-abbrev pub after_page : PageId → List Entry → List Entry
-after_page last es = filter (λ e. is_lt (page_cmp last e.page)) es
 
 -- the number of the page's bucket is at least from, and less than to
 abbrev pub is_between : ℕ → ℕ → PageId → Bool

@@ -13,7 +13,7 @@ ghost use Rattle.warm_history.specs.MapKeys.{key_of_page};
 ghost use Rattle.warm_history.specs.Cuts.{cut_at};
 ghost use Rattle.warm_history.specs.MapPairs.{as_entries};
 ghost use Rattle.warm_history.specs.BucketMaps.{KeysAscend, RecordsStamps, found};
-ghost use Rattle.warm_history.specs.Merges.{after_page};
+ghost use Rattle.warm_history.specs.Carried.{after_page};
 ghost use Rattle.warm_history.specs.NearPairs.{full, lent_entry, widened, IsMapOf, IsBare};
 ghost use Rattle.warm_history.specs.Undo.{noted, put_back};
 ghost use Rattle.warm_history.specs.Walks.{AreTwoLatest, TellsChange, merged};

@@ -5,11 +5,10 @@ ghost use Rattle.warm_history.specs.ReferenceSets.{ReferenceSet, set_of_list, wi
 ghost use Rattle.warm_history.specs.Histories.{entries_of, history_of_entries};
 ghost use Rattle.warm_history.specs.Histories.{history_of_entries_at, hist, references_of, history};
 ghost use Rattle.warm_history.specs.Histories.{join, StandsFor, TakesIn, IsHistory};
-ghost use Rattle.warm_history.specs.Carried.{AreCarried, bucket_entries};
+ghost use Rattle.warm_history.specs.Carried.{AreCarried, bucket_entries, later_of_bucket};
 ghost use Rattle.warm_history.specs.Losses.{KeepsIn, LosesIn, MarksLosing, bucket_at_horizon};
 ghost use Rattle.warm_history.specs.Losses.{raised};
 ghost use Rattle.warm_history.specs.Changes.{MarksChanged};
-ghost use Rattle.warm_history.specs.Merges.{later_of_bucket};
 ghost use Rattle.warm_history.specs.Since.{AreCarriedSince, entries_since};
 
 use crate::bucket_map::{self, BucketPairs};

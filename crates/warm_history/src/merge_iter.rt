@@ -12,7 +12,8 @@ ghost use Rattle.warm_history.specs.NearPairs.{lent_entry};
 ghost use Rattle.warm_history.specs.Merges.{bucket_iter_left, two_left, four_left, eight_left};
 ghost use Rattle.warm_history.specs.Merges.{sixteen_left, thirty_two_left, all_left};
 ghost use Rattle.warm_history.specs.Merges.{first_of, rest_of, merge, both_left, merge_iter_left};
-ghost use Rattle.warm_history.specs.Merges.{of_buckets, is_later, later_of_bucket};
+ghost use Rattle.warm_history.specs.Carried.{later_of_bucket};
+ghost use Rattle.warm_history.specs.Merges.{of_buckets, is_later};
 
 use crate::bucket_map::{BucketPairs, Lent};
 use crate::bucket_maps::BucketMaps;

@@ -1,6 +1,6 @@
 use Rattle.std.proofs.Common.{ap, ◌∙◌}
 use Rattle.warm_history.specs.MapPairs.{as_entries, kept}
-use Rattle.warm_history.specs.Merges.{after_page}
+use Rattle.warm_history.specs.Carried.{after_page}
 use Rattle.warm_history.specs.NearPairs.{full}
 use Rattle.warm_history.proofs.EntriesOfBucket.{entries_of_bucket, after_in_bucket}
 use Rattle.warm_history.proofs.NearParts.{full_inside}
