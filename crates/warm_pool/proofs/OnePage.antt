@@ -4,7 +4,7 @@ use Rattle.std.proofs.lemmas.Option.{same_Some}
 use Rattle.warm_stamps.specs.declared.PageId.{PageId}
 use Rattle.warm_devices.specs.declared.fault.DeviceFault.{DeviceFault}
 use Rattle.warm_pool.specs.Frames.{FrameState, nth_frame, cleaned}
-use Rattle.warm_pool.specs.PageTable.{IsPlaceOf}
+use Rattle.warm_pool.specs.frame_table.PageTable.{IsPlaceOf}
 use Rattle.warm_pool.specs.State.{PoolState, IsPool, IsNowhere, RankedBy}
 use Rattle.warm_pool.specs.View.{view_of}
 use Rattle.warm_pool.specs.Keeping.{FailsAt, KeepsRanks}

@@ -20,7 +20,7 @@ use Rattle.warm_pool.proofs.Bytes.{bytes_nowhere, contents_seen, device_seen, fr
 use Rattle.warm_pool.proofs.Keeps.{pool_from, view_of_kept}
 use Rattle.warm_pool.proofs.SettleLemmas.{AreAlike, counts, alike_kept, down_view, flush_down, flush_fails_at}
 use Rattle.warm_pool.proofs.ClosingLemmas.{nth_other}
-use Rattle.warm_pool.proofs.VacateLemmas.{clean_to}
+use Rattle.warm_pool.proofs.frame_table.VacateLemmas.{clean_to}
 use Rattle.warm_pool.proofs.EmptyLemmas.{nth_vacated, vacated_pool, vacated_ranked, unfixed_to}
 use Rattle.warm_pool.specs.declared.selection.Devices.{Devices}
 use Rattle.warm_pool.specs.declared.selection.Devices.TheVariants.{One}

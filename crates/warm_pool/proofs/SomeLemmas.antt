@@ -12,7 +12,7 @@ use Rattle.warm_pool.specs.WritingSome.{one_if, dirty_count, CleansFirst, SomeFa
 use Rattle.warm_pool.proofs.ClosingLemmas.{nth_rest}
 use Rattle.warm_pool.proofs.FlushLemmas.{same_shape}
 use Rattle.warm_pool.proofs.SettleLemmas.{down_view, ranked_to}
-use Rattle.warm_pool.proofs.VacateLemmas.{clean_to}
+use Rattle.warm_pool.proofs.frame_table.VacateLemmas.{clean_to}
 use Rattle.warm_pool.specs.declared.selection.Devices.TheVariants.{All, One}
 
 -- one frame more

@@ -6,7 +6,7 @@ use Rattle.warm_stamps.specs.declared.PageId.{PageId}
 use Rattle.warm_rank.specs.declared.RankKey.{RankKey}
 use Rattle.warm_rank.specs.Keys.{key_cmp}
 use Rattle.warm_rank.specs.Slots.{key_at, set_first_cmp}
-use Rattle.warm_pool.specs.declared.frame.Status.{Status}
+use Rattle.warm_pool.specs.declared.frame_table.frame.Status.{Status}
 
 -- A frame: its page and the page's rank, its generation (how many pages have been loaded into it),
 -- the pin count (`fixes`), whether the page is dirty (differs or may differ from its device's

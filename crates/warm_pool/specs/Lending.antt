@@ -9,8 +9,8 @@ use Rattle.warm_devices.specs.declared.device.PageDevice.{Ghosts}
 use Rattle.warm_pool.specs.Frames.{FrameBody, FrameState, FramesState, fresh_body, nth_frame}
 use Rattle.warm_pool.specs.FrameSteps.{changed_at}
 use Rattle.warm_pool.specs.State.{PoolState}
-use Rattle.warm_pool.specs.contracts.frame.Frame.{the_row as frame_row}
-use Rattle.warm_pool.specs.contracts.frames.Frames.{the_row as frames_row}
+use Rattle.warm_pool.specs.contracts.frame_table.frame.Frame.{the_row as frame_row}
+use Rattle.warm_pool.specs.contracts.frame_table.frames.Frames.{the_row as frames_row}
 use Rattle.warm_pool.specs.contracts.pool.Pool.{the_row}
 
 -- As many of these bytes as there were before. What is lent keeps its length, so these are all of

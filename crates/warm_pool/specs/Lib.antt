@@ -1,7 +1,5 @@
 pub mod Frames
 pub mod FrameSteps
-pub mod Chains
-pub mod PageTable
 pub mod State
 pub mod View
 pub mod Counting
@@ -12,7 +10,6 @@ pub mod Calls
 pub mod Flushes
 pub mod WritingBack
 pub mod WritingSome
-pub mod Statuses
 pub mod Pinning
 pub mod PageBytes
 pub mod Lending
@@ -24,3 +21,4 @@ pub mod HandingBack
 pub mod Forgetting
 pub mod Faults
 pub mod Laws
+pub mod frame_table

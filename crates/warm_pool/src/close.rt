@@ -20,7 +20,7 @@ ghost use Rattle.warm_pool.specs.declared.selection.Devices.TheVariants.{All, On
 
 use crate::fault::{PoolFault, RetireError};
 use crate::flush::{exchange, flush_all, flush_device, let_all_go};
-use crate::frames::Frames;
+use crate::frame_table::frames::Frames;
 use crate::pool::{Pool, write_back};
 use crate::selection::Devices;
 use std::fmt;

@@ -8,7 +8,7 @@ ghost use Rattle.warm_pool.specs.Forgetting.{Forgets, ForgetRefused, MayForget, 
 
 use crate::close::is_fixed;
 use crate::fault::PoolFault;
-use crate::frames::Frames;
+use crate::frame_table::frames::Frames;
 use crate::pool::Pool;
 use crate::selection::Devices;
 use warm_devices::PageDevice;

@@ -29,7 +29,7 @@ ghost use Rattle.warm_pool.specs.declared.fault.PoolFault.TheVariants.{OutOfPage
 use crate::MAX_DEVICES;
 use crate::device_list::{all_sized, pages_of, read_page, write_page};
 use crate::fault::{NewPoolError, NewPoolFault, PoolFault};
-use crate::frames::Frames;
+use crate::frame_table::frames::Frames;
 use crate::named::NamesPage;
 use crate::slot::{Placed, Slot};
 use crate::tally::Tally;

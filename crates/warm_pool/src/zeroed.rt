@@ -15,7 +15,7 @@ ghost use Rattle.warm_pool.specs.Zeroing.{FixesZeros, PinnedZeroed, PutsZeros, T
 ghost use Rattle.warm_pool.specs.Zeroing.{LeavesUnread, ZeroFails, ZeroedRefused, ZeroesInto, zeroed_frame};
 
 use crate::fault::PoolFault;
-use crate::frames::Frames;
+use crate::frame_table::frames::Frames;
 use crate::pool::{Pool, rank_of, write_back};
 use crate::slot::Slot;
 use warm_devices::{MAX_PAGE_SIZE, PageDevice};
