@@ -11,8 +11,9 @@ use Rattle.warm_pool.specs.State.{PoolState, IsPool, RankedBy, nth_device, no_de
 use Rattle.warm_pool.specs.View.{stored, view_of, frame_view, device_view, is_page, bytes_in, FrameView, HasPage, contents_at}
 use Rattle.warm_pool.specs.Keeping.{FailsAt}
 use Rattle.warm_pool.specs.WritingBack.{is_on, KeptDevices, WritesBack, cleaned_selected}
-use Rattle.warm_pool.specs.Retiring.{Retired, MayRetire, IsFixedOn, emptied, IsFixedIn, AreUnfixed, AreClean, KeepsElsewhere, PreparesRetire, retired, vacate_if, vacated_selected}
-use Rattle.warm_pool.specs.Flushes.{IsFlushed, FlushFails}
+use Rattle.warm_pool.specs.Retiring.{Retired, MayRetire, IsFixedOn, emptied, KeepsElsewhere, retired, vacate_if, vacated_selected}
+use Rattle.warm_pool.specs.steps.Retiring.{IsFixedIn, AreUnfixed, AreClean, PreparesRetire}
+use Rattle.warm_pool.specs.steps.Flushes.{IsFlushed, FlushFails}
 use Rattle.warm_pool.proofs.FlushLemmas.{same_shape}
 use Rattle.warm_pool.proofs.Slots.{at_set}
 use Rattle.warm_pool.proofs.DeviceSteps.{failures_kept, failures_grown}

@@ -58,13 +58,6 @@ pub record FrameBody : Type 0 where
   pub generation : ℕ
   pub bytes : List ℕ
 
--- the status and the body of a frame without a page, into which none was ever loaded
-abbrev pub unused_status : Status
-unused_status = record { fixes = 0; dirty = false }
-
-abbrev pub fresh_body : List ℕ → FrameBody
-fresh_body bytes = record { key = None; generation = 0; bytes = bytes }
-
 -- the rank of the page in a frame
 abbrev pub rank_in : Option PageId → Option RankKey → Option RankKey
 rank_in None key = None

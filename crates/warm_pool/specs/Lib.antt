@@ -7,7 +7,6 @@ pub mod Keeping
 pub mod Opening
 pub mod DeviceCalls
 pub mod Calls
-pub mod Flushes
 pub mod WritingBack
 pub mod WritingSome
 pub mod Pinning
@@ -22,3 +21,4 @@ pub mod Forgetting
 pub mod Faults
 pub mod Laws
 pub mod frame_table
+pub mod steps

@@ -2,3 +2,5 @@
 pub mod Chains
 pub mod PageTable
 pub mod Statuses
+pub mod FrameSteps
+pub mod Lending

@@ -5,7 +5,7 @@ use Rattle.warm_rank.specs.Laws.{pages_in}
 use Rattle.warm_pool.specs.frame_table.Chains.{page_in}
 use Rattle.warm_pool.specs.Counting.{one_if_held}
 use Rattle.warm_pool.specs.Frames.{FrameState}
-use Rattle.warm_pool.specs.FrameSteps.{pages_held}
+use Rattle.warm_pool.specs.frame_table.FrameSteps.{pages_held}
 use Rattle.warm_pool.specs.View.{FrameView, frame_view}
 
 -- one frame more

@@ -8,8 +8,9 @@ use Rattle.warm_rank.specs.Keys.{key_cmp}
 use Rattle.warm_rank.specs.Slots.{key_at}
 use Rattle.warm_rank.specs.Behind.{IsBehind, AreRepaired}
 use Rattle.warm_pool.specs.declared.frame_table.frame.Status.{Status}
-use Rattle.warm_pool.specs.Frames.{FrameState, FrameBody, FramesState, AreTied, LagsBehind, nth_frame, fresh_frame, fresh_body, unused_status, rank_in, frame_of, frames_of, eviction_key}
-use Rattle.warm_pool.specs.FrameSteps.{changed_at, pages_held}
+use Rattle.warm_pool.specs.Frames.{FrameState, FrameBody, FramesState, AreTied, LagsBehind, nth_frame, fresh_frame, rank_in, frame_of, frames_of, eviction_key}
+use Rattle.warm_pool.specs.frame_table.FrameSteps.{fresh_body, unused_status}
+use Rattle.warm_pool.specs.frame_table.FrameSteps.{changed_at, pages_held}
 use Rattle.warm_pool.proofs.Slots.{at_set}
 use Rattle.warm_pool.proofs.frame_table.Lagging.{IsUpdated, fresh_lag, all_behind, all_repaired}
 

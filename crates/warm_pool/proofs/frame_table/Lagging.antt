@@ -13,7 +13,7 @@ use Rattle.warm_rank.proofs.KeyLemmas.{key_order}
 use Rattle.warm_rank.proofs.BehindLemmas.{itself, none_last}
 use Rattle.warm_pool.specs.declared.frame_table.frame.Status.{Status}
 use Rattle.warm_pool.specs.Frames.{FrameState, FrameBody, LagsBehind, nth_frame, fresh_frame, frame_of, frames_of, eviction_key, key_unless_fixed}
-use Rattle.warm_pool.specs.Retiring.{clear_if}
+use Rattle.warm_pool.specs.steps.Retiring.{clear_if}
 use Rattle.warm_pool.specs.WritingBack.{selects}
 use Rattle.warm_pool.proofs.Slots.{bare_key}
 use Rattle.warm_pool.specs.declared.selection.Devices.{Devices}

@@ -3,7 +3,8 @@ use Rattle.std.proofs.Common.{◌≡◌, ℕ, zero, suc, ◌+◌, ◌<◌, ◌�
 use Rattle.warm_stamps.specs.declared.PageId.{PageId}
 use Rattle.warm_rank.specs.declared.RankKey.{RankKey}
 use Rattle.warm_pool.specs.declared.frame_table.frame.Status.{Status}
-use Rattle.warm_pool.specs.Frames.{FrameBody, FramesState, AreTied, frames_of, unused_status}
+use Rattle.warm_pool.specs.Frames.{FrameBody, FramesState, AreTied, frames_of}
+use Rattle.warm_pool.specs.frame_table.FrameSteps.{unused_status}
 use Rattle.warm_pool.specs.frame_table.Statuses.{dirty_statuses, status_at}
 use Rattle.warm_pool.specs.WritingSome.{dirty_count, one_if}
 use Rattle.warm_pool.proofs.frame_table.FrameParts.{kept}

@@ -10,7 +10,8 @@ use Rattle.warm_pool.specs.frame_table.Chains.{page_in}
 use Rattle.warm_pool.specs.declared.frame_table.frame.Status.{Status}
 use Rattle.warm_pool.specs.Frames.{FrameState, FrameBody, FramesState, AreTied, LagsBehind, nth_frame, cleaned, vacated, frame_of, frames_of}
 use Rattle.warm_pool.specs.WritingBack.{selects, cleaned_selected}
-use Rattle.warm_pool.specs.Retiring.{AreClean, clear_if, vacate_if, vacated_selected}
+use Rattle.warm_pool.specs.Retiring.{vacate_if, vacated_selected}
+use Rattle.warm_pool.specs.steps.Retiring.{AreClean, clear_if}
 use Rattle.warm_pool.proofs.frame_table.Lagging.{all_cleared as all_lag}
 use Rattle.warm_pool.proofs.frame_table.FrameParts.{kept}
 use Rattle.warm_pool.proofs.ClosingLemmas.{nth_page}

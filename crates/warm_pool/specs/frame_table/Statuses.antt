@@ -1,7 +1,7 @@
 -- The statuses of a pool's frames.
 use Rattle.std.specs.Prelude.{ℕ, ◌+◌, ◌-◌, Bool, List, [], ◌∷◌, slice_index_or}
 use Rattle.warm_pool.specs.declared.frame_table.frame.Status.{Status}
-use Rattle.warm_pool.specs.Frames.{unused_status}
+use Rattle.warm_pool.specs.frame_table.FrameSteps.{unused_status}
 use Rattle.warm_pool.specs.WritingSome.{one_if}
 
 -- the status of the frame of this index, from 0

@@ -1,7 +1,7 @@
 //! The contents of a frame.
 ghost use Rattle.std.specs.Prelude.{◌≡◌, vec_len, ◌<◌};
 ghost use Rattle.std.specs.Borrow.{sem};
-ghost use Rattle.warm_pool.specs.Lending.{LendsBody, LendsBodyOf, nth_body};
+ghost use Rattle.warm_pool.specs.frame_table.Lending.{LendsBody, LendsBodyOf, nth_body};
 
 use std::marker::Model;
 use warm_rank::RankKey;

@@ -9,14 +9,13 @@ ghost use Rattle.std.specs.Prelude.{slice_index, IfOk, IsTrue, None, Some, â—Œâ†
 ghost use Rattle.warm_rank.specs.Laws.{pages_in};
 ghost use Rattle.warm_pool.specs.declared.selection.Devices.TheVariants.{All};
 ghost use Rattle.warm_pool.specs.frame_table.Chains.{AreChains, AreInTurn, AreLinked};
-ghost use Rattle.warm_pool.specs.frame_table.Chains.{IsPredecessor, after};
-ghost use Rattle.warm_pool.specs.frame_table.Chains.{chain_of, chains_of, hash_of, heads_with_link};
-ghost use Rattle.warm_pool.specs.frame_table.Chains.{link_after};
+ghost use Rattle.warm_pool.specs.frame_table.Chains.{IsPredecessor, after, chain_of, chains_of};
+ghost use Rattle.warm_pool.specs.frame_table.Chains.{hash_of, heads_with_link, link_after};
 ghost use Rattle.warm_pool.specs.frame_table.Chains.{chains_without, mix_of, next_with_link};
 ghost use Rattle.warm_pool.specs.frame_table.Chains.{page_in};
 ghost use Rattle.warm_pool.specs.Counting.{one_if_held};
 ghost use Rattle.warm_pool.specs.frame_table.PageTable.{IsFirstFree, IsPlaceOf};
-ghost use Rattle.warm_pool.specs.Retiring.{clear_if};
+ghost use Rattle.warm_pool.specs.steps.Retiring.{clear_if};
 
 use crate::selection::Devices;
 use std::alloc::{AllocError, Global};

@@ -1,9 +1,8 @@
 //! The statuses of a pool's frames, and the number of those that are dirty.
 ghost use Rattle.std.specs.Prelude.{◌≡◌, ◌+◌, ◌-◌, ◌^◌, ◌<◌, ◌≤◌, length, replicate, set, IfOk};
-ghost use Rattle.warm_pool.specs.Frames.{unused_status};
+ghost use Rattle.warm_pool.specs.frame_table.FrameSteps.{unused_status};
 ghost use Rattle.warm_pool.specs.frame_table.Statuses.{dirty_statuses, status_at, status_fixed};
-ghost use Rattle.warm_pool.specs.frame_table.Statuses.{status_marked};
-ghost use Rattle.warm_pool.specs.frame_table.Statuses.{status_unfixed};
+ghost use Rattle.warm_pool.specs.frame_table.Statuses.{status_marked, status_unfixed};
 ghost use Rattle.warm_pool.specs.WritingSome.{one_if};
 
 use crate::frame_table::frame::Status;

@@ -2,7 +2,8 @@ use Rattle.std.proofs.Common.{◌≢◌, None, [], sym, ap, ◌∙◌, get_or}
 use Rattle.std.proofs.lemmas.List.{get_or_read}
 use Rattle.std.proofs.Math.ListN.{get_or-map as mapped}
 use Rattle.warm_rank.proofs.VacantLemmas.{none_there, some_there}
-use Rattle.warm_pool.specs.Frames.{frames_of, frame_of, fresh_body, fresh_frame, unused_status, key_unless_fixed, eviction_key}
+use Rattle.warm_pool.specs.Frames.{frames_of, frame_of, fresh_frame, key_unless_fixed, eviction_key}
+use Rattle.warm_pool.specs.frame_table.FrameSteps.{fresh_body, unused_status}
 use Rattle.warm_pool.proofs.Slots.{bare_key}
 use Rattle.warm_pool.proofs.frame_table.FrameParts.{nth_within, rank_of_page}
 use Rattle.warm_pool.proofs.frame_table.competing.competing_key.Goals as goal

@@ -1,7 +1,7 @@
 use Rattle.std.proofs.Common.{◌≡◌, ap, refl, ◌∙◌}
 use Rattle.std.proofs.lemmas.List.{get_or_read_under}
 use Rattle.std.specs.Vec.{with_item}
-use Rattle.warm_pool.specs.Lending.{refilled_body, nth_body}
+use Rattle.warm_pool.specs.frame_table.Lending.{refilled_body, nth_body}
 use Rattle.warm_pool.proofs.frame_table.frame.bytes_mut_of.Goals as goal
 
 pub returns : goal.returns

@@ -1,5 +1,5 @@
 use Rattle.std.proofs.Common.{◌≡◌, replicate}
-use Rattle.warm_pool.specs.Frames.{fresh_body}
+use Rattle.warm_pool.specs.frame_table.FrameSteps.{fresh_body}
 use Rattle.warm_pool.proofs.frame_table.frames.fresh_frames.Given as goal
 
 abbrev pub invariant-loop : goal.invariant-loop

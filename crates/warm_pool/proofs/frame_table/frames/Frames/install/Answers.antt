@@ -1,6 +1,6 @@
 use Rattle.std.proofs.Common.{Some, false, ap, sym, subst, refl, ◌∙◌, arith}
 use Rattle.warm_pool.specs.Frames.{frame_of}
-use Rattle.warm_pool.specs.FrameSteps.{loaded_frame, filled_body}
+use Rattle.warm_pool.specs.frame_table.FrameSteps.{loaded_frame, filled_body}
 use Rattle.warm_pool.proofs.frame_table.Lagging.{IsUpdated, updated}
 use Rattle.warm_pool.proofs.frame_table.FrameParts.{has_page, has_slot, has_status, has_body, body_is, seen, stay_tied, becomes}
 use Rattle.warm_pool.proofs.frame_table.frames.Frames.install.Goals as goal

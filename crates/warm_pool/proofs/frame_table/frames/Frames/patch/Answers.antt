@@ -1,5 +1,6 @@
 use Rattle.std.proofs.Common.{◌+◌, ◌≤◌, length, None, true, ap, sym, subst, refl, ◌∙◌, get_or}
-use Rattle.warm_pool.specs.Frames.{frame_of, rank_in, unused_status}
+use Rattle.warm_pool.specs.Frames.{frame_of, rank_in}
+use Rattle.warm_pool.specs.frame_table.FrameSteps.{unused_status}
 use Rattle.warm_pool.specs.FrameSteps.{written}
 use Rattle.warm_pool.specs.PageBytes.{patched}
 use Rattle.warm_pool.proofs.frame_table.Lagging.{not_updated, lags_kept}

@@ -1,5 +1,6 @@
 use Rattle.std.proofs.Common.{◌≢◌, None, Some, [], ap, sym, subst, refl, ◌∙◌, get_or}
-use Rattle.warm_pool.specs.Frames.{frame_of, fresh_body, unused_status}
+use Rattle.warm_pool.specs.Frames.{frame_of}
+use Rattle.warm_pool.specs.frame_table.FrameSteps.{fresh_body, unused_status}
 use Rattle.warm_pool.specs.FrameSteps.{ranked}
 use Rattle.warm_pool.proofs.frame_table.Lagging.{IsUpdated, updated_lower}
 use Rattle.warm_pool.proofs.frame_table.FrameParts.{has_page, has_slot, has_body, body_is, rank_of_page, seen, page_stays, status_stays, stay_tied, becomes}

@@ -1,5 +1,6 @@
 use Rattle.std.proofs.Common.{◌≡◌, ◌≢◌, ◌<◌, None, [], ap, sym, subst, refl, ◌∙◌, get_or, arith}
-use Rattle.warm_pool.specs.Frames.{nth_frame, fresh_body}
+use Rattle.warm_pool.specs.Frames.{nth_frame}
+use Rattle.warm_pool.specs.frame_table.FrameSteps.{fresh_body}
 use Rattle.warm_pool.specs.FrameSteps.{unfixed}
 use Rattle.warm_pool.specs.frame_table.Statuses.{status_at}
 use Rattle.warm_pool.proofs.frame_table.Lagging.{IsUpdated, not_updated, updated, lags_fixed}

@@ -1,7 +1,7 @@
 use Rattle.std.proofs.Common.{length, ap, sym, ◌∙◌}
 use Rattle.std.proofs.lemmas.List.{length-map}
 use Rattle.warm_rank.specs.Slots.{keys_while}
-use Rattle.warm_pool.specs.Retiring.{clear_if}
+use Rattle.warm_pool.specs.steps.Retiring.{clear_if}
 use Rattle.warm_pool.proofs.frame_table.VacateLemmas.{vacated_seen, vacated_tied}
 use Rattle.warm_pool.proofs.frame_table.frames.Frames.vacate_selected.Goals as goal
 

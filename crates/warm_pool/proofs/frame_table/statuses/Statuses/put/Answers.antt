@@ -1,6 +1,6 @@
 use Rattle.std.proofs.Common.{◌≡◌, ◌<◌, length, ap, sym, subst, arith}
 use Rattle.std.proofs.lemmas.List.{get_or_read}
-use Rattle.warm_pool.specs.Frames.{unused_status}
+use Rattle.warm_pool.specs.frame_table.FrameSteps.{unused_status}
 use Rattle.warm_pool.specs.frame_table.Statuses.{status_at}
 use Rattle.warm_pool.specs.WritingSome.{one_if}
 use Rattle.warm_pool.proofs.frame_table.StatusLemmas.{dirty_all, dirty_one, dirty_set}

@@ -1,6 +1,6 @@
 use Rattle.std.proofs.Common.{◌≡◌, ◌<◌, length, ap, sym, ◌∙◌, subst}
 use Rattle.std.proofs.lemmas.List.{get_or_read}
-use Rattle.warm_pool.specs.Frames.{unused_status}
+use Rattle.warm_pool.specs.frame_table.FrameSteps.{unused_status}
 use Rattle.warm_pool.specs.frame_table.Statuses.{status_at}
 use Rattle.warm_pool.proofs.frame_table.StatusLemmas.{dirty_same}
 use Rattle.warm_pool.proofs.frame_table.statuses.Statuses.unfix.Goals as goal
