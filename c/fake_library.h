@@ -117,6 +117,15 @@ static inline void must_have_failed(
          failure.error == error);
 }
 
+/* How many calls of devices failed, or were skipped, in the call that has the last failure. */
+static inline uint64_t failures(warm *handle) {
+    warm_failure failure = {.reserved = {77}};
+    bool found = false;
+    OK(warm_last_failure(handle, &found, &failure));
+    MUST(found && failure.reserved[0] == 0);
+    return failure.count;
+}
+
 static inline uint8_t read_from(warm *handle, warm_page page) {
     const uint8_t *byte;
     warm_slot slot;

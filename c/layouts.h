@@ -118,5 +118,6 @@ FIELD_IS(warm_failure, dev, 0, 2);
 FIELD_IS(warm_failure, what, 2, 2);
 FIELD_IS(warm_failure, error, 4, 4);
 FIELD_IS(warm_failure, no, 8, 8);
+FIELD_IS(warm_failure, count, 16, 8);
 
 #endif

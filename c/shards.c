@@ -85,6 +85,7 @@ typedef struct load {
     bool is_hit;          /* whether the page was in a frame before */
     bool is_for_node;     /* the page that leaves is written by the node, if it is dirty */
     unsigned tries;       /* how many pages were written to leave for it */
+    uint64_t failed;      /* how many calls of devices did, or were skipped, so far */
     const reading *begun; /* where the shard is locked, and the page in no frame */
     node_slot slot;       /* of a pin that was made */
     const uint8_t *bytes; /* of such a pin, but of LOAD_PINS_ZEROED */
@@ -186,7 +187,7 @@ static int write_victim(opened *its, shard *in, load *it, stuck_pages *all, node
     bool is_outside = write_outside(its, in, victim, &error);
     if (error == 0) it->is_for_node = !is_outside || ++it->tries >= TRIES;
     if (error == 0) return WARM_OK;
-    if (all->count == 0) note_failure(its, victim, WARM_FAILED_WRITE, error);
+    if (all->count + it->failed == 0) note_failure(its, victim, WARM_FAILED_WRITE, error);
     if (all->count == STUCK) return WARM_EVICT_FAULT;
     all->pages[all->count++] = victim;
     return WARM_OK;
@@ -224,7 +225,7 @@ static int load_read_once(opened *its, shard *in, load *it) {
 
 /* Where the node cannot write the page that is to leave, the next one leaves. */
 static int load_again(opened *its, shard *in, load *it, stuck_pages *all, int status) {
-    if (all->count == 0) noted(its, in, status);
+    if (all->count + it->failed == 0) noted(its, in, status);
     while (status == WARM_EVICT_FAULT && all->count < STUCK &&
            pin_victim(in, &all->pages[all->count], &all->slots[all->pinned])) {
         all->count++;
@@ -235,6 +236,12 @@ static int load_again(opened *its, shard *in, load *it, stuck_pages *all, int st
     return status;
 }
 
+/* A load that is tried again may have had others. */
+static void count_failures(opened *its, load *it, size_t more) {
+    it->failed += more;
+    if (more > 0) its->failed = it->failed;
+}
+
 __attribute__((noinline)) static int load_slowly(opened *its, shard *in, load *it, int status) {
     stuck_pages all;
     all.count = all.pinned = 0;
@@ -242,6 +249,8 @@ __attribute__((noinline)) static int load_slowly(opened *its, shard *in, load *i
     if (status == WARM_EVICT_FAULT || status == WARM_READ_FAULT)
         status = load_again(its, in, it, &all, status);
     unpin_stuck(in, &all);
+    bool has_failed = status == WARM_EVICT_FAULT || status == WARM_READ_FAULT;
+    count_failures(its, it, all.count + has_failed);
     return status == WARM_ALL_PINNED && all.count > 0 ? WARM_EVICT_FAULT : status;
 }
 
@@ -295,6 +304,7 @@ static int may_load(opened *its, shard *in, const load *it) {
 
 static int read_and_pin(opened *its, shard *in, load *it) {
     int status = read_outside(its, in, it->begun, it->is_locked);
+    if (status == WARM_READ_FAULT) count_failures(its, it, 1);
     if (status != WARM_OK) return status;
     it->kind = LOAD_PINS_FILLED;
     status = pin_absent(its, in, it);

@@ -100,6 +100,7 @@ typedef struct opened {
     bool is_first; /* whether it opened the replica */
     bool has_failed;
     node_failure failure; /* of a device, in a call of the handle, the last one; where has_failed */
+    uint64_t failed;      /* how many were in that call, or were skipped */
     answers waiting;
     void *block;
     /* bit i: in the call that is made, a write to device i has failed; 0 between calls */
@@ -140,6 +141,11 @@ static inline void leave(shard *in, bool is_locked) {
 static inline void note_failure(opened *its, node_page page, uint16_t what, int error) {
     its->has_failed = true;
     its->failure = (node_failure){.no = page.no, .dev = page.dev, .what = what, .error = error};
+}
+
+/* Counts a failure in a call that is refused with this status so far. */
+static inline void count_failure(opened *its, int status) {
+    its->failed = status == WARM_OK ? 1 : its->failed + 1;
 }
 
 /* Notes which call of a device failed in the shard, which is entered, and returns the status. */

@@ -166,6 +166,77 @@ static void test_skips_and_failures(void) {
     }
 }
 
+/* Two pages are skipped, three writes of the other device fail, and then a sync: a call says how
+ * many it met, of which not each is noted. */
+static void count_failures_of(size_t shards, bool is_shared) {
+    own its[2] = {{.skips = 10}, {.write_error = EIO}};
+    const warm_device made[] = {
+        own_device_of(&its[0], &all_calls, 0), own_device_of(&its[1], &all_calls, 0)};
+    warm handle = {0}, other = {0};
+    size_t left;
+    bool written;
+    OK(open_with(&handle, 1, shards, 16 * shards, made, 2));
+    if (is_shared) OK(warm_attach(&handle, &other));
+    write_each(&handle, 0, 6);
+    write_each(&handle, 1, 3);
+    MUST(warm_write_back_some(&handle, SIZE_MAX, &left) == WARM_WRITE_FAULT);
+    MUST(failures(&handle) == 5 && its[0].writes == 4 && its[1].writes == 3);
+    MUST(warm_write_back_page(&handle, page_at(3), &written) == WARM_SKIPPED);
+    must_have_failed(&handle, 3, 0, WARM_FAILED_WRITE, EAGAIN);
+    MUST(failures(&handle) == 1);
+    MUST(warm_write_back_all(&handle) == WARM_WRITE_FAULT && failures(&handle) == 5);
+    MUST(warm_flush_device(&handle, 0) == WARM_SKIPPED && failures(&handle) == 2);
+    MUST(warm_flush_device(&handle, 1) == WARM_WRITE_FAULT && failures(&handle) == 3);
+    MUST(warm_replace(&handle, 1, &made[1]) == WARM_WRITE_FAULT && failures(&handle) == 1);
+    its[1].write_error = 0;
+    its[1].sync_error = ENOSPC;
+    MUST(warm_write_back_all(&handle) == WARM_WRITE_FAULT && failures(&handle) == 3);
+    must_have_failed(&handle, 0, 1, WARM_FAILED_FLUSH, ENOSPC);
+    its[0].skips = 0;
+    OK(warm_flush_device(&handle, 0));
+    MUST(failures(&handle) == 3); /* as the failure, until another call has one */
+    if (is_shared) OK(warm_close(&other));
+    MUST(warm_close(&handle) == WARM_WRITE_FAULT && failures(&handle) == 1);
+    OK(warm_abandon(&handle));
+    nothing_left();
+}
+
+static void test_counted_failures(void) {
+    for (size_t shards = 1; shards <= 4; shards *= 4) {
+        count_failures_of(shards, false);
+        count_failures_of(shards, true);
+    }
+}
+
+/* A miss passes over two pages, also where none is left then; and a read fails. */
+static void test_counted_misses(void) {
+    for (int is_shared = 0; is_shared < 2; is_shared++) {
+        own its = {.skips = 3};
+        const warm_device device = own_device_of(&its, &all_calls, 0);
+        warm handle = {0}, other = {0};
+        warm_slot slot;
+        OK(open_with(&handle, 1, 1, 3, &device, 1));
+        if (is_shared) OK(warm_attach(&handle, &other));
+        write_each(&handle, 0, 3);
+        OK(warm_pin(&handle, page_at(5), &slot));
+        MUST(slot.index == 2 && failures(&handle) == 2);
+        must_have_failed(&handle, 0, 0, WARM_FAILED_WRITE, EAGAIN);
+        MUST(warm_prefetch(&handle, page_at(6)) == WARM_EVICT_FAULT && failures(&handle) == 2);
+        its.read_error = EIO;
+        MUST(warm_prefetch(&handle, page_at(7)) == WARM_READ_FAULT && failures(&handle) == 1);
+        must_have_failed(&handle, 7, 0, WARM_FAILED_READ, EIO);
+        its.read_error = 0;
+        OK(warm_unpin(&handle, slot));
+        its.skips = 1;
+        OK(warm_prefetch(&handle, page_at(6)));
+        must_have_failed(&handle, 0, 0, WARM_FAILED_WRITE, EAGAIN);
+        MUST(failures(&handle) == 1 && is_in(&handle, 5) && its.bytes[1] == 'a');
+        if (is_shared) OK(warm_close(&other));
+        OK(warm_abandon(&handle));
+        nothing_left();
+    }
+}
+
 static void test_skipping_portions(void) {
     for (size_t shards = 1; shards <= 4; shards *= 4) {
         skip_portions(shards, false);
@@ -301,6 +372,8 @@ int main(void) {
     test_skipping();
     test_skipping_portions();
     test_skips_and_failures();
+    test_counted_failures();
+    test_counted_misses();
     test_full_pins();
     test_skipped_victims();
     test_latches();

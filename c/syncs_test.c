@@ -716,7 +716,8 @@ static void stuck_victims(size_t frames, uint64_t count, way how) {
     MUST(tries == (int)(count > STUCK ? STUCK + 1 : count));
     OK(warm_last_failure(&first, &found, &failure));
     MUST(found == (count > 0) &&
-         (count == 0 || (failure.no == stuck_from && failure.what == WARM_FAILED_WRITE)));
+         (count == 0 || (failure.no == stuck_from && failure.what == WARM_FAILED_WRITE &&
+                            failure.count == (uint64_t)tries)));
     for (uint64_t no = stuck_from; no < stuck_until; no++)
         MUST(is_in(&first, no) && node_of(&first, 0)->at[no].is_dirty);
     if (is_loaded) {
@@ -765,7 +766,7 @@ static void test_failing_read(void) {
     is_stuck = NULL;
     unreadable = INT64_MAX;
     OK(warm_last_failure(&handle, &found, &failure));
-    MUST(found && failure.no == 7 && failure.what == WARM_FAILED_READ);
+    MUST(found && failure.no == 7 && failure.what == WARM_FAILED_READ && failure.count == 2);
     no_pins(&handle);
     OK(warm_abandon(&handle));
     nothing_left();

@@ -521,7 +521,10 @@ int warm_last_failure(warm *handle, bool *found, warm_failure *failure) {
     const node_failure *last = &its->failure;
     *found = its->has_failed;
     if (!its->has_failed) return WARM_OK;
-    *failure =
-        (warm_failure){.dev = last->dev, .what = last->what, .error = last->error, .no = last->no};
+    *failure = (warm_failure){.dev = last->dev,
+        .what = last->what,
+        .error = last->error,
+        .no = last->no,
+        .count = its->failed};
     return WARM_OK;
 }

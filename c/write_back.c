@@ -14,12 +14,14 @@
 /* ---- dirty pages of a shard ---- */
 
 /* Which pages are to be written: of this device, or of all where it is ALL; how many at most; and
- * how many were, and what the call is refused with. */
+ * how many were, and what the call is refused with. Where it passes pages that another call writes,
+ * it does not wait for these; and whether it has passed one. */
 enum { ALL = -1 };
 
 typedef struct walk {
     int dev;
     size_t limit, written;
+    bool passes, has_passed;
     int status;
 } walk;
 
@@ -29,6 +31,7 @@ typedef struct walk {
  * nothing of the descriptor. */
 static void add_unwritten(opened *its, node_page page, int error, int *all) {
     bool is_skip = error == EAGAIN;
+    count_failure(its, *all);
     if (!is_skip) its->unwritten[page.dev / 8] |= (uint8_t)(1 << page.dev % 8);
     if (*all == WARM_WRITE_FAULT || (is_skip && *all == WARM_SKIPPED)) return;
     note_failure(its, page, WARM_FAILED_WRITE, error);
@@ -69,6 +72,14 @@ static bool next_dirty(shard *in, size_t *frame, node_page *page) {
     return found;
 }
 
+/* Whether a page is to be written, or to be waited for. */
+static bool is_meant_by(walk *of, const shard *in, node_page page) {
+    if (of->dev != ALL && of->dev != page.dev) return false;
+    if (!of->passes || write_of_page(in, page) == NULL) return true;
+    of->has_passed = true;
+    return false;
+}
+
 /* Looks at one frame after another, from this one until the end, and leaves the shard while a page
  * is written: so a page that is dirty at the call is written, by this call or another one, as it
  * keeps its frame until then. One that another call writes may be dirty after that. One that cannot
@@ -77,7 +88,7 @@ static size_t write_between(
     opened *its, shard *in, bool is_locked, walk *of, size_t frame, size_t end) {
     node_page page;
     while (of->written < of->limit && next_dirty(in, &frame, &page) && frame < end) {
-        bool is_meant = of->dev == ALL || of->dev == page.dev;
+        bool is_meant = is_meant_by(of, in, page);
         if (is_meant && wait_for_write(in, page)) continue; /* the frame is looked at again */
         if (is_meant) write_page(its, in, page, is_locked, of);
         frame++;
@@ -95,11 +106,17 @@ static size_t dirty_in(shard *in) {
 /* ---- portions, and one page ---- */
 
 /* Begins behind where the last portion of the shard ended, and goes on from the first frame: so no
- * page waits for ever behind those that are changed again, or cannot be written. */
+ * page waits for ever behind those that are changed again, or cannot be written. Pages that another
+ * call writes are waited for in the end, where there are not enough others: else a portion would
+ * wait for each page of a write-back of all. */
 static void write_from_hand(opened *its, shard *in, bool is_locked, walk *of) {
     size_t first = in->hand;
+    of->passes = true;
+    of->has_passed = false;
     in->hand = write_between(its, in, is_locked, of, first, SIZE_MAX);
     if (of->written < of->limit) in->hand = write_between(its, in, is_locked, of, 0, first);
+    of->passes = false;
+    if (of->has_passed) write_between(its, in, is_locked, of, 0, SIZE_MAX);
 }
 
 /* Writes a portion of what waits in a shard, and returns how many pages are left. */
@@ -180,6 +197,7 @@ static void sync_and_count(opened *its, uint16_t dev, sync_use *taken, int *all)
     if (is_made || error != 0) atomic_fetch_add(&known->flushes, 1);
     if (error == 0) return;
     atomic_fetch_add(&known->failures, 1);
+    count_failure(its, *all);
     if (*all == WARM_WRITE_FAULT) return;
     *all = WARM_WRITE_FAULT;
     note_failure(its, (node_page){.dev = dev}, WARM_FAILED_FLUSH, error);
@@ -297,6 +315,7 @@ int warm_forget_pages(warm *handle, uint16_t dev, uint64_t from) {
  * where it did not, the device is replaced, and its counts begin again. */
 static int noted_and_counted(opened *its, shard *in, uint16_t dev, int status) {
     noted(its, in, status);
+    if (status == WARM_WRITE_FAULT) count_failure(its, WARM_OK);
     bool is_flush = status == WARM_WRITE_FAULT && its->failure.what == WARM_FAILED_FLUSH;
     if (is_flush) atomic_fetch_add(&its->of->known[dev].flushes, 1);
     return status;

@@ -85,6 +85,55 @@ static void test_write_backs(void) {
     }
 }
 
+/* A portion waits for no page that another call writes, while others are left; and then it does. */
+static void test_portions_beside_another(void) {
+    for (int call = WRITES_ONE; call <= FLUSHES; call++) {
+        size_t left = 77;
+        open_dirty(4);
+        stop_writes_of(bit(0));
+        begin(0, call, page_at(0));
+        until_written(bit(0));
+        OK(warm_write_back_some(&first, 1, &left));
+        MUST(left == 3 && is_dirty(0) && !is_dirty(1) && is_dirty(2));
+        OK(warm_write_back_some(&first, 2, &left));
+        MUST(left == 1 && is_dirty(0) && !is_dirty(2) && !is_dirty(3));
+        begin(1, WRITES_SOME, page_at(0));
+        until_waiting(1);
+        write_to(&first, page_at(0), 'w'); /* so that it is written twice */
+        not_over(1);
+        end_writes(bit(0));
+        MUST(end(0) == WARM_OK && end(1) == WARM_OK && !is_dirty(0) && in_files[10][0] == 'w');
+        MUST(put == 5 && written_locked == 0);
+        close_all();
+    }
+}
+
+/* In the shards behind that one no page is tried twice, either. */
+static int second_tries;
+
+static bool is_second(node_page page) {
+    second_tries += page.no == 1;
+    return page.no == 1;
+}
+
+static void test_portions_of_shards(void) {
+    open_all(2, 4);
+    write_each(&first, 0, 2);
+    stop_writes_of(bit(0));
+    is_stuck = is_second;
+    second_tries = 0;
+    begin(0, WRITES_ONE, page_at(0));
+    until_written(bit(0));
+    begin(1, WRITES_SOME, page_at(0));
+    until_waiting(1);
+    end_writes(bit(0));
+    MUST(end(0) == WARM_OK && end(1) == WARM_WRITE_FAULT);
+    MUST(second_tries == 1 && failures(&callers[1].handle) == 1);
+    is_stuck = NULL;
+    OK(warm_write_back_all(&first));
+    close_all();
+}
+
 /* The page that is to leave for another one is found in its frame until then. */
 static void test_victims(void) {
     for (int call = PINS; call <= STEPS; call++) {
@@ -452,8 +501,9 @@ static void test_passing_over(void) {
 /* Who meets a page that another call writes waits, and does not write it where it is clean then; it
  * does where it is dirty. */
 static bool is_first_try(node_page page) {
+    if (page.no != 0) return false;
     is_stuck = NULL;
-    return page.no == 0;
+    return true;
 }
 
 static void two_writers(int call, bool fails, bool is_changed) {
@@ -699,6 +749,32 @@ static void test_stale_meanwhile(void) {
     }
 }
 
+/* Then also what failed first is that of the whole call, and all are counted. */
+static bool fails_as_before(node_page page) {
+    if (page.no != 0) return false;
+    stuck_error++;
+    return true;
+}
+
+static void test_failures_of_two_tries(void) {
+    open_dirty(2);
+    stop_writes_of(bit(0));
+    is_stuck = fails_as_before;
+    stuck_error = 40;
+    begin(0, PINS, page_at(5));
+    until_written(bit(0));
+    begin(1, FORGETS, page_at(5));
+    until_waiting(1);
+    end_writes(bit(0));
+    MUST(end(0) == WARM_OK && end(1) == WARM_OK && stuck_error == 42 && reads == 2);
+    must_have_failed(&callers[0].handle, 0, 0, WARM_FAILED_WRITE, 41);
+    MUST(failures(&callers[0].handle) == 2 && callers[0].slot.index == 1);
+    is_stuck = NULL;
+    stuck_error = EIO;
+    unpin(0);
+    close_all();
+}
+
 /* What is refused whichever page leaves is refused before one is written. */
 static void test_refused(void) {
     warm_slot slot;
@@ -737,6 +813,8 @@ static void test_alone(void) {
 int main(void) {
     alarm(600);
     test_write_backs();
+    test_portions_beside_another();
+    test_portions_of_shards();
     test_victims();
     test_pinned_meanwhile();
     test_named_victims();
@@ -758,6 +836,7 @@ int main(void) {
     test_first_frame();
     test_held_meanwhile();
     test_stale_meanwhile();
+    test_failures_of_two_tries();
     test_refused();
     test_alone();
     puts("writes_test: as expected");

@@ -436,7 +436,8 @@ typedef struct warm_failure {
     uint16_t what;        /* see above */
     int32_t error;        /* errno; EAGAIN: skipped */
     uint64_t no;          /* of the page; 0 of a flush */
-    uint64_t reserved[2]; /* 0 */
+    uint64_t count;       /* of failures and skips in the same call */
+    uint64_t reserved[1]; /* 0 */
 } warm_failure;
 
 /* Writes whether a device's call ever failed or was skipped in a call of this handle, and which

@@ -113,7 +113,8 @@ pub struct Failure {
     pub what: u16,
     pub error: i32,
     pub no: u64,
-    pub reserved: [u64; 2],
+    pub count: u64,
+    pub reserved: [u64; 1],
 }
 
 pub const MESSAGE_ROOM: usize = 31023;

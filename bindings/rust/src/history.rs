@@ -65,6 +65,8 @@ pub struct Failure {
     pub page: Page,
     /// The errno; EAGAIN (11) where the page was skipped.
     pub error: i32,
+    /// How many failed or were skipped in the same call of the handle.
+    pub count: u64,
 }
 
 /// What a device was asked for.
@@ -321,7 +323,7 @@ impl Handle {
             _ => Failed::Flush,
         };
         let page = Page { dev: failure.dev, no: failure.no };
-        Ok(found.then_some(Failure { what, page, error: failure.error }))
+        Ok(found.then_some(Failure { what, page, error: failure.error, count: failure.count }))
     }
 }
 

@@ -62,7 +62,7 @@ fn layouts() -> String {
         hits misses evictions written_back resident dirty reserved);
     layout!(text, ffi::DeviceCounters, "warm_device_counters",
         reads writes flushes failures reserved);
-    layout!(text, ffi::Failure, "warm_failure", dev what error no reserved);
+    layout!(text, ffi::Failure, "warm_failure", dev what error no count reserved);
     assert_that(&mut text, "WARM_MESSAGE_ROOM".into(), ffi::MESSAGE_ROOM);
     assert_that(&mut text, "WARM_FAILED_READ".into(), ffi::FAILED_READ.into());
     assert_that(&mut text, "WARM_FAILED_WRITE".into(), ffi::FAILED_WRITE.into());

@@ -213,7 +213,8 @@ fn a_skipped_page_waits() {
     });
     assert_eq!(handle.write_back_all(), Err(Error::Skipped));
     assert_eq!((memory.first(0), memory.first(1), memory.first(2)), (Some(1), None, Some(3)));
-    assert_eq!(handle.last_failure().unwrap().unwrap().error, 11);
+    let failure = handle.last_failure().unwrap().unwrap();
+    assert_eq!((failure.error, failure.count), (11, 1));
     memory.heal();
     handle.write_back_all().unwrap();
     assert_eq!(memory.first(1), Some(2));

@@ -1,0 +1,5 @@
+use Rattle.warm_concurrent.proofs.Holding.{shards_hold_their_pages}
+use Rattle.warm_concurrent.proofs.laws.shards_hold_their_pages.Goals as goal
+
+pub returns : goal.returns
+returns c = shards_hold_their_pages
