@@ -6,15 +6,15 @@ use Rattle.warm_c.specs.declared.status.Refusal.{Refusal}
 use Rattle.warm_c.specs.Statuses.{code_of, status_of}
 use Rattle.warm_c.specs.Calls.{Ending}
 use Rattle.warm_c.specs.Values.{IsBool}
-use Rattle.warm_c.specs.Handles.{OpenRequest, Called, OpenRefused, Opens}
+use Rattle.warm_c.specs.Handles.{OpenRequest, OnHandle, OpenRefused, Opens}
 
 -- an open handle, which holds something before and after
 pub called : (goes : OpenNode → Ending → OpenNode → Type 0) (before after : Option OpenNode)
     (status : ℤ) (old new : OpenNode) (ending : Ending)
     → before ≡ Some old → after ≡ Some new → goes old ending new → status ≡ status_of ending
-    → Called goes before status after
+    → OnHandle goes before status after
 called goes before after status old new ending was is went said =
-    subst (λ (o : Option OpenNode). Called goes o status after) (sym was) (subst (λ (o : Option OpenNode). Called goes (Some old) status o) (sym is) (ending, went, said))
+    subst (λ (o : Option OpenNode). OnHandle goes o status after) (sym was) (subst (λ (o : Option OpenNode). OnHandle goes (Some old) status o) (sym is) (ending, went, said))
 
 -- a closed one of which none was made
 pub open_refused : (a : OpenRequest) (before after : Option OpenNode) (status : ℤ) (why : Refusal)

@@ -98,11 +98,11 @@ Unpins slot old (Ok given) new = Replies (Unpin (slot_of_c slot)) old Done new
 Unpins slot old (Err why) new = RefusedByNode (Unpin (slot_of_c slot)) old why new
 
 -- as many bytes as the buffer has room for; never refused for memory
-abbrev pub ReadsPage : WarmSlot → ℕ → List ℕ → List ℕ → OpenNode → Ending → OpenNode → Type 0
-ReadsPage slot at before after old (Ok given) new =
+abbrev pub ReadsSlot : WarmSlot → ℕ → List ℕ → List ℕ → OpenNode → Ending → OpenNode → Type 0
+ReadsSlot slot at before after old (Ok given) new =
     Replies (Read (slot_of_c slot) at (length before)) old (Bytes after) new
-ReadsPage slot at before after old (Err (Node Memory)) new = ⊥
-ReadsPage slot at before after old (Err why) new =
+ReadsSlot slot at before after old (Err (Node Memory)) new = ⊥
+ReadsSlot slot at before after old (Err why) new =
     RefusedByNode (Read (slot_of_c slot) at (length before)) old why new × (after ≡ before)
 
 -- the node writes the bytes into the page of the slot, or says why not
@@ -128,11 +128,12 @@ SaysResident page number old new =
     IsBool number (IsResident (view_of old.node.pool) (page_of_c page)) × (new ≡ old)
 
 -- the node writes all dirty pages back and flushes its devices, or says why not
-abbrev pub WritesBack : OpenNode → Ending → OpenNode → Type 0
-WritesBack old (Ok given) new = SameView old.node new.node × IsSettled new.node.pool
+abbrev pub NodeWritesBack : OpenNode → Ending → OpenNode → Type 0
+NodeWritesBack old (Ok given) new = SameView old.node new.node × IsSettled new.node.pool
     × SameDevices old new
-WritesBack old (Err (Node why)) new = NodeWriteBackFails old.node why new.node × SameDevices old new
-WritesBack old (Err why) new = ⊥
+NodeWritesBack old (Err (Node why)) new = NodeWriteBackFails old.node why new.node
+    × SameDevices old new
+NodeWritesBack old (Err why) new = ⊥
 
 -- Frames
 

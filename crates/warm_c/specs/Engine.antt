@@ -57,15 +57,15 @@ WritesSome limit before left old (Err why) new = ⊥
 
 -- the page is written back where it is dirty, and whether it was is given; a refused call gives
 -- nothing
-abbrev pub WritesPage : WarmPage → ℕ → ℕ → OpenNode → Ending → OpenNode → Type 0
-WritesPage page before written old (Ok given) new = (was_dirty : Bool)
+abbrev pub NodeWritesBackPage : WarmPage → ℕ → ℕ → OpenNode → Ending → OpenNode → Type 0
+NodeWritesBackPage page before written old (Ok given) new = (was_dirty : Bool)
     × SameView old.node new.node
     × WritesBackPage old.node.pool (page_of_c page) was_dirty new.node.pool
     × IsBool written (IsTrue was_dirty) × SameDevices old new
-WritesPage page before written old (Err (Node (Pool Fault))) new =
+NodeWritesBackPage page before written old (Err (Node (Pool Fault))) new =
     PageFails old.node.pool (page_of_c page) new.node.pool × SameButPool old new
     × (written ≡ before)
-WritesPage page before written old (Err why) new = ⊥
+NodeWritesBackPage page before written old (Err why) new = ⊥
 
 -- whether the page is in a frame and dirty
 abbrev pub SaysDirty : WarmPage → ℕ → OpenNode → OpenNode → Type 0

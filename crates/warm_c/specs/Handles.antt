@@ -21,12 +21,12 @@ use Rattle.warm_c.specs.Calls.{Ending}
 
 -- A closed handle says that it is closed, and stays so. An open one stays open; its node goes so,
 -- and the status is that of the ending.
-abbrev pub Called : (OpenNode → Ending → OpenNode → Type 0) → Option OpenNode → ℤ → Option OpenNode
-    → Type 0
-Called goes None status new = (status ≡ pos (code_of Closed)) × (new ≡ None)
-Called goes (Some old) status (Some new) = (ending : Ending) × goes old ending new
+abbrev pub OnHandle : (OpenNode → Ending → OpenNode → Type 0) → Option OpenNode → ℤ
+    → Option OpenNode → Type 0
+OnHandle goes None status new = (status ≡ pos (code_of Closed)) × (new ≡ None)
+OnHandle goes (Some old) status (Some new) = (ending : Ending) × goes old ending new
     × (status ≡ status_of ending)
-Called goes (Some old) status None = ⊥
+OnHandle goes (Some old) status None = ⊥
 
 -- a call that an open handle does not refuse
 abbrev pub Surely : (OpenNode → OpenNode → Type 0) → OpenNode → Ending → OpenNode → Type 0

@@ -84,21 +84,21 @@ GivesDigests shards shard before after old ending new =
 
 -- the node has joined the history of the other node; or an allocation failed, and nothing has
 -- changed that a caller sees
-abbrev pub Gathers : OpenNode → OpenNode → Ending → OpenNode → Type 0
-Gathers other old (Ok given) new =
+abbrev pub JoinsNode : OpenNode → OpenNode → Ending → OpenNode → Type 0
+JoinsNode other old (Ok given) new =
     Joins old.node other.node.history new.node × SameDevices old new
-Gathers other old (Err (Node Memory)) new = SameOpen old new
-Gathers other old (Err why) new = ⊥
+JoinsNode other old (Err (Node Memory)) new = SameOpen old new
+JoinsNode other old (Err why) new = ⊥
 
 -- A call on two handles. Where one of them is closed, it says so, and both are as they were. Else
 -- the first stays open, and its node goes so beside what the second holds, which is as it was.
-abbrev pub CalledWith : (OpenNode → OpenNode → Ending → OpenNode → Type 0) → Option OpenNode
+abbrev pub OnTwoHandles : (OpenNode → OpenNode → Ending → OpenNode → Type 0) → Option OpenNode
     → Option OpenNode → ℤ → Option OpenNode → Option OpenNode → Type 0
-CalledWith goes None from status into' from' =
+OnTwoHandles goes None from status into' from' =
     (status ≡ pos (code_of Closed)) × (into' ≡ None) × (from' ≡ from)
-CalledWith goes (Some old) None status into' from' =
+OnTwoHandles goes (Some old) None status into' from' =
     (status ≡ pos (code_of Closed)) × (into' ≡ Some old) × (from' ≡ None)
-CalledWith goes (Some old) (Some other) status None from' = ⊥
-CalledWith goes (Some old) (Some other) status (Some new) from' =
+OnTwoHandles goes (Some old) (Some other) status None from' = ⊥
+OnTwoHandles goes (Some old) (Some other) status (Some new) from' =
     (ending : Ending) × goes other old ending new × (status ≡ status_of ending)
     × (from' ≡ Some other)

@@ -13,8 +13,8 @@ use Rattle.warm_c.specs.Statuses.{status_of}
 use Rattle.warm_c.specs.Values.{reference_of}
 
 -- a call without a handle: it ends so, and the status is that of the ending
-abbrev pub Ends : (Ending → Type 0) → ℤ → Type 0
-Ends goes status = (ending : Ending) × goes ending × (status ≡ status_of ending)
+abbrev pub WithoutHandle : (Ending → Type 0) → ℤ → Type 0
+WithoutHandle goes status = (ending : Ending) × goes ending × (status ≡ status_of ending)
 
 -- One shard of many
 

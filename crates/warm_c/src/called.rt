@@ -1,7 +1,7 @@
 //! What each call of a handle does before and after the call of what the handle holds.
 ghost use Rattle.std.specs.Fn.{FnOnceReturnsAtMut};
 ghost use Rattle.std.specs.Prelude.{◌≡◌, pos, Some};
-ghost use Rattle.warm_c.specs.Handles.{Called};
+ghost use Rattle.warm_c.specs.Handles.{OnHandle};
 ghost use Rattle.warm_c.specs.Statuses.{code_of, status_of};
 ghost use Rattle.warm_c.specs.declared.status.Refusal.TheVariants.{Closed};
 
@@ -35,7 +35,7 @@ pub(crate) fn on_open<F: FnOnce(&mut OpenNode) -> Result<(), Refusal>>(
     call: F,
 ) -> i32
     requires { F.IsAlwaysCallable call }
-    ensures { Called (λ old ending new. FnOnceReturnsAtMut F.FnOnce call old ending new)
+    ensures { OnHandle (λ old ending new. FnOnceReturnsAtMut F.FnOnce call old ending new)
         handle.old.held.node result handle.new.held.node }
 {
     let Some(mut node) = handle.take(alloc) else {

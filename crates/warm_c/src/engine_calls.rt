@@ -1,7 +1,7 @@
 //! The calls on an open handle by which an engine holds its pages, beside pins, reads and writes.
 ghost use Rattle.std.specs.Prelude.{◌≡◌, ◌↔◌, IfErr, IfOk, IsTrue};
-ghost use Rattle.warm_c.specs.Engine.{FlushesDevice, ForgetsPages, PinsZeroed, SaysMayForget};
-ghost use Rattle.warm_c.specs.Engine.{WritesPage, WritesSome};
+ghost use Rattle.warm_c.specs.Engine.{FlushesDevice, ForgetsPages, NodeWritesBackPage, PinsZeroed};
+ghost use Rattle.warm_c.specs.Engine.{SaysMayForget, WritesSome};
 ghost use Rattle.warm_c.specs.Filling.{PinsFilled};
 ghost use Rattle.warm_c.specs.Values.{page_of_c};
 ghost use Rattle.warm_c.specs.declared.status.Refusal.TheVariants.{Node};
@@ -83,7 +83,7 @@ impl OpenNode {
     /// # Errors
     /// `Node`: the node's own. `written` is unchanged.
     pub fn write_back_page(&mut self, page: WarmPage, written: &mut u8) -> Result<(), Refusal>
-        ensures { WritesPage page written.old written.new self.old result self.new }
+        ensures { NodeWritesBackPage page written.old written.new self.old result self.new }
     {
         let was_dirty = self.node.write_back_page(page.page())?;
         *written = c_bool(was_dirty);

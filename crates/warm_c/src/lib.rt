@@ -28,15 +28,15 @@
 #![tactic(auto)]
 
 ghost use Rattle.std.specs.Prelude.{◌≡◌, None, Some};
-ghost use Rattle.warm_c.specs.Calls.{Absorbs, CountsPages, Lists, Loads, Names, Pins, Raises};
-ghost use Rattle.warm_c.specs.Calls.{ReadsPage, Saves, SaysResident, StepsWarmUp, Unpins, Writes};
-ghost use Rattle.warm_c.specs.Calls.{WritesBack};
+ghost use Rattle.warm_c.specs.Calls.{Absorbs, CountsPages, Lists, Loads, Names, NodeWritesBack};
+ghost use Rattle.warm_c.specs.Calls.{Pins, Raises, ReadsSlot, Saves, SaysResident, StepsWarmUp};
+ghost use Rattle.warm_c.specs.Calls.{Unpins, Writes};
 ghost use Rattle.warm_c.specs.Counting.{CountsDevice, CountsPool, SaysFailure};
 ghost use Rattle.warm_c.specs.Devices.{Replaces};
-ghost use Rattle.warm_c.specs.Engine.{FlushesDevice, ForgetsPages, NamesDirty, PinsZeroed};
-ghost use Rattle.warm_c.specs.Engine.{SaysDirty, WritesPage, WritesSome};
+ghost use Rattle.warm_c.specs.Engine.{FlushesDevice, ForgetsPages, NamesDirty, NodeWritesBackPage};
+ghost use Rattle.warm_c.specs.Engine.{PinsZeroed, SaysDirty, WritesSome};
 ghost use Rattle.warm_c.specs.Filling.{NamesNext, PinsFilled};
-ghost use Rattle.warm_c.specs.Handles.{Called, Opens, Surely, open_request};
+ghost use Rattle.warm_c.specs.Handles.{OnHandle, Opens, Surely, open_request};
 ghost use Rattle.warm_c.specs.Lending.{Lends, LendsMut};
 ghost use Rattle.warm_c.specs.Since.{SendsSince, send_buffers};
 ghost use Rattle.warm_c.specs.Statuses.{status_of};
@@ -147,7 +147,7 @@ pub extern "C" fn node_absorb(
     handle: &mut Handle,
     references: &[WarmReference],
 ) -> i32
-    ensures { Called (Absorbs references.now) handle.old.held.node result handle.new.held.node }
+    ensures { OnHandle (Absorbs references.now) handle.old.held.node result handle.new.held.node }
 {
     on_open(alloc, handle, |node| node.absorb(alloc, references))
 }
@@ -164,7 +164,7 @@ pub extern "C" fn node_pin(
     page: WarmPage,
     slot: &mut PinnedSlot,
 ) -> i32
-    ensures called { Called (Pins page slot.old slot.new) handle.old.held.node result
+    ensures called { OnHandle (Pins page slot.old slot.new) handle.old.held.node result
         handle.new.held.node }
     ensures closed { handle.old.held.node ≡ None → slot.new ≡ slot.old }
 {
@@ -187,7 +187,7 @@ pub extern "C" fn node_pin_zeroed(
     page: WarmPage,
     slot: &mut PinnedSlot,
 ) -> i32
-    ensures called { Called (PinsZeroed page slot.old slot.new) handle.old.held.node result
+    ensures called { OnHandle (PinsZeroed page slot.old slot.new) handle.old.held.node result
         handle.new.held.node }
     ensures closed { handle.old.held.node ≡ None → slot.new ≡ slot.old }
 {
@@ -214,7 +214,7 @@ pub extern "C" fn node_pin_filled(
     bytes: &[u8],
     slot: &mut PinnedSlot,
 ) -> i32
-    ensures called { Called (PinsFilled page bytes.now slot.old slot.new) handle.old.held.node
+    ensures called { OnHandle (PinsFilled page bytes.now slot.old slot.new) handle.old.held.node
         result handle.new.held.node }
     ensures closed { handle.old.held.node ≡ None → slot.new ≡ slot.old }
 {
@@ -231,7 +231,7 @@ pub extern "C" fn node_pin_filled(
 /// 13: the slot does not hold its page. Nothing has changed.
 #[unsafe(no_mangle)]
 pub extern "C" fn node_unpin(alloc: Global, handle: &mut Handle, slot: WarmSlot) -> i32
-    ensures { Called (Unpins slot) handle.old.held.node result handle.new.held.node }
+    ensures { OnHandle (Unpins slot) handle.old.held.node result handle.new.held.node }
 {
     on_open(alloc, handle, |node| node.unpin(slot))
 }
@@ -250,7 +250,7 @@ pub extern "C" fn node_read(
     at: usize,
     into: &mut [u8],
 ) -> i32
-    ensures called { Called (ReadsPage slot at into.old into.new) handle.old.held.node result
+    ensures called { OnHandle (ReadsSlot slot at into.old into.new) handle.old.held.node result
         handle.new.held.node }
     ensures closed { handle.old.held.node ≡ None → into.new ≡ into.old }
 {
@@ -275,7 +275,7 @@ pub extern "C" fn node_write(
     at: usize,
     bytes: &[u8],
 ) -> i32
-    ensures { Called (Writes slot at bytes.now) handle.old.held.node result
+    ensures { OnHandle (Writes slot at bytes.now) handle.old.held.node result
         handle.new.held.node }
 {
     on_open(alloc, handle, |node| node.write(slot, at, bytes))
@@ -292,7 +292,7 @@ pub extern "C" fn node_lend(
     slot: WarmSlot,
     bytes: &mut *const u8,
 ) -> i32
-    ensures called { Called (Lends slot bytes.old bytes.new) handle.old.held.node result
+    ensures called { OnHandle (Lends slot bytes.old bytes.new) handle.old.held.node result
         handle.new.held.node }
     ensures closed { handle.old.held.node ≡ None → bytes.new ≡ bytes.old }
 {
@@ -315,7 +315,7 @@ pub extern "C" fn node_lend_mut(
     slot: WarmSlot,
     bytes: &mut *mut u8,
 ) -> i32
-    ensures called { Called (LendsMut slot bytes.old bytes.new) handle.old.held.node result
+    ensures called { OnHandle (LendsMut slot bytes.old bytes.new) handle.old.held.node result
         handle.new.held.node }
     ensures closed { handle.old.held.node ≡ None → bytes.new ≡ bytes.old }
 {
@@ -334,7 +334,7 @@ pub extern "C" fn node_resident(
     page: WarmPage,
     resident: &mut u8,
 ) -> i32
-    ensures called { Called (Surely (SaysResident page resident.new)) handle.old.held.node result
+    ensures called { OnHandle (Surely (SaysResident page resident.new)) handle.old.held.node result
         handle.new.held.node }
     ensures closed { handle.old.held.node ≡ None → resident.new ≡ resident.old }
 {
@@ -353,7 +353,7 @@ pub extern "C" fn node_dirty(
     page: WarmPage,
     dirty: &mut u8,
 ) -> i32
-    ensures called { Called (Surely (SaysDirty page dirty.new)) handle.old.held.node result
+    ensures called { OnHandle (Surely (SaysDirty page dirty.new)) handle.old.held.node result
         handle.new.held.node }
     ensures closed { handle.old.held.node ≡ None → dirty.new ≡ dirty.old }
 {
@@ -376,7 +376,7 @@ pub extern "C" fn node_next_dirty(
     frame: &mut usize,
     page: &mut WarmPage,
 ) -> i32
-    ensures called { Called (Surely (NamesDirty from frame.old page.old found.new frame.new
+    ensures called { OnHandle (Surely (NamesDirty from frame.old page.old found.new frame.new
         page.new)) handle.old.held.node result handle.new.held.node }
     ensures closed { handle.old.held.node ≡ None
         → (found.new ≡ found.old) × (frame.new ≡ frame.old) × (page.new ≡ page.old) }
@@ -397,8 +397,8 @@ pub extern "C" fn node_victim(
     found: &mut u8,
     page: &mut WarmPage,
 ) -> i32
-    ensures called { Called (Surely (Names page.old found.new page.new)) handle.old.held.node result
-        handle.new.held.node }
+    ensures called { OnHandle (Surely (Names page.old found.new page.new))
+        handle.old.held.node result handle.new.held.node }
     ensures closed { handle.old.held.node ≡ None → (found.new ≡ found.old) × (page.new ≡ page.old) }
 {
     let Some(mut node) = handle.take(alloc) else {
@@ -420,7 +420,7 @@ pub extern "C" fn node_list(
     pages: &mut [WarmPage],
     count: &mut usize,
 ) -> i32
-    ensures called { Called (Lists pages.old count.old pages.new count.new)
+    ensures called { OnHandle (Lists pages.old count.old pages.new count.new)
         handle.old.held.node result handle.new.held.node }
     ensures closed { handle.old.held.node ≡ None
         → (pages.new ≡ pages.old) × (count.new ≡ count.old) }
@@ -447,7 +447,7 @@ pub extern "C" fn node_step(
     found: &mut u8,
     page: &mut WarmPage,
 ) -> i32
-    ensures called { Called (StepsWarmUp found.old page.old found.new page.new)
+    ensures called { OnHandle (StepsWarmUp found.old page.old found.new page.new)
         handle.old.held.node result handle.new.held.node }
     ensures closed { handle.old.held.node ≡ None → (found.new ≡ found.old) × (page.new ≡ page.old) }
 {
@@ -476,7 +476,7 @@ pub extern "C" fn node_next(
     found: &mut u8,
     page: &mut WarmPage,
 ) -> i32
-    ensures called { Called (NamesNext found.old page.old found.new page.new)
+    ensures called { OnHandle (NamesNext found.old page.old found.new page.new)
         handle.old.held.node result handle.new.held.node }
     ensures closed { handle.old.held.node ≡ None → (found.new ≡ found.old) × (page.new ≡ page.old) }
 {
@@ -515,7 +515,7 @@ pub extern "C" fn node_send_since(
     more: &mut u8,
     last: &mut WarmPage,
 ) -> i32
-    ensures called { Called (SendsSince bucket since (page_if has_after after)
+    ensures called { OnHandle (SendsSince bucket since (page_if has_after after)
         (send_buffers frame.old len.old more.old last.old)
         (send_buffers frame.new len.new more.new last.new)) handle.old.held.node result
         handle.new.held.node }
@@ -540,7 +540,7 @@ pub extern "C" fn node_horizon(
     time: u64,
     horizon: &mut u64,
 ) -> i32
-    ensures called { Called (Surely (Raises time horizon.new)) handle.old.held.node result
+    ensures called { OnHandle (Surely (Raises time horizon.new)) handle.old.held.node result
         handle.new.held.node }
     ensures closed { handle.old.held.node ≡ None → horizon.new ≡ horizon.old }
 {
@@ -557,7 +557,7 @@ pub extern "C" fn node_horizon(
 /// 12: a write or a flush failed. Of what a caller sees, only counts of failures have changed.
 #[unsafe(no_mangle)]
 pub extern "C" fn node_write_back(alloc: Global, handle: &mut Handle) -> i32
-    ensures { Called WritesBack handle.old.held.node result handle.new.held.node }
+    ensures { OnHandle NodeWritesBack handle.old.held.node result handle.new.held.node }
 {
     on_open(alloc, handle, |node| node.write_back())
 }
@@ -575,7 +575,7 @@ pub extern "C" fn node_write_back_some(
     limit: usize,
     left: &mut usize,
 ) -> i32
-    ensures called { Called (WritesSome limit left.old left.new) handle.old.held.node result
+    ensures called { OnHandle (WritesSome limit left.old left.new) handle.old.held.node result
         handle.new.held.node }
     ensures closed { handle.old.held.node ≡ None → left.new ≡ left.old }
 {
@@ -599,8 +599,8 @@ pub extern "C" fn node_write_back_page(
     page: WarmPage,
     written: &mut u8,
 ) -> i32
-    ensures called { Called (WritesPage page written.old written.new) handle.old.held.node result
-        handle.new.held.node }
+    ensures called { OnHandle (NodeWritesBackPage page written.old written.new)
+        handle.old.held.node result handle.new.held.node }
     ensures closed { handle.old.held.node ≡ None → written.new ≡ written.old }
 {
     let Some(mut node) = handle.take(alloc) else {
@@ -618,7 +618,7 @@ pub extern "C" fn node_write_back_page(
 /// - 12: a write or the flush failed.
 #[unsafe(no_mangle)]
 pub extern "C" fn node_flush(alloc: Global, handle: &mut Handle, dev: u16) -> i32
-    ensures { Called (FlushesDevice dev) handle.old.held.node result handle.new.held.node }
+    ensures { OnHandle (FlushesDevice dev) handle.old.held.node result handle.new.held.node }
 {
     on_open(alloc, handle, |node| node.flush(dev))
 }
@@ -631,7 +631,7 @@ pub extern "C" fn node_flush(alloc: Global, handle: &mut Handle, dev: u16) -> i3
 /// - 11: one of the pages is pinned.
 #[unsafe(no_mangle)]
 pub extern "C" fn node_forget(alloc: Global, handle: &mut Handle, dev: u16, from: u64) -> i32
-    ensures { Called (ForgetsPages dev from) handle.old.held.node result handle.new.held.node }
+    ensures { OnHandle (ForgetsPages dev from) handle.old.held.node result handle.new.held.node }
 {
     on_open(alloc, handle, |node| node.forget(dev, from))
 }
@@ -652,7 +652,7 @@ pub extern "C" fn node_replace(
     dev: u16,
     device: &WarmDevice,
 ) -> i32
-    ensures { Called (Replaces dev device.now) handle.old.held.node result
+    ensures { OnHandle (Replaces dev device.now) handle.old.held.node result
         handle.new.held.node }
 {
     on_open(alloc, handle, |node| node.replace(alloc, dev, device))
@@ -666,7 +666,7 @@ pub extern "C" fn node_counts(
     handle: &mut Handle,
     counters: &mut WarmCounters,
 ) -> i32
-    ensures called { Called (Surely (CountsPool counters.new)) handle.old.held.node result
+    ensures called { OnHandle (Surely (CountsPool counters.new)) handle.old.held.node result
         handle.new.held.node }
     ensures closed { handle.old.held.node ≡ None → counters.new ≡ counters.old }
 {
@@ -688,8 +688,8 @@ pub extern "C" fn node_device_counts(
     dev: u16,
     counters: &mut WarmDeviceCounters,
 ) -> i32
-    ensures called { Called (CountsDevice dev counters.old counters.new) handle.old.held.node result
-        handle.new.held.node }
+    ensures called { OnHandle (CountsDevice dev counters.old counters.new)
+        handle.old.held.node result handle.new.held.node }
     ensures closed { handle.old.held.node ≡ None → counters.new ≡ counters.old }
 {
     let Some(node) = handle.take(alloc) else {
@@ -708,7 +708,7 @@ pub extern "C" fn node_last_failure(
     found: &mut u8,
     failure: &mut WarmFailure,
 ) -> i32
-    ensures called { Called (Surely (SaysFailure failure.old found.new failure.new))
+    ensures called { OnHandle (Surely (SaysFailure failure.old found.new failure.new))
         handle.old.held.node result handle.new.held.node }
     ensures closed { handle.old.held.node ≡ None
         → (found.new ≡ found.old) × (failure.new ≡ failure.old) }
@@ -723,7 +723,7 @@ pub extern "C" fn node_last_failure(
 /// Writes how many pages the history knows.
 #[unsafe(no_mangle)]
 pub extern "C" fn node_history_length(alloc: Global, handle: &mut Handle, number: &mut usize) -> i32
-    ensures called { Called (Surely (CountsPages number.new)) handle.old.held.node result
+    ensures called { OnHandle (Surely (CountsPages number.new)) handle.old.held.node result
         handle.new.held.node }
     ensures closed { handle.old.held.node ≡ None → number.new ≡ number.old }
 {
@@ -743,7 +743,7 @@ pub extern "C" fn node_history_length(alloc: Global, handle: &mut Handle, number
 /// - 82: the file was not written or not synced.
 #[unsafe(no_mangle)]
 pub extern "C" fn node_save(alloc: Global, handle: &mut Handle, fd: i32) -> i32
-    ensures { Called Saves handle.old.held.node result handle.new.held.node }
+    ensures { OnHandle Saves handle.old.held.node result handle.new.held.node }
 {
     on_open(alloc, handle, |node| node.save(alloc, Descriptor::new(fd)))
 }
@@ -758,7 +758,7 @@ pub extern "C" fn node_save(alloc: Global, handle: &mut Handle, fd: i32) -> i32
 /// - 1: an allocation failed.
 #[unsafe(no_mangle)]
 pub extern "C" fn node_load(alloc: Global, handle: &mut Handle, fd: i32, length: u64) -> i32
-    ensures { Called (Loads None) handle.old.held.node result handle.new.held.node }
+    ensures { OnHandle (Loads None) handle.old.held.node result handle.new.held.node }
 {
     on_open(
         alloc,

@@ -3,8 +3,8 @@ ghost use Rattle.std.specs.Prelude.{◌≡◌, IfOk};
 ghost use Rattle.warm_frames.specs.Entries.{FitsInFrame};
 ghost use Rattle.warm_frames.specs.Limits.{entries_in};
 ghost use Rattle.warm_shards.specs.Shards.{IsShardCount};
-ghost use Rattle.warm_c.specs.PartCalls.{Gathers, GivesDigests};
-ghost use Rattle.warm_c.specs.PartCalls.{PinsAndLends, ReceivesPart, gathered};
+ghost use Rattle.warm_c.specs.PartCalls.{GivesDigests, JoinsNode, PinsAndLends, ReceivesPart};
+ghost use Rattle.warm_c.specs.PartCalls.{gathered};
 ghost use Rattle.warm_shards.specs.Parts.{part_of_entries, part_of_message, sender_in};
 
 use crate::frame_parts::NodeTable;
@@ -150,7 +150,7 @@ impl OpenNode {
     /// # Errors
     /// `Node`, with `Memory`: an allocation failed; nothing has changed that a caller sees.
     pub fn gather(&mut self, other: &OpenNode) -> Result<(), Refusal>
-        ensures { Gathers other.now self.old result self.new }
+        ensures { JoinsNode other.now self.old result self.new }
     {
         self.node.join(other.node.history())?;
         Ok(())

@@ -4,10 +4,10 @@ ghost use Rattle.warm_frames.specs.declared.message.Message.TheVariants.{Digest,
 ghost use Rattle.warm_c.specs.Devices.{SaysMayStand};
 ghost use Rattle.warm_c.specs.Engine.{SaysMayForget};
 ghost use Rattle.warm_c.specs.FrameParts.{FindsDiffering, MakesFrame, ReadsFrame};
-ghost use Rattle.warm_c.specs.Handles.{Called};
-ghost use Rattle.warm_c.specs.PartCalls.{CalledWith, Gathers, GivesDigests};
-ghost use Rattle.warm_c.specs.PartCalls.{PinsAndLends, ReceivesPart, gathered};
-ghost use Rattle.warm_c.specs.Parts.{Ends};
+ghost use Rattle.warm_c.specs.Handles.{OnHandle};
+ghost use Rattle.warm_c.specs.PartCalls.{GivesDigests, JoinsNode, OnTwoHandles, PinsAndLends};
+ghost use Rattle.warm_c.specs.PartCalls.{ReceivesPart, gathered};
+ghost use Rattle.warm_c.specs.Parts.{WithoutHandle};
 
 use crate::called::{closed, put_back};
 use crate::frame_parts::{
@@ -31,7 +31,7 @@ pub extern "C" fn node_pin_lend(
     slot: &mut PinnedSlot,
     bytes: &mut *const u8,
 ) -> i32
-    ensures called { Called (PinsAndLends page slot.old slot.new bytes.old bytes.new)
+    ensures called { OnHandle (PinsAndLends page slot.old slot.new bytes.old bytes.new)
         handle.old.held.node result handle.new.held.node }
     ensures closed { handle.old.held.node ≡ None
         → (slot.new ≡ slot.old) × (bytes.new ≡ bytes.old) }
@@ -60,7 +60,7 @@ pub extern "C" fn node_read_frame(
     frame: &[u8],
     what: &mut NodeFrame,
 ) -> i32
-    ensures { Ends (ReadsFrame shards limit frame.now what.old what.new) result }
+    ensures { WithoutHandle (ReadsFrame shards limit frame.now what.old what.new) result }
 {
     status_of(read_frame(alloc, shards, limit, frame, what))
 }
@@ -82,7 +82,7 @@ pub extern "C" fn node_receive_part(
     shard: usize,
     frame: &[u8],
 ) -> i32
-    ensures { Called (ReceivesPart shards shard frame.now) handle.old.held.node result
+    ensures { OnHandle (ReceivesPart shards shard frame.now) handle.old.held.node result
         handle.new.held.node }
 {
     let Some(mut node) = handle.take(alloc) else {
@@ -109,7 +109,7 @@ pub extern "C" fn node_digests(
     table: &mut NodeTable,
     horizon: &mut u64,
 ) -> i32
-    ensures called { Called (GivesDigests shards shard (gathered table.old.digests horizon.old)
+    ensures called { OnHandle (GivesDigests shards shard (gathered table.old.digests horizon.old)
         (gathered table.new.digests horizon.new)) handle.old.held.node result
         handle.new.held.node }
     ensures closed { handle.old.held.node ≡ None
@@ -138,7 +138,7 @@ pub extern "C" fn node_offer_frame(
     frame: &mut [u8],
     len: &mut usize,
 ) -> i32
-    ensures { Ends (MakesFrame replica (Digest replica horizon table.now.digests)
+    ensures { WithoutHandle (MakesFrame replica (Digest replica horizon table.now.digests)
         frame.old len.old frame.new len.new) result }
 {
     status_of(offer_frame(alloc, replica, horizon, table, frame, len))
@@ -157,7 +157,8 @@ pub extern "C" fn node_differing(
     frame: &[u8],
     buckets: &mut u64,
 ) -> i32
-    ensures { Ends (FindsDiffering table.now.digests frame.now buckets.old buckets.new) result }
+    ensures { WithoutHandle
+        (FindsDiffering table.now.digests frame.now buckets.old buckets.new) result }
 {
     status_of(find_differing(alloc, table, frame, buckets))
 }
@@ -179,8 +180,8 @@ pub extern "C" fn node_want_frame(
     frame: &mut [u8],
     len: &mut usize,
 ) -> i32
-    ensures { Ends (MakesFrame replica (Want replica horizon buckets) frame.old len.old frame.new
-        len.new) result }
+    ensures { WithoutHandle (MakesFrame replica (Want replica horizon buckets)
+        frame.old len.old frame.new len.new) result }
 {
     status_of(want_frame(alloc, replica, horizon, buckets, frame, len))
 }
@@ -194,8 +195,8 @@ pub extern "C" fn node_want_frame(
 /// - 1: an allocation failed.
 #[unsafe(no_mangle)]
 pub extern "C" fn node_gather(alloc: Global, into: &mut Handle, from: &mut Handle) -> i32
-    ensures { CalledWith Gathers into.old.held.node from.old.held.node result into.new.held.node
-        from.new.held.node }
+    ensures { OnTwoHandles JoinsNode into.old.held.node from.old.held.node result
+        into.new.held.node from.new.held.node }
 {
     let Some(mut node) = into.take(alloc) else {
         return closed();
@@ -216,7 +217,7 @@ pub extern "C" fn node_gather(alloc: Global, into: &mut Handle, from: &mut Handl
 /// Those of `node_forget`. Nothing changes in any case.
 #[unsafe(no_mangle)]
 pub extern "C" fn node_may_forget(alloc: Global, handle: &mut Handle, dev: u16, from: u64) -> i32
-    ensures { Called (SaysMayForget dev from) handle.old.held.node result handle.new.held.node }
+    ensures { OnHandle (SaysMayForget dev from) handle.old.held.node result handle.new.held.node }
 {
     let Some(node) = handle.take(alloc) else {
         return closed();
@@ -237,7 +238,7 @@ pub extern "C" fn node_may_replace(
     dev: u16,
     device: &WarmDevice,
 ) -> i32
-    ensures { Called (SaysMayStand dev device.now) handle.old.held.node result
+    ensures { OnHandle (SaysMayStand dev device.now) handle.old.held.node result
         handle.new.held.node }
 {
     let Some(node) = handle.take(alloc) else {

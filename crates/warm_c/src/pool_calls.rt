@@ -3,8 +3,8 @@ ghost use Rattle.std.specs.Prelude.{◌↔◌, IfErr, IfOk, IsTrue};
 ghost use Rattle.warm_pool.specs.View.{view_of, IsResident};
 ghost use Rattle.warm_gossip.specs.declared.call.Call.TheVariants.{Victim, WarmStep};
 ghost use Rattle.warm_gossip.specs.declared.call.Reply.TheVariants.{Loaded, Page};
-ghost use Rattle.warm_c.specs.Calls.{Pins, ReadsPage, RefusedByNode, Replies, Unpins, Writes};
-ghost use Rattle.warm_c.specs.Calls.{WritesBack};
+ghost use Rattle.warm_c.specs.Calls.{NodeWritesBack, Pins, ReadsSlot, RefusedByNode, Replies};
+ghost use Rattle.warm_c.specs.Calls.{Unpins, Writes};
 ghost use Rattle.warm_c.specs.Values.{page_of_c};
 
 use crate::open_node::OpenNode;
@@ -41,7 +41,7 @@ impl OpenNode {
     /// # Errors
     /// `Node`: the node's own. `into` is unchanged.
     pub fn read(&mut self, slot: WarmSlot, at: usize, into: &mut [u8]) -> Result<(), Refusal>
-        ensures { ReadsPage slot at into.old into.new self.old result self.new }
+        ensures { ReadsSlot slot at into.old into.new self.old result self.new }
     {
         self.node.read_into(slot.slot(), at, into)?;
         Ok(())
@@ -89,7 +89,7 @@ impl OpenNode {
     /// # Errors
     /// `Node`: the node's own.
     pub fn write_back(&mut self) -> Result<(), Refusal>
-        ensures { WritesBack self.old result self.new }
+        ensures { NodeWritesBack self.old result self.new }
     {
         self.node.write_back()?;
         Ok(())

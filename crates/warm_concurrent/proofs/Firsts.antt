@@ -3,7 +3,7 @@ use Rattle.std.proofs.Common.{◌≡◌, ◌≢◌, ℕ, ◌+◌, ◌<◌, ◌�
 use Rattle.std.specs.Prelude.{nat_eq}
 use Rattle.std.proofs.lemmas.Bool.{eq-eqb, eqb-true}
 use Rattle.std.proofs.lemmas.List.{length-set}
-use Rattle.warm_concurrent.specs.Attached.{KeepsOthers, ShardPass, no_pass, shard_pass}
+use Rattle.warm_concurrent.specs.Attached.{KeepsOtherPasses, ShardPass, no_pass, shard_pass}
 use Rattle.warm_concurrent.specs.Whole.{First}
 use Rattle.warm_concurrent.proofs.Places.{at_each}
 
@@ -14,7 +14,7 @@ module _ (So : ℕ → ShardPass → ShardPass → Type 0) where
 
   -- the next shard as well: it alone changes
   pub one_first : (k : ℕ) (old mid new : List ShardPass) → k < length old → First So k old mid
-      → KeepsOthers mid k new → So k (shard_pass mid k) (shard_pass new k) → First So (k + 1) old new
+      → KeepsOtherPasses mid k new → So k (shard_pass mid k) (shard_pass new k) → First So (k + 1) old new
   one_first k old mid new lt so others next =
       let there : k < length mid = omega (arith, lt, so.count) in
       let P : ℕ → ShardPass → Type 0 = λ j q. (j < k + 1 → So j (shard_pass old j) q) × (k + 1 ≤ j → q ≡ shard_pass old j) in

@@ -7,7 +7,7 @@ use Rattle.warm_frames.specs.Digests.{digest_at}
 use Rattle.warm_shards.specs.Digests.{FillsShard}
 use Rattle.warm_concurrent.specs.declared.answering.Offered.{Offered}
 use Rattle.warm_concurrent.specs.Answering.{FirstGave, IsGathered, IsLatest, no_offer, offer_at}
-use Rattle.warm_concurrent.specs.Attached.{KeepsOthers, ShardPass, shard_pass}
+use Rattle.warm_concurrent.specs.Attached.{KeepsOtherPasses, ShardPass, shard_pass}
 use Rattle.warm_concurrent.specs.Whole.{First}
 use Rattle.warm_concurrent.proofs.Firsts.{none_first, one_first, same_first}
 use Rattle.warm_concurrent.proofs.Places.{get_front, get_last}
@@ -37,7 +37,7 @@ module _ {T : Type 0} (So : T → ℕ → ShardPass → ShardPass → Type 0) (n
     longer = omega (arith, length-append given (t ∷ []), so.0)
 
     -- the next shard gave an item as well: it alone changed
-    pub one_gave : (new : List ShardPass) → k < length old → KeepsOthers mid k new
+    pub one_gave : (new : List ShardPass) → k < length old → KeepsOtherPasses mid k new
         → So t k (shard_pass mid k) (shard_pass new k)
         → FirstGave So none (given ++ t ∷ []) (k + 1) old new
     one_gave new lt others next =

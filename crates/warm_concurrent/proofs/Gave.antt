@@ -21,9 +21,11 @@ use Rattle.warm_concurrent.specs.Answering.{AnswersAll, AnswersPart, GathersAll,
 use Rattle.warm_concurrent.specs.Attached.{ShardPass, shard_pass}
 use Rattle.warm_concurrent.specs.Clauses.{Got}
 use Rattle.warm_concurrent.specs.Given.{HasGiven, Log, SameGiven, gave, gave_call, gave_together, log_at, only_horizon}
-use Rattle.warm_concurrent.specs.Gossip.{Compares, Receives, TakesDigests, TakesEntries, TakesRequest}
+use Rattle.warm_concurrent.specs.Gossip.{Compares, ShardsReceive, ShardsTakeDigests}
+use Rattle.warm_concurrent.specs.Gossip.{ShardsTakeEntries, ShardsTakeRequest}
 use Rattle.warm_concurrent.specs.Laws.{all_of}
-use Rattle.warm_concurrent.specs.Whole.{AbsorbsFirst, AbsorbsPart, First, Raises, RaisesFirst, part_of}
+use Rattle.warm_concurrent.specs.Whole.{AbsorbsFirst, AbsorbsPart, First, RaisesFirst, RaisesShard}
+use Rattle.warm_concurrent.specs.Whole.{part_of}
 use Rattle.warm_concurrent.proofs.Places.{push_each}
 use Rattle.warm_concurrent.proofs.Sets.{all_of_push, gave_append, sum, sum_is, union_none}
 
@@ -161,7 +163,7 @@ absorbed_each batch k old new so =
 pub raised_each : (time k : ℕ) (old new : List ShardPass) → RaisesFirst time k old new
     → EachGives (λ i. only_horizon time) k old new
 raised_each time k old new so =
-    as_given (Raises time) (λ i. only_horizon time) k old new (λ i p q r. gives_called p q (Raise time) (Kept r.0) r.1) so
+    as_given (RaisesShard time) (λ i. only_horizon time) k old new (λ i p q r. gives_called p q (Raise time) (Kept r.0) r.1) so
 
 -- ---- messages
 
@@ -215,7 +217,7 @@ none_twice old mid new one other =
     (given_then (λ i. set_of_list []) (λ i. set_of_list []) k old mid new one rest)
 
 entries_each : (time : ℕ) (entries : List PageEntry) (old new : List ShardPass)
-    → TakesEntries time entries old new
+    → ShardsTakeEntries time entries old new
     → EachGives (λ i. of_shard (length old) i (record { horizon = time; given = list_references_of entries })) (length old) old new
 entries_each time entries old new (mid, raised, absorbed) =
     let k = length old in
@@ -227,20 +229,20 @@ entries_each time entries old new (mid, raised, absorbed) =
     (given_then (λ i. only_horizon time) part k old mid new (raised_each time k old mid raised) rest)
 
 request_each : (time request : ℕ) (messages : List Message) (old new : List ShardPass)
-    → TakesRequest time request messages old new
+    → ShardsTakeRequest time request messages old new
     → EachGives (λ i. only_horizon time) (length old) old new
 request_each time request messages old new (mid, raised, answered) =
     only_raised time old mid new raised (answered_each request messages mid new answered)
 
 digests_each : (time : ℕ) (digests : List (List ℕ)) (messages : List Message)
-    (old new : List ShardPass) → TakesDigests time digests messages old new
+    (old new : List ShardPass) → ShardsTakeDigests time digests messages old new
     → EachGives (λ i. only_horizon time) (length old) old new
 digests_each time digests messages old new (mid, later, own, raised, gathered, compared) =
     only_raised time old mid new raised
     (none_twice mid later new (gathered_each own mid later gathered) (compared_each digests own messages later new compared))
 
 pub message_each : (message : Message) (messages : List Message) (old new : List ShardPass)
-    → Receives message messages old new
+    → ShardsReceive message messages old new
     → EachGives (λ i. of_shard (length old) i (refs_in message)) (length old) old new
 message_each (Entries sender time entries) messages old new so = entries_each time entries old new so.1
 message_each (Digest sender time digests) messages old new so = digests_each time digests messages old new so

@@ -23,10 +23,10 @@ use Rattle.warm_concurrent.specs.declared.call.ShardReply.{ShardReply}
 use Rattle.warm_concurrent.specs.declared.call.ShardReply.TheVariants.{Answers, Changed, Dirty, Done, Foreign, Kept, Looked, Pinned, Portion, Refused}
 use Rattle.warm_concurrent.specs.Answering.{AnswersPart, Offers, offer_at, offer_reply}
 use Rattle.warm_concurrent.specs.Attached.{Known, ShardPass, known_of, no_pass, shard_pass}
-use Rattle.warm_concurrent.specs.Clauses.{Answered, Got}
+use Rattle.warm_concurrent.specs.Clauses.{AnsweredByShard, Got}
 use Rattle.warm_concurrent.specs.Laws.{CallsAreANodes, OnlySeesMore, SeesMore, ShardIsOfGiven, TogetherAreOfGiven, all_of, asked_steps, call_operations, calls_in, held_by, node_steps, reply_operations}
 use Rattle.warm_concurrent.specs.ShardSteps.{Asked, doing, looking, changing, CallGoes, NodeGoes, NodeStep, ShardState, ShardStep, Work, calling, writing_pages, writing_some, writing_back, zeroing, forgetting, sending_since, asked_of, node_reply_of}
-use Rattle.warm_concurrent.specs.Whole.{AbsorbsPart, Does, First, Raises, part_of}
+use Rattle.warm_concurrent.specs.Whole.{AbsorbsPart, Does, First, RaisesShard, part_of}
 use Rattle.warm_concurrent.proofs.Places.{at_each}
 
 -- ---- the steps of a shard are a node's
@@ -173,7 +173,7 @@ same_seen : (old new : ShardPass) → new ≡ old → IsPrefix old.view.seen new
 same_seen old new is = subst (λ (p : ShardPass). IsPrefix old.view.seen p.view.seen) (sym is) (prefix_self old.view.seen)
 
 called_more : (old new : List ShardPass) (i : ℕ) (call : ShardCall) (reply : ShardReply)
-    → i < length old → Answered old i call reply new → SeesMore old new
+    → i < length old → AnsweredByShard old i call reply new → SeesMore old new
 called_more old new i call reply lt (got, others) j less =
     subst (λ (ps : List ShardPass). IsPrefix (known_of old j).seen (known_of ps j).seen) (sym others)
     (at_each (λ k q. IsPrefix (known_of old k).seen q.view.seen) old i (shard_pass new i) no_pass lt (got_more (known_of old i) (known_of new i) call reply got) (λ k apart. prefix_self (known_of old k).seen) j)
@@ -214,7 +214,7 @@ pub only_sees_more : OnlySeesMore
 only_sees_more = record {
   called = called_more;
   absorbed = λ old new k batch so. firsts_more (AbsorbsPart (length old) batch) (part_more (length old) batch) k old new so;
-  raised = λ old new k time so. firsts_more (Raises time) (λ i p q r. got_more p.view q.view _ (Kept r.0) r.1) k old new so;
+  raised = λ old new k time so. firsts_more (RaisesShard time) (λ i p q r. got_more p.view q.view _ (Kept r.0) r.1) k old new so;
   done = λ old new k call so. firsts_more (Does call) (λ i p q r. got_more p.view q.view call Done r) k old new so;
   offered = λ old new offers k so. firsts_more (λ i. Offers (offer_at offers i) i) (λ i p q r. got_more p.view q.view Offer (offer_reply (offer_at offers i)) r) k old new so.1;
   answered = λ old new request parts k so. firsts_more (λ i. AnswersPart (length old) request (slice_index_or parts i []) i) (λ i. answer_more (length old) request (slice_index_or parts i []) i) k old new so.1;

@@ -4,8 +4,9 @@ use Rattle.std.proofs.lemmas.List.{get_or-set_same, length-set}
 use Rattle.warm_turn.specs.CallHistories.{Called, marked}
 use Rattle.warm_concurrent.specs.declared.call.ShardCall.{ShardCall}
 use Rattle.warm_concurrent.specs.declared.call.ShardReply.{ShardReply}
-use Rattle.warm_concurrent.specs.Attached.{AreOf, AreTurns, IsPassOf, KeepsOthers, Known, ShardPass, ShardTurn, known_of, no_pass, shard_pass, shard_turn}
-use Rattle.warm_concurrent.specs.Clauses.{Answered, MayAnswer, Spent}
+use Rattle.warm_concurrent.specs.Attached.{AreOf, AreTurns, IsPassOf, KeepsOtherPasses, Known, ShardPass, ShardTurn, known_of, no_pass, shard_pass}
+use Rattle.warm_concurrent.specs.Attached.{shard_turn}
+use Rattle.warm_concurrent.specs.Clauses.{AnsweredByShard, MayAnswer, Spent}
 use Rattle.warm_concurrent.specs.ShardSteps.{ShardStep}
 use Rattle.warm_concurrent.proofs.Places.{at_each}
 use Rattle.warm_concurrent.proofs.Steps.{may_answer}
@@ -21,7 +22,7 @@ still_of turns old i p are lt new = record {
 
 -- and the others are as they were
 pub others_kept : (old : List ShardPass) (i : ℕ) (p : ShardPass) → i < length old
-    → KeepsOthers old i (set old i p)
+    → KeepsOtherPasses old i (set old i p)
 others_kept old i p lt = ap (set old i) (sym (get_or-set_same old i p no_pass lt))
 
 pub at_set : (old : List ShardPass) (i : ℕ) (p : ShardPass) → i < length old
@@ -35,7 +36,7 @@ module _ (turns : List ShardTurn) (old : List ShardPass) (i : ℕ) (p : ShardPas
 
   -- an answered call
   pub answered : (n : ShardPass) (c : ShardCall) (r : ShardReply) → n ≡ shard_pass old i
-      → Called ShardStep n.view c r p.view → Answered old i c r (set old i p)
+      → Called ShardStep n.view c r p.view → AnsweredByShard old i c r (set old i p)
   answered n c r is called = (
     subst (λ (q : ShardPass). Called ShardStep (known_of old i) c r q.view) (sym (at_set old i p there)) (subst (λ (q : ShardPass). Called ShardStep q.view c r p.view) is called),
     others_kept old i p there,

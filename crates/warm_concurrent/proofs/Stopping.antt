@@ -17,8 +17,8 @@ use Rattle.warm_concurrent.specs.declared.call.ShardReply.{ShardReply}
 use Rattle.warm_concurrent.specs.declared.call.ShardReply.TheVariants.{Refused}
 use Rattle.warm_concurrent.specs.declared.fault.SharedFault.{SharedFault}
 use Rattle.warm_concurrent.specs.declared.fault.SharedFault.TheVariants.{Node, TurnsSpent}
-use Rattle.warm_concurrent.specs.Attached.{KeepsOthers, Known, ShardPass, no_pass, shard_pass}
-use Rattle.warm_concurrent.specs.Clauses.{Answered, CallFails}
+use Rattle.warm_concurrent.specs.Attached.{KeepsOtherPasses, Known, ShardPass, no_pass, shard_pass}
+use Rattle.warm_concurrent.specs.Clauses.{AnsweredByShard, CallFails}
 use Rattle.warm_concurrent.specs.Given.{HasGiven, SameGiven, ThreadsGive, gave_call, only_horizon}
 use Rattle.warm_concurrent.specs.Whole.{AbsorbFails, part_of}
 use Rattle.warm_concurrent.proofs.Gave.{Gives, absorbed_each, all_given, gives_as, gives_called, gives_none, given_by_sum, message_each, raised_each}
@@ -58,13 +58,13 @@ sum_one i G (suc k) lt = elim (cases_eq i k) [
 ]
 
 -- the other passes are as they were
-other_same : (old new : List ShardPass) (i j : ℕ) → KeepsOthers old i new → j ≢ i
+other_same : (old new : List ShardPass) (i j : ℕ) → KeepsOtherPasses old i new → j ≢ i
     → shard_pass new j ≡ shard_pass old j
 other_same old new i j others other =
     ap (λ (ps : List ShardPass). shard_pass ps j) others ∙ get_or-set_other old i j (shard_pass new i) no_pass other
 
 called_given : (old new : List ShardPass) (i : ℕ) (c : ShardCall) (r : ShardReply) → i < length old
-    → Answered old i c r new → HasGiven (gave_call c r) old new
+    → AnsweredByShard old i c r new → HasGiven (gave_call c r) old new
 called_given old new i c r lt answered =
     let G = gave_call c r in
     given_by_sum (one_at i G) G old new (λ j less. elim (cases_eq j i) [
@@ -91,7 +91,7 @@ gives_spent old new is = (
 -- a part that is refused gives nothing, and the other passes are as they were
 refused_gives : (old new : List ShardPass) (i : ℕ) (part : List Reference) (why : SharedFault)
     → CallFails old i (Absorb part) why new
-    → Gives (set_of_list []) (shard_pass old i) (shard_pass new i) × KeepsOthers old i new
+    → Gives (set_of_list []) (shard_pass old i) (shard_pass new i) × KeepsOtherPasses old i new
 refused_gives old new i part (Node why) fails =
     (gives_called (shard_pass old i) (shard_pass new i) (Absorb part) (Refused why) fails.0, fails.1)
 refused_gives old new i part TurnsSpent fails = (gives_spent (shard_pass old i) (shard_pass new i) fails.0, fails.1)

@@ -70,5 +70,5 @@ pub record AreTurns (turns : List ShardTurn) : Type 0 where
   pub numbers : (i : ℕ) → i < length turns → (shard_turn turns i).opening.number ≡ i
 
 -- every pass but that of this shard is unchanged
-abbrev pub KeepsOthers : List ShardPass → ℕ → List ShardPass → Type 0
-KeepsOthers old i new = new ≡ slice_set old i (shard_pass new i)
+abbrev pub KeepsOtherPasses : List ShardPass → ℕ → List ShardPass → Type 0
+KeepsOtherPasses old i new = new ≡ slice_set old i (shard_pass new i)

@@ -27,8 +27,8 @@ use Rattle.warm_concurrent.specs.declared.call.ShardReply.{ShardReply}
 use Rattle.warm_concurrent.specs.declared.call.ShardReply.TheVariants.{Done, Kept, Page}
 use Rattle.warm_concurrent.specs.declared.fault.SharedFault.{SharedFault}
 use Rattle.warm_concurrent.specs.Attached.{Known, ShardPass, ShardTurn, known_of, shard_turn}
-use Rattle.warm_concurrent.specs.Clauses.{Answered}
-use Rattle.warm_concurrent.specs.Gossip.{Receives}
+use Rattle.warm_concurrent.specs.Clauses.{AnsweredByShard}
+use Rattle.warm_concurrent.specs.Gossip.{ShardsReceive}
 use Rattle.warm_concurrent.specs.Laws.{all_of}
 use Rattle.warm_concurrent.specs.Opening.{AreClosed, AreFirst, AreHalved, PassesAreJoined, AreSplit}
 use Rattle.warm_concurrent.specs.Opening.{openings, shards_over}
@@ -127,10 +127,11 @@ pub record CallsAreGiven (old new : List ShardPass) : Type 0 where
       → HasGiven (of_first_shards (length old) k (set_of_list batch)) old new
   pub raised : (time : ℕ) → RaisesFirst time (length old) old new
       → HasGiven (only_horizon time) old new
-  pub received : (message : Message) (answers : List Message) → Receives message answers old new
+  pub received : (message : Message) (answers : List Message)
+      → ShardsReceive message answers old new
       → HasGiven (refs_in message) old new
   pub called : (i : ℕ) (call : ShardCall) (reply : ShardReply) → i < length old
-      → Answered old i call reply new → HasGiven (gave_call call reply) old new
+      → AnsweredByShard old i call reply new → HasGiven (gave_call call reply) old new
 
 abbrev pub ThreadsGive : Type 0
 ThreadsGive = (old new : List ShardPass) → IsShardCount (length old) → CallsAreGiven old new
@@ -184,7 +185,7 @@ pub record AnswersAfter (opening : ShardState) (old new : Known) (call : ShardCa
 abbrev pub SharedVictims : Type 0
 SharedVictims = (S : ReferenceSet) (opening : ShardState) (old new : List ShardPass) (i : ℕ)
     (call : ShardCall) (reply : ShardReply) → StandsFor opening.node.history S
-    → (known_of old i).opening ≡ Some opening → Answered old i call reply new
+    → (known_of old i).opening ≡ Some opening → AnsweredByShard old i call reply new
     → (before : Log) × (was : ShardState) × (is : ShardState)
     × AnswersAfter opening (known_of old i) (known_of new i) call reply before was is
     × VictimsOver (S ∪ gave before) was call reply is

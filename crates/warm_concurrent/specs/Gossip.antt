@@ -18,8 +18,8 @@ use Rattle.warm_concurrent.specs.Whole.{AbsorbFails, AbsorbsFirst, RaiseFails, R
 
 -- each shard forgot all stamps before the horizon, and then each that has a part of the references
 -- of these entries absorbed it
-abbrev pub TakesEntries : ℕ → List Entry → List ShardPass → List ShardPass → Type 0
-TakesEntries horizon entries old new = (mid : List ShardPass)
+abbrev pub ShardsTakeEntries : ℕ → List Entry → List ShardPass → List ShardPass → Type 0
+ShardsTakeEntries horizon entries old new = (mid : List ShardPass)
     × RaisesFirst horizon (length old) old mid
     × AbsorbsFirst (list_references_of entries) (length old) mid new
 
@@ -35,8 +35,8 @@ TakeStops horizon entries why old new = ⊥
 
 -- each shard forgot all stamps before the horizon, and then those that have requested buckets
 -- answered
-abbrev pub TakesRequest : ℕ → ℕ → List Message → List ShardPass → List ShardPass → Type 0
-TakesRequest horizon request messages old new = (mid : List ShardPass)
+abbrev pub ShardsTakeRequest : ℕ → ℕ → List Message → List ShardPass → List ShardPass → Type 0
+ShardsTakeRequest horizon request messages old new = (mid : List ShardPass)
     × RaisesFirst horizon (length old) old mid × AnswersAll request messages mid new
 
 -- a shard was not raised; or all were, and one has not answered
@@ -70,9 +70,10 @@ CompareFails digests own k why old new = (request : ℕ) × IsDifferent digests 
 
 -- each shard forgot all stamps before the horizon, then each made an offer, and then those answered
 -- that have buckets which differ
-abbrev pub TakesDigests : ℕ → List (List ℕ) → List Message → List ShardPass → List ShardPass
+abbrev pub ShardsTakeDigests : ℕ → List (List ℕ) → List Message → List ShardPass → List ShardPass
     → Type 0
-TakesDigests horizon digests messages old new = (raised : List ShardPass) × (later : List ShardPass)
+ShardsTakeDigests horizon digests messages old new = (raised : List ShardPass)
+    × (later : List ShardPass)
     × (own : Offered) × RaisesFirst horizon (length old) old raised × GathersAll own raised later
     × Compares digests own messages later new
 
@@ -90,13 +91,13 @@ DigestsStop horizon digests why old new = ⊥
 -- Any message
 
 -- all shards took the message in, and answered with these messages
-abbrev pub Receives : Message → List Message → List ShardPass → List ShardPass → Type 0
-Receives (Entries sender horizon entries) messages old new = (messages ≡ [])
-    × TakesEntries horizon entries old new
-Receives (Digest sender horizon digests) messages old new =
-    TakesDigests horizon digests messages old new
-Receives (Want sender horizon request) messages old new =
-    TakesRequest horizon request messages old new
+abbrev pub ShardsReceive : Message → List Message → List ShardPass → List ShardPass → Type 0
+ShardsReceive (Entries sender horizon entries) messages old new = (messages ≡ [])
+    × ShardsTakeEntries horizon entries old new
+ShardsReceive (Digest sender horizon digests) messages old new =
+    ShardsTakeDigests horizon digests messages old new
+ShardsReceive (Want sender horizon request) messages old new =
+    ShardsTakeRequest horizon request messages old new
 
 -- where taking it in stopped
 abbrev pub ReceiveStops : Message → NotReceived → List ShardPass → List ShardPass → Type 0

@@ -18,7 +18,7 @@ use Rattle.warm_concurrent.specs.declared.call.ShardCall.{ShardCall}
 use Rattle.warm_concurrent.specs.declared.call.ShardReply.{ShardReply}
 use Rattle.warm_concurrent.specs.Answering.{AnswersFirst, OffersFirst}
 use Rattle.warm_concurrent.specs.Attached.{Known, ShardPass, ShardTurn, known_of}
-use Rattle.warm_concurrent.specs.Clauses.{Answered}
+use Rattle.warm_concurrent.specs.Clauses.{AnsweredByShard}
 use Rattle.warm_concurrent.specs.Opening.{ClosesShard, PassesAreJoined, shards_over, state_at}
 use Rattle.warm_concurrent.specs.declared.call.ShardReply.TheVariants.{Changed, Done, Foreign}
 use Rattle.warm_concurrent.specs.declared.call.ShardReply.TheVariants.{Looked, Pinned}
@@ -132,7 +132,7 @@ SeesMore old new = (i : ℕ) → i < length old → IsPrefix (known_of old i).se
 -- whatever a thread calls, it has then seen of each shard what it had seen, and maybe more
 pub record OnlySeesMore : Type 0 where
   pub called : (old new : List ShardPass) (i : ℕ) (call : ShardCall) (reply : ShardReply)
-      → i < length old → Answered old i call reply new → SeesMore old new
+      → i < length old → AnsweredByShard old i call reply new → SeesMore old new
   pub absorbed : (old new : List ShardPass) (k : ℕ) (batch : List Reference)
       → AbsorbsFirst batch k old new → SeesMore old new
   pub raised : (old new : List ShardPass) (k time : ℕ) → RaisesFirst time k old new

@@ -158,64 +158,64 @@ CallGoes old call (Some reply) new = CallStep old call reply new
 
 -- A caller of a node sees no write-back. All dirty pages were written, since no more are dirty than
 -- there are frames; or a write failed, after those of the pages before.
-abbrev pub WritesPages : NodeState → ShardReply → NodeState → Type 0
-WritesPages old Done new = SameView old new
+abbrev pub WritePagesStep : NodeState → ShardReply → NodeState → Type 0
+WritePagesStep old Done new = SameView old new
     × CleansFirst (length old.pool.frames) old.pool new.pool
-WritesPages old (Refused why) new = NodeWriteBackFails old why new
+WritePagesStep old (Refused why) new = NodeWriteBackFails old why new
     × SomeFails (length old.pool.frames) old.pool new.pool
-WritesPages old reply new = ⊥
+WritePagesStep old reply new = ⊥
 
 -- the same of at most this many dirty pages, and how many are still dirty
-abbrev pub WritesSome : NodeState → ℕ → ShardReply → NodeState → Type 0
-WritesSome old limit (Dirty left) new = SameView old new
+abbrev pub WriteSomeStep : NodeState → ℕ → ShardReply → NodeState → Type 0
+WriteSomeStep old limit (Dirty left) new = SameView old new
     × WritesBackSome limit old.pool left new.pool
-WritesSome old limit (Refused why) new = NodeWriteBackFails old why new
+WriteSomeStep old limit (Refused why) new = NodeWriteBackFails old why new
     × SomeFails limit old.pool new.pool
-WritesSome old limit reply new = ⊥
+WriteSomeStep old limit reply new = ⊥
 
 -- no page is dirty, and no device is unflushed; or a write or a flush failed
-abbrev pub WritesBack : NodeState → ShardReply → NodeState → Type 0
-WritesBack old Done new = SameView old new × IsSettled new.pool
-WritesBack old (Refused why) new = NodeWriteBackFails old why new
+abbrev pub WriteBackStep : NodeState → ShardReply → NodeState → Type 0
+WriteBackStep old Done new = SameView old new × IsSettled new.pool
+WriteBackStep old (Refused why) new = NodeWriteBackFails old why new
     × WriteBackFails old.pool new.pool
-WritesBack old reply new = ⊥
+WriteBackStep old reply new = ⊥
 
 -- a pin of a page that gets zeros; it is refused as a pin is, but for a read that failed
-abbrev pub Zeroes : NodeState → PageId → ShardReply → NodeState → Type 0
-Zeroes old page (Pinned slot) new = KeepsKnown old new
+abbrev pub PinZeroedStep : NodeState → PageId → ShardReply → NodeState → Type 0
+PinZeroedStep old page (Pinned slot) new = KeepsKnown old new
     × PinnedZeroed old.history (view_of old.pool) page slot (view_of new.pool)
     × TakesZeroed old.pool page slot new.pool
-Zeroes old page (Refused why) new = KeepsKnown old new × KeepsFrames old.pool new.pool
+PinZeroedStep old page (Refused why) new = KeepsKnown old new × KeepsFrames old.pool new.pool
     × OfPool (λ fault. ZeroedRefused old.history (view_of old.pool) page fault
     (view_of new.pool)) why
     × OfPool (λ fault. LeavesUnread old.history old.pool fault new.pool) why
-Zeroes old page reply new = ⊥
+PinZeroedStep old page reply new = ⊥
 
 -- the pages of a device from a number on are forgotten, or it is refused
-abbrev pub ForgetsPages : NodeState → ℕ → ℕ → ShardReply → NodeState → Type 0
-ForgetsPages old dev from Done new = KeepsKnown old new × Forgets old.pool dev from new.pool
-ForgetsPages old dev from (Refused why) new = KeepsKnown old new
+abbrev pub ForgetPagesStep : NodeState → ℕ → ℕ → ShardReply → NodeState → Type 0
+ForgetPagesStep old dev from Done new = KeepsKnown old new × Forgets old.pool dev from new.pool
+ForgetPagesStep old dev from (Refused why) new = KeepsKnown old new
     × OfPool (λ fault. ForgetRefused old.pool dev from fault new.pool) why
-ForgetsPages old dev from reply new = ⊥
+ForgetPagesStep old dev from reply new = ⊥
 
 -- the message of what is new in a bucket since a time, and whether more follows
-abbrev pub SendsSince : NodeState → ℕ → ℕ → Option PageId → ShardReply → NodeState → Type 0
-SendsSince old bucket since after (Portion message more) new =
+abbrev pub SendSinceStep : NodeState → ℕ → ℕ → Option PageId → ShardReply → NodeState → Type 0
+SendSinceStep old bucket since after (Portion message more) new =
     (message ≡ sent_since old.id old.history bucket since after)
     × (IsTrue more ↔ HasMoreSince old.history bucket since after) × (new ≡ old)
-SendsSince old bucket since after (Refused why) new = (why ≡ Memory) × (new ≡ old)
-SendsSince old bucket since after reply new = ⊥
+SendSinceStep old bucket since after (Refused why) new = (why ≡ Memory) × (new ≡ old)
+SendSinceStep old bucket since after reply new = ⊥
 
 -- one step of a node, with the reply of the shard
 abbrev pub NodeStep : NodeState → Work → ShardReply → NodeState → Type 0
 NodeStep old (calling call) reply new = CallGoes old call (node_reply_of reply) new
-NodeStep old writing_pages reply new = WritesPages old reply new
-NodeStep old (writing_some limit) reply new = WritesSome old limit reply new
-NodeStep old writing_back reply new = WritesBack old reply new
-NodeStep old (zeroing page) reply new = Zeroes old page reply new
-NodeStep old (forgetting dev from) reply new = ForgetsPages old dev from reply new
+NodeStep old writing_pages reply new = WritePagesStep old reply new
+NodeStep old (writing_some limit) reply new = WriteSomeStep old limit reply new
+NodeStep old writing_back reply new = WriteBackStep old reply new
+NodeStep old (zeroing page) reply new = PinZeroedStep old page reply new
+NodeStep old (forgetting dev from) reply new = ForgetPagesStep old dev from reply new
 NodeStep old (sending_since bucket since after) reply new =
-    SendsSince old bucket since after reply new
+    SendSinceStep old bucket since after reply new
 
 -- Steps of a shard
 

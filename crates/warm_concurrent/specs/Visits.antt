@@ -12,7 +12,7 @@ use Rattle.warm_concurrent.specs.declared.call.ShardReply.TheVariants.{Looked, R
 use Rattle.warm_concurrent.specs.declared.visitors.Went.{Went}
 use Rattle.warm_concurrent.specs.declared.visitors.Went.TheVariants as went
 use Rattle.warm_concurrent.specs.Attached.{ShardPass}
-use Rattle.warm_concurrent.specs.Clauses.{Answered}
+use Rattle.warm_concurrent.specs.Clauses.{AnsweredByShard}
 
 -- this is so of the bytes that the reply shows
 abbrev pub Shows : (List ℕ → Type 0) → ShardReply → Type 0
@@ -25,10 +25,10 @@ ShowsBoth so (Changed slot before after) = so before.numbers after.numbers
 ShowsBoth so reply = ⊥
 
 -- the reply of a visit that went so
-abbrev pub WentAs : {T : Type 0} → (T → ShardReply → Type 0) → Went T → ShardReply → Type 0
-WentAs so (went.Given given) reply = so given reply
-WentAs so (went.Refused why) reply = reply ≡ Refused why
-WentAs so went.Foreign reply = reply ≡ Foreign
+abbrev pub VisitWentAs : {T : Type 0} → (T → ShardReply → Type 0) → Went T → ShardReply → Type 0
+VisitWentAs so (went.Given given) reply = so given reply
+VisitWentAs so (went.Refused why) reply = reply ≡ Refused why
+VisitWentAs so went.Foreign reply = reply ≡ Foreign
 
 -- How a read into these bytes went, and what they then are: they are the reply; or they are as they
 -- were, and the reply is a refusal, though never for memory.
@@ -40,10 +40,11 @@ ReadsInto old (Some why) new reply = (reply ≡ Refused why) × (new ≡ old) ×
 -- was entered
 abbrev pub LooksAt : List ShardPass → ℕ → PageId → (List ℕ → Type 0) → List ShardPass → Type 0
 LooksAt old i page so new = (slot : Slot) × (bytes : Tag) × so bytes.numbers
-    × Answered old i (Look page) (Looked slot bytes) new
+    × AnsweredByShard old i (Look page) (Looked slot bytes) new
 
 -- the same of a change, of the bytes before and after
-abbrev pub ChangesAt : List ShardPass → ℕ → PageId → (List ℕ → List ℕ → Type 0) → List ShardPass
+abbrev pub ChangesPageAt : List ShardPass → ℕ → PageId → (List ℕ → List ℕ → Type 0) → List ShardPass
     → Type 0
-ChangesAt old i page so new = (slot : Slot) × (before : Tag) × (after : Tag)
-    × so before.numbers after.numbers × Answered old i (Change page) (Changed slot before after) new
+ChangesPageAt old i page so new = (slot : Slot) × (before : Tag) × (after : Tag)
+    × so before.numbers after.numbers
+    × AnsweredByShard old i (Change page) (Changed slot before after) new

@@ -46,11 +46,11 @@ AbsorbFails batch k why old new = ((k ≡ 0) × (why ≡ Node Memory) × (new �
     × CallFails mid k (Absorb (part_of (length old) k batch)) why new)
 
 -- a shard forgot all stamps before this time
-abbrev pub Raises : ℕ → ℕ → ShardPass → ShardPass → Type 0
-Raises time i old new = (horizon : ℕ) × Got old.view (Raise time) (Kept horizon) new.view
+abbrev pub RaisesShard : ℕ → ℕ → ShardPass → ShardPass → Type 0
+RaisesShard time i old new = (horizon : ℕ) × Got old.view (Raise time) (Kept horizon) new.view
 
 abbrev pub RaisesFirst : ℕ → ℕ → List ShardPass → List ShardPass → Type 0
-RaisesFirst time k old new = First (Raises time) k old new
+RaisesFirst time k old new = First (RaisesShard time) k old new
 
 -- the shards below k forgot these, and the shard k found no ticket
 abbrev pub RaiseFails : ℕ → ℕ → SharedFault → List ShardPass → List ShardPass → Type 0
@@ -78,12 +78,12 @@ DoneFails call k why old new = (mid : List ShardPass) × (k < length old)
     × DoneFirst call k old mid × CallFails mid k call why new
 
 -- each shard wrote its pages in one turn, and then each wrote back in one more
-abbrev pub WritesBackAll : List ShardPass → List ShardPass → Type 0
-WritesBackAll old new = (mid : List ShardPass) × DoneFirst WritePages (length old) old mid
+abbrev pub ShardsWriteBack : List ShardPass → List ShardPass → Type 0
+ShardsWriteBack old new = (mid : List ShardPass) × DoneFirst WritePages (length old) old mid
     × DoneFirst WriteBack (length old) mid new
 
 -- a page of one shard was not written; or all were, and a device of one was not flushed
-abbrev pub WriteBackStops : NotWritten → List ShardPass → List ShardPass → Type 0
-WriteBackStops (Pages at) old new = DoneFails WritePages at.shard at.fault old new
-WriteBackStops (Devices at) old new = (mid : List ShardPass)
+abbrev pub WriteBackStopsAt : NotWritten → List ShardPass → List ShardPass → Type 0
+WriteBackStopsAt (Pages at) old new = DoneFails WritePages at.shard at.fault old new
+WriteBackStopsAt (Devices at) old new = (mid : List ShardPass)
     × DoneFirst WritePages (length old) old mid × DoneFails WriteBack at.shard at.fault mid new

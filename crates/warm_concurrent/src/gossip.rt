@@ -5,8 +5,8 @@ ghost use Rattle.warm_concurrent.specs.Answering.{OfferFails, OffersAll, offer_m
 ghost use Rattle.warm_concurrent.specs.Attached.{AreOf, AreTurns};
 ghost use Rattle.warm_concurrent.specs.Clauses.{CallEnds};
 ghost use Rattle.warm_concurrent.specs.Gossip.{CompareFails, Compares, DigestsStop, ReceiveStops};
-ghost use Rattle.warm_concurrent.specs.Gossip.{Receives, RequestStops, TakeStops, TakesDigests};
-ghost use Rattle.warm_concurrent.specs.Gossip.{TakesEntries, TakesRequest};
+ghost use Rattle.warm_concurrent.specs.Gossip.{RequestStops, ShardsReceive, ShardsTakeDigests};
+ghost use Rattle.warm_concurrent.specs.Gossip.{ShardsTakeEntries, ShardsTakeRequest, TakeStops};
 ghost use Rattle.warm_concurrent.specs.ShardSteps.{shard_of_bucket};
 ghost use Rattle.warm_concurrent.specs.Whole.{AbsorbFails, AbsorbsFirst};
 ghost use Rattle.warm_concurrent.specs.declared.call.ShardCall.TheVariants.{Send, SendSince};
@@ -155,7 +155,7 @@ fn take_request<D: PageDevice + Send, R: Wait>(
     requires turns { AreTurns turns.now.items }
     requires passes { AreOf turns.now.items passes.old.items }
     ensures passes { AreOf turns.now.items passes.new.items }
-    ensures received { IfOk result (λ messages. TakesRequest horizon request messages.items
+    ensures received { IfOk result (λ messages. ShardsTakeRequest horizon request messages.items
         passes.old.items passes.new.items) }
     ensures stopped { IfErr result (λ at. RequestStops horizon request at passes.old.items
         passes.new.items) }
@@ -228,7 +228,7 @@ fn take_digests<D: PageDevice + Send, R: Wait>(
     requires turns { AreTurns turns.now.items }
     requires passes { AreOf turns.now.items passes.old.items }
     ensures passes { AreOf turns.now.items passes.new.items }
-    ensures received { IfOk result (λ messages. TakesDigests horizon digests.now messages.items
+    ensures received { IfOk result (λ messages. ShardsTakeDigests horizon digests.now messages.items
         passes.old.items passes.new.items) }
     ensures stopped { IfErr result (λ at. DigestsStop horizon digests.now at passes.old.items
         passes.new.items) }
@@ -343,7 +343,7 @@ impl<D: PageDevice + Send> SharedShards<D> {
     ) -> Result<(), NotReceived>
         requires { AreOf self.now attached.old.passes }
         ensures attached { AreOf self.now attached.new.passes }
-        ensures taken { OnOk result (TakesEntries horizon entries.now attached.old.passes
+        ensures taken { OnOk result (ShardsTakeEntries horizon entries.now attached.old.passes
             attached.new.passes) }
         ensures stopped { IfErr result (λ at. TakeStops horizon entries.now at
             attached.old.passes attached.new.passes) }
@@ -385,7 +385,7 @@ impl<D: PageDevice + Send> SharedShards<D> {
     ) -> Result<MessageList, NotReceived>
         requires { AreOf self.now attached.old.passes }
         ensures attached { AreOf self.now attached.new.passes }
-        ensures received { IfOk result (λ messages. Receives message.now messages
+        ensures received { IfOk result (λ messages. ShardsReceive message.now messages
             attached.old.passes attached.new.passes) }
         ensures stopped { IfErr result (λ at. ReceiveStops message.now at attached.old.passes
             attached.new.passes) }

@@ -4,7 +4,7 @@ ghost use Rattle.std.specs.Fn.{FnOnceReturnsAt, FnOnceReturnsAtMut};
 ghost use Rattle.warm_shards.specs.Shards.{shard_of};
 ghost use Rattle.warm_concurrent.specs.Attached.{AreOf, AreTurns};
 ghost use Rattle.warm_concurrent.specs.Clauses.{CallFails};
-ghost use Rattle.warm_concurrent.specs.Visits.{ChangesAt, LooksAt};
+ghost use Rattle.warm_concurrent.specs.Visits.{ChangesPageAt, LooksAt};
 ghost use Rattle.warm_concurrent.specs.declared.call.ShardCall.TheVariants.{Change, Look};
 
 use crate::fault::SharedFault;
@@ -59,7 +59,7 @@ fn change_at<D: PageDevice + Send, R: Wait, T, F: FnOnce(&mut [u8]) -> T + Drop>
     requires own { shard_of (length turns.now.items) page ≡ shard }
     requires callable { F.IsAlwaysCallable f }
     ensures passes { AreOf turns.now.items passes.new.items }
-    ensures changed { IfOk result (λ given. ChangesAt passes.old.items shard page
+    ensures changed { IfOk result (λ given. ChangesPageAt passes.old.items shard page
         (λ before after. FnOnceReturnsAtMut F.FnOnce f before given after)
         passes.new.items) }
     ensures refused { IfErr result (λ why. CallFails passes.old.items shard (Change page) why
@@ -134,7 +134,7 @@ impl<D: PageDevice + Send> SharedShards<D> {
         requires callable { F.IsAlwaysCallable f }
         ensures attached { AreOf self.now attached.new.passes }
         ensures changed { IfOk result (λ given.
-            ChangesAt attached.old.passes (shard_of (length self.now) page) page
+            ChangesPageAt attached.old.passes (shard_of (length self.now) page) page
             (λ before after. FnOnceReturnsAtMut F.FnOnce f before given after)
             attached.new.passes) }
         ensures refused { IfErr result (λ why. CallFails attached.old.passes

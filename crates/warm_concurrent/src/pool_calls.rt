@@ -3,7 +3,7 @@ ghost use Rattle.std.specs.Prelude.{◌≡◌, ◌≢◌, ◌<◌, ◌+◌, Err,
 ghost use Rattle.warm_gossip.specs.declared.fault.NodeFault.TheVariants.{Memory};
 ghost use Rattle.warm_shards.specs.Shards.{shard_of};
 ghost use Rattle.warm_concurrent.specs.Attached.{AreOf, AreTurns};
-ghost use Rattle.warm_concurrent.specs.Clauses.{CallEnds, SlotCallEnds, done};
+ghost use Rattle.warm_concurrent.specs.Clauses.{CallEnds, SlotCallEnds, shard_done};
 ghost use Rattle.warm_concurrent.specs.Clauses.{IsDoneCall};
 ghost use Rattle.warm_concurrent.specs.declared.call.ShardCall.TheVariants.{Pin, Read, Unpin};
 ghost use Rattle.warm_concurrent.specs.declared.call.ShardCall.TheVariants.{Victim, WarmStep};
@@ -60,7 +60,7 @@ fn unpin_in<D: PageDevice + Send, R: Wait>(
     requires passes { AreOf turns.now.items passes.old.items }
     requires there { at.shard < length turns.now.items }
     ensures passes { AreOf turns.now.items passes.new.items }
-    ensures ends { CallEnds passes.old.items at.shard (Unpin at.slot) done result
+    ensures ends { CallEnds passes.old.items at.shard (Unpin at.slot) shard_done result
         passes.new.items }
 {
     let ShardSlot { shard, slot } = at;
@@ -84,7 +84,7 @@ pub(crate) fn do_in<D: PageDevice + Send, R: Wait>(
     requires there { shard < length turns.now.items }
     requires own { IsDoneCall (length turns.now.items) shard call }
     ensures passes { AreOf turns.now.items passes.new.items }
-    ensures ends { CallEnds passes.old.items shard call done result passes.new.items }
+    ensures ends { CallEnds passes.old.items shard call shard_done result passes.new.items }
 {
     match call_shard(rt, turns, passes, shard, call)? {
         ShardReply::Done => Ok(()),
@@ -238,7 +238,7 @@ impl<D: PageDevice + Send> SharedShards<D> {
         ensures none { attached.old.pins ≡ 0 → (result ≡ Err NoPins)
             × (attached.new ≡ attached.old) }
         ensures ends { attached.old.pins ≢ 0
-            → SlotCallEnds attached.old.passes at.shard (Unpin at.slot) done result
+            → SlotCallEnds attached.old.passes at.shard (Unpin at.slot) shard_done result
             attached.new.passes }
         ensures held { OnOk result (attached.new.pins + 1 ≡ attached.old.pins) }
         ensures as_many { OnErr result (attached.new.pins ≡ attached.old.pins) }
@@ -330,8 +330,8 @@ impl<D: PageDevice + Send> SharedShards<D> {
     ) -> Result<(), SharedFault>
         requires { AreOf self.now attached.old.passes }
         ensures attached { AreOf self.now attached.new.passes }
-        ensures ends { SlotCallEnds attached.old.passes slot.shard (Write slot.slot at bytes) done
-            result attached.new.passes }
+        ensures ends { SlotCallEnds attached.old.passes slot.shard (Write slot.slot at bytes)
+            shard_done result attached.new.passes }
         ensures pins { attached.new.pins ≡ attached.old.pins }
     {
         let ShardSlot { shard, slot } = slot;

@@ -2,7 +2,7 @@
 ghost use Rattle.std.specs.Prelude.{◌≡◌, ◌<◌, ◌≤◌, [], length, map, IfErr, IfOk, OnErr, OnOk};
 ghost use Rattle.warm_shards.specs.Shards.{IsShardCount};
 ghost use Rattle.warm_concurrent.specs.Attached.{AreOf, AreTurns, known_of, shard_turn};
-ghost use Rattle.warm_concurrent.specs.Clauses.{Answered, Spent};
+ghost use Rattle.warm_concurrent.specs.Clauses.{AnsweredByShard, Spent};
 ghost use Rattle.warm_concurrent.specs.declared.fault.SharedFault.TheVariants.{TurnsSpent};
 ghost use Rattle.warm_concurrent.specs.ShardSteps.{IsOwn};
 ghost use Rattle.warm_concurrent.specs.Clauses.{MayAnswer};
@@ -88,7 +88,7 @@ pub(crate) fn call_shard<D: PageDevice + Send, R: Wait>(
     requires there { shard < length turns.now.items }
     ensures passes { AreOf turns.now.items passes.new.items }
     ensures answered { IfOk result (λ reply.
-        Answered passes.old.items shard call reply passes.new.items) }
+        AnsweredByShard passes.old.items shard call reply passes.new.items) }
     ensures may { IfOk result (MayAnswer (length turns.now.items) shard call) }
     ensures spent { IfErr result (λ why. (why ≡ TurnsSpent)
         × Spent passes.old.items shard passes.new.items) }
@@ -112,7 +112,7 @@ pub(crate) fn visit_shard<D: PageDevice + Send, R: Wait, V: Visit<Shard<D>> + Dr
     ensures passes { AreOf turns.now.items passes.new.items }
     ensures visited { IfOk result (λ output. (call : ShardCall) × (reply : ShardReply)
         × V.makes visitor output call reply
-        × Answered passes.old.items shard call reply passes.new.items
+        × AnsweredByShard passes.old.items shard call reply passes.new.items
         × MayAnswer (length turns.now.items) shard call reply) }
     ensures spent { IfErr result (λ why. (why ≡ TurnsSpent)
         × Spent passes.old.items shard passes.new.items) }
@@ -138,7 +138,7 @@ pub(crate) fn visit_or_back<D: PageDevice + Send, R: Wait, V: Visit<Shard<D>>>(
     ensures passes { AreOf turns.now.items passes.new.items }
     ensures visited { IfOk result (λ output. (call : ShardCall) × (reply : ShardReply)
         × V.makes visitor output call reply
-        × Answered passes.old.items shard call reply passes.new.items
+        × AnsweredByShard passes.old.items shard call reply passes.new.items
         × MayAnswer (length turns.now.items) shard call reply) }
     ensures spent { OnErr result (Spent passes.old.items shard passes.new.items) }
     ensures given_back { IfErr result (λ back. back ≡ visitor) }

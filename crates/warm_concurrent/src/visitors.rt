@@ -1,7 +1,7 @@
 //! The visitors of a shard: each has the shard for one turn.
 ghost use Rattle.std.specs.Prelude.{◌≡◌, ℕ, List, None, length};
 ghost use Rattle.std.specs.Fn.{FnOnceReturnsAt, FnOnceReturnsAtMut};
-ghost use Rattle.warm_concurrent.specs.Visits.{ReadsInto, Shows, ShowsBoth, WentAs};
+ghost use Rattle.warm_concurrent.specs.Visits.{ReadsInto, Shows, ShowsBoth, VisitWentAs};
 ghost use Rattle.warm_concurrent.specs.ShardSteps.{ShardStep};
 ghost use Rattle.warm_concurrent.specs.declared.call.ShardCall.TheVariants.{Change, Look, Pin};
 ghost use Rattle.warm_concurrent.specs.declared.call.ShardCall.TheVariants.{Read, Unpin};
@@ -82,7 +82,7 @@ pub(crate) struct Pinning {
 
 impl<D: PageDevice + Send> Visit<Shard<D>> for Pinning {
     ghost use Rattle.std.specs.Prelude.{◌≡◌, ⊤};
-    ghost use Rattle.warm_concurrent.specs.Visits.{WentAs};
+    ghost use Rattle.warm_concurrent.specs.Visits.{VisitWentAs};
     ghost use Rattle.warm_concurrent.specs.declared.call.ShardCall.TheVariants.{Pin};
     ghost use Rattle.warm_concurrent.specs.declared.call.ShardReply.TheVariants.{Pinned};
 
@@ -91,7 +91,7 @@ impl<D: PageDevice + Send> Visit<Shard<D>> for Pinning {
     ghost ready = { λ _. ⊤ };
 
     ghost makes = { λ v output call reply. (call ≡ Pin v.page)
-        × WentAs (λ slot said. said ≡ Pinned slot) output reply };
+        × VisitWentAs (λ slot said. said ≡ Pinned slot) output reply };
 
     fn visit(self, shard: &mut Shard<D>) -> Visited<ShardCall, ShardReply, Went<Slot>> {
         let Pinning { page } = self;
@@ -107,7 +107,7 @@ pub(crate) struct Unpinning {
 
 impl<D: PageDevice + Send> Visit<Shard<D>> for Unpinning {
     ghost use Rattle.std.specs.Prelude.{◌≡◌, ⊤};
-    ghost use Rattle.warm_concurrent.specs.Visits.{WentAs};
+    ghost use Rattle.warm_concurrent.specs.Visits.{VisitWentAs};
     ghost use Rattle.warm_concurrent.specs.declared.call.ShardCall.TheVariants.{Unpin};
     ghost use Rattle.warm_concurrent.specs.declared.call.ShardReply.TheVariants.{Done};
 
@@ -116,7 +116,7 @@ impl<D: PageDevice + Send> Visit<Shard<D>> for Unpinning {
     ghost ready = { λ _. ⊤ };
 
     ghost makes = { λ v output call reply. (call ≡ Unpin v.slot)
-        × WentAs (λ given said. said ≡ Done) output reply };
+        × VisitWentAs (λ given said. said ≡ Done) output reply };
 
     fn visit(self, shard: &mut Shard<D>) -> Visited<ShardCall, ShardReply, Went<()>> {
         let Unpinning { slot } = self;
@@ -168,7 +168,7 @@ pub(crate) struct Looking<F> {
 impl<D: PageDevice + Send, T, F: FnOnce(&[u8]) -> T + Drop> Visit<Shard<D>> for Looking<F> {
     ghost use Rattle.std.specs.Prelude.{◌≡◌};
     ghost use Rattle.std.specs.Fn.{FnOnceReturnsAt};
-    ghost use Rattle.warm_concurrent.specs.Visits.{Shows, WentAs};
+    ghost use Rattle.warm_concurrent.specs.Visits.{Shows, VisitWentAs};
     ghost use Rattle.warm_concurrent.specs.declared.call.ShardCall.TheVariants.{Look};
 
     type Output = Went<T>;
@@ -176,7 +176,8 @@ impl<D: PageDevice + Send, T, F: FnOnce(&[u8]) -> T + Drop> Visit<Shard<D>> for 
     ghost ready = { λ v. F.IsAlwaysCallable v.f };
 
     ghost makes = { λ v output call reply. (call ≡ Look v.page)
-        × WentAs (λ given. Shows (λ bytes. FnOnceReturnsAt F.FnOnce v.f bytes given)) output reply };
+        × VisitWentAs (λ given. Shows (λ bytes. FnOnceReturnsAt F.FnOnce v.f bytes given))
+        output reply };
 
     fn visit(self, shard: &mut Shard<D>) -> Visited<ShardCall, ShardReply, Went<T>> {
         let Looking { page, f } = self;
@@ -194,7 +195,7 @@ pub(crate) struct Changing<F> {
 impl<D: PageDevice + Send, T, F: FnOnce(&mut [u8]) -> T + Drop> Visit<Shard<D>> for Changing<F> {
     ghost use Rattle.std.specs.Prelude.{◌≡◌};
     ghost use Rattle.std.specs.Fn.{FnOnceReturnsAtMut};
-    ghost use Rattle.warm_concurrent.specs.Visits.{ShowsBoth, WentAs};
+    ghost use Rattle.warm_concurrent.specs.Visits.{ShowsBoth, VisitWentAs};
     ghost use Rattle.warm_concurrent.specs.declared.call.ShardCall.TheVariants.{Change};
 
     type Output = Went<T>;
@@ -202,7 +203,7 @@ impl<D: PageDevice + Send, T, F: FnOnce(&mut [u8]) -> T + Drop> Visit<Shard<D>> 
     ghost ready = { λ v. F.IsAlwaysCallable v.f };
 
     ghost makes = { λ v output call reply. (call ≡ Change v.page)
-        × WentAs (λ given. ShowsBoth (λ before after.
+        × VisitWentAs (λ given. ShowsBoth (λ before after.
         FnOnceReturnsAtMut F.FnOnce v.f before given after)) output reply };
 
     fn visit(self, shard: &mut Shard<D>) -> Visited<ShardCall, ShardReply, Went<T>> {
@@ -215,7 +216,7 @@ impl<D: PageDevice> Shard<D> {
     // Pins a page of this shard.
     fn pin(&mut self, page: PageId) -> Visited<ShardCall, ShardReply, Went<Slot>>
         ensures call { result.made.call.value ≡ Pin page }
-        ensures reply { WentAs (λ slot said. said ≡ Pinned slot)
+        ensures reply { VisitWentAs (λ slot said. said ≡ Pinned slot)
             result.output result.made.reply.value }
         ensures step { ShardStep self.old (Pin page) result.made.reply.value
             self.new }
@@ -233,7 +234,7 @@ impl<D: PageDevice> Shard<D> {
     // Removes a pin.
     fn unpin(&mut self, slot: Slot) -> Visited<ShardCall, ShardReply, Went<()>>
         ensures call { result.made.call.value ≡ Unpin slot }
-        ensures reply { WentAs (λ given said. said ≡ Done)
+        ensures reply { VisitWentAs (λ given said. said ≡ Done)
             result.output result.made.reply.value }
         ensures step { ShardStep self.old (Unpin slot) result.made.reply.value
             self.new }
@@ -283,7 +284,8 @@ impl<D: PageDevice> Shard<D> {
     ) -> Visited<ShardCall, ShardReply, Went<T>>
         requires callable { F.IsAlwaysCallable f }
         ensures call { result.made.call.value ≡ Look page }
-        ensures reply { WentAs (λ given. Shows (λ bytes. FnOnceReturnsAt F.FnOnce f bytes given))
+        ensures reply { VisitWentAs (λ given. Shows (λ bytes.
+            FnOnceReturnsAt F.FnOnce f bytes given))
             result.output result.made.reply.value }
         ensures step { ShardStep self.old (Look page) result.made.reply.value
             self.new }
@@ -319,7 +321,7 @@ impl<D: PageDevice> Shard<D> {
     ) -> Visited<ShardCall, ShardReply, Went<T>>
         requires callable { F.IsAlwaysCallable f }
         ensures call { result.made.call.value ≡ Change page }
-        ensures reply { WentAs (λ given. ShowsBoth (λ before after.
+        ensures reply { VisitWentAs (λ given. ShowsBoth (λ before after.
             FnOnceReturnsAtMut F.FnOnce f before given after))
             result.output result.made.reply.value }
         ensures step { ShardStep self.old (Change page) result.made.reply.value

@@ -2,7 +2,8 @@
 ghost use Rattle.std.specs.Prelude.{◌≡◌, ◌<◌, length, IfErr, OnOk};
 ghost use Rattle.warm_concurrent.specs.Attached.{AreOf, AreTurns};
 ghost use Rattle.warm_concurrent.specs.Clauses.{CallEnds};
-ghost use Rattle.warm_concurrent.specs.Whole.{DoneFails, DoneFirst, WriteBackStops, WritesBackAll};
+ghost use Rattle.warm_concurrent.specs.Whole.{DoneFails, DoneFirst, ShardsWriteBack};
+ghost use Rattle.warm_concurrent.specs.Whole.{WriteBackStopsAt};
 ghost use Rattle.warm_concurrent.specs.declared.call.ShardCall.TheVariants.{WriteBack, WritePages};
 ghost use Rattle.warm_concurrent.specs.declared.call.ShardCall.TheVariants.{WriteSome};
 ghost use Rattle.warm_concurrent.specs.declared.call.ShardReply.TheVariants.{Dirty};
@@ -109,8 +110,8 @@ impl<D: PageDevice + Send> SharedShards<D> {
     pub fn write_back<R: Wait>(&self, rt: &R, attached: &mut Attached<D>) -> Result<(), NotWritten>
         requires { AreOf self.now attached.old.passes }
         ensures attached { AreOf self.now attached.new.passes }
-        ensures written { OnOk result (WritesBackAll attached.old.passes attached.new.passes) }
-        ensures stopped { IfErr result (λ at. WriteBackStops at attached.old.passes
+        ensures written { OnOk result (ShardsWriteBack attached.old.passes attached.new.passes) }
+        ensures stopped { IfErr result (λ at. WriteBackStopsAt at attached.old.passes
             attached.new.passes) }
         ensures pins { attached.new.pins ≡ attached.old.pins }
     {

@@ -28,7 +28,8 @@ use Rattle.warm_dump.specs.declared.fault.DumpFault.{DumpFault}
 use Rattle.warm_dump.specs.declared.fault.DumpFault.TheVariants.{Frame, CutShort, DigestsDiffer, HorizonsDiffer, MoreFollows}
 use Rattle.warm_dump.specs.declared.reading.DumpReader.{DumpReader}
 use Rattle.warm_dump.proofs.BuilderLemmas.{references_of_entries-append}
-use Rattle.warm_dump.specs.Progress.{Agrees, AreAt, references_at, HasBegun, HasRead, TakesMessage, Rejects, IsRefusedForGood}
+use Rattle.warm_dump.specs.Progress.{Agrees, AreAt, references_brought, HasBegun, HasRead, TakesMessage, Rejects}
+use Rattle.warm_dump.specs.Progress.{IsRefusedForGood}
 use Rattle.warm_dump.specs.Reading.{IsEntriesAt, AreEntriesAt, IsPartAt, brought, entries_brought, references_in, history_of_messages, Begins, IsDump, EndsWithDigests, EndsAt, ShowsFrameFault, IsDumpRefused}
 
 -- ---- texts one after the other
@@ -83,7 +84,7 @@ same_max k n e = ap (λ m. max m n) e ∙ max-eq_left (omega arith)
 -- the references of the frames, and then those of a frame with their horizon
 references_more : (known : Option ℕ) (horizon sender : ℕ) (es : List Entry)
     (messages : List Message) → AreAt known messages → Agrees known horizon
-    → references_at known messages ∪ references_of (history_of_entries_at horizon es)
+    → references_brought known messages ∪ references_of (history_of_entries_at horizon es)
     ≡ references_in horizon (messages ++ Entries sender horizon es ∷ [])
 references_more None horizon sender es messages none agrees =
     let same_references : references_of_entries es ≡ references_of_entries (entries_brought (messages ++ Entries sender horizon es ∷ [])) =
@@ -96,7 +97,7 @@ references_more (Some known) horizon sender es messages some agrees =
 -- and those of the digests, which hold none
 references_closed : (known : Option ℕ) (horizon : ℕ) (messages : List Message)
     → AreAt known messages → Agrees known horizon
-    → with_horizon horizon (references_at known messages) ≡ references_in horizon messages
+    → with_horizon horizon (references_brought known messages) ≡ references_in horizon messages
 references_closed None horizon messages none agrees =
     let same_references : [] ≡ references_of_entries (entries_brought messages) = ap (λ (fs : List Message). references_of_entries (entries_brought fs)) (sym none) in
     λ i. record { horizon = above_zero horizon i; given = same_references i }
@@ -148,7 +149,8 @@ nothing_read g unclosed inside none stands seen at = inr (
     part = nothing_is_part;
     held = inside;
     horizon = subst (λ (o : Option ℕ). AreAt o []) (sym none) refl;
-    stands = subst (λ (o : Option ℕ). StandsFor g.history (references_at o [])) (sym none) stands;
+    stands = subst (λ (o : Option ℕ). StandsFor g.history (references_brought o [])) (sym none)
+        stands;
     bytes_read = seen;
     frame_start = omega (arith, at);
   },
@@ -191,7 +193,7 @@ took_part seen piece n old new g all feeds history horizon unclosed more same =
         part = next.0;
         held = next.1;
         horizon = subst (λ (o : Option ℕ). AreAt o g.messages) (sym horizon) g.horizon;
-        stands = subst (λ (o : Option ℕ). StandsFor new.history (references_at o g.messages)) (sym horizon) (history ∙ g.stands);
+        stands = subst (λ (o : Option ℕ). StandsFor new.history (references_brought o g.messages)) (sym horizon) (history ∙ g.stands);
         bytes_read = whole;
         frame_start = omega (arith, whole, more, same, g.bytes_read, g.frame_start, all, length-append g.begun piece);
       },
@@ -216,7 +218,7 @@ took_entries seen piece n sender horizon es old new g encodes inside agrees know
     let at : AreEntriesAt horizon messages = all_append (IsEntriesAt horizon) g.messages (Entries sender horizon es ∷ []) (some_at old.horizon horizon g.messages g.horizon agrees) (refl, tt) in
     let some : 0 < length messages = omega (arith, length-append g.messages (Entries sender horizon es ∷ [])) in
     let stands : StandsFor new.history (references_in horizon messages) =
-    takes (references_at old.horizon g.messages) g.stands ∙ ap history (references_more old.horizon horizon sender es g.messages g.horizon agrees) in
+    takes (references_brought old.horizon g.messages) g.stands ∙ ap history (references_more old.horizon horizon sender es g.messages g.horizon agrees) in
     inr (
       unclosed,
       record {
@@ -226,7 +228,7 @@ took_entries seen piece n sender horizon es old new g encodes inside agrees know
         part = nothing_is_part;
         held = inside;
         horizon = subst (λ (o : Option ℕ). AreAt o messages) (sym known) (some, at);
-        stands = subst (λ (o : Option ℕ). StandsFor new.history (references_at o messages)) (sym known) stands;
+        stands = subst (λ (o : Option ℕ). StandsFor new.history (references_brought o messages)) (sym known) stands;
         bytes_read = all;
         frame_start = omega (arith, here);
       },
@@ -241,7 +243,7 @@ took_digests : (seen piece : List ℕ) (n sender horizon : ℕ) (digests : List 
     → StandsFor new.history (with_horizon horizon S))
     → digests ≡ digests_of (entries_of new.history) → IsDump (seen ++ take n piece) new.history
 took_digests seen piece n sender horizon digests old new g encodes agrees takes same =
-    let new_is : new.history ≡ history_of_messages horizon g.messages = takes (references_at old.horizon g.messages) g.stands ∙ ap history (references_closed old.horizon horizon g.messages g.horizon agrees) in
+    let new_is : new.history ≡ history_of_messages horizon g.messages = takes (references_brought old.horizon g.messages) g.stands ∙ ap history (references_closed old.horizon horizon g.messages g.horizon agrees) in
     let at : horizon ≡ new.history.horizon = sym (ap (λ (h : HistoryView). h.horizon) new_is ∙ horizon-history (references_in horizon g.messages)) in
     let messages = λ (m : ℕ). g.messages ++ Digest sender m digests ∷ [] in
     let begins : Begins (seen ++ take n piece) (messages horizon) [] = subst (λ (w : List ℕ). Begins w (messages horizon) []) (taken_text seen piece n) (begins_more seen g.begun (take n piece) [] g.messages (Digest sender horizon digests) g.front encodes) in
@@ -407,7 +409,7 @@ other_digests : (seen piece later : List ℕ) (n sender horizon : ℕ) (digests 
     → Agrees old.horizon horizon → (digests ≢ digests_of (entries_of (raised horizon old.history)))
     → IsDumpRefused ((seen ++ piece) ++ later) old.frame_start DigestsDiffer
 other_digests seen piece later n sender horizon digests old g encodes agrees differ =
-    let S = references_at old.horizon g.messages in
+    let S = references_brought old.horizon g.messages in
     let raised_is : raised horizon old.history ≡ history_of_messages horizon g.messages =
     ap (raised horizon) g.stands ∙ history_first S (record { horizon = horizon; given = [] }) ∙ ap history (references_closed old.horizon horizon g.messages g.horizon agrees) in (
       horizon,

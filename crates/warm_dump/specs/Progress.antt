@@ -27,9 +27,9 @@ AreAt None messages = messages ≡ []
 AreAt (Some horizon) messages = (0 < length messages) × AreEntriesAt horizon messages
 
 -- the references that they bring
-abbrev pub references_at : Option ℕ → List Message → ReferenceSet
-references_at None messages = set_of_list []
-references_at (Some horizon) messages = references_in horizon messages
+abbrev pub references_brought : Option ℕ → List Message → ReferenceSet
+references_brought None messages = set_of_list []
+references_brought (Some horizon) messages = references_in horizon messages
 
 -- The text is the frames of messages of entries, and then a part of the next frame, which the
 -- decoder holds. The history is that of the messages. The bytes read are counted, and the next
@@ -41,7 +41,7 @@ pub record HasBegun (text : List ℕ) (g : DumpReader) : Type 0 where
   pub part : IsIncomplete begun
   pub held : g.decoder ≡ Inside begun
   pub horizon : AreAt g.horizon messages
-  pub stands : StandsFor g.history (references_at g.horizon messages)
+  pub stands : StandsFor g.history (references_brought g.horizon messages)
   pub bytes_read : g.bytes_read ≡ length text
   pub frame_start : g.frame_start + length begun ≡ length text
 

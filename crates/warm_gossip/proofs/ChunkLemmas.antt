@@ -23,7 +23,7 @@ use Rattle.warm_history.proofs.HistoryLemmas.{IsHistory-history}
 use Rattle.warm_history.proofs.CarriedLemmas.{history-carried}
 use Rattle.warm_frames.proofs.FieldLemmas.{less_is}
 use Rattle.warm_frames.specs.Chunks.{chunks_of}
-use Rattle.warm_gossip.specs.Chunks.{last_page, chunk_after, AreInTurn, ChunksInTurn}
+use Rattle.warm_gossip.specs.Chunks.{last_page, chunk_after, AreAllChunks, ChunksInTurn}
 
 -- the entries whose page comes after the given one
 abbrev later : Option PageId → List Entry → List Entry
@@ -101,7 +101,7 @@ chunk_is S bucket limit after es is = sym (history-carried S bucket after limit)
 
 in_turn_from : (S : ReferenceSet) (bucket size n : ℕ) (after : Option PageId) (es : List Entry)
     → es ≡ chosen bucket after (entries_of (history S)) → length es ≤ n
-    → AreInTurn S bucket (suc size) after (chunks_of (suc size) n es)
+    → AreAllChunks S bucket (suc size) after (chunks_of (suc size) n es)
 in_turn_from S bucket size zero after [] is few = chunk_is S bucket (suc size) after [] is ∙ take-nil (suc size)
 in_turn_from S bucket size zero after (x ∷ xs) is few = absurd (omega (arith, few))
 in_turn_from S bucket size (suc n) after [] is few = chunk_is S bucket (suc size) after [] is ∙ take-nil (suc size)

@@ -20,13 +20,14 @@ chunk_after S bucket limit after = entries_of (history (carried S bucket after l
 
 -- each chunk is what is sent after the last page of the one before, and after the last chunk no
 -- page is left
-abbrev pub AreInTurn : ReferenceSet → ℕ → ℕ → Option PageId → List (List Entry) → Type 0
-AreInTurn S bucket limit after [] = chunk_after S bucket limit after ≡ []
-AreInTurn S bucket limit after (chunk ∷ others) =
+abbrev pub AreAllChunks : ReferenceSet → ℕ → ℕ → Option PageId → List (List Entry) → Type 0
+AreAllChunks S bucket limit after [] = chunk_after S bucket limit after ≡ []
+AreAllChunks S bucket limit after (chunk ∷ others) =
     (chunk ≡ chunk_after S bucket limit after) × (0 < length chunk)
-    × AreInTurn S bucket limit (last_page chunk) others
+    × AreAllChunks S bucket limit (last_page chunk) others
 
 -- the chunks of a bucket are what Send gives of it, one after the other, from the first page on
 abbrev pub ChunksInTurn : Type 0
 ChunksInTurn = (S : ReferenceSet) (bucket limit : ℕ) → 0 < limit
-    → AreInTurn S bucket limit None (chunks limit (bucket_entries bucket (entries_of (history S))))
+    → AreAllChunks S bucket limit None
+    (chunks limit (bucket_entries bucket (entries_of (history S))))

@@ -8,7 +8,7 @@ use Rattle.warm_history.specs.declared.hist.Entry.{Entry}
 use Rattle.warm_history.specs.ReferenceSets.{ReferenceSet, set_of_list, with_horizon}
 use Rattle.warm_history.specs.Histories.{history_of_entries, history_of_entries_at, history, join}
 use Rattle.warm_history.specs.Carried.{carried}
-use Rattle.warm_history.specs.Walks.{merged}
+use Rattle.warm_history.specs.maps.Walks.{merged}
 use Rattle.warm_history.specs.Changes.{ChangesIn, SameInBucket}
 use Rattle.warm_history.specs.Losses.{KeepsIn, bucket_at_horizon}
 use Rattle.warm_history.specs.Since.{carried_since, entries_since}

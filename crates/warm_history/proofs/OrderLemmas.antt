@@ -12,7 +12,7 @@ use Rattle.warm_stamps.proofs.DistinctLemmas.{is_equal, by_cases, flipped}
 use Rattle.warm_stamps.proofs.StampLemmas.{page_order}
 use Rattle.warm_history.specs.declared.hist.Entry.{Entry}
 use Rattle.warm_history.specs.ListHistories.{IsDescending, PagesAscend, IsListHistory}
-use Rattle.warm_history.specs.MapPairs.{put_in, in_page_order}
+use Rattle.warm_history.specs.maps.MapPairs.{put_in, in_page_order}
 use Rattle.warm_history.proofs.ListHistoryLemmas.{get, either_way, AllAbove, above_less}
 
 -- two pages that both equal a third are equal

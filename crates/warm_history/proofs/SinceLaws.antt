@@ -19,11 +19,10 @@ use Rattle.warm_stamps.proofs.StampLemmas.{stamp_order, page_order, IsStrictOrde
 use Rattle.warm_history.specs.declared.hist.PageHist.{PageHist}
 use Rattle.warm_history.specs.declared.hist.PageHist.TheVariants.{Once, Twice}
 use Rattle.warm_history.specs.declared.hist.Entry.{Entry}
-use Rattle.warm_history.specs.Carried.{comes_after, is_next_in_bucket}
+use Rattle.warm_history.specs.Carried.{after_page, comes_after, is_next_in_bucket, later_of_bucket}
 use Rattle.warm_history.specs.Histories.{entries_of, history, history_of_entries_at, references_of}
 use Rattle.warm_history.specs.KeptEntries.{is_recent}
 use Rattle.warm_history.specs.ListHistories.{IsDescending, PagesAscend, first_two, known_stamps, list_history, list_references_of, references_of_entry}
-use Rattle.warm_history.specs.Merges.{after_page, later_of_bucket}
 use Rattle.warm_history.specs.ReferenceSets.{ReferenceSet, is_kept, references, references_from, ◌∪◌}
 use Rattle.warm_history.specs.References.{IsIn, SameReferences}
 use Rattle.warm_history.specs.Since.{AreSince, HasBefore, PortionsGoOn, SinceBringsAll, entries_since, recent_entries}

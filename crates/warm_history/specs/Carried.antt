@@ -36,3 +36,11 @@ AreCarried h bucket after limit es = (S : ReferenceSet) → StandsFor h S
 -- the entries of a bucket, in the order of the list
 abbrev pub bucket_entries : ℕ → List Entry → List Entry
 bucket_entries bucket = filter (λ e. page_bucket e.page == bucket)
+
+-- the entries of a bucket whose page is greater than the given one, if one is given
+abbrev pub later_of_bucket : ℕ → Option PageId → List Entry → List Entry
+later_of_bucket bucket after es = filter (λ e. is_next_in_bucket bucket after e.page) es
+
+-- the entries whose page is greater than the given one
+abbrev pub after_page : PageId → List Entry → List Entry
+after_page last es = filter (λ e. is_lt (page_cmp last e.page)) es

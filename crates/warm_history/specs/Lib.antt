@@ -8,15 +8,5 @@ pub mod Losses
 pub mod Laws
 pub mod References
 pub mod LatestTwo
-pub mod MapKeys
-pub mod MapPairs
-pub mod BucketMaps
-pub mod Runs
-pub mod Walks
-pub mod NearJoins
-pub mod Merges
 pub mod Since
-pub mod Cuts
-pub mod Undo
-pub mod PackedHists
-pub mod NearPairs
+pub mod maps

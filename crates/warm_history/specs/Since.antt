@@ -8,11 +8,10 @@ use Rattle.warm_stamps.specs.declared.Reference.{Reference}
 use Rattle.warm_stamps.specs.Stamps.{page_cmp}
 use Rattle.warm_history.specs.declared.hist.PageHist.{PageHist}
 use Rattle.warm_history.specs.declared.hist.Entry.{Entry}
-use Rattle.warm_history.specs.Carried.{is_next_in_bucket}
+use Rattle.warm_history.specs.Carried.{is_next_in_bucket, later_of_bucket}
 use Rattle.warm_history.specs.Histories.{HistoryView, IsHistory, StandsFor, entries_of, hist}
 use Rattle.warm_history.specs.Histories.{history, history_of_entries_at, pages, references_of}
 use Rattle.warm_history.specs.KeptEntries.{is_recent}
-use Rattle.warm_history.specs.Merges.{later_of_bucket}
 use Rattle.warm_history.specs.ReferenceSets.{ReferenceSet, filter_references, is_kept, references}
 use Rattle.warm_history.specs.ReferenceSets.{◌∪◌}
 use Rattle.warm_history.specs.References.{IsIn}

@@ -5,20 +5,19 @@ ghost use Rattle.warm_history.specs.ReferenceSets.{ReferenceSet, set_of_list, wi
 ghost use Rattle.warm_history.specs.Histories.{entries_of, history_of_entries};
 ghost use Rattle.warm_history.specs.Histories.{history_of_entries_at, hist, references_of, history};
 ghost use Rattle.warm_history.specs.Histories.{join, StandsFor, TakesIn, IsHistory};
-ghost use Rattle.warm_history.specs.Carried.{AreCarried, bucket_entries};
+ghost use Rattle.warm_history.specs.Carried.{AreCarried, bucket_entries, later_of_bucket};
 ghost use Rattle.warm_history.specs.Losses.{KeepsIn, LosesIn, MarksLosing, bucket_at_horizon};
 ghost use Rattle.warm_history.specs.Losses.{raised};
 ghost use Rattle.warm_history.specs.Changes.{MarksChanged};
-ghost use Rattle.warm_history.specs.Merges.{later_of_bucket};
 ghost use Rattle.warm_history.specs.Since.{AreCarriedSince, entries_since};
 
-use crate::bucket_map::{self, BucketPairs};
-use crate::bucket_maps::{BucketMaps, EachEntry};
 use crate::cut::{CutEntries, listed, losing, none_older};
 use crate::hist::{Entry, PageHist};
-use crate::merge_iter::{MergedEntries, Source, later_pairs, merged_entries};
+use crate::maps::bucket_map::{self, BucketPairs};
+use crate::maps::bucket_maps::{BucketMaps, EachEntry};
+use crate::maps::merge_iter::{MergedEntries, Source, later_pairs, merged_entries};
+use crate::maps::take_in::{lookup, raise, take_entries, take_pairs, take_references};
 use crate::since::{Portion, portion_since};
-use crate::take_in::{lookup, raise, take_entries, take_pairs, take_references};
 use std::alloc::{AllocError, Global};
 use std::fmt;
 use std::marker::Model;
@@ -57,7 +56,7 @@ impl Drop for History {
 
 impl Model for History {
     ghost use Rattle.warm_history.specs.Histories.{HistoryView, history_of_entries_at, NoneOlder};
-    ghost use Rattle.warm_history.specs.MapPairs.{kept, AreKept};
+    ghost use Rattle.warm_history.specs.maps.MapPairs.{kept, AreKept};
 
     ghost Value = { HistoryView };
 
@@ -385,7 +384,7 @@ impl fmt::Debug for Entries<'_> {
 impl<'a> Model for Entries<'a> {
     ghost use Rattle.std.specs.Prelude.{List};
     ghost use Rattle.warm_history.specs.declared.hist.Entry.{Entry};
-    ghost use Rattle.warm_history.specs.Merges.{all_left};
+    ghost use Rattle.warm_history.specs.maps.Merges.{all_left};
 
     ghost Value = { List Entry };
 
@@ -417,7 +416,7 @@ pub struct BucketEntries<'a> {
 impl<'a> Model for BucketEntries<'a> {
     ghost use Rattle.std.specs.Prelude.{List};
     ghost use Rattle.warm_history.specs.declared.hist.Entry.{Entry};
-    ghost use Rattle.warm_history.specs.MapPairs.{as_entries};
+    ghost use Rattle.warm_history.specs.maps.MapPairs.{as_entries};
 
     ghost Value = { List Entry };
 

@@ -10,22 +10,12 @@
 //! repeated or reordered on the way: see [`laws`].
 #![tactic(auto)]
 
-mod bucket_map;
-mod bucket_maps;
 mod cut;
 mod hist;
 mod history;
 pub mod laws;
-mod map_key;
-mod merge_iter;
-mod near_join;
-mod near_key;
-mod packed;
-mod page_map;
-mod runs;
+mod maps;
 mod since;
-mod take_in;
-mod walk;
 
 pub use cut::CutEntries;
 pub use hist::{Entry, PageHist, Two, is_sorted_by_page, join_hist};

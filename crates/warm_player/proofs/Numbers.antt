@@ -4,7 +4,7 @@ use Rattle.std.proofs.lemmas.Bool.{lt-leb, le-leb}
 use Rattle.std.specs.List.{prefix_len}
 use Rattle.std.specs.Prelude.{option_map}
 use Rattle.warm_player.specs.Fields.{◌>>=◌, digit_of, digits_after, number_of, up_to, number_up_to}
-use Rattle.warm_player.specs.Heads.{is_digit, leading_digits, after_digits, number_at}
+use Rattle.warm_player.specs.Heads.{is_digit, leading_digits, after_digits, head_number}
 use Rattle.warm_player.proofs.Leading.{digit_more, after_more}
 
 step : (n x d : ℕ) (rest : List ℕ) → digit_of x ≡ Some d
@@ -39,8 +39,8 @@ first_digits d text rest lt e =
     sym (number_begins d text rest lt e ∙ digits_go_on 0 d text rest lt e ∙ ap (λ (n : ℕ). digits_after n (leading_digits rest)) zero)
 
 pub no_digit_ahead : (limit : ℕ) (text : List ℕ) → prefix_len is_digit text ≡ 0
-    → None ≡ number_at limit text
-unfolding number_at number_up_to
+    → None ≡ head_number limit text
+unfolding head_number number_up_to
 no_digit_ahead limit text e = rw e refl
 
 big_step : (limit n : ℕ) (o : Option ℕ) (cs : List ℕ)
@@ -56,8 +56,8 @@ big limit n (c ∷ cs) lt = big_step limit n (digit_of c) cs (λ d. big limit (1
 -- a number above the limit stays above it
 pub is_big : (limit n : ℕ) (text rest : List ℕ) → limit < n
     → digits_after n (leading_digits rest) ≡ number_of (leading_digits text)
-    → None ≡ number_at limit text
-unfolding number_at number_up_to
+    → None ≡ head_number limit text
+unfolding head_number number_up_to
 is_big limit n text rest lt so_far =
     ap (option_map (λ (n : ℕ). (n, after_digits text))) (sym (big limit n (leading_digits rest) lt) ∙ ap (up_to limit) so_far)
 
@@ -65,8 +65,8 @@ is_big limit n text rest lt so_far =
 pub is_whole : (limit n : ℕ) (text rest : List ℕ) → prefix_len is_digit rest ≡ 0 → n ≤ limit
     → digits_after n (leading_digits rest) ≡ number_of (leading_digits text)
     → after_digits rest ≡ after_digits text
-    → Some (n, rest) ≡ number_at limit text
-unfolding number_at number_up_to
+    → Some (n, rest) ≡ head_number limit text
+unfolding head_number number_up_to
 is_whole limit n text rest none fits so_far after =
     let whole : Some n ≡ number_of (leading_digits text) = (let last : digits_after n (leading_digits rest) ≡ Some n = rw none refl in sym last ∙ so_far) in
     let behind : rest ≡ after_digits text = (let last : after_digits rest ≡ rest = rw none refl in sym last ∙ after) in

@@ -6,7 +6,8 @@ use Rattle.warm_stamps.specs.declared.PageId.{PageId}
 use Rattle.warm_pool.specs.declared.slot.Slot.{Slot}
 use Rattle.warm_player.specs.Text.{split, words, has_bytes}
 use Rattle.warm_player.specs.Fields.{◌>>=◌, number_up_to, page_of_word, page_of_parts, slot_of_word, slot_of_parts, number_field, page_field, after_field, slot_field}
-use Rattle.warm_player.specs.Heads.{after_digits, number_at, behind, words_behind, page_at, slot_at}
+use Rattle.warm_player.specs.Heads.{after_digits, head_number, behind, words_behind, head_page}
+use Rattle.warm_player.specs.Heads.{head_slot}
 use Rattle.warm_player.proofs.Words.{first_word, word_then, words_later, number_end}
 use Rattle.warm_player.proofs.Numbers.{digit_value}
 use Rattle.warm_player.proofs.Parts.{two_of, pair_end}
@@ -27,8 +28,9 @@ word_first c cs none = elim (cases_eq c 32) [
 
 pub number_read : (limit : ℕ) (text : List ℕ) → behind 32 text ≡ None
     → number_field limit (words text)
-    ≡ (number_at limit text >>= λ (n : ℕ × List ℕ). words_behind n.1 >>= λ later. Some (n.0, later))
-unfolding number_field number_at number_up_to words
+    ≡ (head_number limit text >>= λ (n : ℕ × List ℕ). words_behind n.1
+    >>= λ later. Some (n.0, later))
+unfolding number_field head_number number_up_to words
 number_read limit [] none = refl
 number_read limit (c ∷ cs) none = ap (number_field limit) (word_first c cs none) ∙ number_end limit (c ∷ cs) (λ n later. Some (n, later))
 
@@ -61,8 +63,8 @@ page_then (device ∷ []) make = refl
 page_then (device ∷ number ∷ []) make = made_then (number_up_to 65535 device) (number_up_to 18446744073709551615 number) page make
 page_then (device ∷ number ∷ more ∷ rest) make = refl
 
-pub page_read : (text : List ℕ) → behind 32 text ≡ None → page_field (words text) ≡ page_at text
-unfolding page_field page_of_word number_at number_up_to words
+pub page_read : (text : List ℕ) → behind 32 text ≡ None → page_field (words text) ≡ head_page text
+unfolding page_field page_of_word head_number number_up_to words
 page_read [] none = refl
 page_read (c ∷ cs) none =
     ap page_field (word_first c cs none)
@@ -79,8 +81,8 @@ slot_then (frame ∷ []) make = refl
 slot_then (frame ∷ generation ∷ []) make = made_then (number_up_to 4294967295 frame) (number_up_to 18446744073709551615 generation) slot make
 slot_then (frame ∷ generation ∷ more ∷ rest) make = refl
 
-pub slot_read : (text : List ℕ) → behind 32 text ≡ None → slot_field (words text) ≡ slot_at text
-unfolding slot_field slot_of_word number_at number_up_to words
+pub slot_read : (text : List ℕ) → behind 32 text ≡ None → slot_field (words text) ≡ head_slot text
+unfolding slot_field slot_of_word head_number number_up_to words
 slot_read [] none = refl
 slot_read (c ∷ cs) none =
     ap slot_field (word_first c cs none)
@@ -104,7 +106,7 @@ some_page None later = refl
 some_page (Some p) later = refl
 
 pub after_read : (text : List ℕ) → behind 32 text ≡ None → 0 < length text
-    → after_field (words text) ≡ (page_at text >>= as_some)
+    → after_field (words text) ≡ (head_page text >>= as_some)
 unfolding after_field page_field
 after_read [] none some = absurd (omega arith)
 after_read (c ∷ cs) none some =

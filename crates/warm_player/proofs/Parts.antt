@@ -4,7 +4,8 @@ use Rattle.std.proofs.lemmas.Bool.{cases_Bool, cases_eq, eq-eqb, ne_eqb}
 use Rattle.std.specs.Prelude.{option_map}
 use Rattle.warm_player.specs.Text.{split}
 use Rattle.warm_player.specs.Fields.{◌>>=◌, digit_of, digits_after, number_up_to}
-use Rattle.warm_player.specs.Heads.{is_digit, leading_digits, after_digits, number_at, behind, words_behind}
+use Rattle.warm_player.specs.Heads.{is_digit, leading_digits, after_digits, head_number, behind}
+use Rattle.warm_player.specs.Heads.{words_behind}
 use Rattle.warm_player.proofs.Leading.{digit_more, digit_stop, after_more, after_stop, no_digit, stop, no_digits, none_up_to}
 use Rattle.warm_player.proofs.Split.{first_of_split}
 use Rattle.warm_player.proofs.Words.{first_word, words_later, word_digits, word_after, later_is, looks_on, nothing_then, number_end}
@@ -174,10 +175,10 @@ same_rest (Some x) f g e = e x
 pub pair_end : {A : Type 0} (s limit : ℕ) (text : List ℕ) (make : ℕ → ℕ → List (List ℕ) → Option A)
     (o : Option (List ℕ)) → digit_of s ≡ None → s ≢ 32 → behind s (after_digits text) ≡ o
     → two_of limit (λ d n. make d n (words_later text)) (split s (first_word text))
-    ≡ (number_at limit text >>= λ (d : ℕ × List ℕ). behind s d.1
-    >>= λ rest. number_at 18446744073709551615 rest >>= λ (n : ℕ × List ℕ). words_behind n.1
+    ≡ (head_number limit text >>= λ (d : ℕ × List ℕ). behind s d.1
+    >>= λ rest. head_number 18446744073709551615 rest >>= λ (n : ℕ × List ℕ). words_behind n.1
     >>= λ later. make d.0 n.0 later)
-unfolding number_at
+unfolding head_number
 pair_end s limit text make None none other e =
     let digits = number_up_to limit (leading_digits text) in
     let alone : behind s (after_digits (first_word text)) ≡ None = ap (behind s) (word_after text) ∙ behind_word s (after_digits text) other ∙ ap (option_map first_word) e in

@@ -28,7 +28,7 @@ use Rattle.warm_world.specs.Opening.{AreFitting, FinishFails}
 use Rattle.warm_gossip.specs.Step.{IsFailed}
 use Rattle.warm_gossip.specs.declared.fault.NodeFault.{NodeFault}
 use Rattle.warm_history.specs.Histories.{history_of_entries}
-use Rattle.warm_world.specs.Stands.{StandsFor, Steps, ReplicaStands}
+use Rattle.warm_world.specs.Stands.{WorldStands, Steps, ReplicaStands}
 use Rattle.warm_world.specs.Views.{ReplicaView, WorldView}
 use Rattle.warm_gossip.specs.declared.fault.NodeFault.TheVariants as node_fault
 use Rattle.warm_world.specs.declared.event.WorldFault.TheVariants.{Node}
@@ -195,8 +195,9 @@ Goes-then a b c x y o q ab bc = λ state begun h.
     )
 
 -- the same world
-stands_too : (a b : WorldView) (state : ModelState) → b ≡ a → StandsFor a state → StandsFor b state
-stands_too a b state same stands = subst (λ (w : WorldView). StandsFor w state) (sym same) stands
+stands_too : (a b : WorldView) (state : ModelState) → b ≡ a → WorldStands a state
+    → WorldStands b state
+stands_too a b state same stands = subst (λ (w : WorldView). WorldStands w state) (sym same) stands
 
 -- bytes that belong to the line
 pub Goes-add : (a b : SessionView) (bytes : List ℕ) → AddsBytes a bytes b → ReadsOn a bytes [] b
@@ -223,7 +224,7 @@ said_so old number read said out new e answered = subst (λ (o : Option Line). L
 -- the line that has begun and ends with these bytes was answered by this
 abbrev pub AnswersBegun : SessionView → List ℕ → List ℕ → WorldView → Type 0
 AnswersBegun old piece out world = (state : ModelState) (begun : List ℕ)
-    → SessionStands old state begun → (next : ModelState) × StandsFor world next
+    → SessionStands old state begun → (next : ModelState) × WorldStands world next
     × LineAnswered state old.number (meaning (begun ++ piece)) out next
 
 -- a line that stands whole in its last bytes

@@ -4,7 +4,8 @@ use Rattle.std.proofs.lemmas.Bool.{cases_Bool, cases_eq, eq-eqb, ne_eqb}
 use Rattle.std.specs.Prelude.{◌==◌, filter, option_map, if◌then◌else◌}
 use Rattle.warm_player.specs.Text.{split, words, has_bytes}
 use Rattle.warm_player.specs.Fields.{◌>>=◌, number_up_to}
-use Rattle.warm_player.specs.Heads.{is_digit, leading_digits, after_digits, number_at, words_behind}
+use Rattle.warm_player.specs.Heads.{is_digit, leading_digits, after_digits, head_number}
+use Rattle.warm_player.specs.Heads.{words_behind}
 use Rattle.warm_player.proofs.Leading.{digit_more, digit_stop, after_more, after_stop, all_digits, end_or_other, other_number}
 
 -- ---- the first word of a text that begins with no space, and the words behind it
@@ -97,8 +98,8 @@ nothing_then (Some a) none h = sym (h a)
 -- the first word spells the number of its digits where the word ends behind them
 pub number_end : {A : Type 0} (limit : ℕ) (text : List ℕ) (make : ℕ → List (List ℕ) → Option A)
     → (number_up_to limit (first_word text) >>= λ n. make n (words_later text))
-    ≡ (number_at limit text >>= λ (x : ℕ × List ℕ). words_behind x.1 >>= λ later. make x.0 later)
-unfolding number_at words
+    ≡ (head_number limit text >>= λ (x : ℕ × List ℕ). words_behind x.1 >>= λ later. make x.0 later)
+unfolding head_number words
 number_end limit text make =
     let digits = number_up_to limit (leading_digits text) in
     elim (end_or_other text) [

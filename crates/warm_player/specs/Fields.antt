@@ -63,14 +63,14 @@ unfoldable pub slot_of_word : List ℕ → Option Slot
 slot_of_word word = slot_of_parts (split 46 word)
 
 -- whether a byte is from the least to the greatest
-abbrev pub is_from : ℕ → ℕ → ℕ → Bool
-is_from least most c = nat_le least c && nat_le c most
+abbrev pub is_byte_in : ℕ → ℕ → ℕ → Bool
+is_byte_in least most c = nat_le least c && nat_le c most
 
 -- 0 to 9, a to f or A to F
 abbrev pub hex_digit_of : ℕ → Option ℕ
-hex_digit_of c = if is_from 48 57 c then Some (c - 48)
-    else (if is_from 97 102 c then Some (c - 87)
-    else (if is_from 65 70 c then Some (c - 55) else None))
+hex_digit_of c = if is_byte_in 48 57 c then Some (c - 48)
+    else (if is_byte_in 97 102 c then Some (c - 87)
+    else (if is_byte_in 65 70 c then Some (c - 55) else None))
 
 -- the bytes that these digits spell, two digits for each
 abbrev pub hex_pairs : List ℕ → Option (List ℕ)

@@ -5,11 +5,11 @@ use Rattle.std.specs.List.{take_while, prefix_len}
 use Rattle.warm_stamps.specs.declared.PageId.{PageId}
 use Rattle.warm_pool.specs.declared.slot.Slot.{Slot}
 use Rattle.warm_player.specs.Text.{words}
-use Rattle.warm_player.specs.Fields.{◌>>=◌, is_from, number_up_to}
+use Rattle.warm_player.specs.Fields.{◌>>=◌, is_byte_in, number_up_to}
 
 -- whether a byte is a decimal digit
 abbrev pub is_digit : ℕ → Bool
-is_digit c = is_from 48 57 c
+is_digit c = is_byte_in 48 57 c
 
 -- the digits at the head of a text, and what follows them
 abbrev pub leading_digits : List ℕ → List ℕ
@@ -19,8 +19,8 @@ abbrev pub after_digits : List ℕ → List ℕ
 after_digits text = drop (prefix_len is_digit text) text
 
 -- the number at the head of a text, and what follows it
-unfoldable pub number_at : ℕ → List ℕ → Option (ℕ × List ℕ)
-number_at limit text =
+unfoldable pub head_number : ℕ → List ℕ → Option (ℕ × List ℕ)
+head_number limit text =
     option_map (λ n. (n, after_digits text)) (number_up_to limit (leading_digits text))
 
 -- what follows this byte at the head of a text
@@ -34,19 +34,19 @@ words_behind [] = Some []
 words_behind (c ∷ cs) = if c == 32 then Some (words cs) else None
 
 -- a page in front of the end of a word, and the words behind it
-abbrev pub page_at : List ℕ → Option (PageId × List (List ℕ))
-page_at text = do
-  device ← number_at 65535 text
+abbrev pub head_page : List ℕ → Option (PageId × List (List ℕ))
+head_page text = do
+  device ← head_number 65535 text
   rest ← behind 58 device.1
-  number ← number_at 18446744073709551615 rest
+  number ← head_number 18446744073709551615 rest
   later ← words_behind number.1
   Some (record { dev = device.0; no = number.0 }, later)
 
 -- a slot in front of the end of a word, and the words behind it
-abbrev pub slot_at : List ℕ → Option (Slot × List (List ℕ))
-slot_at text = do
-  frame ← number_at 4294967295 text
+abbrev pub head_slot : List ℕ → Option (Slot × List (List ℕ))
+head_slot text = do
+  frame ← head_number 4294967295 text
   rest ← behind 46 frame.1
-  generation ← number_at 18446744073709551615 rest
+  generation ← head_number 18446744073709551615 rest
   later ← words_behind generation.1
   Some (record { index = frame.0; generation = generation.0 }, later)

@@ -2,7 +2,7 @@
 use Rattle.std.specs.Prelude.{◌≡◌, ℕ, ◌+◌, List, [], ◌++◌, take}
 use Rattle.warm_world.specs.States.{ModelState}
 use Rattle.warm_world.specs.Views.{WorldView, world_view}
-use Rattle.warm_world.specs.Stands.{StandsFor}
+use Rattle.warm_world.specs.Stands.{WorldStands}
 use Rattle.warm_player.specs.Text.{IsLine, lines}
 use Rattle.warm_player.specs.Grammar.{meaning}
 use Rattle.warm_player.specs.Printed.{LineAnswered, PrintedFrom, EndsIn}
@@ -27,7 +27,7 @@ pub record HoldsLine (held line : List ℕ) : Type 0 where
 
 -- the session's world stands for this state, and this is the current line so far
 pub record SessionStands (s : SessionView) (state : ModelState) (line : List ℕ) : Type 0 where
-  pub stands : StandsFor s.world state
+  pub stands : WorldStands s.world state
   pub begun : HoldsLine s.held line
 
 -- a world in this state, before the first line
@@ -43,8 +43,8 @@ pub record AddsBytes (old : SessionView) (bytes : List ℕ) (new : SessionView) 
 
 -- the answer to the line of this number was printed, and the world stands for the next state
 abbrev pub AnswersLine : WorldView → ℕ → List ℕ → List ℕ → WorldView → Type 0
-AnswersLine old number line out new = (state : ModelState) → StandsFor old state
-    → (next : ModelState) × StandsFor new next × LineAnswered state number (meaning line) out next
+AnswersLine old number line out new = (state : ModelState) → WorldStands old state
+    → (next : ModelState) × WorldStands new next × LineAnswered state number (meaning line) out next
 
 -- The session read these bytes and printed this: with any possible output for the rest, it is a
 -- possible output for the whole.
@@ -57,7 +57,7 @@ ReadsOn old bytes out new = (state : ModelState) (begun : List ℕ) → SessionS
 
 -- the end of a play with this world prints this after the answers
 abbrev pub PrintsEnding : WorldView → List ℕ → Type 0
-PrintsEnding world out = (state : ModelState) (answers : List ℕ) → StandsFor world state
+PrintsEnding world out = (state : ModelState) (answers : List ℕ) → WorldStands world state
     → EndsIn state answers (answers ++ out)
 
 -- The input has ended, and the session printed the answer to the last line, and then this for the

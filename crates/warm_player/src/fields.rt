@@ -9,7 +9,7 @@ ghost use Rattle.warm_player.specs.Fields.{digit_of, hex_digit_of, hex_pairs, by
 ghost use Rattle.warm_player.specs.Fields.{number_field, replica_field, worker_field};
 ghost use Rattle.warm_player.specs.Fields.{bucket_field, count_field, u64_field, page_field};
 ghost use Rattle.warm_player.specs.Fields.{after_field, slot_field};
-ghost use Rattle.warm_player.specs.Heads.{is_digit, number_at, page_at, slot_at};
+ghost use Rattle.warm_player.specs.Heads.{head_number, head_page, head_slot, is_digit};
 ghost use Rattle.warm_player.specs.Reading.{Reads, TakesMemory};
 
 use crate::parse::LineFault;
@@ -52,7 +52,7 @@ fn first_digit(text: &[u8]) -> Option<(u8, &[u8])>
 // The number that the digits at the head of a text spell, where it is at most `limit`, and what
 // follows them: one pass finds the end and the number.
 fn leading_number(text: &[u8], limit: u64) -> Option<(u64, &[u8])>
-    ensures value { option_map (λ x. (x.0, x.1.now)) result ≡ number_at limit text.now }
+    ensures value { option_map (λ x. (x.0, x.1.now)) result ≡ head_number limit text.now }
     ensures bound { IfSome result (λ x. x.0 ≤ limit) }
 {
     let (first, mut rest) = first_digit(text)?;
@@ -70,7 +70,7 @@ fn leading_number(text: &[u8], limit: u64) -> Option<(u64, &[u8])>
 // The page at the head of a text, and what follows its word. A second colon is not a digit of the
 // number, so it is refused.
 fn leading_page(text: &[u8]) -> Option<(PageId, &[u8])>
-    ensures { option_map (λ x. (x.0, words x.1.now)) result ≡ page_at text.now }
+    ensures { option_map (λ x. (x.0, words x.1.now)) result ≡ head_page text.now }
 {
     let (dev, rest) = leading_number(text, u64::from(u16::MAX))?;
     let (no, rest) = leading_number(after_byte(rest, b':')?, u64::MAX)?;
@@ -87,7 +87,7 @@ fn leading_page(text: &[u8]) -> Option<(PageId, &[u8])>
 // The slot at the head of a text, and what follows its word. A second dot is not a digit of the
 // generation, so it is refused.
 fn leading_slot(text: &[u8]) -> Option<(Slot, &[u8])>
-    ensures { option_map (λ x. (x.0, words x.1.now)) result ≡ slot_at text.now }
+    ensures { option_map (λ x. (x.0, words x.1.now)) result ≡ head_slot text.now }
 {
     let (index, rest) = leading_number(text, u64::from(u32::MAX))?;
     let (generation, rest) = leading_number(after_byte(rest, b'.')?, u64::MAX)?;

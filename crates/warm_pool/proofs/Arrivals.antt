@@ -11,8 +11,9 @@ use Rattle.warm_pool.specs.Frames.{FrameState, FramesState, nth_frame, fresh_fra
 use Rattle.warm_pool.specs.State.{PoolState, IsPool, IsNowhere, nth_device}
 use Rattle.warm_pool.specs.View.{view_of, PoolView}
 use Rattle.warm_pool.specs.Keeping.{FailsAt, KeepsContents}
-use Rattle.warm_pool.specs.WritingBack.{KeptDevices, Cleans, CleanFails, WriteFails}
-use Rattle.warm_pool.specs.Pinning.{LoadsInto, ReadFails}
+use Rattle.warm_pool.specs.WritingBack.{KeptDevices}
+use Rattle.warm_pool.specs.steps.WritingBack.{Cleans, CleanFails, WriteFails}
+use Rattle.warm_pool.specs.steps.Pinning.{LoadsInto, ReadFails}
 use Rattle.warm_pool.specs.Calls.{FlushesNone}
 use Rattle.warm_pool.specs.DeviceCalls.{PageRead, read_at}
 use Rattle.warm_pool.proofs.Slots.{at_set}

@@ -8,9 +8,9 @@ use Rattle.warm_devices.specs.declared.fault.DeviceFault.TheVariants.{Flush}
 use Rattle.warm_pool.specs.State.{PoolState, nth_device, no_device}
 use Rattle.warm_pool.specs.Calls.{FlushesNone, FlushesOnce, ReadsNone}
 use Rattle.warm_pool.specs.DeviceCalls.{PageRead, PageWrite}
-use Rattle.warm_pool.specs.Flushes.{FlushedTo, FlushStops}
-use Rattle.warm_pool.specs.Pinning.{FixRefused}
-use Rattle.warm_pool.specs.Zeroing.{FixesZeros}
+use Rattle.warm_pool.specs.steps.Flushes.{FlushedTo, FlushStops}
+use Rattle.warm_pool.specs.steps.Pinning.{FixRefused}
+use Rattle.warm_pool.specs.steps.Zeroing.{FixesZeros}
 use Rattle.warm_pool.specs.declared.slot.Slot.{Slot}
 use Rattle.warm_pool.specs.declared.fault.PoolFault.{PoolFault}
 use Rattle.warm_pool.proofs.Slots.{at_set}

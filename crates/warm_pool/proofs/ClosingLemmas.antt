@@ -5,7 +5,8 @@ use Rattle.warm_pool.specs.Frames.{FrameState, nth_frame, cleaned}
 use Rattle.warm_pool.specs.State.{PoolState}
 use Rattle.warm_pool.specs.View.{view_of}
 use Rattle.warm_pool.specs.Keeping.{FailsAt}
-use Rattle.warm_pool.specs.WritingBack.{KeptDevices, CleanFails, WritesBack, StopsAt, clean_if, cleaned_selected, selects}
+use Rattle.warm_pool.specs.WritingBack.{KeptDevices, WritesBack, StopsAt, clean_if, cleaned_selected, selects}
+use Rattle.warm_pool.specs.steps.WritingBack.{CleanFails}
 use Rattle.warm_pool.specs.declared.selection.Devices.{Devices}
 
 -- one frame more

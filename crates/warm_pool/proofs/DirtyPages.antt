@@ -3,7 +3,7 @@ use Rattle.std.proofs.Common.{◌≡◌, ◌↔◌, ℕ, ◌+◌, ◌<◌, ◌�
 use Rattle.std.proofs.lemmas.Bool.{cases_eq}
 use Rattle.warm_stamps.specs.declared.PageId.{PageId}
 use Rattle.warm_pool.specs.Frames.{FrameState, nth_frame}
-use Rattle.warm_pool.specs.PageTable.{IsPlaceOf}
+use Rattle.warm_pool.specs.frame_table.PageTable.{IsPlaceOf}
 use Rattle.warm_pool.specs.State.{PoolState, IsPool}
 use Rattle.warm_pool.specs.WritingSome.{IsDirty, IsDirtyPage, IsNotDirty, NoneDirty}
 use Rattle.warm_pool.proofs.OnePage.{found_dirty, found_clean, found_none}

@@ -13,7 +13,8 @@ use Rattle.warm_pool.specs.State.{PoolState, IsPool, IsNowhere, IsSettled, nth_d
 use Rattle.warm_pool.specs.View.{stored, view_of, frame_view, bytes_of, PoolView, HasPage, contents_at, device_at}
 use Rattle.warm_pool.specs.Keeping.{KeepsContents}
 use Rattle.warm_pool.specs.WritingBack.{WritesBack, selects, cleaned_selected}
-use Rattle.warm_pool.specs.Retiring.{Emptied, emptied, AreUnfixed, vacate_if, vacated_selected}
+use Rattle.warm_pool.specs.Retiring.{Emptied, emptied, vacate_if, vacated_selected}
+use Rattle.warm_pool.specs.steps.Retiring.{AreUnfixed}
 use Rattle.warm_pool.proofs.Bytes.{bytes_nowhere, where_is, contents_seen, device_seen, frame_seen}
 use Rattle.warm_pool.proofs.Keeps.{pool_from, stored_honest}
 use Rattle.warm_pool.proofs.Loads.{contents_absent}

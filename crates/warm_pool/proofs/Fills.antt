@@ -7,13 +7,15 @@ use Rattle.warm_rank.specs.declared.RankKey.{RankKey}
 use Rattle.warm_devices.specs.Device.{DeviceState, GivesPage}
 use Rattle.warm_pool.specs.declared.slot.Slot.{Slot}
 use Rattle.warm_pool.specs.Frames.{FrameState, FramesState, nth_frame, fresh_frame, cleaned}
-use Rattle.warm_pool.specs.FrameSteps.{changed_at, loaded_frame}
+use Rattle.warm_pool.specs.frame_table.FrameSteps.{changed_at, loaded_frame}
 use Rattle.warm_pool.specs.State.{PoolState, IsPool, IsNowhere, nth_device}
 use Rattle.warm_pool.specs.View.{stored, view_of, HasPage, PoolView}
 use Rattle.warm_pool.specs.Keeping.{KeepsBytes, KeepsContents, KeepsOthers}
-use Rattle.warm_pool.specs.WritingBack.{Cleans, WaitsFor}
+use Rattle.warm_pool.specs.WritingBack.{WaitsFor}
+use Rattle.warm_pool.specs.steps.WritingBack.{Cleans}
 use Rattle.warm_pool.specs.Calls.{FlushesNone, ReadsNone}
-use Rattle.warm_pool.specs.Filling.{AreFromDevice, FillsInto, TakesFilled}
+use Rattle.warm_pool.specs.Filling.{AreFromDevice, TakesFilled}
+use Rattle.warm_pool.specs.steps.Filling.{FillsInto}
 use Rattle.warm_pool.proofs.Bytes.{bytes_nowhere, contents_seen, device_seen, frame_seen, absent_seen}
 use Rattle.warm_pool.proofs.Keeps.{pool_from, stored_honest}
 use Rattle.warm_pool.proofs.Arrivals.{spare_keeps}

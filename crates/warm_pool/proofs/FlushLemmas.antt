@@ -7,7 +7,7 @@ use Rattle.warm_devices.specs.Device.{DeviceState, SameShape, CountsFault, Count
 use Rattle.warm_devices.specs.declared.fault.DeviceFault.{DeviceFault}
 use Rattle.warm_devices.specs.declared.fault.DeviceFault.TheVariants.{Flush}
 use Rattle.warm_pool.specs.State.{nth_device, no_device}
-use Rattle.warm_pool.specs.Flushes.{IsFlushed, FlushFails, DeviceFlush, FlushedTo, FlushStops, NoneWaits}
+use Rattle.warm_pool.specs.steps.Flushes.{IsFlushed, FlushFails, DeviceFlush, FlushedTo, FlushStops, NoneWaits}
 
 -- the same device
 pub same_shape : (d : DeviceState) → SameShape d d

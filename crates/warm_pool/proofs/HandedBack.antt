@@ -7,10 +7,11 @@ use Rattle.warm_devices.specs.Device.{DeviceState, SameShape, page_at}
 use Rattle.warm_pool.specs.Frames.{nth_frame}
 use Rattle.warm_pool.specs.State.{PoolState, IsPool, nth_device, no_device}
 use Rattle.warm_pool.specs.View.{stored, bytes_of, contents_at}
-use Rattle.warm_pool.specs.WritingBack.{WritesBackAll, is_on}
+use Rattle.warm_pool.specs.WritingBack.{is_on}
+use Rattle.warm_pool.specs.steps.WritingBack.{WritesBackAll}
 use Rattle.warm_pool.specs.WritingSome.{StopsAtFlush}
-use Rattle.warm_pool.specs.Retiring.{AreClean}
-use Rattle.warm_pool.specs.Flushes.{FlushFails, NoneWaits}
+use Rattle.warm_pool.specs.steps.Retiring.{AreClean}
+use Rattle.warm_pool.specs.steps.Flushes.{FlushFails, NoneWaits}
 use Rattle.warm_pool.specs.HandingBack.{HandsBack, HandsBackOne}
 use Rattle.warm_pool.proofs.Bytes.{where_is, contents_seen}
 use Rattle.warm_pool.proofs.Keeps.{stored_honest}

@@ -11,11 +11,13 @@ use Rattle.warm_pool.specs.Frames.{FrameState, nth_frame, fresh_frame}
 use Rattle.warm_pool.specs.State.{PoolState, IsNowhere}
 use Rattle.warm_pool.specs.View.{view_of, HasPage}
 use Rattle.warm_pool.specs.Keeping.{KeepsOthers, KeepsBytes}
-use Rattle.warm_pool.specs.WritingBack.{WaitsFor, WriteFails}
+use Rattle.warm_pool.specs.WritingBack.{WaitsFor}
+use Rattle.warm_pool.specs.steps.WritingBack.{WriteFails}
 use Rattle.warm_devices.specs.Device.{DeviceState}
 use Rattle.warm_pool.specs.Calls.{FlushesNone}
 use Rattle.warm_pool.specs.DeviceCalls.{read_at}
-use Rattle.warm_pool.specs.Pinning.{IsFrameToLoad, LoadRefused, FixRefused, LoadsInto, LoadFails, TakesFrame, LeavesDevices, IsUnwritten}
+use Rattle.warm_pool.specs.Pinning.{IsFrameToLoad, LoadRefused, TakesFrame, LeavesDevices, IsUnwritten}
+use Rattle.warm_pool.specs.steps.Pinning.{FixRefused, LoadsInto, LoadFails}
 use Rattle.warm_pool.proofs.Bytes.{absent_seen, frame_seen}
 use Rattle.warm_pool.proofs.FlushLemmas.{if_err}
 use Rattle.warm_pool.proofs.CallLemmas.{same_none}

@@ -4,12 +4,12 @@ use Rattle.std.proofs.lemmas.Option.{same_Some}
 use Rattle.warm_stamps.specs.declared.PageId.{PageId}
 use Rattle.warm_devices.specs.declared.fault.DeviceFault.{DeviceFault}
 use Rattle.warm_pool.specs.Frames.{FrameState, nth_frame, cleaned}
-use Rattle.warm_pool.specs.PageTable.{IsPlaceOf}
+use Rattle.warm_pool.specs.frame_table.PageTable.{IsPlaceOf}
 use Rattle.warm_pool.specs.State.{PoolState, IsPool, IsNowhere, RankedBy}
 use Rattle.warm_pool.specs.View.{view_of}
 use Rattle.warm_pool.specs.Keeping.{FailsAt, KeepsRanks}
 use Rattle.warm_pool.specs.DeviceCalls.{PageWrite}
-use Rattle.warm_pool.specs.WritingBack.{Cleans, CleanFails, WritesFrame}
+use Rattle.warm_pool.specs.steps.WritingBack.{Cleans, CleanFails, WritesFrame}
 use Rattle.warm_pool.specs.WritingSome.{CleansPage, IsDirtyIn, IsNotDirty, PageFails}
 use Rattle.warm_pool.proofs.Keeps.{ranked_set}
 use Rattle.warm_pool.proofs.PoolSteps.{found_there, found_holds}

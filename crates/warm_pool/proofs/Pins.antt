@@ -14,7 +14,8 @@ use Rattle.warm_pool.specs.Frames.{FrameState, nth_frame, fresh_frame}
 use Rattle.warm_pool.specs.State.{PoolState, RankedBy, IsNowhere}
 use Rattle.warm_pool.specs.View.{frame_view, view_of, PoolView, FrameView, frame_at, HasPage, IsAbsent, Holds}
 use Rattle.warm_pool.specs.Keeping.{SameButFailures}
-use Rattle.warm_pool.specs.Pinning.{IsFrameToLoad, PutsIn, PutRefused, LoadRefused, PinRefused, LoadsInto, LoadFails, current_slot, AddsFix}
+use Rattle.warm_pool.specs.Pinning.{IsFrameToLoad, PutsIn, PutRefused, LoadRefused, PinRefused, AddsFix}
+use Rattle.warm_pool.specs.steps.Pinning.{LoadsInto, LoadFails, current_slot}
 use Rattle.warm_pool.proofs.Bytes.{frame_seen, absent_seen}
 use Rattle.warm_pool.proofs.Keeps.{ranked_set}
 use Rattle.warm_pool.proofs.PoolSteps.{slot_seen}

@@ -13,11 +13,12 @@ use Rattle.warm_rank.specs.Laws.{keys_over}
 use Rattle.warm_rank.specs.Slots.{IsLeast}
 use Rattle.warm_rank.proofs.SlotLemmas.{least_key_is_victim}
 use Rattle.warm_pool.specs.Frames.{FrameState, nth_frame, fresh_frame, eviction_key}
-use Rattle.warm_pool.specs.PageTable.{IsPlaceOf, IsFirstFree}
+use Rattle.warm_pool.specs.frame_table.PageTable.{IsPlaceOf, IsFirstFree}
 use Rattle.warm_pool.specs.State.{PoolState, IsPool, RankedBy, IsNowhere, nth_device}
 use Rattle.warm_pool.specs.View.{frame_view, device_view, view_of, device_at, frame_at, HasPage, IsResident, unfixed_page, unfixed_pages}
 use Rattle.warm_pool.specs.declared.slot.Slot.{Slot}
-use Rattle.warm_pool.specs.Pinning.{HasNoFreeFrame, IsLeastFree, IsFrameToLoad, current_slot}
+use Rattle.warm_pool.specs.Pinning.{HasNoFreeFrame, IsLeastFree, IsFrameToLoad}
+use Rattle.warm_pool.specs.steps.Pinning.{current_slot}
 use Rattle.warm_pool.proofs.Bytes.{frame_seen, device_seen}
 
 -- the same of a pool that is seen as v

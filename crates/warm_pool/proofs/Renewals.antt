@@ -14,7 +14,8 @@ use Rattle.warm_pool.specs.Frames.{FrameState, FramesState, nth_frame, fresh_fra
 use Rattle.warm_pool.specs.State.{PoolState, IsPool, RankedBy, IsNowhere}
 use Rattle.warm_pool.specs.View.{is_page, frame_view, view_of, PoolView, FrameView}
 use Rattle.warm_pool.specs.Keeping.{KeepsBytes}
-use Rattle.warm_pool.specs.Refreshing.{AgreeOutside, UpdatesRank, UpdatesRankIn, UpdatesNamedRanks}
+use Rattle.warm_pool.specs.Refreshing.{AgreeOutside, UpdatesNamedRanks}
+use Rattle.warm_pool.specs.steps.Refreshing.{UpdatesRank, UpdatesRankIn}
 use Rattle.warm_pool.proofs.Slots.{at_set}
 use Rattle.warm_pool.proofs.Bytes.{page_found, found_page}
 use Rattle.warm_pool.proofs.KeepingLemmas.{same_bytes, more_bytes}

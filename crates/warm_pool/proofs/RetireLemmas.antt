@@ -11,8 +11,9 @@ use Rattle.warm_pool.specs.State.{PoolState, IsPool, RankedBy, nth_device, no_de
 use Rattle.warm_pool.specs.View.{stored, view_of, frame_view, device_view, is_page, bytes_in, FrameView, HasPage, contents_at}
 use Rattle.warm_pool.specs.Keeping.{FailsAt}
 use Rattle.warm_pool.specs.WritingBack.{is_on, KeptDevices, WritesBack, cleaned_selected}
-use Rattle.warm_pool.specs.Retiring.{Retired, MayRetire, IsFixedOn, emptied, IsFixedIn, AreUnfixed, AreClean, KeepsElsewhere, PreparesRetire, retired, vacate_if, vacated_selected}
-use Rattle.warm_pool.specs.Flushes.{IsFlushed, FlushFails}
+use Rattle.warm_pool.specs.Retiring.{Retired, MayRetire, IsFixedOn, emptied, KeepsElsewhere, retired, vacate_if, vacated_selected}
+use Rattle.warm_pool.specs.steps.Retiring.{IsFixedIn, AreUnfixed, AreClean, PreparesRetire}
+use Rattle.warm_pool.specs.steps.Flushes.{IsFlushed, FlushFails}
 use Rattle.warm_pool.proofs.FlushLemmas.{same_shape}
 use Rattle.warm_pool.proofs.Slots.{at_set}
 use Rattle.warm_pool.proofs.DeviceSteps.{failures_kept, failures_grown}
@@ -20,7 +21,7 @@ use Rattle.warm_pool.proofs.Bytes.{bytes_nowhere, contents_seen, device_seen, fr
 use Rattle.warm_pool.proofs.Keeps.{pool_from, view_of_kept}
 use Rattle.warm_pool.proofs.SettleLemmas.{AreAlike, counts, alike_kept, down_view, flush_down, flush_fails_at}
 use Rattle.warm_pool.proofs.ClosingLemmas.{nth_other}
-use Rattle.warm_pool.proofs.VacateLemmas.{clean_to}
+use Rattle.warm_pool.proofs.frame_table.VacateLemmas.{clean_to}
 use Rattle.warm_pool.proofs.EmptyLemmas.{nth_vacated, vacated_pool, vacated_ranked, unfixed_to}
 use Rattle.warm_pool.specs.declared.selection.Devices.{Devices}
 use Rattle.warm_pool.specs.declared.selection.Devices.TheVariants.{One}

@@ -14,7 +14,7 @@ use Rattle.warm_pool.specs.State.{PoolState, IsSettled, nth_device, no_device}
 use Rattle.warm_pool.specs.View.{stored, view_of, frame_view, is_page, bytes_in, PoolView, FrameView}
 use Rattle.warm_pool.specs.Keeping.{FailsAt}
 use Rattle.warm_pool.specs.WritingBack.{WriteBackFails, KeptDevices, WritesBack, clean_if, cleaned_selected, selects}
-use Rattle.warm_pool.specs.Flushes.{FlushedTo, FlushStops, NoneWaits}
+use Rattle.warm_pool.specs.steps.Flushes.{FlushedTo, FlushStops, NoneWaits}
 use Rattle.warm_pool.proofs.FlushLemmas.{same_shape}
 use Rattle.warm_pool.proofs.ClosingLemmas.{clean_each, nth_page, kept_both}
 use Rattle.warm_pool.proofs.Slots.{at_set, same_maps}

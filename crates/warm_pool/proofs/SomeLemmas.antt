@@ -6,13 +6,14 @@ use Rattle.warm_pool.specs.Frames.{FrameState, nth_frame}
 use Rattle.warm_pool.specs.State.{PoolState, nth_device}
 use Rattle.warm_pool.specs.View.{view_of}
 use Rattle.warm_pool.specs.Keeping.{FailsAt, KeepsRanks}
-use Rattle.warm_pool.specs.WritingBack.{CleanFails, WritesBack, WritesBackAll, cleaned_selected}
+use Rattle.warm_pool.specs.WritingBack.{WritesBack, cleaned_selected}
+use Rattle.warm_pool.specs.steps.WritingBack.{CleanFails, WritesBackAll}
 use Rattle.warm_pool.specs.Calls.{FlushesNone}
 use Rattle.warm_pool.specs.WritingSome.{one_if, dirty_count, CleansFirst, SomeFails, room_after, IsSettledOn}
 use Rattle.warm_pool.proofs.ClosingLemmas.{nth_rest}
 use Rattle.warm_pool.proofs.FlushLemmas.{same_shape}
 use Rattle.warm_pool.proofs.SettleLemmas.{down_view, ranked_to}
-use Rattle.warm_pool.proofs.VacateLemmas.{clean_to}
+use Rattle.warm_pool.proofs.frame_table.VacateLemmas.{clean_to}
 use Rattle.warm_pool.specs.declared.selection.Devices.TheVariants.{All, One}
 
 -- one frame more

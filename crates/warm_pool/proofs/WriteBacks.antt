@@ -10,7 +10,8 @@ use Rattle.warm_devices.specs.declared.fault.DeviceFault.{DeviceFault}
 use Rattle.warm_pool.specs.Frames.{FrameState, FramesState, nth_frame, fresh_frame, cleaned}
 use Rattle.warm_pool.specs.State.{PoolState, IsPool, no_device, nth_device}
 use Rattle.warm_pool.specs.View.{frame_view, view_of, PoolView, FrameView}
-use Rattle.warm_pool.specs.WritingBack.{KeptDevices, Cleans, CleanFails, WritesFrame}
+use Rattle.warm_pool.specs.WritingBack.{KeptDevices}
+use Rattle.warm_pool.specs.steps.WritingBack.{Cleans, CleanFails, WritesFrame}
 use Rattle.warm_pool.specs.DeviceCalls.{PageWrite}
 use Rattle.warm_pool.proofs.Keeps.{pool_from, set_keeps_pool, view-set, devices_keep_pool, view_of_kept}
 use Rattle.warm_pool.proofs.FlushLemmas.{same_shape, may_fail}

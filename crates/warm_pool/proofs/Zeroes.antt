@@ -13,17 +13,20 @@ use Rattle.warm_pool.specs.declared.slot.Slot.{Slot}
 use Rattle.warm_pool.specs.declared.fault.PoolFault.{PoolFault}
 use Rattle.warm_pool.specs.declared.fault.PoolFault.TheVariants.{ReadFault, WriteBack, FixesFull}
 use Rattle.warm_pool.specs.Frames.{FrameState, FramesState, nth_frame, fresh_frame, cleaned}
-use Rattle.warm_pool.specs.FrameSteps.{changed_at, loaded_frame}
+use Rattle.warm_pool.specs.frame_table.FrameSteps.{changed_at, loaded_frame}
 use Rattle.warm_pool.specs.State.{PoolState, IsPool, IsNowhere, RankedBy, nth_device}
 use Rattle.warm_pool.specs.View.{stored, bytes_of, device_view, frame_view, view_of, contents_at, frame_at, HasPage, Holds, PoolView, FrameView}
 use Rattle.warm_pool.specs.Keeping.{KeepsOthers}
-use Rattle.warm_pool.specs.WritingBack.{Cleans, WaitsFor}
+use Rattle.warm_pool.specs.WritingBack.{WaitsFor}
+use Rattle.warm_pool.specs.steps.WritingBack.{Cleans}
 use Rattle.warm_pool.specs.Calls.{FlushesNone}
 use Rattle.warm_pool.specs.PageBytes.{Written}
-use Rattle.warm_pool.specs.Pinning.{AddsFix, IsFrameToLoad, LoadFails, LoadRefused, FixRefused, PinRefused, current_slot}
+use Rattle.warm_pool.specs.Pinning.{AddsFix, IsFrameToLoad, LoadRefused, PinRefused}
+use Rattle.warm_pool.specs.steps.Pinning.{LoadFails, FixRefused, current_slot}
 use Rattle.warm_pool.specs.Lending.{relent, relent_pool}
 use Rattle.warm_pool.specs.Laws.{IsWrittenWhole}
-use Rattle.warm_pool.specs.Zeroing.{KeepsContentsBut, PutsZeros, TakesZeroed, ZeroesInto, ZeroFails, ZeroedRefused, LeavesUnread, FixesZeros, zeroed_frame}
+use Rattle.warm_pool.specs.Zeroing.{KeepsContentsBut, PutsZeros, TakesZeroed, ZeroedRefused, LeavesUnread}
+use Rattle.warm_pool.specs.steps.Zeroing.{ZeroesInto, ZeroFails, FixesZeros, zeroed_frame}
 use Rattle.warm_pool.proofs.Slots.{at_set}
 use Rattle.warm_pool.proofs.Bytes.{where_is, bytes_held, contents_seen, device_seen, frame_seen, nowhere_seen, absent_seen}
 use Rattle.warm_pool.proofs.Keeps.{Fits, pool_from, set_keeps_pool, stored_honest, ranked_set}

@@ -1,7 +1,6 @@
 -- Pinning a page whose bytes are given: the caller has read them from its device.
 use Rattle.std.specs.Prelude.{ℕ, ◌≡◌, false, IsTrue, List}
 use Rattle.warm_stamps.specs.declared.PageId.{PageId}
-use Rattle.warm_rank.specs.declared.RankKey.{RankKey}
 use Rattle.warm_pool.specs.declared.slot.Slot.{Slot}
 use Rattle.warm_pool.specs.Frames.{nth_frame}
 use Rattle.warm_pool.specs.State.{PoolState}
@@ -10,7 +9,6 @@ use Rattle.warm_pool.specs.View.{IsAbsent}
 use Rattle.warm_pool.specs.Calls.{FlushesNone, ReadsNone}
 use Rattle.warm_pool.specs.Keeping.{KeepsBytes, KeepsOthers}
 use Rattle.warm_pool.specs.WritingBack.{WaitsFor}
-use Rattle.warm_pool.specs.Pinning.{LoadsInto}
 
 -- These are the bytes that an honest device has of the page. Nothing is asked of the bytes of a
 -- page that is resident, nor of one whose device is not honest.
@@ -33,11 +31,3 @@ pub record TakesFilled (old : PoolState) (p : PageId) (bytes : List ℕ) (slot :
   pub waits : IsAbsent (view_of old) p → WaitsFor old slot.index new.devices
   pub unread : ReadsNone old.devices new.devices
   pub unflushed : FlushesNone old.devices new.devices
-
--- The steps
-
--- the page is in the frame as after a load, with one pin and these bytes, and was not read
-pub record FillsInto (old : PoolState) (i : ℕ) (p : PageId) (key : RankKey) (bytes : List ℕ)
-    (new : PoolState) : Type 0 where
-  pub loads : LoadsInto old old.devices i p key 1 new
-  pub filled : contents_at (view_of new) p ≡ bytes

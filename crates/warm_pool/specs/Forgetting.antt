@@ -1,14 +1,12 @@
 -- Forgetting the last pages of a device.
 use Rattle.std.specs.Prelude.{ℕ, ◌≡◌, ◌≢◌, ◌⊎◌, ◌<◌, ◌≤◌, IsTrue, length}
 use Rattle.warm_stamps.specs.declared.PageId.{PageId}
-use Rattle.warm_pool.specs.Frames.{FramesState}
 use Rattle.warm_pool.specs.declared.fault.PoolFault.{PoolFault}
 use Rattle.warm_pool.specs.declared.fault.PoolFault.TheVariants.{NoDevice, Fixed}
 use Rattle.warm_pool.specs.State.{PoolState}
 use Rattle.warm_pool.specs.View.{PoolView, frame_at, contents_at, stored, view_of, HasPage}
-use Rattle.warm_pool.specs.WritingBack.{cleaned_selected, is_from}
+use Rattle.warm_pool.specs.WritingBack.{is_from}
 use Rattle.warm_pool.specs.Retiring.{vacated_selected}
-use Rattle.warm_pool.specs.declared.selection.Devices.{Devices}
 use Rattle.warm_pool.specs.declared.selection.Devices.TheVariants.{PagesFrom}
 
 -- none of the pages of the device with this number and above is pinned
@@ -45,10 +43,3 @@ ForgetRefused old dev from NoDevice new = (length old.devices ≤ dev) × (new �
 ForgetRefused old dev from Fixed new = (dev < length old.devices)
     × IsFixedFrom (view_of old) dev from × (new ≡ old)
 ForgetRefused old dev from why new = ⊥
-
--- The steps
-
--- the frames, those of selected pages clean
-abbrev pub selected_cleaned : Devices → FramesState → FramesState
-selected_cleaned which s =
-    record s { frames = cleaned_selected which (length s.frames) s.frames }

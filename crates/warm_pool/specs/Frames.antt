@@ -6,7 +6,7 @@ use Rattle.warm_stamps.specs.declared.PageId.{PageId}
 use Rattle.warm_rank.specs.declared.RankKey.{RankKey}
 use Rattle.warm_rank.specs.Keys.{key_cmp}
 use Rattle.warm_rank.specs.Slots.{key_at, set_first_cmp}
-use Rattle.warm_pool.specs.declared.frame.Status.{Status}
+use Rattle.warm_pool.specs.declared.frame_table.frame.Status.{Status}
 
 -- A frame: its page and the page's rank, its generation (how many pages have been loaded into it),
 -- the pin count (`fixes`), whether the page is dirty (differs or may differ from its device's
@@ -57,13 +57,6 @@ pub record FrameBody : Type 0 where
   pub key : Option RankKey
   pub generation : ℕ
   pub bytes : List ℕ
-
--- the status and the body of a frame without a page, into which none was ever loaded
-abbrev pub unused_status : Status
-unused_status = record { fixes = 0; dirty = false }
-
-abbrev pub fresh_body : List ℕ → FrameBody
-fresh_body bytes = record { key = None; generation = 0; bytes = bytes }
 
 -- the rank of the page in a frame
 abbrev pub rank_in : Option PageId → Option RankKey → Option RankKey

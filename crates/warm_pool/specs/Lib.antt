@@ -1,7 +1,5 @@
 pub mod Frames
 pub mod FrameSteps
-pub mod Chains
-pub mod PageTable
 pub mod State
 pub mod View
 pub mod Counting
@@ -9,10 +7,8 @@ pub mod Keeping
 pub mod Opening
 pub mod DeviceCalls
 pub mod Calls
-pub mod Flushes
 pub mod WritingBack
 pub mod WritingSome
-pub mod Statuses
 pub mod Pinning
 pub mod PageBytes
 pub mod Lending
@@ -24,3 +20,5 @@ pub mod HandingBack
 pub mod Forgetting
 pub mod Faults
 pub mod Laws
+pub mod frame_table
+pub mod steps

@@ -1,10 +1,8 @@
 -- Updating ranks.
-use Rattle.std.specs.Prelude.{ℕ, ◌≡◌, ◌≢◌, List, Some, Contains}
-use Rattle.std.specs.Option.{option_map}
+use Rattle.std.specs.Prelude.{ℕ, ◌≡◌, List, Some, Contains}
 use Rattle.warm_stamps.specs.declared.PageId.{PageId}
 use Rattle.warm_history.specs.Histories.{HistoryView, hist, references_of}
 use Rattle.warm_pool.specs.Frames.{nth_frame}
-use Rattle.warm_rank.specs.declared.RankKey.{RankKey}
 use Rattle.warm_rank.specs.Keys.{rank_key}
 use Rattle.warm_pool.specs.State.{PoolState, RankedBy}
 
@@ -12,24 +10,6 @@ use Rattle.warm_pool.specs.State.{PoolState, RankedBy}
 abbrev pub AgreeOutside : List PageId → HistoryView → HistoryView → Type 0
 AgreeOutside pages g h = (p : PageId) → (Contains pages p → ⊥)
     → hist (references_of g) p ≡ hist (references_of h) p
-
--- the frame of the page, if it is resident, has this rank
-pub record UpdatesRank (old : PoolState) (p : PageId) (key : RankKey)
-    (new : PoolState) : Type 0 where
-  pub pages : (i : ℕ) → (nth_frame new.frames i).page ≡ (nth_frame old.frames i).page
-  pub here : (i : ℕ) → (nth_frame old.frames i).page ≡ Some p
-      → (nth_frame new.frames i).key ≡ Some key
-  pub others : (i : ℕ) → (nth_frame old.frames i).page ≢ Some p
-      → (nth_frame new.frames i).key ≡ (nth_frame old.frames i).key
-
--- this frame has the rank that the history gives its page, if it has one, and the others keep their
--- ranks
-pub record UpdatesRankIn (old : PoolState) (at : ℕ) (h : HistoryView)
-    (new : PoolState) : Type 0 where
-  pub pages : (i : ℕ) → (nth_frame new.frames i).page ≡ (nth_frame old.frames i).page
-  pub here : (nth_frame new.frames at).key
-      ≡ option_map (λ p. rank_key p (hist (references_of h) p)) (nth_frame new.frames at).page
-  pub others : (i : ℕ) → i ≢ at → (nth_frame new.frames i).key ≡ (nth_frame old.frames i).key
 
 -- Each of these pages that is resident has the rank that the history gives it, whatever the ranks
 -- of the other pages are.

@@ -1,18 +1,18 @@
 -- Emptying a pool, closing it, and retiring a device: why a call is refused, its effect, and the
 -- steps of its body.
-use Rattle.std.specs.Prelude.{ℕ, ◌≡◌, ◌≢◌, ◌<◌, ◌≤◌, false, IsTrue, List, [], map, length, Option}
-use Rattle.std.specs.Prelude.{None, if◌then◌else◌, set}
+use Rattle.std.specs.Prelude.{ℕ, ◌≡◌, ◌≢◌, ◌<◌, ◌≤◌, false, IsTrue, List, [], map, length, None}
+use Rattle.std.specs.Prelude.{if◌then◌else◌, set}
 use Rattle.warm_stamps.specs.declared.PageId.{PageId}
 use Rattle.warm_devices.specs.Device.{DeviceState, page_at}
 use Rattle.warm_pool.specs.Frames.{FrameState, nth_frame, vacated}
 use Rattle.warm_pool.specs.declared.fault.PoolFault.{PoolFault}
 use Rattle.warm_pool.specs.declared.fault.PoolFault.TheVariants.{SizeDiffers, NoDevice, Fixed}
 use Rattle.warm_pool.specs.declared.fault.PoolFault.TheVariants.{Fault}
-use Rattle.warm_pool.specs.State.{PoolState, nth_device}
+use Rattle.warm_pool.specs.State.{PoolState}
 use Rattle.warm_pool.specs.View.{FrameView, PoolView, frame_at, contents_at, device_view, view_of}
 use Rattle.warm_pool.specs.View.{HasPage, IsFixed, IsUnfixed}
 use Rattle.warm_pool.specs.Keeping.{FailsAt, KeepsContents}
-use Rattle.warm_pool.specs.WritingBack.{WriteBackFails, is_on, selects, WritesBackAll}
+use Rattle.warm_pool.specs.WritingBack.{WriteBackFails, is_on, selects}
 use Rattle.warm_pool.specs.declared.selection.Devices.{Devices}
 use Rattle.warm_pool.specs.declared.selection.Devices.TheVariants.{One}
 
@@ -88,35 +88,6 @@ vacate_if which f = if selects which f.page then vacated f else f
 -- the frames, with the selected ones vacated
 abbrev pub vacated_selected : Devices → List FrameState → List FrameState
 vacated_selected which frames = map (vacate_if which) frames
-
--- the page of a frame after the selected frames are vacated
-abbrev pub clear_if : Devices → Option PageId → Option PageId
-clear_if which page = if selects which page then None else page
-
--- a selected frame has a pinned page; or none has
-pub record IsFixedIn (which : Devices) (frames : List FrameState) : Type 0 where
-  pub frame : ℕ
-  pub there : frame < length frames
-  pub selected : IsTrue (selects which (nth_frame frames frame).page)
-  pub fixed : 0 < (nth_frame frames frame).fixes
-
-abbrev pub AreUnfixed : Devices → List FrameState → Type 0
-AreUnfixed which frames = (i : ℕ) → IsTrue (selects which (nth_frame frames i).page)
-    → (nth_frame frames i).fixes ≡ 0
-
--- each selected frame is clean
-abbrev pub AreClean : Devices → List FrameState → Type 0
-AreClean which frames = (i : ℕ) → IsTrue (selects which (nth_frame frames i).page)
-    → (nth_frame frames i).dirty ≡ false
-
--- device dev may be replaced by one with pages of this size: none of its pages is pinned, they were
--- written back, and it is flushed
-pub record PreparesRetire (old : PoolState) (dev page_size : ℕ) (new : PoolState) : Type 0 where
-  pub there : dev < length old.devices
-  pub size : page_size ≡ old.page_size
-  pub unfixed : AreUnfixed (One dev) old.frames
-  pub down : WritesBackAll (One dev) old new
-  pub quiet : (nth_device new.devices dev).waiting ≡ false
 
 -- the pool after another device has replaced device dev
 abbrev pub retired : PoolState → ℕ → DeviceState → PoolState

@@ -9,10 +9,12 @@ ghost use Rattle.warm_pool.specs.State.{RankedBy, IsNowhere, nth_device};
 ghost use Rattle.warm_pool.specs.View.{view_of, HasPage, Holds};
 ghost use Rattle.warm_pool.specs.Keeping.{SameButFailures, KeepsFrames};
 ghost use Rattle.warm_pool.specs.Calls.{FlushesNone, ReadsNone};
-ghost use Rattle.warm_pool.specs.Pinning.{IsNextFrameToLoad, IsPlaced, Pinned, PinRefused};
-ghost use Rattle.warm_pool.specs.Pinning.{PutsIn, PutRefused};
-ghost use Rattle.warm_pool.specs.Filling.{AreFromDevice, FillsInto, TakesFilled};
-ghost use Rattle.warm_pool.specs.Zeroing.{LeavesUnread, ZeroFails};
+ghost use Rattle.warm_pool.specs.Pinning.{IsPlaced, Pinned, PinRefused, PutsIn, PutRefused};
+ghost use Rattle.warm_pool.specs.steps.Pinning.{IsNextFrameToLoad};
+ghost use Rattle.warm_pool.specs.Filling.{AreFromDevice, TakesFilled};
+ghost use Rattle.warm_pool.specs.steps.Filling.{FillsInto};
+ghost use Rattle.warm_pool.specs.Zeroing.{LeavesUnread};
+ghost use Rattle.warm_pool.specs.steps.Zeroing.{ZeroFails};
 
 use crate::fault::PoolFault;
 use crate::pool::{Pool, rank_of, write_back};

@@ -1,7 +1,7 @@
 //! Flushing a pool's devices, and letting go of them.
 ghost use Rattle.std.specs.Prelude.{◌≡◌, ℕ, ◌<◌, length, map, set, false, OnErr, OnOk};
 ghost use Rattle.warm_pool.specs.State.{nth_device};
-ghost use Rattle.warm_pool.specs.Flushes.{DeviceFlush, FlushedTo, FlushStops, NoneWaits};
+ghost use Rattle.warm_pool.specs.steps.Flushes.{DeviceFlush, FlushedTo, FlushStops, NoneWaits};
 
 use crate::tally::Tally;
 use std::mem;

@@ -1,14 +1,15 @@
 //! Forgetting the last pages of a device.
 ghost use Rattle.std.specs.Prelude.{◌≡◌, ◌<◌, length, OnOk, IfErr};
-ghost use Rattle.warm_pool.specs.FrameSteps.{changed_at};
+ghost use Rattle.warm_pool.specs.frame_table.FrameSteps.{changed_at};
 ghost use Rattle.warm_pool.specs.Keeping.{KeepsRanks};
 ghost use Rattle.warm_pool.specs.WritingBack.{clean_if};
 ghost use Rattle.warm_pool.specs.Retiring.{vacated_selected};
-ghost use Rattle.warm_pool.specs.Forgetting.{Forgets, ForgetRefused, MayForget, selected_cleaned};
+ghost use Rattle.warm_pool.specs.Forgetting.{Forgets, ForgetRefused, MayForget};
+ghost use Rattle.warm_pool.specs.steps.Forgetting.{selected_cleaned};
 
 use crate::close::is_fixed;
 use crate::fault::PoolFault;
-use crate::frames::Frames;
+use crate::frame_table::frames::Frames;
 use crate::pool::Pool;
 use crate::selection::Devices;
 use warm_devices::PageDevice;

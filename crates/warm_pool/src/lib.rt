@@ -24,7 +24,6 @@
 #![tactic(auto)]
 
 mod close;
-mod competing;
 mod counting;
 mod device_list;
 mod dirty;
@@ -32,16 +31,13 @@ mod fault;
 mod filled;
 mod flush;
 mod forget;
-mod frame;
-mod frames;
+mod frame_table;
 pub mod laws;
 mod lending;
 mod named;
-mod page_table;
 mod pool;
 mod selection;
 mod slot;
-mod statuses;
 mod tally;
 mod write_some;
 mod zeroed;

@@ -5,10 +5,10 @@ ghost use Rattle.warm_pool.specs.View.{view_of};
 ghost use Rattle.warm_pool.specs.Keeping.{KeepsRanks};
 ghost use Rattle.warm_pool.specs.Calls.{FlushesNone, FlushesOnce};
 ghost use Rattle.warm_pool.specs.Retiring.{KeepsElsewhere};
-ghost use Rattle.warm_pool.specs.WritingBack.{CleanFails, Cleans, WritesFrame};
-ghost use Rattle.warm_pool.specs.WritingSome.{CleansFirst, FlushRefused, IsSettledOn, SomeFails, KeepsOtherDevices};
-ghost use Rattle.warm_pool.specs.WritingSome.{PageFails, WritesBackPage, WritesBackSome};
-ghost use Rattle.warm_pool.specs.WritingSome.{room_after};
+ghost use Rattle.warm_pool.specs.steps.WritingBack.{CleanFails, Cleans, WritesFrame};
+ghost use Rattle.warm_pool.specs.WritingSome.{CleansFirst, FlushRefused, IsSettledOn, SomeFails};
+ghost use Rattle.warm_pool.specs.WritingSome.{KeepsOtherDevices, PageFails, WritesBackPage};
+ghost use Rattle.warm_pool.specs.WritingSome.{WritesBackSome, room_after};
 ghost use Rattle.warm_pool.specs.declared.fault.PoolFault.TheVariants.{Fault};
 
 use crate::fault::PoolFault;

@@ -13,7 +13,8 @@ use Rattle.warm_stamps.proofs.DistinctLemmas.{by_cases}
 use Rattle.warm_stamps.proofs.StampLemmas.{both_tie}
 use Rattle.warm_rank.specs.Slots.{set_first_cmp, key_at, slot_cmp, IsLeast}
 use Rattle.warm_rank.proofs.VacantLemmas.{none_there}
-use Rattle.warm_rank.specs.WinnerTree.{winner, IsPlayed, HasLeaves, IsTree, halved, IsAbove, IsPlayedBut, HasChanged}
+use Rattle.warm_rank.specs.WinnerTree.{winner, IsPlayed, HasLeaves, IsTree, halved_times, IsAbove, IsPlayedBut}
+use Rattle.warm_rank.specs.WinnerTree.{IsStaleAt}
 
 -- ---- halves
 
@@ -28,11 +29,11 @@ below_half j = elim (cases_eq (2 * (j / 2)) j) [ inl e ↦ inl e | inr ne ↦ in
 
 -- ---- above a node
 
-halved-half : (k x : ℕ) → halved k (x / 2) ≡ halved k x / 2
+halved-half : (k x : ℕ) → halved_times k (x / 2) ≡ halved_times k x / 2
 halved-half zero x = refl
 halved-half (suc k) x = halved-half k (x / 2)
 
-halved-zero : (k : ℕ) → halved k 0 ≡ 0
+halved-zero : (k : ℕ) → halved_times k 0 ≡ 0
 halved-zero zero = refl
 halved-zero (suc k) = halved-zero k
 
@@ -46,13 +47,13 @@ above_even x j over = subst (IsAbove x) (half_even j) (above_child x (2 * j) ove
 above_odd : (x j : ℕ) → (2 * j + 1 ≡ x) ⊎ IsAbove x (2 * j + 1) → IsAbove x j
 above_odd x j over = subst (IsAbove x) (half_odd j) (above_child x (2 * j + 1) over)
 
-above_step : (x j k : ℕ) → halved k (x / 2) ≡ j → (j ≡ x / 2 → ⊥) → IsAbove (x / 2) j
+above_step : (x j k : ℕ) → halved_times k (x / 2) ≡ j → (j ≡ x / 2 → ⊥) → IsAbove (x / 2) j
 above_step x j zero is ne = absurd (ne (sym is))
 above_step x j (suc k) is ne = (k, is)
 
 -- node c is on the path from the leaf to the root
 abbrev pub IsOnPath : ℕ → ℕ → Type 0
-IsOnPath leaf c = (k : ℕ) × (halved k leaf ≡ c)
+IsOnPath leaf c = (k : ℕ) × (halved_times k leaf ≡ c)
 
 on_path : (leaf c : ℕ) → (c ≡ leaf) ⊎ IsAbove leaf c → IsOnPath leaf c
 on_path leaf c (inl e) = (0, sym e)
@@ -61,16 +62,17 @@ on_path leaf c (inr above) = (suc above.0, above.1)
 pub path_up : (leaf c : ℕ) → IsOnPath leaf c → IsOnPath leaf (c / 2)
 path_up leaf c path = (suc path.0, halved-half path.0 leaf ∙ ap (λ t. t / 2) path.1)
 
-halved_le : (k x : ℕ) → halved k x ≤ x
+halved_le : (k x : ℕ) → halved_times k x ≤ x
 halved_le zero x = omega arith
-halved_le (suc k) x = let rest : halved k (x / 2) ≤ x / 2 = halved_le k (x / 2) in omega (arith, rest)
+halved_le (suc k) x = let rest : halved_times k (x / 2) ≤ x / 2 = halved_le k (x / 2) in omega (arith, rest)
 
 -- two nodes of one path under one node are equal
-one_child : (x c d : ℕ) → 0 < c / 2 → c / 2 ≡ d / 2 → (k m : ℕ) → halved k x ≡ c → halved m x ≡ d
+one_child : (x c d : ℕ) → 0 < c / 2 → c / 2 ≡ d / 2 → (k m : ℕ) → halved_times k x ≡ c
+    → halved_times m x ≡ d
     → c ≡ d
 one_child x c d some same zero zero is_c is_d = sym is_c ∙ is_d
-one_child x c d some same zero (suc m) is_c is_d = let le : halved m (x / 2) ≤ x / 2 = halved_le m (x / 2) in absurd (omega (arith, le, is_c, is_d, same, some))
-one_child x c d some same (suc k) zero is_c is_d = let le : halved k (x / 2) ≤ x / 2 = halved_le k (x / 2) in absurd (omega (arith, le, is_c, is_d, same, some))
+one_child x c d some same zero (suc m) is_c is_d = let le : halved_times m (x / 2) ≤ x / 2 = halved_le m (x / 2) in absurd (omega (arith, le, is_c, is_d, same, some))
+one_child x c d some same (suc k) zero is_c is_d = let le : halved_times k (x / 2) ≤ x / 2 = halved_le k (x / 2) in absurd (omega (arith, le, is_c, is_d, same, some))
 one_child x c d some same (suc k) (suc m) is_c is_d = one_child (x / 2) c d some same k m is_c is_d
 
 -- a node that changes keeps the leaves
@@ -223,7 +225,7 @@ module _ {K : Type 0} (cmp : K → K → Ordering) where
       | inl played ↦ played
       | inr above ↦
           let half : node / 2 ≡ 0 = omega arith in
-          let gone : j ≡ 0 = sym above.1 ∙ ap (halved above.0) half ∙ halved-zero above.0 in
+          let gone : j ≡ 0 = sym above.1 ∙ ap (halved_times above.0) half ∙ halved-zero above.0 in
           absurd (omega arith)
     ];
   }
@@ -245,7 +247,7 @@ module _ {K : Type 0} (cmp : K → K → Ordering) where
     child_holds : (p : ℕ) → IsOnPath (length keys + slot) p → 0 < p / 2
         → get_or nodes (p / 2) 0 ≡ slot → get_or nodes p 0 ≡ slot
     child_holds p path some holds =
-        let le : halved path.0 (length keys + slot) ≤ length keys + slot = halved_le path.0 (length keys + slot) in
+        let le : halved_times path.0 (length keys + slot) ≤ length keys + slot = halved_le path.0 (length keys + slot) in
         let inner : p / 2 < length keys = omega (arith, le, path.1, lt) in
         let played : get_or nodes (p / 2) 0 ≡ winner cmp keys (get_or nodes (2 * (p / 2)) 0) (get_or nodes (2 * (p / 2) + 1) 0) = tree.played (p / 2) some inner in
         elim (winner_is keys (get_or nodes (2 * (p / 2)) 0) (get_or nodes (2 * (p / 2) + 1) 0)) [
@@ -254,11 +256,12 @@ module _ {K : Type 0} (cmp : K → K → Ordering) where
         ]
 
     -- what is under a node above p, and holds the slot, is p or above it; then p holds the slot too
-    holds_below : (k p j c : ℕ) → IsOnPath (length keys + slot) p → halved k (p / 2) ≡ j → 0 < j
+    holds_below : (k p j c : ℕ) → IsOnPath (length keys + slot) p → halved_times k (p / 2) ≡ j
+        → 0 < j
         → c / 2 ≡ j → c < 2 * length keys → get_or nodes c 0 ≡ slot → get_or nodes p 0 ≡ slot
     holds_below zero p j c path is some half high holds = path_holds p c path (omega (arith, is, some)) (half ∙ sym is) high holds
     holds_below (suc k) p j c path is some half high holds =
-        let le : halved k (p / 2 / 2) ≤ p / 2 / 2 = halved_le k (p / 2 / 2) in
+        let le : halved_times k (p / 2 / 2) ≤ p / 2 / 2 = halved_le k (p / 2 / 2) in
         let low : 0 < p / 2 = omega (arith, le, is, some) in
         child_holds p path low (holds_below k (p / 2) j c (path_up (length keys + slot) p path) is some half high holds)
 
@@ -274,7 +277,7 @@ module _ {K : Type 0} (cmp : K → K → Ordering) where
         | inl played ↦ played
         | inr above ↦
             let inner : j < length keys = subst (λ n. j < n) (length-set keys slot key) high in
-            let le : halved above.0 (p / 2) ≤ p / 2 = halved_le above.0 (p / 2) in
+            let le : halved_times above.0 (p / 2) ≤ p / 2 = halved_le above.0 (p / 2) in
             let under : j ≤ p / 2 = omega (arith, le, above.1) in
             let na : get_or nodes (2 * j) 0 ≢ slot = λ e. other (holds_below above.0 p j (2 * j) path above.1 low (half_even j) (omega (arith, inner)) e) in
             let nb : get_or nodes (2 * j + 1) 0 ≢ slot = λ e. other (holds_below above.0 p j (2 * j + 1) path above.1 low (half_odd j) (omega (arith, inner)) e) in
@@ -289,7 +292,7 @@ module _ {K : Type 0} (cmp : K → K → Ordering) where
 
   -- where they begin
   pub changed_leaf : (keys : List (Option K)) (nodes : List ℕ) (slot : ℕ)
-      → HasChanged cmp keys nodes slot → slot < length keys
+      → IsStaleAt cmp keys nodes slot → slot < length keys
       → record {
         shape : HasLeaves (length keys) nodes;
         rest : IsPlayedBut cmp keys nodes (length keys + slot);
@@ -307,7 +310,7 @@ module _ {K : Type 0} (cmp : K → K → Ordering) where
 
   -- where they end early
   pub settled : (keys : List (Option K)) (first nodes : List ℕ) (slot node before w : ℕ)
-      → HasChanged cmp keys first slot → slot < length keys → HasLeaves (length keys) nodes
+      → IsStaleAt cmp keys first slot → slot < length keys → HasLeaves (length keys) nodes
       → IsPlayedBut cmp keys nodes node → IsOnPath (length keys + slot) node
       → ((j : ℕ) → j < node → get_or nodes j 0 ≡ get_or first j 0) → 1 < node
       → node < 2 * length keys → before ≡ get_or nodes (node / 2) before

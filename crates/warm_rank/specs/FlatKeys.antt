@@ -1,21 +1,18 @@
 -- Keys in half the room: the fields of a key, side by side.
-use Rattle.std.specs.Prelude.{◌≡◌, ◌≢◌, ℕ, ◌==◌, cond}
+use Rattle.std.specs.Prelude.{◌≡◌, ◌≢◌, ◌==◌, cond}
 use Rattle.std.specs.Ordering.{nat_cmp, on, then_cmp}
 use Rattle.std.specs.declared.cmp.Ordering.{Ordering}
 use Rattle.warm_stamps.specs.declared.Stamp.{Stamp}
 use Rattle.warm_stamps.specs.declared.PageId.{PageId}
 use Rattle.warm_stamps.specs.Replicas.{IsReplica}
+use Rattle.warm_stamps.specs.Stamps.{stamp_at}
 use Rattle.warm_rank.specs.declared.RankKey.{RankKey}
 use Rattle.warm_rank.specs.declared.RankKey.TheVariants.{Never, Once, Twice}
 use Rattle.warm_rank.specs.declared.flat_key.Fields.{Fields}
 
--- a stamp of these two numbers
-abbrev pub stamp_at : ℕ → ℕ → Stamp
-stamp_at time replica = record { time = time; replica = replica }
-
 -- the key that has these fields
-abbrev pub key_in : Fields → RankKey
-key_in f =
+abbrev pub key_of_fields : Fields → RankKey
+key_of_fields f =
     let page : PageId = record { dev = f.dev; no = f.no } in
     let older : Stamp = stamp_at f.older_time f.older_replica in
     cond (f.stamps == 0) (Never page)
@@ -58,7 +55,7 @@ fields_of (Twice a' a p) =
 
 -- these are the fields of a key whose replicas there may be
 pub record AreFields (f : Fields) : Type 0 where
-  pub again : fields_of (key_in f) ≡ f
+  pub again : fields_of (key_of_fields f) ≡ f
   pub older : f.stamps ≢ 0 → IsReplica f.older_replica
   pub later : f.stamps ≢ 0 → f.stamps ≢ 1 → IsReplica f.later_replica
 

@@ -31,13 +31,13 @@ pub record IsTree {K : Type 0} (cmp : K → K → Ordering) (keys : List (Option
   pub played : (j : ℕ) → 0 < j → j < length keys → IsPlayed cmp keys nodes j
 
 -- k halvings
-abbrev pub halved : ℕ → ℕ → ℕ
-halved zero x = x
-halved (suc k) x = halved k (x / 2)
+abbrev pub halved_times : ℕ → ℕ → ℕ
+halved_times zero x = x
+halved_times (suc k) x = halved_times k (x / 2)
 
 -- node j is an ancestor of node x
 abbrev pub IsAbove : ℕ → ℕ → Type 0
-IsAbove x j = (k : ℕ) × (halved k (x / 2) ≡ j)
+IsAbove x j = (k : ℕ) × (halved_times k (x / 2) ≡ j)
 
 -- every match is played except those at ancestors of node x
 abbrev pub IsPlayedBut : {K : Type 0} → (K → K → Ordering) → List (Option K) → List ℕ → ℕ → Type 0
@@ -45,6 +45,6 @@ IsPlayedBut cmp keys nodes x = (j : ℕ) → 0 < j → j < length keys
     → IsPlayed cmp keys nodes j ⊎ IsAbove x j
 
 -- the nodes were a valid tree before the key of this slot changed
-abbrev pub HasChanged : {K : Type 0} → (K → K → Ordering) → List (Option K) → List ℕ → ℕ → Type 0
-HasChanged {K} cmp keys nodes slot = (old : List (Option K)) × (key : Option K)
+abbrev pub IsStaleAt : {K : Type 0} → (K → K → Ordering) → List (Option K) → List ℕ → ℕ → Type 0
+IsStaleAt {K} cmp keys nodes slot = (old : List (Option K)) × (key : Option K)
     × IsTree cmp old nodes × (keys ≡ set old slot key)

@@ -6,8 +6,9 @@
 ghost use Rattle.std.specs.Prelude.{◌≡◌, IfSome, cond};
 ghost use Rattle.std.specs.declared.cmp.Ordering.TheVariants.{Greater, Less};
 ghost use Rattle.warm_stamps.specs.Replicas.{IsReplica};
+ghost use Rattle.warm_stamps.specs.Stamps.{stamp_at};
 ghost use Rattle.warm_rank.specs.declared.RankKey.TheVariants.{Never, Once, Twice};
-ghost use Rattle.warm_rank.specs.FlatKeys.{fields_cmp, stamp_at};
+ghost use Rattle.warm_rank.specs.FlatKeys.{fields_cmp};
 ghost use Rattle.warm_rank.specs.Keys.{entry_key, key_cmp, ranked_page};
 ghost use Rattle.warm_rank.specs.contracts.RankKeyPartialEq.TheImpl.Laws as equality;
 ghost use Rattle.warm_rank.specs.contracts.RankKeyEq.TheImpl.Laws as equivalence;
@@ -41,11 +42,11 @@ pub(crate) struct FlatKey {
 
 impl Model for FlatKey {
     ghost use Rattle.warm_rank.specs.declared.RankKey.{RankKey};
-    ghost use Rattle.warm_rank.specs.FlatKeys.{AreFields, fields_of, key_in};
+    ghost use Rattle.warm_rank.specs.FlatKeys.{AreFields, fields_of, key_of_fields};
 
     ghost Value = { RankKey };
 
-    ghost view = { λ k. key_in k.fields };
+    ghost view = { λ k. key_of_fields k.fields };
 
     ghost invariant = { λ k. AreFields k.fields };
 

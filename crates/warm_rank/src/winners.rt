@@ -5,7 +5,7 @@
 ghost use Rattle.std.specs.Prelude.{◌≡◌, ◌≢◌, ◌*◌, ◌<◌, ◌≤◌, ◌+◌, length, replicate, slice_index};
 ghost use Rattle.std.specs.Prelude.{IsTrue};
 ghost use Rattle.warm_rank.specs.Keys.{key_cmp};
-ghost use Rattle.warm_rank.specs.WinnerTree.{winner, HasLeaves, IsTree, HasChanged};
+ghost use Rattle.warm_rank.specs.WinnerTree.{winner, HasLeaves, IsTree, IsStaleAt};
 
 use crate::MAX_FRAMES;
 use crate::slot_keys::SlotKeys;
@@ -40,7 +40,7 @@ pub(crate) fn play_all(keys: &SlotKeys, nodes: &mut Vec<u32>)
 // and is not the slot: nothing above it changes.
 pub(crate) fn play_above(keys: &SlotKeys, nodes: &mut Vec<u32>, slot: usize)
     requires range { slot < length keys.now }
-    requires changed { HasChanged key_cmp keys.now nodes.old.items slot }
+    requires changed { IsStaleAt key_cmp keys.now nodes.old.items slot }
     ensures { IsTree key_cmp keys.now nodes.new.items }
 {
     let mut node = keys.len() + slot;

@@ -8,8 +8,8 @@ use Rattle.warm_setup.specs.declared.setup.DeviceSpec.{DeviceSpec}
 use Rattle.warm_setup.specs.Setups.{DeviceFields, Settings}
 
 -- the fields of a device's table that the reader has read
-abbrev pub fields_of : DeviceKeys → DeviceFields
-fields_of keys = record { pages = keys.pages; path = keys.path }
+abbrev pub device_fields_of : DeviceKeys → DeviceFields
+device_fields_of keys = record { pages = keys.pages; path = keys.path }
 
 -- the settings that the reader has read
 abbrev pub settings_of : SetupKeys → Settings

@@ -15,7 +15,8 @@ ghost use Rattle.warm_setup.specs.SetupFaults.{GivesMeaning, code_of, name_of};
 ghost use Rattle.warm_setup.specs.Setups.{number_to, text_in, with_device_key, device_in};
 ghost use Rattle.warm_setup.specs.Setups.{devices_of, devices_in, with_key, setup_of, setup_in};
 ghost use Rattle.warm_setup.specs.Setups.{key_by_key, no_fields, each, is_table, defaults};
-ghost use Rattle.warm_setup.specs.SetupView.{fields_of, settings_of, setup_and_devices, AreWithin};
+ghost use Rattle.warm_setup.specs.SetupView.{device_fields_of, settings_of, setup_and_devices};
+ghost use Rattle.warm_setup.specs.SetupView.{AreWithin};
 
 use crate::path::PathText;
 use std::alloc::{AllocError, AllocFailed, Global};
@@ -163,8 +164,8 @@ fn set_device_key(
     key: &str,
     value: &Value,
 ) -> Result<DeviceKeys, SetupFault>
-    ensures { GivesMeaning fields_of
-        (with_device_key (fields_of keys) key.now (view value.now)) result }
+    ensures { GivesMeaning device_fields_of
+        (with_device_key (device_fields_of keys) key.now (view value.now)) result }
 {
     if key == "pages" {
         let pages = number(value, MAX_PAGES)?;
@@ -184,7 +185,7 @@ fn set_device_key(
 }
 
 fn device_keys(alloc: Global, table: &Table) -> Result<DeviceKeys, SetupFault>
-    ensures { GivesMeaning fields_of
+    ensures { GivesMeaning device_fields_of
         (key_by_key with_device_key no_fields (table_view table.now)) result }
 {
     let mut keys = DeviceKeys {

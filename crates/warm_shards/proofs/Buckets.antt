@@ -5,8 +5,8 @@ use Rattle.warm_stamps.specs.declared.PageId.{PageId}
 use Rattle.warm_stamps.specs.Buckets.{page_bucket}
 use Rattle.warm_history.specs.declared.hist.Entry.{Entry}
 use Rattle.warm_history.specs.Carried.{bucket_entries, carried, comes_after, is_next_in_bucket}
+use Rattle.warm_history.specs.Carried.{later_of_bucket}
 use Rattle.warm_history.specs.Histories.{HistoryView, IsHistory, entries_of, hist, history, references_of}
-use Rattle.warm_history.specs.Merges.{later_of_bucket}
 use Rattle.warm_history.specs.ReferenceSets.{references}
 use Rattle.warm_history.specs.Since.{carried_since, entries_since, recent_entries}
 use Rattle.warm_history.proofs.CarriedLemmas.{history-carried}

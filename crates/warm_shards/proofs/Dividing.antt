@@ -6,7 +6,7 @@ use Rattle.std.proofs.lemmas.Bool.{cases_eq, eq-eqb, ne_eqb}
 use Rattle.std.proofs.lemmas.List.{append-nil, get_or-map, get_or-set_other, get_or-set_same, length-map, length-set, take_more}
 use Rattle.std.proofs.lemmas.List.Elements.{filter-append}
 use Rattle.warm_stamps.specs.declared.Reference.{Reference}
-use Rattle.warm_shards.specs.Parts.{AreParts}
+use Rattle.warm_shards.specs.Parts.{AreShardParts}
 use Rattle.warm_shards.specs.Shards.{shard_of}
 
 abbrev own : ℕ → ℕ → Reference → Bool
@@ -26,7 +26,7 @@ other_filter count i rs r other =
 
 -- the part of one shard, as it is read
 pub nth_part : {V : Type 0} (f : V → List Reference) (xs : List V) (count k : ℕ)
-    (batch : List Reference) (d : V) → AreParts count batch (map f xs) → k < count
+    (batch : List Reference) (d : V) → AreShardParts count batch (map f xs) → k < count
     → f (get_or xs k d) ≡ filter (own count k) batch
 nth_part f xs count k batch d parts lt =
     let long : length xs ≡ count = sym (length-map xs f) ∙ parts.size in
@@ -34,9 +34,9 @@ nth_part f xs count k batch d parts lt =
 
 -- a reference more, in the part of its shard
 pub part_more : {V : Type 0} (f : V → List Reference) (xs : List V) (count : ℕ)
-    (so_far : List Reference) (r : Reference) (v d : V) → AreParts count so_far (map f xs)
+    (so_far : List Reference) (r : Reference) (v d : V) → AreShardParts count so_far (map f xs)
     → shard_of count r.page < count → f v ≡ f (get_or xs (shard_of count r.page) d) ++ r ∷ []
-    → AreParts count (so_far ++ r ∷ []) (map f (set xs (shard_of count r.page) v))
+    → AreShardParts count (so_far ++ r ∷ []) (map f (set xs (shard_of count r.page) v))
 part_more f xs count so_far r v d parts lt is =
     let s = shard_of count r.page in
     let long : length xs ≡ count = sym (length-map xs f) ∙ parts.size in
@@ -61,15 +61,16 @@ part_more f xs count so_far r v d parts lt is =
     }
 
 pub part_next : {V : Type 0} (f : V → List Reference) (xs : List V) (count k s : ℕ)
-    (batch : List Reference) (r : Reference) (v d : V) → AreParts count (take k batch) (map f xs)
+    (batch : List Reference) (r : Reference) (v d : V)
+    → AreShardParts count (take k batch) (map f xs)
     → k < length batch → r ≡ get_or batch k r → s ≡ shard_of count r.page → s < count
     → f v ≡ f (get_or xs s d) ++ r ∷ []
-    → AreParts count (take (k + 1) batch) (map f (set xs s v))
+    → AreShardParts count (take (k + 1) batch) (map f (set xs s v))
 part_next f xs count k s batch r v d parts less at own lt is =
     let more : take (k + 1) batch ≡ take k batch ++ r ∷ [] = take_more batch k r less ∙ ap (λ x. take k batch ++ x ∷ []) (sym at) in
     let here : f v ≡ f (get_or xs (shard_of count r.page) d) ++ r ∷ [] = is ∙ ap (λ (x : ℕ). f (get_or xs x d) ++ r ∷ []) own in
-    subst (λ (x : ℕ). AreParts count (take (k + 1) batch) (map f (set xs x v))) (sym own)
-    (subst (λ rs. AreParts count rs (map f (set xs (shard_of count r.page) v))) (sym more) (part_more f xs count (take k batch) r v d parts (subst (λ (x : ℕ). x < count) own lt) here))
+    subst (λ (x : ℕ). AreShardParts count (take (k + 1) batch) (map f (set xs x v))) (sym own)
+    (subst (λ rs. AreShardParts count rs (map f (set xs (shard_of count r.page) v))) (sym more) (part_more f xs count (take k batch) r v d parts (subst (λ (x : ℕ). x < count) own lt) here))
 
 -- empty parts
 abbrev pub AreEmpty : {V : Type 0} → (V → List Reference) → ℕ → List V → Type 0
@@ -90,7 +91,7 @@ none_in f (x ∷ xs) zero all = all.0
 none_in f (x ∷ xs) (suc i) all = none_in f xs i all.1
 
 pub empty_are_parts : {V : Type 0} (f : V → List Reference) (xs : List V) (count : ℕ)
-    → AreEmpty f count xs → AreParts count [] (map f xs)
+    → AreEmpty f count xs → AreShardParts count [] (map f xs)
 empty_are_parts f xs count (size, all) = record {
   size = length-map xs f ∙ size;
   part = λ i lt. none_in f xs i all;

@@ -26,7 +26,8 @@ use Rattle.warm_gossip.specs.Clauses.{DevicesAfter, Goes, OfPool}
 use Rattle.warm_gossip.specs.State.{NodeState, NodeView, node_view}
 use Rattle.warm_gossip.specs.Step.{IsFailed, OnPool, Step}
 use Rattle.warm_shards.specs.Shards.{AreShards, IsShard, IsShardCount, held, no_shard, shard_at, shard_of, whole}
-use Rattle.warm_shards.specs.Through.{AreUnfixed, DeviceFails, FlushFails, ForgetsPages, HasFixed, HasForgotten, IsClean, IsUnchanged, IsWritten, OfEach, OfFirst, RestartRefused, RestartStops, Restarts, Rises, Settles, StopsAtShard, WriteBackStops, WriteFails}
+use Rattle.warm_shards.specs.Through.{DeviceFails, HasFixed, HasForgotten, IsClean, IsUnchanged, IsWritten, OfEach, OfFirst, RestartRefused, RestartStops, Rises, ShardFlushFails, ShardForgetsPages, ShardRestarts, ShardSettles, ShardWriteFails}
+use Rattle.warm_shards.specs.Through.{ShardsAreUnfixed, StopsAtShard, WriteBackStops}
 use Rattle.warm_shards.proofs.Absorbing.{some_shards}
 use Rattle.warm_shards.proofs.Buckets.{shard_horizon}
 use Rattle.warm_shards.proofs.Calls.{HasOnly, pool_shard, read_at, same_shard}
@@ -160,23 +161,23 @@ pool_stays latest change only count number i n m was by =
 pub unchanged_stays : (latest : ℕ) → StaysShard latest latest IsUnchanged
 unchanged_stays latest count number i n m was same = subst (IsShard count number latest i) (sym same) was
 
-pub forgets_stays : (latest dev from : ℕ) → StaysShard latest latest (ForgetsPages dev from)
-forgets_stays latest dev from = pool_stays latest (ForgetsPages dev from) (λ P n m own by. forgotten_own P n m dev from own by.0 by.1)
+pub forgets_stays : (latest dev from : ℕ) → StaysShard latest latest (ShardForgetsPages dev from)
+forgets_stays latest dev from = pool_stays latest (ShardForgetsPages dev from) (λ P n m own by. forgotten_own P n m dev from own by.0 by.1)
 
 pub written_stays : (latest : ℕ) → StaysShard latest latest IsWritten
 written_stays latest count number i n m was by = same_shard count number latest i n m was by.0
 
-pub settles_stays : (latest : ℕ) → StaysShard latest latest Settles
+pub settles_stays : (latest : ℕ) → StaysShard latest latest ShardSettles
 settles_stays latest count number i n m was by = same_shard count number latest i n m was by.0
 
-pub write_fails_stays : (latest : ℕ) → StaysShard latest latest WriteFails
-write_fails_stays latest = pool_stays latest WriteFails (λ P n m own by. record {
+pub write_fails_stays : (latest : ℕ) → StaysShard latest latest ShardWriteFails
+write_fails_stays latest = pool_stays latest ShardWriteFails (λ P n m own by. record {
   alone = known_pool n m by.0;
   own = same_own P (view_of n.pool) (view_of m.pool) (ap (λ (v : PoolView). v.frames) by.1.fails.becomes) own;
 })
 
-pub flush_fails_stays : (latest : ℕ) → StaysShard latest latest FlushFails
-flush_fails_stays latest = pool_stays latest FlushFails (λ P n m own by. record {
+pub flush_fails_stays : (latest : ℕ) → StaysShard latest latest ShardFlushFails
+flush_fails_stays latest = pool_stays latest ShardFlushFails (λ P n m own by. record {
   alone = by.0.0;
   own = same_own P (view_of n.pool) (view_of m.pool) (ap (λ (v : PoolView). v.frames) by.0.1.1.becomes) own;
 })
@@ -214,7 +215,7 @@ all_written limit s t is cleans i =
             let few = count_most cleans.upto s.frames in
             absurd (omega (arith, below, spent, few, is))
 
-pub written_then : (a b c : NodeState) → IsWritten a b → Settles b c → Settles a c
+pub written_then : (a b c : NodeState) → IsWritten a b → ShardSettles b c → ShardSettles a c
 written_then a b c x y = (y.0 ∙ x.0, y.1)
 
 -- clean frames stay clean where writing them back stops
@@ -230,7 +231,7 @@ fails_clean : (s t : PoolState) → IsClean s → WriteBackFails s t → IsClean
 fails_clean s t clean fails i =
     ap (λ (fs : List FrameState). (nth_frame fs i).dirty) fails.frames ∙ stays_clean s.frames fails.written i clean
 
-pub written_fails : (a b c : NodeState) → IsWritten a b → DeviceFails b c → FlushFails a c
+pub written_fails : (a b c : NodeState) → IsWritten a b → DeviceFails b c → ShardFlushFails a c
 written_fails a b c x y = (
   subst (λ (v : NodeView). OnPool IsFailed v (node_view c)) x.0 y.0,
   fails_clean b.pool c.pool x.1 y.1,
@@ -238,10 +239,11 @@ written_fails a b c x y = (
 
 -- ---- restarting
 
-pub settled_restarts : (a b c : NodeState) → Settles a b → Restarts b c → Restarts a c
+pub settled_restarts : (a b c : NodeState) → ShardSettles a b → ShardRestarts b c
+    → ShardRestarts a c
 settled_restarts a b c x y = (subst (λ (v : NodeView). Step v Restart Done (node_view c)) x.0 y.0, y.1)
 
-pub settled_fails : (a b c : NodeState) → Settles a b → DeviceFails b c → FlushFails a c
+pub settled_fails : (a b c : NodeState) → ShardSettles a b → DeviceFails b c → ShardFlushFails a c
 settled_fails a b c x y = (
   subst (λ (v : NodeView). OnPool IsFailed v (node_view c)) x.0 y.0,
   fails_clean b.pool c.pool x.1.clean y.1,
@@ -259,8 +261,9 @@ fails_only (Pool Fault) n m unfixed refused left = (refl, (refused.1, left))
 fails_only why n m unfixed refused left = absurd refused
 
 -- settling pins nothing
-pub settled_unfixed : (old mid : List NodeState) → OfEach Settles old mid → AreUnfixed old
-    → AreUnfixed mid
+pub settled_unfixed : (old mid : List NodeState) → OfEach ShardSettles old mid
+    → ShardsAreUnfixed old
+    → ShardsAreUnfixed mid
 settled_unfixed old mid settles unfixed i lt =
     let there : i < length old = omega (arith, lt, settles.count) in
     subst (λ (v : NodeView). IsUnfixed v.pool) (sym (settles.each i there).0) (unfixed i there)
@@ -274,7 +277,7 @@ no_references horizon = ap (λ (h : ℕ). history_of_entries_at h []) (later hor
     later n = omega arith
 
 -- a shard that restarted, and was then raised
-pub rises_after : (horizon : ℕ) (a b c : NodeState) → Restarts a b → Rises horizon b c
+pub rises_after : (horizon : ℕ) (a b c : NodeState) → ShardRestarts a b → Rises horizon b c
     → HasForgotten horizon a c
 rises_after horizon a b c x y =
     let forgot : b.history ≡ history_of_entries [] = ap (λ (v : NodeView). v.history) x.0.0 in
@@ -291,7 +294,7 @@ rises_after horizon a b c x y =
 
 -- those before the one that fails are raised
 pub stops_risen : (horizon : ℕ) (fails : Change) (old mid new : List NodeState) (k : ℕ)
-    → (stops : StopsAtShard Restarts fails IsUnchanged old mid) → stops.shard ≡ k
+    → (stops : StopsAtShard ShardRestarts fails IsUnchanged old mid) → stops.shard ≡ k
     → OfFirst (Rises horizon) k mid new → StopsAtShard (HasForgotten horizon) fails IsUnchanged old new
 stops_risen horizon fails old mid new k stops is risen = record {
   count = risen.count ∙ stops.count;
@@ -304,11 +307,11 @@ stops_risen horizon fails old mid new k stops is risen = record {
 
 pub fails_risen : (horizon : ℕ) (fails : Change) (old ns new : List NodeState) (k : ℕ)
     (n m d : NodeState) → k < length ns → n ≡ get_or ns k d → fails n m
-    → OfFirst Restarts k old ns → OfFirst (Rises horizon) k (set ns k m) new
+    → OfFirst ShardRestarts k old ns → OfFirst (Rises horizon) k (set ns k m) new
     → StopsAtShard (HasForgotten horizon) fails IsUnchanged old new
 unfolding gone_stops
 fails_risen horizon fails old ns new k n m d lt at by have risen =
-    stops_risen horizon fails old (set ns k m) new k (gone_stops Restarts fails old ns k n m d lt at by have) refl risen
+    stops_risen horizon fails old (set ns k m) new k (gone_stops ShardRestarts fails old ns k n m d lt at by have) refl risen
 
 abbrev no_frame : FrameView
 no_frame = record { page = None; generation = 0; fixes = 0 }
@@ -336,7 +339,7 @@ empty_shard count number i horizon v m id none gone = record {
   };
 }
 
-pub restarts_stays : (latest : ℕ) → StaysShard latest 0 Restarts
+pub restarts_stays : (latest : ℕ) → StaysShard latest 0 ShardRestarts
 restarts_stays latest count number i n m was by =
     empty_shard count number i 0 (view_of n.pool) m (ap (λ (v : NodeView). v.id) by.0.0 ∙ was.id) (ap (λ (v : NodeView). v.history) by.0.0) by.0.1
 
@@ -354,14 +357,15 @@ none_held (n ∷ ns) all =
     ∙ ap (λ S. references_of (history_of_entries []) ∪ S) (none_held ns (λ i lt. all (suc i) (omega arith)))
 
 -- restarted shards hold no reference
-pub restarted_whole : (old new : List NodeState) → OfEach Restarts old new
+pub restarted_whole : (old new : List NodeState) → OfEach ShardRestarts old new
     → whole new ≡ history_of_entries []
 restarted_whole old new have =
     ap history (none_held new (λ i lt. ap (λ (v : NodeView). v.history) (have.each i (omega (arith, have.count))).0.0)) ∙ sym none_joined
 
 -- ---- whole calls
 
-pub forgotten_after : (horizon : ℕ) (a b c : NodeState) → Settles a b → HasForgotten horizon b c
+pub forgotten_after : (horizon : ℕ) (a b c : NodeState) → ShardSettles a b
+    → HasForgotten horizon b c
     → HasForgotten horizon a c
 forgotten_after horizon a b c x y = record {
   id = y.id ∙ ap (λ (v : NodeView). v.id) x.0;
@@ -371,71 +375,71 @@ forgotten_after horizon a b c x y = record {
 }
 
 -- the horizon that all shards have, after they were settled
-pub settled_horizon : (old mid : List NodeState) → AreShards old → OfEach Settles old mid
+pub settled_horizon : (old mid : List NodeState) → AreShards old → OfEach ShardSettles old mid
     → (shard_at mid 0).history.horizon ≡ (whole old).horizon
 settled_horizon old mid are settles =
     let some = some_shards old are in
     ap (λ (v : NodeView). v.history.horizon) (settles.each 0 some).0 ∙ shard_horizon old 0 are some some
 
 pub restart_stops : (old mid new : List NodeState) (horizon : ℕ) (result : Result Unit NodeFault)
-    → horizon ≡ (whole old).horizon → OfEach Settles old mid
+    → horizon ≡ (whole old).horizon → OfEach ShardSettles old mid
     → IfErr result (λ why. (why ≡ Pool Fault)
     × StopsAtShard (HasForgotten horizon) DeviceFails IsUnchanged mid new)
     → IfErr result (λ why. (why ≡ Pool Fault) × RestartStops old new)
 restart_stops old mid new horizon (Ok given) is settles stops = tt
 restart_stops old mid new horizon (Err why) is settles (fault, stops) = (
   fault,
-  inr (subst (λ (h : ℕ). StopsAtShard (HasForgotten h) FlushFails Settles old new) is
-      (then_stops Settles (HasForgotten horizon) DeviceFails (HasForgotten horizon) FlushFails (forgotten_after horizon) settled_fails old mid new settles stops)),
+  inr (subst (λ (h : ℕ). StopsAtShard (HasForgotten h) ShardFlushFails ShardSettles old new) is
+      (then_stops ShardSettles (HasForgotten horizon) DeviceFails (HasForgotten horizon) ShardFlushFails (forgotten_after horizon) settled_fails old mid new settles stops)),
 )
 
 pub restarted_all : (old mid new : List NodeState) (result : Result Unit NodeFault)
-    → OfEach Settles old mid → OnOk result (OfEach Restarts mid new)
-    → OnOk result (OfEach Restarts old new)
+    → OfEach ShardSettles old mid → OnOk result (OfEach ShardRestarts mid new)
+    → OnOk result (OfEach ShardRestarts old new)
 restarted_all old mid new (Err why) settles restarts = tt
 restarted_all old mid new (Ok given) settles restarts =
-    then_each Settles Restarts Restarts settled_restarts old mid new settles restarts
+    then_each ShardSettles ShardRestarts ShardRestarts settled_restarts old mid new settles restarts
 
 -- ---- they are still shards
 
 pub forgotten_shards : (dev from : ℕ) (old new : List NodeState) → AreShards old
-    → OfEach (ForgetsPages dev from) old new → AreShards new
+    → OfEach (ShardForgetsPages dev from) old new → AreShards new
 forgotten_shards dev from old new are each =
     let latest = (shard_at old 0).history.horizon in
-    each_shards latest (ForgetsPages dev from) old new (forgets_stays latest dev from) are each
+    each_shards latest (ShardForgetsPages dev from) old new (forgets_stays latest dev from) are each
 
 stopped_shards : (old new : List NodeState) → AreShards old → WriteBackStops old new → AreShards new
 stopped_shards old new are stops =
     let latest = (shard_at old 0).history.horizon in
     elim stops [
-      | inl writes ↦ stops_shards IsWritten WriteFails IsUnchanged old new (written_stays latest) (write_fails_stays latest) (unchanged_stays latest) are writes
-      | inr flushes ↦ stops_shards Settles FlushFails IsWritten old new (settles_stays latest) (flush_fails_stays latest) (written_stays latest) are flushes
+      | inl writes ↦ stops_shards IsWritten ShardWriteFails IsUnchanged old new (written_stays latest) (write_fails_stays latest) (unchanged_stays latest) are writes
+      | inr flushes ↦ stops_shards ShardSettles ShardFlushFails IsWritten old new (settles_stays latest) (flush_fails_stays latest) (written_stays latest) are flushes
     ]
 
 pub settled_shards : (old new : List NodeState) (result : Result Unit NodeFault) → AreShards old
-    → OnOk result (OfEach Settles old new)
+    → OnOk result (OfEach ShardSettles old new)
     → IfErr result (λ why. (why ≡ Pool Fault) × WriteBackStops old new) → AreShards new
 settled_shards old new (Ok given) are each stops =
     let latest = (shard_at old 0).history.horizon in
-    each_shards latest Settles old new (settles_stays latest) are each
+    each_shards latest ShardSettles old new (settles_stays latest) are each
 settled_shards old new (Err why) are each stops = stopped_shards old new are stops.1
 
 pub restarted_shards : (old new : List NodeState) (result : Result Unit NodeFault) → AreShards old
-    → OnOk result (OfEach Restarts old new)
+    → OnOk result (OfEach ShardRestarts old new)
     → IfErr result (λ why. (why ≡ Pool Fault) × RestartStops old new) → AreShards new
 restarted_shards old new (Ok given) are each stops =
-    each_shards 0 Restarts old new (restarts_stays (shard_at old 0).history.horizon) are each
+    each_shards 0 ShardRestarts old new (restarts_stays (shard_at old 0).history.horizon) are each
 restarted_shards old new (Err why) are each stops =
     let latest = (shard_at old 0).history.horizon in
     let some = some_shards old are in
     let same : (whole old).horizon ≡ latest = sym (shard_horizon old 0 are some some) in
     elim stops.1 [
       | inl writes ↦ stopped_shards old new are writes
-      | inr restarts ↦ stops_shards (HasForgotten (whole old).horizon) FlushFails Settles old new (forgotten_stays latest (whole old).horizon same) (flush_fails_stays latest) (settles_stays latest) are restarts
+      | inr restarts ↦ stops_shards (HasForgotten (whole old).horizon) ShardFlushFails ShardSettles old new (forgotten_stays latest (whole old).horizon same) (flush_fails_stays latest) (settles_stays latest) are restarts
     ]
 
 pub restarted_empty : (old new : List NodeState) (result : Result Unit NodeFault)
-    → OnOk result (OfEach Restarts old new) → OnOk result (whole new ≡ history_of_entries [])
+    → OnOk result (OfEach ShardRestarts old new) → OnOk result (whole new ≡ history_of_entries [])
 restarted_empty old new (Err why) each = tt
 restarted_empty old new (Ok given) each = restarted_whole old new each
 
@@ -444,7 +448,8 @@ pub pinned_refuses : (old : List NodeState) (why : NodeFault) → why ≡ Pool F
     → RestartRefused old why old
 pinned_refuses old why is fixed = subst (λ w. RestartRefused old w old) (sym is) (fixed, refl)
 
-pub fault_refuses : (old new : List NodeState) (result : Result Unit NodeFault) → AreUnfixed old
+pub fault_refuses : (old new : List NodeState) (result : Result Unit NodeFault)
+    → ShardsAreUnfixed old
     → IfErr result (λ why. (why ≡ Pool Fault) × RestartStops old new)
     → IfErr result (λ why. RestartRefused old why new)
 fault_refuses old new (Ok given) unfixed stops = tt

@@ -60,8 +60,8 @@ pub record SameShards (old new : List NodeState) : Type 0 where
 -- Calls of one shard
 
 -- all shards but this one are unchanged
-abbrev pub KeepsOthers : List NodeState → ℕ → List NodeState → Type 0
-KeepsOthers old i new = new ≡ slice_set old i (shard_at new i)
+abbrev pub KeepsOtherShards : List NodeState → ℕ → List NodeState → Type 0
+KeepsOtherShards old i new = new ≡ slice_set old i (shard_at new i)
 
 -- its id and its history are unchanged
 pub record KeepsKnown (old new : NodeState) : Type 0 where

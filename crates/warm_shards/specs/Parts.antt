@@ -11,7 +11,7 @@ use Rattle.warm_frames.specs.Limits.{entries_in, horizon_in}
 use Rattle.warm_shards.specs.Shards.{of_shard, shard_of}
 
 -- as many parts as shards, of each shard the references of the batch to its pages
-pub record AreParts (count : ℕ) (batch : List Reference) (parts : List (List Reference))
+pub record AreShardParts (count : ℕ) (batch : List Reference) (parts : List (List Reference))
     : Type 0 where
   pub size : length parts ≡ count
   pub part : (i : ℕ) → i < count

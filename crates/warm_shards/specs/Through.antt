@@ -53,8 +53,8 @@ IsUnchanged old new = new ≡ old
 -- Forgetting pages
 
 -- the shard forgot the pages of a device from a number on; its history is unchanged
-abbrev pub ForgetsPages : ℕ → ℕ → NodeState → NodeState → Type 0
-ForgetsPages dev from old new = KeepsKnown old new × Forgets old.pool dev from new.pool
+abbrev pub ShardForgetsPages : ℕ → ℕ → NodeState → NodeState → Type 0
+ShardForgetsPages dev from old new = KeepsKnown old new × Forgets old.pool dev from new.pool
 
 -- each shard may forget these pages
 abbrev pub MayForgetEach : ℕ → ℕ → List NodeState → Type 0
@@ -80,12 +80,12 @@ IsWritten old new = SameView old new × IsClean new.pool
     × FlushesNone old.pool.devices new.pool.devices
 
 -- the write of one page failed, after those of the frames before it; other pages are as they were
-abbrev pub WriteFails : NodeState → NodeState → Type 0
-WriteFails old new = KeepsKnown old new × SomeFails (length old.pool.frames) old.pool new.pool
+abbrev pub ShardWriteFails : NodeState → NodeState → Type 0
+ShardWriteFails old new = KeepsKnown old new × SomeFails (length old.pool.frames) old.pool new.pool
 
 -- all dirty pages were written back, and the devices were flushed
-abbrev pub Settles : NodeState → NodeState → Type 0
-Settles old new = SameView old new × IsSettled new.pool
+abbrev pub ShardSettles : NodeState → NodeState → Type 0
+ShardSettles old new = SameView old new × IsSettled new.pool
 
 -- a call of a device failed: of what a caller sees only its count of failures has changed, and the
 -- pages written before it are clean
@@ -94,25 +94,25 @@ DeviceFails old new = OnPool IsFailed (node_view old) (node_view new)
     × WriteBackFails old.pool new.pool
 
 -- the same, and no page of the shard is dirty: what failed is a flush
-abbrev pub FlushFails : NodeState → NodeState → Type 0
-FlushFails old new = OnPool IsFailed (node_view old) (node_view new) × IsClean new.pool
+abbrev pub ShardFlushFails : NodeState → NodeState → Type 0
+ShardFlushFails old new = OnPool IsFailed (node_view old) (node_view new) × IsClean new.pool
 
 -- A page of one shard was not written: the shards before it have written theirs, and those after it
 -- are unchanged. Or all shards have written theirs, and a device of one was not flushed: those
 -- before it are settled.
 abbrev pub WriteBackStops : List NodeState → List NodeState → Type 0
-WriteBackStops old new = StopsAtShard IsWritten WriteFails IsUnchanged old new
-    ⊎ StopsAtShard Settles FlushFails IsWritten old new
+WriteBackStops old new = StopsAtShard IsWritten ShardWriteFails IsUnchanged old new
+    ⊎ StopsAtShard ShardSettles ShardFlushFails IsWritten old new
 
 -- Restarting
 
 -- the shard restarted: no frame of it is dirty, and no device unflushed
-abbrev pub Restarts : NodeState → NodeState → Type 0
-Restarts old new = Goes old Restart Done new × IsSettled new.pool
+abbrev pub ShardRestarts : NodeState → NodeState → Type 0
+ShardRestarts old new = Goes old Restart Done new × IsSettled new.pool
 
 -- no page of any shard is pinned
-abbrev pub AreUnfixed : List NodeState → Type 0
-AreUnfixed shards = (i : ℕ) → i < length shards → IsUnfixed (view_of (shard_at shards i).pool)
+abbrev pub ShardsAreUnfixed : List NodeState → Type 0
+ShardsAreUnfixed shards = (i : ℕ) → i < length shards → IsUnfixed (view_of (shard_at shards i).pool)
 
 -- a page of some shard is pinned
 pub record HasFixed (shards : List NodeState) : Type 0 where
@@ -138,11 +138,11 @@ pub record HasForgotten (horizon : ℕ) (old new : NodeState) : Type 0 where
 -- all.
 abbrev pub RestartStops : List NodeState → List NodeState → Type 0
 RestartStops old new = WriteBackStops old new
-    ⊎ StopsAtShard (HasForgotten (whole old).horizon) FlushFails Settles old new
+    ⊎ StopsAtShard (HasForgotten (whole old).horizon) ShardFlushFails ShardSettles old new
 
 -- why shards do not restart: a page is pinned, and nothing has changed; or none is, and a device
 -- failed
 abbrev pub RestartRefused : List NodeState → NodeFault → List NodeState → Type 0
 RestartRefused old (Pool Fixed) new = HasFixed old × (new ≡ old)
-RestartRefused old (Pool Fault) new = AreUnfixed old × RestartStops old new
+RestartRefused old (Pool Fault) new = ShardsAreUnfixed old × RestartStops old new
 RestartRefused old why new = ⊥

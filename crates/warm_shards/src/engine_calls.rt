@@ -15,7 +15,7 @@ ghost use Rattle.warm_pool.specs.WritingSome.{PageFails, SomeFails, StopsAtDevic
 ghost use Rattle.warm_pool.specs.WritingSome.{WritesBackPage, WritesBackSome};
 ghost use Rattle.warm_pool.specs.Zeroing.{LeavesUnread, PinnedZeroed, TakesZeroed, ZeroedRefused};
 ghost use Rattle.warm_pool.specs.declared.fault.PoolFault.TheVariants.{Fault, ReadFault};
-ghost use Rattle.warm_shards.specs.Clauses.{KeepsKnown, KeepsOthers};
+ghost use Rattle.warm_shards.specs.Clauses.{KeepsKnown, KeepsOtherShards};
 ghost use Rattle.warm_shards.specs.Shards.{shard_at, shard_of};
 
 use crate::pool_calls::ShardSlot;
@@ -61,7 +61,7 @@ impl<D: PageDevice> Shards<D> {
             (shard_at self.new i).pool)) }
         ensures unflushed { let i = shard_of (length self.old) page in
             FlushesNone (shard_at self.old i).pool.devices (shard_at self.new i).pool.devices }
-        ensures others { KeepsOthers self.old (shard_of (length self.old) page) self.new }
+        ensures others { KeepsOtherShards self.old (shard_of (length self.old) page) self.new }
     {
         let shard = self.shard_of(page);
         let slot = self.nodes[shard].pin_zeroed(page)?;
@@ -105,7 +105,7 @@ impl<D: PageDevice> Shards<D> {
             ReadsNone (shard_at self.old i).pool.devices (shard_at self.new i).pool.devices }
         ensures unflushed { let i = shard_of (length self.old) page in
             FlushesNone (shard_at self.old i).pool.devices (shard_at self.new i).pool.devices }
-        ensures others { KeepsOthers self.old (shard_of (length self.old) page) self.new }
+        ensures others { KeepsOtherShards self.old (shard_of (length self.old) page) self.new }
     {
         let shard = self.shard_of(page);
         let filled = self.nodes[shard].pin_filled(page, bytes)?;
@@ -131,7 +131,7 @@ impl<D: PageDevice> Shards<D> {
             × SomeFails limit (shard_at self.old shard).pool (shard_at self.new shard).pool) }
         ensures unflushed { FlushesNone (shard_at self.old shard).pool.devices
             (shard_at self.new shard).pool.devices }
-        ensures others { KeepsOthers self.old shard self.new }
+        ensures others { KeepsOtherShards self.old shard self.new }
     {
         self.nodes[shard].write_back_some(limit)
     }
@@ -154,7 +154,7 @@ impl<D: PageDevice> Shards<D> {
             × PageFails (shard_at self.old i).pool page (shard_at self.new i).pool) }
         ensures unflushed { let i = shard_of (length self.old) page in
             FlushesNone (shard_at self.old i).pool.devices (shard_at self.new i).pool.devices }
-        ensures others { KeepsOthers self.old (shard_of (length self.old) page) self.new }
+        ensures others { KeepsOtherShards self.old (shard_of (length self.old) page) self.new }
     {
         let shard = self.shard_of(page);
         self.nodes[shard].write_back_page(page)
@@ -178,7 +178,7 @@ impl<D: PageDevice> Shards<D> {
             (shard_at self.new shard).pool }
         ensures once { FlushesOnce (shard_at self.old shard).pool.devices
             (shard_at self.new shard).pool.devices }
-        ensures others { KeepsOthers self.old shard self.new }
+        ensures others { KeepsOtherShards self.old shard self.new }
     {
         self.nodes[shard].flush_device(dev)
     }
@@ -205,7 +205,7 @@ impl<D: PageDevice> Shards<D> {
         ensures given_back { IfErr result (λ unretired. unretired.device ≡ device) }
         ensures elsewhere { KeepsElsewhere dev (shard_at self.old shard).pool
             (shard_at self.new shard).pool }
-        ensures others { KeepsOthers self.old shard self.new }
+        ensures others { KeepsOtherShards self.old shard self.new }
     {
         self.nodes[shard].replace(dev, device)
     }
@@ -229,7 +229,7 @@ impl<D: PageDevice> Shards<D> {
         ensures given_back { IfErr result (λ unretired. unretired.device ≡ device) }
         ensures elsewhere { KeepsElsewhere dev (shard_at self.old shard).pool
             (shard_at self.new shard).pool }
-        ensures others { KeepsOthers self.old shard self.new }
+        ensures others { KeepsOtherShards self.old shard self.new }
     {
         self.nodes[shard].retire(dev, device)
     }

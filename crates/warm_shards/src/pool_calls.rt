@@ -13,7 +13,7 @@ ghost use Rattle.warm_pool.specs.State.{IsSettled};
 ghost use Rattle.warm_pool.specs.View.{unfixed_pages, view_of};
 ghost use Rattle.warm_pool.specs.WritingBack.{WriteBackFails};
 ghost use Rattle.warm_rank.specs.Ranking.{IsVictim};
-ghost use Rattle.warm_shards.specs.Clauses.{KeepsOthers};
+ghost use Rattle.warm_shards.specs.Clauses.{KeepsOtherShards};
 ghost use Rattle.warm_shards.specs.Shards.{shard_at, shard_of, whole};
 
 use crate::shards::Shards;
@@ -47,7 +47,7 @@ impl<D: PageDevice> Shards<D> {
         ensures devices { let shard = shard_of (length self.old) page in
             DevicesAnswered (shard_at self.old shard) (Pin page) (λ at. Pinned at.slot) result
             (shard_at self.new shard) }
-        ensures others { KeepsOthers self.old (shard_of (length self.old) page) self.new }
+        ensures others { KeepsOtherShards self.old (shard_of (length self.old) page) self.new }
     {
         let shard = self.shard_of(page);
         let slot = self.nodes[shard].pin(page)?;
@@ -64,7 +64,7 @@ impl<D: PageDevice> Shards<D> {
             (shard_at self.new at.shard) }
         ensures devices { DevicesAnswered (shard_at self.old at.shard) (Unpin at.slot) done result
             (shard_at self.new at.shard) }
-        ensures others { KeepsOthers self.old at.shard self.new }
+        ensures others { KeepsOtherShards self.old at.shard self.new }
     {
         if at.shard >= self.nodes.len() {
             return Err(NodeFault::StaleSlot);
@@ -116,7 +116,7 @@ impl<D: PageDevice> Shards<D> {
             result (shard_at self.new slot.shard) }
         ensures devices { DevicesAnswered (shard_at self.old slot.shard)
             (Write slot.slot at bytes.now) done result (shard_at self.new slot.shard) }
-        ensures others { KeepsOthers self.old slot.shard self.new }
+        ensures others { KeepsOtherShards self.old slot.shard self.new }
     {
         if slot.shard >= self.nodes.len() {
             return Err(NodeFault::StaleSlot);
@@ -137,7 +137,7 @@ impl<D: PageDevice> Shards<D> {
             (shard_at self.new shard)) }
         ensures stopped { OnErr result (WriteBackFails (shard_at self.old shard).pool
             (shard_at self.new shard).pool) }
-        ensures others { KeepsOthers self.old shard self.new }
+        ensures others { KeepsOtherShards self.old shard self.new }
     {
         self.nodes[shard].write_back()
     }
@@ -169,7 +169,7 @@ impl<D: PageDevice> Shards<D> {
             (shard_at self.new shard) }
         ensures devices { DevicesAnswered (shard_at self.old shard) WarmStep Loaded result
             (shard_at self.new shard) }
-        ensures others { KeepsOthers self.old shard self.new }
+        ensures others { KeepsOtherShards self.old shard self.new }
     {
         self.nodes[shard].warm_step()
     }

@@ -1,7 +1,7 @@
 //! How a batch is divided among shards.
 ghost use Rattle.std.specs.Prelude.{◌≡◌, ◌<◌, [], map, IfOk, IfSome, IsTrue};
 ghost use Rattle.std.specs.List.{AllByRecursion};
-ghost use Rattle.warm_shards.specs.Parts.{AreParts, IsOfShard};
+ghost use Rattle.warm_shards.specs.Parts.{AreShardParts, IsOfShard};
 ghost use Rattle.warm_shards.specs.Shards.{IsShardCount, shard_of};
 
 use crate::shards::shard_of;
@@ -62,7 +62,7 @@ pub(crate) fn receiver(message: &Message, count: usize) -> Option<usize>
 // As many empty lists.
 fn empty_parts(alloc: Global, count: usize) -> Result<Vec<Vec<Reference>>, AllocError>
     requires { IsShardCount count }
-    ensures { IfOk result (λ parts. AreParts count [] (map (λ part. part.items) parts.items)) }
+    ensures { IfOk result (λ parts. AreShardParts count [] (map (λ part. part.items) parts.items)) }
 {
     let mut parts = Vec::with_capacity(alloc, count)?;
     for _shard in 0..count {
@@ -79,7 +79,7 @@ pub(crate) fn parts_of(
 ) -> Result<Vec<Vec<Reference>>, AllocError>
     requires { IsShardCount count }
     ensures { IfOk result (λ parts.
-        AreParts count batch.now (map (λ part. part.items) parts.items)) }
+        AreShardParts count batch.now (map (λ part. part.items) parts.items)) }
 {
     let mut parts = empty_parts(alloc, count)?;
     for reference in batch {

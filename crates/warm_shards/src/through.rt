@@ -6,11 +6,11 @@ ghost use Rattle.warm_history.specs.Histories.{history_of_entries};
 ghost use Rattle.warm_pool.specs.View.{IsFixed, IsUnfixed, view_of};
 ghost use Rattle.warm_pool.specs.declared.fault.PoolFault.TheVariants.{Fault, Fixed};
 ghost use Rattle.warm_shards.specs.Shards.{AreShards, whole};
-ghost use Rattle.warm_shards.specs.Through.{AreUnfixed, DeviceFails, ForgetIsRefused};
-ghost use Rattle.warm_shards.specs.Through.{ForgetsPages, HasFixed, HasForgotten, IsUnchanged};
-ghost use Rattle.warm_shards.specs.Through.{IsWritten, MayForgetEach, OfEach, OfFirst};
-ghost use Rattle.warm_shards.specs.Through.{RestartRefused, RestartStops, Restarts, Rises};
-ghost use Rattle.warm_shards.specs.Through.{Settles, StopsAtShard, WriteBackStops, WriteFails};
+ghost use Rattle.warm_shards.specs.Through.{DeviceFails, ForgetIsRefused, HasFixed, HasForgotten};
+ghost use Rattle.warm_shards.specs.Through.{IsUnchanged, IsWritten, MayForgetEach, OfEach, OfFirst};
+ghost use Rattle.warm_shards.specs.Through.{RestartRefused, RestartStops, Rises, ShardForgetsPages};
+ghost use Rattle.warm_shards.specs.Through.{ShardRestarts, ShardSettles, ShardWriteFails};
+ghost use Rattle.warm_shards.specs.Through.{ShardsAreUnfixed, StopsAtShard, WriteBackStops};
 
 use crate::shards::Shards;
 use warm_devices::PageDevice;
@@ -35,7 +35,7 @@ fn may_forget_each<D: PageDevice>(
 // Each node forgets the pages.
 fn forget_each<D: PageDevice>(nodes: &mut Vec<Node<D>>, dev: u16, from: u64)
     requires { MayForgetEach dev from nodes.old.items }
-    ensures { OfEach (ForgetsPages dev from) nodes.old.items nodes.new.items }
+    ensures { OfEach (ShardForgetsPages dev from) nodes.old.items nodes.new.items }
 {
     let count = nodes.len();
     for shard in 0..count {
@@ -48,7 +48,7 @@ fn forget_each<D: PageDevice>(nodes: &mut Vec<Node<D>>, dev: u16, from: u64)
 // Writes back all dirty pages of a node. No device is flushed.
 fn write_one<D: PageDevice>(node: &mut Node<D>) -> Result<(), NodeFault>
     ensures written { OnOk result (IsWritten node.old node.new) }
-    ensures refused { IfErr result (λ why. (why ≡ Pool Fault) × WriteFails node.old node.new) }
+    ensures refused { IfErr result (λ why. (why ≡ Pool Fault) × ShardWriteFails node.old node.new) }
 {
     // No more pages are dirty than there are frames.
     let frames = node.pool().frames();
@@ -60,7 +60,7 @@ fn write_one<D: PageDevice>(node: &mut Node<D>) -> Result<(), NodeFault>
 fn write_each<D: PageDevice>(nodes: &mut Vec<Node<D>>) -> Result<(), NodeFault>
     ensures written { OnOk result (OfEach IsWritten nodes.old.items nodes.new.items) }
     ensures refused { IfErr result (λ why. (why ≡ Pool Fault)
-        × StopsAtShard IsWritten WriteFails IsUnchanged nodes.old.items nodes.new.items) }
+        × StopsAtShard IsWritten ShardWriteFails IsUnchanged nodes.old.items nodes.new.items) }
 {
     let count = nodes.len();
     for shard in 0..count {
@@ -71,9 +71,9 @@ fn write_each<D: PageDevice>(nodes: &mut Vec<Node<D>>) -> Result<(), NodeFault>
 
 // Each node flushes its devices, up to the first that fails.
 fn flush_each<D: PageDevice>(nodes: &mut Vec<Node<D>>) -> Result<(), NodeFault>
-    ensures settled { OnOk result (OfEach Settles nodes.old.items nodes.new.items) }
+    ensures settled { OnOk result (OfEach ShardSettles nodes.old.items nodes.new.items) }
     ensures refused { IfErr result (λ why. (why ≡ Pool Fault)
-        × StopsAtShard Settles DeviceFails IsUnchanged nodes.old.items nodes.new.items) }
+        × StopsAtShard ShardSettles DeviceFails IsUnchanged nodes.old.items nodes.new.items) }
 {
     let count = nodes.len();
     for shard in 0..count {
@@ -84,7 +84,7 @@ fn flush_each<D: PageDevice>(nodes: &mut Vec<Node<D>>) -> Result<(), NodeFault>
 
 // Each node writes back its dirty pages, and then each flushes its devices.
 fn settle_each<D: PageDevice>(nodes: &mut Vec<Node<D>>) -> Result<(), NodeFault>
-    ensures settled { OnOk result (OfEach Settles nodes.old.items nodes.new.items) }
+    ensures settled { OnOk result (OfEach ShardSettles nodes.old.items nodes.new.items) }
     ensures refused { IfErr result (λ why. (why ≡ Pool Fault)
         × WriteBackStops nodes.old.items nodes.new.items) }
 {
@@ -120,7 +120,7 @@ fn may_restart<D: PageDevice>(node: &Node<D>) -> Result<(), NodeFault>
 
 // Whether each node may restart.
 fn may_restart_each<D: PageDevice>(nodes: &Vec<Node<D>>) -> Result<(), NodeFault>
-    ensures may { OnOk result (AreUnfixed nodes.now.items) }
+    ensures may { OnOk result (ShardsAreUnfixed nodes.now.items) }
     ensures refused { IfErr result (λ why. (why ≡ Pool Fixed) × HasFixed nodes.now.items) }
 {
     let count = nodes.len();
@@ -132,8 +132,8 @@ fn may_restart_each<D: PageDevice>(nodes: &Vec<Node<D>>) -> Result<(), NodeFault
 
 // Each node restarts, up to the first that fails; then those before it get the horizon of all.
 fn restart_each<D: PageDevice>(nodes: &mut Vec<Node<D>>, horizon: u64) -> Result<(), NodeFault>
-    requires { AreUnfixed nodes.old.items }
-    ensures restarted { OnOk result (OfEach Restarts nodes.old.items nodes.new.items) }
+    requires { ShardsAreUnfixed nodes.old.items }
+    ensures restarted { OnOk result (OfEach ShardRestarts nodes.old.items nodes.new.items) }
     ensures refused { IfErr result (λ why. (why ≡ Pool Fault)
         × StopsAtShard (HasForgotten horizon) DeviceFails IsUnchanged nodes.old.items
         nodes.new.items) }
@@ -151,8 +151,8 @@ fn restart_each<D: PageDevice>(nodes: &mut Vec<Node<D>>, horizon: u64) -> Result
 // Each node writes back its pages; then each flushes; then each restarts.
 fn restart_all<D: PageDevice>(nodes: &mut Vec<Node<D>>) -> Result<(), NodeFault>
     requires shards { AreShards nodes.old.items }
-    requires unfixed { AreUnfixed nodes.old.items }
-    ensures restarted { OnOk result (OfEach Restarts nodes.old.items nodes.new.items) }
+    requires unfixed { ShardsAreUnfixed nodes.old.items }
+    ensures restarted { OnOk result (OfEach ShardRestarts nodes.old.items nodes.new.items) }
     ensures refused { IfErr result (λ why. (why ≡ Pool Fault)
         × RestartStops nodes.old.items nodes.new.items) }
 {
@@ -171,7 +171,7 @@ impl<D: PageDevice> Shards<D> {
     /// and those after it are unchanged. At a flush, all pages of all shards were written back and
     /// none is dirty, and the shards before that one have flushed their devices.
     pub fn write_back_all(&mut self) -> Result<(), NodeFault>
-        ensures settled { OnOk result (OfEach Settles self.old self.new) }
+        ensures settled { OnOk result (OfEach ShardSettles self.old self.new) }
         ensures refused { IfErr result (λ why. (why ≡ Pool Fault)
             × WriteBackStops self.old self.new) }
     {
@@ -187,7 +187,7 @@ impl<D: PageDevice> Shards<D> {
     /// device of this number, or `Pool(Fixed)`, where one of its pages is pinned. Nothing has
     /// changed.
     pub fn forget_pages(&mut self, dev: u16, from: u64) -> Result<(), NodeFault>
-        ensures forgotten { OnOk result (OfEach (ForgetsPages dev from) self.old self.new) }
+        ensures forgotten { OnOk result (OfEach (ShardForgetsPages dev from) self.old self.new) }
         ensures refused { IfErr result (λ why. ForgetIsRefused dev from why self.old) }
         ensures unchanged { OnErr result (self.new ≡ self.old) }
     {
@@ -208,7 +208,7 @@ impl<D: PageDevice> Shards<D> {
     ///   horizon that all had; that one and those after it have forgotten nothing. To restart once
     ///   more is then right.
     pub fn restart(&mut self) -> Result<(), NodeFault>
-        ensures restarted { OnOk result (OfEach Restarts self.old self.new) }
+        ensures restarted { OnOk result (OfEach ShardRestarts self.old self.new) }
         ensures empty { OnOk result (whole self.new ≡ history_of_entries []) }
         ensures refused { IfErr result (λ why. RestartRefused self.old why self.new) }
     {

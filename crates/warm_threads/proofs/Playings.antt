@@ -12,7 +12,7 @@ use Rattle.warm_world.specs.Sizes.{Sizes}
 use Rattle.warm_threads.specs.Asks.{asks}
 use Rattle.warm_world.specs.Nodes.{nodes_over}
 use Rattle.warm_threads.specs.Plans.{AreJobsOf}
-use Rattle.warm_threads.specs.Played.{Played}
+use Rattle.warm_threads.specs.Played.{PlayedInThreads}
 use Rattle.warm_threads.specs.Shown.{replicas_text}
 use Rattle.warm_threads.specs.Works.{Went}
 
@@ -22,7 +22,8 @@ pub played_of : {E : Type 0} (result : Result (Unit {0}) E) (text old new : Opti
     → starts ≡ map node_view (nodes_over s 1 devices)
     → IfSome text (λ t. AreJobsOf s (asks s (lines t)) jobs) → Went Step starts jobs ends
     → OnOk result (Appends old new (replicas_text 1 ends))
-    → OnOk result (IfSome text (λ t. (out : List ℕ) × Played s devices t out × Appends old new out))
+    → OnOk result
+    (IfSome text (λ t. (out : List ℕ) × PlayedInThreads s devices t out × Appends old new out))
 played_of (Err why) text old new s devices starts ends jobs opened asked went printed = tt
 played_of (Ok done) None old new s devices starts ends jobs opened asked went printed = tt
 played_of (Ok done) (Some t) old new s devices starts ends jobs opened asked went printed = (

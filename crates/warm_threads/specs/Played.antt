@@ -15,7 +15,8 @@ use Rattle.warm_threads.specs.Works.{Went}
 
 -- The workers of each replica carried out the requests of the lines of the text. The replicas,
 -- opened over these devices, reached states whose histories print this.
-pub record Played (s : Sizes) (devices : List (List DeviceState)) (text out : List ℕ) : Type 0 where
+pub record PlayedInThreads (s : Sizes) (devices : List (List DeviceState)) (text out : List ℕ)
+    : Type 0 where
   pub jobs : List (Vec Job)
   pub ends : List NodeView
   pub asked : AreJobsOf s (asks s (lines text)) jobs

@@ -14,7 +14,7 @@ ghost use Rattle.warm_world.specs.declared.play_fault.PlayFault.TheVariants.{Wri
 ghost use Rattle.warm_threads.specs.Asks.{asks, first_bad};
 ghost use Rattle.warm_threads.specs.Plans.{AreJobsOf};
 ghost use Rattle.warm_threads.specs.Shown.{replica_text, replicas_text};
-ghost use Rattle.warm_threads.specs.Played.{Played};
+ghost use Rattle.warm_threads.specs.Played.{PlayedInThreads};
 ghost use Rattle.warm_threads.specs.Refusals.{ThreadsPlayRefused, StopsThreads, ThreadsRefused};
 ghost use Rattle.warm_threads.specs.Works.{Went};
 
@@ -182,7 +182,7 @@ where
         ThreadsRefused setup (listed D.state devices.items) why) }
     ensures unwritten { IfErr result (λ why. why ≢ WriteFault → writer.new ≡ writer.old) }
     ensures played { OnOk result (IfSome (R.remaining reader.old) (λ text. (out : List ℕ)
-        × Played setup (listed D.state devices.items) text out
+        × PlayedInThreads setup (listed D.state devices.items) text out
         × Appends (W.contents writer.old) (W.contents writer.new) out)) }
 {
     let nodes = checked_nodes(alloc, setup, devices)?;

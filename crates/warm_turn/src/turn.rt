@@ -2,7 +2,7 @@
 ghost use Rattle.std.specs.Prelude.{◌≡◌, ◌≢◌, ℕ, ◌<◌, [], ◌∷◌, Some};
 ghost use Rattle.std.specs.Prelude.{IfOk, IfErr, IsOk, OnOk};
 ghost use Rattle.warm_turn.specs.declared.table.CellContents.{CellContents};
-ghost use Rattle.warm_turn.specs.CallHistories.{calls_by, first_pass, new_pass, note_of, marked};
+ghost use Rattle.warm_turn.specs.CallHistories.{calls_by, first_pass, new_pass, pass_note, marked};
 ghost use Rattle.warm_turn.specs.CallHistories.{IsPass, IsStep, IsLast, Called, Learned, Joined};
 ghost use Rattle.warm_turn.specs.CallHistories.{MadeVisit, halved};
 ghost use Rattle.warm_turn.specs.Shares.{IsWhole};
@@ -259,7 +259,7 @@ impl<M: Machine> Turn<M> {
         requires { pass.old.table ≡ self.now.table }
         ensures same { pass.new ≡ pass.old }
         ensures table { result.table ≡ self.now.table }
-        ensures given { result.view ≡ note_of pass.old.view }
+        ensures given { result.view ≡ pass_note pass.old.view }
     {
         let seat = self.table.shared.split_seat::<GiveNote>(&mut pass.seat);
         Note { seat }
@@ -270,7 +270,7 @@ impl<M: Machine> Turn<M> {
     /// state.
     pub fn opening_note(&self) -> Note<M>
         ensures table { result.table ≡ self.now.table }
-        ensures given { result.view ≡ note_of (first_pass self.now.opening) }
+        ensures given { result.view ≡ pass_note (first_pass self.now.opening) }
     {
         let (_, seat) = self.table.shared.load_new_seat::<Come>(0);
         Note { seat }

@@ -19,7 +19,8 @@ use Rattle.warm_world.specs.Views.{ReplicaView}
 use Rattle.warm_world.specs.States.{ModelState, ReplicaState, add_records, reach_of, record_at, replica, set_replica}
 use Rattle.warm_world.specs.Answered.{reach_after}
 use Rattle.warm_world.specs.Next.{IsNamed}
-use Rattle.warm_world.specs.Stands.{ReplicaStands, EncodesRecord, StandsFor, Stepped, message_kept, view_shape}
+use Rattle.warm_world.specs.Stands.{ReplicaStands, EncodesRecord, WorldStands, Stepped, message_kept}
+use Rattle.warm_world.specs.Stands.{view_shape}
 use Rattle.warm_world.proofs.Messages.{messages_join, encodes_kept}
 use Rattle.warm_world.proofs.Histories.{answer_records, history_after_reach}
 use Rattle.warm_world.proofs.Pairs.{Pairwise-nil, Pairwise-of}
@@ -46,7 +47,7 @@ horizon_alone h (Want sender time request) other = refl
 module _ {A : Type 0} (f : A → ReplicaView) (xs : List A) (messages : List (List ℕ)) where
   pub delivered : (m : ModelState) (j k count first : ℕ) (x y : A) (message : Message)
       (answers : List Message) (n : NodeView) (messages' : List (List ℕ))
-      → StandsFor (world f xs messages xs) m
+      → WorldStands (world f xs messages xs) m
       → IsNamed (view_shape (world f xs messages xs)) (Deliver j k)
       → x ≡ get_or xs (index_of_number j) x
       → message ≡ message_kept (record_at m (index_of_number k))
@@ -98,7 +99,7 @@ module _ {A : Type 0} (f : A → ReplicaView) (xs : List A) (messages : List (Li
   -- entries come: they have no answer
   pub taken : (m : ModelState) (j k sender horizon : ℕ) (es : List Entry) (x y : A)
       (message : Message) (answers : List Message) (n : NodeView)
-      → StandsFor (world f xs messages xs) m
+      → WorldStands (world f xs messages xs) m
       → IsNamed (view_shape (world f xs messages xs)) (Deliver j k)
       → x ≡ get_or xs (index_of_number j) x
       → message ≡ message_kept (record_at m (index_of_number k))
@@ -115,7 +116,7 @@ module _ {A : Type 0} (f : A → ReplicaView) (xs : List A) (messages : List (Li
   -- digests or a request come, and their answers are stored: then the horizon rises
   pub raised_after : (m : ModelState) (j k : ℕ) (x y z : A) (message : Message)
       (answers : List Message) (messages' : List (List ℕ)) (answer : Answer)
-      → StandsFor (world f xs messages xs) m
+      → WorldStands (world f xs messages xs) m
       → IsNamed (view_shape (world f xs messages xs)) (Deliver j k)
       → x ≡ get_or xs (index_of_number j) x
       → message ≡ message_kept (record_at m (index_of_number k)) → IsNoEntries message

@@ -13,7 +13,7 @@ use Rattle.warm_pool.specs.State.{IsSettled}
 use Rattle.warm_world.specs.declared.world.World.{World}
 use Rattle.warm_world.specs.Views.{AreSameBut, AreSameFrom, AreSettledBefore, IsSettledBefore, ReplicaView, WorldView, world_view}
 use Rattle.warm_world.specs.States.{ReplicaState, no_replica, replica, set_replica}
-use Rattle.warm_world.specs.Stands.{CountsFailure, ReplicaStands, StandsFor}
+use Rattle.warm_world.specs.Stands.{CountsFailure, ReplicaStands, WorldStands}
 use Rattle.warm_world.proofs.Pairs.{Pairwise-set}
 use Rattle.warm_world.proofs.Worlds.{shown_at, world, world_stays}
 
@@ -103,6 +103,6 @@ fails_stand old new fails m st =
       fails.pool,
       omega (arith, fails.there, st.replicas.same_length),
       subst (λ v. IsFailed v fails.pool) (ap (λ (n : NodeView). n.pool) was.node_is) (fails.failed other),
-      subst (λ w. StandsFor w (set_replica m k after)) (sym (fails.becomes other))
+      subst (λ w. WorldStands w (set_replica m k after)) (sym (fails.becomes other))
           (record { replicas = Pairwise-set (ReplicaStands m.capacity) old.replicas m.replicas k (with_pool r fails.pool) after st.replicas fails.there stands; messages = st.messages }),
     )

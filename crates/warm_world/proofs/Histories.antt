@@ -18,7 +18,7 @@ use Rattle.warm_frames.specs.declared.message.Message.TheVariants.{Digest, Entri
 use Rattle.warm_digest.specs.BucketDigests.{digests_of}
 use Rattle.warm_frames.specs.Chunks.{bucket_messages, chunks}
 use Rattle.warm_gossip.specs.Answers.{AnswersDigests, IsAnswer, requested_buckets, sent, history_after, requested_messages}
-use Rattle.warm_gossip.specs.Chunks.{AreInTurn, last_page}
+use Rattle.warm_gossip.specs.Chunks.{AreAllChunks, last_page}
 use Rattle.warm_gossip.specs.Round.{offer}
 use Rattle.warm_gossip.specs.State.{NodeView}
 use Rattle.warm_gossip.proofs.ChunkLemmas.{chunks_in_turn}
@@ -61,7 +61,7 @@ offers_kept m n message i is node = is ∙ ap (λ (v : NodeView). offer v.id v.h
 -- ---- what a replica answers
 
 chunk_messages : (i : ℕ) (S : ReferenceSet) (bucket : ℕ) (after : Option PageId)
-    (ps : List (List Entry)) → AreInTurn S bucket MAX_ENTRIES after ps
+    (ps : List (List Entry)) → AreAllChunks S bucket MAX_ENTRIES after ps
     → map (λ part. Entries i S.horizon part) ps ≡ map message_kept (records_of i S bucket after ps)
 chunk_messages i S bucket after [] turn = refl
 chunk_messages i S bucket after (chunk ∷ others) turn =

@@ -18,7 +18,7 @@ use Rattle.warm_world.specs.Views.{WorldView}
 use Rattle.warm_world.specs.States.{ModelState, MessageRecord, add_records, record_at, References}
 use Rattle.warm_history.specs.ReferenceSets.{set_of_list}
 use Rattle.warm_world.specs.Next.{Next}
-use Rattle.warm_world.specs.Stands.{EncodesRecord, StandsFor, Stepped, message_kept}
+use Rattle.warm_world.specs.Stands.{EncodesRecord, Stepped, WorldStands, message_kept}
 use Rattle.warm_world.proofs.Pairs.{Pairwise-append, Pairwise-push}
 
 -- one message more is encoded
@@ -40,14 +40,14 @@ encodes_kept bytes message kept is codes = record { encodes = subst (Encodes byt
 
 -- messages are kept after the others
 pub messages_join : (w : WorldView) (m : ModelState) (added : List (List ℕ))
-    (rs : List MessageRecord) → StandsFor w m
+    (rs : List MessageRecord) → WorldStands w m
     → Pairwise (λ _ bytes kept. EncodesRecord bytes kept) added rs
-    → StandsFor (record w { messages = w.messages ++ added }) (add_records m rs)
+    → WorldStands (record w { messages = w.messages ++ added }) (add_records m rs)
 messages_join w m added rs st coded = record { replicas = st.replicas; messages = Pairwise-append EncodesRecord w.messages added m.records rs st.messages coded }
 
 -- what is decoded of the bytes of a number is the message of the record of that number
 pub decoded_is : (w : WorldView) (m : ModelState) (k : ℕ) (vs : List (Vec ℕ)) (v : Vec ℕ)
-    (bytes : List ℕ) (result : Result Message FrameFault) (message : Message) → StandsFor w m
+    (bytes : List ℕ) (result : Result Message FrameFault) (message : Message) → WorldStands w m
     → w.messages ≡ map (λ b. b.items) vs → IsNumber k (length w.messages)
     → v ≡ get_or vs (index_of_number k) v → bytes ≡ v.items → FindsEncoded bytes result
     → result ≡ Ok message → message ≡ message_kept (record_at m (index_of_number k))
@@ -65,7 +65,7 @@ decoded_is w m k vs v bytes result message st are number is same finds found =
 
 -- the message of a record is stored after the others, or refused
 pub kept_one : (w w' : WorldView) (m : ModelState) (event : Event) (message : Message)
-    (answer : Answer) (kept : MessageRecord) → StandsFor w m → message ≡ message_kept kept
+    (answer : Answer) (kept : MessageRecord) → WorldStands w m → message ≡ message_kept kept
     → Keeps w message answer w'
     → ((k : ℕ) (new : ModelState) → k ≡ length new.records → new ≡ add_records m (kept ∷ [])
     → Next m event (FrameNo k) new)
@@ -79,5 +79,5 @@ kept_one w w' m event message (FrameNo k) kept st is keeps next none =
       next = next k (add_records m (kept ∷ [])) number refl;
       stands = rw keeps.3 (record { replicas = st.replicas; messages = Pairwise-push (λ _ b r. EncodesRecord b r) w.messages m.records keeps.0 kept st.messages encodes });
     }
-kept_one w w' m event message (Refused (Node Memory)) kept st is keeps next none = record { new = m; next = none; stands = subst (λ v. StandsFor v m) (sym keeps) st }
+kept_one w w' m event message (Refused (Node Memory)) kept st is keeps next none = record { new = m; next = none; stands = subst (λ v. WorldStands v m) (sym keeps) st }
 kept_one w w' m event message answer kept st is keeps next none = absurd keeps

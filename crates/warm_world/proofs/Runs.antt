@@ -5,7 +5,7 @@ use Rattle.warm_world.specs.declared.event.Event.{Event}
 use Rattle.warm_world.specs.declared.event.Answer.{Answer}
 use Rattle.warm_world.specs.States.{ModelState}
 use Rattle.warm_world.specs.Next.{Next, Run}
-use Rattle.warm_world.specs.Stands.{EachVictim, RunsAreRight, StandsFor, Stepped, Ran}
+use Rattle.warm_world.specs.Stands.{EachVictim, RunsAreRight, WorldStands, Stepped, Ran}
 use Rattle.warm_world.proofs.Victims.{victims_are_farthest}
 use Rattle.warm_world.proofs.Agreement.{histories_are_exact, models_agree, replicas_agree}
 
@@ -33,7 +33,7 @@ runs_are_right old events answers new run = record { agree = models_agree new; v
 
 pub ran_more : (old : ModelState) (events : List Event) (answers : List Answer) (w w' : WorldView)
     (event : Event) (answer : Answer) → Ran old events answers w
-    → ((m : ModelState) → StandsFor w m → Stepped m event answer w')
+    → ((m : ModelState) → WorldStands w m → Stepped m event answer w')
     → Ran old (events ++ event ∷ []) (answers ++ answer ∷ []) w'
 ran_more old events answers w w' event answer ran steps =
     let stepped = steps ran.new ran.stands in
@@ -47,5 +47,5 @@ ran_more old events answers w w' event answer ran steps =
     }
 
 -- before the first event
-pub ran_none : (m : ModelState) (w : WorldView) → StandsFor w m → Ran m [] [] w
+pub ran_none : (m : ModelState) (w : WorldView) → WorldStands w m → Ran m [] [] w
 ran_none m w st = record { new = m; run = refl; stands = st; exact = histories_are_exact w m st; agree = replicas_agree w m st; victims = tt }

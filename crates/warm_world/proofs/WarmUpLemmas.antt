@@ -21,7 +21,7 @@ use Rattle.warm_world.specs.Lists.{index_of_number}
 use Rattle.warm_world.specs.States.{ModelState, ReplicaState, no_replica, no_pool, node_of, pool_of, reach_of, replica}
 use Rattle.warm_world.specs.Views.{ReplicaView, WorldView}
 use Rattle.warm_world.specs.Next.{NodeReplies, IsNamed, Next, Run, shape}
-use Rattle.warm_world.specs.Stands.{ReplicaStands, StandsFor}
+use Rattle.warm_world.specs.Stands.{ReplicaStands, WorldStands}
 use Rattle.warm_world.specs.Rounds.{IsNotRefused}
 use Rattle.warm_world.specs.WarmUps.{ArePools, PoolsDiffer, WarmUpLoads}
 use Rattle.warm_world.proofs.Worlds.{replica_set_at}
@@ -102,7 +102,7 @@ module _ {A : Type 0} (g : A → NodeState) (f : A → ReplicaView)
 
   -- no page of its pools is in two frames
   pub pools_differ : (xs : List A) (messages : List (List ℕ)) (m : ModelState) → ArePools (map g xs)
-      → (let w : WorldView = record { replicas = map f xs; messages = messages } in StandsFor w m)
+      → (let w : WorldView = record { replicas = map f xs; messages = messages } in WorldStands w m)
       → PoolsDiffer m
   pools_differ xs messages m fit stands i =
       let k : ℕ = index_of_number i in

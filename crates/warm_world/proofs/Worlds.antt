@@ -19,27 +19,27 @@ use Rattle.warm_world.specs.Views.{ReplicaView, WorldView}
 use Rattle.warm_world.specs.States.{ModelState, ReplicaState, node_of, no_replica, replica, set_replica}
 use Rattle.warm_world.specs.Next.{NodeReplies, IsMissing, IsNamed, Next, SomeNodeReplies, Shape, call_of, replica_of, reply_of, shape}
 use Rattle.warm_world.specs.Replicas.{SomeReply}
-use Rattle.warm_world.specs.Stands.{ReplicaStands, StandsFor, Stepped, buffered, view_shape}
+use Rattle.warm_world.specs.Stands.{ReplicaStands, Stepped, WorldStands, buffered, view_shape}
 use Rattle.warm_world.proofs.Alone.{IsAlone, replies_alone}
 use Rattle.warm_world.proofs.Calls.{next_of_reply}
 use Rattle.warm_world.proofs.Pairs.{Pairwise-set, Pairwise-map}
 
 -- ---- as many replicas, workers and messages
 
-pub same_shape : (w : WorldView) (m : ModelState) → StandsFor w m → view_shape w ≡ shape m
+pub same_shape : (w : WorldView) (m : ModelState) → WorldStands w m → view_shape w ≡ shape m
 same_shape w m st =
     let workers : map (λ (r : ReplicaView). length r.buffers) w.replicas ≡ map (λ (r : ReplicaState). length r.pending) m.replicas =
     Pairwise-map (ReplicaStands m.capacity) (λ r. length r.buffers) (λ r. length r.pending) w.replicas m.replicas (λ i a b here. ap length here.buffers_are ∙ length-map b.pending (buffered m.capacity)) st.replicas in
     let messages : length w.messages ≡ length m.records = st.messages.same_length in
     cc
 
-pub named_too : (w : WorldView) (m : ModelState) (event : Event) → StandsFor w m
+pub named_too : (w : WorldView) (m : ModelState) (event : Event) → WorldStands w m
     → IsNamed (view_shape w) event → IsNamed (shape m) event
 named_too w m event st named = let P : Shape → Type 0 = λ s. IsNamed s event in subst P (same_shape w m st) named
 
 -- what is named does not exist: the event is refused, and nothing changes
 pub missing_too : (w : WorldView) (m : ModelState) (event : Event) (fault : WorldFault)
-    → StandsFor w m → IsMissing (view_shape w) event fault → Stepped m event (Refused fault) w
+    → WorldStands w m → IsMissing (view_shape w) event fault → Stepped m event (Refused fault) w
 missing_too w m event (Node why) st missing = absurd missing
 missing_too w m event NoSuchReplica st missing = let P : Shape → Type 0 = λ s. IsMissing s event NoSuchReplica in record { new = m; next = (subst P (same_shape w m st) missing, refl); stands = st }
 missing_too w m event NoSuchWorker st missing = let P : Shape → Type 0 = λ s. IsMissing s event NoSuchWorker in record { new = m; next = (subst P (same_shape w m st) missing, refl); stands = st }
@@ -47,7 +47,7 @@ missing_too w m event NoSuchFrame st missing = let P : Shape → Type 0 = λ s. 
 
 -- an allocation failed, and nothing changes
 pub no_memory_still : (w : WorldView) (m : ModelState) (event : Event) (why : NodeFault)
-    → StandsFor w m → why ≡ Memory → Next m event (Refused (Node Memory)) m
+    → WorldStands w m → why ≡ Memory → Next m event (Refused (Node Memory)) m
     → Stepped m event (Refused (Node why)) w
 no_memory_still w m event why st is next = record { new = m; next = subst (λ f. Next m event (Refused (Node f)) m) (sym is) next; stands = st }
 
@@ -105,13 +105,13 @@ module _ {A : Type 0} (f : A → ReplicaView) (xs : List A) (messages : List (Li
   worker_in i w x there is number = omega (arith, number.from_one, number.in_range, workers_at i x there is)
 
   -- the replica at an index stands for that of the model
-  pub stands_at : (m : ModelState) (k : ℕ) (x : A) → StandsFor (world xs) m → k < length xs
+  pub stands_at : (m : ModelState) (k : ℕ) (x : A) → WorldStands (world xs) m → k < length xs
       → x ≡ get_or xs k x → ReplicaStands m.capacity k (f x) (replica m k)
   stands_at m k x st lt is =
       subst (λ r. ReplicaStands m.capacity k r (replica m k)) (shown_at f xs k x (f x) lt is) (st.replicas.each k (f x) no_replica (subst (λ n. k < n) (sym (length-map xs f)) lt))
 
   -- the node of the replica that an event names is that of the model
-  pub node_at : (m : ModelState) (event : Event) (x : A) → StandsFor (world xs) m
+  pub node_at : (m : ModelState) (event : Event) (x : A) → WorldStands (world xs) m
       → IsNamed (view_shape (world xs)) event → x ≡ get_or xs (index_of_number (replica_of event)) x
       → (f x).node ≡ node_of m (replica_of event)
   node_at m event x st named is =
@@ -119,9 +119,10 @@ module _ {A : Type 0} (f : A → ReplicaView) (xs : List A) (messages : List (Li
       let number : k + 1 ≡ replica_of event = omega (arith, named.replica_there.from_one) in
       (stands_at m k x st (place_in event named) is).node_is ∙ ap (λ (i : ℕ). let v : NodeView = record { id = i; history = history (replica m k).reach; pool = (replica m k).pool } in v) number
 
-  pub replica_changes : (m : ModelState) (k : ℕ) (y : A) (r : ReplicaState) → StandsFor (world xs) m
+  pub replica_changes : (m : ModelState) (k : ℕ) (y : A) (r : ReplicaState)
+      → WorldStands (world xs) m
       → k < length xs → ReplicaStands m.capacity k (f y) r
-      → StandsFor (world (set xs k y)) (set_replica m k r)
+      → WorldStands (world (set xs k y)) (set_replica m k r)
   replica_changes m k y r st lt here = record {
     replicas = subst (λ rs. Pairwise (ReplicaStands m.capacity) rs (set m.replicas k r)) (sym (map-set f xs k y))
         (Pairwise-set (ReplicaStands m.capacity) (map f xs) m.replicas k (f y) r st.replicas (subst (λ n. k < n) (sym (length-map xs f)) lt) here);
@@ -130,7 +131,7 @@ module _ {A : Type 0} (f : A → ReplicaView) (xs : List A) (messages : List (Li
 
   -- an event that changes one replica: what that stood for, and what it stands for
   pub changes : (m : ModelState) (event : Event) (answer : Answer) (x y : A) (r : ReplicaState)
-      → StandsFor (world xs) m → IsNamed (view_shape (world xs)) event
+      → WorldStands (world xs) m → IsNamed (view_shape (world xs)) event
       → x ≡ get_or xs (index_of_number (replica_of event)) x
       → (let k : ℕ = index_of_number (replica_of event)
       in ReplicaStands m.capacity k (f x) (replica m k) → ReplicaStands m.capacity k (f y) r)
@@ -147,14 +148,14 @@ module _ {A : Type 0} (f : A → ReplicaView) (xs : List A) (messages : List (Li
       }
 
   -- an event that leaves the replica unchanged
-  pub replica_stays : (m : ModelState) (event : Event) (x y : A) → StandsFor (world xs) m
+  pub replica_stays : (m : ModelState) (event : Event) (x y : A) → WorldStands (world xs) m
       → IsNamed (view_shape (world xs)) event → x ≡ get_or xs (index_of_number (replica_of event)) x
-      → f y ≡ f x → StandsFor (world (set xs (index_of_number (replica_of event)) y)) m
+      → f y ≡ f x → WorldStands (world (set xs (index_of_number (replica_of event)) y)) m
   replica_stays m event x y st named is same = rw (world_stays (index_of_number (replica_of event)) x y (place_in event named) is same) st
 
   -- an event for which an allocation failed, and that leaves the replica unchanged
   pub no_memory : (m : ModelState) (event : Event) (x y : A) (why : NodeFault)
-      → StandsFor (world xs) m → IsNamed (view_shape (world xs)) event
+      → WorldStands (world xs) m → IsNamed (view_shape (world xs)) event
       → x ≡ get_or xs (index_of_number (replica_of event)) x → f y ≡ f x → why ≡ Memory
       → (IsNamed (shape m) event
       → ReplicaStands m.capacity (index_of_number (replica_of event)) (f x)
@@ -169,7 +170,7 @@ module _ {A : Type 0} (f : A → ReplicaView) (xs : List A) (messages : List (Li
   -- unchanged.
   pub asked : (m : ModelState) (event : Event) (call : Call) (reply : Reply) (answer : Answer)
       (x y : A)
-      → StandsFor (world xs) m → IsNamed (view_shape (world xs)) event
+      → WorldStands (world xs) m → IsNamed (view_shape (world xs)) event
       → x ≡ get_or xs (index_of_number (replica_of event)) x
       → (f y).buffers ≡ (f x).buffers → IsAlone (f x).node (f y).node
       → Step (f x).node call reply (f y).node
@@ -193,7 +194,7 @@ module _ {A : Type 0} (f : A → ReplicaView) (xs : List A) (messages : List (Li
 
   asked_if : (m : ModelState) (event : Event) (call : Option Call) (reply : Option Reply)
       (answer : Answer) (x y : A)
-      → StandsFor (world xs) m → IsNamed (view_shape (world xs)) event
+      → WorldStands (world xs) m → IsNamed (view_shape (world xs)) event
       → x ≡ get_or xs (index_of_number (replica_of event)) x
       → (f y).buffers ≡ (f x).buffers → IsAlone (f x).node (f y).node
       → SomeReply (f x).node call reply (f y).node
@@ -206,7 +207,7 @@ module _ {A : Type 0} (f : A → ReplicaView) (xs : List A) (messages : List (Li
   -- The node of the replica that the event names replies to the call that the event makes of it.
   pub asks : (m : ModelState) (event : Event) (i : ℕ) (answer : Answer) (x y : A)
       → i ≡ replica_of event
-      → StandsFor (world xs) m → IsNamed (view_shape (world xs)) event
+      → WorldStands (world xs) m → IsNamed (view_shape (world xs)) event
       → x ≡ get_or xs (index_of_number i) x
       → (f y).buffers ≡ (f x).buffers
       → SomeReply (f x).node (call_of event) (reply_of answer) (f y).node

@@ -59,7 +59,7 @@ pub record EncodesRecord (bytes : List ℕ) (kept : MessageRecord) : Type 0 wher
   pub exact : bytes ≡ encoding (message_kept kept)
 
 -- the world stands for the model state: replica by replica, and message by message
-pub record StandsFor (w : WorldView) (m : ModelState) : Type 0 where
+pub record WorldStands (w : WorldView) (m : ModelState) : Type 0 where
   pub replicas : Pairwise (ReplicaStands m.capacity) w.replicas m.replicas
   pub messages : Pairwise (λ _ bytes kept. EncodesRecord bytes kept) w.messages m.records
 
@@ -75,19 +75,19 @@ pub record Stepped (old : ModelState) (event : Event) (answer : Answer) (w : Wor
     : Type 0 where
   pub new : ModelState
   pub next : Next old event answer new
-  pub stands : StandsFor w new
+  pub stands : WorldStands w new
 
 -- for every model state that the world stood for, the event with this answer leads from it to one
 -- that the world now stands for
 abbrev pub Steps : WorldView → Event → Answer → WorldView → Type 0
-Steps old event answer new = (m : ModelState) → StandsFor old m → Stepped m event answer new
+Steps old event answer new = (m : ModelState) → WorldStands old m → Stepped m event answer new
 
 -- for every model state that the world stood for, it now stands for that state with one more
 -- failure counted at a device of one replica, and nothing else changed
 abbrev pub CountsFailure : WorldView → WorldView → Type 0
-CountsFailure old new = (m : ModelState) → StandsFor old m
+CountsFailure old new = (m : ModelState) → WorldStands old m
     → (k : ℕ) × (pool : PoolView) × (k < length m.replicas) × IsFailed (replica m k).pool pool
-    × StandsFor new (set_replica m k (record (replica m k) { pool = pool }))
+    × WorldStands new (set_replica m k (record (replica m k) { pool = pool }))
 
 -- the history of the replica of a number
 abbrev pub history_of : WorldView → ℕ → HistoryView
@@ -153,15 +153,16 @@ pub record Ran (old : ModelState) (events : List Event) (answers : List Answer) 
     : Type 0 where
   pub new : ModelState
   pub run : Run old events answers new
-  pub stands : StandsFor w new
+  pub stands : WorldStands w new
   pub exact : HistoriesAreExact w new
   pub agree : ReplicasAgree w new
   pub victims : EachVictim old events answers new run
 
 -- for every model state that the world stood for, the events with these answers lead from it to one
 -- that the world now stands for
-abbrev pub Runs : WorldView → List Event → List Answer → WorldView → Type 0
-Runs old events answers new = (m : ModelState) → StandsFor old m → Ran m events answers new
+abbrev pub FollowsModel : WorldView → List Event → List Answer → WorldView → Type 0
+FollowsModel old events answers new = (m : ModelState) → WorldStands old m
+    → Ran m events answers new
 
 -- Laws over runs
 

@@ -9,7 +9,7 @@ use Rattle.warm_world.specs.declared.event.Event.{Event}
 use Rattle.warm_world.specs.declared.event.Event.TheVariants.{WarmStep}
 use Rattle.warm_world.specs.States.{ModelState, pool_of, reach_of}
 use Rattle.warm_world.specs.Views.{WorldView}
-use Rattle.warm_world.specs.Stands.{StandsFor}
+use Rattle.warm_world.specs.Stands.{WorldStands}
 use Rattle.warm_world.specs.Rounds.{NoneRefused}
 
 -- the warm-up of a replica: as many steps as its pool has frames
@@ -27,7 +27,7 @@ PoolsDiffer m = (i : ℕ) → PagesDiffer (pool_of m i)
 
 -- this holds in each state that the world stands for
 abbrev pub ShowsPoolsDiffer : WorldView → Type 0
-ShowsPoolsDiffer w = (m : ModelState) → StandsFor w m → PoolsDiffer m
+ShowsPoolsDiffer w = (m : ModelState) → WorldStands w m → PoolsDiffer m
 
 -- Where no page of the replica is pinned: after a warm-up without a refusal, every page of the
 -- warm-up list, cut to the frames of the pool, that a device has is resident.

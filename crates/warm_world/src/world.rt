@@ -12,8 +12,8 @@ ghost use Rattle.warm_world.specs.Next.{IsNamed, IsMissing};
 ghost use Rattle.warm_world.specs.Replicas.{answered};
 ghost use Rattle.warm_world.specs.Views.{listed, world_view, replica_view};
 ghost use Rattle.warm_world.specs.Views.{AreSameBut, IsAtRest, IsSettledBefore};
-ghost use Rattle.warm_world.specs.Stands.{CountsFailure, ReplicaStands, view_shape, StandsFor};
-ghost use Rattle.warm_world.specs.Stands.{Steps, Runs};
+ghost use Rattle.warm_world.specs.Stands.{CountsFailure, ReplicaStands, view_shape, WorldStands};
+ghost use Rattle.warm_world.specs.Stands.{Steps, FollowsModel};
 
 use crate::event::{Answer, BadWorld, Event, WorldFault, answer_of};
 use crate::pool_events::ask;
@@ -27,7 +27,7 @@ use warm_stamps::{PageId, ReplicaId};
 
 /// Replicas, their workers' buffers, and every message that was sent.
 ///
-/// Contracts describe a world by the model states that it stands for (`StandsFor`): lists of all
+/// Contracts describe a world by the model states that it stands for (`WorldStands`): lists of all
 /// references that reached each replica, that are pending in each buffer, and that each stored
 /// message brings, and the view of each replica's pool.
 ///
@@ -114,7 +114,7 @@ impl<D: PageDevice> World<D> {
     /// dropped.
     pub fn new(alloc: Global, setup: Setup, devices: Vec<Vec<D>>) -> Result<World<D>, BadWorld>
         requires few { AreFew (listed D.state devices.items) }
-        ensures stands { IfOk result (λ world. StandsFor (world_view world)
+        ensures stands { IfOk result (λ world. WorldStands (world_view world)
             (opening setup (listed D.state devices.items))) }
         ensures fitting { OnOk result (AreFitting setup (listed D.state devices.items)) }
         ensures refused { IfErr result (λ why.
@@ -290,7 +290,7 @@ impl<D: PageDevice> World<D> {
     /// are given back, and nothing has happened.
     pub fn run(&mut self, events: Vec<Event>) -> Result<Vec<Answer>, Vec<Event>>
         ensures ran { IfOk result (λ answers.
-            Runs (world_view self.old) events.items answers.items (world_view self.new)) }
+            FollowsModel (world_view self.old) events.items answers.items (world_view self.new)) }
         ensures refused { IfErr result (λ back. (back ≡ events) × (self.new ≡ self.old)) }
     {
         let Ok(mut answers) = Vec::with_capacity(self.alloc, events.len()) else {

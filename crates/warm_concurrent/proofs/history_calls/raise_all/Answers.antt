@@ -1,5 +1,5 @@
 use Rattle.std.proofs.Common.{◌<◌, length, arith}
-use Rattle.warm_concurrent.specs.Whole.{Raises}
+use Rattle.warm_concurrent.specs.Whole.{RaisesShard}
 use Rattle.warm_concurrent.proofs.Firsts.{one_first}
 use Rattle.warm_concurrent.proofs.history_calls.raise_all.Goals as goal
 
@@ -12,6 +12,6 @@ loop-shard-preserved g c =
     let ends = c.in_default.ensures.ends in
     record {
       of = c.raise_in.ensures.passes;
-      first = one_first (Raises c.args.time) k old c.loop-shard.passes.items c.raise_in.new.passes.items lt i.first ends.1 (c.in_default.field-0, ends.0);
+      first = one_first (RaisesShard c.args.time) k old c.loop-shard.passes.items c.raise_in.new.passes.items lt i.first ends.1 (c.in_default.field-0, ends.0);
       count = i.count;
     }

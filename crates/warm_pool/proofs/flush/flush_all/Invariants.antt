@@ -1,5 +1,5 @@
 use Rattle.std.proofs.Common.{◌≡◌, length, map}
-use Rattle.warm_pool.specs.Flushes.{FlushedTo}
+use Rattle.warm_pool.specs.steps.Flushes.{FlushedTo}
 use Rattle.warm_pool.proofs.flush.flush_all.Given as goal
 
 -- the devices so far were flushed

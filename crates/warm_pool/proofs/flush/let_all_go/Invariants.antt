@@ -1,5 +1,5 @@
 use Rattle.std.proofs.Common.{map, vec_len}
-use Rattle.warm_pool.specs.Flushes.{NoneWaits}
+use Rattle.warm_pool.specs.steps.Flushes.{NoneWaits}
 use Rattle.warm_pool.proofs.flush.let_all_go.Given as goal
 
 abbrev pub invariant-loop-device : goal.invariant-loop-device

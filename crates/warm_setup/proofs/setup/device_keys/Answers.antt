@@ -1,4 +1,4 @@
-use Rattle.warm_setup.specs.SetupView.{fields_of}
+use Rattle.warm_setup.specs.SetupView.{device_fields_of}
 use Rattle.warm_setup.specs.Setups.{with_device_key}
 use Rattle.warm_setup.proofs.SetupSteps.{goes_on, stops, passed, is_done}
 use Rattle.warm_setup.proofs.setup.device_keys.Goals as goal
@@ -8,7 +8,8 @@ loop-key-preserved c = goes_on with_device_key _ c.loop-key.key-iterator c.next.
 
 pub returns-in_err-keys : goal.returns-in_err-keys
 returns-in_err-keys c =
-    passed fields_of _ c.from_residual.result c.in_err-keys.field-0.0 c.from_residual.ensures.1
+    passed device_fields_of _ c.from_residual.result c.in_err-keys.field-0.0
+    c.from_residual.ensures.1
     (stops with_device_key _ c.loop-key.key-iterator c.next.new.self c.in-Some.key.now c.in-Some.value.now c.as_str.result.now _ c.in-Some.ensures.steps c.as_str.ensures.value c.loop-key.invariant _ c.in_err-keys.ensures)
 
 pub returns : goal.returns

@@ -1,8 +1,7 @@
 use Rattle.std.proofs.Common.{ap, sym, subst, ◌∙◌, take}
 use Rattle.std.proofs.lemmas.Result.{IfOk-weaker}
 use Rattle.warm_history.specs.Histories.{HistoryView, entries_of, references_of, IsHistory}
-use Rattle.warm_history.specs.Carried.{carried}
-use Rattle.warm_history.specs.Merges.{later_of_bucket}
+use Rattle.warm_history.specs.Carried.{carried, later_of_bucket}
 use Rattle.warm_history.proofs.CarriedLemmas.{history-carried, history_alone}
 use Rattle.warm_history.proofs.JoinLemmas.{history_of_own_references}
 use Rattle.warm_history.proofs.RaiseLemmas.{whole_of}

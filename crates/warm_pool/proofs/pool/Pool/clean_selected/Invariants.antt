@@ -1,5 +1,6 @@
 use Rattle.warm_pool.specs.Calls.{FlushesNone}
-use Rattle.warm_pool.specs.WritingBack.{KeepsUnselected, WritesBack, cleaned_selected}
+use Rattle.warm_pool.specs.WritingBack.{WritesBack, cleaned_selected}
+use Rattle.warm_pool.specs.steps.WritingBack.{KeepsUnselected}
 use Rattle.warm_pool.proofs.pool.Pool.clean_selected.Given as goal
 
 -- the pages of the frames so far were written back, to their devices, and none was flushed

@@ -1,7 +1,7 @@
 use Rattle.std.proofs.Common.{◌≡◌, ◌<◌, ◌∙◌, ℕ, List, ap, refl, length, sym, subst}
 use Rattle.warm_devices.specs.Device.{GivesPage}
 use Rattle.warm_pool.specs.Frames.{nth_frame}
-use Rattle.warm_pool.specs.FrameSteps.{changed_at, loaded_frame}
+use Rattle.warm_pool.specs.frame_table.FrameSteps.{changed_at, loaded_frame}
 use Rattle.warm_pool.specs.State.{PoolState, IsNowhere, nth_device}
 use Rattle.warm_pool.proofs.Loads.{ok_if_no_err, err_if, on_ok, on_err}
 use Rattle.warm_pool.proofs.Arrivals.{spare_keeps}

@@ -1,6 +1,6 @@
 use Rattle.std.proofs.Common.{◌≡◌, ◌<◌, length, sym, subst}
 use Rattle.warm_pool.specs.HandingBack.{HandsBackOne}
-use Rattle.warm_pool.specs.Retiring.{AreUnfixed}
+use Rattle.warm_pool.specs.steps.Retiring.{AreUnfixed}
 use Rattle.warm_pool.specs.State.{IsPool, nth_device}
 use Rattle.warm_pool.proofs.HandedBack.{handed_here}
 use Rattle.warm_pool.proofs.RetireLemmas.{took_in}

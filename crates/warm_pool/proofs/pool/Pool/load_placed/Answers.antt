@@ -1,7 +1,7 @@
 use Rattle.std.proofs.Common.{refl, inl, inr, sym, subst, map, Some, None}
 use Rattle.warm_pool.specs.View.{view_of}
 use Rattle.warm_pool.specs.State.{IsPool}
-use Rattle.warm_pool.specs.PageTable.{IsPlaceOf}
+use Rattle.warm_pool.specs.frame_table.PageTable.{IsPlaceOf}
 use Rattle.warm_pool.specs.Pinning.{Loaded, StaysIn, IsPlaced}
 use Rattle.warm_pool.proofs.PoolSteps.{pool_seen, place_seen, found_there, found_holds, found_nowhere, seen_there, seen_page, seen_generation, seen_resident}
 use Rattle.warm_pool.proofs.Pins.{load_put_refused, stays_put}

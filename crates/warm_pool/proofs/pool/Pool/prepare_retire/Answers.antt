@@ -1,6 +1,6 @@
 use Rattle.std.proofs.Common.{◌∙◌, length, arith, ap, refl, rules, sym, subst}
 use Rattle.std.proofs.lemmas.List.{length-map}
-use Rattle.warm_pool.specs.Retiring.{AreUnfixed}
+use Rattle.warm_pool.specs.steps.Retiring.{AreUnfixed}
 use Rattle.warm_pool.proofs.FlushLemmas.{handed_on}
 use Rattle.warm_pool.proofs.PoolSteps.{of_err}
 use Rattle.warm_pool.proofs.RetireLemmas.{fixed_on, may_retire}

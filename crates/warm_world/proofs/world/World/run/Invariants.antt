@@ -2,13 +2,13 @@ use Rattle.std.proofs.Common.{◌≡◌, ◌≤◌, ◌++◌, length, vec_capaci
 use Rattle.std.specs.Vec.Iter.{into_iter_items}
 use Rattle.warm_world.specs.Views.{world_view}
 use Rattle.warm_world.specs.States.{ModelState}
-use Rattle.warm_world.specs.Stands.{StandsFor, Ran}
+use Rattle.warm_world.specs.Stands.{WorldStands, Ran}
 use Rattle.warm_world.proofs.world.World.run.Given as goal
 
 -- the events so far led to what the world stands for, and there is capacity for all the answers
 abbrev pub invariant-loop-event : goal.invariant-loop-event
 invariant-loop-event g l = record {
-  ran : (m : ModelState) → StandsFor (world_view l.fn.self) m
+  ran : (m : ModelState) → WorldStands (world_view l.fn.self) m
       → Ran m l.yielded l.answers.items (world_view l.self);
   rest : l.yielded ++ into_iter_items l.event-iterator ≡ l.fn.events.items;
   count : length l.answers.items ≡ length l.yielded;

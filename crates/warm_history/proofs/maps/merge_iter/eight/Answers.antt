@@ -1,0 +1,6 @@
+use Rattle.std.proofs.Common.{◌+◌, ◌∙◌, arith}
+use Rattle.warm_history.proofs.maps.MergeIterLemmas.{two_halves}
+use Rattle.warm_history.proofs.maps.merge_iter.eight.Goals as goal
+
+pub returns : goal.returns
+returns c = c.merge_both.ensures ∙ two_halves c.args.maps.now c.args.number 4 (c.args.number + 8) _ _ (omega arith) c.four-one.ensures c.four-other.ensures

@@ -1,6 +1,0 @@
-use Rattle.std.proofs.Common.{◌+◌, ◌∙◌, arith}
-use Rattle.warm_history.proofs.MergeIterLemmas.{two_halves}
-use Rattle.warm_history.proofs.merge_iter.eight.Goals as goal
-
-pub returns : goal.returns
-returns c = c.merge_both.ensures ∙ two_halves c.args.maps.now c.args.number 4 (c.args.number + 8) _ _ (omega arith) c.four-one.ensures c.four-other.ensures

@@ -1,0 +1,71 @@
+-- A history stored in maps from keys.
+use Rattle.std.specs.Prelude.{◌≡◌, ℕ, List, [], ◌∷◌, ◌++◌, map}
+use Rattle.std.specs.List.{AllByRecursion}
+use Rattle.std.specs.Ordering.{match_ordering, nat_cmp, on}
+use Rattle.warm_stamps.specs.declared.Reference.{Reference}
+use Rattle.warm_stamps.specs.Stamps.{page_cmp}
+use Rattle.warm_stamps.specs.Distinct.{IsAscending}
+use Rattle.warm_history.specs.declared.hist.PageHist.{PageHist}
+use Rattle.warm_history.specs.declared.hist.Entry.{Entry}
+use Rattle.warm_history.specs.ReferenceSets.{references_from}
+use Rattle.warm_history.specs.ListHistories.{references_of_entry, list_references_of, list_history}
+use Rattle.warm_history.specs.ListHistories.{IsDescending}
+use Rattle.warm_history.specs.maps.MapKeys.{page_of_key, IsMapKey}
+
+-- the contents of such maps, by key
+abbrev pub MapPairs : Type 0
+MapPairs = List (ℕ × PageHist)
+
+-- the pairs as entries
+abbrev pub as_entries : MapPairs → List Entry
+as_entries pairs = map (λ e. record { page = page_of_key e.0; hist = e.1 }) pairs
+
+-- rising entries with one inserted; it replaces the entry of the same page, if there is one
+abbrev pub put_in : Entry → List Entry → List Entry
+put_in e [] = e ∷ []
+put_in e (x ∷ h) = match_ordering (page_cmp e.page x.page) (e ∷ x ∷ h) (e ∷ h) (x ∷ put_in e h)
+
+-- the entries of a list, in rising page order
+abbrev pub in_page_order : List Entry → List Entry
+in_page_order [] = []
+in_page_order (e ∷ es) = put_in e (in_page_order es)
+
+-- the entries of the pairs, in page order
+abbrev pub kept : MapPairs → List Entry
+kept pairs = in_page_order (as_entries pairs)
+
+-- the invariant of the pairs of a history: they lie at rising valid keys, and the stamps of each
+-- fall
+pub record AreKept (pairs : MapPairs) : Type 0 where
+  pub keys_ascend : IsAscending (on (λ e. e.0) nat_cmp) pairs
+  pub are_keys : AllByRecursion (λ e. IsMapKey e.0) pairs
+  pub stamps_descend : AllByRecursion (λ e. IsDescending e.1) pairs
+
+-- the references of a page's stamps
+abbrev pub references_at : ℕ → PageHist → List Reference
+references_at key h = references_of_entry (record { page = page_of_key key; hist = h })
+
+-- the pairs new hold the entries of old, with these references taken in
+abbrev pub PairsTakeIn : MapPairs → List Reference → MapPairs → Type 0
+PairsTakeIn old rs new = kept new ≡ list_history (list_references_of (kept old) ++ rs)
+
+-- the same, for the stamps of the page at a key
+abbrev pub TakesStamps : MapPairs → ℕ → PageHist → MapPairs → Type 0
+TakesStamps old key h new = PairsTakeIn old (references_at key h) new
+
+-- the same, for what isn't older than the horizon: of the stamps of the page at a key, of the
+-- references of a list, of the entries of a list, or of the entries of other pairs
+abbrev pub TakesRecent : ℕ → MapPairs → ℕ → PageHist → MapPairs → Type 0
+TakesRecent horizon old key h new =
+    PairsTakeIn old (references_from horizon (references_at key h)) new
+
+abbrev pub TakesReferences : ℕ → MapPairs → List Reference → MapPairs → Type 0
+TakesReferences horizon old rs new = PairsTakeIn old (references_from horizon rs) new
+
+abbrev pub TakesEntries : ℕ → MapPairs → List Entry → MapPairs → Type 0
+TakesEntries horizon old es new =
+    PairsTakeIn old (references_from horizon (list_references_of es)) new
+
+abbrev pub TakesPairs : ℕ → MapPairs → MapPairs → MapPairs → Type 0
+TakesPairs horizon old more new =
+    PairsTakeIn old (references_from horizon (list_references_of (kept more))) new

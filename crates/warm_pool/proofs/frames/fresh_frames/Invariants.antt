@@ -1,6 +1,0 @@
-use Rattle.std.proofs.Common.{◌≡◌, replicate}
-use Rattle.warm_pool.specs.Frames.{fresh_body}
-use Rattle.warm_pool.proofs.frames.fresh_frames.Given as goal
-
-abbrev pub invariant-loop : goal.invariant-loop
-invariant-loop l = l.made.items ≡ replicate l.counter (fresh_body (replicate l.page_size 0))
