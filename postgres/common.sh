@@ -1,4 +1,4 @@
-# What check and measure share. Sourced, with $here the folder of the extension and $library a path of libwarm_c.a.
+# What the scripts of this folder share. Sourced, with $here the folder of the extension and $library a path of libwarm_c.a.
 #
 # The servers are of a copy of PostgreSQL in a folder of its own, into which the extension is installed: programs of PostgreSQL look for
 # their files beside themselves. They listen on a socket in that folder, and on no address. It is Debian's PostgreSQL 15, or that of PG_CONFIG.
@@ -85,7 +85,24 @@ port() {
     fail "there is no server $1"
 }
 
-start() { as "$bin/pg_ctl" -D "$work/$1" -w -s -l "$work/$1.log" start > /dev/null 2>&1 || fail "$1 does not start: $(tail -n 20 "$work/$1.log")"; }
+# start SERVER: with test/slow.c, where $preload has its path.
+start() {
+    LD_PRELOAD=${preload:-${LD_PRELOAD:-}} SLOW=$work/slow as "$bin/pg_ctl" -D "$work/$1" -w -s -l "$work/$1.log" start > /dev/null 2>&1 ||
+        fail "$1 does not start: $(tail -n 20 "$work/$1.log")"
+}
+
+# slow PLACE NUMBER: one of the numbers of test/slow.c.
+slow() {
+    [ -e "$work/slow" ] || as dd if=/dev/zero of="$work/slow" bs=4096 count=1 status=none
+    perl -e 'print pack("Q", shift)' "$2" | as dd of="$work/slow" bs=8 seek="$1" conv=notrunc status=none
+}
+
+# make_slow: test/slow.c, and its numbers, all 0.
+make_slow() {
+    [ -e "$work/slow.so" ] || gcc -shared -fPIC -O1 "$work/build/test/slow.c" -o "$work/slow.so" || fail "slow.c"
+    slow 0 0
+}
+
 stop() { as "$bin/pg_ctl" -D "$work/$1" -w -s -m "${2:-fast}" stop > /dev/null; }
 promote() { as "$bin/pg_ctl" -D "$work/$1" -w -s promote > /dev/null; }
 
@@ -175,18 +192,19 @@ explain() {
     } >&2
 }
 
-# load SERVER TRANSACTIONS SEED SEED2 [RATE]: by four clients. Rows are drawn by Zipf's law; seed2 says which are hot for a third of them.
+# load SERVER TRANSACTIONS SEED SEED2 [RATE [OPTION..]]: by four clients. Rows are drawn by Zipf's law; seed2 says which are hot for a third of them.
+# The options are pgbench's.
 load() {
     as "$bin/pgbench" -n -h "$work/run" -p "$(port "$1")" -c 4 -j 1 -t $(($2 / 4)) ${5:+-R "$5"} --random-seed="$3" -D rows="$rows" -D zipf="$zipf" \
-        -D seed2="$4" -f "$work/build/test/zipf.sql@65" -f "$work/build/test/drift.sql@30" -f "$work/build/test/update.sql@${UPDATES:-5}" postgres \
+        -D seed2="$4" -f "$work/build/test/zipf.sql@65" -f "$work/build/test/drift.sql@30" -f "$work/build/test/update.sql@${UPDATES:-5}" "${@:6}" postgres \
         > "$work/load-$1.log" 2>&1 || fail "the load on $1: $(tail -n 3 "$work/load-$1.log")"
 }
 
-# misses SERVER: pages that the workload read into shared buffers so far.
-misses() {
-    sql "$1" "select coalesce(sum(shared_blks_read), 0) from pg_stat_statements
-              where query like 'SELECT abalance%' or query like 'UPDATE pgbench%'"
-}
+# The statements of a load, which begin with a word in capitals, as those of these scripts do not.
+of_load="query ~ '^(SELECT|INSERT|UPDATE) '"
+
+# misses SERVER: pages that the load read into shared buffers so far.
+misses() { sql "$1" "select coalesce(sum(shared_blks_read), 0) from pg_stat_statements where $of_load"; }
 
 tests=0
 

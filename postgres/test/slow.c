@@ -35,9 +35,11 @@ open_numbers(void)
 int
 posix_fadvise(int fd, off_t at, off_t length, int advice)
 {
+	int			(*real) (int, off_t, off_t, int) = dlsym(RTLD_NEXT, "posix_fadvise");
+
 	if (numbers != NULL && advice == POSIX_FADV_WILLNEED)
 		__atomic_fetch_add(&numbers[0], 1, __ATOMIC_RELAXED);
-	return 0;
+	return real(fd, at, length, advice);
 }
 
 /* A number, or 0 where the file's path has not this part. */

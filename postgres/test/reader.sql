@@ -1,0 +1,2 @@
+\set back random(0, 80000)
+SELECT payload FROM events WHERE id = :customers - :back;
