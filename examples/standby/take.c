@@ -178,19 +178,27 @@ bool take_source(source *primary, const char *from) {
 
 /* ---- files ---- */
 
+/* Whether SQLite looks at what is in a journal or in a WAL. It begins a journal with zeros, until the transaction may have to be rolled back and
+ * again once it is over. */
+static bool is_in_use(int fd, const char *path) {
+    uint8_t first = 0;
+    take_must(pread(fd, &first, 1, 0) >= 0, path);
+    return first != 0;
+}
+
 /* The last bytes of a journal of a transaction over several databases: the length of a name, which is before them, a sum of its bytes,
  * and what a journal begins with, too. */
 enum { MAGIC = 8, NAMED = 16 };
 
 static const uint8_t journal_magic[MAGIC] = {0xd9, 0xd5, 0x05, 0xf9, 0x20, 0xa1, 0x63, 0xd7};
 
-/* Whether a journal that is in use names a super-journal. Its end alone does not say so: one that is used no more may still have it. */
+/* Whether a journal that is in use names a super-journal. Its end alone does not say so: the name may have come before the use. */
 static bool names_super_journal(int journal, const char *path) {
-    uint8_t first[MAGIC], last[NAMED];
+    uint8_t last[NAMED];
     struct stat about;
     take_must(fstat(journal, &about) == 0, path);
-    if (pread(journal, first, MAGIC, 0) != MAGIC || memcmp(first, journal_magic, MAGIC) != 0) return false;
-    if (about.st_size < MAGIC + NAMED || pread(journal, last, NAMED, about.st_size - NAMED) != NAMED) return false;
+    if (!is_in_use(journal, path) || about.st_size <= NAMED) return false;
+    take_must(pread(journal, last, NAMED, about.st_size - NAMED) == NAMED, path);
     uint32_t length = (uint32_t)last[0] << 24 | (uint32_t)last[1] << 16 | (uint32_t)last[2] << 8 | last[3];
     return memcmp(last + NAMED - MAGIC, journal_magic, MAGIC) == 0 && length > 0 && length <= about.st_size - NAMED;
 }
@@ -228,18 +236,19 @@ static void sync_folder_of(const char *path) {
     sqlite3_free(copy);
 }
 
-/* The journal or the WAL, under the name that DB will have, or none there where the primary has none. */
+/* The journal or the WAL, under the name that DB will have, or none there where the primary has none in use. One that is not in use may end with
+ * the name of a super-journal, and SQLite writes the next journal of DB over its beginning: it would take that for one of several databases. */
 static void take_beside(const char *from, const char *db, const char *end) {
     char *source_path = joined(from, end), *to = joined(db, end), *draft = joined(to, ".draft");
     int source = open(source_path, O_RDONLY | O_CLOEXEC);
     take_must(source >= 0 || errno == ENOENT, source_path);
-    if (source < 0) {
-        take_must(unlink(to) == 0 || errno == ENOENT, to);
-    } else {
+    if (source >= 0 && is_in_use(source, source_path)) {
         copy_file(source, draft);
         take_must(rename(draft, to) == 0, to);
-        close(source);
+    } else {
+        take_must(unlink(to) == 0 || errno == ENOENT, to);
     }
+    if (source >= 0) close(source);
     sqlite3_free(source_path);
     sqlite3_free(to);
     sqlite3_free(draft);

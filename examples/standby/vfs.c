@@ -143,6 +143,7 @@ static int open_pool(const char *path, pool_file **opened) {
     return status == WARM_MEMORY ? SQLITE_NOMEM : SQLITE_CANTOPEN;
 }
 
+/* One pool may wait for its file. Any thread that opens a file looks for it, so both are read and written under the mutex. */
 static pool_file *prepared;
 static char *prepared_path;
 
@@ -155,20 +156,30 @@ static char *full_path(const char *path) {
     return NULL;
 }
 
+/* False where another pool waits. The look and the change are one: two threads may come at once. */
+static bool set_prepared(pool_file *pool, char *path) {
+    sqlite3_mutex_enter(list_mutex());
+    bool is_only = prepared == NULL;
+    if (is_only) {
+        prepared = pool;
+        prepared_path = path;
+    }
+    sqlite3_mutex_leave(list_mutex());
+    return is_only;
+}
+
 int pool_vfs_prepare(const char *now_at, const char *path, pool_file **pool) {
-    if (prepared != NULL) return SQLITE_MISUSE;
+    pool_file *made = NULL;
     char *full = full_path(path);
     if (full == NULL) return SQLITE_CANTOPEN;
-    int result = open_pool(now_at, pool);
-    if (result != SQLITE_OK) {
-        free(full);
-        return result;
+    int result = open_pool(now_at, &made);
+    if (result == SQLITE_OK && !set_prepared(made, full)) {
+        close_pool(made);
+        result = SQLITE_MISUSE;
     }
-    sqlite3_mutex_enter(list_mutex());
-    prepared = *pool;
-    prepared_path = full;
-    sqlite3_mutex_leave(list_mutex());
-    return SQLITE_OK;
+    if (result == SQLITE_OK) *pool = made;
+    else free(full);
+    return result;
 }
 
 /* The pool that was prepared for this path, once. */

@@ -20,7 +20,7 @@ int pool_vfs_register(uint16_t replica, size_t frames);
 /* Makes the pool of a database file before SQLite opens it: a standby's pool hears gossip and warms up so. The file is at one path now, and
  * is renamed to the other one before the next sqlite3_open of that by the VFS "warm", which takes the pool over, and closes it in the end;
  * where another file is there by then it is refused. The pool is of the calling thread, and so is the connection. Answers an SQLite
- * result. */
+ * result: SQLITE_MISUSE while another pool waits for its file. */
 int pool_vfs_prepare(const char *now_at, const char *path, pool_file **pool);
 
 /* The pool of a connection's main database, or NULL where it was opened by another VFS. */

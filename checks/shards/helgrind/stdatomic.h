@@ -18,13 +18,21 @@
 enum { ATOMIC_LOCKS = 4096 };
 __attribute__((weak)) pthread_mutex_t atomic_locks[ATOMIC_LOCKS];
 
-#define WITH_LOCK(at, operation)                                                           \
-    __extension__({                                                                        \
-        pthread_mutex_t *its_lock = &atomic_locks[((uintptr_t)(at) >> 1) % ATOMIC_LOCKS];  \
-        pthread_mutex_lock(its_lock);                                                      \
-        __auto_type its_result = (operation);                                              \
-        pthread_mutex_unlock(its_lock);                                                    \
-        its_result;                                                                        \
+/* Functions: below this file tests give the names of pthread.h to functions of their own. */
+static inline pthread_mutex_t *lock_atomic(const volatile void *at) {
+    pthread_mutex_t *its_lock = &atomic_locks[((uintptr_t)at >> 1) % ATOMIC_LOCKS];
+    pthread_mutex_lock(its_lock);
+    return its_lock;
+}
+
+static inline void unlock_atomic(pthread_mutex_t *its_lock) { pthread_mutex_unlock(its_lock); }
+
+#define WITH_LOCK(at, operation)                        \
+    __extension__({                                     \
+        pthread_mutex_t *its_lock = lock_atomic(at);    \
+        __auto_type its_result = (operation);           \
+        unlock_atomic(its_lock);                        \
+        its_result;                                     \
     })
 
 #define WITH_VALUE(at, value, operation)        \
