@@ -1,7 +1,7 @@
 /*
- * callers.h: for reads_test.c, stale_reads_test.c and writes_test.c, over fake_library.h: threads
- * that make one call each, by handles of their own, and reads that a test stops. A test that hangs
- * is ended by an alarm.
+ * callers.h: for reads_test.c, stale_reads_test.c, waits_test.c and writes_test.c, over
+ * fake_library.h: threads that make one call each, by handles of their own, and reads and writes
+ * that a test stops. A test that hangs is ended by an alarm.
  */
 #ifndef CALLERS_H
 #define CALLERS_H
@@ -182,6 +182,47 @@ static inline bool has_failure(warm *handle) {
 
 static inline void unpin(int number) {
     OK(warm_unpin(&callers[number].handle, callers[number].slot));
+}
+
+/* ---- writes that a test stops ---- */
+
+/* Bit i: the next write of page i of the first device waits; has begun so; and may end. */
+static _Atomic uint64_t stopped_writes, begun_writes, ended_writes;
+
+static inline uint64_t bit(uint64_t no) { return UINT64_C(1) << no; }
+
+static inline void stop_write(int fd, off_t at) {
+    uint64_t this = bit((uint64_t)at);
+    if (fd != 10 || (atomic_fetch_and(&stopped_writes, ~this) & this) == 0) return;
+    atomic_fetch_or(&begun_writes, this);
+    while ((atomic_load(&ended_writes) & this) == 0) sched_yield();
+}
+
+static inline void stop_writes_of(uint64_t pages) {
+    stopped_writes = pages;
+    begun_writes = ended_writes = 0;
+    at_write = stop_write;
+}
+
+static inline void until_written(uint64_t pages) {
+    while ((atomic_load(&begun_writes) & pages) != pages) sched_yield();
+}
+
+static inline void end_writes(uint64_t pages) { atomic_fetch_or(&ended_writes, pages); }
+
+/* A replica of one shard, whose frames have dirty pages, from 0 on. */
+static inline void open_dirty(size_t frames) {
+    open_all(1, frames);
+    for (uint64_t no = 0; no < frames; no++) write_to(&first, page_at(no), 'd');
+    for (uint64_t no = 0; no < frames; no++) in_files[10][no] = 'o';
+    stop_writes_of(0);
+    reads = 0;
+}
+
+static inline bool is_dirty(uint64_t no) {
+    bool dirty;
+    OK(node_dirty(&((opened *)first.at)->shards[0].node, (node_page){.no = no}, &dirty));
+    return dirty;
 }
 
 #endif

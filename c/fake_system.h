@@ -173,14 +173,22 @@ static int test_cond_destroy(pthread_cond_t *made) {
     return pthread_cond_destroy(made);
 }
 
-/* How many threads wait. */
-static atomic_int waiting_now;
+/* How many threads wait, and how often one began to; and what a test does once a thread that
+ * waited was woken, before it has the lock again: other threads may do that. */
+static atomic_int waiting_now, waits;
+static void (*at_wake)(void);
 
 static int test_cond_wait(pthread_cond_t *of, pthread_mutex_t *lock) {
     held--;
     waiting_now++;
+    waits++;
     int status = pthread_cond_wait(of, lock);
     waiting_now--;
+    if (at_wake != NULL) {
+        pthread_mutex_unlock(lock);
+        at_wake();
+        pthread_mutex_lock(lock);
+    }
     held++;
     return status;
 }

@@ -57,12 +57,23 @@ static int write_by_node(shard *in, node_page page) {
     return failed.error != 0 ? failed.error : EIO;
 }
 
-/* Writes a page that is dirty, and that nobody writes. */
+/* Writes a page that is dirty, and that others may change and write meanwhile, as often as they
+ * like. What is owed is a write that has copied the page since the call began:
+ *  - A write that is under way may have copied it before. Where the page is dirty after that write,
+ *    as it failed, or the page was changed, it is written here.
+ *  - Unless another call was first: that write has begun since, so what comes of it is what comes
+ *    of this call, and the page may be dirty after it. No third one is waited for.
+ * A page that has left its frame meanwhile was written to leave. */
 static void write_page(opened *its, shard *in, node_page page, bool is_locked, walk *of) {
-    int error;
-    if (!is_locked || !write_outside(its, in, page, &error)) error = write_by_node(in, page);
-    if (error == 0) of->written++;
-    else add_unwritten(its, page, error, &of->status);
+    bool is_dirty = true;
+    int error = 0;
+    if (wait_for_write(in, page, &error)) node_dirty(&in->node, page, &is_dirty);
+    if (!is_dirty) return;
+    bool is_by_other = wait_for_write(in, page, &error);
+    if (!is_by_other && (!is_locked || !write_outside(its, in, page, &error)))
+        error = write_by_node(in, page);
+    if (error != 0) add_unwritten(its, page, error, &of->status);
+    else if (!is_by_other) of->written++;
 }
 
 /* The first dirty page in this frame or behind it, and its frame. */
@@ -82,15 +93,13 @@ static bool is_meant_by(walk *of, const shard *in, node_page page) {
 
 /* Looks at one frame after another, from this one until the end, and leaves the shard while a page
  * is written: so a page that is dirty at the call is written, by this call or another one, as it
- * keeps its frame until then. One that another call writes may be dirty after that. One that cannot
- * be written keeps back no other. Returns the frame to go on with. */
+ * keeps its frame until then. One that cannot be written keeps back no other. Returns the frame to
+ * go on with. */
 static size_t write_between(
     opened *its, shard *in, bool is_locked, walk *of, size_t frame, size_t end) {
     node_page page;
     while (of->written < of->limit && next_dirty(in, &frame, &page) && frame < end) {
-        bool is_meant = is_meant_by(of, in, page);
-        if (is_meant && wait_for_write(in, page)) continue; /* the frame is looked at again */
-        if (is_meant) write_page(its, in, page, is_locked, of);
+        if (is_meant_by(of, in, page)) write_page(its, in, page, is_locked, of);
         frame++;
     }
     return frame;
@@ -157,11 +166,10 @@ int warm_write_back_page(warm *handle, warm_page page, bool *written) {
     if (its == NULL) return WARM_CLOSED;
     shard *in = shard_of(its, its_page);
     bool is_locked = enter(its, in);
-    while (wait_for_write(in, its_page)) continue;
     node_dirty(&in->node, its_page, &is_dirty);
     if (is_dirty) write_page(its, in, its_page, is_locked, &of);
     leave(in, is_locked);
-    if (of.status == WARM_OK) *written = is_dirty;
+    if (of.status == WARM_OK) *written = of.written > 0;
     return status_of(its, &of);
 }
 

@@ -16,10 +16,14 @@ static void begin_write(shard *in, writing *it) {
     in->writes = it;
 }
 
-static void end_write(shard *in, writing *it) {
+static void end_write(shard *in, writing *it, int error) {
     writing **place = &in->writes;
     while (*place != it) place = &(*place)->next;
     *place = it->next;
+    for (write_waiter *at = it->waiters; at != NULL; at = at->next) {
+        at->is_over = true;
+        at->error = error;
+    }
     if (it->is_awaited) pthread_cond_broadcast(&in->call_over);
 }
 
@@ -64,10 +68,14 @@ void note_change(writing *at) {
     if (at != NULL) at->is_changed = true;
 }
 
-bool wait_for_write(shard *in, node_page page) {
+bool wait_for_write(shard *in, node_page page, int *error) {
     writing *at = write_of_page(in, page);
-    if (at != NULL) await_write(in, at);
-    return at != NULL;
+    if (at == NULL) return false;
+    write_waiter own = {.next = at->waiters};
+    at->waiters = &own;
+    while (!own.is_over) await_write(in, at);
+    *error = own.error;
+    return true;
 }
 
 void wait_for_any_write(shard *in) {
@@ -135,7 +143,7 @@ bool write_outside(opened *its, shard *in, node_page page, int *error) {
     begin_write(in, &it);
     *error = copy_page(its, in, &it, number);
     if (*error == 0) *error = put_copy(its, in, &it, number);
-    end_write(in, &it);
+    end_write(in, &it, *error);
     if (*error == 0) tell_node(its, in, &it, number);
     else count_failed_write(its, page.dev);
     node_unpin(&in->node, it.slot);

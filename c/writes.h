@@ -7,7 +7,8 @@
  * shard again, takes the page from the list, and tells the node of the write, before the shard is
  * left again. So the page is dirty until it is on its device. While the list has a page:
  *  - It keeps its frame. Who needs a frame, and finds none but such ones, waits (shards.c).
- *  - Nobody else writes it: who wants to waits, and then looks again whether it is dirty.
+ *  - Nobody else writes it: who wants to waits for that write, and then looks again whether the
+ *    page is dirty (write_page of write_back.c).
  *  - What is written is what before_write was asked about: who is about to change the page waits
  *    until it is copied. It is copied after before_write, which may have taken the page's latch.
  *  - If it is changed after that, it is dirty afterwards, too.
@@ -16,7 +17,8 @@
  *
  * An entry of the list is on the stack of the call that writes, which waits for nobody before it
  * has taken the entry from the list: so whoever waits for one waits for a device, or for the
- * engine's functions, alone. A handle that is alone meets no other one here: its nodes write.
+ * engine's functions, alone. It is told when that write is over, and what came of it: later ones of
+ * the page do not keep it. A handle that is alone meets no other one here: its nodes write.
  */
 #ifndef WRITES_H
 #define WRITES_H
@@ -26,6 +28,13 @@
 struct opened;
 struct shard;
 
+/* Who waits for a write, on the stack of its call. Who is in the shard reads and changes it. */
+typedef struct write_waiter {
+    bool is_over;
+    int error; /* what came of the write then, as write_outside says it */
+    struct write_waiter *next;
+} write_waiter;
+
 /* A page that is being written. Who is in the shard reads and changes it. */
 typedef struct writing {
     node_page page;
@@ -33,6 +42,7 @@ typedef struct writing {
     bool is_asked;   /* before_write is asked, and the page is not copied */
     bool is_changed; /* since it was copied */
     bool is_awaited; /* somebody waits until it is copied, or is over */
+    write_waiter *waiters;
     struct writing *next;
 } writing;
 
@@ -54,8 +64,9 @@ bool may_change(struct shard *in, writing *at);
 /* Notes that it was changed: a call that is refused leaves it as it was. */
 void note_change(writing *at);
 
-/* Waits until a page is written, where somebody writes it, and returns whether it was so. */
-bool wait_for_write(struct shard *in, node_page page);
+/* Whether somebody writes a page: then waits for that write, and for no later one, and writes what
+ * came of it. */
+bool wait_for_write(struct shard *in, node_page page, int *error);
 
 /* Waits until one of the pages is written that are being written. */
 void wait_for_any_write(struct shard *in);

@@ -6,47 +6,6 @@
  */
 #include "callers.h"
 
-/* ---- writes that a test stops ---- */
-
-/* Bit i: the next write of page i of the first device waits; has begun so; and may end. */
-static _Atomic uint64_t stopped_writes, begun_writes, ended_writes;
-
-static uint64_t bit(uint64_t no) { return UINT64_C(1) << no; }
-
-static void stop_write(int fd, off_t at) {
-    uint64_t this = bit((uint64_t)at);
-    if (fd != 10 || (atomic_fetch_and(&stopped_writes, ~this) & this) == 0) return;
-    atomic_fetch_or(&begun_writes, this);
-    while ((atomic_load(&ended_writes) & this) == 0) sched_yield();
-}
-
-static void stop_writes_of(uint64_t pages) {
-    stopped_writes = pages;
-    begun_writes = ended_writes = 0;
-    at_write = stop_write;
-}
-
-static void until_written(uint64_t pages) {
-    while ((atomic_load(&begun_writes) & pages) != pages) sched_yield();
-}
-
-static void end_writes(uint64_t pages) { atomic_fetch_or(&ended_writes, pages); }
-
-/* A replica of one shard, whose frames have dirty pages, from 0 on. */
-static void open_dirty(size_t frames) {
-    open_all(1, frames);
-    for (uint64_t no = 0; no < frames; no++) write_to(&first, page_at(no), 'd');
-    for (uint64_t no = 0; no < frames; no++) in_files[10][no] = 'o';
-    stop_writes_of(0);
-    reads = 0;
-}
-
-static bool is_dirty(uint64_t no) {
-    bool dirty;
-    OK(node_dirty(&((opened *)first.at)->shards[0].node, (node_page){.no = no}, &dirty));
-    return dirty;
-}
-
 /* ---- what goes on meanwhile ---- */
 
 /* A page that is being written is found in its frame, also to pin and read it, and so is any other
@@ -498,62 +457,6 @@ static void test_passing_over(void) {
 
 /* ---- who waits ---- */
 
-/* Who meets a page that another call writes waits, and does not write it where it is clean then; it
- * does where it is dirty. */
-static bool is_first_try(node_page page) {
-    if (page.no != 0) return false;
-    is_stuck = NULL;
-    return true;
-}
-
-static void two_writers(int call, bool fails, bool is_changed) {
-    open_dirty(2);
-    if (fails) is_stuck = is_first_try;
-    stop_writes_of(bit(0));
-    begin(0, WRITES_ONE, page_at(0));
-    until_written(bit(0));
-    if (is_changed) write_to(&first, page_at(0), 'c');
-    begin(1, call, page_at(0));
-    until_waiting(1);
-    not_over(1);
-    MUST(syncs == 0);
-    end_writes(bit(0));
-    MUST(end(0) == (fails ? WARM_WRITE_FAULT : WARM_OK) && end(1) == WARM_OK);
-    bool is_again = fails || is_changed;
-    MUST(!is_dirty(0) && written_locked == 0 && in_files[10][0] == (is_changed ? 'c' : 'd'));
-    MUST(put == 1 + (call != WRITES_ONE) + (is_changed && !fails));
-    if (call == WRITES_ONE) MUST(callers[1].found == is_again);
-    MUST(syncs == (call >= WRITES_ALL) && !has_failure(&callers[1].handle));
-    MUST(has_failure(&callers[0].handle) == fails);
-    close_all();
-}
-
-static void test_two_writers(void) {
-    for (int call = WRITES_ONE; call <= FLUSHES; call++)
-        for (int way = 0; way < 4; way++) two_writers(call, way % 2 == 1, way > 1);
-}
-
-/* A flush waits for a page that another call writes to have its frame, and syncs after that. */
-static void must_be_written(int fd) { MUST(fd == 10 && in_files[10][0] == 'd'); }
-
-static void test_flush_behind_a_miss(void) {
-    open_dirty(2);
-    OK(warm_write_back_page(&first, page_at(1), &callers[0].found));
-    stop_writes_of(bit(0));
-    begin(0, PINS, page_at(5));
-    until_written(bit(0));
-    OK(warm_flush_device(&first, 1)); /* which has no such page */
-    begin(1, FLUSHES, page_at(0));
-    until_waiting(1);
-    not_over(1);
-    MUST(syncs == 0);
-    at_sync = must_be_written;
-    end_writes(bit(0));
-    MUST(end(1) == WARM_OK && end(0) == WARM_OK && syncs == 1 && put == 2 && at_sync == NULL);
-    unpin(0);
-    close_all();
-}
-
 /* Who forgets pages, or replaces their device, waits until none of them is written, and is not told
  * that it is pinned. Meanwhile a page that is to be written is written with the shard locked. */
 static void leaving_meanwhile(int call) {
@@ -827,8 +730,6 @@ int main(void) {
     test_copy_after_asking();
     test_changes_while_asked();
     test_passing_over();
-    test_two_writers();
-    test_flush_behind_a_miss();
     test_leaving_meanwhile();
     test_leaving_two();
     test_no_other_frame();

@@ -21,8 +21,9 @@
    after another; warm_forget_pages and warm_replace lock all at once, and wait for reads and writes
    of their pages. A pin of a page pinned twice since it was loaded, and its unpin, usually take no
    lock, for 8 pages of a handle at a time. A call waits for a page that another call reads, or
-   writes if it would write it, too; if that fails, it does so itself. The calls on a shard have one
-   order; a call on several shards is not one step.
+   writes if it would write it, too; if that fails, it does so itself. It waits for at most two
+   writes of a page, and fails as the second one does. The calls on a shard have one order; a call
+   on several shards is not one step.
 
    You may pass any slot, page, number, length, message or descriptor: the call is refused, or does
    what its description says. The library starts no thread.
@@ -303,7 +304,7 @@ int warm_write_back_all(warm *handle);
    Refused, with left unchanged, though pages may be written: WARM_WRITE_FAULT, WARM_SKIPPED. */
 int warm_write_back_some(warm *handle, size_t limit, size_t *left);
 
-/* Writes a page if it is dirty, and says whether it was; flushes nothing.
+/* Writes a page if it is dirty, and says whether it did; flushes nothing.
    Refused: WARM_WRITE_FAULT, WARM_SKIPPED. */
 int warm_write_back_page(warm *handle, warm_page page, bool *written);
 

@@ -100,7 +100,7 @@ impl Handle {
         Ok(left)
     }
 
-    /// Writes a page where it is in a frame and dirty, flushes nothing, and returns whether it was.
+    /// Writes a page where it is in a frame and dirty, flushes nothing, and returns whether it did.
     ///
     /// Refused: [`Error::WriteFault`], [`Error::Skipped`].
     pub fn write_back_page(&self, page: Page) -> Result<bool> {

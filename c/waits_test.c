@@ -1,0 +1,158 @@
+/*
+ * Tests for whom a write-back waits (write_back.c, writes.c), over fake_library.h: for a write of
+ * another call that is under way, and for one that has begun since, and for no third one, however
+ * often other threads change the page and write it.
+ */
+#include "callers.h"
+
+/* ---- one write ---- */
+
+/* Who meets a page that another call writes waits, and does not write it where it is clean then; it
+ * does where it is dirty. */
+static bool is_first_try(node_page page) {
+    if (page.no != 0) return false;
+    is_stuck = NULL;
+    return true;
+}
+
+static void two_writers(int call, bool fails, bool is_changed) {
+    open_dirty(2);
+    if (fails) is_stuck = is_first_try;
+    stop_writes_of(bit(0));
+    begin(0, WRITES_ONE, page_at(0));
+    until_written(bit(0));
+    if (is_changed) write_to(&first, page_at(0), 'c');
+    begin(1, call, page_at(0));
+    until_waiting(1);
+    not_over(1);
+    MUST(syncs == 0);
+    end_writes(bit(0));
+    MUST(end(0) == (fails ? WARM_WRITE_FAULT : WARM_OK) && end(1) == WARM_OK);
+    bool is_again = fails || is_changed;
+    MUST(!is_dirty(0) && written_locked == 0 && in_files[10][0] == (is_changed ? 'c' : 'd'));
+    MUST(put == 1 + (call != WRITES_ONE) + (is_changed && !fails));
+    if (call == WRITES_ONE) MUST(callers[1].found == is_again);
+    MUST(syncs == (call >= WRITES_ALL) && !has_failure(&callers[1].handle));
+    MUST(has_failure(&callers[0].handle) == fails);
+    close_all();
+}
+
+static void test_two_writers(void) {
+    for (int call = WRITES_ONE; call <= FLUSHES; call++)
+        for (int way = 0; way < 4; way++) two_writers(call, way % 2 == 1, way > 1);
+}
+
+/* A flush waits for a page that another call writes to have its frame, and syncs after that. */
+static void must_be_written(int fd) { MUST(fd == 10 && in_files[10][0] == 'd'); }
+
+static void test_flush_behind_a_miss(void) {
+    open_dirty(2);
+    OK(warm_write_back_page(&first, page_at(1), &callers[0].found));
+    stop_writes_of(bit(0));
+    begin(0, PINS, page_at(5));
+    until_written(bit(0));
+    OK(warm_flush_device(&first, 1)); /* which has no such page */
+    begin(1, FLUSHES, page_at(0));
+    until_waiting(1);
+    not_over(1);
+    MUST(syncs == 0);
+    at_sync = must_be_written;
+    end_writes(bit(0));
+    MUST(end(1) == WARM_OK && end(0) == WARM_OK && syncs == 1 && put == 2 && at_sync == NULL);
+    unpin(0);
+    close_all();
+}
+
+/* ---- one write after another ---- */
+
+/* A thread changes page 0 and writes it, this many times: then it is 'A', 'B' and so on. Its writes
+ * are numbered from 1 on. Each lasts until the call under test has waited so often, but those that
+ * have begun when that is over, which last until a test has looked at what is there. */
+enum { ROUNDS = 20 };
+static atomic_int writes;
+static atomic_bool is_looked_at, is_busy_over;
+static _Thread_local bool is_busy;
+static int failing_write; /* 0: none */
+
+static void last_until_awaited(int fd, off_t at) {
+    if (!is_busy || fd != 10 || at != 0) return;
+    int own = ++writes;
+    while (atomic_load(&waits) < own && !atomic_load(&is_looked_at)) sched_yield();
+}
+
+static bool is_failing(node_page page) {
+    return is_busy && page.no == 0 && atomic_load(&writes) == failing_write;
+}
+
+static void *keep_busy(void *of) {
+    warm *by = of;
+    bool written;
+    is_busy = true;
+    for (int round = 0; round < ROUNDS; round++) {
+        write_to(by, page_at(0), (uint8_t)('A' + round));
+        int status = warm_write_back_page(by, page_at(0), &written);
+        MUST(status == (round + 1 == failing_write ? WARM_WRITE_FAULT : WARM_OK));
+    }
+    atomic_store(&is_busy_over, true);
+    return NULL;
+}
+
+/* The call under test has the shard again once the next write has begun. */
+static void until_next_write(void) {
+    int seen = atomic_load(&waits);
+    while (!is_busy && atomic_load(&writes) <= seen && !atomic_load(&is_busy_over)) sched_yield();
+}
+
+static void begin_busy(pthread_t *busy, int fails) {
+    open_dirty(2);
+    writes = waits = 0;
+    is_looked_at = is_busy_over = false;
+    failing_write = fails;
+    at_write = last_until_awaited;
+    at_wake = until_next_write;
+    is_stuck = is_failing;
+    MUST(pthread_create(busy, NULL, keep_busy, &callers[0].handle) == 0);
+    while (atomic_load(&writes) < 1) sched_yield();
+}
+
+static void end_busy(pthread_t busy) {
+    atomic_store(&is_looked_at, true);
+    MUST(pthread_join(busy, NULL) == 0);
+    at_wake = NULL;
+    is_stuck = NULL;
+    OK(warm_write_back_all(&first));
+    MUST(in_files[10][0] == 'A' + ROUNDS - 1 && written_locked == 0);
+    close_all();
+}
+
+/* The first write does not have a change that is over when the call begins, and the second one
+ * has. Where that fails the page is not written, and the call says so. */
+static void beside_busy(int call, bool fails) {
+    caller *its = &callers[1];
+    pthread_t busy;
+    begin_busy(&busy, fails ? 2 : 0);
+    write_to(&first, page_at(0), 'z');
+    its->found = true;
+    begin(1, call, page_at(0));
+    MUST(end(1) == (fails ? WARM_WRITE_FAULT : WARM_OK) && waits == 2);
+    MUST(in_files[10][0] == (fails ? 'A' : 'B') && its->found == (fails || call != WRITES_ONE));
+    MUST(in_files[10][1] == (call == WRITES_ONE ? 'o' : 'd'));
+    MUST(syncs == (!fails && call >= WRITES_ALL) && has_failure(&its->handle) == fails);
+    if (fails) must_have_failed(&its->handle, 0, 0, WARM_FAILED_WRITE, EIO);
+    if (fails) MUST(failures(&its->handle) == 1);
+    end_busy(busy);
+}
+
+static void test_busy_page(void) {
+    for (int call = WRITES_ONE; call <= FLUSHES; call++)
+        for (int fails = 0; fails < 2; fails++) beside_busy(call, fails);
+}
+
+int main(void) {
+    alarm(600);
+    test_two_writers();
+    test_flush_behind_a_miss();
+    test_busy_page();
+    puts("waits_test: as expected");
+    return 0;
+}
