@@ -22,9 +22,8 @@ bool open_table(table *of, size_t frames) {
     size_t lines = 1;
     while (lines < frames) lines *= 2;
     size_t count = 2 * lines + NEAR;
-    of->records = in_lines(count * sizeof(record) + frames * sizeof(place), &of->block);
+    of->records = in_lines(count * sizeof(record), &of->block);
     if (of->records == NULL) return false;
-    of->places = (place *)(of->records + count);
     of->mask = lines - 1;
     of->frames = frames;
     return true;
@@ -227,43 +226,12 @@ void put_record(opened *its, shard *in, node_page page, node_slot slot, const ui
         to = first + slot.index % NEAR;
         if (!take_record(its, in, to)) return;
     }
-    in->table.places[slot.index] =
-        (place){.generation = slot.generation, .record = (uint32_t)(to - in->table.records)};
     atomic_store_explicit(&to->no, page.no, memory_order_release);
     atomic_store_explicit(&to->dev, page.dev, memory_order_release);
     atomic_store_explicit(&to->index, (uint16_t)slot.index, memory_order_release);
     atomic_store_explicit(&to->generation, slot.generation, memory_order_release);
     atomic_store_explicit(&to->bytes, bytes, memory_order_release);
     open_record(to);
-}
-
-/* ---- a handle that is alone ---- */
-
-/* Those of handles that were closed hold nothing. */
-bool holds_none(const opened *its, const shard *in) {
-    if (open_handles(its->of) > 1) return false;
-    for (unsigned left = its->used; left != 0; left &= left - 1) {
-        uint64_t word = atomic_load_explicit(
-            &its->holds->words[__builtin_ctz(left)], memory_order_relaxed);
-        if (word >> SHARD_AT == shard_number(its, in)) return false;
-    }
-    return true;
-}
-
-/* The record of a frame is that of the page before where it says so: each page that is put into a
- * frame has a number there of its own. */
-bool was_there(shard *in, node_slot slot) {
-    table *of = &in->table;
-    place *at = &of->places[slot.index];
-    if (at->generation == slot.generation) return true;
-    record *before = &of->records[at->record];
-    node_slot its_slot = {.generation = at->generation, .index = slot.index};
-    if ((state_of(before) & 1) != 0 && is_same(slot_of(before), its_slot)) {
-        close_record(before);
-        free_record(before);
-    }
-    at->generation = slot.generation;
-    return false;
 }
 
 void note_loaded(shard *in) {

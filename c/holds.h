@@ -5,9 +5,7 @@
  * a record, and so a page that the handle pins. The node does not know of holds. Whoever is in a
  * shard, and is about to let a page leave its frame, closes the record of that page, looks at all
  * holds, and where one names it pins the page in the node until the call is over. So the node has a
- * pin of a held page whenever its answer depends on that, and has none of them between calls. A
- * handle that is alone, and holds no page of the shard, looks at nothing before a pin: which page
- * left it knows by the frame, and frees that record before the call is over.
+ * pin of a held page whenever its answer depends on that, and has none of them between calls.
  *
  * A hold is a hazard pointer, and a record is what it protects. The handle publishes the hold (an
  * exchange), and then looks at the record again: is it still open, and the same? Who lets a page
@@ -66,19 +64,11 @@ typedef struct passed {
     record *at;
 } passed;
 
-/* What was last known of a frame: how many pages were put into it by then, and the number of the
- * record that the last of these was given. Another page may have that record now. */
-typedef struct place {
-    uint64_t generation;
-    uint32_t record;
-} place;
-
 /* The records of a shard, and what its calls need to look at the holds: who is in the shard reads
  * and changes that. */
 typedef struct table {
     record *records; /* two for each frame or more, and some behind them; they do not move */
     size_t mask;     /* of the half of a first record's number */
-    place *places;   /* of the frames; they are behind the records, in their block */
     void *block;
     _Alignas(LINE) passed *passed; /* and behind them all that was seen: they are one block */
     size_t passed_count, room;     /* as many as all handles have holds */
@@ -157,13 +147,6 @@ uint64_t hits_of_holds(struct replica *of);
  * pinned before: many pages leave without a record. */
 void put_record(
     struct opened *its, struct shard *in, node_page page, node_slot slot, const uint8_t *bytes);
-
-/* Whether the shard's pages have no hold and get none during the call, whose handle is alone. */
-bool holds_none(const struct opened *its, const struct shard *in);
-
-/* After a pin in the node, where that is so: whether the page was seen in its frame before. Where
- * it was not, the page before it has left, and the record of that one is free. */
-bool was_there(struct shard *in, node_slot slot);
 
 /* Before a call of the node that may let a page leave for another, or says which one would: that
  * page, the table's victim, is then one that nobody holds. False where the call is to be refused

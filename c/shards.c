@@ -81,7 +81,6 @@ typedef struct load {
     enum { LOAD_PINS, LOAD_PINS_ZEROED, LOAD_PINS_FILLED } kind;
     node_page page;
     bool is_locked;       /* the shard, since there are other handles */
-    bool is_alone;        /* nobody holds a page of the shard; what left is known after the call */
     bool is_hit;          /* whether the page was in a frame before */
     bool is_for_node;     /* the page that leaves is written by the node, if it is dirty */
     unsigned tries;       /* how many pages were written to leave for it */
@@ -110,11 +109,9 @@ static bool is_victim_dirty(shard *in) {
     return is_dirty;
 }
 
-/* The page that leaves is one that nobody holds: where none leaves, or nobody can hold one, the
- * node alone is asked. */
+/* The page that leaves is one that nobody holds: where none leaves, the node alone is asked. */
 static int load_once(opened *its, shard *in, load *it) {
-    bool is_free = it->is_alone || in->table.filled < in->table.frames;
-    if (is_free) return ask_node(its, in, it);
+    if (in->table.filled < in->table.frames) return ask_node(its, in, it);
     if (!pass_over_held(its, in, true)) return WARM_ALL_PINNED;
     bool is_first = it->is_locked && !it->is_for_node && is_victim_dirty(in);
     return is_first ? WRITE_FIRST : ask_node(its, in, it);
@@ -267,17 +264,6 @@ static int pin_absent(opened *its, shard *in, load *it) {
     return status;
 }
 
-/* Who is alone and holds no page of the shard looks at no hold. */
-static int pin_alone(opened *its, shard *in, load *it) {
-    it->is_alone = true;
-    node_resident(&in->node, it->page, &it->is_hit);
-    int status = load_in(its, in, it);
-    if (status != WARM_OK) return status;
-    if (!it->is_hit) note_loaded(in);
-    if (was_there(in, it->slot)) put_record(its, in, it->page, it->slot, it->bytes);
-    return WARM_OK;
-}
-
 static int pin_resident(opened *its, shard *in, load *it) {
     writing *changed = it->kind == LOAD_PINS_ZEROED ? write_of_page(in, it->page) : NULL;
     if (!may_change(in, changed)) return READ_AGAIN;
@@ -345,8 +331,6 @@ static bool is_in_frame(shard *in, node_page page) {
 /* Pins a page in the node of a shard. Who is alone lets the node read it. */
 static int pin_in_node_of(opened *its, shard *in, load *it) {
     int status;
-    bool is_alone = !it->is_locked && it->kind == LOAD_PINS && holds_none(its, in);
-    if (is_alone) return pin_alone(its, in, it);
     do {
         it->is_hit = is_in_frame(in, it->page);
         status = it->is_hit      ? pin_resident(its, in, it)
