@@ -274,6 +274,68 @@ static void test_answers(void) {
     nothing_left();
 }
 
+/* ---- dumps ---- */
+
+/* Another handle calls the one shard of the replica while its dump is written, synced or read: it
+ * would wait for the shard's lock. Each time the history knows one page more. */
+static warm beside;
+static int dump_calls;
+
+static int call_shard(void) {
+    const warm_reference seen = {.no = (uint64_t)++dump_calls, .replica = 1};
+    warm_slot slot;
+    MUST(held == 0);
+    OK(warm_absorb(&beside, &seen, 1));
+    OK(warm_pin(&beside, page_at(seen.no), &slot));
+    return warm_unpin(&beside, slot);
+}
+
+static int write_dump(void *context, uint64_t no, const void *bytes, size_t length) {
+    (void)context, (void)no, (void)bytes, (void)length;
+    return call_shard();
+}
+
+static int read_dump(void *context, uint64_t no, void *into, size_t length) {
+    (void)context, (void)no;
+    memset(into, 'u', length);
+    return call_shard();
+}
+
+static int sync_dump(void *context) {
+    (void)context;
+    return call_shard();
+}
+
+static void write_descriptor(int fd, off_t at) { MUST(fd == 1 && at <= 2 && call_shard() == 0); }
+
+static void sync_descriptor(int fd) { MUST(fd == 1 && call_shard() == 0); }
+
+/* A fake dump of two references has two pieces, and is synced; of one that a device has, one byte
+ * is read. */
+static void test_no_lock_during_save_and_load_of_one_shard(void) {
+    static const warm_device_ops calls = {
+        .size = sizeof calls, .read = read_dump, .write = write_dump, .sync = sync_dump};
+    const warm_device file = {.ops = &calls};
+    const warm_reference seen[] = {{.no = 0, .replica = 1}, {.no = 1, .replica = 1}};
+    for (int by_descriptor = 0; by_descriptor < 2; by_descriptor++) {
+        warm handle = {0};
+        open_shards(&handle, 1);
+        OK(warm_attach(&handle, &beside));
+        OK(warm_absorb(&handle, seen, 2));
+        dump_calls = 0;
+        at_write = by_descriptor ? write_descriptor : NULL;
+        at_sync = by_descriptor ? sync_descriptor : NULL;
+        OK(by_descriptor ? warm_save(&handle, 1) : warm_save_to(&handle, &file));
+        at_write = NULL;
+        MUST(dump_calls == 3 && known(&handle) == 2 + 3);
+        OK(warm_load_from(&handle, &file, 4));
+        MUST(dump_calls == 4 && known(&handle) == 2 + 4 + 4);
+        OK(warm_close(&beside));
+        OK(warm_close(&handle));
+        nothing_left();
+    }
+}
+
 /* ---- counts and failures ---- */
 
 static void test_counts(void) {
@@ -365,6 +427,7 @@ int main(void) {
     test_sending();
     test_memory();
     test_answers();
+    test_no_lock_during_save_and_load_of_one_shard();
     test_counts();
     test_failures();
     test_horizons();
