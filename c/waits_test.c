@@ -42,6 +42,26 @@ static void test_two_writers(void) {
         for (int way = 0; way < 4; way++) two_writers(call, way % 2 == 1, way > 1);
 }
 
+/* All that wait for one write are told when it is over: one of them writes the page, where that is
+ * dirty then, and the others do not write it once more. */
+static void test_two_waiters(void) {
+    for (int fails = 0; fails < 2; fails++) {
+        open_dirty(1);
+        if (fails) is_stuck = is_first_try;
+        stop_writes_of(bit(0));
+        begin(0, WRITES_ONE, page_at(0));
+        until_written(bit(0));
+        begin(1, WRITES_ALL, page_at(0));
+        begin(2, WRITES_SOME, page_at(0));
+        until_waiting(2);
+        end_writes(bit(0));
+        MUST(end(0) == (fails ? WARM_WRITE_FAULT : WARM_OK));
+        MUST(end(1) == WARM_OK && end(2) == WARM_OK && !is_dirty(0) && put == 1);
+        MUST(in_files[10][0] == 'd' && syncs == 1 && written_locked == 0);
+        close_all();
+    }
+}
+
 /* A flush waits for a page that another call writes to have its frame, and syncs after that. */
 static void must_be_written(int fd) { MUST(fd == 10 && in_files[10][0] == 'd'); }
 
@@ -151,6 +171,7 @@ static void test_busy_page(void) {
 int main(void) {
     alarm(600);
     test_two_writers();
+    test_two_waiters();
     test_flush_behind_a_miss();
     test_busy_page();
     puts("waits_test: as expected");
