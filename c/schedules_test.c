@@ -37,6 +37,13 @@ static storage disks[DISKS + 1];
 static int replaced_by; /* the storage of the last device */
 static bool fails, fails_syncs, is_replacing;
 static long written;
+static warm opener, attached[THREADS];
+
+/* Where all threads change and write one page alone: how many writes of it have ended while a
+ * write-back of a thread waited; NOBODY where it is in none. */
+static bool is_hot;
+static int waited[THREADS];
+static const node_page hot = {.dev = PLAIN};
 
 static uint8_t byte_of(const page *of, int version) {
     MUST(version < 255);
@@ -92,8 +99,16 @@ static storage *begin_write_of(void *context, uint64_t no) {
     return of;
 }
 
+/* No write-back waits for more than two writes of a page. */
+static void count_waits(void) {
+    const void *over = &shard_of(opener.at, hot)->call_over;
+    for (int at = 0; at < thread_count; at++)
+        if (waited[at] != NOBODY && threads[at].awaits == over) MUST(++waited[at] <= 2);
+}
+
 static int end_write_of(storage *of, uint64_t no, int error) {
     MUST(--of->writers[no] == 0);
+    if (is_hot) count_waits();
     return end_call(of, error);
 }
 
@@ -301,11 +316,13 @@ static void write_back(warm *by, warm_page which) {
     uint64_t way = drawn(5);
     for (int dev = 0; dev < DISKS; dev++)
         for (int no = 0; no < PAGES; no++) done[dev][no] = pages[dev][no].done;
+    waited[running] = 0;
     int status = way == 0   ? warm_write_back_all(by)
                  : way == 1 ? warm_flush_device(by, which.dev)
                  : way == 2 ? warm_write_back_some(by, SIZE_MAX, &left)
                  : way == 3 ? warm_write_back_page(by, which, &is_written)
                             : warm_write_back_some(by, drawn(3), &left);
+    waited[running] = NOBODY;
     MUST(status == WARM_OK || status == WARM_WRITE_FAULT || status == WARM_SKIPPED);
     for (int dev = 0; dev < REPLACED && status == WARM_OK; dev++) {
         for (int no = 0; no < PAGES; no++) {
@@ -351,6 +368,10 @@ static void make_any_call(user *its) {
     warm_page which = {.dev = (uint16_t)drawn(DISKS), .no = drawn(PAGES)};
     uint64_t way = drawn(32);
     int status = WARM_OK;
+    if (is_hot) {
+        which = page_out(hot);
+        way = 8 + way % 20;
+    }
     if (way < 16) use_page(its, which);
     else if (way < 22 && its->count > 0) let_go(its);
     else if (way < 24) status = warm_prefetch(its->handle, which);
@@ -364,7 +385,6 @@ static void make_any_call(user *its) {
 
 /* ---- threads ---- */
 
-static warm opener, attached[THREADS];
 static bool is_lonely;             /* the opener is a thread, and at times the only one */
 static bool wants_handle[THREADS]; /* a thread that has none, and waits until it is attached */
 
@@ -404,10 +424,12 @@ static void draw_schedule(void) {
     fails_syncs = seed % 16 == 5;
     wakes_for_nothing = seed % 4 == 1;
     is_lonely = seed % 5 == 0;
+    is_hot = seed % 7 == 3;
     is_replacing = false;
     written = 0;
     memset(pages, 0, sizeof pages);
     memset(disks, 0, sizeof disks);
+    for (int at = 0; at < THREADS; at++) waited[at] = NOBODY;
     for (int dev = 0; dev < DISKS; dev++)
         for (int no = 0; no < PAGES; no++) pages[dev][no].latch = NOBODY;
     for (int at = 0; at <= DISKS; at++) {
