@@ -9,7 +9,7 @@ use Rattle.warm_history.specs.ReferenceSets.{ReferenceSet, set_of_list, ◌∪�
 use Rattle.warm_frames.specs.declared.message.Message.{Message}
 use Rattle.warm_frames.specs.declared.message.Message.TheVariants.{Entries, Digest, Want}
 use Rattle.warm_machine.specs.Runs.{operation}
-use Rattle.warm_gossip.specs.Answers.{refs_in}
+use Rattle.warm_peer.specs.Answers.{refs_in}
 use Rattle.warm_shards.specs.Shards.{IsShardCount, of_shard}
 use Rattle.warm_shards.proofs.Absorbing.{some_count}
 use Rattle.warm_concurrent.specs.declared.call.ShardCall.{ShardCall}

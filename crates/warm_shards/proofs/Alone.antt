@@ -13,7 +13,7 @@ use Rattle.warm_frames.specs.declared.message.Message.{Message}
 use Rattle.warm_frames.specs.declared.message.Message.TheVariants.{Digest, Entries, Want}
 use Rattle.warm_pool.specs.Keeping.{KeepsBytes}
 use Rattle.warm_pool.specs.View.{PoolView}
-use Rattle.warm_gossip.specs.Answers.{refs_in}
+use Rattle.warm_peer.specs.Answers.{refs_in}
 use Rattle.warm_gossip.specs.Clauses.{Answered, DevicesAnswered, Goes, Joins, SameView}
 use Rattle.warm_gossip.specs.declared.call.Call.TheVariants.{Absorb, Horizon, Receive}
 use Rattle.warm_gossip.specs.declared.call.Reply.TheVariants.{Answers, Done, Kept, Refused}

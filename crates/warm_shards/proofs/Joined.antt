@@ -93,8 +93,3 @@ raised_then_taken h horizon rs =
     let R = references_of h in
     let same : with_horizon horizon R ∪ set_of_list rs ≡ R ∪ record { horizon = horizon; given = rs } = λ i. record { horizon = late R.horizon horizon i; given = ap (λ xs. xs ++ rs) (append-nil R.given) i } in
     history_first (with_horizon horizon R) (set_of_list rs) ∙ ap history same
-
--- the same of what is below a request's horizon: none
-pub raised_none : (h : HistoryView) → IsHistory h
-    → history (references_of h ∪ record { horizon = 0; given = [] }) ≡ h
-raised_none h valid = raised_to_no_later h 0 valid (omega arith)

@@ -6,7 +6,6 @@ pub mod Parts
 pub mod Buckets
 pub mod Standing
 pub mod Keeping
-pub mod BucketSets
 pub mod Joined
 pub mod Victims
 pub mod Gathering

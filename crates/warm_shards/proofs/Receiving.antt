@@ -14,7 +14,7 @@ use Rattle.warm_gossip.specs.declared.call.Call.TheVariants.{Absorb, Horizon, Re
 use Rattle.warm_gossip.specs.declared.call.Reply.TheVariants.{Answers, Done, Kept}
 use Rattle.warm_gossip.specs.declared.fault.NodeFault.{NodeFault}
 use Rattle.warm_gossip.specs.declared.fault.NodeFault.TheVariants.{Memory}
-use Rattle.warm_gossip.specs.Answers.{AnswersDigests, refs_in, requested_messages}
+use Rattle.warm_peer.specs.Answers.{AnswersDigests, refs_in, requested_messages}
 use Rattle.warm_gossip.specs.State.{NodeState, NodeView, empty_node}
 use Rattle.warm_shards.specs.Clauses.{HasPart, JoinsAll, SameShards, TakesInFirst, Together}
 use Rattle.warm_shards.specs.Shards.{AreShards, as_node, of_first_shards, shard_at, shard_of, whole}

@@ -14,7 +14,7 @@ use Rattle.warm_history.proofs.JoinLemmas.{history_first}
 use Rattle.warm_frames.specs.declared.message.Message.{Message}
 use Rattle.warm_frames.specs.declared.message.Message.TheVariants.{Digest, Entries, Want}
 use Rattle.warm_digest.specs.BucketDigests.{digests_of}
-use Rattle.warm_gossip.specs.Answers.{refs_in}
+use Rattle.warm_peer.specs.Answers.{refs_in}
 use Rattle.warm_gossip.specs.State.{NodeState, NodeView}
 use Rattle.warm_shards.specs.Digests.{FillsShard}
 use Rattle.warm_shards.specs.Shards.{AreShards, IsShardCount, no_shard, of_first_shards, of_shard, shard_at, shard_of, whole}

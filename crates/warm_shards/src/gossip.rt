@@ -3,8 +3,8 @@ ghost use Rattle.std.specs.Prelude.{◌≡◌, ◌↔◌, ◌<◌, ◌≤◌, le
 ghost use Rattle.warm_frames.specs.Limits.{horizon_in};
 ghost use Rattle.warm_history.specs.Histories.{entries_of, references_of};
 ghost use Rattle.warm_history.specs.ListHistories.{list_references_of};
-ghost use Rattle.warm_gossip.specs.Answers.{IsAnswer, refs_in};
-ghost use Rattle.warm_gossip.specs.Since.{BringsHeld, HasMoreSince, sent_since};
+ghost use Rattle.warm_peer.specs.Answers.{IsAnswer, refs_in};
+ghost use Rattle.warm_peer.specs.Since.{BringsHeld, HasMoreSince, sent_since};
 ghost use Rattle.warm_gossip.specs.declared.call.Call.TheVariants.{Offer, Receive, Send};
 ghost use Rattle.warm_gossip.specs.declared.call.Reply.TheVariants.{Answers, Sent};
 ghost use Rattle.warm_gossip.specs.declared.fault.NodeFault.TheVariants.{Memory};
@@ -20,7 +20,8 @@ use crate::splitting::receiver;
 use std::alloc::{AllocError, Global};
 use warm_devices::PageDevice;
 use warm_frames::{Message, MessageList};
-use warm_gossip::{Node, NodeFault, SentPortion};
+use warm_gossip::{Node, NodeFault};
+use warm_peer::SentPortion;
 use warm_history::{Entry, History, PageHist};
 use warm_stamps::{Bucket, PageId, Reference};
 

@@ -5,7 +5,7 @@ use Rattle.warm_frames.specs.declared.message.Message.{Message}
 use Rattle.warm_gossip.specs.declared.call.Call.TheVariants.{Horizon, Receive}
 use Rattle.warm_gossip.specs.declared.call.Reply.TheVariants.{Answers, Kept}
 use Rattle.warm_history.specs.ListHistories.{list_references_of}
-use Rattle.warm_gossip.specs.Answers.{refs_in}
+use Rattle.warm_peer.specs.Answers.{refs_in}
 use Rattle.warm_shards.specs.Clauses.{TakesInFirst, Together}
 use Rattle.warm_shards.proofs.Alone.{raised_late, received_ok, refused_ok}
 use Rattle.warm_shards.proofs.Calls.{same_whole}
