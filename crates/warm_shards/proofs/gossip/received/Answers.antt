@@ -8,7 +8,7 @@ use Rattle.warm_history.specs.ListHistories.{list_references_of}
 use Rattle.warm_peer.specs.Answers.{refs_in}
 use Rattle.warm_shards.specs.Clauses.{TakesInFirst, Together}
 use Rattle.warm_shards.proofs.Alone.{raised_late, received_ok, refused_ok}
-use Rattle.warm_shards.proofs.Calls.{same_whole}
+use Rattle.warm_shards.proofs.Calls.{same_none, same_whole}
 use Rattle.warm_shards.proofs.Receiving.{digests_received, entries_received, entries_refused, horizon_of, raised_alone, request_received}
 use Rattle.warm_shards.proofs.gossip.received.Goals as goal
 
@@ -42,9 +42,7 @@ pub returns-in_err-messages-in-Want-clause-refused : goal.returns-in_err-message
 returns-in_err-messages-in-Want-clause-refused g c =
     let given = err_from_is_err_and c.from_residual-in_err-messages-in-Want.result c.from_residual-in_err-messages-in-Want.ensures.1 in
     let mid = c.raise_all.new.nodes.items in
-    let new = c.requested.new.nodes.items in
-    let refused = c.in_err-messages-in-Want.ensures in
-    rw (given.1) (given.2 ∙ refused.refused, raised_alone c.args.nodes.now.items mid new c.horizon.result c.raise_all.result (refs_in c.args.message) c.requires (c.horizon.ensures ∙ sym (horizon_of c.args.message)) c.raise_all.ensures.step (same_whole mid new refused.same))
+    rw (given.1) (given.2, raised_alone c.args.nodes.now.items mid mid c.horizon.result c.raise_all.result (refs_in c.args.message) c.requires (c.horizon.ensures ∙ sym (horizon_of c.args.message)) c.raise_all.ensures.step refl)
 
 pub returns-in_ok-absorb_parts-in-Entries-clause-received : goal.returns-in_ok-absorb_parts-in-Entries-clause-received
 returns-in_ok-absorb_parts-in-Entries-clause-received g c =
@@ -69,10 +67,9 @@ pub returns-in_ok-messages-in-Want-clause-received : goal.returns-in_ok-messages
 returns-in_ok-messages-in-Want-clause-received g c =
     let old = c.args.nodes.now.items in
     let mid = c.raise_all.new.nodes.items in
-    let new = c.requested.new.nodes.items in
     let raised = subst (λ (x : ℕ). Together old (Horizon x) (Kept c.raise_all.result) mid) (c.horizon.ensures ∙ ap horizon_in c.in-Want.is) c.raise_all.ensures.step in
-    subst (λ (m : Message). Together old (Receive m) (Answers c.of-in-Want.result) new) (sym c.in-Want.is)
-    (request_received old mid new c.raise_all.result c.in-Want.sender c.in-Want.horizon c.in-Want.request c.of-in-Want.result c.in_ok-messages-in-Want.messages.items c.of-in-Want.ensures raised c.in_ok-messages-in-Want.ensures.same c.in_ok-messages-in-Want.ensures.messages)
+    subst (λ (m : Message). Together old (Receive m) (Answers c.of-in-Want.result) mid) (sym c.in-Want.is)
+    (request_received old mid mid c.raise_all.result c.in-Want.sender c.in-Want.horizon c.in-Want.request c.of-in-Want.result c.in_ok-messages-in-Want.messages.items c.of-in-Want.ensures raised (same_none mid) c.in_ok-messages-in-Want.ensures)
 
 pub receive_alone-requires-clause-raised : goal.receive_alone-requires-clause-raised
 receive_alone-requires-clause-raised g c =
