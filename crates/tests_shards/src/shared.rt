@@ -156,16 +156,7 @@ fn is_passed_on<R: Wait + Abort>(
     let Ok(message) = shared.send(rt, attached, bucket, None) else {
         return false;
     };
-    let Message::Entries {
-        horizon,
-        entries,
-        ..
-    } = message
-    else {
-        return false;
-    };
-    let taken = others.receive_entries(rt, alloc, attached_there, horizon, entries.as_slice());
-    taken.is_ok()
+    others.receive(rt, alloc, attached_there, &message).is_ok()
 }
 
 #[test]

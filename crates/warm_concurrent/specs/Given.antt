@@ -11,6 +11,7 @@ use Rattle.warm_history.specs.References.{IsIn}
 use Rattle.warm_history.specs.Histories.{IsBelow, StandsFor, history}
 use Rattle.warm_rank.specs.Laws.{IsFarthest}
 use Rattle.warm_frames.specs.declared.message.Message.{Message}
+use Rattle.warm_frames.specs.declared.message.Message.TheVariants.{Entries}
 use Rattle.warm_pool.specs.View.{unfixed_pages, view_of}
 use Rattle.warm_machine.specs.declared.operation.Operation.{Operation}
 use Rattle.warm_turn.specs.declared.table.EndedPass.{EndedPass}
@@ -22,9 +23,9 @@ use Rattle.warm_gossip.specs.Victims.{IsEvicted}
 use Rattle.warm_shards.specs.Shards.{AreShards, IsShardCount, of_first_shards, shard_at, whole}
 use Rattle.warm_concurrent.specs.declared.call.ShardCall.{ShardCall}
 use Rattle.warm_concurrent.specs.declared.call.ShardCall.TheVariants.{Absorb, Raise, Pin, Look, Change}
-use Rattle.warm_concurrent.specs.declared.call.ShardCall.TheVariants.{PinZeroed, Victim, WarmStep}
+use Rattle.warm_concurrent.specs.declared.call.ShardCall.TheVariants.{PinZeroed, TakeIn, Victim, WarmStep}
 use Rattle.warm_concurrent.specs.declared.call.ShardReply.{ShardReply}
-use Rattle.warm_concurrent.specs.declared.call.ShardReply.TheVariants.{Done, Kept, Page}
+use Rattle.warm_concurrent.specs.declared.call.ShardReply.TheVariants.{Answers, Done, Kept, Page}
 use Rattle.warm_concurrent.specs.declared.fault.SharedFault.{SharedFault}
 use Rattle.warm_concurrent.specs.Attached.{Known, ShardPass, ShardTurn, known_of, shard_turn}
 use Rattle.warm_concurrent.specs.Clauses.{AnsweredByShard}
@@ -57,10 +58,13 @@ Log = List (Operation ShardCall ShardReply)
 abbrev pub log_at : List Log → ℕ → Log
 log_at logs i = slice_index_or logs i []
 
--- what a call with this reply gave its shard: the references of a batch, or a horizon
+-- what a call with this reply gave its shard: the references of a batch, a horizon, or what a
+-- message of entries brings
 abbrev pub gave_call : ShardCall → ShardReply → ReferenceSet
 gave_call (Absorb batch) Done = set_of_list batch
 gave_call (Raise time) (Kept horizon) = only_horizon time
+gave_call (TakeIn sender horizon entries) (Answers answers) =
+    refs_in (Entries sender horizon entries)
 gave_call call reply = set_of_list []
 
 -- what these calls gave their shard

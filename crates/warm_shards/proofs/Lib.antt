@@ -28,3 +28,4 @@ pub mod Asked
 pub mod WholeParts
 pub mod LawsHold
 pub mod Examples
+pub mod PartEntries

@@ -152,7 +152,7 @@ part_is : (count i horizon : ℕ) (es : List Entry)
     ≡ of_shard count i (record { horizon = horizon; given = list_references_of es })
 part_is count i horizon es = λ k. record { horizon = horizon; given = parts_hold count i es k }
 
-message_part : (count i : ℕ) (message : Message)
+pub message_part : (count i : ℕ) (message : Message)
     → refs_in (part_of_message count i message) ≡ of_shard count i (refs_in message)
 message_part count i (Entries sender horizon es) = part_is count i horizon es
 message_part count i (Digest sender horizon digests) = refl

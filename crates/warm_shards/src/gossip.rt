@@ -28,7 +28,7 @@ use warm_stamps::{Bucket, PageId, Reference};
 /// The references that entries hold, in order; of an entry its latest stamp first.
 ///
 /// `AllocError` occurs only where an allocation fails.
-pub fn references_in(alloc: Global, entries: &[Entry]) -> Result<Vec<Reference>, AllocError>
+fn references_in(alloc: Global, entries: &[Entry]) -> Result<Vec<Reference>, AllocError>
     ensures { IfOk result (λ references. references.items ≡ list_references_of entries.now) }
 {
     let mut references = Vec::new(alloc);

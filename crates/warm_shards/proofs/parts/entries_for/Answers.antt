@@ -1,8 +1,8 @@
 use Rattle.std.proofs.Common.{sym, subst, ap, ◌∙◌}
 use Rattle.warm_frames.specs.Entries.{FitsInFrame}
 use Rattle.warm_shards.specs.Parts.{part_of_entries}
-use Rattle.warm_c.proofs.Shards.{part_fits}
-use Rattle.warm_c.proofs.part_calls.entries_for.Goals as goal
+use Rattle.warm_shards.proofs.PartEntries.{part_fits}
+use Rattle.warm_shards.proofs.parts.entries_for.Goals as goal
 
 pub returns-clause-fits : goal.returns-clause-fits
 returns-clause-fits c =

@@ -1,6 +1,6 @@
 use Rattle.std.proofs.Common.{◌≡◌, take}
 use Rattle.warm_shards.specs.Parts.{part_of_entries}
-use Rattle.warm_c.proofs.shard_parts.part_of_entries.Given as goal
+use Rattle.warm_shards.proofs.parts.part_of_entries.Given as goal
 
 -- the part of the entries so far
 abbrev pub invariant-loop-entry : goal.invariant-loop-entry
