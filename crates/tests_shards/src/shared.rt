@@ -8,7 +8,6 @@ use std::sync::Wait;
 use test_kit::{SeenAt, page, seen};
 use warm_concurrent::{Attached, SharedFault, SharedShards};
 use warm_devices::MemDevice;
-use warm_frames::Message;
 use warm_gossip::{Node, NodeFault};
 use warm_pool::PoolFault;
 use warm_shards::ShardSlot;

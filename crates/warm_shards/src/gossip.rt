@@ -25,9 +25,7 @@ use warm_peer::SentPortion;
 use warm_history::{Entry, History, PageHist};
 use warm_stamps::{Bucket, PageId, Reference};
 
-/// The references that entries hold, in order; of an entry its latest stamp first.
-///
-/// `AllocError` occurs only where an allocation fails.
+// The references that entries hold, in order; of an entry its latest stamp first.
 fn references_in(alloc: Global, entries: &[Entry]) -> Result<Vec<Reference>, AllocError>
     ensures { IfOk result (λ references. references.items ≡ list_references_of entries.now) }
 {
