@@ -143,6 +143,7 @@ closed_log turn known node (last, same, is) = (
     begins = is.begins;
     own = is.own;
     others = is.others;
+    all = is.all;
   },
 )
 
