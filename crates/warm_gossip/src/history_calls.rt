@@ -58,9 +58,12 @@ impl<D: PageDevice> Node<D> {
         Ok(())
     }
 
-    /// Takes entries into the history. Where no entry changes, digests and the warm-up list stay
-    /// cached, and no page is ranked again.
-    pub(crate) fn join_entries(&mut self, horizon: u64, entries: &[Entry]) -> Result<(), NodeFault>
+    /// Takes entries in, at the later horizon, as those of a message are. Where no entry changes,
+    /// digests and the warm-up list stay cached, and no page is ranked again.
+    ///
+    /// # Errors
+    /// `Memory`: an allocation failed; nothing has changed that a caller sees.
+    pub fn join_entries(&mut self, horizon: u64, entries: &[Entry]) -> Result<(), NodeFault>
         ensures joined { OnOk result (JoinsEntries self.old horizon entries.now self.new) }
         ensures refused { IfErr result (λ why. (why ≡ Memory) × SameView self.old self.new) }
         ensures devices { KeepsBytes self.old.pool self.new.pool }

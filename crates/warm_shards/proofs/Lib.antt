@@ -13,7 +13,6 @@ pub mod Calls
 pub mod Absorbing
 pub mod Raising
 pub mod Answering
-pub mod Entries
 pub mod Opening
 pub mod Receiving
 pub mod Dividing
@@ -29,3 +28,4 @@ pub mod WholeParts
 pub mod LawsHold
 pub mod Examples
 pub mod PartEntries
+pub mod TakingIn

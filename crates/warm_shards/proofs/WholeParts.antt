@@ -123,7 +123,7 @@ all_alike test f true same (s ∷ ss) = rw (same s) (ap (λ rs. f s ∷ rs) (all
 all_alike test f false same [] = refl
 all_alike test f false same (s ∷ ss) = rw (same s) (all_alike test f false same ss)
 
-parts_hold : (count i : ℕ) (es : List Entry)
+pub parts_hold : (count i : ℕ) (es : List Entry)
     → list_references_of (part_of_entries count i es)
     ≡ filter (λ r. nat_eq (shard_of count r.page) i) (list_references_of es)
 parts_hold count i [] = refl
@@ -147,7 +147,7 @@ parts_hold count i (e ∷ es) = cases (nat_eq (shard_of count e.page) i) refl (p
     cases true is later = rw is (ap (λ rs. references_of_entry e ++ rs) later ∙ own true is)
     cases false is later = rw is (later ∙ own false is)
 
-part_is : (count i horizon : ℕ) (es : List Entry)
+pub part_is : (count i horizon : ℕ) (es : List Entry)
     → record { horizon = horizon; given = list_references_of (part_of_entries count i es) }
     ≡ of_shard count i (record { horizon = horizon; given = list_references_of es })
 part_is count i horizon es = λ k. record { horizon = horizon; given = parts_hold count i es k }

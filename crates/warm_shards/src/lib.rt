@@ -20,6 +20,7 @@ mod fault;
 mod forming;
 mod gossip;
 mod history_calls;
+mod joining;
 pub mod laws;
 mod lending;
 mod parts;
