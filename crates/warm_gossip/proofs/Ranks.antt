@@ -20,16 +20,15 @@ use Rattle.warm_history.specs.Histories.{HistoryView, IsHistory, history_of_entr
 use Rattle.warm_history.proofs.KeptLemmas.{hist-kept}
 use Rattle.warm_history.proofs.ListHistoryLemmas.{told, told-append, told_entry}
 use Rattle.warm_history.proofs.HistoryLemmas.{hist_refs-history, references-refs}
-use Rattle.warm_history.proofs.JoinLemmas.{history_of_own_references}
 use Rattle.warm_rank.specs.Keys.{rank_key}
-use Rattle.warm_rank.specs.WarmUp.{IsWarmUp}
-use Rattle.warm_rank.proofs.EvictionLemmas.{truncation_keeps_order, rank_alike}
+use Rattle.warm_rank.specs.Relisting.{RaisesOnly}
+use Rattle.warm_rank.proofs.RaisedLemmas.{raises_alike, taking_in_raises}
 use Rattle.warm_pool.specs.Frames.{nth_frame}
 use Rattle.warm_pool.specs.Refreshing.{AgreeOutside}
 use Rattle.warm_pool.specs.State.{PoolState, RankedBy}
 use Rattle.warm_pool.specs.View.{PoolView, view_of}
 use Rattle.warm_gossip.specs.declared.warm_step.WarmUp.{WarmUp}
-use Rattle.warm_gossip.specs.WarmingUp.{IsUnderWay, IsWarming}
+use Rattle.warm_gossip.specs.WarmingUp.{IsListed, IsWarming}
 
 pub differs : (q p : PageId) → (q ≡ p → ⊥) → is_eq (page_cmp q p) ≡ false
 differs q p apart = by_cases (page_cmp q p) _ (λ less. ap is_eq less) (λ tied. absurd (apart (page_order.same q p tied))) (λ more. ap is_eq more)
@@ -73,6 +72,28 @@ pub joined_agrees : (h : HistoryView) (horizon : ℕ) (es : List Entry) → hori
     (history (references_of h ∪ references_of (history_of_entries_at horizon es)))
 joined_agrees h horizon es le p unnamed = hist_as_before (references_of h) (references_of (history_of_entries_at horizon es)) p le (ungiven_entries es p unnamed)
 
+-- ---- the references that are taken in raise only pages that they name
+
+pub absorbed_raises : (h : HistoryView) (batch : List Reference)
+    → RaisesOnly (map (λ r. r.page) batch) (references_of h)
+    (references_of (history (references_of h ∪ set_of_list batch)))
+absorbed_raises h batch =
+    let S = references_of h in
+    let all = S ∪ set_of_list batch in
+    raises_alike (map (λ r. r.page) batch) S all (references_of (history all)) (taking_in_raises S (set_of_list batch) (omega arith)) (λ p. sym (hist_refs-history all p))
+
+pub joined_raises : (h : HistoryView) (horizon : ℕ) (es : List Entry) → horizon ≤ h.horizon
+    → RaisesOnly (map (λ e. e.page) es) (references_of h)
+    (references_of (history (references_of h ∪ references_of (history_of_entries_at horizon es))))
+joined_raises h horizon es le =
+    let S = references_of h in
+    let T = references_of (history_of_entries_at horizon es) in
+    let all = S ∪ T in
+    record {
+      none_falls = (raises_alike (map (λ r. r.page) T.given) S all (references_of (history all)) (taking_in_raises S T le) (λ p. sym (hist_refs-history all p))).none_falls;
+      others_stay = λ p other. sym (joined_agrees h horizon es le p other);
+    }
+
 -- ---- the same entries at another horizon
 
 -- histories with the same entries agree on each page, whatever their horizons
@@ -89,20 +110,20 @@ ranked_by_entries : (s : PoolState) (h g : HistoryView)
 ranked_by_entries s h g alike ranked i =
     ranked i ∙ ap (λ (f : PageId → Option PageHist). option_map (λ p. rank_key p (f p)) (nth_frame s.frames i).page) (λ j p. alike p j)
 
--- and have the same warm-up lists
-list_of_entries : (h g : HistoryView) (n : ℕ) (ps : List PageId) → IsHistory h
-    → ((p : PageId) → hist (references_of h) p ≡ hist (references_of g) p) → IsWarmUp h n ps
-    → IsWarmUp g n ps
-list_of_entries h g n ps whole alike hottest S stands =
-    hottest (references_of h) (sym (history_of_own_references h whole)) ∙ (rank_alike (references_of h) (references_of g) alike).hottest_alike n ∙ (truncation_keeps_order g S stands).hottest_alike n
-
--- what is kept of a warm-up
-warming_by_entries : (h g : HistoryView) (v : PoolView) (x : WarmUp) → IsHistory h
+-- and keep what is kept of a warm-up
+warming_by_entries : (h g : HistoryView) (v : PoolView) (x : WarmUp)
     → ((p : PageId) → hist (references_of h) p ≡ hist (references_of g) p) → IsWarming h v x
     → IsWarming g v x
-warming_by_entries h g v x whole alike under = elim x.pages as (λ o. IfSome o (λ ps. IsUnderWay h v ps.items x.passed) → IfSome o (λ ps. IsUnderWay g v ps.items x.passed)) [
+warming_by_entries h g v x alike under = elim x.list as (λ o. IfSome o (λ keys. IsListed h v x.changed.items keys x.passed) → IfSome o (λ keys. IsListed g v x.changed.items keys x.passed)) [
   | None ↦ λ none. none
-  | Some ps ↦ λ u. record { hottest = list_of_entries h g (length v.frames) ps.items whole alike u.hottest; past = u.past }
+  | Some keys ↦ λ u. record {
+    hottest = record {
+      earlier = u.hottest.earlier;
+      listed = u.hottest.listed;
+      raised = raises_alike x.changed.items u.hottest.earlier (references_of h) (references_of g) u.hottest.raised alike;
+    };
+    past = u.past;
+  }
 ] under
 
 -- so all that a node keeps by its history stands by another of the same entries
@@ -111,4 +132,4 @@ pub kept_by_entries : (s : PoolState) (h g : HistoryView) (x : WarmUp) → IsHis
     → RankedBy s h × IsWarming h (view_of s) x → RankedBy s g × IsWarming g (view_of s) x
 kept_by_entries s h g x whole later same (ranked, under) =
     let alike = hist_of_entries h g whole later same in
-    (ranked_by_entries s h g alike ranked, warming_by_entries h g (view_of s) x whole alike under)
+    (ranked_by_entries s h g alike ranked, warming_by_entries h g (view_of s) x alike under)

@@ -15,6 +15,7 @@ use crate::answers::{answer_to_digests, requested_messages};
 use crate::fault::NodeFault;
 use crate::node::Node;
 use crate::warm_step::WarmUp;
+use std::alloc::Global;
 use warm_devices::PageDevice;
 use warm_frames::{EntryList, MAX_ENTRIES, Message, MessageList};
 use warm_history::laws::prove_is_history;
@@ -26,13 +27,18 @@ use warm_stamps::{Bucket, PageId, PageList, Reference};
 // Where any entries of a node's history may have changed: the warm-up list, which is of the entries
 // before, is dropped, and all resident pages are ranked again. The node is not whole until then, so
 // this is a function of its parts.
-fn entries_changed<D: PageDevice>(history: &History, pool: &mut Pool<D>, warm_up: &mut WarmUp)
+fn entries_changed<D: PageDevice>(
+    alloc: Global,
+    history: &History,
+    pool: &mut Pool<D>,
+    warm_up: &mut WarmUp,
+)
     ensures ranked { RankedBy pool.new history.now }
     ensures same { view_of pool.new ≡ view_of pool.old }
     ensures kept { KeepsBytes pool.old pool.new }
-    ensures dropped { warm_up.new.pages ≡ None }
+    ensures dropped { warm_up.new.list ≡ None }
 {
-    *warm_up = WarmUp::new();
+    *warm_up = WarmUp::new(alloc);
     pool.refresh_all(history);
 }
 
@@ -40,7 +46,8 @@ impl<D: PageDevice> Node<D> {
     /// Adds references to the history: the call `Absorb`.
     ///
     /// References that are not new change nothing: digests and the warm-up list stay cached, and no
-    /// page is ranked again.
+    /// page is ranked again. Otherwise the pages that the batch names are ranked again, in the pool
+    /// now and in the list at the next warm-up step.
     ///
     /// # Errors
     /// `Memory`: an allocation failed; nothing has changed.
@@ -52,7 +59,7 @@ impl<D: PageDevice> Node<D> {
         if changed.is_empty() {
             return Ok(());
         }
-        self.warm_up = WarmUp::new();
+        self.warm_up.note(self.alloc, batch);
         self.pool.refresh(self.history.history(), batch);
         Ok(())
     }
@@ -72,10 +79,15 @@ impl<D: PageDevice> Node<D> {
             return Ok(());
         }
         if own < horizon {
-            entries_changed(self.history.history(), &mut self.pool, &mut self.warm_up);
+            entries_changed(
+                self.alloc,
+                self.history.history(),
+                &mut self.pool,
+                &mut self.warm_up,
+            );
             return Ok(());
         }
-        self.warm_up = WarmUp::new();
+        self.warm_up.note(self.alloc, entries);
         self.pool.refresh(self.history.history(), entries);
         Ok(())
     }
@@ -100,7 +112,12 @@ impl<D: PageDevice> Node<D> {
         if changed.is_empty() {
             return Ok(());
         }
-        entries_changed(self.history.history(), &mut self.pool, &mut self.warm_up);
+        entries_changed(
+            self.alloc,
+            self.history.history(),
+            &mut self.pool,
+            &mut self.warm_up,
+        );
         Ok(())
     }
 
@@ -124,7 +141,12 @@ impl<D: PageDevice> Node<D> {
         if lost.is_empty() {
             return self.history.horizon();
         }
-        entries_changed(self.history.history(), &mut self.pool, &mut self.warm_up);
+        entries_changed(
+            self.alloc,
+            self.history.history(),
+            &mut self.pool,
+            &mut self.warm_up,
+        );
         self.history.horizon()
     }
 
