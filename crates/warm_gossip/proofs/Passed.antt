@@ -18,6 +18,7 @@ use Rattle.warm_rank.specs.Keys.{ranked_page}
 use Rattle.warm_rank.specs.Ranking.{IsBefore, eviction_cmp, hottest_pages}
 use Rattle.warm_rank.specs.Relisting.{AreHottest, RaisesOnly, WereHottest}
 use Rattle.warm_rank.proofs.EvictionLemmas.{eviction_is_order, eviction_order}
+use Rattle.warm_rank.proofs.Outranked.{all_has, contains_has}
 use Rattle.warm_rank.proofs.RaisedLemmas.{hottest_now, hottest_still, raises_both}
 use Rattle.warm_pool.specs.declared.slot.Placed.{Placed}
 use Rattle.warm_pool.specs.declared.slot.Slot.{Slot}
@@ -26,7 +27,6 @@ use Rattle.warm_pool.specs.Pinning.{IsPlaced, Pinned, PutsIn}
 use Rattle.warm_gossip.specs.declared.warm_step.WarmUp.{WarmUp}
 use Rattle.warm_gossip.specs.Step.{IsFirstLoadable, IsLoadable, nth_page}
 use Rattle.warm_gossip.specs.WarmingUp.{IsListed, IsNoneBefore, IsPast, IsWarming, Notes, PassedAtFill, PassedAtLoad, PassedAtNext, PassedAtPin}
-use Rattle.warm_gossip.proofs.HottestLemmas.{all_has, contains_has}
 use Rattle.warm_gossip.proofs.VictimLemmas.{frames_after}
 use Rattle.warm_gossip.proofs.WarmUpLemmas.{came_in, frames_count, has_same, resident_or_absent}
 
@@ -91,6 +91,20 @@ noted g h v pages x y raise (inr (same, passed, more)) under =
       };
       past = u.past;
     }
+
+-- what is kept of a list
+pub kept_list : (h : HistoryView) (v : PoolView) (x : WarmUp) (keys : List RankKey)
+    → Some keys ≡ x.list → IsWarming h v x → IsListed h v x.changed.items keys x.passed
+kept_list h v x keys is under = subst (λ o. IfSome o (λ ks. IsListed h v x.changed.items ks x.passed)) (sym is) under
+
+-- a current list of which more pages are passed
+pub listed_at : (h : HistoryView) (v : PoolView) (changed : List PageId) (keys : List RankKey)
+    (m n : ℕ) → IsListed h v [] keys m → changed ≡ [] → IsPast (map ranked_page keys) n v
+    → IsListed h v changed keys n
+listed_at h v changed keys m n listed current past = record {
+  hottest = subst (λ c. WereHottest h (length v.frames) c keys) (sym current) listed.hottest;
+  past = past;
+}
 
 -- a list that was just made, of which none is passed
 pub listed_first : (h : HistoryView) (v : PoolView) (keys : List RankKey) (n : ℕ) → IsHistory h
@@ -225,6 +239,17 @@ filled h v w p placed x n whole passed pins is under =
             | Some keys ↦ λ next u. at_any_fill h v w p e placed x.changed.items keys x.passed n whole was pins is next u
           ] moves under
     ] refl passed
+
+-- no page is passed
+pub passes_none : (h : HistoryView) (x : WarmUp) (p e : PageId) (n : ℕ) → n ≡ 0
+    → PassedAtFill h x p (Some e) n
+passes_none h x p e n none = elim x.list as (λ o. IfSome o (λ keys. (n ≡ 0) ⊎ ((x.changed.items ≡ []) × PassedAtNext h (map ranked_page keys) x.passed p e n))) [ None ↦ tt | Some keys ↦ inl none ]
+
+-- the list is current
+pub passes_current : (h : HistoryView) (x : WarmUp) (p e : PageId) (n : ℕ) (keys : List RankKey)
+    → x.list ≡ Some keys → x.changed.items ≡ []
+    → PassedAtNext h (map ranked_page keys) x.passed p e n → PassedAtFill h x p (Some e) n
+passes_current h x p e n keys is current next = subst (λ o. IfSome o (λ ks. (n ≡ 0) ⊎ ((x.changed.items ≡ []) × PassedAtNext h (map ranked_page ks) x.passed p e n))) (sym is) (inr (current, next))
 
 -- ---- the page to load next
 

@@ -1,6 +1,6 @@
 -- What a history says of pages as before: of those of which it takes in no reference, where its
 -- horizon does not rise; and of all, where its entries stay.
-use Rattle.std.proofs.Common.{◌≡◌, ℕ, ◌≤◌, suc, false, List, [], ◌∷◌, ◌++◌, map, filter, length, max, Option, Some, None, IfSome, sym, ap, refl, ◌∙◌, arith}
+use Rattle.std.proofs.Common.{◌≡◌, ℕ, ◌≤◌, suc, List, [], ◌∷◌, ◌++◌, map, filter, length, Option, Some, None, IfSome, sym, ap, refl, ◌∙◌, arith}
 use Rattle.std.proofs.lemmas.List.{append-nil}
 use Rattle.std.specs.List.{Contains}
 use Rattle.std.specs.Option.{option_and_then, option_map}
@@ -9,8 +9,6 @@ use Rattle.warm_stamps.specs.declared.PageId.{PageId}
 use Rattle.warm_stamps.specs.declared.Reference.{Reference}
 use Rattle.warm_stamps.specs.Stamps.{stamp_cmp, page_cmp}
 use Rattle.warm_stamps.specs.Distinct.{distinct}
-use Rattle.warm_stamps.proofs.DistinctLemmas.{by_cases}
-use Rattle.warm_stamps.proofs.StampLemmas.{page_order}
 use Rattle.warm_history.specs.declared.hist.Entry.{Entry}
 use Rattle.warm_history.specs.declared.hist.PageHist.{PageHist}
 use Rattle.warm_history.specs.KeptEntries.{kept_hist}
@@ -22,16 +20,13 @@ use Rattle.warm_history.proofs.ListHistoryLemmas.{told, told-append, told_entry}
 use Rattle.warm_history.proofs.HistoryLemmas.{hist_refs-history, references-refs}
 use Rattle.warm_rank.specs.Keys.{rank_key}
 use Rattle.warm_rank.specs.Relisting.{RaisesOnly}
-use Rattle.warm_rank.proofs.RaisedLemmas.{raises_alike, taking_in_raises}
+use Rattle.warm_rank.proofs.RaisedLemmas.{differs, no_greater, raises_alike, taking_in_raises}
 use Rattle.warm_pool.specs.Frames.{nth_frame}
 use Rattle.warm_pool.specs.Refreshing.{AgreeOutside}
 use Rattle.warm_pool.specs.State.{PoolState, RankedBy}
 use Rattle.warm_pool.specs.View.{PoolView, view_of}
 use Rattle.warm_gossip.specs.declared.warm_step.WarmUp.{WarmUp}
 use Rattle.warm_gossip.specs.WarmingUp.{IsListed, IsWarming}
-
-pub differs : (q p : PageId) → (q ≡ p → ⊥) → is_eq (page_cmp q p) ≡ false
-differs q p apart = by_cases (page_cmp q p) _ (λ less. ap is_eq less) (λ tied. absurd (apart (page_order.same q p tied))) (λ more. ap is_eq more)
 
 -- no stamp is of a page that no reference is to
 ungiven : (T : List Reference) (p : PageId) → (Contains (map (λ r. r.page) T) p → ⊥) → told T p ≡ []
@@ -47,9 +42,6 @@ ungiven_entries (e ∷ es) p unnamed =
     told-append (references_of_entry e) (list_references_of es) p
     ∙ ap (λ ss. ss ++ told (list_references_of es) p) (told_entry e.page e.hist p)
     ∙ (rw (differs e.page p (λ is. unnamed (0, omega arith, is))) (ungiven_entries es p (λ has. unnamed (suc has.0, omega arith, has.2))))
-
-pub no_greater : (a b : ℕ) → b ≤ a → max a b ≡ a
-no_greater a b le = omega (arith, le)
 
 -- references without a stamp of a page, and without a later horizon, change nothing about it
 hist_as_before : (S T : ReferenceSet) (p : PageId) → T.horizon ≤ S.horizon → told T.given p ≡ []

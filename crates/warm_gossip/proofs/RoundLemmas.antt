@@ -36,6 +36,7 @@ use Rattle.warm_frames.specs.declared.layout.TheConstants.{MAX_ENTRIES}
 use Rattle.warm_frames.specs.declared.message.Message.{Message}
 use Rattle.warm_frames.specs.declared.message.Message.TheVariants.{Entries, Want}
 use Rattle.warm_frames.specs.Entries.{IsEntry, IsHist}
+use Rattle.warm_rank.proofs.RaisedLemmas.{no_greater}
 use Rattle.warm_digest.specs.BucketDigests.{digests_of}
 use Rattle.warm_digest.specs.Exchange.{Fits, IsCollision, IsDifferenceOf, in_buckets}
 use Rattle.warm_digest.proofs.CachedLemmas.{digest_is}
@@ -44,7 +45,6 @@ use Rattle.warm_frames.specs.Chunks.{chunks_of, chunks, entry_messages, bucket_m
 use Rattle.warm_gossip.specs.Answers.{requested_buckets, requested_messages, IsDiffering, refs_in, history_after}
 use Rattle.warm_gossip.specs.Round.{Receives, HistoryRound, GossipRoundEnds, HistoryRoundJoins, OwnDigestsUnanswered, EntriesBringAll, offer}
 use Rattle.warm_gossip.proofs.AnswerLemmas.{if_other}
-use Rattle.warm_gossip.proofs.Ranks.{no_greater}
 
 -- ---- what messages bring
 

@@ -172,14 +172,15 @@ fn take_list<D: PageDevice>(
     ensures current { OnOk result (warm_up.new.changed.items ≡ []) }
     ensures kept { OnErr result (IsWarming history.now (view_of pool.now) warm_up.new) }
 {
+    let frames = pool.frames();
     let Some(list) = warm_up.list.take() else {
-        let list = new_list(alloc, warm_up, history, pool.frames())?;
+        let list = new_list(alloc, warm_up, history, frames)?;
         return Ok(list);
     };
     if warm_up.changed.is_empty() {
         return Ok(list);
     }
-    match list.relisted(alloc, history, pool.frames(), &warm_up.changed) {
+    match list.relisted(alloc, history, frames, &warm_up.changed) {
         Ok(relisted) => {
             warm_up.changed.clear();
             warm_up.passed = 0;

@@ -1,7 +1,7 @@
 -- A list of keys sorted, with repeats dropped, and turned round; and the loops that find the
 -- candidates for a warm-up list.
-use Rattle.std.proofs.Common.{◌≡◌, ◌+◌, ◌<◌, ◌≤◌, ◌⊎◌, ℕ, Bool, true, false, not, List, [], ◌∷◌, ◌++◌, append_assoc, drop, length, get_or, map, reverse, sym, ap, refl, ◌∙◌, subst, Some, inl, inr, arith}
-use Rattle.std.specs.List.{Contains, HoldsAt, dedup}
+use Rattle.std.proofs.Common.{◌≡◌, ◌<◌, ◌≤◌, ℕ, Bool, true, false, cond, not, List, [], ◌∷◌, ◌++◌, length, get_or, map, reverse, sym, ap, ◌∙◌, subst, Option, Some, None, inl, inr, arith}
+use Rattle.std.specs.List.{Contains, HoldsAt, cons_option, dedup}
 use Rattle.std.specs.List.Sorted.{IsPartitionPoint, IsPermutation, IsSorted, IsStrictlySortedBy}
 use Rattle.std.specs.Option.{option_map}
 use Rattle.std.specs.Ordering.{eq_by_cmp, is_eq, flip_args}
@@ -19,7 +19,8 @@ use Rattle.warm_stamps.specs.Distinct.{distinct, IsAscending}
 use Rattle.warm_stamps.proofs.DistinctLemmas.{IsStrictOrder, Has, distinct_rising, distinct_same, is_equal}
 use Rattle.warm_stamps.proofs.StampLemmas.{page_order, IsStrictOrder-flip}
 use Rattle.warm_history.specs.ReferenceSets.{ReferenceSet}
-use Rattle.warm_history.specs.Histories.{HistoryView, IsHistory, hist, references_of}
+use Rattle.warm_history.specs.declared.hist.PageHist.{PageHist}
+use Rattle.warm_history.specs.Histories.{HistoryView, IsHistory, StandsFor, hist, references_of}
 use Rattle.warm_history.proofs.JoinLemmas.{history_of_own_references}
 use Rattle.warm_rank.specs.declared.RankKey.{RankKey}
 use Rattle.warm_rank.specs.contracts.RankKeyOrd.TheImpl.Laws as order
@@ -76,25 +77,7 @@ falling_is E ties keys sorted once moved in_order is =
         let in_sorted = Contains-from_dedup E sorted k (subst (λ ks. Contains ks k) is in_once) in
         contains_has keys k (Contains-permutation sorted keys k (IsPermutation-sym keys sorted moved) in_sorted)
 
--- ---- loops that add the part of one item after the other
-
--- `done` is the part of the first i items, x is the next, and `new` has its part too
-pub part_added : {A B : Type 0} (f : List A → List B)
-    → ((xs ys : List A) → f (xs ++ ys) ≡ f xs ++ f ys) → (xs : List A) (i : ℕ) (x : A)
-    → (done new all : List B) → drop i xs ≡ x ∷ drop (i + 1) xs → new ≡ done ++ f (x ∷ [])
-    → done ++ f (drop i xs) ≡ all → new ++ f (drop (i + 1) xs) ≡ all
-part_added f both xs i x done new all next is so_far =
-    let rest = drop (i + 1) xs in
-    ap (λ t. t ++ f rest) is
-    ∙ append_assoc done (f (x ∷ [])) (f rest)
-    ∙ ap (λ t. done ++ t) (sym (ap f next ∙ both (x ∷ []) rest))
-    ∙ so_far
-
--- no item is left
-pub parts_are_all : {A B : Type 0} (f : List A → List B) → f [] ≡ [] → (left : List A)
-    → (done all : List B) → left ≡ [] → done ++ f left ≡ all → done ≡ all
-parts_are_all f none left done all is so_far =
-    sym (append-nil done) ∙ ap (λ t. done ++ t) (sym (ap f is ∙ none)) ∙ so_far
+-- ---- loops that add the part of one key after the other
 
 pub others_both : (pages : List PageId) (xs ys : List RankKey)
     → keys_of_others pages (xs ++ ys) ≡ keys_of_others pages xs ++ keys_of_others pages ys
@@ -103,6 +86,38 @@ others_both pages xs ys = filter-append (λ k. not (is_among pages (ranked_page 
 pub named_both : (S : ReferenceSet) (xs ys : List PageId)
     → named_keys S (xs ++ ys) ≡ named_keys S xs ++ named_keys S ys
 named_both S xs ys = filter_map-append (λ p. option_map (λ h. rank_key p (Some h)) (hist S p)) xs ys
+
+-- a key whose page is among these is left out
+pub left_out : (pages : List PageId) (k : RankKey) (keys : List RankKey)
+    → is_among pages (ranked_page k) ≡ true → keys ≡ keys ++ keys_of_others pages (k ∷ [])
+left_out pages k keys is = sym (append-nil keys) ∙ ap (λ b. keys ++ cond (not b) (k ∷ []) []) (sym is)
+
+-- another one is added
+pub other_added : (pages : List PageId) (k : RankKey) (keys : List RankKey)
+    → is_among pages (ranked_page k) ≡ false
+    → keys ++ k ∷ [] ≡ keys ++ keys_of_others pages (k ∷ [])
+other_added pages k keys is = ap (λ b. keys ++ cond (not b) (k ∷ []) []) (sym is)
+
+-- what a look-up in a history finds is what its own references say
+looked_up : (h : HistoryView) (p : PageId) (found : Option PageHist) → IsHistory h
+    → ((S : ReferenceSet) → StandsFor h S → found ≡ hist S p) → found ≡ hist (references_of h) p
+looked_up h p found whole is = is (references_of h) (sym (history_of_own_references h whole))
+
+-- the keys of this page, by what is known of it
+abbrev keys_by : PageId → Option PageHist → List RankKey
+keys_by p known = cons_option (option_map (λ h. rank_key p (Some h)) known) []
+
+-- a page that the history does not know has no key
+pub unknown_added : (h : HistoryView) (p : PageId) (keys : List RankKey) → IsHistory h
+    → ((S : ReferenceSet) → StandsFor h S → None ≡ hist S p)
+    → keys ≡ keys ++ named_keys (references_of h) (p ∷ [])
+unknown_added h p keys whole is = sym (append-nil keys) ∙ ap (λ known. keys ++ keys_by p known) (looked_up h p None whole is)
+
+-- one that it knows has one
+pub known_added : (h : HistoryView) (p : PageId) (known : PageHist) (keys : List RankKey)
+    → IsHistory h → ((S : ReferenceSet) → StandsFor h S → Some known ≡ hist S p)
+    → keys ++ rank_key p (Some known) ∷ [] ≡ keys ++ named_keys (references_of h) (p ∷ [])
+known_added h p known keys whole is = ap (λ known. keys ++ keys_by p known) (looked_up h p (Some known) whole is)
 
 -- ---- the search for a page among sorted ones
 

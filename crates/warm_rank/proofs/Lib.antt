@@ -4,6 +4,7 @@ mod Examples
 pub mod KeyLemmas
 pub mod EvictionLemmas
 pub mod FallingLemmas
+pub mod LoopParts
 pub mod Outranked
 pub mod PlacesBack
 pub mod RaisedLemmas

@@ -97,7 +97,7 @@ more_stamps p ss (s ∷ more) =
 
 -- ---- references are taken in
 
-no_greater : (a b : ℕ) → b ≤ a → max a b ≡ a
+pub no_greater : (a b : ℕ) → b ≤ a → max a b ≡ a
 no_greater a b le = omega (arith, le)
 
 -- the stamps of a page in both sets, where the horizon stays
@@ -108,7 +108,7 @@ hist_of_both S T p le =
     ∙ ap (λ rs. list_hist rs p) (kept-append S.horizon S.given T.given)
     ∙ ap (λ ss. first_two (distinct falls ss)) (told-append (references S) (references_from S.horizon T.given) p)
 
-differs : (q p : PageId) → (q ≡ p → ⊥) → is_eq (page_cmp q p) ≡ false
+pub differs : (q p : PageId) → (q ≡ p → ⊥) → is_eq (page_cmp q p) ≡ false
 differs q p apart = by_cases (page_cmp q p) _ (λ less. ap is_eq less) (λ tied. absurd (apart (page_order.same q p tied))) (λ more. ap is_eq more)
 
 -- no stamp is of a page that no reference is to

@@ -178,7 +178,7 @@ fn sorted_pages(alloc: Global, pages: &[PageId]) -> Result<Vec<PageId>, AllocErr
     ensures same_pages { IfOk result (λ sorted. IsPermutation pages.now sorted.items) }
     ensures sorted { IfOk result (λ sorted. IsSorted page_cmp sorted.items) }
 {
-    let mut sorted = pages.to_vec(alloc)?;
+    let mut sorted = Vec::from_slice(alloc, pages)?;
     sorted.sort_unstable();
     Ok(sorted)
 }

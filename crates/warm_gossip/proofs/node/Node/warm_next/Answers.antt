@@ -1,6 +1,8 @@
-use Rattle.std.proofs.Common.{◌<◌, length, subst, arith}
-use Rattle.warm_history.specs.Histories.{IsHistory}
+use Rattle.std.proofs.Common.{◌<◌, [], length, subst, arith}
+use Rattle.warm_history.specs.Histories.{HistoryView, IsHistory}
 use Rattle.warm_pool.specs.View.{view_of}
+use Rattle.warm_gossip.specs.WarmingUp.{IsListed}
+use Rattle.warm_gossip.proofs.Passed.{listed_at}
 use Rattle.warm_gossip.proofs.Warmings.{none_to_load, page_to_load}
 use Rattle.warm_gossip.proofs.node.Node.warm_next.Goals as goal
 
@@ -17,3 +19,23 @@ returns-clause-next g c =
     let there : c.first_loadable-at.result < length c.in_ok-list.list = omega (arith, c.len.ensures, c.if-at-len.false) in
     let page = page_to_load (view_of c.self.inside.pool) h _ c.in_ok-list.list c.first_loadable-at.result _ c.page-next.result whole c.history-history.ensures c.in_ok-list.ensures.listed c.first_loadable-at.ensures.past c.first_loadable-at.ensures.there there c.page-next.ensures in
     rw (← c.self.view_is) page.0
+
+-- no page of the list could be loaded
+pub invariant_of-self-then-at-len : goal.invariant_of-self-then-at-len
+invariant_of-self-then-at-len g c =
+    let v = view_of c.self.inside.pool in
+    let keys = c.in_ok-list.list in
+    let listed = subst (λ (x : HistoryView). IsListed x v [] keys c.take_list.new.warm_up.passed) c.history-history.ensures c.in_ok-list.ensures.listed in (
+      c.self.invariant.0,
+      listed_at c.self.inside.history.history v _ keys _ c.first_loadable-at.result listed c.in_ok-list.ensures.current c.first_loadable-at.ensures.past,
+    )
+
+-- one could, and is not loaded
+pub invariant_of-self : goal.invariant_of-self
+invariant_of-self g c =
+    let v = view_of c.self.inside.pool in
+    let keys = c.in_ok-list.list in
+    let listed = subst (λ (x : HistoryView). IsListed x v [] keys c.take_list.new.warm_up.passed) c.history-history.ensures c.in_ok-list.ensures.listed in (
+      c.self.invariant.0,
+      listed_at c.self.inside.history.history v _ keys _ c.first_loadable-at.result listed c.in_ok-list.ensures.current c.first_loadable-at.ensures.past,
+    )

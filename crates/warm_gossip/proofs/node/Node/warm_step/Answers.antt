@@ -6,7 +6,7 @@ use Rattle.warm_pool.specs.Pinning.{PutsIn}
 use Rattle.warm_rank.specs.Keys.{ranked_page}
 use Rattle.warm_gossip.specs.Step.{IsLoadable, nth_page}
 use Rattle.warm_gossip.specs.WarmingUp.{IsListed, PassedAtLoad}
-use Rattle.warm_gossip.proofs.Passed.{loaded}
+use Rattle.warm_gossip.proofs.Passed.{listed_at, loaded}
 use Rattle.warm_gossip.proofs.Warmings.{loaded_in, load_refused_in, none_to_load, page_to_load}
 use Rattle.warm_gossip.proofs.node.Node.warm_step.Goals as goal
 
@@ -70,8 +70,18 @@ invariant_of-self-2 g c =
     let loadable = c.first_loadable-at.ensures.there there in
     let puts = subst (λ p. PutsIn h v p 0 c.in_ok-placed.placed.slot w) (sym page_is) (loaded_in (subst (IsLoadable v) page_is loadable) (rw c.history.ensures at c.in_ok-placed.ensures.loaded)) in
     let moves = subst (λ p. PassedAtLoad h p c.in_ok-placed.placed.evicted at c.passed_at_load-self-inside.result) (sym page_is) (rw c.history-2.ensures at c.passed_at_load-self-inside.ensures) in
-    let under = record { hottest = listed.hottest; past = c.first_loadable-at.ensures.past } in (
+    let under = listed_at h v [] keys _ at listed refl c.first_loadable-at.ensures.past in (
       rw c.history.ensures at c.load_placed.ensures.ranked,
       rw c.in_ok-list.ensures.current (loaded h v w keys c.in_ok-placed.placed.slot c.in_ok-placed.placed.evicted at c.passed_at_load-self-inside.result whole there under puts
           (c.in_ok-placed.ensures.evicted.absent (subst (IsLoadable v) page_is loadable).1) moves),
+    )
+
+-- no page of the list could be loaded
+pub invariant_of-self-then-at-len : goal.invariant_of-self-then-at-len
+invariant_of-self-then-at-len g c =
+    let v = view_of c.self.inside.pool in
+    let keys = c.in_ok-list.list in
+    let listed = subst (λ (x : HistoryView). IsListed x v [] keys c.take_list.new.warm_up.passed) c.history-history.ensures c.in_ok-list.ensures.listed in (
+      c.self.invariant.0,
+      listed_at c.self.inside.history.history v _ keys _ c.first_loadable-at.result listed c.in_ok-list.ensures.current c.first_loadable-at.ensures.past,
     )
