@@ -1,4 +1,8 @@
 -- The first n of a rising list, where each item that is left out comes after n that are in.
+--
+-- Such an item r goes in behind n others, so it changes nothing among the first n. One after the
+-- other, all that were left out go in so. What is left out twice, or is there already, goes in
+-- without a change. So the first n of all items are the first n of those that are in.
 use Rattle.std.proofs.Common.{◌≡◌, ℕ, zero, suc, ◌<◌, ◌≤◌, Bool, true, false, cond, List, [], ◌∷◌, ◌++◌, filter, length, take, sym, ap, refl, ◌∙◌, subst, inl, inr, ◌⊎◌, arith}
 use Rattle.std.specs.Bool.{Decides}
 use Rattle.std.specs.List.{AllByRecursion, Contains, IsDistinct}

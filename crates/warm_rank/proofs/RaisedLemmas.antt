@@ -1,4 +1,9 @@
 -- References that are taken in raise the pages that they name, and leave the others.
+--
+-- The stamps of a page over both sets are those over the first with those over the second put in,
+-- one after the other. The rank of a page is by its second latest stamp, then by the latest. A
+-- stamp that goes in behind both changes neither; before both, or between them, it puts a later one
+-- in the second place. With one stamp or none, one more gives the page a higher rank.
 use Rattle.std.proofs.Common.{◌≡◌, ℕ, ◌≤◌, suc, Bool, true, false, cond, List, [], ◌∷◌, ◌++◌, map, max, sym, ap, refl, ◌∙◌, subst, inl, inr, arith}
 use Rattle.std.specs.List.{Contains}
 use Rattle.std.specs.Ordering.{is_eq, is_lt, flip_args, match_ordering, ordering_then}

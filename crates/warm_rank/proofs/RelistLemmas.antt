@@ -1,4 +1,9 @@
 -- After a raise, the hottest pages are among those listed before and those that rose.
+--
+-- Let k be the key after the raise of a page that is not among the changed ones. Then it was the
+-- page's key before. If it was listed, it is a candidate still. If not, n keys were listed, all
+-- hotter than k. Their pages have different keys now, none of them lower than before: n candidates
+-- that are hotter than k. So k is not among the n hottest, and need not be looked at.
 use Rattle.std.proofs.Common.{◌≡◌, ℕ, ◌≤◌, Bool, true, false, not, List, [], ◌∷◌, ◌++◌, map, length, take, is_some, sym, ap, refl, ◌∙◌, subst, Option, Some, None, inl, inr, ◌⊎◌, arith}
 use Rattle.std.specs.List.{AllByRecursion, Contains, IsDistinct, cons_option}
 use Rattle.std.specs.Option.{option_map}
