@@ -97,9 +97,9 @@ impl<D: PageDevice> Node<D> {
     /// evicts a page of the list, the next step begins with the hottest page again.
     ///
     /// After references came, the next step ranks the pages that they name, and merges these into
-    /// the list ([`HotPages::relisted`]): its cost does not grow with the history. It begins with
-    /// the hottest page. After 4,000 such pages, a join with a history, a message with a later
-    /// horizon, a horizon that drops a stamp, or a restart, the next step makes a new list.
+    /// the list ([`HotPages::relisted`]): it does not read the rest of the history. It begins with
+    /// the hottest page. After more than 4,000 references, a join with a history, a message with a
+    /// later horizon, a horizon that drops a stamp, or a restart, the next step makes a new list.
     ///
     /// # Errors
     /// `Memory`: an allocation for the list of the hottest pages failed; the next step tries again.

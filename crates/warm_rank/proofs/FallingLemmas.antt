@@ -30,6 +30,7 @@ use Rattle.warm_rank.specs.Relisting.{AreHottest, RaisesOnly, WereHottest, candi
 use Rattle.warm_rank.specs.WarmUp.{IsWarmUp, entry_keys}
 use Rattle.warm_rank.proofs.KeyLemmas.{derived-key_cmp, key_order}
 use Rattle.warm_rank.proofs.Outranked.{contains_has, has_contains, same_item}
+use Rattle.warm_rank.proofs.RaisedLemmas.{raises_more}
 use Rattle.warm_rank.proofs.RelistLemmas.{candidates_suffice}
 use Rattle.warm_rank.proofs.SortLemmas.{descending_reverse}
 use Rattle.warm_rank.proofs.WarmUpLemmas.{warm_from_keys}
@@ -158,10 +159,7 @@ pub relisted_is : (h : HistoryView) (n : ℕ) (changed pages : List PageId)
     → new ≡ greatest_keys (candidates (references_of h) pages keys) n → AreHottest h n new
 relisted_is h n changed pages keys new whole were moved is S stands =
     let T = references_of h in
-    let raises : RaisesOnly pages were.earlier T = record {
-      none_falls = were.raised.none_falls;
-      others_stay = λ p other. were.raised.others_stay p (λ has. other (Contains-permutation changed pages p moved has));
-    } in
+    let raises : RaisesOnly pages were.earlier T = raises_more changed pages were.earlier T were.raised (λ p has. Contains-permutation changed pages p moved has) in
     is
     ∙ ap (λ ks. greatest_keys (candidates T pages ks) n) were.listed
     ∙ sym (candidates_suffice were.earlier T n pages raises)

@@ -152,6 +152,14 @@ raises_both first second S T U one two = record {
       two.others_stay p (λ has. other (Contains-append_right first second p has)) ∙ one.others_stay p (λ has. other (Contains-append_left first second p has));
 }
 
+-- more pages may be named
+pub raises_more : (named more : List PageId) (S T : ReferenceSet) → RaisesOnly named S T
+    → ((p : PageId) → Contains named p → Contains more p) → RaisesOnly more S T
+raises_more named more S T one within = record {
+  none_falls = one.none_falls;
+  others_stay = λ p other. one.others_stay p (λ has. other (within p has));
+}
+
 -- where both say the same of each page
 pub raises_alike : (changed : List PageId) (S T U : ReferenceSet) → RaisesOnly changed S T
     → ((p : PageId) → hist T p ≡ hist U p) → RaisesOnly changed S U

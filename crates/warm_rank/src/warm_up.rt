@@ -66,7 +66,7 @@ impl HotPages {
     /// it. Each page that they name is among `changed`, which may have others, and may repeat some.
     ///
     /// Each changed page is looked up in the history. The others are not: they keep their ranks. So
-    /// for `c` changed pages time grows with `n log c` and `c log c`, whatever the number of pages.
+    /// for `c` changed pages of `p` in all, time grows with `(n + c) log c` and `c log p`.
     ///
     /// # Errors
     /// `AllocError` where an allocation fails: lists of the changed pages, and of the keys of all
