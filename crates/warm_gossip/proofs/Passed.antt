@@ -203,7 +203,7 @@ loaded {fixes} h v w keys slot evicted at n whole there under puts is moves = re
 -- the pin evicted a page, and the list is current
 at_fill : (h : HistoryView) (v w : PoolView) (p e : PageId) (placed : Placed) (keys : List RankKey)
     (m n : ℕ) → IsHistory h → placed.evicted ≡ Some e → Pinned h v p placed.slot w
-    → IsPlaced v p placed w → PassedAtNext h (map ranked_page keys) m p e n
+    → IsPlaced v p placed w → PassedAtNext h keys m p e n
     → IsListed h v [] keys m → IsListed h w [] keys n
 at_fill h v w p e placed keys m n whole was (has, inl adds) is moves under =
     let none : placed.evicted ≡ None = is.resident (record { frame = placed.slot.index; there = adds.there; holds = adds.resident }) in
@@ -211,7 +211,7 @@ at_fill h v w p e placed keys m n whole was (has, inl adds) is moves under =
     absurd (cc)
 at_fill h v w p e placed keys m n whole was (has, inr puts) is (inl none) under = none_passed h v w [] keys m n (frames_count puts) none under
 at_fill h v w p e placed keys m n whole was (has, inr puts) is (inr (there, next, moves)) under =
-    loaded h v w keys placed.slot (Some e) m n whole (omega (arith, there, length-map keys ranked_page)) under
+    loaded h v w keys placed.slot (Some e) m n whole there under
     (subst (λ q. PutsIn h v q 1 placed.slot w) (sym next) puts) (sym was ∙ is.absent puts.absent)
     (subst (λ q. PassedAtLoad h q (Some e) m n) (sym next) moves)
 
@@ -219,7 +219,7 @@ at_fill h v w p e placed keys m n whole was (has, inr puts) is (inr (there, next
 at_any_fill : (h : HistoryView) (v w : PoolView) (p e : PageId) (placed : Placed)
     (changed : List PageId) (keys : List RankKey) (m n : ℕ) → IsHistory h → placed.evicted ≡ Some e
     → Pinned h v p placed.slot w → IsPlaced v p placed w
-    → (n ≡ 0) ⊎ ((changed ≡ []) × PassedAtNext h (map ranked_page keys) m p e n)
+    → (n ≡ 0) ⊎ ((changed ≡ []) × PassedAtNext h keys m p e n)
     → IsListed h v changed keys m → IsListed h w changed keys n
 at_any_fill h v w p e placed changed keys m n whole was (has, inl adds) is (inl none) under =
     none_passed h v w changed keys m n (ap (λ y. length y.frames) adds.becomes ∙ length-set v.frames placed.slot.index _) none under
@@ -234,7 +234,7 @@ filled h v w p placed x n whole passed pins is under =
     elim placed.evicted as (λ o. placed.evicted ≡ o → PassedAtFill h x p o n → IsWarming h w (record x { passed = n })) [
       | None ↦ λ was same. pinned h v w p placed x n (inr (was, same)) pins is under
       | Some e ↦ λ was moves.
-          elim x.list as (λ o. IfSome o (λ keys. (n ≡ 0) ⊎ ((x.changed.items ≡ []) × PassedAtNext h (map ranked_page keys) x.passed p e n)) → IfSome o (λ keys. IsListed h v x.changed.items keys x.passed) → IfSome o (λ keys. IsListed h w x.changed.items keys n)) [
+          elim x.list as (λ o. IfSome o (λ keys. (n ≡ 0) ⊎ ((x.changed.items ≡ []) × PassedAtNext h keys x.passed p e n)) → IfSome o (λ keys. IsListed h v x.changed.items keys x.passed) → IfSome o (λ keys. IsListed h w x.changed.items keys n)) [
             | None ↦ λ _ none. none
             | Some keys ↦ λ next u. at_any_fill h v w p e placed x.changed.items keys x.passed n whole was pins is next u
           ] moves under
@@ -243,13 +243,13 @@ filled h v w p placed x n whole passed pins is under =
 -- no page is passed
 pub passes_none : (h : HistoryView) (x : WarmUp) (p e : PageId) (n : ℕ) → n ≡ 0
     → PassedAtFill h x p (Some e) n
-passes_none h x p e n none = elim x.list as (λ o. IfSome o (λ keys. (n ≡ 0) ⊎ ((x.changed.items ≡ []) × PassedAtNext h (map ranked_page keys) x.passed p e n))) [ None ↦ tt | Some keys ↦ inl none ]
+passes_none h x p e n none = elim x.list as (λ o. IfSome o (λ keys. (n ≡ 0) ⊎ ((x.changed.items ≡ []) × PassedAtNext h keys x.passed p e n))) [ None ↦ tt | Some keys ↦ inl none ]
 
 -- the list is current
 pub passes_current : (h : HistoryView) (x : WarmUp) (p e : PageId) (n : ℕ) (keys : List RankKey)
     → x.list ≡ Some keys → x.changed.items ≡ []
-    → PassedAtNext h (map ranked_page keys) x.passed p e n → PassedAtFill h x p (Some e) n
-passes_current h x p e n keys is current next = subst (λ o. IfSome o (λ ks. (n ≡ 0) ⊎ ((x.changed.items ≡ []) × PassedAtNext h (map ranked_page ks) x.passed p e n))) (sym is) (inr (current, next))
+    → PassedAtNext h keys x.passed p e n → PassedAtFill h x p (Some e) n
+passes_current h x p e n keys is current next = subst (λ o. IfSome o (λ ks. (n ≡ 0) ⊎ ((x.changed.items ≡ []) × PassedAtNext h ks x.passed p e n))) (sym is) (inr (current, next))
 
 -- ---- the page to load next
 

@@ -6,7 +6,7 @@ use Rattle.warm_history.specs.Histories.{HistoryView, references_of}
 use Rattle.warm_rank.specs.declared.RankKey.{RankKey}
 use Rattle.warm_rank.specs.Keys.{ranked_page}
 use Rattle.warm_rank.specs.Ranking.{IsBefore}
-use Rattle.warm_rank.specs.Relisting.{WereHottest}
+use Rattle.warm_rank.specs.Relisting.{WereHottest, listed_page}
 use Rattle.warm_pool.specs.View.{PoolView}
 use Rattle.warm_gossip.specs.declared.warm_step.WarmUp.{WarmUp}
 use Rattle.warm_gossip.specs.Step.{IsLoadable, nth_page}
@@ -48,8 +48,8 @@ abbrev pub PassedAtLoad : HistoryView → PageId → Option PageId → ℕ → �
 PassedAtLoad h p evicted at new = (new ≡ 0) ⊎ ((new ≡ at + 1) × IsNoneBefore h p evicted)
 
 -- the pinned page was the next one of the list, and is passed as after a load; or none is passed
-abbrev pub PassedAtNext : HistoryView → List PageId → ℕ → PageId → PageId → ℕ → Type 0
-PassedAtNext h pages at p evicted new = (new ≡ 0) ⊎ ((at < length pages) × (nth_page pages at ≡ p)
+abbrev pub PassedAtNext : HistoryView → List RankKey → ℕ → PageId → PageId → ℕ → Type 0
+PassedAtNext h keys at p evicted new = (new ≡ 0) ⊎ ((at < length keys) × (listed_page keys at ≡ p)
     × PassedAtLoad h p (Some evicted) at new)
 
 -- after a pin of a page whose bytes were given: a list in which pages may have risen does not say
@@ -58,4 +58,4 @@ abbrev pub PassedAtFill : HistoryView → WarmUp → PageId → Option PageId �
 PassedAtFill h warm_up p None new = new ≡ warm_up.passed
 PassedAtFill h warm_up p (Some evicted) new = IfSome warm_up.list (λ keys. (new ≡ 0)
     ⊎ ((warm_up.changed.items ≡ [])
-    × PassedAtNext h (map ranked_page keys) warm_up.passed p evicted new))
+    × PassedAtNext h keys warm_up.passed p evicted new))

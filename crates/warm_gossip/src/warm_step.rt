@@ -221,12 +221,13 @@ fn first_loadable<D: PageDevice>(pool: &Pool<D>, list: &HotPages, passed: usize)
     ensures there { result < length list.now
         → IsLoadable (view_of pool.now) (nth_page (map ranked_page list.now) result) }
 {
-    for at in passed..list.len() {
+    let len = list.len();
+    for at in passed..len {
         if is_loadable(pool, list.page(at)) {
             return at;
         }
     }
-    list.len()
+    len
 }
 
 // Whether a device has the page, and it is in no frame.
@@ -295,7 +296,7 @@ fn passed_at_next(
     page: PageId,
     evicted: PageId,
 ) -> usize
-    ensures { PassedAtNext history.now (map ranked_page list.now) at page evicted result }
+    ensures { PassedAtNext history.now list.now at page evicted result }
 {
     if at >= list.len() {
         return 0;
