@@ -130,7 +130,7 @@ impl<D: PageDevice> Node<D> {
     {
         self.pool.empty()?;
         self.peer.clear();
-        self.warm_up = WarmUp::new();
+        self.warm_up = WarmUp::new(self.alloc);
         Ok(())
     }
 
