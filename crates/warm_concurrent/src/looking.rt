@@ -9,7 +9,7 @@ ghost use Rattle.warm_concurrent.specs.declared.call.ShardCall.TheVariants.{Chan
 
 use crate::fault::SharedFault;
 use crate::shard::Shard;
-use crate::shared::{Attached, SharedShards, visit_shard};
+use crate::shared::{Attached, SharedShards, visit_or_back};
 use crate::visitors::{Changing, Looking, Went};
 use std::sync::Wait;
 use warm_devices::PageDevice;
@@ -37,10 +37,11 @@ fn look_at<D: PageDevice + Send, R: Wait, T, F: FnOnce(&[u8]) -> T + Drop>(
     ensures refused { IfErr result (λ why. CallFails passes.old.items shard (Look page) why
         passes.new.items) }
 {
-    match visit_shard(rt, turns, passes, shard, Looking { page, f })? {
-        Went::Given(given) => Ok(given),
-        Went::Refused(why) => Err(SharedFault::Node(why)),
-        Went::Foreign => unreachable!(),
+    match visit_or_back(rt, turns, passes, shard, Looking { page, f }) {
+        Ok(Went::Given(given)) => Ok(given),
+        Ok(Went::Refused(why)) => Err(SharedFault::Node(why)),
+        Ok(Went::Foreign) => unreachable!(),
+        Err(_visitor) => Err(SharedFault::TurnsSpent),
     }
 }
 
@@ -65,10 +66,11 @@ fn change_at<D: PageDevice + Send, R: Wait, T, F: FnOnce(&mut [u8]) -> T + Drop>
     ensures refused { IfErr result (λ why. CallFails passes.old.items shard (Change page) why
         passes.new.items) }
 {
-    match visit_shard(rt, turns, passes, shard, Changing { page, f })? {
-        Went::Given(given) => Ok(given),
-        Went::Refused(why) => Err(SharedFault::Node(why)),
-        Went::Foreign => unreachable!(),
+    match visit_or_back(rt, turns, passes, shard, Changing { page, f }) {
+        Ok(Went::Given(given)) => Ok(given),
+        Ok(Went::Refused(why)) => Err(SharedFault::Node(why)),
+        Ok(Went::Foreign) => unreachable!(),
+        Err(_visitor) => Err(SharedFault::TurnsSpent),
     }
 }
 
