@@ -135,7 +135,7 @@ some_count count valid =
 pub some_shards : (ns : List NodeState) → AreShards ns → 0 < length ns
 some_shards ns are = some_count (length ns) are.count
 
-below_count : (count : ℕ) (r : Reference) → 0 < count → shard_of count r.page < count
+pub below_count : (count : ℕ) (r : Reference) → 0 < count → shard_of count r.page < count
 below_count count r some = omega arith
 
 -- all shards have absorbed all

@@ -5,7 +5,7 @@ use Rattle.std.proofs.lemmas.List.{append-nil}
 use Rattle.std.proofs.Math.Nat.{max-zero}
 use Rattle.warm_stamps.specs.declared.Reference.{Reference}
 use Rattle.warm_history.specs.ReferenceSets.{ReferenceSet, set_of_list, with_horizon, ◌∪◌}
-use Rattle.warm_history.specs.Histories.{HistoryView, IsHistory, history, references_of}
+use Rattle.warm_history.specs.Histories.{HistoryView, history, references_of}
 use Rattle.warm_history.proofs.HistoryLemmas.{IsHistory-history}
 use Rattle.warm_history.proofs.JoinLemmas.{both_assoc, history_first, raised_to_no_later}
 use Rattle.warm_gossip.specs.State.{NodeState}

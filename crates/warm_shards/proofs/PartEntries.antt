@@ -88,3 +88,27 @@ part_given shards shard horizon es some none =
 pub part_none : (shards shard horizon : ℕ) (es : List Entry) → part_of_entries shards shard es ≡ []
     → (of_shard shards shard (references_of (history_of_entries_at horizon es))).given ≡ []
 part_none shards shard horizon es none = sym (parts_hold shards shard es) ∙ ap list_references_of none
+
+-- a test that finds no entry of the shard, and one that finds some
+pub said_none : (b : Bool) (es : List Entry) → (es ≢ [] → b ≡ true) → b ≡ false → es ≡ []
+said_none b [] said no = refl
+said_none b (e ∷ es) said no =
+    let yes : b ≡ true = said (λ (empty : e ∷ es ≡ []). absurd (cc)) in
+    let both : true ≡ false = sym yes ∙ no in
+    absurd (cc)
+
+pub said_some : (count long shard horizon : ℕ) (es : List Entry) → count ≡ long
+    → part_of_entries count shard es ≢ []
+    → HasPart long shard (references_of (history_of_entries_at horizon es))
+said_some count long shard horizon es same some =
+    part_given long shard horizon es (λ none. some (ap (λ n. part_of_entries n shard es) same ∙ none))
+
+-- the references of a part are those of the whole to pages of the shard
+pub part_refs : (count long shard horizon : ℕ) (es part : List Entry) → count ≡ long
+    → part ≡ part_of_entries count shard es
+    → references_of (history_of_entries_at horizon part)
+    ≡ of_shard long shard (references_of (history_of_entries_at horizon es))
+part_refs count long shard horizon es part same is =
+    let here : part ≡ part_of_entries long shard es = is ∙ ap (λ n. part_of_entries n shard es) same in
+    let given : list_references_of part ≡ (of_shard long shard (references_of (history_of_entries_at horizon es))).given = ap list_references_of here ∙ parts_hold long shard es in
+    λ i. record { horizon = horizon; given = given i }

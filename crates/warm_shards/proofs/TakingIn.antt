@@ -1,17 +1,23 @@
 -- Taking in a set of references, shard by shard. All shards have its horizon.
-use Rattle.std.proofs.Common.{◌≡◌, inr, ℕ, ◌+◌, ◌<◌, ◌≤◌, List, [], ◌++◌, length, max, set, refl, sym, ap, ◌∙◌, arith, append-nil}
+use Rattle.std.proofs.Common.{◌≡◌, inr, ℕ, ◌+◌, ◌<◌, ◌≤◌, List, [], ◌++◌, length, max, set, get_or, refl, sym, ap, subst, ◌∙◌, arith, append-nil}
+use Rattle.std.specs.List.{AllByRecursion}
+use Rattle.warm_history.specs.declared.hist.Entry.{Entry}
 use Rattle.warm_history.specs.ReferenceSets.{ReferenceSet, ◌∪◌}
-use Rattle.warm_history.specs.Histories.{HistoryView, history, references_of}
+use Rattle.warm_history.specs.Histories.{HistoryView, history, history_of_entries_at, references_of}
 use Rattle.warm_history.proofs.HistoryLemmas.{horizon-history}
 use Rattle.warm_history.proofs.JoinLemmas.{history_first}
+use Rattle.warm_pool.specs.Keeping.{KeepsBytes}
 use Rattle.warm_pool.specs.View.{PoolView}
+use Rattle.warm_gossip.specs.Clauses.{JoinsEntries, SameView}
 use Rattle.warm_gossip.specs.State.{NodeState, NodeView}
 use Rattle.warm_shards.specs.Clauses.{HasPart, KeepPools, TakesInFirst}
-use Rattle.warm_shards.specs.Shards.{AreShards, as_node, of_first_shards, of_shard, shard_at, whole}
-use Rattle.warm_shards.proofs.Absorbing.{some_shards}
-use Rattle.warm_shards.proofs.Alone.{StaysAlone, TakesAlone, alone_id, alone_pools, alone_shards, alone_whole, none_taken, stays_pools, stays_shards, stays_whole}
+use Rattle.warm_shards.specs.Parts.{part_of_entries}
+use Rattle.warm_shards.specs.Shards.{AreShards, as_node, of_first_shards, of_shard, shard_at, shard_of, whole}
+use Rattle.warm_shards.proofs.Absorbing.{below_count, some_shards}
+use Rattle.warm_shards.proofs.Alone.{StaysAlone, TakesAlone, alone_id, alone_pools, alone_shards, alone_whole, joins_alone, none_taken, not_joined, stays_pools, stays_shards, stays_whole}
 use Rattle.warm_shards.proofs.Buckets.{shard_horizon}
 use Rattle.warm_shards.proofs.Calls.{id_stays, keep_none, keep_then}
+use Rattle.warm_shards.proofs.PartEntries.{part_own, part_refs}
 use Rattle.warm_shards.proofs.Parts.{all_parts, next_part}
 
 -- the first k shards have taken in the references of S to their pages
@@ -100,10 +106,37 @@ pub some_have : (old ns : List NodeState) (S : ReferenceSet) (k : ℕ) → k < l
     → HasPart (length old) k S → HaveTaken old S k ns → TakesInFirst old S ns
 some_have old ns S k lt part have = (k, lt, inr part, have.taken)
 
-pub all_have : (old ns : List NodeState) (S : ReferenceSet) (pool : PoolView) → AreShards old
-    → HaveTaken old S (length old) ns
+-- all shards have taken all in
+pub all_taken : (old ns : List NodeState) (S : ReferenceSet) (count k : ℕ) → count ≡ length old
+    → count ≤ k → k ≤ count → AreShards old → HaveTaken old S k ns → (pool : PoolView)
     → as_node ns pool ≡ record (as_node old pool) { history = history (references_of (whole old) ∪ S) }
-all_have old ns S pool are have =
-    let some = some_shards old are in
-    let h : whole ns ≡ history (references_of (whole old) ∪ S) = have.taken ∙ all_parts (length old) (references_of (whole old)) S (λ r. omega (arith, some)) in
-    λ i. record { id = have.id i; history = h i; pool = pool }
+all_taken old ns S count k same over under are have pool =
+    let end : k ≡ length old = omega arith in
+    let taken : whole ns ≡ history (references_of (whole old) ∪ S) = have.taken ∙ ap (λ x. history (references_of (whole old) ∪ of_first_shards (length old) x S)) end ∙ all_parts (length old) (references_of (whole old)) S (λ r. below_count (length old) r (some_shards old are)) in
+    λ i. record { id = have.id i; history = taken i; pool = pool }
+
+-- ---- entries
+
+-- the next shard joins its part of the entries
+pub part_joined : (old ns : List NodeState) (count k horizon : ℕ) (es part : List Entry)
+    (n m d : NodeState) → count ≡ length old → k < count → part ≡ part_of_entries count k es
+    → n ≡ get_or ns k d → JoinsEntries n horizon part m → KeepsBytes n.pool m.pool
+    → HaveTaken old (references_of (history_of_entries_at horizon es)) k ns
+    → HaveTaken old (references_of (history_of_entries_at horizon es)) (k + 1) (set ns k m)
+part_joined old ns count k horizon es part n m d same lt is at joins bytes have =
+    let S = references_of (history_of_entries_at horizon es) in
+    let long : length ns ≡ length old = have.pools.count in
+    let there : k < length ns = omega (arith, long, same, lt) in
+    let here : part ≡ part_of_entries (length ns) k es = is ∙ ap (λ x. part_of_entries x k es) (same ∙ sym long) in
+    let own : AllByRecursion (λ (e : Entry). shard_of (length ns) e.page ≡ k) part = subst (λ (xs : List Entry). AllByRecursion (λ (e : Entry). shard_of (length ns) e.page ≡ k) xs) (sym here) (part_own (length ns) k es) in
+    let takes = joins_alone ns k horizon part n m d there own have.late at joins bytes in
+    next_have old ns S k m have (subst (λ (R : ReferenceSet). TakesAlone ns k R m) (part_refs count (length old) k horizon es part same is) takes)
+
+-- the next shard refuses its part
+pub part_refused : (old ns : List NodeState) (S : ReferenceSet) (count k : ℕ) (n m d : NodeState)
+    → count ≡ length old → k < count → n ≡ get_or ns k d → SameView n m → KeepsBytes n.pool m.pool
+    → HaveTaken old S k ns → HaveTaken old S k (set ns k m)
+part_refused old ns S count k n m d same lt at seen bytes have =
+    let long : length ns ≡ length old = have.pools.count in
+    let there : k < length ns = omega (arith, long, same, lt) in
+    stays_have old ns S k m have (not_joined ns k n m d there at seen bytes)

@@ -1,5 +1,5 @@
 //! Exchanging histories: what all shards together offer, send, receive and answer.
-ghost use Rattle.std.specs.Prelude.{◌≡◌, ◌↔◌, length, IfErr, IfOk, OnOk, IsTrue};
+ghost use Rattle.std.specs.Prelude.{◌≡◌, ◌↔◌, IfErr, IfOk, OnOk, IsTrue};
 ghost use Rattle.warm_history.specs.Histories.{entries_of, references_of};
 ghost use Rattle.warm_peer.specs.Answers.{IsAnswer, refs_in};
 ghost use Rattle.warm_peer.specs.Since.{BringsHeld, HasMoreSince, sent_since};

@@ -54,10 +54,11 @@ fn join_each<D: PageDevice>(
 {
     let count = nodes.len();
     for shard in 0..count {
-        if has_part(entries, count, shard) {
-            let part = part_of_entries(alloc, entries, count, shard)?;
-            nodes[shard].join_entries(horizon, &part)?;
+        if !has_part(entries, count, shard) {
+            continue;
         }
+        let part = part_of_entries(alloc, entries, count, shard)?;
+        nodes[shard].join_entries(horizon, &part)?;
     }
     Ok(())
 }

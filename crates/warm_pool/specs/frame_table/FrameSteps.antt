@@ -10,6 +10,14 @@ abbrev pub fresh_frames : ℕ → ℕ → FramesState
 fresh_frames frames size =
     record { page_size = size; frames = replicate frames (fresh_frame (replicate size 0)) }
 
+-- the status and the body of a frame without a page, into which none was ever loaded
+abbrev pub unused_status : Status
+unused_status = record { fixes = 0; dirty = false }
+
+abbrev pub fresh_body : List ℕ → FrameBody
+fresh_body bytes = record { key = None; generation = 0; bytes = bytes }
+
+-- as many such bodies
 abbrev pub fresh_bodies : ℕ → ℕ → List FrameBody
 fresh_bodies frames size = replicate frames (fresh_body (replicate size 0))
 
@@ -38,10 +46,3 @@ loaded_frame page key fixes bytes f =
 abbrev pub filled_body : RankKey → List ℕ → FrameBody → FrameBody
 filled_body key bytes body =
     record { key = Some key; generation = body.generation + 1; bytes = bytes }
-
--- the status and the body of a frame without a page, into which none was ever loaded
-abbrev pub unused_status : Status
-unused_status = record { fixes = 0; dirty = false }
-
-abbrev pub fresh_body : List ℕ → FrameBody
-fresh_body bytes = record { key = None; generation = 0; bytes = bytes }
