@@ -1,21 +1,23 @@
 -- A page that was pinned is held, and what was left in its bytes is written.
-use Rattle.std.proofs.Common.{◌≡◌, ℕ, ◌<◌, ◌+◌, inl, inr, List, length, sym, ap, subst, ◌∙◌, arith}
+use Rattle.std.proofs.Common.{◌≡◌, ℕ, ◌<◌, ◌+◌, inl, inr, List, length, refl, sym, ap, subst, ◌∙◌, arith}
 use Rattle.std.proofs.lemmas.List.{get_or-set_same, length-set}
 use Rattle.warm_stamps.specs.declared.PageId.{PageId}
 use Rattle.warm_pool.specs.declared.slot.Slot.{Slot}
-use Rattle.warm_pool.specs.Pinning.{AddsFix}
+use Rattle.warm_pool.specs.PageBytes.{IsLent}
+use Rattle.warm_pool.specs.Pinning.{AddsFix, CanPinAgain}
 use Rattle.warm_pool.specs.State.{IsPool}
 use Rattle.warm_pool.specs.View.{FrameView, PoolView, frame_at, view_of, Holds}
 use Rattle.warm_pool.proofs.Pins.{puts_holds}
+use Rattle.warm_pool.proofs.UndonePins.{kept_again, lent_meanwhile, pinned_once, pins_once, takes_once, undone}
 use Rattle.warm_gossip.specs.declared.call.Call.TheVariants.{Pin, Unpin, Write}
 use Rattle.warm_gossip.specs.declared.call.Reply.TheVariants.{Done, Pinned}
 use Rattle.warm_gossip.specs.Lending.{relent_node}
-use Rattle.warm_gossip.specs.State.{NodeState, NodeView}
+use Rattle.warm_gossip.specs.State.{NodeState, NodeView, node_view}
 use Rattle.warm_gossip.specs.Step.{Refuses, Step}
 use Rattle.warm_gossip.specs.declared.fault.NodeFault.{NodeFault}
 use Rattle.warm_gossip.specs.declared.fault.NodeFault.TheVariants.{StaleSlot}
 use Rattle.warm_gossip.proofs.Lents.{lent_bytes}
-use Rattle.warm_concurrent.specs.ShardSteps.{CallStep}
+use Rattle.warm_concurrent.specs.ShardSteps.{CallStep, Looks}
 
 adds_holds : (v w : PoolView) (p : PageId) (slot : Slot) → AddsFix v p slot w → Holds w slot
 adds_holds v w p slot x =
@@ -53,3 +55,23 @@ pub held_unpins : (o m : NodeView) (slot : Slot) (why : NodeFault) → Holds o.p
     → Refuses o (Unpin slot) why m → ⊥
 held_unpins o m slot StaleSlot held refused = refused.0 held
 held_unpins o m slot why held refused = refused
+
+-- A resident page that can be pinned was looked at, though it was not: the pin and the unpin would
+-- leave the node as it was, and the bytes are those that would be lent meanwhile.
+pub looks_unpinned : (n : NodeState) (p : PageId) (slot : Slot) (bytes : List ℕ) → IsPool n.pool
+    → CanPinAgain n.pool p slot → IsLent (view_of n.pool) slot bytes → Looks n p slot bytes n
+looks_unpinned n p slot bytes pool can lent =
+    let mid : NodeState = record n { pool = pinned_once n.pool slot.index } in
+    let pins : Step (node_view n) (Pin p) (Pinned slot) (node_view mid) = (refl, pins_once pool p slot can n.history) in
+    record {
+      mid = mid;
+      pins = (pins, takes_once pool p slot can);
+      lends = lent_meanwhile pool p slot can bytes lent;
+      unpins = (
+        (
+          pinned_holds (node_view n) (node_view mid) p slot pins,
+          ap (λ (v : PoolView). let m : NodeView = record (node_view n) { pool = v } in m) (undone pool p slot can),
+        ),
+        kept_again pool p slot can,
+      );
+    }
