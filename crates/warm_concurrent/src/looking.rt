@@ -8,7 +8,7 @@ ghost use Rattle.warm_concurrent.specs.Visits.{ChangesPageAt, LooksAt};
 ghost use Rattle.warm_concurrent.specs.declared.call.ShardCall.TheVariants.{Change, Look};
 
 use crate::fault::SharedFault;
-use crate::shard::Shard;
+use crate::shard::{Place, Shard};
 use crate::shared::{Attached, SharedShards, visit_or_back};
 use crate::visitors::{Changing, Looking, Went};
 use std::sync::Wait;
@@ -37,7 +37,11 @@ fn look_at<D: PageDevice + Send, R: Wait, T, F: FnOnce(&[u8]) -> T + Drop>(
     ensures refused { IfErr result (λ why. CallFails passes.old.items shard (Look page) why
         passes.new.items) }
 {
-    match visit_or_back(rt, turns, passes, shard, Looking { page, f }) {
+    let place = Place {
+        count: turns.len(),
+        number: shard,
+    };
+    match visit_or_back(rt, turns, passes, shard, Looking { page, place, f }) {
         Ok(Went::Given(given)) => Ok(given),
         Ok(Went::Refused(why)) => Err(SharedFault::Node(why)),
         Ok(Went::Foreign) => unreachable!(),
