@@ -62,4 +62,15 @@ impl<D: PageDevice> Node<D> {
     {
         self.pool.look_up(page)
     }
+    /// All bytes of a resident page, pinned or not, in the slot that [`Node::look_up`] gave, to be
+    /// written to, as [`Node::bytes_mut`] lends those of a pinned page.
+    pub fn resident_bytes_mut(&mut self, page: PageId, slot: Slot) -> &mut [u8]
+        requires can { CanPinAgain self.old.pool page slot }
+        ensures* writes_back { sem 𝓛 (LendsNodePage D.row D.PageDevice self.entry slot.index
+            result) }
+        ensures lent { IsLent (view_of self.old.pool) slot result.now }
+    {
+        self.pool.prove_is_pool();
+        self.pool.resident_bytes_mut(page, slot)
+    }
 }

@@ -1,18 +1,20 @@
 -- A pin of a resident page that an unpin undoes: the pool is then as it was.
-use Rattle.std.proofs.Common.{◌≡◌, ℕ, ◌+◌, ◌-◌, ◌^◌, ◌<◌, List, [], length, set, Some, refl, sym, ◌∙◌, ap, subst, inl, arith}
-use Rattle.std.proofs.lemmas.List.{get_or-set_same, get_or-set_other, set-set, set-get_or}
+use Rattle.std.proofs.Common.{◌≡◌, ◌≢◌, ℕ, ◌+◌, ◌-◌, ◌^◌, ◌<◌, List, [], length, set, Some, None, refl, sym, ◌∙◌, ap, subst, inl, arith}
+use Rattle.std.proofs.lemmas.List.{get_or-set_same, get_or-set_other, length-set, set-set, set-get_or}
 use Rattle.warm_stamps.specs.declared.PageId.{PageId}
 use Rattle.warm_history.specs.Histories.{HistoryView}
 use Rattle.warm_pool.specs.declared.slot.Slot.{Slot}
 use Rattle.warm_pool.specs.FrameSteps.{fixed}
-use Rattle.warm_pool.specs.Frames.{nth_frame, fresh_frame}
+use Rattle.warm_pool.specs.Frames.{FrameState, nth_frame, fresh_frame}
 use Rattle.warm_pool.specs.Keeping.{KeepsBytes}
+use Rattle.warm_pool.specs.Lending.{relent, relent_pool}
 use Rattle.warm_pool.specs.PageBytes.{IsLent}
 use Rattle.warm_pool.specs.Pinning.{AddsFix, CanPinAgain, Pinned, TakesFrame, unpinned}
 use Rattle.warm_pool.specs.State.{PoolState, IsPool}
 use Rattle.warm_pool.specs.View.{FrameView, PoolView, contents_at, frame_at, view_of}
-use Rattle.warm_pool.proofs.Keeps.{seen_fixed, view-set}
+use Rattle.warm_pool.proofs.Keeps.{alike_fits, alike_fixes, seen_fixed, set_keeps_pool, view-set}
 use Rattle.warm_pool.proofs.KeepingLemmas.{stays_in_frame}
+use Rattle.warm_pool.proofs.Lents.{lent_pool}
 use Rattle.warm_pool.proofs.PoolSteps.{seen_fixes, seen_generation, seen_has, seen_page, seen_there}
 use Rattle.warm_pool.proofs.Slots.{at_set}
 
@@ -93,3 +95,43 @@ module _ {s : PoolState} (pool : IsPool s) (p : PageId) (slot : Slot) (can : Can
 
   pub kept_again : KeepsBytes (pinned_once s slot.index) s
   kept_again = record { devices = refl; bytes = λ i. sym (kept.bytes i); dirty = λ i. sym (kept.dirty i) }
+
+  -- Bytes are left in the page meanwhile.
+
+  pub has_page : (nth_frame s.frames slot.index).page ≢ None
+  has_page none = let no : Some p ≡ None = sym can.holds ∙ none in absurd (cc)
+
+  pub pinned_pool : IsPool (pinned_once s slot.index)
+  pinned_pool =
+      set_keeps_pool s slot.index (fixed (nth_frame s.frames slot.index))
+      (alike_fits s slot.index (fixed (nth_frame s.frames slot.index)) can.there (alike_fixes pool slot.index ((nth_frame s.frames slot.index).fixes + 1) has_page) pool)
+      pool
+
+  pub relent_is_pool : (w : List ℕ) → IsPool (relent_pool s slot.index w)
+  relent_is_pool w = lent_pool (record { page_size = s.page_size; frames = s.frames }) pool slot.index can.there has_page w
+
+  -- the page can be pinned again afterwards
+  pub relent_can : (w : List ℕ) → CanPinAgain (relent_pool s slot.index w) p slot
+  relent_can w =
+      let f : FrameState = relent w (nth_frame s.frames slot.index) in
+      let at : nth_frame (set s.frames slot.index f) slot.index ≡ f = get_or-set_same s.frames slot.index f (fresh_frame []) can.there in
+      record {
+        there = subst (λ n. slot.index < n) (sym (length-set s.frames slot.index f)) can.there;
+        holds = ap (λ g. g.page) at ∙ can.holds;
+        below = subst (λ g. g.fixes < 2 ^ 32 - 1) (sym at) can.below;
+        current = can.current ∙ sym (ap (λ g. g.generation) at);
+      }
+
+  -- whether the pin or the bytes come first
+  pub either_first : (w : List ℕ)
+      → relent_pool (pinned_once s slot.index) slot.index w
+      ≡ pinned_once (relent_pool s slot.index w) slot.index
+  either_first w =
+      let f : FrameState = nth_frame s.frames slot.index in
+      let pin_first : set (set s.frames slot.index (fixed f)) slot.index (relent w (nth_frame (set s.frames slot.index (fixed f)) slot.index)) ≡ set s.frames slot.index (relent w (fixed f)) =
+      ap (λ (g : FrameState). set (set s.frames slot.index (fixed f)) slot.index (relent w g)) (get_or-set_same s.frames slot.index (fixed f) (fresh_frame []) can.there)
+      ∙ set-set s.frames slot.index (fixed f) (relent w (fixed f)) in
+      let pin_last : set (set s.frames slot.index (relent w f)) slot.index (fixed (nth_frame (set s.frames slot.index (relent w f)) slot.index)) ≡ set s.frames slot.index (fixed (relent w f)) =
+      ap (λ (g : FrameState). set (set s.frames slot.index (relent w f)) slot.index (fixed g)) (get_or-set_same s.frames slot.index (relent w f) (fresh_frame []) can.there)
+      ∙ set-set s.frames slot.index (relent w f) (fixed (relent w f)) in
+      ap (λ (frames : List FrameState). let t : PoolState = record s { frames = frames } in t) (pin_first ∙ sym pin_last)

@@ -1,4 +1,5 @@
-//! Lending the bytes of a page: of a pinned one to be written to, and of a resident one to be read.
+//! Lending the bytes of a page, to be written to; and of a resident page, which need not be pinned
+//! where nobody else has the pool.
 ghost use Rattle.std.specs.Prelude.{◌≡◌, IfSome};
 ghost use Rattle.std.specs.Borrow.{sem};
 ghost use Rattle.warm_pool.specs.View.{view_of, Holds};
@@ -48,5 +49,15 @@ impl<D: PageDevice> Pool<D> {
         ensures { IsLent (view_of self.now) slot result.now }
     {
         self.frames.bytes(slot.index as usize)
+    }
+    /// All bytes of a resident page, pinned or not, in the slot that [`Pool::look_up`] gave, to be
+    /// written to, as [`Pool::bytes_mut`] lends those of a pinned page.
+    pub fn resident_bytes_mut(&mut self, _page: PageId, slot: Slot) -> &mut [u8]
+        requires can { CanPinAgain self.old _page slot }
+        ensures* writes_back { sem 𝓛 (LendsPage D.row D.PageDevice self.entry slot.index result) }
+        ensures lent { IsLent (view_of self.old) slot result.now }
+    {
+        let at = slot.index as usize;
+        self.frames.bytes_mut(at)
     }
 }
