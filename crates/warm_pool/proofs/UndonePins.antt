@@ -15,6 +15,7 @@ use Rattle.warm_pool.specs.View.{FrameView, PoolView, contents_at, frame_at, vie
 use Rattle.warm_pool.proofs.Keeps.{alike_fits, alike_fixes, seen_fixed, set_keeps_pool, view-set}
 use Rattle.warm_pool.proofs.KeepingLemmas.{stays_in_frame}
 use Rattle.warm_pool.proofs.Lents.{lent_pool}
+use Rattle.warm_pool.proofs.PinsAdded.{no_frame}
 use Rattle.warm_pool.proofs.PoolSteps.{seen_fixes, seen_generation, seen_has, seen_page, seen_there}
 use Rattle.warm_pool.proofs.Slots.{at_set}
 
@@ -22,8 +23,7 @@ use Rattle.warm_pool.proofs.Slots.{at_set}
 abbrev pub pinned_once : PoolState → ℕ → PoolState
 pinned_once s i = record s { frames = set s.frames i (fixed (nth_frame s.frames i)) }
 
-module _ {s : PoolState} (pool : IsPool s) (p : PageId) (slot : Slot) (can : CanPinAgain s p slot)
-    where
+module _ {s : PoolState} (pool : IsPool s) (p : PageId) (slot : Slot) (can : CanPinAgain s p slot) where
   -- what a caller sees of the frame, before the pin and after it
   abbrev before : FrameView
   before = frame_at (view_of s) slot.index
@@ -70,7 +70,7 @@ module _ {s : PoolState} (pool : IsPool s) (p : PageId) (slot : Slot) (can : Can
       → IsLent (view_of (pinned_once s slot.index)) slot bytes
   lent_meanwhile bytes lent = record {
     page = lent.page;
-    holds = ap (λ v. (frame_at v slot.index).page) seen ∙ ap (λ f. f.page) (get_or-set_same (view_of s).frames slot.index after _ there) ∙ lent.holds;
+    holds = ap (λ v. (frame_at v slot.index).page) seen ∙ ap (λ f. f.page) (get_or-set_same (view_of s).frames slot.index after no_frame there) ∙ lent.holds;
     size = lent.size;
     all = lent.all ∙ sym (ap (λ v. contents_at v lent.page) seen);
   }
@@ -83,14 +83,14 @@ module _ {s : PoolState} (pool : IsPool s) (p : PageId) (slot : Slot) (can : Can
       let as_many : before.fixes + 1 - 1 ≡ before.fixes = omega arith in
       ap (λ (n : ℕ). let f : FrameView = record before { fixes = n } in set (set (view_of s).frames slot.index after) slot.index f) as_many
       ∙ set-set (view_of s).frames slot.index after before
-      ∙ set-get_or (view_of s).frames slot.index _
+      ∙ set-get_or (view_of s).frames slot.index no_frame
 
   -- the unpin
   pub undone : view_of s ≡ unpinned (view_of (pinned_once s slot.index)) slot
   undone = sym (
     ap (λ (v : PoolView). unpinned v slot) seen
     ∙ ap (λ (f : FrameView). let g : FrameView = record f { fixes = f.fixes - 1 } in let v : PoolView = record (view_of s) { frames = set (set (view_of s).frames slot.index after) slot.index g } in v)
-    (get_or-set_same (view_of s).frames slot.index after _ there)
+    (get_or-set_same (view_of s).frames slot.index after no_frame there)
     ∙ ap (λ (frames : List FrameView). let v : PoolView = record (view_of s) { frames = frames } in v) same_frames)
 
   pub kept_again : KeepsBytes (pinned_once s slot.index) s

@@ -22,6 +22,6 @@ returns-in-Some-clause-changed g c =
     let pool = subst IsPool (c.pool.ensures ∙ ap (λ (n : NodeState). n.pool) c.in-Some.ensures.same) c.prove_is_pool.ensures in
     let lent = subst (λ (n : NodeState). IsLent (view_of n.pool) slot c.resident_bytes_mut-lent.result.now) c.in-Some.ensures.same c.resident_bytes_mut-lent.ensures.lent in
     let changed = changes_unpinned old page slot c.resident_bytes_mut-lent.result.now w pool c.in-Some.ensures.found lent c.f-output.auto.arg2 in
-    let from = subst (λ (b : List ℕ). Changes old page slot b w (relent_node old slot.index w)) (sym c.tag_of-before.ensures) changed in
-    let both = subst (λ (a : List ℕ). Changes old page slot c.tag_of-before.result.numbers a (relent_node old slot.index w)) (sym c.tag_of-after.ensures) from in
+    let first = subst (λ (b : List ℕ). Changes old page slot b w (relent_node old slot.index w)) (sym c.tag_of-before.ensures) changed in
+    let both = subst (λ (a : List ℕ). Changes old page slot c.tag_of-before.result.numbers a (relent_node old slot.index w)) (sym c.tag_of-after.ensures) first in
     subst (λ (n : NodeState). Changes old page slot c.tag_of-before.result.numbers c.tag_of-after.result.numbers (relent_node n slot.index w)) (sym c.in-Some.ensures.same) both
