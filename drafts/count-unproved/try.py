@@ -12,7 +12,7 @@ if "--" in rest:
     i = rest.index("--"); args = rest[i+1:]; rest = rest[:i]
 name, tests = rest[0], "--test" in rest
 where = None
-if name == "lookbench": crates[name] = "warm_concurrent warm_shards warm_machine warm_turn warm_gossip warm_pool warm_devices warm_history warm_stamps".split(); where = "/work/h/look-tc/lookbench"
+if name == "lookbench": crates[name] = "warm_concurrent warm_shards warm_machine warm_turn warm_gossip warm_pool warm_devices warm_history warm_stamps".split(); where = os.environ["LOOKBENCH"]
 def kit_of(n): return ["std", *[d for d in crates[n] if d not in crates and d != "staticlib"]]
 below = lib.below(name, crates)
 words = [f"{KIT}/bin/rattle-try", "--toolchain", os.environ.get("TC", f"{KIT}/toolchain"), "--asan", f"{KIT}/c/asan.a", "--steps", "20000000", "--seconds", "300"]

@@ -66,6 +66,26 @@ pub(crate) fn is_own_page(count: usize, number: usize, page: PageId) -> bool
     shard_of(count, page) == number
 }
 
+// Where a page is: the number of its shard, and of how many. A caller has reckoned it.
+#[derive(Clone, Copy)]
+pub(crate) struct Place {
+    pub(crate) count: usize,
+    pub(crate) number: usize,
+}
+
+// Whether a page is of the shard of this number. Mostly its place says so, and its shard is not
+// reckoned again, which takes a division.
+pub(crate) fn is_own_place(count: usize, number: usize, page: PageId, place: Place) -> bool
+    requires count { IsShardCount count }
+    requires place { shard_of place.count page ≡ place.number }
+    ensures { IsTrue result ↔ (shard_of count page ≡ number) }
+{
+    if place.count == count && place.number == number {
+        return true;
+    }
+    is_own_page(count, number, page)
+}
+
 // Whether all items name pages of the shard of this number.
 fn are_own<T: NamesPage>(count: usize, number: usize, items: &[T]) -> bool
     requires { IsShardCount count }
