@@ -11,8 +11,10 @@ use Rattle.warm_frames.specs.declared.limit.TimeFault.{TimeFault}
 use Rattle.warm_frames.specs.declared.limit.TimeFault.TheVariants.{LateHorizon, LateStamp}
 use Rattle.warm_frames.specs.Limits.{StampsBy, entries_in, horizon_in}
 use Rattle.warm_frames.specs.Encoding.{encoding}
+use Rattle.warm_pool.specs.Keeping.{KeepsBytes}
 use Rattle.warm_pool.specs.State.{IsSettled}
 use Rattle.warm_pool.specs.View.{view_of, IsResident}
+use Rattle.warm_pool.specs.WritingBack.{WriteBackFails}
 use Rattle.warm_gossip.specs.declared.call.Call.{Call}
 use Rattle.warm_gossip.specs.declared.call.Call.TheVariants.{Absorb, Horizon, Pin, Unpin}
 use Rattle.warm_gossip.specs.declared.call.Call.TheVariants.{Read, Write, Victim, WarmList, WarmStep}
@@ -20,7 +22,7 @@ use Rattle.warm_gossip.specs.declared.call.Reply.{Reply}
 use Rattle.warm_gossip.specs.declared.call.Reply.TheVariants.{Done, Kept, Pinned, Bytes}
 use Rattle.warm_gossip.specs.declared.call.Reply.TheVariants.{Page, Pages, Loaded, Refused}
 use Rattle.warm_gossip.specs.declared.fault.NodeFault.TheVariants.{Memory}
-use Rattle.warm_gossip.specs.Clauses.{Goes, Joins, SameView, NodeWriteBackFails}
+use Rattle.warm_gossip.specs.Clauses.{DevicesAfter, Goes, Joins, SameView, NodeWriteBackFails}
 use Rattle.warm_c.specs.declared.open_node.OpenNode.{OpenNode}
 use Rattle.warm_c.specs.declared.status.Refusal.{Refusal}
 use Rattle.warm_c.specs.declared.status.Refusal.TheVariants.{Node, BufferTooSmall, BadReplica}
@@ -40,9 +42,17 @@ Ending = Result (Unit {0}) Refusal
 abbrev pub SameDevices : OpenNode → OpenNode → Type 0
 SameDevices old new = new.devices ≡ old.devices
 
--- The node has answered this call so, and the devices are as they were.
+-- A caller of the node sees no change. Its devices, the bytes and the dirty flag of each frame, and
+-- the devices that the handle was given are as they were.
+abbrev pub SameOpen : OpenNode → OpenNode → Type 0
+SameOpen old new = SameView old.node new.node × KeepsBytes old.node.pool new.node.pool
+    × SameDevices old new
+
+-- The node has answered this call so, and left its devices and the dirty flags of its frames as
+-- after this reply. The handle is over the devices that it was given.
 abbrev pub Replies : Call → OpenNode → Reply → OpenNode → Type 0
-Replies call old reply new = Goes old.node call reply new.node × SameDevices old new
+Replies call old reply new = Goes old.node call reply new.node
+    × DevicesAfter old.node call reply new.node × SameDevices old new
 
 -- the node refuses the call for this reason
 abbrev pub RefusedByNode : Call → OpenNode → Refusal → OpenNode → Type 0
@@ -132,7 +142,7 @@ abbrev pub NodeWritesBack : OpenNode → Ending → OpenNode → Type 0
 NodeWritesBack old (Ok given) new = SameView old.node new.node × IsSettled new.node.pool
     × SameDevices old new
 NodeWritesBack old (Err (Node why)) new = NodeWriteBackFails old.node why new.node
-    × SameDevices old new
+    × WriteBackFails old.node.pool new.node.pool × SameDevices old new
 NodeWritesBack old (Err why) new = ⊥
 
 -- Frames
@@ -167,14 +177,15 @@ abbrev pub Saves : OpenNode → Ending → OpenNode → Type 0
 Saves old (Ok given) new = new ≡ old
 Saves old (Err why) new = SaveRefused why × (new ≡ old)
 
--- The node has joined a history, of which the bytes are a dump, where they are known. Or they show
--- why they are none, or were not read, and nothing has changed; or an allocation for the join
--- failed, and nothing has changed that a caller sees.
+-- The node has joined a history, of which the bytes are a dump, where they are known, and its
+-- devices and frames have their bytes and dirty flags as before. Or they show why they are none, or
+-- were not read, and nothing has changed; or an allocation for the join failed, and nothing has
+-- changed that a caller sees, nor those.
 abbrev pub Loads : Option (List ℕ) → OpenNode → Ending → OpenNode → Type 0
 Loads bytes old (Ok given) new =
     ((h : HistoryView) × IsHistory h × IfSome bytes (λ text. IsDump text h)
-    × Joins old.node h new.node) × SameDevices old new
-Loads bytes old (Err (Node Memory)) new = SameView old.node new.node × SameDevices old new
+    × Joins old.node h new.node) × KeepsBytes old.node.pool new.node.pool × SameDevices old new
+Loads bytes old (Err (Node Memory)) new = SameOpen old new
 Loads bytes old (Err (Dump why)) new = ((at : ℕ) × IfSome bytes (λ text. IsDumpRefused text at why))
     × (new ≡ old)
 Loads bytes old (Err why) new = ⊥

@@ -1,9 +1,10 @@
 -- What the calls on the devices of a handle do.
 use Rattle.std.specs.Prelude.{ℕ, ◌*◌, ◌^◌, ◌<◌, ◌≡◌, ◌⊎◌, List, length, set, Ok, Err}
 use Rattle.warm_devices.specs.Device.{DeviceState}
-use Rattle.warm_pool.specs.Retiring.{RetireRefused, Retired}
+use Rattle.warm_pool.specs.Retiring.{KeepsElsewhere, RetireRefused, Retired}
 use Rattle.warm_pool.specs.View.{view_of}
-use Rattle.warm_pool.specs.declared.fault.PoolFault.TheVariants.{NoDevice}
+use Rattle.warm_pool.specs.WritingSome.{StopsAtDevice}
+use Rattle.warm_pool.specs.declared.fault.PoolFault.TheVariants.{Fault, NoDevice}
 use Rattle.warm_gossip.specs.declared.fault.NodeFault.TheVariants.{Memory, Pool}
 use Rattle.warm_gossip.specs.Clauses.{SameView}
 use Rattle.warm_c.specs.declared.open_node.OpenNode.{OpenNode}
@@ -35,11 +36,13 @@ pub record KeepsHistory (old new : OpenNode) : Type 0 where
   pub id : new.node.id ≡ old.node.id
   pub history : new.node.history ≡ old.node.history
 
--- the device is retired for the new one, and no two devices have one descriptor
+-- The device is retired for the new one, and no two devices have one descriptor. The frames of
+-- pages of other devices are unchanged.
 pub record Replaced (dev : ℕ) (d : WarmDevice) (old new : OpenNode) : Type 0 where
   pub may : MayStand dev d old
   pub apart : DescriptorsDiffer (devices_after dev d old)
   pub retired : Retired (view_of old.node.pool) dev (made_device d old) (view_of new.node.pool)
+  pub elsewhere : KeepsElsewhere dev old.node.pool new.node.pool
   pub devices : new.devices ≡ devices_after dev d old
   pub keeps : KeepsHistory old new
 
@@ -54,13 +57,16 @@ ReplaceRefused dev d old SameFile new = MayStand dev d old
 ReplaceRefused dev d old (Node (Pool why)) new = MayStand dev d old
     × DescriptorsDiffer (devices_after dev d old)
     × RetireRefused (view_of old.node.pool) dev (made_device d old) why (view_of new.node.pool)
+    × (why ≡ Fault → StopsAtDevice dev old.node.pool new.node.pool)
     × KeepsHistory old new × SameDevices old new
 ReplaceRefused dev d old why new = ⊥
 
--- the device is replaced, or the call says why not
+-- the device is replaced, or the call says why not; the frames of pages of other devices are
+-- unchanged either way
 abbrev pub Replaces : ℕ → WarmDevice → OpenNode → Ending → OpenNode → Type 0
 Replaces dev d old (Ok given) new = Replaced dev d old new
 Replaces dev d old (Err why) new = ReplaceRefused dev d old why new
+    × KeepsElsewhere dev old.node.pool new.node.pool
 
 -- Asking before
 

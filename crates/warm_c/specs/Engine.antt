@@ -2,13 +2,15 @@
 use Rattle.std.specs.Prelude.{ℕ, ◌≡◌, Bool, IsTrue, Option, Ok, Err}
 use Rattle.warm_pool.specs.declared.dirty.DirtyFrame.{DirtyFrame}
 use Rattle.warm_pool.specs.declared.fault.PoolFault.TheVariants.{Fault}
+use Rattle.warm_pool.specs.Calls.{FlushesOnce}
 use Rattle.warm_pool.specs.Forgetting.{ForgetRefused, Forgets, MayForget}
 use Rattle.warm_pool.specs.Keeping.{KeepsFrames, SameButFailures}
+use Rattle.warm_pool.specs.Retiring.{KeepsElsewhere}
 use Rattle.warm_pool.specs.View.{view_of, Holds}
 use Rattle.warm_pool.specs.WritingSome.{FlushRefused, IsDirty, IsNextDirty, IsSettledOn}
-use Rattle.warm_pool.specs.WritingSome.{PageFails, SomeFails}
+use Rattle.warm_pool.specs.WritingSome.{KeepsOtherDevices, PageFails, SomeFails}
 use Rattle.warm_pool.specs.WritingSome.{WritesBackPage, WritesBackSome}
-use Rattle.warm_pool.specs.Zeroing.{PinnedZeroed, TakesZeroed, ZeroedRefused}
+use Rattle.warm_pool.specs.Zeroing.{LeavesUnread, PinnedZeroed, TakesZeroed, ZeroedRefused}
 use Rattle.warm_gossip.specs.declared.fault.NodeFault.TheVariants.{Pool}
 use Rattle.warm_gossip.specs.Clauses.{SameView}
 use Rattle.warm_c.specs.declared.open_node.OpenNode.{OpenNode}
@@ -23,6 +25,13 @@ pub record SameButPool (old new : OpenNode) : Type 0 where
   pub id : new.node.id ≡ old.node.id
   pub history : new.node.history ≡ old.node.history
   pub devices : SameDevices old new
+
+-- Of all devices and frames, only this device and the frames of its pages may have changed. No
+-- device was flushed more than once.
+pub record ChangesOne (dev : ℕ) (old new : OpenNode) : Type 0 where
+  pub elsewhere : KeepsElsewhere dev old.node.pool new.node.pool
+  pub others : KeepsOtherDevices dev old.node.pool new.node.pool
+  pub once : FlushesOnce old.node.pool.devices new.node.pool.devices
 
 -- Pinning with zeros
 
@@ -41,6 +50,7 @@ PinsZeroed page before after old (Err (Node (Pool why))) new =
     ZeroedRefused old.node.history (view_of old.node.pool) (page_of_c page) why
     (view_of new.node.pool)
     × SameButFailures (view_of old.node.pool) (view_of new.node.pool)
+    × LeavesUnread old.node.history old.node.pool why new.node.pool
     × KeepsFrames old.node.pool new.node.pool × SameButPool old new × (after ≡ before)
 PinsZeroed page before after old (Err why) new = ⊥
 
@@ -81,9 +91,9 @@ NamesDirty from frame page found frame' page' old new = (next : Option DirtyFram
 -- the pages of one device are written back and it is flushed, or the call says why not
 abbrev pub FlushesDevice : ℕ → OpenNode → Ending → OpenNode → Type 0
 FlushesDevice dev old (Ok given) new = SameView old.node new.node × IsSettledOn dev new.node.pool
-    × SameDevices old new
+    × ChangesOne dev old new × SameDevices old new
 FlushesDevice dev old (Err (Node (Pool why))) new =
-    FlushRefused old.node.pool dev why new.node.pool × SameButPool old new
+    FlushRefused old.node.pool dev why new.node.pool × ChangesOne dev old new × SameButPool old new
 FlushesDevice dev old (Err why) new = ⊥
 
 -- Forgetting pages

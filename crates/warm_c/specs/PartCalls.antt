@@ -6,16 +6,17 @@ use Rattle.warm_digest.specs.BucketDigests.{digests_of}
 use Rattle.warm_frames.specs.declared.message.Message.{Message}
 use Rattle.warm_frames.specs.Encoding.{Encodes}
 use Rattle.warm_frames.specs.Reading.{GivesReading, read_frame, reserved_by}
+use Rattle.warm_pool.specs.Keeping.{KeepsBytes}
 use Rattle.warm_gossip.specs.declared.call.Call.TheVariants.{Receive}
 use Rattle.warm_gossip.specs.declared.call.Reply.TheVariants.{Answers, Refused}
 use Rattle.warm_gossip.specs.declared.fault.NodeFault.TheVariants.{Memory}
-use Rattle.warm_gossip.specs.Clauses.{Joins, SameView}
+use Rattle.warm_gossip.specs.Clauses.{Joins}
 use Rattle.warm_shards.specs.Digests.{FillsShard}
 use Rattle.warm_c.specs.declared.open_node.OpenNode.{OpenNode}
 use Rattle.warm_c.specs.declared.status.Refusal.TheVariants.{Closed, Frame, Node}
 use Rattle.warm_c.specs.declared.values.PinnedSlot.{PinnedSlot}
 use Rattle.warm_c.specs.declared.values.WarmPage.{WarmPage}
-use Rattle.warm_c.specs.Calls.{Ending, Pins, Replies, SameDevices}
+use Rattle.warm_c.specs.Calls.{Ending, Pins, Replies, SameDevices, SameOpen}
 use Rattle.warm_shards.specs.Parts.{part_of_message}
 use Rattle.warm_c.specs.Parts.{OfPart}
 use Rattle.warm_c.specs.Statuses.{code_of, status_of}
@@ -62,10 +63,6 @@ pub record TakesDigests (shards shard : ℕ) (before after : Gathered) (h : Hist
   pub digests : FillsShard shards shard before.digests (digests_of (entries_of h)) after.digests
   pub horizon : after.horizon ≡ max before.horizon h.horizon
 
--- the node is as it was, as a caller sees it, and so are the devices that the handle was given
-abbrev pub SameOpen : OpenNode → OpenNode → Type 0
-SameOpen old new = SameView old.node new.node × SameDevices old new
-
 -- the digests and the horizon of the node went into those gathered, or memory failed
 abbrev pub GivesThose : ℕ → ℕ → Gathered → Gathered → OpenNode → Ending → OpenNode → Type 0
 GivesThose shards shard before after old (Ok given) new =
@@ -82,11 +79,13 @@ GivesDigests shards shard before after old ending new =
 
 -- Joining what another node holds
 
--- the node has joined the history of the other node; or an allocation failed, and nothing has
--- changed that a caller sees
+-- The node has joined the history of the other node; or an allocation failed, and nothing has
+-- changed that a caller sees. Either way its devices, and the bytes and the dirty flag of each
+-- frame, are as they were.
 abbrev pub JoinsNode : OpenNode → OpenNode → Ending → OpenNode → Type 0
 JoinsNode other old (Ok given) new =
-    Joins old.node other.node.history new.node × SameDevices old new
+    Joins old.node other.node.history new.node × KeepsBytes old.node.pool new.node.pool
+    × SameDevices old new
 JoinsNode other old (Err (Node Memory)) new = SameOpen old new
 JoinsNode other old (Err why) new = ⊥
 
