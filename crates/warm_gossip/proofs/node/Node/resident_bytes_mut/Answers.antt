@@ -9,4 +9,4 @@ pub invariant_of-self-lent : goal.invariant_of-self-lent
 invariant_of-self-lent g c = λ w.
     let can = subst (λ (s : NodeState). CanPinAgain s.pool c.args.page c.args.slot) (sym c.self.view_is) c.requires.can in
     let pool = c.prove_is_pool.ensures in
-    lent_keeps c.self.inside.pool c.args.slot pool can.there (has_page pool c.args.page c.args.slot can) w c.self.inside.history.history c.self.inside.warm_up c.self.invariant
+    lent_keeps c.self.inside.pool c.args.slot pool can.there (has_page pool c.args.page c.args.slot can) w c.self.inside.peer.history c.self.inside.warm_up c.self.invariant
