@@ -9,8 +9,8 @@ pub loop-page-preserved : goal.loop-page-preserved
 loop-page-preserved c =
     let S = references_of c.args.history.now in
     let pages = c.args.pages.now in
-    part_added (named_keys S) (named_both S) pages c.loop-page.page-index c.page-item.result c.loop-page.keys.items c.push_named.new.keys.items (c.args.keys.now.items ++ named_keys S pages)
-    c.loop-page-test.true c.page-item.is c.in_ok-push_named.ensures c.loop-page.invariant
+    part_added (named_keys S) (named_both S) pages c.loop-page.page-index _ c.loop-page.keys.items c.push_named.new.keys.items (c.args.keys.now.items ++ named_keys S pages)
+    c.loop-page-test.true c.push_named-arg-in-loop-page-1.given c.in_ok-push_named.ensures c.loop-page.invariant
 
 pub returns : goal.returns
 returns c =
