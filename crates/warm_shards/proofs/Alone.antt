@@ -24,7 +24,7 @@ use Rattle.warm_shards.proofs.Calls.{absorb_refused, id_stays, keep_none, keep_o
 use Rattle.warm_shards.proofs.Joined.{taken_none}
 use Rattle.warm_shards.proofs.Keeping.{still_shards}
 use Rattle.warm_shards.proofs.Pages.{all_held}
-use Rattle.warm_shards.proofs.Parts.{no_part}
+use Rattle.warm_shards.proofs.PartLemmas.{no_part}
 use Rattle.warm_shards.proofs.Taking.{one_stays, one_takes}
 
 -- ---- one node has taken in a set of references to its pages, at no later horizon

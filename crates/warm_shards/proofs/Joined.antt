@@ -10,7 +10,7 @@ use Rattle.warm_history.proofs.HistoryLemmas.{IsHistory-history}
 use Rattle.warm_history.proofs.JoinLemmas.{both_assoc, history_first, raised_to_no_later}
 use Rattle.warm_gossip.specs.State.{NodeState}
 use Rattle.warm_shards.specs.Shards.{held, of_first_shards, shard_at, shard_of, whole}
-use Rattle.warm_shards.proofs.Parts.{next_part, no_part}
+use Rattle.warm_shards.proofs.PartLemmas.{next_part, no_part}
 use Rattle.warm_shards.proofs.Taking.{one_takes}
 
 -- before the first shard nothing is taken in

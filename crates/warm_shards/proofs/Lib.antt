@@ -2,7 +2,7 @@ pub mod Lists
 pub mod Pages
 pub mod Knowing
 pub mod Taking
-pub mod Parts
+pub mod PartLemmas
 pub mod Buckets
 pub mod Standing
 pub mod Keeping

@@ -21,7 +21,7 @@ use Rattle.warm_shards.specs.Shards.{AreShards, as_node, of_first_shards, shard_
 use Rattle.warm_shards.proofs.Absorbing.{some_shards}
 use Rattle.warm_shards.proofs.Buckets.{shard_horizon}
 use Rattle.warm_shards.proofs.Calls.{same_ids, same_whole}
-use Rattle.warm_shards.proofs.Parts.{no_part}
+use Rattle.warm_shards.proofs.PartLemmas.{no_part}
 
 -- what a raise of all did
 raised_whole : (old mid : List NodeState) (time kept : ℕ) → Together old (Horizon time) (Kept kept) mid

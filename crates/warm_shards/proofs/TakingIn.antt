@@ -18,7 +18,7 @@ use Rattle.warm_shards.proofs.Alone.{StaysAlone, TakesAlone, alone_id, alone_poo
 use Rattle.warm_shards.proofs.Buckets.{shard_horizon}
 use Rattle.warm_shards.proofs.Calls.{id_stays, keep_none, keep_then}
 use Rattle.warm_shards.proofs.PartEntries.{part_own, part_refs}
-use Rattle.warm_shards.proofs.Parts.{all_parts, next_part}
+use Rattle.warm_shards.proofs.PartLemmas.{all_parts, next_part}
 
 -- the first k shards have taken in the references of S to their pages
 pub record HaveTaken (old : List NodeState) (S : ReferenceSet) (k : ℕ) (ns : List NodeState)
