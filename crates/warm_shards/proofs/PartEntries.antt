@@ -59,12 +59,12 @@ part_has shards shard (x ∷ xs) zero e lt at is none =
     let no : x ∷ part_of_entries shards shard xs ≡ [] = rw own at none in
     absurd (cc)
 part_has shards shard (x ∷ xs) (suc i) e lt at is none =
-    cases (nat_eq (shard_of shards x.page) shard) refl none
+    cases (nat_eq (shard_of shards x.page) shard) refl none (part_has shards shard xs i e (omega (arith, lt)) at is)
   where
     cases : (b : Bool) → nat_eq (shard_of shards x.page) shard ≡ b
-        → part_of_entries shards shard (x ∷ xs) ≡ [] → ⊥
-    cases true own empty = let no : x ∷ part_of_entries shards shard xs ≡ [] = rw own at empty in absurd (cc)
-    cases false other empty = part_has shards shard xs i e (omega (arith, lt)) at is (rw other at empty)
+        → part_of_entries shards shard (x ∷ xs) ≡ [] → part_of_entries shards shard xs ≢ [] → ⊥
+    cases true own empty some = let no : x ∷ part_of_entries shards shard xs ≡ [] = rw own at empty in absurd (cc)
+    cases false other empty some = some (rw other at empty)
 
 -- an entry has a stamp
 stamps_some : (h : PageHist) → (s : Stamp) × (ss : List Stamp) × (hist_stamps h ≡ s ∷ ss)
@@ -91,10 +91,10 @@ part_none shards shard horizon es none = sym (parts_hold shards shard es) ∙ ap
 
 -- a test that finds no entry of the shard, and one that finds some
 pub said_none : (b : Bool) (es : List Entry) → (es ≢ [] → b ≡ true) → b ≡ false → es ≡ []
-said_none b [] said no = refl
-said_none b (e ∷ es) said no =
-    let yes : b ≡ true = said (λ (empty : e ∷ es ≡ []). absurd (cc)) in
-    let both : true ≡ false = sym yes ∙ no in
+said_none b [] said isnt = refl
+said_none b (e ∷ es) said isnt =
+    let is : b ≡ true = said (λ (empty : e ∷ es ≡ []). absurd (cc)) in
+    let both : true ≡ false = sym is ∙ isnt in
     absurd (cc)
 
 pub said_some : (count long shard horizon : ℕ) (es : List Entry) → count ≡ long
