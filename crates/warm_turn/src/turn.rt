@@ -185,39 +185,6 @@ fn wait_and_visit<M: Machine, R: Wait, V: Visit<M>>(
     Ok(output)
 }
 
-// Takes a ticket, waits for its turn, lets the visitor have the machine and passes the turn on.
-fn make_visit<M: Machine, R: Wait, V: Visit<M>>(
-    rt: &R,
-    shared: &SharedTable<M>,
-    seat: &mut TurnSeat<M>,
-    visitor: V,
-) -> Result<V::Output, TurnsSpent<V>>
-    requires table { (seat.old.table_id ≡ shared.now.table_id) × IsTicketTable shared.now.table_id }
-    requires idle { (seat.old.me.1 ≡ []) × IsPass M.goes seat.old.me.0 }
-    requires ready { V.ready visitor }
-    ensures table { (seat.new.table_id ≡ seat.old.table_id) × (seat.new.id ≡ seat.old.id)
-        × (seat.new.me.1 ≡ []) }
-    ensures pass { IsPass M.goes seat.new.me.0 }
-    ensures ok { IfOk result (λ output. MadeVisit M.goes (V.makes visitor output) seat.old.me.0
-        seat.new.me.0) }
-    ensures err { IfErr result (λ e. (e.call ≡ visitor)
-        × (seat.new.me.0 ≡ marked seat.old.me.0)) }
-{
-    match try_ticket(shared, seat) {
-        Tried::Taken(ticket) => {
-            if !is_served(shared, seat, ticket) {
-                let output = visit_later(rt, shared, seat, ticket, visitor);
-                return Ok(output);
-            }
-            let output = serve(shared, seat, visitor);
-            pass_on(shared, seat);
-            Ok(output)
-        }
-        Tried::Last => Err(TurnsSpent { call: visitor }),
-        Tried::Contended => wait_and_visit(rt, shared, seat, visitor),
-    }
-}
-
 // The machine in the contents of the slot.
 fn machine_of<M: Machine>(slot: Option<CellContents<M, M::Call, M::Reply>>) -> M
     requires { (h : CellContents M M.Call M.Reply) × (slot ≡ Some h) }
@@ -388,7 +355,21 @@ impl<M: Machine> Turn<M> {
         ensures spent { IfErr result (λ e. pass.new.view ≡ marked pass.old.view) }
         ensures given_back { IfErr result (λ e. e.call ≡ visitor) }
     {
-        make_visit(rt, &self.table.shared, &mut pass.seat, visitor)
+        let shared = &self.table.shared;
+        let seat = &mut pass.seat;
+        match try_ticket(shared, seat) {
+            Tried::Taken(ticket) => {
+                if !is_served(shared, seat, ticket) {
+                    let output = visit_later(rt, shared, seat, ticket, visitor);
+                    return Ok(output);
+                }
+                let output = serve(shared, seat, visitor);
+                pass_on(shared, seat);
+                Ok(output)
+            }
+            Tried::Last => Err(TurnsSpent { call: visitor }),
+            Tried::Contended => wait_and_visit(rt, shared, seat, visitor),
+        }
     }
 
     /// Makes a call, by a visitor that calls the machine and gives its reply.
