@@ -13,11 +13,13 @@
 #include "standby_prewarm.h"
 
 #define SATURATED_US	(60 * US_PER_S)
+#define AGAIN_S			600		/* after which a page that comes in again is referenced */
 #define SEEN_NONE		UINT64CONST(15)
 #define REFERENCES_A_TURN 300000	/* the history takes some 200 ms for them */
 
 /* For each buffer a hash of its page, with its usage count in the last bits. */
 static uint64 *seen = NULL;
+static uint64 *came_in = NULL;	/* by hash, of four times as many pages: the hash and a second */
 static bool is_first = true;
 static uint64 saturated_at = 0;
 static int	next_buffer;		/* where the sample goes on */
@@ -57,10 +59,30 @@ void
 sp_sample_reset(void)
 {
 	if (seen == NULL)
+	{
 		seen = MemoryContextAllocHuge(TopMemoryContext, sizeof(uint64) * (Size) NBuffers);
+		came_in = MemoryContextAllocExtended(TopMemoryContext, sizeof(uint64) * 4 * (Size) NBuffers,
+											 MCXT_ALLOC_HUGE | MCXT_ALLOC_ZERO);
+	}
 	is_first = true;
 	saturated_at = sp_us();
 	next_buffer = 0;
+}
+
+/*
+ * Whether a page is referenced by coming in: not again within ten minutes.  What comes and goes, as
+ * pages of scans do, would else be as hot as what is used again while it is there.
+ */
+static bool
+sample_takes_entry(uint64 mark, uint64 time)
+{
+	uint32		second = (uint32) (time / US_PER_S);
+	uint64	   *entry = &came_in[(mark / (SEEN_NONE + 1)) % ((uint64) NBuffers * 4)];
+
+	if (*entry >> 32 == mark >> 32 && second - (uint32) *entry < AGAIN_S)
+		return false;
+	*entry = mark >> 32 << 32 | second;
+	return true;
 }
 
 /* Notes a buffer, and its page as referenced where it is. */
@@ -84,7 +106,8 @@ sample_buffer(int i, uint64 time, bool saturated)
 			((before ^ mark) > SEEN_NONE || (before & SEEN_NONE) == SEEN_NONE);
 		is_hotter = ((before ^ mark) <= SEEN_NONE && mark > before) ||
 			(saturated && BUF_STATE_GET_USAGECOUNT(state) == BM_MAX_USAGE_COUNT);
-		if (!is_first && (is_new || is_hotter) && sp_page_of(&tag, true, &page))
+		if (!is_first && (is_hotter || (is_new && sample_takes_entry(mark, time))) &&
+			sp_page_of(&tag, true, &page))
 			sp_reference(page, time);
 	}
 	seen[i] = mark;
