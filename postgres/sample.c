@@ -59,11 +59,9 @@ void
 sp_sample_reset(void)
 {
 	if (seen == NULL)
-	{
-		seen = MemoryContextAllocHuge(TopMemoryContext, sizeof(uint64) * (Size) NBuffers);
-		came_in = MemoryContextAllocExtended(TopMemoryContext, sizeof(uint64) * 4 * (Size) NBuffers,
-											 MCXT_ALLOC_HUGE | MCXT_ALLOC_ZERO);
-	}
+		seen = MemoryContextAllocExtended(TopMemoryContext, sizeof(uint64) * 5 * (Size) NBuffers,
+										  MCXT_ALLOC_HUGE | MCXT_ALLOC_ZERO);
+	came_in = seen + NBuffers;
 	is_first = true;
 	saturated_at = sp_us();
 	next_buffer = 0;
