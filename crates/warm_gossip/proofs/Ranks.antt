@@ -21,6 +21,7 @@ use Rattle.warm_history.proofs.KeptLemmas.{hist-kept}
 use Rattle.warm_history.proofs.ListHistoryLemmas.{told, told-append, told_entry}
 use Rattle.warm_history.proofs.HistoryLemmas.{hist_refs-history, references-refs}
 use Rattle.warm_history.proofs.JoinLemmas.{history_of_own_references}
+use Rattle.warm_peer.proofs.RoundLemmas.{no_greater}
 use Rattle.warm_rank.specs.Keys.{rank_key}
 use Rattle.warm_rank.specs.WarmUp.{IsWarmUp}
 use Rattle.warm_rank.proofs.EvictionLemmas.{truncation_keeps_order, rank_alike}
@@ -48,9 +49,6 @@ ungiven_entries (e ∷ es) p unnamed =
     told-append (references_of_entry e) (list_references_of es) p
     ∙ ap (λ ss. ss ++ told (list_references_of es) p) (told_entry e.page e.hist p)
     ∙ (rw (differs e.page p (λ is. unnamed (0, omega arith, is))) (ungiven_entries es p (λ has. unnamed (suc has.0, omega arith, has.2))))
-
-pub no_greater : (a b : ℕ) → b ≤ a → max a b ≡ a
-no_greater a b le = omega (arith, le)
 
 -- references without a stamp of a page, and without a later horizon, change nothing about it
 hist_as_before : (S T : ReferenceSet) (p : PageId) → T.horizon ≤ S.horizon → told T.given p ≡ []

@@ -34,7 +34,7 @@ impl<D: PageDevice> Node<D> {
         ensures step { Answered self.old (Pin page) Pinned result self.new }
         ensures devices { DevicesAnswered self.old (Pin page) Pinned result self.new }
     {
-        let placed = self.pool.pin_placed(page, self.history.history())?;
+        let placed = self.pool.pin_placed(page, self.peer.history())?;
         self.warm_up.passed = passed_at_pin(self.warm_up.passed, placed.evicted);
         Ok(placed.slot)
     }
@@ -129,7 +129,7 @@ impl<D: PageDevice> Node<D> {
         ensures devices { DevicesAnswered self.old Restart done result self.new }
     {
         self.pool.empty()?;
-        self.history.clear();
+        self.peer.clear();
         self.warm_up = WarmUp::new();
         Ok(())
     }

@@ -63,8 +63,8 @@ impl<D: PageDevice> Node<D> {
         ensures devices { DevicesAnswered self.old WarmStep Loaded result self.new }
     {
         // The list is over the references that the history holds: their history is this history.
-        prove_is_history(self.history.history());
-        let history = self.history.history();
+        prove_is_history(self.peer.history());
+        let history = self.peer.history();
         let pages = take_pages(self.alloc, &mut self.warm_up, history, &self.pool)?;
         let at = first_loadable(&self.pool, &pages, self.warm_up.passed);
         if at >= pages.len() {
@@ -79,8 +79,8 @@ impl<D: PageDevice> Node<D> {
             pages: Some(pages),
             passed: at,
         };
-        let placed = self.pool.load_placed(page, self.history.history())?;
-        self.warm_up.passed = passed_at_load(self.history.history(), at, page, placed.evicted);
+        let placed = self.pool.load_placed(page, self.peer.history())?;
+        self.warm_up.passed = passed_at_load(self.peer.history(), at, page, placed.evicted);
         Ok(Some(page))
     }
 
@@ -99,8 +99,8 @@ impl<D: PageDevice> Node<D> {
         ensures refused { IfErr result (λ why. why ≡ Memory) }
     {
         // The list is over the references that the history holds: their history is this history.
-        prove_is_history(self.history.history());
-        let history = self.history.history();
+        prove_is_history(self.peer.history());
+        let history = self.peer.history();
         let pages = take_pages(self.alloc, &mut self.warm_up, history, &self.pool)?;
         let passed = self.warm_up.passed;
         let at = first_loadable(&self.pool, &pages, passed);

@@ -7,4 +7,4 @@ use Rattle.warm_gossip.proofs.node.Node.bytes_mut.Goals as goal
 pub invariant_of-self-lent : goal.invariant_of-self-lent
 invariant_of-self-lent g c = λ w.
     let holds = subst (λ (s : NodeState). Holds (view_of s.pool) c.args.slot) (sym c.self.view_is) c.requires.holds in
-    lent_keeps c.self.inside.pool c.args.slot c.prove_is_pool.ensures holds w c.self.inside.history.history c.self.inside.warm_up c.self.invariant
+    lent_keeps c.self.inside.pool c.args.slot c.prove_is_pool.ensures holds w c.self.inside.peer.history c.self.inside.warm_up c.self.invariant

@@ -11,12 +11,12 @@ pub invariant_of-self-then-is_empty : goal.invariant_of-self-then-is_empty
 invariant_of-self-then-is_empty g c =
     let whole = subst IsHistory c.history.ensures c.prove_is_history.ensures in
     let later = subst IsHistory (sym c.in_ok-changed.ensures.exact) (IsHistory-history _) in
-    kept_by_entries c.self.inside.pool c.self.inside.history.history _ c.self.inside.warm_up whole later (c.in_ok-changed.ensures.none (eqb-true _ _ (sym c.is_empty.ensures ∙ c.if-is_empty.true))) c.self.invariant
+    kept_by_entries c.self.inside.pool c.self.inside.peer.history _ c.self.inside.warm_up whole later (c.in_ok-changed.ensures.none (eqb-true _ _ (sym c.is_empty.ensures ∙ c.if-is_empty.true))) c.self.invariant
 
 -- some entry changes, and the horizon does not
 pub invariant_of-self-2 : goal.invariant_of-self-2
 invariant_of-self-2 g c =
-    let h = c.self.inside.history.history in
+    let h = c.self.inside.peer.history in
     let agrees = joined_agrees h c.args.horizon c.args.entries.now (omega (arith, c.if-own-horizon.false, c.horizon-own.ensures)) in (
       rw c.history-2.ensures at (c.refresh.ensures.ranked h c.self.invariant.0 (rw (c.history-2.ensures, c.in_ok-changed.ensures.exact) agrees)),
       none_kept _ _ _ c.new.ensures,

@@ -18,14 +18,14 @@ returns-then-at-len-clause-step g c =
     let whole = subst IsHistory c.history.ensures c.prove_is_history.ensures in
     let under = subst (λ (h : HistoryView). IsUnderWay h v ps c.take_pages.new.warm_up.passed) c.history-history.ensures c.in_ok-pages.ensures.pages in
     let past = subst (λ xs. IsPast xs c.first_loadable-at.result v) c.deref.ensures.value c.first_loadable-at.ensures.past in
-    rw (← c.self.view_is) (next_warm v c.self.inside.history.history ps None whole under.hottest (none_left v ps c.first_loadable-at.result past (omega (arith, len, c.if-at-len.true))), refl)
+    rw (← c.self.view_is) (next_warm v c.self.inside.peer.history ps None whole under.hottest (none_left v ps c.first_loadable-at.result past (omega (arith, len, c.if-at-len.true))), refl)
 
 pub returns-in_err-placed-clause-step : goal.returns-in_err-placed-clause-step
 returns-in_err-placed-clause-step g c =
     let given = err_from_is_err_and c.from_residual-in_err-placed.result c.from_residual-in_err-placed.ensures.1 in
     let len : c.len.result ≡ length c.in_ok-pages.pages.items = c.len.ensures ∙ sym c.deref.ensures.len ∙ ap length c.deref.ensures.value in
     let there : c.first_loadable-at.result < length c.in_ok-pages.pages.items = omega (arith, len, c.if-at-len.false) in
-    let page = page_to_load (view_of c.self.inside.pool) c.self.inside.history.history _ c.in_ok-pages.pages.items _ c.first_loadable-at.result _ c.index-page.result.now
+    let page = page_to_load (view_of c.self.inside.pool) c.self.inside.peer.history _ c.in_ok-pages.pages.items _ c.first_loadable-at.result _ c.index-page.result.now
     (subst IsHistory c.history.ensures c.prove_is_history.ensures) c.history-history.ensures c.in_ok-pages.ensures.pages c.deref.ensures.value
     c.first_loadable-at.ensures.past c.first_loadable-at.ensures.there there (get_or_default _ _ _ _ there ∙ sym c.index-page.ensures) in
     rw (given.1, given.2, ← c.self.view_is) (
@@ -39,7 +39,7 @@ returns-in_err-placed-clause-devices g c =
     let given = err_from_is_err_and c.from_residual-in_err-placed.result c.from_residual-in_err-placed.ensures.1 in
     let len : c.len.result ≡ length c.in_ok-pages.pages.items = c.len.ensures ∙ sym c.deref.ensures.len ∙ ap length c.deref.ensures.value in
     let there : c.first_loadable-at.result < length c.in_ok-pages.pages.items = omega (arith, len, c.if-at-len.false) in
-    let page = page_to_load (view_of c.self.inside.pool) c.self.inside.history.history _ c.in_ok-pages.pages.items _ c.first_loadable-at.result _ c.index-page.result.now
+    let page = page_to_load (view_of c.self.inside.pool) c.self.inside.peer.history _ c.in_ok-pages.pages.items _ c.first_loadable-at.result _ c.index-page.result.now
     (subst IsHistory c.history.ensures c.prove_is_history.ensures) c.history-history.ensures c.in_ok-pages.ensures.pages c.deref.ensures.value
     c.first_loadable-at.ensures.past c.first_loadable-at.ensures.there there (get_or_default _ _ _ _ there ∙ sym c.index-page.ensures) in
     rw (given.1, given.2, ← c.self.view_is) (
@@ -52,7 +52,7 @@ pub returns-clause-step : goal.returns-clause-step
 returns-clause-step g c =
     let len : c.len.result ≡ length c.in_ok-pages.pages.items = c.len.ensures ∙ sym c.deref.ensures.len ∙ ap length c.deref.ensures.value in
     let there : c.first_loadable-at.result < length c.in_ok-pages.pages.items = omega (arith, len, c.if-at-len.false) in
-    let page = page_to_load (view_of c.self.inside.pool) c.self.inside.history.history _ c.in_ok-pages.pages.items _ c.first_loadable-at.result _ c.index-page.result.now
+    let page = page_to_load (view_of c.self.inside.pool) c.self.inside.peer.history _ c.in_ok-pages.pages.items _ c.first_loadable-at.result _ c.index-page.result.now
     (subst IsHistory c.history.ensures c.prove_is_history.ensures) c.history-history.ensures c.in_ok-pages.ensures.pages c.deref.ensures.value
     c.first_loadable-at.ensures.past c.first_loadable-at.ensures.there there (get_or_default _ _ _ _ there ∙ sym c.index-page.ensures) in
     rw (← c.self.view_is) (
@@ -65,7 +65,7 @@ returns-clause-devices g c = rw (← c.self.view_is) (c.in_ok-placed.placed.slot
 
 pub invariant_of-self-2 : goal.invariant_of-self-2
 invariant_of-self-2 g c =
-    let h = c.self.inside.history.history in
+    let h = c.self.inside.peer.history in
     let v = view_of c.self.inside.pool in
     let w = view_of c.load_placed.new.self in
     let at = c.first_loadable-at.result in
