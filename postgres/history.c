@@ -3,7 +3,7 @@
  *		The handle of libwarm_c, its clock and horizon, and its files.
  *
  * The handle is the worker's alone: it is opened after the fork, and no other
- * process uses it.  Its pool has one frame of one byte, and no device.
+ * process uses it.  It has no device, so it is a history alone.
  */
 #include "postgres.h"
 
@@ -72,7 +72,7 @@ sp_status_name(int status)
 static void
 history_open(void)
 {
-	const warm_options options = {.size = sizeof options, .replica = 1, .page_size = 1};
+	const warm_options options = {.size = sizeof options, .replica = 1};
 	int			status = warm_open(&sp_history, &options);
 
 	if (status != WARM_OK)
