@@ -14,7 +14,8 @@
 int pool_vfs_configure(void);
 
 /* Registers the VFS "warm", which is not the default one. Each main database that is opened by it has a pool of its own, of this many frames,
- * and is this replica. Called again it changes these for databases that are opened later. Answers an SQLite result. */
+ * and is this replica. Called again it changes these for databases that are opened later. One thread calls it, while none opens a database.
+ * Answers an SQLite result. */
 int pool_vfs_register(uint16_t replica, size_t frames);
 
 /* Makes the pool of a database file before SQLite opens it: a standby's pool hears gossip and warms up so. The file is at one path now, and
