@@ -10,6 +10,7 @@ mod frames;
 mod gossip;
 mod history;
 mod kit;
+mod peer;
 mod pool;
 mod random;
 mod rank;

@@ -12,7 +12,7 @@ use Rattle.warm_world.specs.declared.event.Answer.{Answer}
 use Rattle.warm_world.specs.declared.event.Answer.TheVariants.{Pages, Refused}
 use Rattle.warm_world.specs.declared.event.WorldFault.TheVariants.{Node, NoSuchReplica, NoSuchWorker, NoSuchFrame}
 use Rattle.warm_world.specs.Lists.{index_of_number}
-use Rattle.warm_world.specs.States.{ModelState, ReplicaState, node_of, no_replica, pool_of, reach_of, set_pool}
+use Rattle.warm_world.specs.States.{ModelState, ReplicaState, replica_node, no_replica, pool_of, reach_of, set_pool}
 use Rattle.warm_world.specs.Next.{IsNamed, Next, SomeNodeReplies, call_of, replica_of, reply_of, shape}
 
 -- a pool that is put back is no change
@@ -20,7 +20,7 @@ pub pool_kept : (m : ModelState) (i : ℕ) → set_pool m i (pool_of m i) ≡ m
 pool_kept m i = ap (λ (rs : List ReplicaState). let s : ModelState = record m { replicas = rs } in s) (set-get_or m.replicas (index_of_number i) no_replica)
 
 unchanged : (old new : ModelState) (i : ℕ) (pool : PoolView)
-    → (let n : NodeView = record (node_of old i) { pool = pool } in n ≡ node_of old i)
+    → (let n : NodeView = record (replica_node old i) { pool = pool } in n ≡ replica_node old i)
     → new ≡ set_pool old i pool → new ≡ old
 unchanged old new i pool same is = is ∙ ap (set_pool old i) (ap (λ (n : NodeView). n.pool) same) ∙ pool_kept old i
 

@@ -23,7 +23,7 @@ use Rattle.warm_peer.specs.Round.{offer}
 use Rattle.warm_gossip.specs.State.{NodeView}
 use Rattle.warm_peer.proofs.ChunkLemmas.{chunks_in_turn}
 use Rattle.warm_peer.proofs.RoundLemmas.{entries_bring_all}
-use Rattle.warm_world.specs.States.{MessageRecord, ModelState, References, Digests, Request, node_of, reach_of}
+use Rattle.warm_world.specs.States.{MessageRecord, ModelState, References, Digests, Request, replica_node, reach_of}
 use Rattle.warm_world.specs.Answered.{AreAnswers, bucket_records, reach_after, records_of, requested_records}
 use Rattle.warm_world.specs.Stands.{message_kept}
 
@@ -39,7 +39,7 @@ carried_alike S bucket after limit = sym (history-carried (references_of (histor
 -- what a node sends, and the digests that it offers, are those of the references for which its
 -- history stands
 pub sent_kept : (m : ModelState) (n : NodeView) (message : Message) (i bucket : ℕ)
-    (after : Option PageId) → message ≡ sent n.id n.history bucket after → n ≡ node_of m i
+    (after : Option PageId) → message ≡ sent n.id n.history bucket after → n ≡ replica_node m i
     → message ≡ message_kept (References i (carried (reach_of m i) bucket after MAX_ENTRIES))
 sent_kept m n message i bucket after is node =
     let S = reach_of m i in
@@ -54,7 +54,7 @@ pub offered_kept : (i : ℕ) (S : ReferenceSet)
 offered_kept i S = ap (λ m. Digest i m (digests_of (entries_of (history S)))) (horizon-history S)
 
 pub offers_kept : (m : ModelState) (n : NodeView) (message : Message) (i : ℕ)
-    → message ≡ offer n.id n.history → n ≡ node_of m i
+    → message ≡ offer n.id n.history → n ≡ replica_node m i
     → message ≡ message_kept (offer_record i (reach_of m i))
 offers_kept m n message i is node = is ∙ ap (λ (v : NodeView). offer v.id v.history) node ∙ offered_kept i (reach_of m i)
 

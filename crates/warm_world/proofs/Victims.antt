@@ -16,7 +16,7 @@ use Rattle.warm_world.specs.declared.event.Answer.{Answer}
 use Rattle.warm_world.specs.declared.event.Answer.TheVariants.{Page, Refused}
 use Rattle.warm_world.specs.declared.event.WorldFault.TheVariants.{Node}
 use Rattle.warm_world.specs.Lists.{index_of_number}
-use Rattle.warm_world.specs.States.{ModelState, ReplicaState, node_of, no_replica, pool_of, reach_of, replica}
+use Rattle.warm_world.specs.States.{ModelState, ReplicaState, replica_node, no_replica, pool_of, reach_of, replica}
 use Rattle.warm_world.specs.Next.{Next, SomeNodeReplies, reply_of}
 use Rattle.warm_world.specs.Stands.{IsRightVictim, IsEvictedFrom, MayLoad, VictimsAreRight}
 use Rattle.warm_world.proofs.Worlds.{replica_there}
@@ -51,7 +51,7 @@ left_by old i asked new other (inr (low, (Some given, does))) page leaves =
     let after : pool_of new i ≡ pool =
     ap (λ (m : ModelState). pool_of m i) does.2 ∙ ap (λ (r : ReplicaState). r.pool) (get_or-set_same old.replicas (index_of_number i) (record (replica old (index_of_number i)) { pool = pool }) no_replica low) in
     let gone : IsAbsent pool page = subst (λ (v : PoolView). IsAbsent v page) after leaves.after in
-    (node.victims_are_farthest (reach_of old i) (node_of old i) (record (node_of old i) { pool = pool }) asked given refl does.1).leaves page other (leaves.before, gone)
+    (node.victims_are_farthest (reach_of old i) (replica_node old i) (record (replica_node old i) { pool = pool }) asked given refl does.1).leaves page other (leaves.before, gone)
 left_by old i asked new other (inr (low, (None, never))) page leaves = absurd never
 
 left_of : (old : ModelState) (event : Event) (answer : Answer) (new : ModelState)

@@ -18,7 +18,7 @@ use Rattle.warm_world.specs.declared.event.Event.TheVariants.{WarmStep}
 use Rattle.warm_world.specs.declared.event.Answer.{Answer}
 use Rattle.warm_world.specs.declared.event.Answer.TheVariants.{Done, Pinned, Bytes, Page, Pages, Loaded, Refused}
 use Rattle.warm_world.specs.Lists.{index_of_number}
-use Rattle.warm_world.specs.States.{ModelState, ReplicaState, no_replica, no_pool, node_of, pool_of, reach_of, replica}
+use Rattle.warm_world.specs.States.{ModelState, ReplicaState, no_replica, no_pool, replica_node, pool_of, reach_of, replica}
 use Rattle.warm_world.specs.Views.{ReplicaView, WorldView}
 use Rattle.warm_world.specs.Next.{NodeReplies, IsNamed, Next, Run, shape}
 use Rattle.warm_world.specs.Stands.{ReplicaStands, WorldStands}
@@ -47,30 +47,30 @@ warm_step old i answer new taken next = absurd next.1
 
 -- it is a step of the replica's node
 node_steps : (old : ModelState) (i : ℕ) (new : ModelState) (w : IsWarmStep old i new)
-    → Step (node_of old i) call.WarmStep (reply.Loaded w.loaded) (node_of new i)
+    → Step (replica_node old i) call.WarmStep (reply.Loaded w.loaded) (replica_node new i)
 node_steps old i new w =
     let pool : PoolView = w.asked.0 in
     let next : ReplicaState = record (replica old (index_of_number i)) { pool = pool } in
     let after : replica new (index_of_number i) ≡ next = ap (λ (m : ModelState). replica m (index_of_number i)) w.asked.2 ∙ replica_set_at old (WarmStep i) next w.named in
-    let node : node_of new i ≡ record (node_of old i) { pool = pool } = cc in
-    subst (Step (node_of old i) call.WarmStep (reply.Loaded w.loaded)) (sym node) w.asked.1
+    let node : replica_node new i ≡ record (replica_node old i) { pool = pool } = cc in
+    subst (Step (replica_node old i) call.WarmStep (reply.Loaded w.loaded)) (sym node) w.asked.1
 
 -- ---- steps one after the other
 
 steps_run : (i n : ℕ) (old new : ModelState) (answers : List Answer)
     → Run old (replicate n (WarmStep i)) answers new → AllByRecursion IsNotRefused answers
-    → WarmSteps n (node_of old i) (node_of new i)
-steps_run i zero old new [] run taken = ap (λ (m : ModelState). node_of m i) run
+    → WarmSteps n (replica_node old i) (replica_node new i)
+steps_run i zero old new [] run taken = ap (λ (m : ModelState). replica_node m i) run
 steps_run i zero old new (answer ∷ answers) run taken = absurd run
 steps_run i (suc n) old new [] run taken = absurd run
 steps_run i (suc n) old new (answer ∷ answers) run taken =
     let mid : ModelState = run.0 in
     let one : IsWarmStep old i mid = warm_step old i answer mid taken.0 run.1 in
-    (one.loaded, node_of mid i, node_steps old i mid one, steps_run i n mid new answers run.2 taken.1)
+    (one.loaded, replica_node mid i, node_steps old i mid one, steps_run i n mid new answers run.2 taken.1)
 
 pub warm_up_loads : WarmUpLoads
 warm_up_loads i old new differ unfixed steps p warm_page =
-    node_warm_ups.warm_up_loads (reach_of old i) (node_of old i) (node_of new i) refl (differ i) unfixed
+    node_warm_ups.warm_up_loads (reach_of old i) (replica_node old i) (replica_node new i) refl (differ i) unfixed
     (steps_run i (length (pool_of old i).frames) old new steps.answers steps.run steps.taken) p warm_page
 
 -- ---- what the invariant of worlds gives

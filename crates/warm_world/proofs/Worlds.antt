@@ -16,7 +16,7 @@ use Rattle.warm_world.specs.declared.event.WorldFault.{WorldFault}
 use Rattle.warm_world.specs.declared.event.WorldFault.TheVariants.{Node, NoSuchReplica, NoSuchWorker, NoSuchFrame}
 use Rattle.warm_world.specs.Lists.{IsNumber, Pairwise, index_of_number}
 use Rattle.warm_world.specs.Views.{ReplicaView, WorldView}
-use Rattle.warm_world.specs.States.{ModelState, ReplicaState, node_of, no_replica, replica, set_replica}
+use Rattle.warm_world.specs.States.{ModelState, ReplicaState, replica_node, no_replica, replica, set_replica}
 use Rattle.warm_world.specs.Next.{NodeReplies, IsMissing, IsNamed, Next, SomeNodeReplies, Shape, call_of, replica_of, reply_of, shape}
 use Rattle.warm_world.specs.Replicas.{SomeReply}
 use Rattle.warm_world.specs.Stands.{ReplicaStands, Stepped, WorldStands, buffered, view_shape}
@@ -113,7 +113,7 @@ module _ {A : Type 0} (f : A → ReplicaView) (xs : List A) (messages : List (Li
   -- the node of the replica that an event names is that of the model
   pub node_at : (m : ModelState) (event : Event) (x : A) → WorldStands (world xs) m
       → IsNamed (view_shape (world xs)) event → x ≡ get_or xs (index_of_number (replica_of event)) x
-      → (f x).node ≡ node_of m (replica_of event)
+      → (f x).node ≡ replica_node m (replica_of event)
   node_at m event x st named is =
       let k = index_of_number (replica_of event) in
       let number : k + 1 ≡ replica_of event = omega (arith, named.replica_there.from_one) in
@@ -181,7 +181,7 @@ module _ {A : Type 0} (f : A → ReplicaView) (xs : List A) (messages : List (Li
       let i = replica_of event in
       let n = (f y).node in
       let was = node_at m event x st named is in
-      let now : n ≡ record (node_of m i) { pool = n.pool } = alone ∙ ap (λ (v : NodeView). let u : NodeView = record v { pool = n.pool } in u) was in
+      let now : n ≡ record (replica_node m i) { pool = n.pool } = alone ∙ ap (λ (v : NodeView). let u : NodeView = record v { pool = n.pool } in u) was in
       let r : ReplicaState = record (replica m (index_of_number i)) { pool = n.pool } in
       changes m event answer x y r st named is
       (λ here. record {
@@ -190,7 +190,7 @@ module _ {A : Type 0} (f : A → ReplicaView) (xs : List A) (messages : List (Li
         buffers_are = same ∙ here.buffers_are;
       })
       (λ there. next (set_replica m (index_of_number i) r) there
-      (n.pool, subst (λ v. Step v call reply (record (node_of m i) { pool = n.pool })) was (subst (Step (f x).node call reply) now step), refl))
+      (n.pool, subst (λ v. Step v call reply (record (replica_node m i) { pool = n.pool })) was (subst (Step (f x).node call reply) now step), refl))
 
   asked_if : (m : ModelState) (event : Event) (call : Option Call) (reply : Option Reply)
       (answer : Answer) (x y : A)

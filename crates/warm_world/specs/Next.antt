@@ -30,7 +30,7 @@ use Rattle.warm_world.specs.declared.event.WorldFault.TheVariants.{Node, NoSuchR
 use Rattle.warm_world.specs.declared.event.WorldFault.TheVariants.{NoSuchWorker, NoSuchFrame}
 use Rattle.warm_world.specs.Lists.{IsNumber, index_of_number}
 use Rattle.warm_world.specs.States.{ModelState, MessageRecord, References, Digests, replica}
-use Rattle.warm_world.specs.States.{reach_of, pool_of, node_of, set_replica, set_pool, record_at}
+use Rattle.warm_world.specs.States.{reach_of, pool_of, replica_node, set_replica, set_pool, record_at}
 use Rattle.warm_world.specs.States.{add_records, pending, flushed, raised_replica, referred}
 use Rattle.warm_world.specs.States.{restarted}
 use Rattle.warm_world.specs.Answered.{AreAnswers, reach_after}
@@ -101,7 +101,7 @@ IsMissing s event (Node why) = ⊥
 -- replica's pool may have changed
 abbrev pub NodeReplies : ModelState → ℕ → Call → Reply → ModelState → Type 0
 NodeReplies old i call reply new =
-    (pool : PoolView) × Step (node_of old i) call reply (record (node_of old i) { pool = pool })
+    (pool : PoolView) × Step (replica_node old i) call reply (record (replica_node old i) { pool = pool })
     × (new ≡ set_pool old i pool)
 
 -- the call that an event of a pool makes of the node of its replica; the other events make none

@@ -54,8 +54,8 @@ abbrev pub pool_of : ModelState → ℕ → PoolView
 pool_of m i = (replica m (index_of_number i)).pool
 
 -- the node of the replica of a number: its history is that of the references that reached it
-abbrev pub node_of : ModelState → ℕ → NodeView
-node_of m i = record { id = i; history = history (reach_of m i); pool = pool_of m i }
+abbrev pub replica_node : ModelState → ℕ → NodeView
+replica_node m i = record { id = i; history = history (reach_of m i); pool = pool_of m i }
 
 -- the replica at an index is changed, and nothing else
 abbrev pub set_replica : ModelState → ℕ → ReplicaState → ModelState
