@@ -103,12 +103,12 @@ all_in : (P : ℕ → Type 0) (T : ReferenceSet) (log es : Log)
     → ((n : ℕ) → P n → Includes T (gave (calls_by n log)))
     → ((n : ℕ) → Includes (gave (calls_by n log)) (gave (calls_by n es)))
     → EachIsBy P es → Includes T (gave es)
-all_in P T log [] each some held = includes_none T
-all_in P T log (e ∷ es) each some held =
+all_in P T log [] each more held = includes_none T
+all_in P T log (e ∷ es) each more held =
     includes_both T (gave_call e.call e.reply) (gave es)
     (includes_trans T (gave (calls_by e.by log)) (gave_call e.call e.reply) (each e.by held.0)
-    (includes_trans (gave (calls_by e.by log)) (gave (calls_by e.by (e ∷ es))) (gave_call e.call e.reply) (some e.by) (first_in e es)))
-    (all_in P T log es each (λ n. includes_trans (gave (calls_by n log)) (gave (calls_by n (e ∷ es))) (gave (calls_by n es)) (some n) (rest_in n e es)) held.1)
+    (includes_trans (gave (calls_by e.by log)) (gave (calls_by e.by (e ∷ es))) (gave_call e.call e.reply) (more e.by) (first_in e es)))
+    (all_in P T log es each (λ n. includes_trans (gave (calls_by n log)) (gave (calls_by n (e ∷ es))) (gave (calls_by n es)) (more n) (rest_in n e es)) held.1)
 
 -- a batch leaves the share of a pass, and those that were ended into it
 part_keeps : (count : ℕ) (batch : List Reference) (i : ℕ) (old new : ShardPass)
@@ -257,7 +257,7 @@ two_threads_are_held S opened turns first here there mine yours all one two node
     (all_included logs right.0 (right.1.count ∙ there_long ∙ sym closing.1.count) (λ i lt. yours_in turns first here there mine yours all start halved split joined nodes logs closing.1 right.0 i right.1 (omega (arith, lt, closing.1.count)) there_long mine_long))
     (same_includes (gave_together right.0) (set_of_list two) right.2) in
     let U = set_of_list one ∪ set_of_list two in
-    let some : Includes G U = includes_both G (set_of_list one) (set_of_list two) ones twos in
+    let has_both : Includes G U = includes_both G (set_of_list one) (set_of_list two) ones twos in
     let ours : Includes U (gave_together left.0) = includes_left (set_of_list one) (set_of_list two) (gave_together left.0) (same_included (gave_together left.0) (set_of_list one) left.2) in
     let theirs : Includes U (gave_together right.0) = includes_right (set_of_list one) (set_of_list two) (gave_together right.0) (same_included (gave_together right.0) (set_of_list two) right.2) in
     let no_more : Includes U G = together_in U logs (λ i lt.
@@ -265,4 +265,4 @@ two_threads_are_held S opened turns first here there mine yours all one two node
     nothing_else turns first here there mine yours all start halved split joined nodes logs closing.1 one two absorbed also here_long there_long mine_long U left.0 right.0 i left.1 right.1 less
     (includes_trans U (gave_together left.0) (gave (log_at left.0 i)) ours (one_in left.0 i (omega (arith, less, left.1.count, here_long))))
     (includes_trans U (gave_together right.0) (gave (log_at right.0 i)) theirs (one_in right.0 i (omega (arith, less, right.1.count, there_long))))) in
-    closing.2 ∙ same_history S G U (same_by_both G U some no_more)
+    closing.2 ∙ same_history S G U (same_by_both G U has_both no_more)
