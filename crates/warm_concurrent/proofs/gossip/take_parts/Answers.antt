@@ -31,12 +31,12 @@ loop-shard-preserved g c =
     let mid = c.loop-shard.passes.items in
     let new = c.take_in.new.passes.items in
     let lt : k < length old = omega (arith, i.count, c.loop-shard-test.true, c.requires.passes.count) in
-    let ends = c.in_default.ensures.ends in
+    let ends = c.in_default-take_in.ensures.ends in
     let es : c.holding-entries.result ≡ part_of_entries (length old) k (entries_in m) = c.holding-entries.ensures ∙ c.in-Ok.ensures.part ∙ ap (λ (n : ℕ). part_of_entries n k (entries_in m)) (i.count ∙ sym c.requires.passes.count) in
     let call : TakeIn c.sender_of-sender.result c.horizon-horizon.result c.holding-entries.result ≡ part_call (length old) m k = λ j. TakeIn (c.sender_of-sender.ensures j) (c.horizon-horizon.ensures j) (es j) in
     record {
       of = c.take_in.ensures.passes;
       first = one_first (TakesPart (length old) m) k old mid new lt i.first ends.1
-          (c.in_default.field-0, subst (λ (x : ShardCall). Got (known_of mid k) x (Answers c.in_default.field-0) (known_of new k)) call ends.0);
+          (c.in_default-take_in.field-0, subst (λ (x : ShardCall). Got (known_of mid k) x (Answers c.in_default-take_in.field-0) (known_of new k)) call ends.0);
       count = i.count;
     }
