@@ -20,10 +20,10 @@
    its shard, but not while it reads or writes a page. A call on the whole replica locks one shard
    after another; warm_forget_pages and warm_replace lock all at once, and wait for reads and writes
    of their pages. A pin of a page pinned twice since it was loaded, and its unpin, usually take no
-   lock, for 8 pages of a handle at a time. A call waits for a page that another call reads, or
-   writes if it would write it, too; if that fails, it does so itself. It waits for at most two
-   writes of a page, and fails as the second one does. The calls on a shard have one order; a call
-   on several shards is not one step.
+   lock, for 8 pages of a handle at a time. A call waits while another call reads its page, and
+   before it writes a page, while another writes it. If that read or write fails, the call makes its
+   own. If another call's second write is under way by then, the call has its result.
+   The calls on a shard have one order; a call on several shards is not one step.
 
    You may pass any slot, page, number, length, message or descriptor: the call is refused, or does
    what its description says. The library starts no thread.
@@ -154,8 +154,8 @@ typedef struct warm_slot {
    (WARM_READ_FAULT). sync makes durable all writes that had returned.
    before_write, if not null, is asked before each write of a page. It returns 0: write; EAGAIN:
    skip this page now, as its latch is held or its log not synced; an errno: the write fails. A
-   skipped page stays dirty. Calls that change the page wait for the answer, and others rarely: it
-   may sync a log.
+   skipped page stays dirty. Calls that change the page wait for the answer, other calls seldom: so
+   it may sync a log.
    after_write, if not null, is told the error (or 0) of each write that was made, by the thread
    that asked before_write.
    Any thread that uses the replica may call them, several at once, for different pages.
@@ -256,7 +256,8 @@ int warm_read(warm *handle, warm_slot slot, size_t at, void *into, size_t length
    write-back writes it. Refused: WARM_STALE_SLOT, WARM_OUT_OF_PAGE. */
 int warm_write(warm *handle, warm_slot slot, size_t at, const void *bytes, size_t length);
 
-/* Writes where the page_size bytes of the slot's page are while any handle has it pinned.
+/* Writes a pointer to the page_size bytes of the slot's page. It holds while any handle has the
+   page pinned.
    Refused: WARM_STALE_SLOT.
    Caller: reads them only then, while no other thread writes to the page. */
 int warm_bytes(warm *handle, warm_slot slot, const uint8_t **bytes);
@@ -397,9 +398,9 @@ int warm_save(warm *handle, int fd);
    Caller: the file is open without O_DIRECT, and does not change meanwhile. */
 int warm_load(warm *handle, int fd, uint64_t length);
 
-/* The same by a device: a descriptor with before_write, which may end a save early, or functions of
-   the engine. Each gets the first byte's place as no, and any length; pages is not used. Refused
-   as these; WARM_BAD_DEVICE. */
+/* warm_save and warm_load with a device for the file: a descriptor, whose before_write may end a
+   save early, or functions of the engine. Each function gets the place of the first byte as no, and
+   any length; pages is not used. Refused as those two, and WARM_BAD_DEVICE. */
 int warm_save_to(warm *handle, const warm_device *file);
 int warm_load_from(warm *handle, const warm_device *file, uint64_t length);
 
