@@ -1,5 +1,6 @@
 pub mod Places
 pub mod Steps
+pub mod Doing
 pub mod Passing
 pub mod Numbering
 pub mod Ending

@@ -15,7 +15,7 @@ use Rattle.warm_concurrent.proofs.Firsts.{one_first}
 use Rattle.warm_concurrent.proofs.gossip.take_parts.Goals as goal
 
 pub take_in-requires-clause-own : goal.take_in-requires-clause-own
-take_in-requires-clause-own g c =
+take_in-requires-clause-own g c κs within =
     let count = length c.args.turns.now.items in
     let k = c.loop-shard.shard in
     let es = entries_in c.args.message.now in
