@@ -101,7 +101,7 @@ fn buckets_are_sent_at_the_horizon(rt: HostRuntime) {
     assert!(rt; whole(&rt, &peer, bucket(2)).is_empty());
     let rest = peer.send(bucket(1), Some(page(1)));
     let rest = rest.expect(&rt, "memory is ample");
-    assert!(rt; brings(&rest, 3, 10, &both[1..]));
+    assert!(rt; brings(&rest, 3, 10, &[entry(page(65), once(30, 3))]));
     let none = peer.send(bucket(2), None).expect(&rt, "memory is ample");
     assert!(rt; brings(&none, 3, 10, &[]));
 }
