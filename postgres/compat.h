@@ -3,7 +3,7 @@
  *		What differs between the versions of PostgreSQL, 15 to 18.
  *
  * All tests of the version are here.  Tried with 15 and 18, and with 18's
- * assertions; the names of 16 and 17 are those of 18.
+ * assertions; compiled with 17.  The names of 16 and 17 are those of 18.
  */
 #ifndef STANDBY_PREWARM_COMPAT_H
 #define STANDBY_PREWARM_COMPAT_H
