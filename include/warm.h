@@ -283,7 +283,8 @@ int warm_victims(warm *handle, size_t shard, warm_page *pages, size_t room, size
 
 /* A step of a warm-up. Of a shard's hottest pages, as many as it has frames, it loads the hottest
    that is on a device and in no frame. Writes whether there was one, and which; if not, the pool is
-   warm. Shards take turns, also after a refusal. After changes a step ranks the history again.
+   warm. Shards take turns, also after a refusal. After references a step ranks their pages alone,
+   after 4,000 of a shard its whole history.
    Refused: WARM_MEMORY, WARM_ALL_PINNED, WARM_PINS_FULL, WARM_READ_FAULT, WARM_EVICT_FAULT. */
 int warm_step(warm *handle, bool *found, warm_page *page);
 

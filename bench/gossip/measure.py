@@ -89,6 +89,11 @@ def by_size(plain: Path, sizes: list[int]) -> None:
         ours, other = fastest(plain, RUNS, "warm", pages, STEPS)
         each, others = (it.nanos / STEPS / 1e6 for it in (ours, other))
         row(f"{pages:,}", f"{each:.3f}", f"{others:.3f}", f"{others / each:.2f}")
+    head("pages", "a warm-up step after a reference, ours, ms", "plain Rust, ms", "plain time by ours")
+    for pages in sizes:
+        ours, other = fastest(plain, RUNS, "follow", pages, STEPS)
+        each, others = (it.nanos / STEPS / 1e6 for it in (ours, other))
+        row(f"{pages:,}", f"{each:.3f}", f"{others:.3f}", f"{others / each:.2f}")
     head("pages", "buckets that changed", "an offer, ours, ms", "plain Rust, ms", "plain time by ours")
     for pages in sizes:
         for buckets in CHANGED:

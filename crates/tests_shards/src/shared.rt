@@ -8,7 +8,6 @@ use std::sync::Wait;
 use test_kit::{SeenAt, page, seen};
 use warm_concurrent::{Attached, SharedFault, SharedShards};
 use warm_devices::MemDevice;
-use warm_frames::Message;
 use warm_gossip::{Node, NodeFault};
 use warm_pool::PoolFault;
 use warm_shards::ShardSlot;
@@ -156,16 +155,7 @@ fn is_passed_on<R: Wait + Abort>(
     let Ok(message) = shared.send(rt, attached, bucket, None) else {
         return false;
     };
-    let Message::Entries {
-        horizon,
-        entries,
-        ..
-    } = message
-    else {
-        return false;
-    };
-    let taken = others.receive_entries(rt, alloc, attached_there, horizon, entries.as_slice());
-    taken.is_ok()
+    others.receive(rt, alloc, attached_there, &message).is_ok()
 }
 
 #[test]

@@ -1,19 +1,11 @@
--- What is for one shard: the bits of shards, and parts of entries.
-use Rattle.std.proofs.Common.{inl, inr, ℕ, ◌+◌, ◌<◌, ◌^◌, Bool, List, [], ◌∷◌, ◌++◌, map, length, take, get_or, Contains, refl, sym, ap, subst, ◌∙◌, arith, nat_eq, not}
+-- The bits of shards.
+use Rattle.std.proofs.Common.{inl, inr, ℕ, ◌+◌, ◌<◌, ◌^◌, List, [], ◌∷◌, ◌++◌, map, length, take, get_or, Contains, sym, ap, subst, ◌∙◌}
 use Rattle.std.specs.Prelude.{bit_or}
 use Rattle.std.specs.Int.{bit_at}
-use Rattle.std.specs.Ordering.{on}
 use Rattle.std.proofs.lemmas.Bool.{cases_eq}
 use Rattle.std.proofs.lemmas.List.{map_more, map_push}
 use Rattle.std.proofs.lemmas.List.Elements.{Contains-append_left, Contains-push, Contains-push_cases}
-use Rattle.std.proofs.lemmas.List.Filters.{length-filter_both}
-use Rattle.warm_stamps.specs.Stamps.{page_cmp}
 use Rattle.warm_stamps.proofs.BucketLemmas.{with_same, with_other}
-use Rattle.warm_stamps.proofs.DistinctLemmas.{rising_filter}
-use Rattle.warm_history.specs.declared.hist.Entry.{Entry}
-use Rattle.warm_frames.specs.Entries.{FitsInFrame, IsEntryList}
-use Rattle.warm_shards.specs.Shards.{shard_of}
-use Rattle.warm_shards.specs.Parts.{part_of_entries}
 use Rattle.warm_c.specs.Parts.{HasBits}
 
 -- one number more has its bit
@@ -40,18 +32,3 @@ bits_more f g xs k d bits lt so_far =
     let bit = f (g (get_or xs k d)) in
     subst (λ ns. HasBits ns (bit_or bits (2 ^ bit))) (sym (ap (map f) (map_more g xs k d lt) ∙ map_push f (map g (take k xs)) (g (get_or xs k d))))
     (bit_more (map f (map g (take k xs))) bit bits so_far)
-
--- ---- parts of entries
-
-abbrev of_shard : ℕ → ℕ → Entry → Bool
-of_shard shards shard e = nat_eq (shard_of shards e.page) shard
-
--- a part is no longer, and its pages rise
-pub part_fits : (shards shard : ℕ) (es : List Entry) → IsEntryList es
-    → FitsInFrame (part_of_entries shards shard es)
-part_fits shards shard es is =
-    let test = of_shard shards shard in
-    let shorter = length-filter_both test (λ e. not (test e)) (λ e. refl) es in (
-      rising_filter (on (λ (e : Entry). e.page) page_cmp) test es is.pages_ascend,
-      omega (arith, is.at_most, shorter),
-    )

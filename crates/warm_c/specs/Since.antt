@@ -5,7 +5,7 @@ use Rattle.warm_stamps.specs.declared.PageId.{PageId}
 use Rattle.warm_history.specs.declared.hist.Entry.{Entry}
 use Rattle.warm_frames.specs.declared.message.Message.{Message}
 use Rattle.warm_frames.specs.Limits.{entries_in}
-use Rattle.warm_gossip.specs.Since.{HasMoreSince, sent_since}
+use Rattle.warm_peer.specs.Since.{HasMoreSince, sent_since}
 use Rattle.warm_c.specs.declared.open_node.OpenNode.{OpenNode}
 use Rattle.warm_c.specs.declared.status.Refusal.TheVariants.{BadBucket}
 use Rattle.warm_c.specs.declared.values.WarmPage.{WarmPage}

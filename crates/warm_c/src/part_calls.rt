@@ -1,71 +1,16 @@
 //! The calls on an open handle that concern one shard of many, or join what another handle holds.
-ghost use Rattle.std.specs.Prelude.{◌≡◌, IfOk};
-ghost use Rattle.warm_frames.specs.Entries.{FitsInFrame};
-ghost use Rattle.warm_frames.specs.Limits.{entries_in};
-ghost use Rattle.warm_shards.specs.Shards.{IsShardCount};
 ghost use Rattle.warm_c.specs.PartCalls.{GivesDigests, JoinsNode, PinsAndLends, ReceivesPart};
 ghost use Rattle.warm_c.specs.PartCalls.{gathered};
-ghost use Rattle.warm_shards.specs.Parts.{part_of_entries, part_of_message, sender_in};
 
 use crate::frame_parts::NodeTable;
 use crate::lending::address_of;
 use crate::open_node::OpenNode;
-use crate::shard_parts::{check_part, part_of_entries};
+use crate::shard_parts::check_part;
 use crate::status::Refusal;
 use crate::values::{PinnedSlot, WarmPage};
-use std::alloc::{AllocError, Global};
-use warm_frames::{EntryList, Message, decode};
-use warm_history::Entry;
-use warm_shards::fill_digests;
-use warm_stamps::ReplicaId;
-
-// The replica that sent a message.
-fn sender_of(message: &Message) -> ReplicaId
-    ensures { result ≡ sender_in message.now }
-{
-    match message {
-        Message::Entries { sender, .. } => *sender,
-        Message::Digest { sender, .. } => *sender,
-        Message::Want { sender, .. } => *sender,
-    }
-}
-
-// The entries that a message brings to the shard.
-fn entries_for(
-    alloc: Global,
-    message: &Message,
-    shards: usize,
-    shard: usize,
-) -> Result<Vec<Entry>, AllocError>
-    requires { IsShardCount shards }
-    ensures part { IfOk result (λ part. part.items
-        ≡ part_of_entries shards shard (entries_in message.now)) }
-    ensures fits { IfOk result (λ part. FitsInFrame part.items) }
-{
-    let Message::Entries { entries, .. } = message else {
-        return Ok(Vec::new(alloc));
-    };
-    let part = part_of_entries(alloc, entries.as_slice(), shards, shard)?;
-    Ok(part)
-}
-
-// What a message brings to the shard, as a message.
-fn part_of_message(
-    alloc: Global,
-    message: &Message,
-    shards: usize,
-    shard: usize,
-) -> Result<Message, AllocError>
-    requires { IsShardCount shards }
-    ensures { IfOk result (λ part. part ≡ part_of_message shards shard message.now) }
-{
-    let part = entries_for(alloc, message, shards, shard)?;
-    Ok(Message::Entries {
-        sender: sender_of(message),
-        horizon: message.horizon(),
-        entries: EntryList::holding(part),
-    })
-}
+use std::alloc::Global;
+use warm_frames::{Message, decode};
+use warm_shards::{fill_digests, part_of_message};
 
 impl OpenNode {
     /// Calls [`warm_gossip::Node::pin`], and writes the slot and the address of the page's bytes,

@@ -1,12 +1,10 @@
-//! Which shards entries are of, and which entries are for one shard.
-ghost use Rattle.std.specs.Prelude.{◌≡◌, ◌^◌, bit_or, IfErr, IfOk, OnOk};
+//! Which shards entries are of.
+ghost use Rattle.std.specs.Prelude.{◌≡◌, ◌^◌, bit_or, IfErr, OnOk};
 ghost use Rattle.warm_shards.specs.Shards.{IsShardCount, shard_of};
 ghost use Rattle.warm_c.specs.Parts.{HasBits, IsNoShardNumber, IsShardNumber, entry_pages};
 ghost use Rattle.warm_c.specs.Parts.{shards_of};
-ghost use Rattle.warm_shards.specs.Parts.{part_of_entries};
 
 use crate::status::Refusal;
-use std::alloc::{AllocError, Global};
 use warm_history::Entry;
 use warm_shards::{is_shard_count, shard_of};
 use warm_stamps::PageId;
@@ -46,23 +44,4 @@ pub fn shards_of_entries(shards: usize, entries: &[Entry]) -> u64
         bits = with_bit(bits, shards, entry.page);
     }
     bits
-}
-
-/// The entries of pages of the shard, in order. `AllocError` occurs only where an allocation fails.
-pub fn part_of_entries(
-    alloc: Global,
-    entries: &[Entry],
-    shards: usize,
-    shard: usize,
-) -> Result<Vec<Entry>, AllocError>
-    requires { IsShardCount shards }
-    ensures { IfOk result (λ part. part.items ≡ part_of_entries shards shard entries.now) }
-{
-    let mut part = Vec::new(alloc);
-    for entry in entries {
-        if shard_of(shards, entry.page) == shard {
-            part.push(*entry)?;
-        }
-    }
-    Ok(part)
 }

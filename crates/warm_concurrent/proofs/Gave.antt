@@ -1,17 +1,17 @@
 -- What a thread's calls add to its own calls, and what these gave.
 use Rattle.std.specs.Prelude.{slice_index_or}
-use Rattle.std.proofs.Common.{◌≡◌, ℕ, zero, suc, ◌<◌, List, [], ◌∷◌, ◌++◌, length, map, max, refl, sym, ap, subst, ◌∙◌, arith, append-nil, append_assoc}
+use Rattle.std.proofs.Common.{◌≡◌, ℕ, zero, suc, ◌<◌, List, [], ◌∷◌, ◌++◌, length, map, refl, sym, ap, subst, ◌∙◌, arith, append-nil, append_assoc}
 use Rattle.std.proofs.lemmas.List.{length-append, map_push}
 use Rattle.warm_stamps.specs.declared.Reference.{Reference}
-use Rattle.warm_history.specs.declared.hist.Entry.{Entry as PageEntry}
-use Rattle.warm_history.specs.ListHistories.{list_references_of}
 use Rattle.warm_history.specs.ReferenceSets.{ReferenceSet, set_of_list, ◌∪◌}
 use Rattle.warm_frames.specs.declared.message.Message.{Message}
 use Rattle.warm_frames.specs.declared.message.Message.TheVariants.{Entries, Digest, Want}
 use Rattle.warm_machine.specs.Runs.{operation}
-use Rattle.warm_gossip.specs.Answers.{refs_in}
+use Rattle.warm_peer.specs.Answers.{refs_in}
+use Rattle.warm_shards.specs.Parts.{part_of_message}
 use Rattle.warm_shards.specs.Shards.{IsShardCount, of_shard}
 use Rattle.warm_shards.proofs.Absorbing.{some_count}
+use Rattle.warm_shards.proofs.WholeParts.{message_part}
 use Rattle.warm_concurrent.specs.declared.call.ShardCall.{ShardCall}
 use Rattle.warm_concurrent.specs.declared.call.ShardCall.TheVariants.{Absorb, Answer, Offer, Raise}
 use Rattle.warm_concurrent.specs.declared.call.ShardReply.{ShardReply}
@@ -22,10 +22,10 @@ use Rattle.warm_concurrent.specs.Attached.{ShardPass, shard_pass}
 use Rattle.warm_concurrent.specs.Clauses.{Got}
 use Rattle.warm_concurrent.specs.Given.{HasGiven, Log, SameGiven, gave, gave_call, gave_together, log_at, only_horizon}
 use Rattle.warm_concurrent.specs.Gossip.{Compares, ShardsReceive, ShardsTakeDigests}
-use Rattle.warm_concurrent.specs.Gossip.{ShardsTakeEntries, ShardsTakeRequest}
+use Rattle.warm_concurrent.specs.Gossip.{ShardsTakeRequest}
 use Rattle.warm_concurrent.specs.Laws.{all_of}
 use Rattle.warm_concurrent.specs.Whole.{AbsorbsFirst, AbsorbsPart, First, RaisesFirst, RaisesShard}
-use Rattle.warm_concurrent.specs.Whole.{part_of}
+use Rattle.warm_concurrent.specs.Whole.{TakesFirst, TakesPart, part_call, part_of}
 use Rattle.warm_concurrent.proofs.Places.{push_each}
 use Rattle.warm_concurrent.proofs.Sets.{all_of_push, gave_append, sum, sum_is, union_none}
 
@@ -216,17 +216,17 @@ none_twice old mid new one other =
     given_as (λ i. set_of_list [] ∪ set_of_list []) (λ i. set_of_list []) k old new (λ i. refl)
     (given_then (λ i. set_of_list []) (λ i. set_of_list []) k old mid new one rest)
 
-entries_each : (time : ℕ) (entries : List PageEntry) (old new : List ShardPass)
-    → ShardsTakeEntries time entries old new
-    → EachGives (λ i. of_shard (length old) i (record { horizon = time; given = list_references_of entries })) (length old) old new
-entries_each time entries old new (mid, raised, absorbed) =
-    let k = length old in
-    let refs = list_references_of entries in
-    let part : ℕ → ReferenceSet = λ i. of_shard k i (set_of_list refs) in
-    let rest : EachGives part k mid new = subst (λ (n : ℕ). EachGives (λ i. of_shard n i (set_of_list refs)) k mid new) raised.count (absorbed_each refs k mid new absorbed) in
-    given_as (λ i. only_horizon time ∪ part i) (λ i. of_shard k i (record { horizon = time; given = refs })) k old new
-    (λ i. let late : max time 0 ≡ time = omega arith in λ j. record { horizon = late j; given = (part i).given })
-    (given_then (λ i. only_horizon time) part k old mid new (raised_each time k old mid raised) rest)
+-- what a shard takes in of a message
+part_gives : (count : ℕ) (message : Message) (i : ℕ) (old new : ShardPass)
+    → TakesPart count message i old new → Gives (of_shard count i (refs_in message)) old new
+part_gives count message i old new (answers, got) =
+    gives_as (refs_in (part_of_message count i message)) (of_shard count i (refs_in message)) old new (message_part count i message)
+    (gives_called old new (part_call count message i) (Answers answers) got)
+
+pub taken_each : (message : Message) (k : ℕ) (old new : List ShardPass) → TakesFirst message k old new
+    → EachGives (λ i. of_shard (length old) i (refs_in message)) k old new
+taken_each message k old new so =
+    as_given (TakesPart (length old) message) (λ i. of_shard (length old) i (refs_in message)) k old new (part_gives (length old) message) so
 
 request_each : (time request : ℕ) (messages : List Message) (old new : List ShardPass)
     → ShardsTakeRequest time request messages old new
@@ -244,6 +244,6 @@ digests_each time digests messages old new (mid, later, own, raised, gathered, c
 pub message_each : (message : Message) (messages : List Message) (old new : List ShardPass)
     → ShardsReceive message messages old new
     → EachGives (λ i. of_shard (length old) i (refs_in message)) (length old) old new
-message_each (Entries sender time entries) messages old new so = entries_each time entries old new so.1
+message_each (Entries sender time entries) messages old new so = taken_each (Entries sender time entries) (length old) old new so.1
 message_each (Digest sender time digests) messages old new so = digests_each time digests messages old new so
 message_each (Want sender time request) messages old new so = request_each time request messages old new so

@@ -12,7 +12,7 @@ use Rattle.warm_gossip.specs.State.{NodeState}
 use Rattle.warm_shards.specs.Shards.{held, no_shard, shard_at, whole}
 use Rattle.warm_shards.proofs.Taking.{last_two}
 use Rattle.warm_concurrent.specs.declared.call.ShardCall.{ShardCall}
-use Rattle.warm_concurrent.specs.declared.call.ShardCall.TheVariants.{Absorb, Answer, Change, ForgetPages, Look, Offer, Pin, PinZeroed, Raise, Read, Send, SendSince, Unpin, Victim, WarmList, WarmStep, Write, WriteBack, WritePages, WriteSome}
+use Rattle.warm_concurrent.specs.declared.call.ShardCall.TheVariants.{Absorb, Answer, Change, ForgetPages, Look, Offer, Pin, PinZeroed, Raise, Read, Send, SendSince, TakeIn, Unpin, Victim, WarmList, WarmStep, Write, WriteBack, WritePages, WriteSome}
 use Rattle.warm_concurrent.specs.declared.call.ShardReply.{ShardReply}
 use Rattle.warm_concurrent.specs.declared.call.ShardReply.TheVariants.{Answers, Done, Foreign, Kept}
 use Rattle.warm_concurrent.specs.Attached.{Known, ShardPass, ShardTurn, known_of, shard_turn}
@@ -34,6 +34,8 @@ call_gave S by (Absorb batch) Done = refl
 call_gave S by (Absorb batch) r = sym (union_none S)
 call_gave S by (Raise time) (Kept horizon) = refl
 call_gave S by (Raise time) r = sym (union_none S)
+call_gave S by (TakeIn sender horizon es) (Answers messages) = refl
+call_gave S by (TakeIn sender horizon es) r = sym (union_none S)
 call_gave S by (Answer request) (Answers messages) = refl
 call_gave S by (Answer request) r = sym (union_none S)
 call_gave S by (Pin page) Foreign = sym (union_none S)
@@ -141,6 +143,7 @@ closed_log turn known node (last, same, is) = (
     begins = is.begins;
     own = is.own;
     others = is.others;
+    all = is.all;
   },
 )
 

@@ -24,7 +24,7 @@ use Rattle.warm_shards.specs.Shards.{AreShards, HasPagesOf, HoldsPagesOf, HoldsS
 use Rattle.warm_shards.proofs.EngineCalls.{forgotten_own, same_own, zeroed_own}
 use Rattle.warm_shards.proofs.Staying.{failures_stay, steps_stay}
 use Rattle.warm_concurrent.specs.declared.call.ShardCall.{ShardCall}
-use Rattle.warm_concurrent.specs.declared.call.ShardCall.TheVariants.{Absorb, Change, Look, Pin, PinZeroed}
+use Rattle.warm_concurrent.specs.declared.call.ShardCall.TheVariants.{Absorb, Change, Look, Pin, PinZeroed, TakeIn}
 use Rattle.warm_concurrent.specs.declared.call.ShardReply.{ShardReply}
 use Rattle.warm_concurrent.specs.declared.call.ShardReply.TheVariants.{Changed, Dirty, Done, Foreign, Looked, Pinned, Portion, Refused}
 use Rattle.warm_concurrent.specs.Attached.{Known, ShardTurn}
@@ -115,6 +115,7 @@ module _ (count i : ℕ) where
 
   own_asked : (c : ShardCall) → IsOwn count i c → BringsAsked (asked_of c)
   own_asked (Absorb batch) own = own
+  own_asked (TakeIn sender horizon es) own = own
   own_asked (Pin p) own = own
   own_asked (PinZeroed p) own = own
   own_asked (Look p) own = own

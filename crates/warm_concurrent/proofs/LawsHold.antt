@@ -26,7 +26,7 @@ use Rattle.warm_concurrent.specs.Attached.{Known, ShardPass, known_of, no_pass, 
 use Rattle.warm_concurrent.specs.Clauses.{AnsweredByShard, Got}
 use Rattle.warm_concurrent.specs.Laws.{CallsAreANodes, OnlySeesMore, SeesMore, ShardIsOfGiven, TogetherAreOfGiven, all_of, asked_steps, call_operations, calls_in, held_by, node_steps, reply_operations}
 use Rattle.warm_concurrent.specs.ShardSteps.{Asked, doing, looking, changing, CallGoes, NodeGoes, NodeStep, ShardState, ShardStep, Work, calling, writing_pages, writing_some, writing_back, zeroing, forgetting, sending_since, asked_of, node_reply_of}
-use Rattle.warm_concurrent.specs.Whole.{AbsorbsPart, Does, First, RaisesShard, part_of}
+use Rattle.warm_concurrent.specs.Whole.{AbsorbsPart, Does, First, RaisesShard, TakesPart, part_call, part_of}
 use Rattle.warm_concurrent.proofs.Places.{at_each}
 
 -- ---- the steps of a shard are a node's
@@ -215,6 +215,7 @@ only_sees_more = record {
   called = called_more;
   absorbed = λ old new k batch so. firsts_more (AbsorbsPart (length old) batch) (part_more (length old) batch) k old new so;
   raised = λ old new k time so. firsts_more (RaisesShard time) (λ i p q r. got_more p.view q.view _ (Kept r.0) r.1) k old new so;
+  taken = λ old new k message so. firsts_more (TakesPart (length old) message) (λ i p q r. got_more p.view q.view (part_call (length old) message i) (Answers r.0) r.1) k old new so;
   done = λ old new k call so. firsts_more (Does call) (λ i p q r. got_more p.view q.view call Done r) k old new so;
   offered = λ old new offers k so. firsts_more (λ i. Offers (offer_at offers i) i) (λ i p q r. got_more p.view q.view Offer (offer_reply (offer_at offers i)) r) k old new so.1;
   answered = λ old new request parts k so. firsts_more (λ i. AnswersPart (length old) request (slice_index_or parts i []) i) (λ i. answer_more (length old) request (slice_index_or parts i []) i) k old new so.1;

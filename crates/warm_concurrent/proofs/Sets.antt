@@ -148,14 +148,3 @@ pub includes_unions : (S T U V : ReferenceSet) → Includes S U → Includes T V
     → Includes (S ∪ T) (U ∪ V)
 includes_unions S T U V first second =
     includes_both (S ∪ T) U V (includes_left S T U first) (includes_right S T V second)
-
--- what includes a set says the same with it
-pub with_included : (S T : ReferenceSet) → Includes S T → SameGiven (T ∪ S) S
-with_included S T is = record {
-  horizon = omega (arith, is.horizon);
-  there = λ r here. elim (in_both r T.given S.given here) [
-    | inl one ↦ is.there r one
-    | inr other ↦ other
-  ];
-  back = λ r here. in_second r T.given S.given here;
-}

@@ -1,24 +1,26 @@
--- Two threads that absorb a batch each, and one that closes: both batches are held.
-use Rattle.std.proofs.Common.{◌≡◌, ℕ, suc, ◌<◌, Bool, true, false, List, [], ◌∷◌, ◌++◌, length, refl, sym, ap, subst, ◌∙◌, arith}
+-- Two threads that absorb a batch each, and one that closes: both batches are held, and no more.
+use Rattle.std.proofs.Common.{◌≡◌, inl, inr, ℕ, zero, suc, ◌<◌, Bool, true, false, List, [], ◌∷◌, ◌++◌, length, refl, sym, ap, subst, ◌∙◌, arith}
 use Rattle.std.specs.Prelude.{◌==◌}
+use Rattle.std.proofs.lemmas.Bool.{eq-eqb}
 use mathlib.Core.Option.{some}
 use lib.ListN.{get_elem?}
 use Rattle.warm_history.specs.ReferenceSets.{ReferenceSet, set_of_list, ◌∪◌}
-use Rattle.warm_history.specs.Histories.{HistoryView, IsBelow, history}
-use Rattle.warm_history.proofs.JoinLemmas.{history_of_union}
+use Rattle.warm_stamps.specs.declared.Reference.{Reference}
 use Rattle.warm_turn.specs.declared.table.EndedPass.{EndedPass}
-use Rattle.warm_turn.specs.CallHistories.{as_ended, calls_by}
+use Rattle.warm_machine.specs.declared.operation.Operation.{Operation}
+use Rattle.warm_turn.specs.CallHistories.{EachIsBy, HoldsNumber, IsAmong, as_ended, calls_by}
+use Rattle.warm_turn.specs.Shares.{IsWhole, both, half, whole_share}
 use Rattle.warm_gossip.specs.State.{NodeState}
 use Rattle.warm_shards.specs.Shards.{IsShardCount}
 use Rattle.warm_concurrent.specs.declared.call.ShardCall.{ShardCall}
 use Rattle.warm_concurrent.specs.declared.call.ShardReply.{ShardReply}
-use Rattle.warm_concurrent.specs.Attached.{Known, ShardPass, ShardTurn, known_of}
-use Rattle.warm_concurrent.specs.Given.{AreLogs, HasMade, Log, TwoThreadsAreHeld, gave, gave_call, gave_together, log_at}
+use Rattle.warm_concurrent.specs.Attached.{Known, ShardPass, ShardTurn, known_of, shard_pass}
+use Rattle.warm_concurrent.specs.Given.{AreLogs, HasMade, Log, SameGiven, TwoThreadsAreHeld, gave, gave_call, gave_together, log_at}
 use Rattle.warm_concurrent.specs.Opening.{AreFirst, AreHalved, PassesAreJoined, AreSplit}
-use Rattle.warm_concurrent.specs.Whole.{AbsorbsFirst}
+use Rattle.warm_concurrent.specs.Whole.{AbsorbsFirst, AbsorbsPart, part_of}
 use Rattle.warm_concurrent.proofs.Headline.{shared_is_of_given, turns_long}
 use Rattle.warm_concurrent.proofs.Stopping.{threads_give}
-use Rattle.warm_concurrent.proofs.Sets.{Includes, includes_both, includes_right, includes_self, includes_trans, includes_unions, none_union, same_history, same_includes, with_included}
+use Rattle.warm_concurrent.proofs.Sets.{Includes, includes_both, includes_left, includes_right, includes_self, includes_trans, includes_unions, same_history, same_includes}
 
 -- a log gives what the calls of one number in it give
 part_included : (n : ℕ) (log : Log) → Includes (gave log) (gave (calls_by n log))
@@ -49,13 +51,77 @@ at_seam : {A : Type 0} (xs ys : List A) (a : A) → get_elem? (xs ++ a ∷ ys) (
 at_seam [] ys a = refl
 at_seam (x ∷ xs) ys a = at_seam xs ys a
 
--- what is below what includes it
-below_more : (S T : ReferenceSet) → Includes T S → IsBelow (history S) (history T)
-below_more S T has =
-    history_of_union S T
-    ∙ ap history (sym (none_union (S ∪ T)))
-    ∙ same_history (set_of_list []) (S ∪ T) T (with_included T S has)
-    ∙ ap history (none_union T)
+-- sets that include one another say the same
+same_by_both : (S T : ReferenceSet) → Includes S T → Includes T S → SameGiven S T
+same_by_both S T one other = record {
+  horizon = omega (arith, one.horizon, other.horizon);
+  there = other.there;
+  back = one.there;
+}
+
+same_included : (S T : ReferenceSet) → SameGiven S T → Includes T S
+same_included S T same = record { horizon = omega (arith, same.horizon); there = same.there }
+
+includes_none : (T : ReferenceSet) → Includes T (set_of_list [])
+includes_none T = record { horizon = omega arith; there = λ r here. absurd here }
+
+-- what all logs give includes what one gives
+one_in : (logs : List Log) (i : ℕ) → i < length logs
+    → Includes (gave_together logs) (gave (log_at logs i))
+one_in [] i lt = absurd (omega (arith, lt))
+one_in (l ∷ ls) zero lt = includes_left (gave l) (gave_together ls) (gave l) (includes_self (gave l))
+one_in (l ∷ ls) (suc i) lt =
+    includes_right (gave l) (gave_together ls) (gave (log_at ls i)) (one_in ls i (omega (arith, lt)))
+
+-- where a set includes what each log gives, it includes what all give
+together_in : (T : ReferenceSet) (logs : List Log)
+    → ((i : ℕ) → i < length logs → Includes T (gave (log_at logs i)))
+    → Includes T (gave_together logs)
+together_in T [] each = includes_none T
+together_in T (l ∷ ls) each =
+    includes_both T (gave l) (gave_together ls) (each 0 (omega arith)) (together_in T ls (λ i lt. each (suc i) (omega (arith, lt))))
+
+-- the calls of the first operation's number begin with it
+first_in : (e : Operation ShardCall ShardReply) (es : Log)
+    → Includes (gave (calls_by e.by (e ∷ es))) (gave_call e.call e.reply)
+first_in e es =
+    let is : (e.by == e.by) ≡ true = eq-eqb e.by e.by refl in
+    rw is (includes_left (gave_call e.call e.reply) (gave (calls_by e.by es)) (gave_call e.call e.reply) (includes_self (gave_call e.call e.reply)))
+
+rest_in : (n : ℕ) (e : Operation ShardCall ShardReply) (es : Log)
+    → Includes (gave (calls_by n (e ∷ es))) (gave (calls_by n es))
+rest_in n e es = cases (e.by == n) refl
+  where
+    cases : (b : Bool) → (e.by == n) ≡ b → Includes (gave (calls_by n (e ∷ es))) (gave (calls_by n es))
+    cases true is =
+        rw is (includes_right (gave_call e.call e.reply) (gave (calls_by n es)) (gave (calls_by n es)) (includes_self (gave (calls_by n es))))
+    cases false is = rw is (includes_self (gave (calls_by n es)))
+
+-- where a set includes what the calls of each of these numbers give, and each operation has one of
+-- these numbers, it includes what all operations give
+all_in : (P : ℕ → Type 0) (T : ReferenceSet) (log es : Log)
+    → ((n : ℕ) → P n → Includes T (gave (calls_by n log)))
+    → ((n : ℕ) → Includes (gave (calls_by n log)) (gave (calls_by n es)))
+    → EachIsBy P es → Includes T (gave es)
+all_in P T log [] each some held = includes_none T
+all_in P T log (e ∷ es) each some held =
+    includes_both T (gave_call e.call e.reply) (gave es)
+    (includes_trans T (gave (calls_by e.by log)) (gave_call e.call e.reply) (each e.by held.0)
+    (includes_trans (gave (calls_by e.by log)) (gave (calls_by e.by (e ∷ es))) (gave_call e.call e.reply) (some e.by) (first_in e es)))
+    (all_in P T log es each (λ n. includes_trans (gave (calls_by n log)) (gave (calls_by n (e ∷ es))) (gave (calls_by n es)) (some n) (rest_in n e es)) held.1)
+
+-- a batch leaves the share of a pass, and those that were ended into it
+part_keeps : (count : ℕ) (batch : List Reference) (i : ℕ) (old new : ShardPass)
+    → AbsorbsPart count batch i old new
+    → (new.view.share ≡ old.view.share) × (new.view.ended ≡ old.view.ended)
+part_keeps count batch i old new so = cases (part_of count i batch) refl
+  where
+    cases : (part : List Reference) → part_of count i batch ≡ part
+        → (new.view.share ≡ old.view.share) × (new.view.ended ≡ old.view.ended)
+    cases [] is = (ap (λ (p : ShardPass). p.view.share) (so.0 is), ap (λ (p : ShardPass). p.view.ended) (so.0 is))
+    cases (r ∷ rs) is =
+        let got = so.1 (λ none. let no : r ∷ rs ≡ [] = sym is ∙ none in absurd (cc)) in
+        (got.share, got.ended)
 
 module _ (turns : List ShardTurn) (first here there mine yours all : List ShardPass)
     (opens : AreFirst turns first) (halved : AreHalved first here) (split : AreSplit first there)
@@ -72,32 +138,103 @@ module _ (turns : List ShardTurn) (first here there mine yours all : List ShardP
       let is = split.each i (omega (arith, lt, opens.count)) in
       ap (λ (v : Known). v.mine) is.1
 
-  -- the calls of the thread that closes are in the logs
-  mine_in : (more : List Log) (i : ℕ) → HasMade here mine more → i < length turns
+  -- the calls of the thread that closes
+  mine_calls : (more : List Log) (i : ℕ) → HasMade here mine more → i < length turns
       → length here ≡ length turns → length mine ≡ length turns
-      → Includes (gave (log_at logs i)) (gave (log_at more i))
-  mine_in more i made lt long also =
+      → calls_by (known_of all i).number (log_at logs i) ≡ log_at more i
+  mine_calls more i made lt long also =
       let log = are.each i lt in
       let is : known_of all i ≡ _ = (joined.each i (omega (arith, lt, also))).1 in
-      let number : (known_of all i).number ≡ (known_of mine i).number = ap (λ (v : Known). v.number) is in
-      let calls : calls_by (known_of all i).number (log_at logs i) ≡ log_at more i =
-      log.own ∙ ap (λ (v : Known). v.mine) is ∙ made.each i (omega (arith, lt, long)) ∙ ap (λ (l : Log). l ++ log_at more i) (none_here i lt) in
-      subst (λ (l : Log). Includes (gave (log_at logs i)) (gave l)) calls (part_included (known_of all i).number (log_at logs i))
+      log.own ∙ ap (λ (v : Known). v.mine) is ∙ made.each i (omega (arith, lt, long)) ∙ ap (λ (l : Log). l ++ log_at more i) (none_here i lt)
 
-  -- and so are those of the thread that was detached into it
-  yours_in : (more : List Log) (i : ℕ) → HasMade there yours more → i < length turns
+  -- and those of the thread that was detached into it
+  yours_calls : (more : List Log) (i : ℕ) → HasMade there yours more → i < length turns
       → length there ≡ length turns → length mine ≡ length turns
-      → Includes (gave (log_at logs i)) (gave (log_at more i))
-  yours_in more i made lt long also =
+      → calls_by (known_of yours i).number (log_at logs i) ≡ log_at more i
+  yours_calls more i made lt long also =
       let log = are.each i lt in
       let v = known_of mine i in
       let u = known_of yours i in
       let is = (joined.each i (omega (arith, lt, also))).1 in
       let ended : (known_of all i).ended ≡ v.ended ++ as_ended u ∷ u.ended = ap (λ (w : Known). w.ended) is in
       let at : get_elem? (known_of all i).ended (length v.ended) ≡ some (as_ended u) = ap (λ (es : List (EndedPass ShardCall ShardReply)). get_elem? es (length v.ended)) ended ∙ at_seam v.ended u.ended (as_ended u) in
-      let calls : calls_by u.number (log_at logs i) ≡ log_at more i =
-      log.others (length v.ended) (as_ended u) at ∙ made.each i (omega (arith, lt, long)) ∙ ap (λ (l : Log). l ++ log_at more i) (none_there i lt) in
-      subst (λ (l : Log). Includes (gave (log_at logs i)) (gave l)) calls (part_included u.number (log_at logs i))
+      log.others (length v.ended) (as_ended u) at ∙ made.each i (omega (arith, lt, long)) ∙ ap (λ (l : Log). l ++ log_at more i) (none_there i lt)
+
+  mine_in : (more : List Log) (i : ℕ) → HasMade here mine more → i < length turns
+      → length here ≡ length turns → length mine ≡ length turns
+      → Includes (gave (log_at logs i)) (gave (log_at more i))
+  mine_in more i made lt long also =
+      let n = (known_of all i).number in
+      subst (λ (l : Log). Includes (gave (log_at logs i)) (gave l)) (mine_calls more i made lt long also) (part_included n (log_at logs i))
+
+  yours_in : (more : List Log) (i : ℕ) → HasMade there yours more → i < length turns
+      → length there ≡ length turns → length mine ≡ length turns
+      → Includes (gave (log_at logs i)) (gave (log_at more i))
+  yours_in more i made lt long also =
+      let n = (known_of yours i).number in
+      subst (λ (l : Log). Includes (gave (log_at logs i)) (gave l)) (yours_calls more i made lt long also) (part_included n (log_at logs i))
+
+  -- what each thread's pass has when it is ended, or closes
+  module _ (one two : List Reference) (absorbed : AbsorbsFirst one (length turns) here mine)
+      (also : AbsorbsFirst two (length turns) there yours) (here_long : length here ≡ length turns)
+      (there_long : length there ≡ length turns) (mine_long : length mine ≡ length turns) where
+    mine_kept : (i : ℕ) → i < length turns
+        → ((known_of mine i).share ≡ half whole_share) × ((known_of mine i).ended ≡ [])
+    mine_kept i lt =
+        let kept = part_keeps (length here) one i (shard_pass here i) (shard_pass mine i) (absorbed.first i lt) in
+        let was = halved.each i (omega (arith, lt, opens.count)) in
+        let first_is = opens.views i lt in (
+          kept.0 ∙ ap (λ (p : ShardPass). p.view.share) was ∙ ap (λ (v : Known). half v.share) first_is,
+          kept.1 ∙ ap (λ (p : ShardPass). p.view.ended) was ∙ ap (λ (v : Known). v.ended) first_is,
+        )
+
+    yours_kept : (i : ℕ) → i < length turns
+        → ((known_of yours i).share ≡ half whole_share) × ((known_of yours i).ended ≡ [])
+    yours_kept i lt =
+        let kept = part_keeps (length there) two i (shard_pass there i) (shard_pass yours i) (also.first i lt) in
+        let is = split.each i (omega (arith, lt, opens.count)) in
+        let first_is = opens.views i lt in (
+          kept.0 ∙ ap (λ (v : Known). v.share) is.1 ∙ ap (λ (v : Known). half v.share) first_is,
+          kept.1 ∙ ap (λ (v : Known). v.ended) is.1,
+        )
+
+    -- the closing pass has the whole right, and holds the other alone
+    all_whole : (i : ℕ) → i < length turns → IsWhole (known_of all i).share
+    all_whole i lt =
+        let is = (joined.each i (omega (arith, lt, mine_long))).1 in
+        let v = (mine_kept i lt).0 in
+        let u = (yours_kept i lt).0 in
+        let shares : (known_of all i).share ≡ both (half whole_share) (half whole_share) = ap (λ (w : Known). w.share) is ∙ (λ j. both (v j) (u j)) in
+        subst IsWhole (sym shares) refl
+
+    all_ended : (i : ℕ) → i < length turns
+        → (known_of all i).ended ≡ as_ended (known_of yours i) ∷ []
+    all_ended i lt =
+        let is = (joined.each i (omega (arith, lt, mine_long))).1 in
+        let v = (mine_kept i lt).1 in
+        let u = (yours_kept i lt).1 in
+        ap (λ (w : Known). w.ended) is ∙ (λ j. v j ++ as_ended (known_of yours i) ∷ u j)
+
+    -- so a log gives what a set has that includes what both threads gave
+    nothing_else : (T : ReferenceSet) (left right : List Log) (i : ℕ) → HasMade here mine left
+        → HasMade there yours right → i < length turns → Includes T (gave (log_at left i))
+        → Includes T (gave (log_at right i)) → Includes T (gave (log_at logs i))
+    nothing_else T left right i made theirs lt ours others =
+        let v = known_of all i in
+        let u = known_of yours i in
+        let log = log_at logs i in
+        let own : Includes T (gave (calls_by v.number log)) = subst (λ (l : Log). Includes T (gave l)) (sym (mine_calls left i made lt here_long mine_long)) ours in
+        let other : Includes T (gave (calls_by u.number log)) = subst (λ (l : Log). Includes T (gave l)) (sym (yours_calls right i theirs lt there_long mine_long)) others in
+        let each : (n : ℕ) → HoldsNumber v n → Includes T (gave (calls_by n log)) = λ n holds. elim holds [
+          | inl mine_is ↦ subst (λ (k : ℕ). Includes T (gave (calls_by k log))) mine_is own
+          | inr among ↦
+              let here_is : IsAmong n (as_ended u ∷ []) = subst (λ (es : List (EndedPass ShardCall ShardReply)). IsAmong n es) (all_ended i lt) among in
+              elim here_is [
+                | inl theirs_is ↦ subst (λ (k : ℕ). Includes T (gave (calls_by k log))) theirs_is other
+                | inr none ↦ absurd none
+              ]
+        ] in
+        all_in (HoldsNumber v) T log log each (λ n. includes_self (gave (calls_by n log))) ((are.each i lt).all (all_whole i lt))
 
 pub two_threads_are_held : TwoThreadsAreHeld
 two_threads_are_held S opened turns first here there mine yours all one two nodes valid opens stands start halved split absorbed also joined closed =
@@ -119,6 +256,13 @@ two_threads_are_held S opened turns first here there mine yours all one two node
     includes_trans G (gave_together right.0) (set_of_list two)
     (all_included logs right.0 (right.1.count ∙ there_long ∙ sym closing.1.count) (λ i lt. yours_in turns first here there mine yours all start halved split joined nodes logs closing.1 right.0 i right.1 (omega (arith, lt, closing.1.count)) there_long mine_long))
     (same_includes (gave_together right.0) (set_of_list two) right.2) in
-    let both = includes_unions S G S (set_of_list one ∪ set_of_list two) (includes_self S) (includes_both G (set_of_list one) (set_of_list two) ones twos) in
-    subst (λ (h : HistoryView). IsBelow (history (S ∪ (set_of_list one ∪ set_of_list two))) h) (sym closing.2)
-    (below_more (S ∪ (set_of_list one ∪ set_of_list two)) (S ∪ G) both)
+    let U = set_of_list one ∪ set_of_list two in
+    let some : Includes G U = includes_both G (set_of_list one) (set_of_list two) ones twos in
+    let ours : Includes U (gave_together left.0) = includes_left (set_of_list one) (set_of_list two) (gave_together left.0) (same_included (gave_together left.0) (set_of_list one) left.2) in
+    let theirs : Includes U (gave_together right.0) = includes_right (set_of_list one) (set_of_list two) (gave_together right.0) (same_included (gave_together right.0) (set_of_list two) right.2) in
+    let no_more : Includes U G = together_in U logs (λ i lt.
+    let less : i < length turns = omega (arith, lt, closing.1.count) in
+    nothing_else turns first here there mine yours all start halved split joined nodes logs closing.1 one two absorbed also here_long there_long mine_long U left.0 right.0 i left.1 right.1 less
+    (includes_trans U (gave_together left.0) (gave (log_at left.0 i)) ours (one_in left.0 i (omega (arith, less, left.1.count, here_long))))
+    (includes_trans U (gave_together right.0) (gave (log_at right.0 i)) theirs (one_in right.0 i (omega (arith, less, right.1.count, there_long))))) in
+    closing.2 ∙ same_history S G U (same_by_both G U some no_more)

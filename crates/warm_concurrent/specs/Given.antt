@@ -8,23 +8,25 @@ use Rattle.warm_stamps.specs.declared.PageId.{PageId}
 use Rattle.warm_stamps.specs.declared.Reference.{Reference}
 use Rattle.warm_history.specs.ReferenceSets.{ReferenceSet, set_of_list, ◌∪◌}
 use Rattle.warm_history.specs.References.{IsIn}
-use Rattle.warm_history.specs.Histories.{IsBelow, StandsFor, history}
+use Rattle.warm_history.specs.Histories.{StandsFor}
 use Rattle.warm_rank.specs.Laws.{IsFarthest}
 use Rattle.warm_frames.specs.declared.message.Message.{Message}
+use Rattle.warm_frames.specs.declared.message.Message.TheVariants.{Entries}
 use Rattle.warm_pool.specs.View.{unfixed_pages, view_of}
 use Rattle.warm_machine.specs.declared.operation.Operation.{Operation}
 use Rattle.warm_turn.specs.declared.table.EndedPass.{EndedPass}
 use Rattle.warm_machine.specs.Runs.{Runs, operation}
-use Rattle.warm_turn.specs.CallHistories.{calls_by}
-use Rattle.warm_gossip.specs.Answers.{refs_in}
+use Rattle.warm_turn.specs.CallHistories.{EachIsBy, HoldsNumber, calls_by}
+use Rattle.warm_turn.specs.Shares.{IsWhole}
+use Rattle.warm_peer.specs.Answers.{refs_in}
 use Rattle.warm_gossip.specs.State.{NodeState}
 use Rattle.warm_gossip.specs.Victims.{IsEvicted}
 use Rattle.warm_shards.specs.Shards.{AreShards, IsShardCount, of_first_shards, shard_at, whole}
 use Rattle.warm_concurrent.specs.declared.call.ShardCall.{ShardCall}
 use Rattle.warm_concurrent.specs.declared.call.ShardCall.TheVariants.{Absorb, Raise, Pin, Look, Change}
-use Rattle.warm_concurrent.specs.declared.call.ShardCall.TheVariants.{PinZeroed, Victim, WarmStep}
+use Rattle.warm_concurrent.specs.declared.call.ShardCall.TheVariants.{PinZeroed, TakeIn, Victim, WarmStep}
 use Rattle.warm_concurrent.specs.declared.call.ShardReply.{ShardReply}
-use Rattle.warm_concurrent.specs.declared.call.ShardReply.TheVariants.{Done, Kept, Page}
+use Rattle.warm_concurrent.specs.declared.call.ShardReply.TheVariants.{Answers, Done, Kept, Page}
 use Rattle.warm_concurrent.specs.declared.fault.SharedFault.{SharedFault}
 use Rattle.warm_concurrent.specs.Attached.{Known, ShardPass, ShardTurn, known_of, shard_turn}
 use Rattle.warm_concurrent.specs.Clauses.{AnsweredByShard}
@@ -57,10 +59,13 @@ Log = List (Operation ShardCall ShardReply)
 abbrev pub log_at : List Log → ℕ → Log
 log_at logs i = slice_index_or logs i []
 
--- what a call with this reply gave its shard: the references of a batch, or a horizon
+-- what a call with this reply gave its shard: the references of a batch, a horizon, or what a
+-- message of entries brings
 abbrev pub gave_call : ShardCall → ShardReply → ReferenceSet
 gave_call (Absorb batch) Done = set_of_list batch
 gave_call (Raise time) (Kept horizon) = only_horizon time
+gave_call (TakeIn sender horizon entries) (Answers answers) =
+    refs_in (Entries sender horizon entries)
 gave_call call reply = set_of_list []
 
 -- what these calls gave their shard
@@ -76,7 +81,8 @@ gave_together logs = all_of (map gave logs)
 
 -- The log of a closed shard: a legal list of its calls leads from its opening to the node that is
 -- given back. It begins with what the pass has seen, has the calls of the pass, and of each pass
--- that was ended into it the calls of that one.
+-- that was ended into it the calls of that one. Where the pass has the whole right to close, there
+-- are no others.
 pub record IsLog (turn : ShardTurn) (known : Known) (node : NodeState) (log : Log) : Type 0 where
   pub last : ShardState
   pub node_is : last.node ≡ node
@@ -85,6 +91,7 @@ pub record IsLog (turn : ShardTurn) (known : Known) (node : NodeState) (log : Lo
   pub own : calls_by known.number log ≡ known.mine
   pub others : (a : ℕ) (e : EndedPass ShardCall ShardReply) → get_elem? known.ended a ≡ some e
       → calls_by e.number log ≡ e.calls
+  pub all : IsWhole known.share → EachIsBy (HoldsNumber known) log
 
 pub record AreLogs (turns : List ShardTurn) (passes : List ShardPass) (nodes : List NodeState)
     (logs : List Log) : Type 0 where
@@ -139,8 +146,8 @@ ThreadsGive = (old new : List ShardPass) → IsShardCount (length old) → Calls
 -- Two threads, used
 
 -- A thread shares shards that stand for S, and attaches another. Each absorbs a batch, and the
--- other is detached into the first, which closes the shards. Then the nodes together have all that
--- S and both batches say: to join the history of these changes nothing.
+-- other is detached into the first, which closes the shards. Then the nodes together stand for S
+-- and both batches.
 abbrev pub TwoThreadsAreHeld : Type 0
 TwoThreadsAreHeld = (S : ReferenceSet) (opened : List NodeState) (turns : List ShardTurn)
     (first here there mine yours all : List ShardPass) (one two : List Reference)
@@ -149,7 +156,7 @@ TwoThreadsAreHeld = (S : ReferenceSet) (opened : List NodeState) (turns : List S
     → AreSplit first there → AbsorbsFirst one (length turns) here mine
     → AbsorbsFirst two (length turns) there yours → PassesAreJoined mine yours all
     → AreClosed turns all (map (λ n. Ok n) nodes)
-    → IsBelow (history (S ∪ (set_of_list one ∪ set_of_list two))) (whole nodes)
+    → StandsFor (whole nodes) (S ∪ (set_of_list one ∪ set_of_list two))
 
 -- Victims
 

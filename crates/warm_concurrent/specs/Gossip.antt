@@ -1,35 +1,16 @@
 -- Exchanging histories: the messages that all shards take in, and what they answer.
 use Rattle.std.specs.Prelude.{◌≡◌, ◌≢◌, ℕ, ◌^◌, ◌<◌, List, [], ◌∷◌, ◌++◌, length}
-use Rattle.warm_history.specs.declared.hist.Entry.{Entry}
-use Rattle.warm_history.specs.ListHistories.{list_references_of}
 use Rattle.warm_digest.specs.BucketDigests.{MarksDiffering}
 use Rattle.warm_frames.specs.declared.message.Message.{Message}
 use Rattle.warm_frames.specs.declared.message.Message.TheVariants.{Entries, Digest, Want}
 use Rattle.warm_concurrent.specs.declared.answering.Offered.{Offered}
 use Rattle.warm_concurrent.specs.declared.fault.SharedFault.{SharedFault}
 use Rattle.warm_concurrent.specs.declared.gossip.NotReceived.{NotReceived}
-use Rattle.warm_concurrent.specs.declared.gossip.NotReceived.TheVariants.{Raising, Absorbing}
+use Rattle.warm_concurrent.specs.declared.gossip.NotReceived.TheVariants.{Raising, Taking}
 use Rattle.warm_concurrent.specs.declared.gossip.NotReceived.TheVariants.{Comparing, Answering}
 use Rattle.warm_concurrent.specs.Answering.{AnswerFails, AnswersAll, GathersAll, OfferFails}
 use Rattle.warm_concurrent.specs.Attached.{ShardPass}
-use Rattle.warm_concurrent.specs.Whole.{AbsorbFails, AbsorbsFirst, RaiseFails, RaisesFirst}
-
--- Entries
-
--- each shard forgot all stamps before the horizon, and then each that has a part of the references
--- of these entries absorbed it
-abbrev pub ShardsTakeEntries : ℕ → List Entry → List ShardPass → List ShardPass → Type 0
-ShardsTakeEntries horizon entries old new = (mid : List ShardPass)
-    × RaisesFirst horizon (length old) old mid
-    × AbsorbsFirst (list_references_of entries) (length old) mid new
-
--- a shard was not raised; or all were, and one has not absorbed its part
-abbrev pub TakeStops : ℕ → List Entry → NotReceived → List ShardPass → List ShardPass → Type 0
-TakeStops horizon entries (Raising at) old new = RaiseFails horizon at.shard at.fault old new
-TakeStops horizon entries (Absorbing at) old new = (mid : List ShardPass)
-    × RaisesFirst horizon (length old) old mid
-    × AbsorbFails (list_references_of entries) at.shard at.fault mid new
-TakeStops horizon entries why old new = ⊥
+use Rattle.warm_concurrent.specs.Whole.{RaiseFails, RaisesFirst, TakeFails, TakesFirst}
 
 -- A request
 
@@ -90,10 +71,11 @@ DigestsStop horizon digests why old new = ⊥
 
 -- Any message
 
--- all shards took the message in, and answered with these messages
+-- All shards took the message in, and answered with these messages. Of entries each shard took in
+-- its part, in one turn.
 abbrev pub ShardsReceive : Message → List Message → List ShardPass → List ShardPass → Type 0
 ShardsReceive (Entries sender horizon entries) messages old new = (messages ≡ [])
-    × ShardsTakeEntries horizon entries old new
+    × TakesFirst (Entries sender horizon entries) (length old) old new
 ShardsReceive (Digest sender horizon digests) messages old new =
     ShardsTakeDigests horizon digests messages old new
 ShardsReceive (Want sender horizon request) messages old new =
@@ -101,6 +83,8 @@ ShardsReceive (Want sender horizon request) messages old new =
 
 -- where taking it in stopped
 abbrev pub ReceiveStops : Message → NotReceived → List ShardPass → List ShardPass → Type 0
-ReceiveStops (Entries sender horizon entries) why old new = TakeStops horizon entries why old new
+ReceiveStops (Entries sender horizon entries) (Taking at) old new =
+    TakeFails (Entries sender horizon entries) at.shard at.fault old new
+ReceiveStops (Entries sender horizon entries) why old new = ⊥
 ReceiveStops (Digest sender horizon digests) why old new = DigestsStop horizon digests why old new
 ReceiveStops (Want sender horizon request) why old new = RequestStops horizon request why old new

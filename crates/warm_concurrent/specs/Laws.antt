@@ -25,7 +25,7 @@ use Rattle.warm_concurrent.specs.declared.call.ShardReply.TheVariants.{Looked, P
 use Rattle.warm_concurrent.specs.ShardSteps.{Asked, NodeStep, Work, calling, changing, doing}
 use Rattle.warm_concurrent.specs.ShardSteps.{looking, ShardState, ShardStep, asked_of}
 use Rattle.warm_concurrent.specs.ShardSteps.{node_reply_of}
-use Rattle.warm_concurrent.specs.Whole.{AbsorbsFirst, DoneFirst, RaisesFirst}
+use Rattle.warm_concurrent.specs.Whole.{AbsorbsFirst, DoneFirst, RaisesFirst, TakesFirst}
 
 -- One shard
 
@@ -136,6 +136,8 @@ pub record OnlySeesMore : Type 0 where
   pub absorbed : (old new : List ShardPass) (k : ℕ) (batch : List Reference)
       → AbsorbsFirst batch k old new → SeesMore old new
   pub raised : (old new : List ShardPass) (k time : ℕ) → RaisesFirst time k old new
+      → SeesMore old new
+  pub taken : (old new : List ShardPass) (k : ℕ) (message : Message) → TakesFirst message k old new
       → SeesMore old new
   pub done : (old new : List ShardPass) (k : ℕ) (call : ShardCall) → DoneFirst call k old new
       → SeesMore old new

@@ -6,7 +6,7 @@ use Rattle.std.specs.List.{All}
 use Rattle.warm_stamps.specs.declared.TheConstants.{BUCKETS}
 use Rattle.warm_stamps.specs.declared.PageId.{PageId}
 use Rattle.warm_frames.specs.declared.message.Message.{Message}
-use Rattle.warm_frames.specs.declared.message.Message.TheVariants.{Want}
+use Rattle.warm_frames.specs.declared.message.Message.TheVariants.{Entries, Want}
 use Rattle.warm_pool.specs.declared.slot.Slot.{Slot}
 use Rattle.warm_pool.specs.Forgetting.{ForgetRefused, Forgets}
 use Rattle.warm_pool.specs.Keeping.{KeepsFrames}
@@ -23,7 +23,7 @@ use Rattle.warm_gossip.specs.declared.call.Reply.TheVariants as node_reply
 use Rattle.warm_gossip.specs.declared.fault.NodeFault.{NodeFault}
 use Rattle.warm_gossip.specs.declared.fault.NodeFault.TheVariants.{Memory}
 use Rattle.warm_gossip.specs.Clauses.{DevicesAfter, Goes, NodeWriteBackFails, OfPool, SameView}
-use Rattle.warm_gossip.specs.Since.{HasMoreSince, sent_since}
+use Rattle.warm_peer.specs.Since.{HasMoreSince, sent_since}
 use Rattle.warm_gossip.specs.State.{NodeState}
 use Rattle.warm_shards.specs.Clauses.{KeepsKnown}
 use Rattle.warm_shards.specs.Shards.{no_shard, shard_of}
@@ -34,7 +34,7 @@ use Rattle.warm_concurrent.specs.declared.call.ShardCall.TheVariants.{WarmList, 
 use Rattle.warm_concurrent.specs.declared.call.ShardCall.TheVariants.{SendSince, WritePages}
 use Rattle.warm_concurrent.specs.declared.call.ShardCall.TheVariants.{WriteSome, WriteBack, Look}
 use Rattle.warm_concurrent.specs.declared.call.ShardCall.TheVariants.{Change, PinZeroed}
-use Rattle.warm_concurrent.specs.declared.call.ShardCall.TheVariants.{ForgetPages}
+use Rattle.warm_concurrent.specs.declared.call.ShardCall.TheVariants.{ForgetPages, TakeIn}
 use Rattle.warm_concurrent.specs.declared.call.ShardReply.{ShardReply}
 use Rattle.warm_concurrent.specs.declared.call.ShardReply.TheVariants.{Done, Kept, Pinned, Bytes}
 use Rattle.warm_concurrent.specs.declared.call.ShardReply.TheVariants.{Page, Loaded, Sent, Answers}
@@ -89,6 +89,8 @@ of_node call = doing (calling call)
 abbrev pub asked_of : ShardCall → Asked
 asked_of (Absorb batch) = of_node (node_call.Absorb batch)
 asked_of (Raise time) = of_node (node_call.Horizon time)
+asked_of (TakeIn sender horizon entries) =
+    of_node (node_call.Receive (Entries sender horizon entries))
 asked_of (Pin page) = of_node (node_call.Pin page)
 asked_of (PinZeroed page) = doing (zeroing page)
 asked_of (Unpin slot) = of_node (node_call.Unpin slot)
@@ -138,6 +140,8 @@ AreOwnBuckets count number buckets = (bucket : ℕ) → bucket < BUCKETS → bit
 -- every page and every bucket that the call brings is of the shard of this number
 abbrev pub IsOwn : ℕ → ℕ → ShardCall → Type 0
 IsOwn count number (Absorb batch) = All (λ r. shard_of count r.page ≡ number) batch
+IsOwn count number (TakeIn sender horizon entries) =
+    All (λ e. shard_of count e.page ≡ number) entries
 IsOwn count number (Pin page) = shard_of count page ≡ number
 IsOwn count number (PinZeroed page) = shard_of count page ≡ number
 IsOwn count number (Answer request) = AreOwnBuckets count number request

@@ -1,43 +1,42 @@
 //! Exchanging histories: what is offered and sent, and what is answered to a message.
 ghost use Rattle.std.specs.Prelude.{◌≡◌, ◌<◌, ◌++◌, ◌∷◌, [], length, IfErr, IfOk, OnOk};
-ghost use Rattle.warm_history.specs.ListHistories.{list_references_of};
 ghost use Rattle.warm_concurrent.specs.Answering.{OfferFails, OffersAll, offer_message};
 ghost use Rattle.warm_concurrent.specs.Attached.{AreOf, AreTurns};
 ghost use Rattle.warm_concurrent.specs.Clauses.{CallEnds};
 ghost use Rattle.warm_concurrent.specs.Gossip.{CompareFails, Compares, DigestsStop, ReceiveStops};
 ghost use Rattle.warm_concurrent.specs.Gossip.{RequestStops, ShardsReceive, ShardsTakeDigests};
-ghost use Rattle.warm_concurrent.specs.Gossip.{ShardsTakeEntries, ShardsTakeRequest, TakeStops};
-ghost use Rattle.warm_concurrent.specs.ShardSteps.{shard_of_bucket};
-ghost use Rattle.warm_concurrent.specs.Whole.{AbsorbFails, AbsorbsFirst};
-ghost use Rattle.warm_concurrent.specs.declared.call.ShardCall.TheVariants.{Send, SendSince};
-ghost use Rattle.warm_concurrent.specs.declared.call.ShardReply.TheVariants.{Portion, Sent};
+ghost use Rattle.warm_concurrent.specs.Gossip.{ShardsTakeRequest};
+ghost use Rattle.warm_concurrent.specs.ShardSteps.{IsOwn, shard_of_bucket};
+ghost use Rattle.warm_concurrent.specs.Whole.{TakeFails, TakesFirst};
+ghost use Rattle.warm_concurrent.specs.declared.call.ShardCall.TheVariants.{Send, SendSince, TakeIn};
+ghost use Rattle.warm_concurrent.specs.declared.call.ShardReply.TheVariants.{Answers, Portion, Sent};
 
 use crate::answering::{Offered, answer_all, gather};
 use crate::call::{ShardCall, ShardReply};
 use crate::fault::SharedFault;
-use crate::history_calls::{Stopped, absorb_all, raise_all};
+use crate::history_calls::{Stopped, raise_all};
 use crate::shard::Shard;
 use crate::shared::{Attached, SharedShards, call_shard};
 use std::alloc::{AllocError, Global};
 use std::sync::Wait;
 use warm_devices::PageDevice;
 use warm_digest::differing;
-use warm_frames::{BoxedMessage, DigestTable, Message, MessageList};
-use warm_gossip::{NodeFault, SentPortion};
-use warm_history::Entry;
-use warm_shards::references_in;
-use warm_stamps::{Bucket, BucketSet, PageId};
+use warm_frames::{BoxedMessage, DigestTable, EntryList, Message, MessageList};
+use warm_gossip::NodeFault;
+use warm_peer::SentPortion;
+use warm_shards::{entries_for, sender_of};
+use warm_stamps::{Bucket, BucketSet, PageId, ReplicaId};
 use warm_turn::{Pass, Turn};
 
-/// Where taking entries in stopped, and why.
+/// Where taking a message in stopped, and why.
 #[derive(Clone, Copy, PartialEq, Eq, Debug)]
 pub enum NotReceived {
-    /// The shards before this one have the horizon of the entries. This one has not, nor have those
-    /// after it, and no reference was taken in.
+    /// The shards before this one have the horizon of the digests or the request. This one has not,
+    /// nor have those after it. Nothing else has changed.
     Raising(Stopped),
-    /// All shards have the horizon. The shards before this one have taken in the references to
-    /// their pages; this one has not, nor have those after it.
-    Absorbing(Stopped),
+    /// The shards before this one have taken in the horizon, and the entries of their pages. This
+    /// one has not, nor have those after it.
+    Taking(Stopped),
     /// All shards have the horizon of the digests. This shard has not made an offer to compare them
     /// with. Nothing else has changed.
     Comparing(Stopped),
@@ -46,29 +45,67 @@ pub enum NotReceived {
     Answering(Stopped),
 }
 
-// Each shard absorbs the references to its pages that entries hold.
-fn absorb_entries<D: PageDevice + Send, R: Wait>(
+// A shard takes in a message of entries of its pages.
+fn take_in<D: PageDevice + Send, R: Wait>(
+    rt: &R,
+    turns: &Vec<Turn<Shard<D>>>,
+    passes: &mut Vec<Pass<Shard<D>>>,
+    shard: usize,
+    sender: ReplicaId,
+    horizon: u64,
+    entries: EntryList,
+) -> Result<MessageList, SharedFault>
+    requires turns { AreTurns turns.now.items }
+    requires passes { AreOf turns.now.items passes.old.items }
+    requires there { shard < length turns.now.items }
+    requires own { IsOwn (length turns.now.items) shard (TakeIn sender horizon entries) }
+    ensures passes { AreOf turns.now.items passes.new.items }
+    ensures ends { CallEnds passes.old.items shard (TakeIn sender horizon entries) Answers result
+        passes.new.items }
+{
+    let call = ShardCall::TakeIn {
+        sender,
+        horizon,
+        entries,
+    };
+    match call_shard(rt, turns, passes, shard, call)? {
+        ShardReply::Answers(messages) => Ok(messages),
+        ShardReply::Refused(why) => Err(SharedFault::Node(why)),
+        _ => unreachable!(),
+    }
+}
+
+// Each shard takes in its part of a message, in one turn, in the order of the shards.
+fn take_parts<D: PageDevice + Send, R: Wait>(
     rt: &R,
     alloc: Global,
     turns: &Vec<Turn<Shard<D>>>,
     passes: &mut Vec<Pass<Shard<D>>>,
-    entries: &[Entry],
+    message: &Message,
 ) -> Result<(), Stopped>
     requires turns { AreTurns turns.now.items }
     requires passes { AreOf turns.now.items passes.old.items }
     ensures passes { AreOf turns.now.items passes.new.items }
-    ensures absorbed { OnOk result (AbsorbsFirst (list_references_of entries.now)
-        (length turns.now.items) passes.old.items passes.new.items) }
-    ensures stopped { IfErr result (λ at. AbsorbFails (list_references_of entries.now) at.shard
-        at.fault passes.old.items passes.new.items) }
+    ensures taken { OnOk result (TakesFirst message.now (length turns.now.items)
+        passes.old.items passes.new.items) }
+    ensures stopped { IfErr result (λ at. TakeFails message.now at.shard at.fault
+        passes.old.items passes.new.items) }
 {
-    let Ok(references) = references_in(alloc, entries) else {
-        return Err(Stopped {
-            fault: SharedFault::Node(NodeFault::Memory),
-            shard: 0,
-        });
-    };
-    absorb_all(rt, alloc, turns, passes, references.as_slice())?;
+    let count = turns.len();
+    let sender = sender_of(message);
+    let horizon = message.horizon();
+    for shard in 0..count {
+        let Ok(part) = entries_for(alloc, message, count, shard) else {
+            return Err(Stopped {
+                fault: SharedFault::Node(NodeFault::Memory),
+                shard,
+            });
+        };
+        let entries = EntryList::holding(part);
+        if let Err(fault) = take_in(rt, turns, passes, shard, sender, horizon, entries) {
+            return Err(Stopped { fault, shard });
+        }
+    }
     Ok(())
 }
 
@@ -321,46 +358,11 @@ impl<D: PageDevice + Send> SharedShards<D> {
         Ok(message_of(all))
     }
 
-    /// Takes in the entries of a message with this horizon: first each shard forgets all stamps
-    /// before the horizon, in one turn, and then each that has pages of them absorbs their
-    /// references, in one more, in the order of the shards.
-    ///
-    /// A caller that does not trust its senders checks the times of a message with
-    /// [`warm_frames::check_times`] before.
-    ///
-    /// # Errors
-    /// [`NotReceived`] says which shards have the horizon, and which the references to their pages.
-    /// `Absorbing` with `Node(Memory)` at shard 0: no memory was left for the references; none was
-    /// taken in. `Absorbing` with `Node(Memory)`, where a shard had no memory for its part, or
-    /// `TurnsSpent`. To take the entries in once more does no harm.
-    pub fn receive_entries<R: Wait>(
-        &self,
-        rt: &R,
-        alloc: Global,
-        attached: &mut Attached<D>,
-        horizon: u64,
-        entries: &[Entry],
-    ) -> Result<(), NotReceived>
-        requires { AreOf self.now attached.old.passes }
-        ensures attached { AreOf self.now attached.new.passes }
-        ensures taken { OnOk result (ShardsTakeEntries horizon entries.now attached.old.passes
-            attached.new.passes) }
-        ensures stopped { IfErr result (λ at. TakeStops horizon entries.now at
-            attached.old.passes attached.new.passes) }
-        ensures pins { attached.new.pins ≡ attached.old.pins }
-    {
-        if let Err(at) = raise_all(rt, &self.turns, &mut attached.passes, horizon) {
-            return Err(NotReceived::Raising(at));
-        }
-        if let Err(at) = absorb_entries(rt, alloc, &self.turns, &mut attached.passes, entries) {
-            return Err(NotReceived::Absorbing(at));
-        }
-        Ok(())
-    }
-
-    /// Takes a message in, and returns the messages that answer it, in order. Entries are taken in
-    /// as by `receive_entries`, and not answered. Otherwise each shard forgets all stamps before
-    /// the horizon of the message, in one turn, in the order of the shards. Then:
+    /// Takes a message in, and returns the messages that answer it, in order. Of entries each shard
+    /// takes in its part, in one turn, in the order of the shards: it forgets all stamps before the
+    /// horizon, and adds what the entries of its pages say; they are not answered. Otherwise each
+    /// shard forgets all stamps before the horizon of the message, in one turn, in the order of the
+    /// shards. Then:
     ///
     /// - To a request, each shard that has requested buckets answers with their entries, in one
     ///   turn, in the order of the shards.
@@ -372,10 +374,10 @@ impl<D: PageDevice + Send> SharedShards<D> {
     /// [`warm_frames::check_times`] before.
     ///
     /// # Errors
-    /// [`NotReceived`] says what the shards have taken in. `Raising` with `TurnsSpent`.
-    /// `Absorbing`, as of `receive_entries`. `Comparing`, as of `offer`. `Answering` with
-    /// `Node(Memory)`: no memory was left for the messages; or with `TurnsSpent`. To take the
-    /// message in once more does no harm.
+    /// [`NotReceived`] says what the shards have taken in. `Raising` with `TurnsSpent`. `Taking`
+    /// with `Node(Memory)`: no memory was left for the shard's part, or in the shard; or with
+    /// `TurnsSpent`. `Comparing`, as of `offer`. `Answering` with `Node(Memory)`: no memory was left
+    /// for the messages; or with `TurnsSpent`. To take the message in once more does no harm.
     pub fn receive<R: Wait>(
         &self,
         rt: &R,
@@ -392,12 +394,11 @@ impl<D: PageDevice + Send> SharedShards<D> {
         ensures pins { attached.new.pins ≡ attached.old.pins }
     {
         match message {
-            Message::Entries {
-                horizon,
-                entries,
-                ..
-            } => {
-                self.receive_entries(rt, alloc, attached, *horizon, entries.as_slice())?;
+            Message::Entries { .. } => {
+                let passes = &mut attached.passes;
+                if let Err(at) = take_parts(rt, alloc, &self.turns, passes, message) {
+                    return Err(NotReceived::Taking(at));
+                }
                 Ok(MessageList::of(Vec::new(alloc)))
             }
             Message::Digest {

@@ -30,7 +30,8 @@ pub fn shards_are_of_given()
 /// What a thread's call gives the shards: just the references of the batch that it absorbs, of one
 /// that stops just the parts of the shards before, just the horizon that it raises, just both of the
 /// message that it receives; and any other call nothing. So two threads absorb a batch each, one is
-/// detached into the other, which closes the shards: the nodes together hold what both batches say.
+/// detached into the other, which closes the shards: the nodes together stand for what they
+/// opened with and both batches, and for nothing else.
 pub fn threads_give()
     ensures given { ThreadsGive }
     ensures two { TwoThreadsAreHeld }

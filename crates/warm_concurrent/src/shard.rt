@@ -6,20 +6,21 @@ ghost use Rattle.warm_concurrent.specs.ShardSteps.{AnsweredAs, AreOwnBuckets, Is
 ghost use Rattle.warm_concurrent.specs.declared.call.ShardCall.TheVariants.{Answer, Change, Look};
 ghost use Rattle.warm_concurrent.specs.declared.call.ShardCall.TheVariants.{Offer, ForgetPages};
 ghost use Rattle.warm_concurrent.specs.declared.call.ShardCall.TheVariants.{PinZeroed, Send};
-ghost use Rattle.warm_concurrent.specs.declared.call.ShardCall.TheVariants.{SendSince, Unpin};
-ghost use Rattle.warm_concurrent.specs.declared.call.ShardCall.TheVariants.{Write, WritePages};
-ghost use Rattle.warm_concurrent.specs.declared.call.ShardCall.TheVariants.{WriteSome};
+ghost use Rattle.warm_concurrent.specs.declared.call.ShardCall.TheVariants.{SendSince, TakeIn};
+ghost use Rattle.warm_concurrent.specs.declared.call.ShardCall.TheVariants.{Unpin, Write};
+ghost use Rattle.warm_concurrent.specs.declared.call.ShardCall.TheVariants.{WritePages, WriteSome};
 
 use crate::call::{ShardCall, ShardReply};
 use crate::lending::{Left, Shown, change_in, look_in};
 use std::alloc::Global;
 use std::marker::Model;
 use warm_devices::PageDevice;
-use warm_frames::{BoxedMessage, Message};
-use warm_gossip::{Node, NodeFault, SentPortion};
-use warm_pool::Slot;
+use warm_frames::{BoxedMessage, EntryList, Message};
+use warm_gossip::{Node, NodeFault};
+use warm_peer::SentPortion;
+use warm_pool::{NamesPage, Slot};
 use warm_shards::shard_of;
-use warm_stamps::{BUCKETS, Bucket, BucketSet, ByteList, PageId, Reference, ReplicaId};
+use warm_stamps::{BUCKETS, Bucket, BucketSet, ByteList, PageId, ReplicaId};
 use warm_turn::Machine;
 
 /// One shard of a replica: a node, how many shards there are, and which of them it is.
@@ -65,13 +66,33 @@ pub(crate) fn is_own_page(count: usize, number: usize, page: PageId) -> bool
     shard_of(count, page) == number
 }
 
-// Whether all references are to pages of the shard of this number.
-fn are_own(count: usize, number: usize, batch: &[Reference]) -> bool
-    requires { IsShardCount count }
-    ensures { IsTrue result ↔ All (λ r. shard_of count r.page ≡ number) batch.now }
+// Where a page is: the number of its shard, and of how many. A caller has reckoned it.
+#[derive(Clone, Copy)]
+pub(crate) struct Place {
+    pub(crate) count: usize,
+    pub(crate) number: usize,
+}
+
+// Whether a page is of the shard of this number. Mostly its place says so, and its shard is not
+// reckoned again, which takes a division.
+pub(crate) fn is_own_place(count: usize, number: usize, page: PageId, place: Place) -> bool
+    requires count { IsShardCount count }
+    requires place { shard_of place.count page ≡ place.number }
+    ensures { IsTrue result ↔ (shard_of count page ≡ number) }
 {
-    for reference in batch {
-        if !is_own_page(count, number, reference.page) {
+    if place.count == count && place.number == number {
+        return true;
+    }
+    is_own_page(count, number, page)
+}
+
+// Whether all items name pages of the shard of this number.
+fn are_own<T: NamesPage>(count: usize, number: usize, items: &[T]) -> bool
+    requires { IsShardCount count }
+    ensures { IsTrue result ↔ All (λ item. shard_of count (T.named item) ≡ number) items.now }
+{
+    for item in items {
+        if !is_own_page(count, number, item.named()) {
             return false;
         }
     }
@@ -101,6 +122,7 @@ fn is_own(count: usize, number: usize, call: &ShardCall) -> bool
 {
     match call {
         ShardCall::Absorb(batch) => are_own(count, number, batch.as_slice()),
+        ShardCall::TakeIn { entries, .. } => are_own(count, number, entries.as_slice()),
         ShardCall::Pin(page)
         | ShardCall::PinZeroed(page)
         | ShardCall::Look(page)
@@ -170,6 +192,24 @@ fn requested<D: PageDevice>(node: &mut Node<D>, request: BucketSet) -> Result<Sh
     Ok(ShardReply::Answers(messages))
 }
 
+// Takes in a message of these entries. It has the room for a message, so it is a function of its
+// own.
+fn taken_in<D: PageDevice>(
+    node: &mut Node<D>,
+    sender: ReplicaId,
+    horizon: u64,
+    entries: EntryList,
+) -> Result<ShardReply, NodeFault>
+    ensures { AnsweredAs node.old (TakeIn sender horizon entries) result node.new }
+{
+    let messages = node.receive(Message::Entries {
+        sender,
+        horizon,
+        entries,
+    })?;
+    Ok(ShardReply::Answers(messages))
+}
+
 // Writes back all dirty pages of a node. No device is flushed.
 fn write_pages<D: PageDevice>(node: &mut Node<D>) -> Result<ShardReply, NodeFault>
     ensures { AnsweredAs node.old WritePages result node.new }
@@ -202,6 +242,11 @@ fn answer<D: PageDevice>(
             Ok(ShardReply::Done)
         }
         ShardCall::Raise(time) => Ok(ShardReply::Kept(node.raise(time))),
+        ShardCall::TakeIn {
+            sender,
+            horizon,
+            entries,
+        } => taken_in(node, sender, horizon, entries),
         ShardCall::Pin(page) => Ok(ShardReply::Pinned(node.pin(page)?)),
         ShardCall::PinZeroed(page) => zeroed(node, page),
         ShardCall::Unpin(slot) => unpinned(node, slot),

@@ -1,9 +1,5 @@
 pub mod Faults
 pub mod State
-pub mod Answers
-pub mod Since
-pub mod Chunks
-pub mod Round
 pub mod Step
 pub mod WarmingUp
 pub mod Batches

@@ -1,6 +1,7 @@
 -- A node as plain data, and what a caller sees of it.
 use Rattle.std.specs.Prelude.{ℕ, []}
 use Rattle.warm_history.specs.Histories.{HistoryView, history_of_entries}
+use Rattle.warm_peer.specs.State.{PeerState}
 use Rattle.warm_pool.specs.State.{PoolState}
 use Rattle.warm_pool.specs.View.{view_of, PoolView}
 
@@ -10,7 +11,14 @@ pub record NodeState : Type 0 where
   pub history : HistoryView
   pub pool : PoolState
 
--- the same, with what a caller sees of its pool
+-- a peer beside a pool
+abbrev pub node_of : PeerState → PoolState → NodeState
+node_of peer pool = record { id = peer.id; history = peer.history; pool = pool }
+
+abbrev pub peer_of : NodeState → PeerState
+peer_of s = record { id = s.id; history = s.history }
+
+-- a node, with what a caller sees of its pool
 pub record NodeView : Type 0 where
   pub id : ℕ
   pub history : HistoryView

@@ -3,10 +3,8 @@ use Rattle.std.specs.Prelude.{◌≡◌, ℕ, ◌+◌, ◌<◌, ◌≤◌, List,
 use Rattle.std.specs.Prelude.{slice_index_or}
 use Rattle.warm_stamps.specs.declared.PageId.{PageId}
 use Rattle.warm_history.specs.ReferenceSets.{set_of_list, with_horizon, ◌∪◌}
-use Rattle.warm_history.specs.Histories.{entries_of, history_of_entries, history, references_of}
+use Rattle.warm_history.specs.Histories.{history_of_entries, history, references_of}
 use Rattle.warm_rank.specs.Ranking.{IsVictim, hottest_pages}
-use Rattle.warm_frames.specs.declared.message.Message.TheVariants.{Digest}
-use Rattle.warm_digest.specs.BucketDigests.{digests_of}
 use Rattle.warm_pool.specs.declared.fault.PoolFault.TheVariants.{OutOfPage, Fixed, Fault}
 use Rattle.warm_pool.specs.declared.slot.Slot.{Slot}
 use Rattle.warm_pool.specs.View.{PoolView, HasPage, IsAbsent, Holds, unfixed_pages, IsFixed}
@@ -25,7 +23,8 @@ use Rattle.warm_gossip.specs.declared.call.Reply.TheVariants.{Bytes, Page, Pages
 use Rattle.warm_gossip.specs.declared.fault.NodeFault.{NodeFault}
 use Rattle.warm_gossip.specs.declared.fault.NodeFault.TheVariants.{Memory, Pool, StaleSlot}
 use Rattle.warm_gossip.specs.State.{NodeView}
-use Rattle.warm_gossip.specs.Answers.{IsAnswer, history_after, sent}
+use Rattle.warm_peer.specs.Answers.{IsAnswer, history_after, sent}
+use Rattle.warm_peer.specs.Round.{offer}
 
 -- only the pool may have changed, in this way
 abbrev pub OnPool : (PoolView → PoolView → Type 0) → NodeView → NodeView → Type 0
@@ -102,9 +101,7 @@ Step old (Absorb batch) Done new =
     new ≡ record old { history = history (references_of old.history ∪ set_of_list batch) }
 Step old (Send bucket after) (Sent message) new = (message ≡ sent old.id old.history bucket after)
     × (new ≡ old)
-Step old Offer (Sent message) new =
-    (message ≡ Digest old.id old.history.horizon (digests_of (entries_of old.history)))
-    × (new ≡ old)
+Step old Offer (Sent message) new = (message ≡ offer old.id old.history) × (new ≡ old)
 Step old (Horizon time) (Kept horizon) new =
     (new ≡ record old { history = history (with_horizon time (references_of old.history)) })
     × (horizon ≡ new.history.horizon)

@@ -60,7 +60,7 @@ impl<D: PageDevice> Node<D> {
             self.old.pool fault self.new.pool)) }
         ensures unflushed { FlushesNone self.old.pool.devices self.new.pool.devices }
     {
-        let slot = self.pool.pin_zeroed(page, self.history.history())?;
+        let slot = self.pool.pin_zeroed(page, self.peer.history())?;
         self.warm_up.passed = 0;
         Ok(slot)
     }
@@ -92,10 +92,10 @@ impl<D: PageDevice> Node<D> {
         ensures unread { ReadsNone self.old.pool.devices self.new.pool.devices }
         ensures unflushed { FlushesNone self.old.pool.devices self.new.pool.devices }
     {
-        let filled = self.pool.pin_filled(page, self.history.history(), bytes)?;
+        let filled = self.pool.pin_filled(page, self.peer.history(), bytes)?;
         // The order of the list is over the references that the history holds.
-        prove_is_history(self.history.history());
-        let history = self.history.history();
+        prove_is_history(self.peer.history());
+        let history = self.peer.history();
         self.warm_up.passed = passed_at_fill(history, &self.warm_up, page, filled.evicted);
         Ok(filled.slot)
     }

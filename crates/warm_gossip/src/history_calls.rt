@@ -1,24 +1,26 @@
 //! The calls on a node's history.
-ghost use Rattle.std.specs.Prelude.{◌≡◌, IfErr, IfOk, None, OnOk};
+ghost use Rattle.std.specs.Prelude.{◌≡◌, ◌↔◌, IfErr, IfOk, IsTrue, None, OnOk};
 ghost use Rattle.warm_gossip.specs.declared.call.Call.TheVariants.{Absorb, Send, Offer, Receive};
 ghost use Rattle.warm_gossip.specs.declared.call.Call.TheVariants.{Horizon, WarmList};
 ghost use Rattle.warm_gossip.specs.declared.call.Reply.TheVariants.{Sent, Answers, Kept, Pages};
 ghost use Rattle.warm_gossip.specs.declared.fault.NodeFault.TheVariants.{Memory};
-ghost use Rattle.warm_gossip.specs.Answers.{IsAnswer};
+ghost use Rattle.warm_peer.specs.Answers.{IsAnswer};
+ghost use Rattle.warm_peer.specs.Since.{BringsHeld, HasMoreSince, sent_since};
 ghost use Rattle.warm_pool.specs.Keeping.{KeepsBytes};
 ghost use Rattle.warm_pool.specs.State.{RankedBy};
 ghost use Rattle.warm_pool.specs.View.{view_of};
 ghost use Rattle.warm_gossip.specs.Clauses.{Answered, DevicesAfter, DevicesAnswered, Goes, Joins};
 ghost use Rattle.warm_gossip.specs.Clauses.{JoinsEntries, SameView, done};
 
-use crate::answers::{answer_to_digests, requested_messages};
 use crate::fault::NodeFault;
 use crate::node::Node;
 use crate::warm_step::WarmUp;
+use std::alloc::Global;
 use warm_devices::PageDevice;
-use warm_frames::{EntryList, MAX_ENTRIES, Message, MessageList};
+use warm_frames::{Message, MessageList};
 use warm_history::laws::prove_is_history;
 use warm_history::{Entry, History};
+use warm_peer::SentPortion;
 use warm_pool::Pool;
 use warm_rank::warm_list;
 use warm_stamps::{Bucket, PageId, PageList, Reference};
@@ -26,13 +28,18 @@ use warm_stamps::{Bucket, PageId, PageList, Reference};
 // Where any entries of a node's history may have changed: the warm-up list, which is of the entries
 // before, is dropped, and all resident pages are ranked again. The node is not whole until then, so
 // this is a function of its parts.
-fn entries_changed<D: PageDevice>(history: &History, pool: &mut Pool<D>, warm_up: &mut WarmUp)
+fn entries_changed<D: PageDevice>(
+    alloc: Global,
+    history: &History,
+    pool: &mut Pool<D>,
+    warm_up: &mut WarmUp,
+)
     ensures ranked { RankedBy pool.new history.now }
     ensures same { view_of pool.new ≡ view_of pool.old }
     ensures kept { KeepsBytes pool.old pool.new }
-    ensures dropped { warm_up.new.pages ≡ None }
+    ensures dropped { warm_up.new.list ≡ None }
 {
-    *warm_up = WarmUp::new();
+    *warm_up = WarmUp::new(alloc);
     pool.refresh_all(history);
 }
 
@@ -40,7 +47,8 @@ impl<D: PageDevice> Node<D> {
     /// Adds references to the history: the call `Absorb`.
     ///
     /// References that are not new change nothing: digests and the warm-up list stay cached, and no
-    /// page is ranked again.
+    /// page is ranked again. Otherwise the pages that the batch names are ranked again, in the pool
+    /// now and in the list at the next warm-up step.
     ///
     /// # Errors
     /// `Memory`: an allocation failed; nothing has changed.
@@ -48,35 +56,43 @@ impl<D: PageDevice> Node<D> {
         ensures step { Answered self.old (Absorb batch.now) done result self.new }
         ensures devices { DevicesAnswered self.old (Absorb batch.now) done result self.new }
     {
-        let changed = self.history.absorb(batch)?;
+        let changed = self.peer.absorb(batch)?;
         if changed.is_empty() {
             return Ok(());
         }
-        self.warm_up = WarmUp::new();
-        self.pool.refresh(self.history.history(), batch);
+        self.warm_up.note(self.alloc, batch);
+        self.pool.refresh(self.peer.history(), batch);
         Ok(())
     }
 
-    /// Takes entries into the history. Where no entry changes, digests and the warm-up list stay
-    /// cached, and no page is ranked again.
-    pub(crate) fn join_entries(&mut self, horizon: u64, entries: &[Entry]) -> Result<(), NodeFault>
+    /// Takes entries in, at the later horizon, as those of a message are. Where no entry changes,
+    /// digests and the warm-up list stay cached, and no page is ranked again.
+    ///
+    /// # Errors
+    /// `Memory`: an allocation failed; nothing has changed that a caller sees.
+    pub fn join_entries(&mut self, horizon: u64, entries: &[Entry]) -> Result<(), NodeFault>
         ensures joined { OnOk result (JoinsEntries self.old horizon entries.now self.new) }
         ensures refused { IfErr result (λ why. (why ≡ Memory) × SameView self.old self.new) }
         ensures devices { KeepsBytes self.old.pool self.new.pool }
     {
         // A history ranks pages by its entries alone.
-        prove_is_history(self.history.history());
-        let own = self.history.horizon();
-        let changed = self.history.join_entries(horizon, entries)?;
+        prove_is_history(self.peer.history());
+        let own = self.peer.horizon();
+        let changed = self.peer.join_entries(horizon, entries)?;
         if changed.is_empty() {
             return Ok(());
         }
         if own < horizon {
-            entries_changed(self.history.history(), &mut self.pool, &mut self.warm_up);
+            entries_changed(
+                self.alloc,
+                self.peer.history(),
+                &mut self.pool,
+                &mut self.warm_up,
+            );
             return Ok(());
         }
-        self.warm_up = WarmUp::new();
-        self.pool.refresh(self.history.history(), entries);
+        self.warm_up.note(self.alloc, entries);
+        self.pool.refresh(self.peer.history(), entries);
         Ok(())
     }
 
@@ -95,12 +111,17 @@ impl<D: PageDevice> Node<D> {
         ensures devices { KeepsBytes self.old.pool self.new.pool }
     {
         // A history ranks pages by its entries alone.
-        prove_is_history(self.history.history());
-        let changed = self.history.join(other)?;
+        prove_is_history(self.peer.history());
+        let changed = self.peer.join(other)?;
         if changed.is_empty() {
             return Ok(());
         }
-        entries_changed(self.history.history(), &mut self.pool, &mut self.warm_up);
+        entries_changed(
+            self.alloc,
+            self.peer.history(),
+            &mut self.pool,
+            &mut self.warm_up,
+        );
         Ok(())
     }
 
@@ -115,26 +136,26 @@ impl<D: PageDevice> Node<D> {
         ensures devices { DevicesAfter self.old (Horizon time) (Kept result) self.new }
     {
         // A history ranks pages by its entries alone.
-        prove_is_history(self.history.history());
-        let own = self.history.horizon();
+        prove_is_history(self.peer.history());
+        let own = self.peer.horizon();
         if time <= own {
             return own;
         }
-        let lost = self.history.raise(time);
+        let lost = self.peer.raise(time);
         if lost.is_empty() {
-            return self.history.horizon();
+            return self.peer.horizon();
         }
-        entries_changed(self.history.history(), &mut self.pool, &mut self.warm_up);
-        self.history.horizon()
+        entries_changed(
+            self.alloc,
+            self.peer.history(),
+            &mut self.pool,
+            &mut self.warm_up,
+        );
+        self.peer.horizon()
     }
 
-    /// The messages with which the node would answer this one. Nothing that a caller sees has
-    /// changed.
-    ///
-    /// At a horizon greater than the node's own, the history is not copied: older stamps are
-    /// skipped as they are read. A request costs a scan of the wanted buckets. Digests cost what
-    /// [`Node::offer`] costs, and at a greater horizon also a scan of each bucket up to its first
-    /// older stamp, and the hashing of the buckets that have one.
+    /// The messages with which the node would answer this one, as [`warm_peer::Peer::answers`] gives them.
+    /// Nothing that a caller sees has changed.
     ///
     /// # Errors
     /// `Memory`: an allocation failed.
@@ -144,27 +165,8 @@ impl<D: PageDevice> Node<D> {
         ensures refused { IfErr result (λ why. why ≡ Memory) }
         ensures devices { KeepsBytes self.old.pool self.new.pool }
     {
-        match message {
-            Message::Entries { .. } => Ok(MessageList::of(Vec::new(self.alloc))),
-            Message::Digest {
-                horizon,
-                digests,
-                ..
-            } => {
-                let own = &mut self.history;
-                let messages = answer_to_digests(self.alloc, self.id, own, *horizon, digests)?;
-                Ok(MessageList::of(messages))
-            }
-            Message::Want {
-                horizon,
-                request,
-                ..
-            } => {
-                let own = self.history.history();
-                let messages = requested_messages(self.alloc, self.id, own, *horizon, *request)?;
-                Ok(MessageList::of(messages))
-            }
-        }
+        let answers = self.peer.answers(message)?;
+        Ok(answers)
     }
 
     /// Receives a message, and returns the messages that answer it, in order: the call `Receive`.
@@ -205,20 +207,36 @@ impl<D: PageDevice> Node<D> {
     pub fn send(&self, bucket: Bucket, after: Option<PageId>) -> Result<Message, NodeFault>
         ensures { Answered self.now (Send bucket after) Sent result self.now }
     {
-        let history = self.history.history();
-        let entries = history.entries(bucket, after, MAX_ENTRIES)?;
-        Ok(Message::Entries {
-            sender: self.id,
-            horizon: history.horizon(),
-            entries: EntryList::holding(entries),
-        })
+        let message = self.peer.send(bucket, after)?;
+        Ok(message)
+    }
+
+    /// A message of the first entries of a bucket of those whose page is greater than `after` and
+    /// whose latest stamp is not before the time `since`, and whether more of these follow, as
+    /// [`warm_peer::Peer::send_since`] gives them.
+    ///
+    /// # Errors
+    /// `Memory`: an allocation failed; nothing has changed.
+    pub fn send_since(
+        &self,
+        bucket: Bucket,
+        since: u64,
+        after: Option<PageId>,
+    ) -> Result<SentPortion, NodeFault>
+        ensures sent { IfOk result (λ sent. sent.message
+            ≡ sent_since self.now.id self.now.history bucket since after) }
+        ensures more { IfOk result (λ sent. IsTrue sent.more
+            ↔ HasMoreSince self.now.history bucket since after) }
+        ensures held { IfOk result (λ sent. BringsHeld self.now.history sent.message) }
+        ensures refused { IfErr result (λ why. why ≡ Memory) }
+    {
+        let portion = self.peer.send_since(bucket, since, after)?;
+        Ok(portion)
     }
 
     /// A message of the digests of all buckets: the call `Offer`.
     ///
-    /// The digests are cached. Having them costs nothing where no entry has changed since the last
-    /// offer or the last digests received. Otherwise it costs a scan of the buckets of the changed
-    /// entries, whose entries are hashed.
+    /// It costs what [`warm_peer::Peer::offer`] costs.
     ///
     /// # Errors
     /// `Memory`: an allocation failed; nothing has changed that a caller sees, and the next offer
@@ -227,12 +245,8 @@ impl<D: PageDevice> Node<D> {
         ensures step { Answered self.old Offer Sent result self.new }
         ensures devices { DevicesAnswered self.old Offer Sent result self.new }
     {
-        let digests = self.history.digests()?;
-        Ok(Message::Digest {
-            sender: self.id,
-            horizon: self.history.horizon(),
-            digests,
-        })
+        let message = self.peer.offer()?;
+        Ok(message)
     }
 
     /// The `n` hottest pages, hottest first, or all where there are fewer: the call `WarmList`.
@@ -242,7 +256,7 @@ impl<D: PageDevice> Node<D> {
     pub fn warm_list(&self, n: usize) -> Result<PageList, NodeFault>
         ensures { Answered self.now (WarmList n) Pages result self.now }
     {
-        let history = self.history.history();
+        let history = self.peer.history();
         // The list is over the references that the history holds: their history is this history.
         prove_is_history(history);
         let pages = warm_list(self.alloc, history, n)?;

@@ -1,18 +1,12 @@
-//! Laws of nodes: the chunks in which a bucket is answered, a round of gossip, victims, warming up,
-//! lent bytes, batches of references, and the references that a list of calls gave a node.
+//! Laws of nodes: victims, warming up, lent bytes, batches of references, and the references that a
+//! list of calls gave a node. Those of gossip are in [`warm_peer::laws`].
 //!
 //! Each function changes nothing. Its contract is a theorem, which the crates above cite and a
 //! reader can look up: the files of `specs/` that the clauses name state it in full. Most are about
 //! the definitions alone. Those that take a node give the premises of the others, and their
 //! conclusions, for that node.
-ghost use Rattle.std.specs.List.{AllByRecursion};
-ghost use Rattle.warm_frames.specs.Entries.{IsEntry, IsHist};
-ghost use Rattle.warm_digest.specs.Exchange.{Fits};
 ghost use Rattle.warm_gossip.specs.Batches.{BatchesAreTaken};
-ghost use Rattle.warm_gossip.specs.Chunks.{ChunksInTurn};
 ghost use Rattle.warm_gossip.specs.Lending.{LentBytesAreWritten};
-ghost use Rattle.warm_gossip.specs.Round.{EntriesBringAll, GossipRoundEnds, HistoryRoundJoins};
-ghost use Rattle.warm_gossip.specs.Round.{NodesJoin, OwnDigestsUnanswered};
 ghost use Rattle.warm_gossip.specs.State.{node_view};
 ghost use Rattle.warm_gossip.specs.Given.{HistoryIsOfGiven};
 ghost use Rattle.warm_gossip.specs.Victims.{RepliesAreOverReferences, VictimsAreFarthest};
@@ -21,42 +15,6 @@ ghost use Rattle.warm_gossip.specs.WarmUps.{FilledPinIsWarmStep, NodeWarmUpLoads
 
 use crate::node::Node;
 use warm_devices::PageDevice;
-use warm_history::laws::{prove_is_history, prove_stamps_descend};
-use warm_history::{Entry, PageHist, Unordered};
-
-/// The chunks in which a bucket of a history is answered to digests or to a request are what
-/// `Call::Send` gives of that bucket, one after the other: the first without a page to come after,
-/// each next after the last page of the one before, until no page is left. So each carries all
-/// references to its pages, for all references that the history stands for.
-pub fn chunks_in_turn()
-    ensures { ChunksInTurn }
-{}
-
-/// A round of gossip: a replica offers the digests of its history to another, and each receives all
-/// answers of the other, until both have answered. Afterwards both histories have the entries of
-/// the join of the two before. The second has the join's horizon, the later one; the first has it
-/// where the second answered the offer. Or two different texts of one bucket, one of each replica,
-/// have the same SHA-256 digest: that of the second replica at the later horizon.
-pub fn gossip_round_joins()
-    ensures { HistoryRoundJoins }
-{}
-
-/// A round of gossip ends after both have answered: the last messages get no answer.
-pub fn gossip_round_ends()
-    ensures { GossipRoundEnds }
-{}
-
-/// A replica answers nothing to the digests of its own history: a round of a replica with itself is
-/// only its offer.
-pub fn own_digests_unanswered()
-    ensures { OwnDigestsUnanswered }
-{}
-
-/// A replica that receives a message of a history's entries has then received all references for
-/// which that history stands.
-pub fn entries_bring_all()
-    ensures { EntriesBringAll }
-{}
 
 /// The victim that a node names, and the hottest pages that it lists, are those over all references
 /// for which its history stands: the two stamps of each page that it keeps are enough.
@@ -117,51 +75,9 @@ pub fn node_pages_differ<D: PageDevice>(node: &Node<D>)
     node.pool().prove_is_pool();
 }
 
-/// The numbers in a node's history are within their widths, as the types of its entries imply. It
-/// scans the entries once, and is allocation-free.
-pub fn node_fits<D: PageDevice>(node: &Node<D>)
-    ensures { Fits node.now.history }
-{
-    prove_entries(node.history().unordered());
-}
-
-/// [`gossip_round_joins`] for two given nodes, of any round that they then have. It scans the
-/// entries of both once, and is allocation-free.
-pub fn nodes_join<D: PageDevice, E: PageDevice>(one: &Node<D>, other: &Node<E>)
-    ensures { NodesJoin (node_view one.now) (node_view other.now) }
-{
-    prove_is_history(one.history());
-    prove_is_history(other.history());
-    node_fits(one);
-    node_fits(other);
-}
-
 /// [`warm_up_loads`] for a given node. It costs nothing at run time.
 pub fn node_warms_up<D: PageDevice>(node: &Node<D>)
     ensures { NodeWarmsUp (node_view node.now) }
 {
     node_pages_differ(node);
-}
-
-// What the types of entries imply of them.
-fn prove_entries(entries: Unordered<'_>)
-    ensures { AllByRecursion IsEntry entries.entry }
-{
-    for entry in entries {
-        prove_entry(entry);
-    }
-}
-
-fn prove_entry(entry: Entry)
-    ensures { IsEntry entry }
-{
-    prove_hist(entry.hist);
-}
-
-fn prove_hist(hist: PageHist)
-    ensures { IsHist hist }
-{
-    if let PageHist::Twice(two) = hist {
-        prove_stamps_descend(two);
-    }
 }

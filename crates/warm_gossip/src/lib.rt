@@ -24,7 +24,6 @@
 //! effect of each call on what a caller sees of it, and the refusals.
 #![tactic(auto)]
 
-mod answers;
 mod call;
 mod engine_calls;
 mod fault;
@@ -34,11 +33,9 @@ mod lending;
 mod machine;
 mod node;
 mod pool_calls;
-mod since;
 mod warm_step;
 
 pub use call::{Call, Reply};
 pub use fault::NodeFault;
 pub use machine::ViewOfNode;
 pub use node::Node;
-pub use since::SentPortion;

@@ -1,7 +1,7 @@
 //! The node.
 ghost use Rattle.std.specs.Prelude.{◌≡◌};
 ghost use Rattle.warm_pool.specs.State.{IsRankedByAll};
-ghost use Rattle.warm_gossip.specs.State.{opened_node};
+ghost use Rattle.warm_gossip.specs.State.{opened_node, peer_of};
 ghost use Rattle.warm_gossip.specs.Clauses.{Answered, DevicesAfter, DevicesAnswered, Goes};
 ghost use Rattle.warm_gossip.specs.Clauses.{IsOtherThanAbsorb};
 
@@ -11,17 +11,18 @@ use crate::warm_step::WarmUp;
 use std::alloc::Global;
 use std::marker::Model;
 use warm_devices::PageDevice;
-use warm_digest::DigestedHistory;
 use warm_history::History;
+use warm_peer::Peer;
 use warm_pool::Pool;
 use warm_stamps::ReplicaId;
 
 /// One replica: the history of the references that it received, and its buffer pool, which that
 /// history ranks.
 ///
-/// It caches the digests of its history's buckets, and its warm-up list, until an entry of its
-/// history changes or it restarts. Calls that bring nothing new, as repeated gossip does, keep
-/// both: no offer and no warm-up step then recomputes them.
+/// It is a [`Peer`] beside a pool. It caches the digests of its history until an entry changes or it
+/// restarts, and its warm-up list, into which it merges the pages of references that came since
+/// ([`Node::warm_step`]). Calls that bring nothing new, as repeated gossip does, keep both: no
+/// offer and no warm-up step then recomputes them.
 ///
 /// A pin is not a reference: pages are ranked by the references that the node absorbed. A caller
 /// that pins a page also absorbs one.
@@ -30,8 +31,7 @@ use warm_stamps::ReplicaId;
 /// What a caller sees of it is its `node_view`, which does not include the progress of a warm-up.
 pub struct Node<D: PageDevice> {
     pub(crate) alloc: Global,
-    pub(crate) id: ReplicaId,
-    pub(crate) history: DigestedHistory,
+    pub(crate) peer: Peer,
     pub(crate) pool: Pool<D>,
     pub(crate) warm_up: WarmUp,
 }
@@ -41,12 +41,11 @@ impl<D: PageDevice> Drop for Node<D> {
     fn drop(mut self) {
         let Self {
             alloc: _,
-            id: _,
-            history,
+            peer,
             pool,
             warm_up,
         } = self;
-        drop(history);
+        drop(peer);
         drop(pool);
         drop(warm_up);
     }
@@ -55,15 +54,15 @@ impl<D: PageDevice> Drop for Node<D> {
 impl<D: PageDevice> Model for Node<D> {
     ghost use Rattle.warm_pool.specs.State.{RankedBy};
     ghost use Rattle.warm_pool.specs.View.{view_of};
-    ghost use Rattle.warm_gossip.specs.State.{NodeState};
+    ghost use Rattle.warm_gossip.specs.State.{NodeState, node_of};
     ghost use Rattle.warm_gossip.specs.WarmingUp.{IsWarming};
 
     ghost Value = { NodeState };
 
-    ghost view = { λ n. record { id = n.id; history = n.history.history; pool = n.pool } };
+    ghost view = { λ n. node_of n.peer n.pool };
 
-    ghost invariant = { λ n. RankedBy n.pool n.history.history
-        × IsWarming n.history.history (view_of n.pool) n.warm_up };
+    ghost invariant = { λ n. RankedBy n.pool n.peer.history
+        × IsWarming n.peer.history (view_of n.pool) n.warm_up };
 }
 
 impl<D: PageDevice> Node<D> {
@@ -74,10 +73,9 @@ impl<D: PageDevice> Node<D> {
     {
         Node {
             alloc,
-            id,
-            history: DigestedHistory::new(alloc),
+            peer: Peer::new(alloc, id),
             pool,
-            warm_up: WarmUp::new(),
+            warm_up: WarmUp::new(alloc),
         }
     }
 
@@ -85,14 +83,21 @@ impl<D: PageDevice> Node<D> {
     pub fn id(&self) -> ReplicaId
         ensures { result ≡ self.now.id }
     {
-        self.id
+        self.peer.id()
+    }
+
+    /// Its history as other replicas meet it.
+    pub fn peer(&self) -> &Peer
+        ensures { result.now ≡ peer_of self.now }
+    {
+        &self.peer
     }
 
     /// The history of the references that it received.
     pub fn history(&self) -> &History
         ensures { result.now ≡ self.now.history }
     {
-        self.history.history()
+        self.peer.history()
     }
 
     /// Its pool.
@@ -169,8 +174,7 @@ impl<D: PageDevice> Node<D> {
     {
         let Node {
             alloc: _,
-            id: _,
-            history: _,
+            peer: _,
             pool,
             warm_up: _,
         } = self;

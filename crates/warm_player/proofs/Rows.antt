@@ -14,7 +14,7 @@ use Rattle.warm_history.specs.declared.hist.PageHist.TheVariants.{Once, Twice}
 use Rattle.warm_pool.specs.declared.fault.PoolFault.TheVariants.{NoPage}
 use Rattle.warm_pool.specs.Retiring.{Emptied}
 use Rattle.warm_pool.specs.View.{PoolView}
-use Rattle.warm_gossip.specs.Answers.{IsDiffering, requested_buckets}
+use Rattle.warm_peer.specs.Answers.{IsDiffering, requested_buckets}
 use Rattle.warm_gossip.specs.declared.fault.NodeFault.TheVariants.{Pool}
 use Rattle.warm_world.specs.Lists.{IsNumber}
 use Rattle.warm_world.specs.States.{ModelState, ReplicaState, MessageRecord, References, Digests, Request, no_pool}

@@ -28,6 +28,7 @@ pub mod Slots
 pub mod SomeLemmas
 pub mod WriteBacks
 pub mod Writes
+pub mod UndonePins
 pub mod KeepingLemmas
 pub mod Zeroes
 pub mod Fills

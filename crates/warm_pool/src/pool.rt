@@ -19,7 +19,7 @@ ghost use Rattle.warm_pool.specs.steps.WritingBack.{Cleans, CleanFails, KeepsDev
 ghost use Rattle.warm_pool.specs.steps.WritingBack.{WritesFrame};
 ghost use Rattle.warm_pool.specs.Pinning.{Pinned, PinRefused, Loaded, IsPlaced, LoadRefused};
 ghost use Rattle.warm_pool.specs.Pinning.{PutsIn, PutRefused, unpinned, IsNextVictim, TakesFrame};
-ghost use Rattle.warm_pool.specs.Pinning.{LeavesDevices};
+ghost use Rattle.warm_pool.specs.Pinning.{CanPinAgain, LeavesDevices};
 ghost use Rattle.warm_pool.specs.steps.Pinning.{current_slot, LoadsInto, LoadFails, FixesPage};
 ghost use Rattle.warm_pool.specs.steps.Pinning.{FixRefused, IsNextFrameToLoad};
 ghost use Rattle.warm_pool.specs.PageBytes.{IsLent, IsRead, ReadRefused, Written, WriteRefused};
@@ -254,6 +254,39 @@ impl<D: PageDevice> Pool<D> {
             Some(at) => self.add_fix(at),
             None => self.load_absent(page, history, 1),
         }
+    }
+
+    /// The slot of a resident page that can take one more pin, for [`Pool::pin_again`]. `None` where
+    /// the page isn't resident, or has as many pins as can be counted.
+    ///
+    /// Most pins are of such pages. This way to pin them has no refusal and loads nothing, so a
+    /// caller has a short path for them.
+    pub fn pinnable(&self, page: PageId) -> Option<Slot>
+        ensures { IfSome result (CanPinAgain self.now page) }
+    {
+        let at = self.frames.find(page)?;
+        if self.frames.fixes(at) == u32::MAX {
+            return None;
+        }
+        Some(self.slot_at(at))
+    }
+
+    /// Pins a resident page once more, as [`Pool::pin_placed`] does.
+    pub fn pin_again(&mut self, _page: PageId, slot: Slot) -> Placed
+        requires can { CanPinAgain self.old _page slot }
+        ensures ranked { KeepsRanks self.old self.new }
+        ensures pinned { (h : HistoryView) → Pinned h
+            (view_of self.old) _page result.slot (view_of self.new) }
+        ensures evicted { IsPlaced (view_of self.old) _page result (view_of self.new) }
+        ensures holds { Holds (view_of self.new) result.slot }
+        ensures frame { TakesFrame self.old _page result.slot self.new }
+    {
+        // It names a field, since only then does the checker know the invariant of the type.
+        let _ = &self.frames;
+        let Ok(placed) = self.add_fix(slot.index as usize) else {
+            unreachable!()
+        };
+        placed
     }
 
     /// Loads a page into a frame as [`Pool::pin`] does, but without a pin. A resident page is

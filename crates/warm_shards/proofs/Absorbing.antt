@@ -20,7 +20,7 @@ use Rattle.warm_shards.specs.Shards.{AreShards, IsShardCount, of_first_shards, s
 use Rattle.warm_shards.proofs.Calls.{absorb_refused, absorbed_next, id_stays, keep_none, keep_one, part_is_own, read_at, same_shard}
 use Rattle.warm_shards.proofs.Joined.{taken_more, taken_none, taken_past}
 use Rattle.warm_shards.proofs.Keeping.{still_shards}
-use Rattle.warm_shards.proofs.Parts.{all_parts}
+use Rattle.warm_shards.proofs.PartLemmas.{all_parts}
 use Rattle.warm_shards.proofs.Taking.{one_stays}
 
 -- the first k shards have absorbed their parts of the batch
@@ -135,7 +135,7 @@ some_count count valid =
 pub some_shards : (ns : List NodeState) → AreShards ns → 0 < length ns
 some_shards ns are = some_count (length ns) are.count
 
-below_count : (count : ℕ) (r : Reference) → 0 < count → shard_of count r.page < count
+pub below_count : (count : ℕ) (r : Reference) → 0 < count → shard_of count r.page < count
 below_count count r some = omega arith
 
 -- all shards have absorbed all

@@ -1,45 +1,31 @@
 -- One shard takes in references to its pages, and there are no others.
 use Rattle.std.proofs.Common.{◌≡◌, inl, ℕ, ◌<◌, ◌≤◌, List, [], ◌∷◌, length, max, set, get_or, Result, Ok, Err, refl, sym, ap, subst, ◌∙◌, arith}
-use Rattle.std.specs.Prelude.{IfErr, IfOk, OnOk}
+use Rattle.std.specs.Prelude.{IfErr, OnOk}
 use Rattle.std.specs.List.{AllByRecursion}
-use Rattle.warm_stamps.specs.declared.PageId.{PageId}
 use Rattle.warm_stamps.specs.declared.Reference.{Reference}
-use Rattle.warm_history.specs.ReferenceSets.{ReferenceSet, set_of_list, with_horizon, ◌∪◌}
-use Rattle.warm_history.specs.Histories.{HistoryView, history, join, references_of}
-use Rattle.warm_history.proofs.HistoryLemmas.{horizon-history}
-use Rattle.warm_history.proofs.JoinLemmas.{both_assoc, history_first}
-use Rattle.warm_frames.specs.Limits.{horizon_in}
-use Rattle.warm_frames.specs.declared.message.Message.{Message}
-use Rattle.warm_frames.specs.declared.message.Message.TheVariants.{Digest, Entries, Want}
+use Rattle.warm_history.specs.declared.hist.Entry.{Entry}
+use Rattle.warm_history.specs.ReferenceSets.{ReferenceSet, set_of_list, ◌∪◌}
+use Rattle.warm_history.specs.Histories.{history, history_of_entries_at, join, references_of}
+use Rattle.warm_history.proofs.HistoryLemmas.{IsHistory-history}
+use Rattle.warm_history.proofs.JoinLemmas.{raised_to_no_later}
 use Rattle.warm_pool.specs.Keeping.{KeepsBytes}
 use Rattle.warm_pool.specs.View.{PoolView}
-use Rattle.warm_gossip.specs.Answers.{refs_in}
-use Rattle.warm_gossip.specs.Clauses.{Answered, DevicesAnswered, Goes, Joins, SameView}
-use Rattle.warm_gossip.specs.declared.call.Call.TheVariants.{Absorb, Horizon, Receive}
-use Rattle.warm_gossip.specs.declared.call.Reply.TheVariants.{Answers, Done, Kept, Refused}
+use Rattle.warm_gossip.specs.Clauses.{Goes, JoinsEntries, SameView}
+use Rattle.warm_gossip.specs.declared.call.Call.TheVariants.{Absorb}
+use Rattle.warm_gossip.specs.declared.call.Reply.TheVariants.{Done, Refused}
 use Rattle.warm_gossip.specs.declared.fault.NodeFault.{NodeFault}
-use Rattle.warm_gossip.specs.declared.fault.NodeFault.TheVariants.{Memory, Pool, StaleSlot}
-use Rattle.warm_gossip.specs.State.{NodeState, NodeView, empty_node, node_view}
-use Rattle.warm_gossip.specs.Step.{Step}
-use Rattle.warm_shards.specs.Clauses.{JoinsAll, KeepPools, TakesInFirst, Together}
-use Rattle.warm_shards.specs.Parts.{IsOfShard}
-use Rattle.warm_shards.specs.Shards.{AreShards, IsShard, as_node, shard_at, shard_of, whole}
+use Rattle.warm_gossip.specs.declared.fault.NodeFault.TheVariants.{Memory}
+use Rattle.warm_gossip.specs.State.{NodeState, NodeView, node_view}
+use Rattle.warm_shards.specs.Clauses.{JoinsAll, KeepPools, TakesInFirst}
+use Rattle.warm_shards.specs.Shards.{AreShards, IsShard, as_node, held, of_first_shards, shard_at, shard_of, whole}
 use Rattle.warm_shards.proofs.Absorbing.{some_shards}
 use Rattle.warm_shards.proofs.Buckets.{shard_horizon}
 use Rattle.warm_shards.proofs.Calls.{absorb_refused, id_stays, keep_none, keep_one, read_at, same_shard, takes_shard}
 use Rattle.warm_shards.proofs.Joined.{taken_none}
 use Rattle.warm_shards.proofs.Keeping.{still_shards}
 use Rattle.warm_shards.proofs.Pages.{all_held}
-use Rattle.warm_shards.proofs.Receiving.{horizon_of, raised_alone}
+use Rattle.warm_shards.proofs.PartLemmas.{no_part}
 use Rattle.warm_shards.proofs.Taking.{one_stays, one_takes}
-
--- of one shard each page is in shard 0
-pub only_one : (p : PageId) → shard_of 1 p ≡ 0
-only_one p = omega arith
-
-pub all_of_one : (rs : List Reference) → AllByRecursion (λ r. shard_of 1 r.page ≡ 0) rs
-all_of_one [] = tt
-all_of_one (r ∷ rs) = (only_one r.page, all_of_one rs)
 
 -- ---- one node has taken in a set of references to its pages, at no later horizon
 
@@ -144,227 +130,84 @@ pub stays_first : (ns : List NodeState) (i : ℕ) (m : NodeState) (batch : List 
 stays_first ns i m batch are stays =
     (0, some_shards ns are, inl refl, stays_whole ns i m stays ∙ taken_none (length ns) ns batch)
 
--- ---- a message
+-- ---- entries
 
-pub message_own : (count i : ℕ) (message : Message) → IsOfShard count i message
-    → AllByRecursion (λ r. shard_of count r.page ≡ i) (refs_in message).given
-message_own count i (Entries sender horizon es) own = all_held (λ p. shard_of count p ≡ i) es own
-message_own count i (Digest sender horizon digests) none = absurd none
-message_own count i (Want sender horizon request) none = absurd none
+-- before the first shard nothing is taken in
+pub none_taken : (ns : List NodeState) (S : ReferenceSet) → AreShards ns
+    → S.horizon ≤ (shard_at ns 0).history.horizon
+    → whole ns ≡ history (references_of (whole ns) ∪ of_first_shards (length ns) 0 S)
+none_taken ns S are late =
+    let some = some_shards ns are in
+    let at : (shard_at ns 0).history.horizon ≡ (whole ns).horizon = shard_horizon ns 0 are some some in
+    sym (raised_to_no_later (whole ns) S.horizon (IsHistory-history (held ns)) (omega (arith, at, late)))
+    ∙ ap (λ rs. history (references_of (whole ns) ∪ record { horizon = S.horizon; given = rs })) (sym (no_part (length ns) S.given))
 
-pub message_view : (count i : ℕ) (n m : NodeState) (message : Message) (answers : List Message)
-    → IsOfShard count i message → Goes n (Receive message) (Answers answers) m
-    → node_view m ≡ record (node_view n) { history = history (references_of n.history ∪ refs_in message) }
-message_view count i n m message answers own goes = goes.1
-
-pub message_answer : (count i : ℕ) (ns : List NodeState) (n m : NodeState) (message : Message)
-    (answers : List Message) (pool : PoolView) → IsOfShard count i message
-    → Goes n (Receive message) (Answers answers) m
-    → as_node (set ns i m) pool ≡ record (as_node ns pool) { history = history (references_of (whole ns) ∪ refs_in message) }
-    → Step (as_node ns pool) (Receive message) (Answers answers) (as_node (set ns i m) pool)
-message_answer count i ns n m (Entries sender horizon es) answers pool own goes is = (goes.0, is)
-message_answer count i ns n m (Digest sender horizon digests) answers pool none goes is = absurd none
-message_answer count i ns n m (Want sender horizon request) answers pool none goes is = absurd none
-
-pub receive_refused : (n m : NodeState) (message : Message) (why : NodeFault)
-    → Goes n (Receive message) (Refused why) m → (why ≡ Memory) × (node_view m ≡ node_view n)
-receive_refused n m message Memory same = (refl, same)
-receive_refused n m message (Pool why) none = absurd none
-receive_refused n m message StaleSlot none = absurd none
-
-pub receives_alone : (ns : List NodeState) (i : ℕ) (message : Message) (answers : List Message)
-    (n m d : NodeState) → i < length ns → IsOfShard (length ns) i message
-    → horizon_in message ≤ (shard_at ns 0).history.horizon → n ≡ get_or ns i d
-    → Goes n (Receive message) (Answers answers) m → KeepsBytes n.pool m.pool
-    → TakesAlone ns i (refs_in message) m
-receives_alone ns i message answers n m d lt own late at goes bytes =
+pub joins_alone : (ns : List NodeState) (i horizon : ℕ) (es : List Entry) (n m d : NodeState)
+    → i < length ns → AllByRecursion (λ e. shard_of (length ns) e.page ≡ i) es
+    → horizon ≤ (shard_at ns 0).history.horizon → n ≡ get_or ns i d → JoinsEntries n horizon es m
+    → KeepsBytes n.pool m.pool
+    → TakesAlone ns i (references_of (history_of_entries_at horizon es)) m
+joins_alone ns i horizon es n m d lt own late at joins bytes =
     let here : n ≡ shard_at ns i = read_at ns i n d lt at in
     record {
       there = lt;
-      view = subst (λ (x : NodeState). node_view m ≡ record (node_view x) { history = history (references_of x.history ∪ refs_in message) }) here goes.1;
+      view = subst (λ (x : NodeState). node_view m ≡ record (node_view x) { history = join x.history (history_of_entries_at horizon es) }) here joins;
       bytes = subst (λ (x : NodeState). KeepsBytes x.pool m.pool) here bytes;
-      own = message_own (length ns) i message own;
-      late = omega (arith, horizon_of message, late);
-    }
-
-pub not_received : (ns : List NodeState) (i : ℕ) (message : Message) (n m d : NodeState)
-    (why : NodeFault) → i < length ns → n ≡ get_or ns i d → Goes n (Receive message) (Refused why) m
-    → KeepsBytes n.pool m.pool → (why ≡ Memory) × StaysAlone ns i m
-not_received ns i message n m d why lt at goes bytes =
-    let refused = receive_refused n m message why goes in
-    (refused.0, stays_as ns i n m d lt at refused.1 bytes)
-
--- what the node answers, all shards together answer
-pub message_together : (ns : List NodeState) (i : ℕ) (message : Message) (answers : List Message)
-    (n m d : NodeState) → i < length ns → IsOfShard (length ns) i message
-    → horizon_in message ≤ (shard_at ns 0).history.horizon → n ≡ get_or ns i d
-    → Goes n (Receive message) (Answers answers) m → KeepsBytes n.pool m.pool
-    → Together ns (Receive message) (Answers answers) (set ns i m)
-message_together ns i message answers n m d lt own late at goes bytes pool =
-    message_answer (length ns) i ns n m message answers pool own goes
-    (alone_node ns i (refs_in message) m pool (receives_alone ns i message answers n m d lt own late at goes bytes))
-
-pub received_shards : (ns : List NodeState) (i : ℕ) (message : Message) (n m d : NodeState)
-    (result : Result (List Message) NodeFault) → AreShards ns → i < length ns
-    → IsOfShard (length ns) i message → horizon_in message ≤ (shard_at ns 0).history.horizon
-    → n ≡ get_or ns i d → Answered n (Receive message) (λ x. Answers x) result m
-    → DevicesAnswered n (Receive message) (λ x. Answers x) result m → AreShards (set ns i m)
-received_shards ns i message n m d (Ok answers) are lt own late at goes bytes =
-    alone_shards ns i (refs_in message) m are (receives_alone ns i message answers n m d lt own late at goes bytes)
-received_shards ns i message n m d (Err why) are lt own late at goes bytes =
-    stays_shards ns i m are (not_received ns i message n m d why lt at goes bytes).1
-
-pub received_pools : (ns : List NodeState) (i : ℕ) (message : Message) (n m d : NodeState)
-    (result : Result (List Message) NodeFault) → i < length ns
-    → IsOfShard (length ns) i message → horizon_in message ≤ (shard_at ns 0).history.horizon
-    → n ≡ get_or ns i d → Answered n (Receive message) (λ x. Answers x) result m
-    → DevicesAnswered n (Receive message) (λ x. Answers x) result m → KeepPools ns (set ns i m)
-received_pools ns i message n m d (Ok answers) lt own late at goes bytes =
-    alone_pools ns i (refs_in message) m (receives_alone ns i message answers n m d lt own late at goes bytes)
-received_pools ns i message n m d (Err why) lt own late at goes bytes =
-    stays_pools ns i m (not_received ns i message n m d why lt at goes bytes).1
-
-pub received_alone : (ns : List NodeState) (i : ℕ) (message : Message) (n m d : NodeState)
-    (result : Result (List Message) NodeFault) → i < length ns → IsOfShard (length ns) i message
-    → horizon_in message ≤ (shard_at ns 0).history.horizon → n ≡ get_or ns i d
-    → Answered n (Receive message) (λ x. Answers x) result m
-    → DevicesAnswered n (Receive message) (λ x. Answers x) result m
-    → IfOk result (λ answers. Together ns (Receive message) (Answers answers) (set ns i m))
-received_alone ns i message n m d (Ok answers) lt own late at goes bytes =
-    message_together ns i message answers n m d lt own late at goes bytes
-received_alone ns i message n m d (Err why) lt own late at goes bytes = tt
-
-pub unreceived : (ns : List NodeState) (i : ℕ) (message : Message) (n m d : NodeState)
-    (result : Result (List Message) NodeFault) → i < length ns → n ≡ get_or ns i d
-    → Answered n (Receive message) (λ x. Answers x) result m
-    → DevicesAnswered n (Receive message) (λ x. Answers x) result m
-    → IfErr result (λ why. (why ≡ Memory) × (whole (set ns i m) ≡ whole ns))
-unreceived ns i message n m d (Ok answers) lt at goes bytes = tt
-unreceived ns i message n m d (Err why) lt at goes bytes =
-    let refused = not_received ns i message n m d why lt at goes bytes in
-    (refused.0, stays_whole ns i m refused.1)
-
--- ---- another history, where there is one shard
-
-pub joins_alone : (ns : List NodeState) (other : HistoryView) (n m d : NodeState) → length ns ≡ 1
-    → other.horizon ≤ (shard_at ns 0).history.horizon → n ≡ get_or ns 0 d → Joins n other m
-    → KeepsBytes n.pool m.pool → TakesAlone ns 0 (references_of other) m
-joins_alone ns other n m d one late at joins bytes =
-    let here : n ≡ shard_at ns 0 = read_at ns 0 n d (omega arith) at in
-    record {
-      there = omega arith;
-      view = subst (λ (x : NodeState). node_view m ≡ record (node_view x) { history = join x.history other }) here joins;
-      bytes = subst (λ (x : NodeState). KeepsBytes x.pool m.pool) here bytes;
-      own = subst (λ (count : ℕ). AllByRecursion (λ (r : Reference). shard_of count r.page ≡ 0) (references_of other).given) (sym one) (all_of_one (references_of other).given);
+      own = all_held (λ p. shard_of (length ns) p ≡ i) es own;
       late = late;
     }
 
-pub not_joined : (ns : List NodeState) (n m d : NodeState) → 0 < length ns → n ≡ get_or ns 0 d
-    → SameView n m → KeepsBytes n.pool m.pool → StaysAlone ns 0 m
-not_joined ns n m d some at same bytes = stays_as ns 0 n m d some at same bytes
+pub not_joined : (ns : List NodeState) (i : ℕ) (n m d : NodeState) → i < length ns
+    → n ≡ get_or ns i d → SameView n m → KeepsBytes n.pool m.pool → StaysAlone ns i m
+not_joined ns i n m d lt at same bytes = stays_as ns i n m d lt at same bytes
 
-pub joined_shards : (ns : List NodeState) (other : HistoryView) (n m d : NodeState)
-    (result : Result Unit NodeFault) → AreShards ns → length ns ≡ 1
-    → other.horizon ≤ (shard_at ns 0).history.horizon → n ≡ get_or ns 0 d
-    → OnOk result (Joins n other m) → IfErr result (λ why. (why ≡ Memory) × SameView n m)
-    → KeepsBytes n.pool m.pool → AreShards (set ns 0 m)
-joined_shards ns other n m d (Ok given) are one late at joins refused bytes =
-    alone_shards ns 0 (references_of other) m are (joins_alone ns other n m d one late at joins bytes)
-joined_shards ns other n m d (Err why) are one late at joins refused bytes =
-    stays_shards ns 0 m are (not_joined ns n m d (omega (arith, one)) at refused.1 bytes)
-
-pub joined_pools : (ns : List NodeState) (other : HistoryView) (n m d : NodeState)
-    (result : Result Unit NodeFault) → length ns ≡ 1
-    → other.horizon ≤ (shard_at ns 0).history.horizon → n ≡ get_or ns 0 d
-    → OnOk result (Joins n other m) → IfErr result (λ why. (why ≡ Memory) × SameView n m)
-    → KeepsBytes n.pool m.pool → KeepPools ns (set ns 0 m)
-joined_pools ns other n m d (Ok given) one late at joins refused bytes =
-    alone_pools ns 0 (references_of other) m (joins_alone ns other n m d one late at joins bytes)
-joined_pools ns other n m d (Err why) one late at joins refused bytes =
-    stays_pools ns 0 m (not_joined ns n m d (omega (arith, one)) at refused.1 bytes)
-
-pub joined_alone : (ns : List NodeState) (other : HistoryView) (n m d : NodeState)
-    (result : Result Unit NodeFault) → length ns ≡ 1
-    → other.horizon ≤ (shard_at ns 0).history.horizon → n ≡ get_or ns 0 d
-    → OnOk result (Joins n other m) → KeepsBytes n.pool m.pool
-    → OnOk result (JoinsAll ns other (set ns 0 m))
-joined_alone ns other n m d (Err why) one late at joins bytes = tt
-joined_alone ns other n m d (Ok given) one late at joins bytes = λ pool.
-    alone_node ns 0 (references_of other) m pool (joins_alone ns other n m d one late at joins bytes)
-
-pub unjoined : (ns : List NodeState) (n m d : NodeState) (result : Result Unit NodeFault)
-    → length ns ≡ 1 → n ≡ get_or ns 0 d
+pub joined_shards : (ns : List NodeState) (i horizon : ℕ) (es : List Entry) (n m d : NodeState)
+    (result : Result Unit NodeFault) → AreShards ns → i < length ns
+    → AllByRecursion (λ e. shard_of (length ns) e.page ≡ i) es
+    → horizon ≤ (shard_at ns 0).history.horizon → n ≡ get_or ns i d
+    → OnOk result (JoinsEntries n horizon es m)
     → IfErr result (λ why. (why ≡ Memory) × SameView n m) → KeepsBytes n.pool m.pool
-    → IfErr result (λ why. (why ≡ Memory) × (whole (set ns 0 m) ≡ whole ns))
-unjoined ns n m d (Ok given) one at refused bytes = tt
-unjoined ns n m d (Err why) one at refused bytes =
-    (refused.0, stays_whole ns 0 m (not_joined ns n m d (omega (arith, one)) at refused.1 bytes))
+    → AreShards (set ns i m)
+joined_shards ns i horizon es n m d (Ok given) are lt own late at joins refused bytes =
+    alone_shards ns i (references_of (history_of_entries_at horizon es)) m are (joins_alone ns i horizon es n m d lt own late at joins bytes)
+joined_shards ns i horizon es n m d (Err why) are lt own late at joins refused bytes =
+    stays_shards ns i m are (not_joined ns i n m d lt at refused.1 bytes)
 
--- ---- after a raise
+pub joined_pools : (ns : List NodeState) (i horizon : ℕ) (es : List Entry) (n m d : NodeState)
+    (result : Result Unit NodeFault) → i < length ns
+    → AllByRecursion (λ e. shard_of (length ns) e.page ≡ i) es
+    → horizon ≤ (shard_at ns 0).history.horizon → n ≡ get_or ns i d
+    → OnOk result (JoinsEntries n horizon es m)
+    → IfErr result (λ why. (why ≡ Memory) × SameView n m) → KeepsBytes n.pool m.pool
+    → KeepPools ns (set ns i m)
+joined_pools ns i horizon es n m d (Ok given) lt own late at joins refused bytes =
+    alone_pools ns i (references_of (history_of_entries_at horizon es)) m (joins_alone ns i horizon es n m d lt own late at joins bytes)
+joined_pools ns i horizon es n m d (Err why) lt own late at joins refused bytes =
+    stays_pools ns i m (not_joined ns i n m d lt at refused.1 bytes)
 
--- all shards are raised to the horizon of S, and then S is taken in
-pub raised_then_in : (R S : ReferenceSet) (time : ℕ) → time ≡ S.horizon
-    → history (references_of (history (with_horizon time R)) ∪ S) ≡ history (R ∪ S)
-raised_then_in R S time at =
-    let T : ReferenceSet = record { horizon = time; given = [] } in
-    let same : T ∪ S ≡ S = λ i. record { horizon = not_earlier time S.horizon at i; given = S.given } in
-    history_first (with_horizon time R) S ∙ ap history (both_assoc R T S ∙ ap (λ U. R ∪ U) same)
-  where
-    not_earlier : (a b : ℕ) → a ≡ b → max a b ≡ b
-    not_earlier a b is = omega arith
+pub joined_alone : (ns : List NodeState) (i horizon : ℕ) (es : List Entry) (n m d : NodeState)
+    (result : Result Unit NodeFault) → i < length ns
+    → AllByRecursion (λ e. shard_of (length ns) e.page ≡ i) es
+    → horizon ≤ (shard_at ns 0).history.horizon → n ≡ get_or ns i d
+    → OnOk result (JoinsEntries n horizon es m) → KeepsBytes n.pool m.pool
+    → OnOk result (JoinsAll ns (history_of_entries_at horizon es) (set ns i m))
+joined_alone ns i horizon es n m d (Err why) lt own late at joins bytes = tt
+joined_alone ns i horizon es n m d (Ok given) lt own late at joins bytes = λ pool.
+    alone_node ns i (references_of (history_of_entries_at horizon es)) m pool (joins_alone ns i horizon es n m d lt own late at joins bytes)
 
--- the first shard has at least the horizon to which all were raised
-pub raised_late : (old mid : List NodeState) (time kept : ℕ) → AreShards mid
-    → Together old (Horizon time) (Kept kept) mid → time ≤ (shard_at mid 0).history.horizon
-raised_late old mid time kept are goes =
-    let some = some_shards mid are in
-    let at : (shard_at mid 0).history.horizon ≡ (whole mid).horizon = shard_horizon mid 0 are some some in
-    let is : (whole mid).horizon ≡ max (references_of (whole old)).horizon time = ap (λ (v : NodeView). v.history.horizon) (goes empty_node.pool).0 ∙ horizon-history (with_horizon time (references_of (whole old))) in
-    omega (arith, at, is)
-
--- what is taken in after a raise is taken in
-pub after_raised : (old mid new : List NodeState) (time kept : ℕ) (S : ReferenceSet) (pool : PoolView)
-    → time ≡ S.horizon → Together old (Horizon time) (Kept kept) mid
-    → as_node new pool ≡ record (as_node mid pool) { history = history (references_of (whole mid) ∪ S) }
-    → as_node new pool ≡ record (as_node old pool) { history = history (references_of (whole old) ∪ S) }
-after_raised old mid new time kept S pool at raised is =
-    let was : as_node mid pool ≡ record (as_node old pool) { history = history (with_horizon time (references_of (whole old))) } = (raised pool).0 in
-    let id : (shard_at new 0).id ≡ (shard_at old 0).id = ap (λ (v : NodeView). v.id) is ∙ ap (λ (v : NodeView). v.id) was in
-    let h : whole new ≡ history (references_of (whole old) ∪ S) = ap (λ (v : NodeView). v.history) is ∙ ap (λ (v : NodeView). history (references_of v.history ∪ S)) was ∙ raised_then_in (references_of (whole old)) S time at in
-    λ i. record { id = id i; history = h i; pool = pool }
-
--- a message of one shard
-pub received_after : (count i : ℕ) (old mid new : List NodeState) (kept : ℕ) (message : Message)
-    (answers : List Message) → IsOfShard count i message
-    → Together old (Horizon (horizon_in message)) (Kept kept) mid
-    → Together mid (Receive message) (Answers answers) new
-    → Together old (Receive message) (Answers answers) new
-received_after count i old mid new kept (Entries sender horizon es) answers own raised goes pool =
-    ((goes pool).0, after_raised old mid new horizon kept (refs_in (Entries sender horizon es)) pool refl raised (goes pool).1)
-received_after count i old mid new kept (Digest sender horizon digests) answers none raised goes pool = absurd none
-received_after count i old mid new kept (Want sender horizon request) answers none raised goes pool = absurd none
-
-pub received_ok : (count i : ℕ) (old mid new : List NodeState) (kept : ℕ) (message : Message)
-    (result : Result (List Message) NodeFault) → IsOfShard count i message
-    → Together old (Horizon (horizon_in message)) (Kept kept) mid
-    → IfOk result (λ answers. Together mid (Receive message) (Answers answers) new)
-    → IfOk result (λ answers. Together old (Receive message) (Answers answers) new)
-received_ok count i old mid new kept message (Err why) own raised goes = tt
-received_ok count i old mid new kept message (Ok answers) own raised goes =
-    received_after count i old mid new kept message answers own raised goes
-
-pub refused_ok : {T : Type 0} (old mid new : List NodeState) (time kept : ℕ) (S : ReferenceSet)
-    (result : Result T NodeFault) → AreShards old → time ≡ S.horizon
-    → Together old (Horizon time) (Kept kept) mid
-    → IfErr result (λ why. (why ≡ Memory) × (whole new ≡ whole mid))
-    → IfErr result (λ why. (why ≡ Memory) × TakesInFirst old S new)
-refused_ok old mid new time kept S (Ok given) are at raised refused = tt
-refused_ok old mid new time kept S (Err why) are at raised refused =
-    (refused.0, raised_alone old mid new time kept S are at raised refused.1)
-
-pub joined_ok : (old mid new : List NodeState) (kept : ℕ) (other : HistoryView)
-    (result : Result Unit NodeFault) → Together old (Horizon other.horizon) (Kept kept) mid
-    → OnOk result (JoinsAll mid other new) → OnOk result (JoinsAll old other new)
-joined_ok old mid new kept other (Err why) raised joins = tt
-joined_ok old mid new kept other (Ok given) raised joins = λ pool.
-    after_raised old mid new other.horizon kept (references_of other) pool refl raised (joins pool)
+pub unjoined : (ns : List NodeState) (i horizon : ℕ) (es : List Entry) (n m d : NodeState)
+    (result : Result Unit NodeFault) → AreShards ns → i < length ns
+    → horizon ≤ (shard_at ns 0).history.horizon → n ≡ get_or ns i d
+    → IfErr result (λ why. (why ≡ Memory) × SameView n m) → KeepsBytes n.pool m.pool
+    → IfErr result (λ why. (why ≡ Memory)
+    × TakesInFirst ns (references_of (history_of_entries_at horizon es)) (set ns i m))
+unjoined ns i horizon es n m d (Ok given) are lt late at refused bytes = tt
+unjoined ns i horizon es n m d (Err why) are lt late at refused bytes = (
+  refused.0,
+  (
+    0,
+    some_shards ns are,
+    inl refl,
+    stays_whole ns i m (not_joined ns i n m d lt at refused.1 bytes) ∙ none_taken ns (references_of (history_of_entries_at horizon es)) are late,
+  ),
+)

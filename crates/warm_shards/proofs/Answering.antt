@@ -1,10 +1,8 @@
 -- What all shards together answer and send.
-use Rattle.std.proofs.Common.{◌≡◌, ℕ, ◌+◌, ◌<◌, ◌%◌, ◌^◌, List, [], flat_map, length, set, get_or, Option, Result, Ok, Err, refl, sym, ap, subst, ◌∙◌, arith, append-nil}
-use Rattle.std.specs.Prelude.{◌↔◌, bit_or, IsTrue, IfOk}
+use Rattle.std.proofs.Common.{◌≡◌, ℕ, ◌+◌, ◌<◌, ◌%◌, List, length, set, get_or, Option, Result, Ok, Err, refl, sym, ap, subst, ◌∙◌, arith}
+use Rattle.std.specs.Prelude.{◌↔◌, IsTrue, IfOk}
 use Rattle.warm_stamps.specs.declared.PageId.{PageId}
-use Rattle.warm_stamps.specs.declared.TheConstants.{BUCKETS}
-use Rattle.warm_history.specs.Histories.{HistoryView, IsHistory, entries_of, history, references_of}
-use Rattle.warm_history.specs.ReferenceSets.{◌∪◌}
+use Rattle.warm_history.specs.Histories.{HistoryView, entries_of, history, references_of}
 use Rattle.warm_history.specs.Since.{carried_since}
 use Rattle.warm_history.proofs.HistoryLemmas.{IsHistory-history}
 use Rattle.warm_digest.specs.BucketDigests.{digests_of}
@@ -19,21 +17,19 @@ use Rattle.warm_gossip.specs.declared.call.Call.TheVariants.{Offer, Send}
 use Rattle.warm_gossip.specs.declared.call.Reply.TheVariants.{Refused, Sent}
 use Rattle.warm_gossip.specs.declared.fault.NodeFault.{NodeFault}
 use Rattle.warm_gossip.specs.declared.fault.NodeFault.TheVariants.{Memory, Pool, StaleSlot}
-use Rattle.warm_gossip.specs.Answers.{requested_buckets, requested_messages, sent}
+use Rattle.warm_peer.specs.Answers.{requested_messages, sent}
 use Rattle.warm_gossip.specs.Clauses.{Answered, Goes}
-use Rattle.warm_gossip.specs.declared.since.SentPortion.{SentPortion}
-use Rattle.warm_gossip.specs.Since.{BringsHeld, HasMoreSince, sent_since}
-use Rattle.warm_gossip.proofs.SinceLemmas.{brings_held}
+use Rattle.warm_peer.specs.declared.since.SentPortion.{SentPortion}
+use Rattle.warm_peer.specs.Since.{BringsHeld, HasMoreSince, sent_since}
+use Rattle.warm_peer.proofs.SinceLemmas.{brings_held}
 use Rattle.warm_gossip.specs.State.{NodeState, node_view}
 use Rattle.warm_shards.specs.Clauses.{SameShards, Together, TogetherAnswered}
 use Rattle.warm_shards.specs.Digests.{FillsShard}
 use Rattle.warm_shards.specs.Shards.{AreShards, as_node, held, shard_at, whole}
 use Rattle.warm_shards.proofs.Absorbing.{some_shards}
-use Rattle.warm_shards.proofs.BucketSets.{one_bucket}
 use Rattle.warm_shards.proofs.Buckets.{bucket_whole, sent_since_whole, since_entries, since_whole, sent_whole, shard_horizon}
 use Rattle.warm_shards.proofs.Calls.{read_at, same_histories, same_ids, same_one, same_whole}
 use Rattle.warm_shards.proofs.Gathering.{AreGathered, digest_whole, gathered_more}
-use Rattle.warm_shards.proofs.Joined.{raised_none}
 
 -- ---- shard by shard, and a caller sees no change
 
@@ -68,15 +64,6 @@ digests_next old ns count k n d digests table new are long lt at same is fills s
     ∙ digest_whole old k bucket are (omega arith) low (ap (λ (x : ℕ). bucket % x) (sym long) ∙ here)) so_far
 
 -- ---- buckets in messages
-
-pub one_bucket_messages : (id bucket : ℕ) (h : HistoryView) → IsHistory h → bucket < BUCKETS
-    → requested_messages id (history (references_of h ∪ record { horizon = 0; given = [] })) (bit_or 0 (2 ^ bucket))
-    ≡ bucket_messages id h bucket
-unfolding requested_buckets
-one_bucket_messages id bucket h valid low =
-    ap (λ (g : HistoryView). requested_messages id g (bit_or 0 (2 ^ bucket))) (raised_none h valid)
-    ∙ ap (flat_map (bucket_messages id h)) (one_bucket bucket low)
-    ∙ append-nil (bucket_messages id h bucket)
 
 pub messages_whole : (ns : List NodeState) (j bucket : ℕ) → AreShards ns → j < length ns
     → bucket % length ns ≡ j
@@ -121,22 +108,13 @@ sent_since_same ns j bucket since after are lt is =
     let es = sent_since_whole ns j bucket since after MAX_ENTRIES are lt is in
     λ i. Entries (id i) (horizon i) (es i)
 
--- what a shard that is read gives of a bucket is what all together give of it
-pub messages_next : (old ns : List NodeState) (count k bucket : ℕ) (n d : NodeState) → AreShards old
-    → count ≡ length old → k < count → bucket % count ≡ k → n ≡ get_or ns k d → SameShards old ns
-    → bucket_messages n.id n.history bucket
-    ≡ bucket_messages (shard_at old 0).id (whole old) bucket
-messages_next old ns count k bucket n d are long lt is at same =
-    let here : n ≡ shard_at ns k = read_at ns k n d (omega (arith, same.count)) at in
-    let id : n.id ≡ (shard_at old k).id = ap (λ (x : NodeState). x.id) here ∙ same_ids old ns same k in
-    let h : n.history ≡ (shard_at old k).history = was_history old ns count k n d long lt at same in
-    let own : bucket_messages n.id n.history bucket ≡ bucket_messages (shard_at old k).id (shard_at old k).history bucket = λ i. bucket_messages (id i) (h i) bucket in
-    own ∙ messages_whole old k bucket are (omega arith) (ap (λ (x : ℕ). bucket % x) (sym long) ∙ is)
-
-pub was_valid : (old ns : List NodeState) (count k : ℕ) (n d : NodeState) → AreShards old
-    → count ≡ length old → k < count → n ≡ get_or ns k d → SameShards old ns → IsHistory n.history
-was_valid old ns count k n d are long lt at same =
-    subst IsHistory (sym (was_history old ns count k n d long lt at same)) (are.each k (omega arith)).valid
+-- what a shard gives of a bucket is what all together give of it
+pub messages_at : (ns : List NodeState) (count k bucket : ℕ) (n d : NodeState) → AreShards ns
+    → count ≡ length ns → k < count → bucket % count ≡ k → n ≡ get_or ns k d
+    → bucket_messages n.id n.history bucket ≡ bucket_messages (shard_at ns 0).id (whole ns) bucket
+messages_at ns count k bucket n d are long lt is at =
+    ap (λ (x : NodeState). bucket_messages x.id x.history bucket) (read_at ns k n d (omega (arith, long, lt)) at)
+    ∙ messages_whole ns k bucket are (omega (arith, long, lt)) (ap (λ (x : ℕ). bucket % x) (sym long) ∙ is)
 
 -- ---- what is sent of one bucket since a time
 

@@ -8,7 +8,7 @@ use Rattle.warm_history.proofs.HistoryLemmas.{IsHistory-history}
 use Rattle.warm_history.proofs.JoinLemmas.{raised_to_no_later}
 use Rattle.warm_frames.specs.declared.message.Message.{Message}
 use Rattle.warm_frames.specs.declared.message.Message.TheVariants.{Digest, Want}
-use Rattle.warm_gossip.specs.Answers.{AnswersDigests, IsAnswer, requested_messages}
+use Rattle.warm_peer.specs.Answers.{AnswersDigests, IsAnswer, requested_messages}
 use Rattle.warm_gossip.specs.State.{NodeState}
 use Rattle.warm_shards.specs.Shards.{AreShards, held, whole}
 use Rattle.warm_shards.proofs.Absorbing.{some_shards}

@@ -79,13 +79,6 @@ same_one old ns i m lt same view bytes = record {
   bytes = at_each (λ k n. KeepsBytes (shard_at old k).pool n.pool) ns i m lt (bytes_after (shard_at old i).pool (shard_at ns i).pool m.pool (same.bytes i) bytes) (λ k other. same.bytes k);
 }
 
-pub same_then : (a b c : List NodeState) → SameShards a b → SameShards b c → SameShards a c
-same_then a b c x y = record {
-  count = y.count ∙ x.count;
-  views = λ i. y.views i ∙ x.views i;
-  bytes = λ i. bytes_after (shard_at a i).pool (shard_at b i).pool (shard_at c i).pool (x.bytes i) (y.bytes i);
-}
-
 pub same_keeps : (old new : List NodeState) → SameShards old new → KeepPools old new
 same_keeps old new same = record {
   count = same.count;

@@ -5,12 +5,12 @@ use Rattle.std.proofs.lemmas.List.{append-nil}
 use Rattle.std.proofs.Math.Nat.{max-zero}
 use Rattle.warm_stamps.specs.declared.Reference.{Reference}
 use Rattle.warm_history.specs.ReferenceSets.{ReferenceSet, set_of_list, with_horizon, ◌∪◌}
-use Rattle.warm_history.specs.Histories.{HistoryView, IsHistory, history, references_of}
+use Rattle.warm_history.specs.Histories.{HistoryView, history, references_of}
 use Rattle.warm_history.proofs.HistoryLemmas.{IsHistory-history}
 use Rattle.warm_history.proofs.JoinLemmas.{both_assoc, history_first, raised_to_no_later}
 use Rattle.warm_gossip.specs.State.{NodeState}
 use Rattle.warm_shards.specs.Shards.{held, of_first_shards, shard_at, shard_of, whole}
-use Rattle.warm_shards.proofs.Parts.{next_part, no_part}
+use Rattle.warm_shards.proofs.PartLemmas.{next_part, no_part}
 use Rattle.warm_shards.proofs.Taking.{one_takes}
 
 -- before the first shard nothing is taken in
@@ -79,22 +79,3 @@ raised_next time k ns m R lt is so_far =
     ∙ ap (λ h. history (with_horizon time (references_of h))) so_far
     ∙ history_first (with_horizon time R) (record { horizon = time; given = [] })
     ∙ ap history (twice time R)
-
--- ---- a message
-
-late : (a b : ℕ) → max (max a b) 0 ≡ max a b
-late a b = max-zero (max a b)
-
--- raised to its horizon, and then with its references: the message is taken in
-pub raised_then_taken : (h : HistoryView) (horizon : ℕ) (rs : List Reference)
-    → history (references_of (history (with_horizon horizon (references_of h))) ∪ set_of_list rs)
-    ≡ history (references_of h ∪ record { horizon = horizon; given = rs })
-raised_then_taken h horizon rs =
-    let R = references_of h in
-    let same : with_horizon horizon R ∪ set_of_list rs ≡ R ∪ record { horizon = horizon; given = rs } = λ i. record { horizon = late R.horizon horizon i; given = ap (λ xs. xs ++ rs) (append-nil R.given) i } in
-    history_first (with_horizon horizon R) (set_of_list rs) ∙ ap history same
-
--- the same of what is below a request's horizon: none
-pub raised_none : (h : HistoryView) → IsHistory h
-    → history (references_of h ∪ record { horizon = 0; given = [] }) ≡ h
-raised_none h valid = raised_to_no_later h 0 valid (omega arith)

@@ -2,11 +2,10 @@ pub mod Lists
 pub mod Pages
 pub mod Knowing
 pub mod Taking
-pub mod Parts
+pub mod PartLemmas
 pub mod Buckets
 pub mod Standing
 pub mod Keeping
-pub mod BucketSets
 pub mod Joined
 pub mod Victims
 pub mod Gathering
@@ -14,7 +13,6 @@ pub mod Calls
 pub mod Absorbing
 pub mod Raising
 pub mod Answering
-pub mod Entries
 pub mod Opening
 pub mod Receiving
 pub mod Dividing
@@ -29,3 +27,5 @@ pub mod Asked
 pub mod WholeParts
 pub mod LawsHold
 pub mod Examples
+pub mod PartEntries
+pub mod TakingIn

@@ -1,27 +1,27 @@
--- Receiving a message: its horizon first, and then its references or its answer.
-use Rattle.std.proofs.Common.{◌≡◌, ◌⊎◌, inl, ℕ, List, [], filter, length, Result, Ok, Err, refl, sym, ap, subst, ◌∙◌, arith}
-use Rattle.std.specs.Prelude.{nat_lt, IfErr, OnOk}
-use Rattle.warm_stamps.specs.declared.Reference.{Reference}
+-- Receiving a message: its horizon first, and then its entries or its answer.
+use Rattle.std.proofs.Common.{◌≡◌, ◌⊎◌, inl, ℕ, ◌≤◌, List, [], length, max, Result, Ok, Err, refl, sym, ap, subst, ◌∙◌, arith}
+use Rattle.std.specs.Prelude.{IfErr, OnOk}
 use Rattle.warm_history.specs.declared.hist.Entry.{Entry}
-use Rattle.warm_history.specs.ListHistories.{list_references_of}
-use Rattle.warm_history.specs.ReferenceSets.{ReferenceSet, set_of_list, with_horizon, ◌∪◌}
-use Rattle.warm_history.specs.Histories.{HistoryView, history, references_of}
+use Rattle.warm_history.specs.ReferenceSets.{ReferenceSet, with_horizon, ◌∪◌}
+use Rattle.warm_history.specs.Histories.{HistoryView, history, history_of_entries_at, references_of}
+use Rattle.warm_history.proofs.HistoryLemmas.{horizon-history}
+use Rattle.warm_history.proofs.JoinLemmas.{both_assoc, history_first}
 use Rattle.warm_frames.specs.declared.message.Message.{Message}
 use Rattle.warm_frames.specs.declared.message.Message.TheVariants.{Digest, Entries, Want}
 use Rattle.warm_frames.specs.Limits.{horizon_in}
 use Rattle.warm_pool.specs.View.{PoolView}
-use Rattle.warm_gossip.specs.declared.call.Call.TheVariants.{Absorb, Horizon, Receive}
-use Rattle.warm_gossip.specs.declared.call.Reply.TheVariants.{Answers, Done, Kept}
+use Rattle.warm_gossip.specs.declared.call.Call.TheVariants.{Horizon, Receive}
+use Rattle.warm_gossip.specs.declared.call.Reply.TheVariants.{Answers, Kept}
 use Rattle.warm_gossip.specs.declared.fault.NodeFault.{NodeFault}
 use Rattle.warm_gossip.specs.declared.fault.NodeFault.TheVariants.{Memory}
-use Rattle.warm_gossip.specs.Answers.{AnswersDigests, refs_in, requested_messages}
+use Rattle.warm_peer.specs.Answers.{AnswersDigests, refs_in, requested_messages}
 use Rattle.warm_gossip.specs.State.{NodeState, NodeView, empty_node}
 use Rattle.warm_shards.specs.Clauses.{HasPart, JoinsAll, SameShards, TakesInFirst, Together}
-use Rattle.warm_shards.specs.Shards.{AreShards, as_node, of_first_shards, shard_at, shard_of, whole}
+use Rattle.warm_shards.specs.Shards.{AreShards, as_node, of_first_shards, shard_at, whole}
 use Rattle.warm_shards.proofs.Absorbing.{some_shards}
+use Rattle.warm_shards.proofs.Buckets.{shard_horizon}
 use Rattle.warm_shards.proofs.Calls.{same_ids, same_whole}
-use Rattle.warm_shards.proofs.Joined.{raised_then_taken}
-use Rattle.warm_shards.proofs.Parts.{no_part}
+use Rattle.warm_shards.proofs.PartLemmas.{no_part}
 
 -- what a raise of all did
 raised_whole : (old mid : List NodeState) (time kept : ℕ) → Together old (Horizon time) (Kept kept) mid
@@ -54,36 +54,67 @@ raised_alone old mid new time kept S are at goes same =
           ∙ ap (λ T. history (R ∪ T)) (sym (of_none (length old) S)),
     )
 
--- entries: all are absorbed
-pub entries_received : (old mid new : List NodeState) (kept sender horizon : ℕ) (es : List Entry)
-    (refs : List Reference) (answers : List Message) → refs ≡ list_references_of es → answers ≡ []
-    → Together old (Horizon horizon) (Kept kept) mid → Together mid (Absorb refs) Done new
-    → Together old (Receive (Entries sender horizon es)) (Answers answers) new
-entries_received old mid new kept sender horizon es refs answers is none raised absorbed pool =
-    let id = ap (λ (n : NodeView). n.id) (absorbed pool) ∙ raised_id old mid horizon kept raised in
-    let h = ap (λ (n : NodeView). n.history) (absorbed pool)
-    ∙ ap (λ (g : HistoryView). history (references_of g ∪ set_of_list refs)) (raised_whole old mid horizon kept raised)
-    ∙ raised_then_taken (whole old) horizon refs
-    ∙ ap (λ rs. history (references_of (whole old) ∪ record { horizon = horizon; given = rs })) is in
-    (none, λ i. record { id = id i; history = h i; pool = pool })
+-- all shards are raised to the horizon of S, and then S is taken in
+raised_then_in : (R S : ReferenceSet) (time : ℕ) → time ≡ S.horizon
+    → history (references_of (history (with_horizon time R)) ∪ S) ≡ history (R ∪ S)
+raised_then_in R S time at =
+    let T : ReferenceSet = record { horizon = time; given = [] } in
+    let same : T ∪ S ≡ S = λ i. record { horizon = not_earlier time S.horizon at i; given = S.given } in
+    history_first (with_horizon time R) S ∙ ap history (both_assoc R T S ∙ ap (λ U. R ∪ U) same)
+  where
+    not_earlier : (a b : ℕ) → a ≡ b → max a b ≡ b
+    not_earlier a b is = omega arith
 
--- entries: the first shards have absorbed theirs
-pub entries_refused : (old mid new : List NodeState) (kept sender horizon : ℕ) (es : List Entry)
-    (refs : List Reference) → refs ≡ list_references_of es → length mid ≡ length old
-    → Together old (Horizon horizon) (Kept kept) mid → TakesInFirst mid (set_of_list refs) new
-    → TakesInFirst old (refs_in (Entries sender horizon es)) new
-entries_refused old mid new kept sender horizon es refs is long raised (k, lt, part, some) =
-    let first : ℕ → List Reference → List Reference = λ count rs. filter (λ r. nat_lt (shard_of count r.page) k) rs in
-    let own : (k ≡ 0) ⊎ HasPart (length mid) k (record { horizon = horizon; given = list_references_of es }) = subst (λ rs. (k ≡ 0) ⊎ HasPart (length mid) k (set_of_list rs)) is part in (
-      k,
-      omega (arith, lt, long),
-      subst (λ (count : ℕ). (k ≡ 0) ⊎ HasPart count k (record { horizon = horizon; given = list_references_of es })) long own,
-      some
-          ∙ ap (λ (g : HistoryView). history (references_of g ∪ set_of_list (first (length mid) refs))) (raised_whole old mid horizon kept raised)
-          ∙ raised_then_taken (whole old) horizon (first (length mid) refs)
-          ∙ ap (λ (count : ℕ). history (references_of (whole old) ∪ record { horizon = horizon; given = first count refs })) long
-          ∙ ap (λ rs. history (references_of (whole old) ∪ record { horizon = horizon; given = first (length old) rs })) is,
-    )
+-- what is taken in after a raise is taken in
+after_raised : (old mid new : List NodeState) (time kept : ℕ) (S : ReferenceSet) (pool : PoolView)
+    → time ≡ S.horizon → Together old (Horizon time) (Kept kept) mid
+    → as_node new pool ≡ record (as_node mid pool) { history = history (references_of (whole mid) ∪ S) }
+    → as_node new pool ≡ record (as_node old pool) { history = history (references_of (whole old) ∪ S) }
+after_raised old mid new time kept S pool at raised is =
+    let was : as_node mid pool ≡ record (as_node old pool) { history = history (with_horizon time (references_of (whole old))) } = (raised pool).0 in
+    let id : (shard_at new 0).id ≡ (shard_at old 0).id = ap (λ (v : NodeView). v.id) is ∙ ap (λ (v : NodeView). v.id) was in
+    let h : whole new ≡ history (references_of (whole old) ∪ S) = ap (λ (v : NodeView). v.history) is ∙ ap (λ (v : NodeView). history (references_of v.history ∪ S)) was ∙ raised_then_in (references_of (whole old)) S time at in
+    λ i. record { id = id i; history = h i; pool = pool }
+
+-- and so is what the first shards take in
+pub first_raised : (old mid new : List NodeState) (time kept : ℕ) (S : ReferenceSet)
+    → time ≡ S.horizon → length mid ≡ length old → Together old (Horizon time) (Kept kept) mid
+    → TakesInFirst mid S new → TakesInFirst old S new
+first_raised old mid new time kept S at long raised (k, lt, part, some) = (
+  k,
+  omega (arith, lt, long),
+  subst (λ (count : ℕ). (k ≡ 0) ⊎ HasPart count k S) long part,
+  some
+      ∙ ap (λ (g : HistoryView). history (references_of g ∪ of_first_shards (length mid) k S)) (raised_whole old mid time kept raised)
+      ∙ raised_then_in (references_of (whole old)) (of_first_shards (length mid) k S) time at
+      ∙ ap (λ (count : ℕ). history (references_of (whole old) ∪ of_first_shards count k S)) long,
+)
+
+pub first_ok : {T : Type 0} (old mid new : List NodeState) (time kept : ℕ) (S : ReferenceSet)
+    (result : Result T NodeFault) → time ≡ S.horizon → length mid ≡ length old
+    → Together old (Horizon time) (Kept kept) mid
+    → IfErr result (λ why. (why ≡ Memory) × TakesInFirst mid S new)
+    → IfErr result (λ why. (why ≡ Memory) × TakesInFirst old S new)
+first_ok old mid new time kept S (Ok given) at long raised refused = tt
+first_ok old mid new time kept S (Err why) at long raised refused =
+    (refused.0, first_raised old mid new time kept S at long raised refused.1)
+
+-- the first shard has at least the horizon to which all were raised
+pub raised_late : (old mid : List NodeState) (time kept : ℕ) → AreShards mid
+    → Together old (Horizon time) (Kept kept) mid → time ≤ (shard_at mid 0).history.horizon
+raised_late old mid time kept are goes =
+    let some = some_shards mid are in
+    let at : (shard_at mid 0).history.horizon ≡ (whole mid).horizon = shard_horizon mid 0 are some some in
+    let is : (whole mid).horizon ≡ max (references_of (whole old)).horizon time = ap (λ (h : HistoryView). h.horizon) (raised_whole old mid time kept goes) ∙ horizon-history (with_horizon time (references_of (whole old))) in
+    omega (arith, at, is)
+
+-- entries: each shard takes in its own
+pub entries_received : (old mid new : List NodeState) (kept sender horizon : ℕ) (es : List Entry)
+    (answers : List Message) → answers ≡ [] → Together old (Horizon horizon) (Kept kept) mid
+    → JoinsAll mid (history_of_entries_at horizon es) new
+    → Together old (Receive (Entries sender horizon es)) (Answers answers) new
+entries_received old mid new kept sender horizon es answers none raised joins pool =
+    (none, after_raised old mid new horizon kept (refs_in (Entries sender horizon es)) pool refl raised (joins pool))
 
 after_raise : (old mid new : List NodeState) (time kept : ℕ) → Together old (Horizon time) (Kept kept) mid
     → SameShards mid new → (pool : PoolView)
@@ -118,20 +149,9 @@ request_received old mid new kept sender horizon request answers messages is rai
 
 -- ---- another history
 
-pub joined_all : (old mid new : List NodeState) (kept : ℕ) (other : HistoryView)
-    (refs : List Reference) (result : Result Unit NodeFault)
-    → refs ≡ list_references_of other.entries → Together old (Horizon other.horizon) (Kept kept) mid
-    → OnOk result (Together mid (Absorb refs) Done new) → OnOk result (JoinsAll old other new)
-joined_all old mid new kept other refs (Err why) is raised absorbed = tt
-joined_all old mid new kept other refs (Ok given) is raised absorbed = λ pool.
-    (entries_received old mid new kept 0 other.horizon other.entries refs [] is refl raised absorbed pool).1
-
-pub joined_some : (old mid new : List NodeState) (kept : ℕ) (other : HistoryView)
-    (refs : List Reference) (result : Result Unit NodeFault)
-    → refs ≡ list_references_of other.entries → length mid ≡ length old
-    → Together old (Horizon other.horizon) (Kept kept) mid
-    → IfErr result (λ why. (why ≡ Memory) × TakesInFirst mid (set_of_list refs) new)
-    → IfErr result (λ why. (why ≡ Memory) × TakesInFirst old (references_of other) new)
-joined_some old mid new kept other refs (Ok given) is long raised refused = tt
-joined_some old mid new kept other refs (Err why) is long raised refused =
-    (refused.0, entries_refused old mid new kept 0 other.horizon other.entries refs is long raised refused.1)
+pub joined_ok : (old mid new : List NodeState) (kept : ℕ) (other : HistoryView)
+    (result : Result Unit NodeFault) → Together old (Horizon other.horizon) (Kept kept) mid
+    → OnOk result (JoinsAll mid other new) → OnOk result (JoinsAll old other new)
+joined_ok old mid new kept other (Err why) raised joins = tt
+joined_ok old mid new kept other (Ok given) raised joins = λ pool.
+    after_raised old mid new other.horizon kept (references_of other) pool refl raised (joins pool)

@@ -14,13 +14,13 @@ use Rattle.warm_history.proofs.JoinLemmas.{history_first}
 use Rattle.warm_frames.specs.declared.message.Message.{Message}
 use Rattle.warm_frames.specs.declared.message.Message.TheVariants.{Digest, Entries, Want}
 use Rattle.warm_digest.specs.BucketDigests.{digests_of}
-use Rattle.warm_gossip.specs.Answers.{refs_in}
+use Rattle.warm_peer.specs.Answers.{refs_in}
 use Rattle.warm_gossip.specs.State.{NodeState, NodeView}
 use Rattle.warm_shards.specs.Digests.{FillsShard}
 use Rattle.warm_shards.specs.Shards.{AreShards, IsShardCount, no_shard, of_first_shards, of_shard, shard_at, shard_of, whole}
 use Rattle.warm_shards.proofs.Absorbing.{some_count, some_shards}
 use Rattle.warm_shards.proofs.Gathering.{AreGathered, all_gathered, digest_whole, gathered_more}
-use Rattle.warm_shards.proofs.Parts.{all_parts, next_part, no_part}
+use Rattle.warm_shards.proofs.PartLemmas.{all_parts, next_part, no_part}
 use Rattle.warm_shards.proofs.Taking.{none_joined, one_takes, whole_more}
 use Rattle.warm_shards.specs.PartLaws.{DigestsAreGathered, GatheredIsWhole, HistoryIsOfParts, MessageIsOfParts, OneTakesIn}
 use Rattle.warm_shards.specs.Parts.{part_of_entries, part_of_message}
@@ -123,7 +123,7 @@ all_alike test f true same (s ∷ ss) = rw (same s) (ap (λ rs. f s ∷ rs) (all
 all_alike test f false same [] = refl
 all_alike test f false same (s ∷ ss) = rw (same s) (all_alike test f false same ss)
 
-parts_hold : (count i : ℕ) (es : List Entry)
+pub parts_hold : (count i : ℕ) (es : List Entry)
     → list_references_of (part_of_entries count i es)
     ≡ filter (λ r. nat_eq (shard_of count r.page) i) (list_references_of es)
 parts_hold count i [] = refl
@@ -147,12 +147,12 @@ parts_hold count i (e ∷ es) = cases (nat_eq (shard_of count e.page) i) refl (p
     cases true is later = rw is (ap (λ rs. references_of_entry e ++ rs) later ∙ own true is)
     cases false is later = rw is (later ∙ own false is)
 
-part_is : (count i horizon : ℕ) (es : List Entry)
+pub part_is : (count i horizon : ℕ) (es : List Entry)
     → record { horizon = horizon; given = list_references_of (part_of_entries count i es) }
     ≡ of_shard count i (record { horizon = horizon; given = list_references_of es })
 part_is count i horizon es = λ k. record { horizon = horizon; given = parts_hold count i es k }
 
-message_part : (count i : ℕ) (message : Message)
+pub message_part : (count i : ℕ) (message : Message)
     → refs_in (part_of_message count i message) ≡ of_shard count i (refs_in message)
 message_part count i (Entries sender horizon es) = part_is count i horizon es
 message_part count i (Digest sender horizon digests) = refl

@@ -9,7 +9,7 @@ use Rattle.warm_digest.specs.BucketDigests.{digests_of}
 use Rattle.warm_frames.specs.declared.message.Message.{Message}
 use Rattle.warm_gossip.specs.declared.call.Call.TheVariants.{Receive}
 use Rattle.warm_gossip.specs.declared.call.Reply.TheVariants.{Answers}
-use Rattle.warm_gossip.specs.Answers.{history_after}
+use Rattle.warm_peer.specs.Answers.{history_after}
 use Rattle.warm_gossip.specs.Clauses.{Goes, Joins}
 use Rattle.warm_gossip.specs.State.{NodeState}
 use Rattle.warm_shards.specs.Digests.{FillsShard}

@@ -1,6 +1,5 @@
 -- A batch, a message or a history, by the shards of its pages.
 use Rattle.std.specs.Prelude.{◌≡◌, ℕ, ◌<◌, List, [], filter, length, nat_eq, slice_index_or}
-use Rattle.std.specs.List.{AllByRecursion}
 use Rattle.warm_stamps.specs.declared.Reference.{Reference}
 use Rattle.warm_history.specs.declared.hist.Entry.{Entry}
 use Rattle.warm_history.specs.Histories.{HistoryView, entries_of, history_of_entries_at}
@@ -16,12 +15,6 @@ pub record AreShardParts (count : ℕ) (batch : List Reference) (parts : List (L
   pub size : length parts ≡ count
   pub part : (i : ℕ) → i < count
       → slice_index_or parts i [] ≡ (of_shard count i (set_of_list batch)).given
-
--- a message of entries, whose pages are all of this shard
-abbrev pub IsOfShard : ℕ → ℕ → Message → Type 0
-IsOfShard count shard (Entries sender horizon entries) =
-    AllByRecursion (λ e. shard_of count e.page ≡ shard) entries
-IsOfShard count shard message = ⊥
 
 -- Messages and histories
 

@@ -1,12 +1,9 @@
 //! What all shards together answer to digests and to a request.
 ghost use Rattle.std.specs.Prelude.{◌≡◌, ◌↔◌, ◌<◌, ◌++◌, ◌∷◌, [], IfErr, IfOk, IsTrue, OnOk};
 ghost use Rattle.warm_stamps.specs.declared.TheConstants.{BUCKETS};
-ghost use Rattle.warm_history.specs.Histories.{IsHistory, entries_of};
+ghost use Rattle.warm_history.specs.Histories.{entries_of};
 ghost use Rattle.warm_digest.specs.BucketDigests.{digests_of};
-ghost use Rattle.warm_frames.specs.Chunks.{bucket_messages};
-ghost use Rattle.warm_pool.specs.Keeping.{KeepsBytes};
-ghost use Rattle.warm_gossip.specs.Answers.{AnswersDigests, IsAnswer, requested_messages};
-ghost use Rattle.warm_gossip.specs.Clauses.{SameView};
+ghost use Rattle.warm_peer.specs.Answers.{AnswersDigests, IsAnswer, requested_messages};
 ghost use Rattle.warm_gossip.specs.declared.fault.NodeFault.TheVariants.{Memory};
 ghost use Rattle.warm_shards.specs.Clauses.{SameShards};
 ghost use Rattle.warm_shards.specs.Digests.{FillsShard};
@@ -17,7 +14,7 @@ use warm_devices::PageDevice;
 use warm_digest::differing;
 use warm_frames::{DIGEST_SIZE, DigestTable, Message, MessageList};
 use warm_gossip::{Node, NodeFault};
-use warm_pool::Pool;
+use warm_peer::Peer;
 use warm_stamps::{BUCKETS, Bucket, BucketSet};
 
 /// Copies the digests of one shard's buckets from a table into their places. The other digests are
@@ -63,45 +60,23 @@ pub(crate) fn gathered<D: PageDevice>(nodes: &mut Vec<Node<D>>) -> Result<Digest
     Ok(DigestTable::of(digests))
 }
 
-// The messages in which a node sends a bucket whole.
-fn bucket_in<D: PageDevice>(node: &mut Node<D>, bucket: Bucket) -> Result<Vec<Message>, NodeFault>
-    requires { IsHistory node.old.history }
-    ensures messages { IfOk result (λ messages. messages.items
-        ≡ bucket_messages node.old.id node.old.history bucket) }
-    ensures refused { IfErr result (λ why. why ≡ Memory) }
-    ensures same { SameView node.old node.new }
-    ensures devices { KeepsBytes node.old.pool node.new.pool }
-{
-    // The bucket's number is below BUCKETS.
-    let _number = bucket.get();
-    let request = Message::Want {
-        sender: node.id(),
-        horizon: 0,
-        request: BucketSet::new().with(bucket),
-    };
-    let answers = node.answers(&request)?;
-    Ok(answers.into_vec())
-}
-
 /// The entries of the requested buckets, bucket by bucket, of each those of its shard.
 ///
-/// `Memory` occurs only where an allocation fails.
+/// `AllocError` occurs only where an allocation fails.
 pub(crate) fn requested<D: PageDevice>(
     alloc: Global,
-    nodes: &mut Vec<Node<D>>,
+    nodes: &Vec<Node<D>>,
     request: BucketSet,
-) -> Result<Vec<Message>, NodeFault>
-    requires { AreShards nodes.old.items }
-    ensures messages { IfOk result (λ messages. messages.items
-        ≡ requested_messages (shard_at nodes.old.items 0).id (whole nodes.old.items) request) }
-    ensures refused { IfErr result (λ why. why ≡ Memory) }
-    ensures same { SameShards nodes.old.items nodes.new.items }
+) -> Result<Vec<Message>, AllocError>
+    requires { AreShards nodes.now.items }
+    ensures { IfOk result (λ messages. messages.items
+        ≡ requested_messages (shard_at nodes.now.items 0).id (whole nodes.now.items) request) }
 {
     let count = nodes.len();
     let mut messages = Vec::new(alloc);
     for bucket in request.iter() {
         let shard = usize::from(bucket.get()) % count;
-        let mut part = bucket_in(&mut nodes[shard], bucket)?;
+        let mut part = nodes[shard].peer().send_bucket(bucket)?;
         messages.append(&mut part)?;
     }
     Ok(messages)
@@ -146,17 +121,13 @@ pub(crate) fn answer_to_digests<D: PageDevice>(
     Ok(messages)
 }
 
-// A node of its own that has the history of all shards, and a pool of no use.
-fn one_node<D: PageDevice>(alloc: Global, nodes: &Vec<Node<D>>) -> Result<Node<D>, NodeFault>
+// A peer that has the history of all shards.
+fn one_peer<D: PageDevice>(alloc: Global, nodes: &Vec<Node<D>>) -> Result<Peer, AllocError>
     requires { AreShards nodes.now.items }
     ensures id { IfOk result (λ one. one.id ≡ (shard_at nodes.now.items 0).id) }
     ensures history { IfOk result (λ one. one.history ≡ whole nodes.now.items) }
-    ensures refused { IfErr result (λ why. why ≡ Memory) }
 {
-    let Ok(pool) = Pool::new(alloc, 1, 1, Vec::new(alloc)) else {
-        return Err(NodeFault::Memory);
-    };
-    let mut one = Node::new(alloc, nodes[0].id(), pool);
+    let mut one = Peer::new(alloc, nodes[0].id());
     let count = nodes.len();
     for shard in 0..count {
         one.join(nodes[shard].history())?;
@@ -170,15 +141,13 @@ fn answered_by_copy<D: PageDevice>(
     alloc: Global,
     nodes: &Vec<Node<D>>,
     message: &Message,
-) -> Result<MessageList, NodeFault>
+) -> Result<MessageList, AllocError>
     requires { AreShards nodes.now.items }
-    ensures answers { IfOk result (IsAnswer (shard_at nodes.now.items 0).id
+    ensures { IfOk result (IsAnswer (shard_at nodes.now.items 0).id
         (whole nodes.now.items) message.now) }
-    ensures refused { IfErr result (λ why. why ≡ Memory) }
 {
-    let mut one = one_node(alloc, nodes)?;
-    let answers = one.answers(message)?;
-    Ok(answers)
+    let mut one = one_peer(alloc, nodes)?;
+    one.answers(message)
 }
 
 // Whether a time is later than the horizon of all shards.
@@ -207,7 +176,7 @@ pub(crate) fn answered<D: PageDevice>(
         return Ok(MessageList::of(Vec::new(alloc)));
     }
     if is_later(nodes, message.horizon()) {
-        return answered_by_copy(alloc, nodes, message);
+        return Ok(answered_by_copy(alloc, nodes, message)?);
     }
     match message {
         Message::Entries { .. } => Ok(MessageList::of(Vec::new(alloc))),

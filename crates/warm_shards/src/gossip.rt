@@ -1,72 +1,28 @@
 //! Exchanging histories: what all shards together offer, send, receive and answer.
-ghost use Rattle.std.specs.Prelude.{◌≡◌, ◌↔◌, ◌<◌, ◌≤◌, length, IfErr, IfOk, OnOk, IsTrue};
-ghost use Rattle.warm_frames.specs.Limits.{horizon_in};
+ghost use Rattle.std.specs.Prelude.{◌≡◌, ◌↔◌, IfErr, IfOk, OnOk, IsTrue};
 ghost use Rattle.warm_history.specs.Histories.{entries_of, references_of};
-ghost use Rattle.warm_history.specs.ListHistories.{list_references_of};
-ghost use Rattle.warm_gossip.specs.Answers.{IsAnswer, refs_in};
-ghost use Rattle.warm_gossip.specs.Since.{BringsHeld, HasMoreSince, sent_since};
+ghost use Rattle.warm_peer.specs.Answers.{IsAnswer, refs_in};
+ghost use Rattle.warm_peer.specs.Since.{BringsHeld, HasMoreSince, sent_since};
 ghost use Rattle.warm_gossip.specs.declared.call.Call.TheVariants.{Offer, Receive, Send};
 ghost use Rattle.warm_gossip.specs.declared.call.Reply.TheVariants.{Answers, Sent};
 ghost use Rattle.warm_gossip.specs.declared.fault.NodeFault.TheVariants.{Memory};
 ghost use Rattle.warm_shards.specs.Clauses.{JoinsAll, KeepPools, SameShards, TakesInFirst};
 ghost use Rattle.warm_shards.specs.Clauses.{Together, TogetherAnswered};
-ghost use Rattle.warm_shards.specs.Parts.{IsOfShard};
 ghost use Rattle.warm_shards.specs.Shards.{AreShards, shard_at, whole};
 
 use crate::answers::{answer_to_digests, answered, gathered, requested};
-use crate::history_calls::{absorb_parts, raise_all};
+use crate::history_calls::raise_all;
+use crate::joining::join_parts;
 use crate::shards::Shards;
-use crate::splitting::receiver;
 use std::alloc::{AllocError, Global};
 use warm_devices::PageDevice;
 use warm_frames::{Message, MessageList};
-use warm_gossip::{Node, NodeFault, SentPortion};
-use warm_history::{Entry, History, PageHist};
-use warm_stamps::{Bucket, PageId, Reference};
+use warm_gossip::{Node, NodeFault};
+use warm_history::{Entry, History};
+use warm_peer::SentPortion;
+use warm_stamps::{Bucket, PageId};
 
-/// The references that entries hold, in order; of an entry its latest stamp first.
-///
-/// `AllocError` occurs only where an allocation fails.
-pub fn references_in(alloc: Global, entries: &[Entry]) -> Result<Vec<Reference>, AllocError>
-    ensures { IfOk result (λ references. references.items ≡ list_references_of entries.now) }
-{
-    let mut references = Vec::new(alloc);
-    for entry in entries {
-        let page = entry.page;
-        match entry.hist {
-            PageHist::Once(stamp) => references.push(Reference { page, stamp })?,
-            PageHist::Twice(two) => {
-                let last = two.last();
-                let prev = two.prev();
-                references.push(Reference { page, stamp: last })?;
-                references.push(Reference { page, stamp: prev })?;
-            }
-        }
-    }
-    Ok(references)
-}
-
-// The node of a shard receives a message of entries of its pages. All shards have its horizon.
-fn receive_alone<D: PageDevice>(
-    nodes: &mut Vec<Node<D>>,
-    shard: usize,
-    message: Message,
-) -> Result<MessageList, NodeFault>
-    requires shards { AreShards nodes.old.items }
-    requires there { shard < length nodes.old.items }
-    requires own { IsOfShard (length nodes.old.items) shard message }
-    requires raised { horizon_in message ≤ (shard_at nodes.old.items 0).history.horizon }
-    ensures shards { AreShards nodes.new.items }
-    ensures received { IfOk result (λ answers. Together nodes.old.items (Receive message)
-        (Answers answers) nodes.new.items) }
-    ensures refused { IfErr result (λ why. (why ≡ Memory)
-        × (whole nodes.new.items ≡ whole nodes.old.items)) }
-    ensures pools { KeepPools nodes.old.items nodes.new.items }
-{
-    nodes[shard].receive(message)
-}
-
-// Raises all shards to the message's horizon; takes its references in, or answers it.
+// Raises all shards to the message's horizon; takes its entries in, or answers it.
 fn received<D: PageDevice>(
     alloc: Global,
     nodes: &mut Vec<Node<D>>,
@@ -81,13 +37,13 @@ fn received<D: PageDevice>(
     ensures pools { KeepPools nodes.old.items nodes.new.items }
 {
     raise_all(nodes, message.horizon());
-    if let Some(shard) = receiver(&message, nodes.len()) {
-        return receive_alone(nodes, shard, message);
-    }
     match message {
-        Message::Entries { entries, .. } => {
-            let references = references_in(alloc, entries.as_slice())?;
-            absorb_parts(alloc, nodes, &references)?;
+        Message::Entries {
+            horizon,
+            entries,
+            ..
+        } => {
+            join_parts(alloc, nodes, horizon, entries.as_slice())?;
             Ok(MessageList::of(Vec::new(alloc)))
         }
         Message::Digest { digests, .. } => {
@@ -108,21 +64,7 @@ fn entries_of(alloc: Global, history: &History) -> Result<Vec<Entry>, AllocError
     history.iter().collect(alloc)
 }
 
-// The node of the only shard joins another history. It has that history's horizon.
-fn join_alone<D: PageDevice>(nodes: &mut Vec<Node<D>>, other: &History) -> Result<(), NodeFault>
-    requires shards { AreShards nodes.old.items }
-    requires alone { length nodes.old.items ≡ 1 }
-    requires raised { other.now.horizon ≤ (shard_at nodes.old.items 0).history.horizon }
-    ensures shards { AreShards nodes.new.items }
-    ensures joined { OnOk result (JoinsAll nodes.old.items other.now nodes.new.items) }
-    ensures refused { IfErr result (λ why. (why ≡ Memory)
-        × (whole nodes.new.items ≡ whole nodes.old.items)) }
-    ensures pools { KeepPools nodes.old.items nodes.new.items }
-{
-    nodes[0].join(other)
-}
-
-// Raises all shards to the horizon of another history, and takes its references in.
+// Raises all shards to the horizon of another history, and takes its entries in.
 fn join_all<D: PageDevice>(
     alloc: Global,
     nodes: &mut Vec<Node<D>>,
@@ -136,12 +78,8 @@ fn join_all<D: PageDevice>(
     ensures pools { KeepPools nodes.old.items nodes.new.items }
 {
     raise_all(nodes, other.horizon());
-    if nodes.len() == 1 {
-        return join_alone(nodes, other);
-    }
     let entries = entries_of(alloc, other)?;
-    let references = references_in(alloc, &entries)?;
-    absorb_parts(alloc, nodes, &references)
+    join_parts(alloc, nodes, other.horizon(), &entries)
 }
 
 impl<D: PageDevice> Shards<D> {
@@ -215,8 +153,8 @@ impl<D: PageDevice> Shards<D> {
     /// Receives a message, and returns the messages that answer it, in order: the call `Receive` of
     /// the whole. A message may have pages of several shards, and digests have buckets of all.
     ///
-    /// A message of entries of pages of one shard, as a run of one bucket is, goes to that shard as
-    /// it is. The references of any other are copied.
+    /// Entries go to the shards of their pages, each of which takes all of its own in, or none.
+    /// They are copied, unless all are of pages of one shard, as a run of one bucket is.
     ///
     /// The horizon of a message raises that of each shard. A caller that does not trust its senders
     /// checks the times of a message with [`warm_frames::check_times`] before.
@@ -236,8 +174,8 @@ impl<D: PageDevice> Shards<D> {
     }
 
     /// Takes in all that another history stands for, as a restored history is brought: of all
-    /// references of both, those are kept that are not before the later horizon. Several shards
-    /// copy the other history's references.
+    /// references of both, those are kept that are not before the later horizon. The other history
+    /// is copied.
     ///
     /// # Errors
     /// `Memory`: an allocation failed. All shards then have the other horizon, where that is later,

@@ -64,8 +64,8 @@ fn absorb_each<D: PageDevice>(
     Ok(())
 }
 
-/// Each node absorbs its part of the batch. It is copied only where it has pages of several shards.
-pub(crate) fn absorb_parts<D: PageDevice>(
+// Each node absorbs its part of the batch. It is copied only where it has pages of several shards.
+fn absorb_parts<D: PageDevice>(
     alloc: Global,
     nodes: &mut Vec<Node<D>>,
     batch: &[Reference],

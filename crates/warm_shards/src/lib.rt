@@ -20,8 +20,10 @@ mod fault;
 mod forming;
 mod gossip;
 mod history_calls;
+mod joining;
 pub mod laws;
 mod lending;
+mod parts;
 mod pool_calls;
 mod shards;
 mod splitting;
@@ -29,6 +31,6 @@ mod through;
 
 pub use answers::fill_digests;
 pub use fault::{ShardsError, ShardsFault};
-pub use gossip::references_in;
+pub use parts::{entries_for, part_of_message, sender_of};
 pub use pool_calls::ShardSlot;
 pub use shards::{Shards, frames_of_shard, is_shard_count, shard_of};

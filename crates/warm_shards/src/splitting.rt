@@ -1,12 +1,11 @@
 //! How a batch is divided among shards.
 ghost use Rattle.std.specs.Prelude.{◌≡◌, ◌<◌, [], map, IfOk, IfSome, IsTrue};
 ghost use Rattle.std.specs.List.{AllByRecursion};
-ghost use Rattle.warm_shards.specs.Parts.{AreShardParts, IsOfShard};
+ghost use Rattle.warm_shards.specs.Parts.{AreShardParts};
 ghost use Rattle.warm_shards.specs.Shards.{IsShardCount, shard_of};
 
 use crate::shards::shard_of;
 use std::alloc::{AllocError, Global};
-use warm_frames::Message;
 use warm_pool::NamesPage;
 use warm_stamps::Reference;
 
@@ -43,20 +42,6 @@ pub(crate) fn only_shard<T: NamesPage>(items: &[T], count: usize) -> Option<usiz
         return None;
     }
     Some(shard)
-}
-
-/// The shard that receives a message as it is: one of entries, whose pages are all of that shard.
-/// Allocation-free.
-pub(crate) fn receiver(message: &Message, count: usize) -> Option<usize>
-    requires { IsShardCount count }
-    ensures below { IfSome result (λ shard. shard < count) }
-    ensures only { IfSome result (λ shard. IsOfShard count shard message.now) }
-{
-    match message {
-        Message::Entries { entries, .. } => only_shard(entries.as_slice(), count),
-        Message::Digest { .. } => None,
-        Message::Want { .. } => None,
-    }
 }
 
 // As many empty lists.

@@ -11,7 +11,7 @@ use Rattle.warm_gossip.specs.declared.call.Call.{Call}
 use Rattle.warm_gossip.specs.declared.call.Call.TheVariants.{Send, Receive}
 use Rattle.warm_gossip.specs.declared.call.Reply.{Reply}
 use Rattle.warm_gossip.specs.declared.call.Reply.TheVariants.{Sent, Answers}
-use Rattle.warm_gossip.specs.Chunks.{last_page}
+use Rattle.warm_peer.specs.Chunks.{last_page}
 use Rattle.warm_replica.specs.Jobs.{Calls}
 use Rattle.warm_threads.specs.Numbers.{NumberedFrom}
 

@@ -8,7 +8,7 @@ ghost use Rattle.warm_frames.specs.Encoding.{Encodes};
 ghost use Rattle.warm_frames.specs.Limits.{entries_in};
 ghost use Rattle.warm_gossip.specs.declared.call.Call.TheVariants.{Send, Receive};
 ghost use Rattle.warm_gossip.specs.declared.call.Reply.TheVariants.{Sent, Answers};
-ghost use Rattle.warm_gossip.specs.Chunks.{last_page};
+ghost use Rattle.warm_peer.specs.Chunks.{last_page};
 ghost use Rattle.warm_threads.specs.Exchanges.{IsReceipt, SendsAll, SendsBucket};
 ghost use Rattle.warm_threads.specs.Works.{LeadsBy};
 

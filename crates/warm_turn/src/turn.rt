@@ -368,6 +368,8 @@ impl<M: Machine> Turn<M> {
     /// Gives the machine back. Its state is one that a legal history reaches from the opening
     /// state. That history begins with the pass's list, and has no further operation of any number
     /// that the pass holds: it contains all calls of the passes that were ended into it.
+    /// Where the pass has the whole right to close, it holds the number of each operation: the
+    /// history has no other calls.
     ///
     /// `Busy` occurs only where fewer tickets were served than were taken. Its words are those of a
     /// state that the rule of the turn allows, in which a pass knows what this one does: the

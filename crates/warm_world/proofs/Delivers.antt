@@ -8,7 +8,7 @@ use Rattle.warm_history.specs.declared.hist.Entry.{Entry}
 use Rattle.warm_frames.specs.Limits.{horizon_in}
 use Rattle.warm_frames.specs.declared.message.Message.{Message}
 use Rattle.warm_frames.specs.declared.message.Message.TheVariants.{Entries, Digest, Want}
-use Rattle.warm_gossip.specs.Answers.{IsAnswer, history_after}
+use Rattle.warm_peer.specs.Answers.{IsAnswer, history_after}
 use Rattle.warm_gossip.specs.State.{NodeView}
 use Rattle.warm_world.specs.declared.event.Event.TheVariants.{Deliver}
 use Rattle.warm_world.specs.declared.event.Answer.{Answer}

@@ -17,12 +17,12 @@ use Rattle.warm_frames.specs.declared.message.Message.{Message}
 use Rattle.warm_frames.specs.declared.message.Message.TheVariants.{Digest, Entries, Want}
 use Rattle.warm_digest.specs.BucketDigests.{digests_of}
 use Rattle.warm_frames.specs.Chunks.{bucket_messages, chunks}
-use Rattle.warm_gossip.specs.Answers.{AnswersDigests, IsAnswer, requested_buckets, sent, history_after, requested_messages}
-use Rattle.warm_gossip.specs.Chunks.{AreAllChunks, last_page}
-use Rattle.warm_gossip.specs.Round.{offer}
+use Rattle.warm_peer.specs.Answers.{AnswersDigests, IsAnswer, requested_buckets, sent, history_after, requested_messages}
+use Rattle.warm_peer.specs.Chunks.{AreAllChunks, last_page}
+use Rattle.warm_peer.specs.Round.{offer}
 use Rattle.warm_gossip.specs.State.{NodeView}
-use Rattle.warm_gossip.proofs.ChunkLemmas.{chunks_in_turn}
-use Rattle.warm_gossip.proofs.RoundLemmas.{entries_bring_all}
+use Rattle.warm_peer.proofs.ChunkLemmas.{chunks_in_turn}
+use Rattle.warm_peer.proofs.RoundLemmas.{entries_bring_all}
 use Rattle.warm_world.specs.States.{MessageRecord, ModelState, References, Digests, Request, node_of, reach_of}
 use Rattle.warm_world.specs.Answered.{AreAnswers, bucket_records, reach_after, records_of, requested_records}
 use Rattle.warm_world.specs.Stands.{message_kept}

@@ -10,11 +10,11 @@ use Rattle.warm_history.proofs.HistoryLemmas.{IsHistory-history}
 use Rattle.warm_history.proofs.JoinLemmas.{join_repeats, raised_to_no_later}
 use Rattle.warm_frames.specs.declared.message.Message.{Message}
 use Rattle.warm_digest.specs.Exchange.{Fits, IsCollision}
-use Rattle.warm_gossip.specs.Answers.{requested_messages, AnswersDigests, IsAnswer, history_after}
-use Rattle.warm_gossip.specs.Round.{Receives, offer}
-use Rattle.warm_gossip.specs.Round as node
-use Rattle.warm_gossip.proofs.RoundLemmas.{own_digests_unanswered, entries_bring_all}
-use Rattle.warm_gossip.proofs.RoundLemmas as node_rounds
+use Rattle.warm_peer.specs.Answers.{requested_messages, AnswersDigests, IsAnswer, history_after}
+use Rattle.warm_peer.specs.Round.{Receives, offer}
+use Rattle.warm_peer.specs.Round as node
+use Rattle.warm_peer.proofs.RoundLemmas.{own_digests_unanswered, entries_bring_all}
+use Rattle.warm_peer.proofs.RoundLemmas as node_rounds
 use Rattle.warm_world.specs.declared.event.Event.TheVariants.{Offer, Deliver}
 use Rattle.warm_world.specs.declared.event.Answer.{Answer}
 use Rattle.warm_world.specs.declared.event.Answer.TheVariants.{FrameNo, Took, Refused}

@@ -7,7 +7,7 @@ use Rattle.std.proofs.lemmas.List.{length-map, length-set}
 use Rattle.warm_stamps.specs.declared.PageId.{PageId}
 use Rattle.warm_stamps.specs.declared.Reference.{Reference}
 use Rattle.warm_stamps.specs.declared.TheConstants.{MAX_REPLICAS}
-use Rattle.warm_gossip.specs.Answers.{requested_buckets}
+use Rattle.warm_peer.specs.Answers.{requested_buckets}
 use Rattle.warm_stamps.specs.Stamps.{page_cmp}
 use Rattle.warm_stamps.proofs.DistinctLemmas.{all_append, all_filter}
 use Rattle.warm_history.specs.declared.hist.Entry.{Entry}
@@ -19,7 +19,7 @@ use Rattle.warm_frames.specs.declared.layout.TheConstants.{MAX_ENTRIES}
 use Rattle.warm_digest.specs.Exchange.{IsReference, AreReferences}
 use Rattle.warm_digest.proofs.FitLemmas.{history_fits}
 use Rattle.warm_pool.specs.View.{PoolView}
-use Rattle.warm_gossip.specs.Chunks.{last_page}
+use Rattle.warm_peer.specs.Chunks.{last_page}
 use Rattle.warm_gossip.specs.declared.call.Call.{Call}
 use Rattle.warm_gossip.specs.declared.call.Reply.{Reply}
 use Rattle.warm_gossip.specs.declared.call.Reply.TheVariants as reply

@@ -9,8 +9,8 @@ use Rattle.warm_history.specs.Histories.{entries_of, history}
 use Rattle.warm_history.specs.Carried.{bucket_entries, carried}
 use Rattle.warm_frames.specs.declared.layout.TheConstants.{MAX_ENTRIES}
 use Rattle.warm_frames.specs.Chunks.{chunks}
-use Rattle.warm_gossip.specs.Answers.{requested_buckets, IsDiffering}
-use Rattle.warm_gossip.specs.Chunks.{last_page}
+use Rattle.warm_peer.specs.Answers.{requested_buckets, IsDiffering}
+use Rattle.warm_peer.specs.Chunks.{last_page}
 use Rattle.warm_world.specs.States.{MessageRecord, References, Digests, Request}
 
 -- the chunks of a bucket, one after the other: each brings all references of S to its pages

@@ -8,10 +8,10 @@ use crate::refused::shards::{TwoShards, made};
 use std::alloc::Global;
 use std::sync::Wait;
 use test_kit::cases::{Ended, Met};
-use test_kit::{bucket, entry, once, page, references_to};
+use test_kit::{bucket, entry, once, page, references_to, replica};
 use warm_concurrent::{Attached, NotReceived, SharedFault, SharedShards, Sharing};
 use warm_devices::MemDevice;
-use warm_frames::Message;
+use warm_frames::{EntryList, Message};
 use warm_gossip::NodeFault;
 use warm_stamps::Bucket;
 
@@ -210,7 +210,7 @@ fn publish<R: Wait>(
 }
 
 // Entries of the pages 8 and 9, one of each shard, at the horizon 15, which drops what was known.
-// A refused message has raised the horizon of both shards.
+// Where they are refused, the shards before that one have taken theirs in.
 fn receive<R: Wait>(
     met: &mut Met,
     rt: &R,
@@ -222,17 +222,23 @@ fn receive<R: Wait>(
     ensures { AreOf shared.now thread.new.passes }
 {
     let entries = [entry(page(8), once(20, 1)), entry(page(9), once(20, 1))];
-    if let Err(why) = shared.receive_entries(rt, alloc, thread, 15, &entries) {
-        let NotReceived::Absorbing(at) = why else {
+    let Ok(entries) = EntryList::of(Vec::from_slice(alloc, &entries)?) else {
+        return Err(met.broken("two entries do not fit in a frame"));
+    };
+    let message = Message::Entries {
+        sender: replica(2),
+        horizon: 15,
+        entries,
+    };
+    if let Err(why) = shared.receive(rt, alloc, thread, &message) {
+        let NotReceived::Taking(at) = why else {
             return Err(met.broken("a horizon is refused"));
         };
         met.refuse(
             at.fault == MEMORY && at.shard < 2,
             "entries are refused for memory alone",
         )?;
-        let again = shared
-            .receive_entries(rt, alloc, thread, 15, &entries)
-            .is_ok();
+        let again = shared.receive(rt, alloc, thread, &message).is_ok();
         met.holds(again, "entries are refused again by shared shards")?;
     }
     let are_dropped = is_known_below(met, rt, shared, thread, 0)?;

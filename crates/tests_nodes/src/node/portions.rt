@@ -6,7 +6,8 @@ use std::process::Abort;
 use test_kit::{bucket, page, seen};
 use warm_devices::MemDevice;
 use warm_frames::Message;
-use warm_gossip::{Node, SentPortion};
+use warm_gossip::Node;
+use warm_peer::SentPortion;
 use warm_stamps::{PageId, Reference};
 
 // Absorbs references to the first pages of bucket 0, as many as this, at a time.

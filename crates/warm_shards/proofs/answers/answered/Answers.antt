@@ -1,9 +1,10 @@
 use Rattle.std.proofs.Common.{ℕ, ◌≤◌, sym, ap, subst, ◌∙◌}
 use Rattle.warm_frames.specs.Limits.{horizon_in}
 use Rattle.warm_frames.specs.declared.message.Message.{Message}
-use Rattle.warm_gossip.specs.Answers.{IsAnswer}
+use Rattle.warm_peer.specs.Answers.{IsAnswer}
 use Rattle.warm_shards.specs.Shards.{shard_at, whole}
 use Rattle.warm_shards.proofs.Asked.{digests_asked, not_later, request_asked}
+use Rattle.warm_shards.proofs.Calls.{same_none}
 use Rattle.warm_shards.proofs.answers.answered.Goals as goal
 
 pub returns-in_ok-messages-in-Digest : goal.returns-in_ok-messages-in-Digest
@@ -25,7 +26,7 @@ returns-in_ok-messages-in-Want g c =
     let no : c.in-Want.horizon ≤ w = subst (λ (x : ℕ). x ≤ w) (c.horizon.ensures ∙ ap horizon_in c.in-Want.is) (not_later c.is_later.result w c.horizon.result c.if-is_later.false c.is_later.ensures.1) in
     record {
       answers = subst (λ (m : Message). IsAnswer (shard_at ns 0).id (whole ns) m c.of-in-Want.result) (sym c.in-Want.is)
-          (request_asked ns (shard_at ns 0).id c.in-Want.sender c.in-Want.horizon c.in-Want.request c.of-in-Want.result c.in_ok-messages-in-Want.messages.items c.of-in-Want.ensures no c.in_ok-messages-in-Want.ensures.messages);
+          (request_asked ns (shard_at ns 0).id c.in-Want.sender c.in-Want.horizon c.in-Want.request c.of-in-Want.result c.in_ok-messages-in-Want.messages.items c.of-in-Want.ensures no c.in_ok-messages-in-Want.ensures);
       refused = tt;
-      same = c.in_ok-messages-in-Want.ensures.same;
+      same = same_none ns;
     }

@@ -1,5 +1,5 @@
 use Rattle.std.proofs.Common.{rules, ◌≡◌, ◌↔◌, Ok, IsTrue, inr, refl, subst}
-use Rattle.warm_gossip.specs.Since.{HasMoreSince}
+use Rattle.warm_peer.specs.Since.{HasMoreSince}
 use Rattle.warm_c.specs.Calls.{PutsFrame}
 use Rattle.warm_c.specs.Since.{last_in, message_since}
 use Rattle.warm_c.proofs.Endings.{bool_same}

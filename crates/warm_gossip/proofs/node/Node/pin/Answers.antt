@@ -2,8 +2,9 @@ use Rattle.warm_gossip.proofs.Passed.{pinned}
 use Rattle.warm_gossip.proofs.node.Node.pin.Goals as goal
 
 pub invariant_of-self-2 : goal.invariant_of-self-2
-invariant_of-self-2 g c = (
-  rw c.history.ensures at c.pin_placed.ensures.ranked,
-  pinned c.self.inside.history.history _ _ c.args.page c.in_ok-placed.placed c.self.inside.warm_up c.passed_at_pin-self-inside.result c.passed_at_pin-self-inside.ensures
-      (rw c.history.ensures at c.in_ok-placed.ensures.pinned) c.in_ok-placed.ensures.evicted c.self.invariant.1,
-)
+invariant_of-self-2 g c =
+    let h = c.self.inside.peer.history in (
+      c.pin_again-placed.ensures.ranked h c.self.invariant.0,
+      pinned h _ _ c.args.page c.pin_again-placed.result c.self.inside.warm_up c.passed_at_pin-self-inside.result c.passed_at_pin-self-inside.ensures
+          (c.pin_again-placed.ensures.pinned h) c.pin_again-placed.ensures.evicted c.self.invariant.1,
+    )

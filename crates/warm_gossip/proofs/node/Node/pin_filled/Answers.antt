@@ -6,7 +6,7 @@ use Rattle.warm_gossip.proofs.node.Node.pin_filled.Goals as goal
 pub invariant_of-self-2 : goal.invariant_of-self-2
 invariant_of-self-2 g c = (
   rw c.history.ensures at c.pin_filled.ensures.ranked,
-  filled c.self.inside.history.history _ _ c.args.page c.in_ok-filled.filled c.self.inside.warm_up c.passed_at_fill-self-inside.result
+  filled c.self.inside.peer.history _ _ c.args.page c.in_ok-filled.filled c.self.inside.warm_up c.passed_at_fill-self-inside.result
       (subst IsHistory c.history-2.ensures c.prove_is_history.ensures) (rw c.history-history.ensures at c.passed_at_fill-self-inside.ensures)
       (rw c.history.ensures at c.in_ok-filled.ensures.pinned) c.in_ok-filled.ensures.evicted c.self.invariant.1,
 )

@@ -4,7 +4,7 @@ use Rattle.std.proofs.lemmas.Result.{err_from_is_err_and}
 use Rattle.warm_history.specs.ReferenceSets.{with_horizon}
 use Rattle.warm_history.specs.Histories.{history, references_of}
 use Rattle.warm_frames.specs.Limits.{horizon_in}
-use Rattle.warm_gossip.specs.Answers.{IsAnswer}
+use Rattle.warm_peer.specs.Answers.{IsAnswer}
 use Rattle.warm_gossip.specs.State.{NodeView}
 use Rattle.warm_world.specs.declared.event.Event.TheVariants.{Deliver}
 use Rattle.warm_world.specs.Views.{ReplicaView, replica_view}

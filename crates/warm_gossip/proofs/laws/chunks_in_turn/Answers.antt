@@ -1,5 +1,0 @@
-use Rattle.warm_gossip.proofs.ChunkLemmas.{chunks_in_turn}
-use Rattle.warm_gossip.proofs.laws.chunks_in_turn.Goals as goal
-
-pub returns : goal.returns
-returns c = chunks_in_turn

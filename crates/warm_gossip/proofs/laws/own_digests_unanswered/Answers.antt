@@ -1,5 +1,0 @@
-use Rattle.warm_gossip.proofs.RoundLemmas.{own_digests_unanswered}
-use Rattle.warm_gossip.proofs.laws.own_digests_unanswered.Goals as goal
-
-pub returns : goal.returns
-returns c = own_digests_unanswered

@@ -1,0 +1,5 @@
+pub mod State
+pub mod Answers
+pub mod Since
+pub mod Chunks
+pub mod Round

@@ -1,0 +1,87 @@
+//! How entries are taken in, each by the shard of its page.
+ghost use Rattle.std.specs.Prelude.{◌≡◌, ◌<◌, ◌≤◌, length, IfErr, OnOk};
+ghost use Rattle.std.specs.List.{AllByRecursion};
+ghost use Rattle.warm_history.specs.Histories.{history_of_entries_at, references_of};
+ghost use Rattle.warm_gossip.specs.declared.fault.NodeFault.TheVariants.{Memory};
+ghost use Rattle.warm_shards.specs.Clauses.{JoinsAll, KeepPools, TakesInFirst};
+ghost use Rattle.warm_shards.specs.Shards.{AreShards, shard_at, shard_of};
+
+use crate::parts::{has_part, part_of_entries};
+use crate::splitting::only_shard;
+use std::alloc::Global;
+use warm_devices::PageDevice;
+use warm_gossip::{Node, NodeFault};
+use warm_history::Entry;
+
+// The node of a shard takes in entries of its pages. All shards have the horizon.
+fn join_alone<D: PageDevice>(
+    nodes: &mut Vec<Node<D>>,
+    shard: usize,
+    horizon: u64,
+    entries: &[Entry],
+) -> Result<(), NodeFault>
+    requires shards { AreShards nodes.old.items }
+    requires there { shard < length nodes.old.items }
+    requires own { AllByRecursion (λ e. shard_of (length nodes.old.items) e.page ≡ shard)
+        entries.now }
+    requires raised { horizon ≤ (shard_at nodes.old.items 0).history.horizon }
+    ensures shards { AreShards nodes.new.items }
+    ensures joined { OnOk result (JoinsAll nodes.old.items
+        (history_of_entries_at horizon entries.now) nodes.new.items) }
+    ensures refused { IfErr result (λ why. (why ≡ Memory) × TakesInFirst nodes.old.items
+        (references_of (history_of_entries_at horizon entries.now)) nodes.new.items) }
+    ensures pools { KeepPools nodes.old.items nodes.new.items }
+{
+    nodes[shard].join_entries(horizon, entries)
+}
+
+// Each node takes in the entries of its pages, shard by shard up to the first that refuses them. All
+// shards have the horizon.
+fn join_each<D: PageDevice>(
+    alloc: Global,
+    nodes: &mut Vec<Node<D>>,
+    horizon: u64,
+    entries: &[Entry],
+) -> Result<(), NodeFault>
+    requires shards { AreShards nodes.old.items }
+    requires raised { horizon ≤ (shard_at nodes.old.items 0).history.horizon }
+    ensures shards { AreShards nodes.new.items }
+    ensures joined { OnOk result (JoinsAll nodes.old.items
+        (history_of_entries_at horizon entries.now) nodes.new.items) }
+    ensures refused { IfErr result (λ why. (why ≡ Memory) × TakesInFirst nodes.old.items
+        (references_of (history_of_entries_at horizon entries.now)) nodes.new.items) }
+    ensures pools { KeepPools nodes.old.items nodes.new.items }
+{
+    let count = nodes.len();
+    for shard in 0..count {
+        if !has_part(entries, count, shard) {
+            continue;
+        }
+        let part = part_of_entries(alloc, entries, count, shard)?;
+        nodes[shard].join_entries(horizon, &part)?;
+    }
+    Ok(())
+}
+
+/// Each node takes in the entries of its pages. All shards have the horizon. The entries are copied
+/// only where they are of pages of several shards.
+pub(crate) fn join_parts<D: PageDevice>(
+    alloc: Global,
+    nodes: &mut Vec<Node<D>>,
+    horizon: u64,
+    entries: &[Entry],
+) -> Result<(), NodeFault>
+    requires shards { AreShards nodes.old.items }
+    requires raised { horizon ≤ (shard_at nodes.old.items 0).history.horizon }
+    ensures shards { AreShards nodes.new.items }
+    ensures joined { OnOk result (JoinsAll nodes.old.items
+        (history_of_entries_at horizon entries.now) nodes.new.items) }
+    ensures refused { IfErr result (λ why. (why ≡ Memory) × TakesInFirst nodes.old.items
+        (references_of (history_of_entries_at horizon entries.now)) nodes.new.items) }
+    ensures pools { KeepPools nodes.old.items nodes.new.items }
+{
+    if let Some(shard) = only_shard(entries, nodes.len()) {
+        return join_alone(nodes, shard, horizon, entries);
+    }
+    join_each(alloc, nodes, horizon, entries)
+}
