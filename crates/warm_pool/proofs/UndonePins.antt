@@ -88,10 +88,10 @@ module _ {s : PoolState} (pool : IsPool s) (p : PageId) (slot : Slot) (can : Can
   -- the unpin
   pub undone : view_of s ≡ unpinned (view_of (pinned_once s slot.index)) slot
   undone = sym (
-    ap (λ (v : PoolView). unpinned v slot) seen
-    ∙ ap (λ (f : FrameView). let g : FrameView = record f { fixes = f.fixes - 1 } in let v : PoolView = record (view_of s) { frames = set (set (view_of s).frames slot.index after) slot.index g } in v)
-    (get_or-set_same (view_of s).frames slot.index after no_frame there)
-    ∙ ap (λ (frames : List FrameView). let v : PoolView = record (view_of s) { frames = frames } in v) same_frames)
+      ap (λ (v : PoolView). unpinned v slot) seen
+      ∙ ap (λ (f : FrameView). let g : FrameView = record f { fixes = f.fixes - 1 } in let v : PoolView = record (view_of s) { frames = set (set (view_of s).frames slot.index after) slot.index g } in v)
+      (get_or-set_same (view_of s).frames slot.index after no_frame there)
+      ∙ ap (λ (frames : List FrameView). let v : PoolView = record (view_of s) { frames = frames } in v) same_frames)
 
   pub kept_again : KeepsBytes (pinned_once s slot.index) s
   kept_again = record { devices = refl; bytes = λ i. sym (kept.bytes i); dirty = λ i. sym (kept.dirty i) }

@@ -17,8 +17,8 @@ loop-bucket-preserved g c =
     let bucket = c.in-Some.bucket in
     let is : bucket % count ≡ k = ap (λ (x : ℕ). x % count) (sym (c.from.ensures ∙ c.get.ensures.value)) in
     let own = c.in_ok-part.ensures
-        ∙ ap (λ (p : PeerState). bucket_messages p.id p.history bucket) c.peer.ensures
-        ∙ messages_at ns count k bucket c.index.result.now c.index.result.now c.requires c.loop-bucket.invariant.count lt is c.index.ensures in
+    ∙ ap (λ (p : PeerState). bucket_messages p.id p.history bucket) c.peer.ensures
+    ∙ messages_at ns count k bucket c.index.result.now c.index.result.now c.requires c.loop-bucket.invariant.count lt is c.index.ensures in
     record {
       rest = append_assoc so_far (bucket ∷ []) c.next.new.self ∙ (ap (λ r. so_far ++ r) (sym c.in-Some.ensures.steps) ∙ c.loop-bucket.invariant.rest);
       so_far = rw (c.in_ok-append.ensures.items, c.loop-bucket.invariant.so_far, own) (one_bucket_more (shard_at ns 0).id (whole ns) so_far bucket);
