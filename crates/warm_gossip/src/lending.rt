@@ -50,6 +50,7 @@ impl<D: PageDevice> Node<D> {
         self.pool.prove_is_pool();
         self.pool.bytes_mut(slot)
     }
+
     /// Looks a resident page up, for [`warm_pool::Pool::resident_bytes`] of [`Node::pool`]: the
     /// slot that a pin of the page would give. Nothing that a caller sees changes. Allocation-free.
     ///
@@ -62,6 +63,7 @@ impl<D: PageDevice> Node<D> {
     {
         self.pool.look_up(page)
     }
+
     /// All bytes of a resident page, pinned or not, in the slot that [`Node::look_up`] gave, to be
     /// written to, as [`Node::bytes_mut`] lends those of a pinned page.
     pub fn resident_bytes_mut(&mut self, page: PageId, slot: Slot) -> &mut [u8]

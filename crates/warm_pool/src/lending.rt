@@ -26,6 +26,7 @@ impl<D: PageDevice> Pool<D> {
     {
         self.frames.bytes_mut(slot.index as usize)
     }
+
     /// Looks a page up, for [`Pool::resident_bytes`]: the slot that a pin of the page would give.
     /// `None` where the page isn't resident, or has as many pins as can be counted. It counts as a
     /// hit, as that pin would.
@@ -50,6 +51,7 @@ impl<D: PageDevice> Pool<D> {
     {
         self.frames.bytes(slot.index as usize)
     }
+
     /// All bytes of a resident page, pinned or not, in the slot that [`Pool::look_up`] gave, to be
     /// written to, as [`Pool::bytes_mut`] lends those of a pinned page.
     pub fn resident_bytes_mut(&mut self, _page: PageId, slot: Slot) -> &mut [u8]
