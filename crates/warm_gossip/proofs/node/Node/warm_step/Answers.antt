@@ -1,12 +1,14 @@
-use Rattle.std.proofs.Common.{◌≡◌, ◌<◌, [], length, map, refl, sym, subst, ◌∙◌, arith}
+use Rattle.std.proofs.Common.{◌≡◌, ◌<◌, [], length, map, Some, refl, sym, ap, subst, arith}
 use Rattle.std.proofs.lemmas.Result.{err_from_is_err_and}
 use Rattle.warm_history.specs.Histories.{HistoryView, IsHistory}
 use Rattle.warm_pool.specs.View.{view_of}
 use Rattle.warm_pool.specs.Pinning.{PutsIn}
 use Rattle.warm_rank.specs.Keys.{ranked_page}
 use Rattle.warm_gossip.specs.Step.{IsLoadable, nth_page}
-use Rattle.warm_gossip.specs.WarmingUp.{IsListed, PassedAtLoad}
+use Rattle.warm_gossip.specs.declared.warm_step.WarmUp.{WarmUp}
+use Rattle.warm_gossip.specs.WarmingUp.{IsListed, IsWarming, PassedAtLoad}
 use Rattle.warm_gossip.proofs.Passed.{listed_at, loaded}
+use Rattle.warm_gossip.proofs.WarmUpKept.{warms_on}
 use Rattle.warm_gossip.proofs.Warmings.{loaded_in, load_refused_in, none_to_load, page_to_load}
 use Rattle.warm_gossip.proofs.node.Node.warm_step.Goals as goal
 
@@ -84,4 +86,27 @@ invariant_of-self-then-at-len g c =
     let listed = subst (λ (x : HistoryView). IsListed x v [] keys c.take_list.new.warm_up.passed) c.history-history.ensures c.in_ok-list.ensures.listed in (
       c.self.invariant.0,
       listed_at c.self.inside.peer.history v _ keys _ c.first_loadable-at.result listed c.in_ok-list.ensures.current c.first_loadable-at.ensures.past,
+    )
+
+-- no list was to be had
+pub invariant_of-self : goal.invariant_of-self
+invariant_of-self g c = (
+  c.self.invariant.0,
+  subst (λ (x : HistoryView). IsWarming x (view_of c.self.inside.pool) c.take_list.new.warm_up) c.history-history.ensures c.in_err-list.ensures.kept,
+)
+
+-- the load is refused, and the passed pages stay passed
+pub invariant_of-self-in_err-placed : goal.invariant_of-self-in_err-placed
+invariant_of-self-in_err-placed g c =
+    let h = c.self.inside.peer.history in
+    let v = view_of c.self.inside.pool in
+    let w = view_of c.load_placed.new.self in
+    let at = c.first_loadable-at.result in
+    let keys = c.in_ok-list.list in
+    let x : WarmUp = record { list = Some keys; changed = c.take_list.new.warm_up.changed; passed = at } in
+    let stays = c.in_err-placed.ensures.stays in
+    let listed = subst (λ (y : HistoryView). IsListed y v [] keys c.take_list.new.warm_up.passed) c.history-history.ensures c.in_ok-list.ensures.listed in
+    let under = listed_at h v _ keys _ at listed c.in_ok-list.ensures.current c.first_loadable-at.ensures.past in (
+      rw c.history.ensures at c.load_placed.ensures.ranked,
+      warms_on h v w x (ap (λ y. y.devices) stays) (ap (λ y. y.frames) stays) under,
     )
