@@ -15,7 +15,10 @@ pub mod Loads
 pub mod OnePage
 pub mod OnePin
 pub mod Opens
+pub mod OutcomeLemmas
+pub mod OutcomeClauses
 pub mod Pins
+pub mod PinOutcomes
 pub mod PinsAdded
 pub mod OtherDevices
 pub mod PlacedLemmas

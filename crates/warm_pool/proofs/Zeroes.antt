@@ -22,7 +22,7 @@ use Rattle.warm_pool.specs.steps.WritingBack.{Cleans}
 use Rattle.warm_pool.specs.Calls.{FlushesNone}
 use Rattle.warm_pool.specs.PageBytes.{Written}
 use Rattle.warm_pool.specs.Pinning.{AddsFix, IsFrameToLoad, LoadRefused, PinRefused}
-use Rattle.warm_pool.specs.steps.Pinning.{LoadFails, FixRefused, current_slot}
+use Rattle.warm_pool.specs.steps.Pinning.{FetchFails, FixRefused, current_slot}
 use Rattle.warm_pool.specs.Lending.{relent, relent_pool}
 use Rattle.warm_pool.specs.Laws.{IsWrittenWhole}
 use Rattle.warm_pool.specs.Zeroing.{KeepsContentsBut, PutsZeros, TakesZeroed, ZeroedRefused, LeavesUnread}
@@ -266,8 +266,8 @@ zeroed_holds h old p slot new x =
 
 -- the write of the page that was in the frame failed
 pub zero_failed : (s t : PoolState) (i : ℕ) (p : PageId) (why : PoolFault) → ZeroFails s i why t
-    → LoadFails s s.devices i p why t
-zero_failed s t i p why x = subst (λ y. LoadFails s s.devices i p y t) (sym x.0) x.1
+    → FetchFails s s.devices i p why t
+zero_failed s t i p why x = subst (λ y. FetchFails s s.devices i p y t) (sym x.0) x.1
 
 pub zero_leaves : (h : HistoryView) (s t : PoolState) (i : ℕ) → IsFrameToLoad h (view_of s) (Some i)
     → FlushesNone s.devices t.devices → (why : PoolFault) → ZeroFails s i why t
