@@ -26,7 +26,7 @@ returns-in_err-placed-clause-step g c =
     rw (given.1, given.2, ← c.self.view_is) (
       c.page-page.result,
       page.0,
-      (refl, load_refused_in _ _ c.in_err-placed.field-0.0 page.1 (rw c.history.ensures at c.in_err-placed.ensures.refused)),
+      (refl, load_refused_in _ _ c.in_err-placed.field-0.0 page.1 (rw c.history.ensures at c.in_err-placed.ensures.refused.cause)),
     )
 
 pub returns-in_err-placed-clause-devices : goal.returns-in_err-placed-clause-devices
@@ -39,7 +39,7 @@ returns-in_err-placed-clause-devices g c =
     rw (given.1, given.2, ← c.self.view_is) (
       c.page-page.result,
       page.0,
-      (c.in_err-placed.ensures.frames, rw c.history.ensures at c.in_err-placed.ensures.devices),
+      (c.in_err-placed.ensures.refused.frames, rw c.history.ensures at c.in_err-placed.ensures.refused.devices),
     )
 
 pub returns-clause-step : goal.returns-clause-step
@@ -50,11 +50,11 @@ returns-clause-step g c =
     let page = page_to_load (view_of c.self.inside.pool) h _ c.in_ok-list.list c.first_loadable-at.result _ c.page-page.result whole c.history-history.ensures c.in_ok-list.ensures.listed c.first_loadable-at.ensures.past c.first_loadable-at.ensures.there there c.page-page.ensures in
     rw (← c.self.view_is) (
       page.0,
-      (refl, (_, loaded_in page.1 (rw c.history.ensures at c.in_ok-placed.ensures.loaded))),
+      (refl, (_, loaded_in page.1 (rw c.history.ensures at c.in_ok-placed.ensures.done.load.loaded))),
     )
 
 pub returns-clause-devices : goal.returns-clause-devices
-returns-clause-devices g c = rw (← c.self.view_is) (c.in_ok-placed.placed.slot, c.in_ok-placed.ensures.frame)
+returns-clause-devices g c = rw (← c.self.view_is) (c.in_ok-placed.placed.slot, c.in_ok-placed.ensures.done.load.frame)
 
 pub invariant_of-self-2 : goal.invariant_of-self-2
 invariant_of-self-2 g c =
@@ -68,12 +68,12 @@ invariant_of-self-2 g c =
     let whole = subst IsHistory c.history-history.ensures c.prove_is_history.ensures in
     let listed = subst (λ (x : HistoryView). IsListed x v [] keys c.take_list.new.warm_up.passed) c.history-history.ensures c.in_ok-list.ensures.listed in
     let loadable = c.first_loadable-at.ensures.there there in
-    let puts = subst (λ p. PutsIn h v p 0 c.in_ok-placed.placed.slot w) (sym page_is) (loaded_in (subst (IsLoadable v) page_is loadable) (rw c.history.ensures at c.in_ok-placed.ensures.loaded)) in
+    let puts = subst (λ p. PutsIn h v p 0 c.in_ok-placed.placed.slot w) (sym page_is) (loaded_in (subst (IsLoadable v) page_is loadable) (rw c.history.ensures at c.in_ok-placed.ensures.done.load.loaded)) in
     let moves = subst (λ p. PassedAtLoad h p c.in_ok-placed.placed.evicted at c.passed_at_load-self-inside.result) (sym page_is) (rw c.history-2.ensures at c.passed_at_load-self-inside.ensures) in
     let under = listed_at h v [] keys _ at listed refl c.first_loadable-at.ensures.past in (
       rw c.history.ensures at c.load_placed.ensures.ranked,
       rw c.in_ok-list.ensures.current (loaded h v w keys c.in_ok-placed.placed.slot c.in_ok-placed.placed.evicted at c.passed_at_load-self-inside.result whole there under puts
-          (c.in_ok-placed.ensures.evicted.absent (subst (IsLoadable v) page_is loadable).1) moves),
+          (c.in_ok-placed.ensures.done.evicted.absent (subst (IsLoadable v) page_is loadable).1) moves),
     )
 
 -- no page of the list could be loaded

@@ -6,10 +6,10 @@ use Rattle.warm_gossip.proofs.node.Node.write_back.Goals as goal
 pub returns-in_err-write_back_all-clause-refused : goal.returns-in_err-write_back_all-clause-refused
 returns-in_err-write_back_all-clause-refused g c =
     let given = err_from_is_err_and c.from_residual.result c.from_residual.ensures.1 in
-    let refused = c.in_err-write_back_all.ensures.refused in
+    let refused = c.in_err-write_back_all.ensures.refused.cause in
     rw (given.1, ← c.self.view_is) (given.2 ∙ ap Pool refused.0, (refl, (refused.1.device, refused.1.fails)))
 
 pub returns-in_err-write_back_all-clause-stopped : goal.returns-in_err-write_back_all-clause-stopped
 returns-in_err-write_back_all-clause-stopped g c =
     let given = err_from_is_err_and c.from_residual.result c.from_residual.ensures.1 in
-    rw (given.1, ← c.self.view_is) c.in_err-write_back_all.ensures.refused.1
+    rw (given.1, ← c.self.view_is) c.in_err-write_back_all.ensures.refused.cause.1
