@@ -128,23 +128,6 @@ put_stays h old p new ReadFault x = stays_by old new _ x.1.becomes
 put_stays h old p new WriteBack x = stays_by old new _ x.4.becomes
 put_stays h old p new why x = absurd x
 
--- the outcome of a pin, from that of its last step
-module _ (s t : PoolState) (h : HistoryView) (p : PageId) (has : HasPage (view_of s) p) where
-  pub load_put_refused : {T : Type 0} → IsNowhere s.frames p → (r : Result T PoolFault)
-      → IfErr r (λ why. PutRefused h (view_of s) p why (view_of t))
-      → IfErr r (λ why. LoadRefused h (view_of s) p why (view_of t))
-  load_put_refused away r x = if_err _ _ r x (load_refused h (view_of s) p (view_of t) has (absent_seen s p away))
-
-  pub pin_put_refused : {T : Type 0} → IsNowhere s.frames p → (r : Result T PoolFault)
-      → IfErr r (λ why. PutRefused h (view_of s) p why (view_of t))
-      → IfErr r (λ why. PinRefused h (view_of s) p why (view_of t))
-  pin_put_refused away r x = if_err _ _ r (load_put_refused away r x) (pin_refused h (view_of s) p (view_of t))
-
-  pub stays_put : {T : Type 0} (r : Result T PoolFault)
-      → IfErr r (λ why. PutRefused h (view_of s) p why (view_of t))
-      → OnErr r (SameButFailures (view_of s) (view_of t))
-  stays_put r x = if_err _ _ r x (put_stays h (view_of s) p (view_of t))
-
 -- a page with the greatest pin count
 pub pin_full : (s t : PoolState) (h : HistoryView) (p : PageId) (i : ℕ) → HasPage (view_of s) p
     → i < length s.frames → (nth_frame s.frames i).page ≡ Some p

@@ -1,5 +1,5 @@
 -- A page is put into a frame without being read, with zeros.
-use Rattle.std.proofs.Common.{◌≡◌, ◌≢◌, ℕ, ◌+◌, ◌-◌, ◌^◌, ◌<◌, true, false, IsTrue, List, [], length, map, set, replicate, Some, None, Result, Ok, Err, IfErr, refl, sym, ◌∙◌, ap, subst, inl, inr, arith}
+use Rattle.std.proofs.Common.{◌≡◌, ◌≢◌, ℕ, ◌+◌, ◌-◌, ◌^◌, ◌<◌, true, false, IsTrue, List, [], length, map, set, replicate, Some, None, Result, IfErr, refl, sym, ◌∙◌, ap, subst, inl, inr, arith}
 use Rattle.std.specs.Option.{option_map}
 use Rattle.std.proofs.lemmas.Bool.{cases_eq}
 use Rattle.std.proofs.lemmas.Option.{same_Some}
@@ -286,12 +286,6 @@ pub full_leaves_unread : (h : HistoryView) (s t : PoolState) (i : ℕ) {T : Type
 full_leaves_unread h s t i r x = if_err _ _ r x (λ why full. subst (λ y. LeavesUnread h s y t) (sym full.0) (ap (λ u. u.devices) full.2))
 
 -- a refused pin reads no page
-pub unread : (h : HistoryView) (old : PoolView) (p : PageId) (new : PoolView) {T : Type 0}
-    (r : Result T PoolFault) → IfErr r (λ why. PinRefused h old p why new)
-    → IfErr r (λ why. why ≢ ReadFault) → IfErr r (λ why. ZeroedRefused h old p why new)
-unread h old p new (Ok x) refused isnt = tt
-unread h old p new (Err e) refused isnt = (refused, isnt)
-
 pub unknown_unread : (h : HistoryView) (s : PoolState) (p : PageId)
     → (HasPage (view_of s) p → ⊥) → (why : PoolFault)
     → PinRefused h (view_of s) p why (view_of s) → ZeroedRefused h (view_of s) p why (view_of s)
