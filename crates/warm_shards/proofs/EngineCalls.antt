@@ -14,15 +14,16 @@ use Rattle.warm_pool.specs.Retiring.{RetireRefused, Retired, emptied}
 use Rattle.warm_pool.specs.State.{PoolState}
 use Rattle.warm_pool.specs.View.{FrameView, PoolView, frame_at, frame_view, view_of}
 use Rattle.warm_pool.specs.WritingBack.{is_from, is_on}
-use Rattle.warm_pool.specs.WritingSome.{FlushRefused, PageFails, SomeFails}
+use Rattle.warm_pool.specs.WritingSome.{FlushRefused, SomeFails}
+use Rattle.warm_pool.specs.Outcomes.{FlushDeviceFails, RetireFails, RetiresDevice, SettlesDevice, UnreadPinFails, WritePageFails, WriteSomeFails, WritesPageBack, WritesSomeBack}
 use Rattle.warm_pool.specs.Zeroing.{PinnedZeroed, PutsZeros}
 use Rattle.warm_pool.proofs.Slots.{at_set}
 use Rattle.warm_gossip.specs.declared.fault.NodeFault.{NodeFault}
 use Rattle.warm_gossip.specs.declared.fault.NodeFault.TheVariants.{Memory, Pool, StaleSlot}
 use Rattle.warm_gossip.specs.Clauses.{OfPool, SameView}
-use Rattle.warm_gossip.specs.State.{NodeState, NodeView, node_view}
+use Rattle.warm_gossip.specs.State.{NodeState, node_view}
 use Rattle.warm_gossip.proofs.VictimLemmas.{fixes_change}
-use Rattle.warm_shards.specs.Clauses.{KeepsKnown}
+use Rattle.warm_gossip.specs.Engine.{AsksPool, KeepsKnown}
 use Rattle.warm_shards.proofs.Calls.{HasOnly, only_kept}
 use Rattle.warm_shards.proofs.PoolCalls.{OnlyPool}
 
@@ -34,16 +35,15 @@ pub known_pool : (n m : NodeState) → KeepsKnown n m
     → node_view m ≡ record (node_view n) { pool = view_of m.pool }
 known_pool n m known = λ i. record { id = known.id i; history = known.history i; pool = view_of m.pool }
 
+-- a caller sees the same
+pub same_view : (n m : NodeState) → KeepsKnown n m → view_of m.pool ≡ view_of n.pool → SameView n m
+same_view n m known same = λ i. record { id = known.id i; history = known.history i; pool = same i }
+
 -- the frames that a caller sees are unchanged
 pub same_own : (P : PageId → Type 0) (v w : PoolView) → w.frames ≡ v.frames → HasOnly P v
     → HasOnly P w
 same_own P v w same own =
     only_kept P v w (λ i. ap (λ fs. let f : FrameView = get_or fs i no_frame in f.page) same) own
-
-pub seen_own : (P : PageId → Type 0) (n m : NodeState) → SameView n m → HasOnly P (view_of n.pool)
-    → HasOnly P (view_of m.pool)
-seen_own P n m same own =
-    same_own P (view_of n.pool) (view_of m.pool) (ap (λ (v : NodeView). v.pool.frames) same) own
 
 -- ---- zeros
 
@@ -73,28 +73,48 @@ stays_own P n m own known stays = record {
   own = same_own P (view_of n.pool) (view_of m.pool) (ap (λ (x : PoolView). x.frames) stays) own;
 }
 
+pub zeroed_stays : (h : HistoryView) (p : PageId) (s t : PoolState) (why : NodeFault)
+    → OfPool (λ fault. UnreadPinFails h p s fault t) why → SameButFailures (view_of s) (view_of t)
+zeroed_stays h p s t (Pool fault) fails = fails.stays
+zeroed_stays h p s t Memory fails = absurd fails
+zeroed_stays h p s t StaleSlot fails = absurd fails
+
 -- ---- writing back
 
 pub some_own : (P : PageId → Type 0) (n m : NodeState) (limit : ℕ) (result : Result ℕ NodeFault)
-    → HasOnly P (view_of n.pool) → KeepsKnown n m → OnOk result (SameView n m)
-    → IfErr result (λ why. (why ≡ Pool Fault) × SomeFails limit n.pool m.pool) → OnlyPool P n m
-some_own P n m limit (Ok left) own known same refused =
-    record { alone = known_pool n m known; own = seen_own P n m same own }
-some_own P n m limit (Err why) own known same refused = record {
-  alone = known_pool n m known;
-  own = same_own P (view_of n.pool) (view_of m.pool) (ap (λ (x : PoolView). x.frames) refused.1.fails.becomes) own;
+    → HasOnly P (view_of n.pool) → AsksPool (WritesSomeBack limit) (WriteSomeFails limit) n result m
+    → OnlyPool P n m
+some_own P n m limit (Ok left) own asked = record {
+  alone = known_pool n m asked.known;
+  own = same_own P (view_of n.pool) (view_of m.pool) (ap (λ (x : PoolView). x.frames) asked.done.same) own;
 }
+some_own P n m limit (Err (Pool why)) own asked = record {
+  alone = known_pool n m asked.known;
+  own = same_own P (view_of n.pool) (view_of m.pool) (ap (λ (x : PoolView). x.frames) asked.refused.cause.1.fails.becomes) own;
+}
+some_own P n m limit (Err Memory) own asked = absurd asked.refused
+some_own P n m limit (Err StaleSlot) own asked = absurd asked.refused
+
+-- why it is refused
+pub some_refused : (limit : ℕ) (s t : PoolState) (why : NodeFault)
+    → OfPool (λ fault. WriteSomeFails limit s fault t) why → (why ≡ Pool Fault) × SomeFails limit s t
+some_refused limit s t (Pool why) fails = (ap Pool fails.cause.0, fails.cause.1)
+some_refused limit s t Memory fails = absurd fails
+some_refused limit s t StaleSlot fails = absurd fails
 
 pub page_own : (P : PageId → Type 0) (n m : NodeState) (page : PageId)
-    (result : Result Bool NodeFault) → HasOnly P (view_of n.pool) → KeepsKnown n m
-    → OnOk result (SameView n m)
-    → IfErr result (λ why. (why ≡ Pool Fault) × PageFails n.pool page m.pool) → OnlyPool P n m
-page_own P n m page (Ok was_dirty) own known same refused =
-    record { alone = known_pool n m known; own = seen_own P n m same own }
-page_own P n m page (Err why) own known same refused = record {
-  alone = known_pool n m known;
-  own = same_own P (view_of n.pool) (view_of m.pool) (ap (λ (x : PoolView). x.frames) refused.1.fails.becomes) own;
+    (result : Result Bool NodeFault) → HasOnly P (view_of n.pool)
+    → AsksPool (WritesPageBack page) (WritePageFails page) n result m → OnlyPool P n m
+page_own P n m page (Ok was_dirty) own asked = record {
+  alone = known_pool n m asked.known;
+  own = same_own P (view_of n.pool) (view_of m.pool) (ap (λ (x : PoolView). x.frames) asked.done.same) own;
 }
+page_own P n m page (Err (Pool why)) own asked = record {
+  alone = known_pool n m asked.known;
+  own = same_own P (view_of n.pool) (view_of m.pool) (ap (λ (x : PoolView). x.frames) asked.refused.cause.1.fails.becomes) own;
+}
+page_own P n m page (Err Memory) own asked = absurd asked.refused
+page_own P n m page (Err StaleSlot) own asked = absurd asked.refused
 
 flush_refused : (P : PageId → Type 0) (n m : NodeState) (dev : ℕ) (why : PoolFault)
     → HasOnly P (view_of n.pool) → FlushRefused n.pool dev why m.pool → HasOnly P (view_of m.pool)
@@ -102,15 +122,17 @@ flush_refused P n m dev NoDevice own refused = subst (λ (s : PoolState). HasOnl
 flush_refused P n m dev Fault own refused = same_own P (view_of n.pool) (view_of m.pool) (ap (λ (x : PoolView). x.frames) refused.1.becomes) own
 flush_refused P n m dev why own refused = absurd refused
 
-pub flushed_own : (P : PageId → Type 0) (n m : NodeState) (dev : ℕ) (result : Result Unit NodeFault)
-    → HasOnly P (view_of n.pool) → KeepsKnown n m → OnOk result (SameView n m)
-    → IfErr result (OfPool (λ fault. FlushRefused n.pool dev fault m.pool)) → OnlyPool P n m
-flushed_own P n m dev (Ok given) own known same refused =
-    record { alone = known_pool n m known; own = seen_own P n m same own }
-flushed_own P n m dev (Err (Pool why)) own known same refused =
-    record { alone = known_pool n m known; own = flush_refused P n m dev why own refused }
-flushed_own P n m dev (Err Memory) own known same refused = absurd refused
-flushed_own P n m dev (Err StaleSlot) own known same refused = absurd refused
+pub flushed_own : (P : PageId → Type 0) (n m : NodeState) (dev : ℕ)
+    (result : Result (Unit {0}) NodeFault) → HasOnly P (view_of n.pool)
+    → AsksPool (λ s _. SettlesDevice dev s) (FlushDeviceFails dev) n result m → OnlyPool P n m
+flushed_own P n m dev (Ok given) own asked = record {
+  alone = known_pool n m asked.known;
+  own = same_own P (view_of n.pool) (view_of m.pool) (ap (λ (x : PoolView). x.frames) asked.done.same) own;
+}
+flushed_own P n m dev (Err (Pool why)) own asked =
+    record { alone = known_pool n m asked.known; own = flush_refused P n m dev why own asked.refused.cause }
+flushed_own P n m dev (Err Memory) own asked = absurd asked.refused
+flushed_own P n m dev (Err StaleSlot) own asked = absurd asked.refused
 
 -- ---- pages that leave
 
@@ -145,13 +167,12 @@ retire_refused P v w dev device why own refused = absurd refused
 pub retired_own : {T E : Type 0} (P : PageId → Type 0) (n m : NodeState) (dev : ℕ)
     (device : DeviceState) (fault : E → PoolFault) (result : Result T E)
     → HasOnly P (view_of n.pool) → KeepsKnown n m
-    → OnOk result (Retired (view_of n.pool) dev device (view_of m.pool))
-    → IfErr result (λ e. RetireRefused (view_of n.pool) dev device (fault e) (view_of m.pool))
-    → OnlyPool P n m
-retired_own P n m dev device fault (Ok given) own known retired refused =
-    record { alone = known_pool n m known; own = retire_own P (view_of n.pool) (view_of m.pool) dev device retired own }
-retired_own P n m dev device fault (Err e) own known retired refused =
-    record { alone = known_pool n m known; own = retire_refused P (view_of n.pool) (view_of m.pool) dev device (fault e) own refused }
+    → OnOk result (RetiresDevice dev device n.pool m.pool)
+    → IfErr result (λ e. RetireFails dev device n.pool (fault e) m.pool) → OnlyPool P n m
+retired_own P n m dev device fault (Ok given) own known done refused =
+    record { alone = known_pool n m known; own = retire_own P (view_of n.pool) (view_of m.pool) dev device done.retired own }
+retired_own P n m dev device fault (Err e) own known done refused =
+    record { alone = known_pool n m known; own = retire_refused P (view_of n.pool) (view_of m.pool) dev device (fault e) own refused.cause }
 
 vacated_page : (gone : Bool) (f : FrameState) (p : PageId)
     → (frame_view (if gone then vacated f else f)).page ≡ Some p → (frame_view f).page ≡ Some p

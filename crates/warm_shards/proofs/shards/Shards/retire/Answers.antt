@@ -11,4 +11,4 @@ invariant_of-self g c =
     let i = c.args.shard in
     let lt : i < length ns = subst (λ (xs : List NodeState). i < length xs) (sym c.self.view_is) c.requires.there in
     after_call ns i c.index_mut.result.now c.retire.new.self c.index_mut.result.now c.self.invariant lt c.index_mut.ensures.value (λ old.
-    retired_own (λ p. shard_of (length ns) p ≡ i) c.index_mut.result.now c.retire.new.self c.args.dev (g.D.PageDevice.state c.args.device) (λ e. e.fault) c.retire.result old.own.resident (record { id = c.retire.ensures.id; history = c.retire.ensures.history }) c.retire.ensures.retired c.retire.ensures.refused)
+    retired_own (λ p. shard_of (length ns) p ≡ i) c.index_mut.result.now c.retire.new.self c.args.dev (g.D.PageDevice.state c.args.device) (λ e. e.fault) c.retire.result old.own.resident (record { id = c.retire.ensures.id; history = c.retire.ensures.history }) c.retire.ensures.done c.retire.ensures.refused)
