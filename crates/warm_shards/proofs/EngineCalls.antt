@@ -9,14 +9,14 @@ use Rattle.warm_pool.specs.declared.fault.PoolFault.TheVariants.{SizeDiffers, No
 use Rattle.warm_pool.specs.declared.slot.Slot.{Slot}
 use Rattle.warm_pool.specs.Forgetting.{Forgets}
 use Rattle.warm_pool.specs.Frames.{FrameState, vacated}
-use Rattle.warm_pool.specs.Keeping.{SameButFailures}
+use Rattle.warm_pool.specs.Keeping.{KeepsFrames, SameButFailures}
 use Rattle.warm_pool.specs.Retiring.{RetireRefused, Retired, emptied}
 use Rattle.warm_pool.specs.State.{PoolState}
 use Rattle.warm_pool.specs.View.{FrameView, PoolView, frame_at, frame_view, view_of}
 use Rattle.warm_pool.specs.WritingBack.{is_from, is_on}
 use Rattle.warm_pool.specs.WritingSome.{FlushRefused, SomeFails}
 use Rattle.warm_pool.specs.Outcomes.{FlushDeviceFails, RetireFails, RetiresDevice, SettlesDevice, UnreadPinFails, WritePageFails, WriteSomeFails, WritesPageBack, WritesSomeBack}
-use Rattle.warm_pool.specs.Zeroing.{PinnedZeroed, PutsZeros}
+use Rattle.warm_pool.specs.Zeroing.{LeavesUnread, PinnedZeroed, PutsZeros, ZeroedRefused}
 use Rattle.warm_pool.proofs.Slots.{at_set}
 use Rattle.warm_gossip.specs.declared.fault.NodeFault.{NodeFault}
 use Rattle.warm_gossip.specs.declared.fault.NodeFault.TheVariants.{Memory, Pool, StaleSlot}
@@ -78,6 +78,15 @@ pub zeroed_stays : (h : HistoryView) (p : PageId) (s t : PoolState) (why : NodeF
 zeroed_stays h p s t (Pool fault) fails = fails.stays
 zeroed_stays h p s t Memory fails = absurd fails
 zeroed_stays h p s t StaleSlot fails = absurd fails
+
+-- what it leaves, for each reason
+pub zeroed_refused : (h : HistoryView) (p : PageId) (s t : PoolState) (why : NodeFault)
+    → OfPool (λ fault. UnreadPinFails h p s fault t) why → KeepsFrames s t
+    × OfPool (λ fault. ZeroedRefused h (view_of s) p fault (view_of t)) why
+    × OfPool (λ fault. LeavesUnread h s fault t) why
+zeroed_refused h p s t (Pool fault) fails = (fails.frames, fails.cause, fails.devices)
+zeroed_refused h p s t Memory fails = absurd fails
+zeroed_refused h p s t StaleSlot fails = absurd fails
 
 -- ---- writing back
 
