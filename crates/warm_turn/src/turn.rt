@@ -7,13 +7,14 @@ ghost use Rattle.warm_turn.specs.CallHistories.{IsPass, IsStep, IsLast, Called, 
 ghost use Rattle.warm_turn.specs.CallHistories.{MadeVisit, halved};
 ghost use Rattle.warm_turn.specs.Shares.{IsWhole};
 ghost use Rattle.warm_turn.specs.Rule.{IsTicketTable, AreWords, MarkShows};
-ghost use Rattle.warm_turn.specs.Steps.{IsMade, Served, HasPassedOn};
+ghost use Rattle.warm_turn.specs.Steps.{HasTicket, IsMade, Served, HasPassedOn};
+ghost use Rattle.warm_turn.specs.declared.table.View.{View};
 
 use crate::fault::{Busy, Memory, TurnsSpent};
 use crate::plays::{Become, CatchUp, Come, End, GiveNote, GivePass, Learn, PassOn};
 use crate::table::{BoxedMachine, CellContents, MachineCell, SharedTable, TicketTable, TurnSeat};
 use crate::visit::{Calling, Visit, Visited};
-use crate::waiting::{take_ticket, wait_turn};
+use crate::waiting::{Tried, is_served, poll_for_ticket, poll_for_turn, try_ticket};
 use atomic_table::{Refused, Table};
 use std::alloc::{AllocFailed, Global};
 use std::marker::Model;
@@ -94,6 +95,7 @@ impl<M: Machine> Model for Note<M> {
 }
 
 // Lets the visitor have the machine in the slot.
+#[inline(always)]
 fn serve<M: Machine, V: Visit<M>>(
     shared: &SharedTable<M>,
     seat: &mut TurnSeat<M>,
@@ -132,6 +134,57 @@ fn pass_on<M: Machine>(shared: &SharedTable<M>, seat: &mut TurnSeat<M>)
     shared.fetch_add::<PassOn>(seat, 1, 1);
 }
 
+// Waits until the ticket is served, lets the visitor have the machine and passes the turn on.
+#[inline(never)]
+fn visit_later<M: Machine, R: Wait, V: Visit<M>>(
+    rt: &R,
+    shared: &SharedTable<M>,
+    seat: &mut TurnSeat<M>,
+    ticket: u64,
+    visitor: V,
+) -> V::Output
+    ghost was: { View M.State M.Call M.Reply }
+    requires table { (seat.old.table_id ≡ shared.now.table_id) × IsTicketTable shared.now.table_id }
+    requires idle { IsPass M.goes was }
+    requires took { HasTicket (was, []) ticket seat.old.me }
+    requires ready { V.ready visitor }
+    ensures table { (seat.new.table_id ≡ seat.old.table_id) × (seat.new.id ≡ seat.old.id)
+        × (seat.new.me.1 ≡ []) }
+    ensures pass { IsPass M.goes seat.new.me.0 }
+    ensures ok { MadeVisit M.goes (V.makes visitor result) was seat.new.me.0 }
+{
+    poll_for_turn(rt, shared, seat, ticket);
+    let output = serve(shared, seat, visitor);
+    pass_on(shared, seat);
+    output
+}
+
+// Takes a ticket that is not served at once, and visits the machine when it is.
+#[inline(never)]
+fn wait_and_visit<M: Machine, R: Wait, V: Visit<M>>(
+    rt: &R,
+    shared: &SharedTable<M>,
+    seat: &mut TurnSeat<M>,
+    visitor: V,
+) -> Result<V::Output, TurnsSpent<V>>
+    requires table { (seat.old.table_id ≡ shared.now.table_id) × IsTicketTable shared.now.table_id }
+    requires idle { (seat.old.me.1 ≡ []) × IsPass M.goes seat.old.me.0 }
+    requires ready { V.ready visitor }
+    ensures table { (seat.new.table_id ≡ seat.old.table_id) × (seat.new.id ≡ seat.old.id)
+        × (seat.new.me.1 ≡ []) }
+    ensures pass { IsPass M.goes seat.new.me.0 }
+    ensures ok { IfOk result (λ output. MadeVisit M.goes (V.makes visitor output) seat.old.me.0
+        seat.new.me.0) }
+    ensures err { IfErr result (λ e. (e.call ≡ visitor)
+        × (seat.new.me.0 ≡ marked seat.old.me.0)) }
+{
+    let Some(ticket) = poll_for_ticket(rt, shared, seat) else {
+        return Err(TurnsSpent { call: visitor });
+    };
+    let output = visit_later(rt, shared, seat, ticket, visitor);
+    Ok(output)
+}
+
 // Takes a ticket, waits for its turn, lets the visitor have the machine and passes the turn on.
 fn make_visit<M: Machine, R: Wait, V: Visit<M>>(
     rt: &R,
@@ -150,13 +203,19 @@ fn make_visit<M: Machine, R: Wait, V: Visit<M>>(
     ensures err { IfErr result (λ e. (e.call ≡ visitor)
         × (seat.new.me.0 ≡ marked seat.old.me.0)) }
 {
-    let Some(ticket) = take_ticket(rt, shared, seat) else {
-        return Err(TurnsSpent { call: visitor });
-    };
-    wait_turn(rt, shared, seat, ticket);
-    let output = serve(shared, seat, visitor);
-    pass_on(shared, seat);
-    Ok(output)
+    match try_ticket(shared, seat) {
+        Tried::Taken(ticket) => {
+            if !is_served(shared, seat, ticket) {
+                let output = visit_later(rt, shared, seat, ticket, visitor);
+                return Ok(output);
+            }
+            let output = serve(shared, seat, visitor);
+            pass_on(shared, seat);
+            Ok(output)
+        }
+        Tried::Last => Err(TurnsSpent { call: visitor }),
+        Tried::Contended => wait_and_visit(rt, shared, seat, visitor),
+    }
 }
 
 // The machine in the contents of the slot.
