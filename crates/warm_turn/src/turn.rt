@@ -1,14 +1,13 @@
 //! The turn, its passes and notes.
 ghost use Rattle.std.specs.Prelude.{◌≡◌, ◌≢◌, ℕ, ◌<◌, [], ◌∷◌, Some};
-ghost use Rattle.std.specs.Prelude.{IfOk, IfErr, IsOk, OnOk};
+ghost use Rattle.std.specs.Prelude.{true, false, IfOk, IfErr, IsOk, OnOk};
 ghost use Rattle.warm_turn.specs.declared.table.CellContents.{CellContents};
 ghost use Rattle.warm_turn.specs.CallHistories.{calls_by, first_pass, new_pass, pass_note, marked};
 ghost use Rattle.warm_turn.specs.CallHistories.{IsPass, IsStep, IsLast, Called, Learned, Joined};
 ghost use Rattle.warm_turn.specs.CallHistories.{MadeVisit, halved};
 ghost use Rattle.warm_turn.specs.Shares.{IsWhole};
 ghost use Rattle.warm_turn.specs.Rule.{IsTicketTable, AreWords, MarkShows};
-ghost use Rattle.warm_turn.specs.Steps.{HasTicket, IsMade, Served, HasPassedOn};
-ghost use Rattle.warm_turn.specs.declared.table.View.{View};
+ghost use Rattle.warm_turn.specs.Steps.{IsMade, Served, HasPassedOn, before_ticket};
 
 use crate::fault::{Busy, Memory, TurnsSpent};
 use crate::plays::{Become, CatchUp, Come, End, GiveNote, GivePass, Learn, PassOn};
@@ -143,15 +142,17 @@ fn visit_later<M: Machine, R: Wait, V: Visit<M>>(
     ticket: u64,
     visitor: V,
 ) -> V::Output
-    ghost was: { View M.State M.Call M.Reply }
     requires table { (seat.old.table_id ≡ shared.now.table_id) × IsTicketTable shared.now.table_id }
-    requires idle { IsPass M.goes was }
-    requires took { HasTicket (was, []) ticket seat.old.me }
+    requires waits { (seat.old.me.1 ≡ []) × (seat.old.me.0.waits ≡ true)
+        × (seat.old.me.0.serves ≡ false) × (seat.old.me.0.ticket ≡ ticket) }
+    requires pass { (seat.old.me.0.found_last ≡ false)
+        × IsPass M.goes (before_ticket seat.old.me.0) }
     requires ready { V.ready visitor }
     ensures table { (seat.new.table_id ≡ seat.old.table_id) × (seat.new.id ≡ seat.old.id)
         × (seat.new.me.1 ≡ []) }
     ensures pass { IsPass M.goes seat.new.me.0 }
-    ensures ok { MadeVisit M.goes (V.makes visitor result) was seat.new.me.0 }
+    ensures ok { MadeVisit M.goes (V.makes visitor result) (before_ticket seat.old.me.0)
+        seat.new.me.0 }
 {
     poll_for_turn(rt, shared, seat, ticket);
     let output = serve(shared, seat, visitor);
