@@ -26,11 +26,11 @@ use Rattle.warm_shards.proofs.Staying.{failures_stay, steps_stay}
 use Rattle.warm_concurrent.specs.declared.call.ShardCall.{ShardCall}
 use Rattle.warm_concurrent.specs.declared.call.ShardCall.TheVariants.{Absorb, Change, Look, Pin, PinZeroed, TakeIn}
 use Rattle.warm_concurrent.specs.declared.call.ShardReply.{ShardReply}
-use Rattle.warm_concurrent.specs.declared.call.ShardReply.TheVariants.{Changed, Dirty, Done, Foreign, Looked, Pinned, Portion, Refused}
+use Rattle.warm_concurrent.specs.declared.call.ShardReply.TheVariants.{Changed, Copied, Dirty, Done, Foreign, Looked, Pinned, Portion, Refused}
 use Rattle.warm_concurrent.specs.Attached.{Known, ShardTurn}
 use Rattle.warm_concurrent.specs.Laws.{ShardsHoldTheirPages}
 use Rattle.warm_concurrent.specs.Opening.{ClosesShard, shards_from, shards_over, state_at}
-use Rattle.warm_concurrent.specs.ShardSteps.{Asked, doing, looking, changing, CallGoes, CallStep, IsOwn, NodeGoes, NodeStep, ShardState, ShardStep, Work, calling, writing_pages, writing_some, writing_back, zeroing, forgetting, sending_since, asked_of, node_reply_of}
+use Rattle.warm_concurrent.specs.ShardSteps.{Asked, doing, looking, changing, CallGoes, CallStep, IsOwn, NodeGoes, NodeStep, ShardState, ShardStep, Work, calling, writing_pages, writing_some, writing_back, zeroing, forgetting, sending_since, copying, asked_of, node_reply_of}
 use Rattle.warm_concurrent.proofs.Steps.{runs_keep}
 
 -- ---- a node after one step
@@ -106,6 +106,9 @@ module _ (count i : ℕ) where
   step_own n m (sending_since bucket since after) (Portion message more) brings own step = subst (HoldsShard count i) (sym step.2) own
   step_own n m (sending_since bucket since after) (Refused why) brings own step = subst (HoldsShard count i) (sym step.1) own
   step_own n m (sending_since bucket since after) r brings own step = absurd step
+  step_own n m copying (Copied h) brings own step = subst (HoldsShard count i) (sym step.1) own
+  step_own n m copying (Refused why) brings own step = subst (HoldsShard count i) (sym step.1) own
+  step_own n m copying r brings own step = absurd step
 
   -- so does all that a shard asks of its node for a call of own pages
   abbrev BringsAsked : Asked → Type 0

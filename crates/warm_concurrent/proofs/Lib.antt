@@ -5,6 +5,7 @@ pub mod Numbering
 pub mod Ending
 pub mod Firsts
 pub mod Gathering
+pub mod Copies
 pub mod Parts
 pub mod Requests
 pub mod LawsHold

@@ -7,5 +7,6 @@ pub mod Whole
 pub mod Laws
 pub mod Given
 pub mod Answering
+pub mod Copying
 pub mod Gossip
 pub mod Visits

@@ -35,12 +35,13 @@ use Rattle.warm_concurrent.specs.declared.call.ShardCall.TheVariants.{SendSince,
 use Rattle.warm_concurrent.specs.declared.call.ShardCall.TheVariants.{WriteSome, WriteBack, Look}
 use Rattle.warm_concurrent.specs.declared.call.ShardCall.TheVariants.{Change, PinZeroed}
 use Rattle.warm_concurrent.specs.declared.call.ShardCall.TheVariants.{ForgetPages, TakeIn}
+use Rattle.warm_concurrent.specs.declared.call.ShardCall.TheVariants.{CopyHistory}
 use Rattle.warm_concurrent.specs.declared.call.ShardReply.{ShardReply}
 use Rattle.warm_concurrent.specs.declared.call.ShardReply.TheVariants.{Done, Kept, Pinned, Bytes}
 use Rattle.warm_concurrent.specs.declared.call.ShardReply.TheVariants.{Page, Loaded, Sent, Answers}
 use Rattle.warm_concurrent.specs.declared.call.ShardReply.TheVariants.{Foreign, Pages, Portion}
 use Rattle.warm_concurrent.specs.declared.call.ShardReply.TheVariants.{Dirty, Refused, Looked}
-use Rattle.warm_concurrent.specs.declared.call.ShardReply.TheVariants.{Changed}
+use Rattle.warm_concurrent.specs.declared.call.ShardReply.TheVariants.{Changed, Copied}
 
 -- a shard: how many there are, its number, and its node
 pub record ShardState : Type 0 where
@@ -63,8 +64,8 @@ abbrev pub request_for : ℕ → Message
 request_for request = Want 1 0 request
 
 -- What a node does in one step: a call; to write back all pages, some, or all with a flush; a pin of
--- a page that gets zeros; to forget the pages of a device from a number on; or to send what is new in
--- a bucket since a time, after a page.
+-- a page that gets zeros; to forget the pages of a device from a number on; to send what is new in a
+-- bucket since a time, after a page; or to copy its history.
 pub data Work : Type 0 where
   calling : Call → Work
   writing_pages : Work
@@ -73,6 +74,7 @@ pub data Work : Type 0 where
   zeroing : PageId → Work
   forgetting : ℕ → ℕ → Work
   sending_since : ℕ → ℕ → Option PageId → Work
+  copying : Work
 
 -- what a shard asks of its node: one step; or several calls in one turn, of a page that is looked
 -- at, or changed
@@ -103,6 +105,7 @@ asked_of Offer = of_node node_call.Offer
 asked_of (Send bucket after) = of_node (node_call.Send bucket after)
 asked_of (SendSince bucket since after) = doing (sending_since bucket since after)
 asked_of (Answer request) = of_node (node_call.Receive (request_for request))
+asked_of CopyHistory = doing copying
 asked_of WritePages = doing writing_pages
 asked_of (WriteSome limit) = doing (writing_some limit)
 asked_of WriteBack = doing writing_back
@@ -124,6 +127,7 @@ node_reply_of (Answers messages) = Some (node_reply.Answers messages)
 node_reply_of (Refused why) = Some (node_reply.Refused why)
 node_reply_of (Dirty left) = None
 node_reply_of (Portion message more) = None
+node_reply_of (Copied history) = None
 node_reply_of (Looked slot bytes) = None
 node_reply_of (Changed slot before after) = None
 node_reply_of Foreign = None
@@ -210,6 +214,12 @@ SendSinceStep old bucket since after (Portion message more) new =
 SendSinceStep old bucket since after (Refused why) new = (why ≡ Memory) × (new ≡ old)
 SendSinceStep old bucket since after reply new = ⊥
 
+-- a copy of the history
+abbrev pub CopyStep : NodeState → ShardReply → NodeState → Type 0
+CopyStep old (Copied history) new = (history ≡ old.history) × (new ≡ old)
+CopyStep old (Refused why) new = (why ≡ Memory) × (new ≡ old)
+CopyStep old reply new = ⊥
+
 -- one step of a node, with the reply of the shard
 abbrev pub NodeStep : NodeState → Work → ShardReply → NodeState → Type 0
 NodeStep old (calling call) reply new = CallGoes old call (node_reply_of reply) new
@@ -220,6 +230,7 @@ NodeStep old (zeroing page) reply new = PinZeroedStep old page reply new
 NodeStep old (forgetting dev from) reply new = ForgetPagesStep old dev from reply new
 NodeStep old (sending_since bucket since after) reply new =
     SendSinceStep old bucket since after reply new
+NodeStep old copying reply new = CopyStep old reply new
 
 -- Steps of a shard
 

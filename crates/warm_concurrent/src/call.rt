@@ -1,6 +1,7 @@
 //! The calls of a shard and its replies. None has space for a message, of 2 KB: a message is in a
 //! box.
 
+use crate::copying::BoxedHistory;
 use boxcar::tag::Tag;
 use warm_frames::{BoxedMessage, EntryList, MessageList};
 use warm_gossip::NodeFault;
@@ -75,6 +76,8 @@ pub enum ShardCall {
     },
     /// Give the entries of these buckets, in messages. All must be buckets of the shard.
     Answer(BucketSet),
+    /// Give a copy of the history of the shard.
+    CopyHistory,
     /// Write back all dirty pages of the shard. No device is flushed.
     WritePages,
     /// Write back at most this many dirty pages of the shard. No device is flushed.
@@ -124,6 +127,8 @@ pub enum ShardReply {
     },
     /// The messages with the requested entries, in order.
     Answers(MessageList),
+    /// A copy of the history.
+    Copied(BoxedHistory),
     /// The call brings a page, or a bucket, of another shard. Nothing has changed.
     Foreign,
     /// The node refused the call, or no memory was left for a box.

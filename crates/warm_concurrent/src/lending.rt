@@ -41,6 +41,7 @@ pub(crate) struct Left<T> {
 }
 
 // Calls the closure with the bytes of a page.
+#[inline(always)]
 pub(crate) fn look_in<D: PageDevice, T, F: FnOnce(&[u8]) -> T + Drop>(
     node: &mut Node<D>,
     page: PageId,
@@ -99,6 +100,7 @@ fn look_pinned<D: PageDevice, T, F: FnOnce(&[u8]) -> T + Drop>(
 
 // Calls the closure with the bytes of a page, to be written to. What it leaves in them is the
 // page's content, and the page is dirty.
+#[inline(always)]
 pub(crate) fn change_in<D: PageDevice, T, F: FnOnce(&mut [u8]) -> T + Drop>(
     node: &mut Node<D>,
     page: PageId,

@@ -4,6 +4,7 @@
 mod answering;
 mod attaching;
 mod call;
+mod copying;
 mod engine_calls;
 mod fault;
 mod gossip;
@@ -20,6 +21,7 @@ mod writing;
 
 pub use attaching::{NotClosed, NotDetached};
 pub use call::{ShardCall, ShardReply};
+pub use copying::BoxedHistory;
 pub use fault::SharedFault;
 pub use gossip::NotReceived;
 pub use history_calls::Stopped;

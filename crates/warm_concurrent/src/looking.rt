@@ -84,11 +84,11 @@ impl<D: PageDevice + Send> SharedShards<D> {
             place: Place { count, number },
             f,
         };
-        match visit_or_back(rt, &self.turns, &mut attached.passes, number, looking) {
+        match self.turns[number].visit(rt, &mut attached.passes[number], looking) {
             Ok(Went::Given(given)) => Ok(given),
             Ok(Went::Refused(why)) => Err(SharedFault::Node(why)),
             Ok(Went::Foreign) => unreachable!(),
-            Err(_visitor) => Err(SharedFault::TurnsSpent),
+            Err(_spent) => Err(SharedFault::TurnsSpent),
         }
     }
 

@@ -7,10 +7,12 @@ ghost use Rattle.warm_concurrent.specs.declared.call.ShardCall.TheVariants.{Answ
 ghost use Rattle.warm_concurrent.specs.declared.call.ShardCall.TheVariants.{Offer, ForgetPages};
 ghost use Rattle.warm_concurrent.specs.declared.call.ShardCall.TheVariants.{PinZeroed, Send};
 ghost use Rattle.warm_concurrent.specs.declared.call.ShardCall.TheVariants.{SendSince, TakeIn};
+ghost use Rattle.warm_concurrent.specs.declared.call.ShardCall.TheVariants.{CopyHistory};
 ghost use Rattle.warm_concurrent.specs.declared.call.ShardCall.TheVariants.{Unpin, Write};
 ghost use Rattle.warm_concurrent.specs.declared.call.ShardCall.TheVariants.{WritePages, WriteSome};
 
 use crate::call::{ShardCall, ShardReply};
+use crate::copying::BoxedHistory;
 use crate::lending::{Left, Shown, change_in, look_in};
 use std::alloc::Global;
 use std::marker::Model;
@@ -210,6 +212,14 @@ fn taken_in<D: PageDevice>(
     Ok(ShardReply::Answers(messages))
 }
 
+// A copy of a node's history, in a box.
+fn copied<D: PageDevice>(alloc: Global, node: &Node<D>) -> Result<ShardReply, NodeFault>
+    ensures { AnsweredAs node.now CopyHistory result node.now }
+{
+    let copy = BoxedHistory::copy_of(alloc, node.history())?;
+    Ok(ShardReply::Copied(copy))
+}
+
 // Writes back all dirty pages of a node. No device is flushed.
 fn write_pages<D: PageDevice>(node: &mut Node<D>) -> Result<ShardReply, NodeFault>
     ensures { AnsweredAs node.old WritePages result node.new }
@@ -263,6 +273,7 @@ fn answer<D: PageDevice>(
             after,
         } => sent_since(alloc, node, bucket, since, after),
         ShardCall::Answer(request) => requested(node, request),
+        ShardCall::CopyHistory => copied(alloc, node),
         ShardCall::WritePages => write_pages(node),
         ShardCall::WriteSome(limit) => write_some(node, limit),
         ShardCall::WriteBack => {

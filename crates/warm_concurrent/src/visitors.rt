@@ -183,6 +183,7 @@ impl<D: PageDevice + Send, T, F: FnOnce(&[u8]) -> T + Drop> Visit<Shard<D>> for 
         × VisitWentAs (λ given. Shows (λ bytes. FnOnceReturnsAt F.FnOnce v.f bytes given))
         output reply };
 
+    #[inline(always)]
     fn visit(self, shard: &mut Shard<D>) -> Visited<ShardCall, ShardReply, Went<T>> {
         let Looking { page, place, f } = self;
         shard.look(page, place, f)
@@ -210,6 +211,7 @@ impl<D: PageDevice + Send, T, F: FnOnce(&mut [u8]) -> T + Drop> Visit<Shard<D>> 
         × VisitWentAs (λ given. ShowsBoth (λ before after.
         FnOnceReturnsAtMut F.FnOnce v.f before given after)) output reply };
 
+    #[inline(always)]
     fn visit(self, shard: &mut Shard<D>) -> Visited<ShardCall, ShardReply, Went<T>> {
         let Changing { page, f } = self;
         shard.change(page, f)
@@ -281,6 +283,7 @@ impl<D: PageDevice> Shard<D> {
     }
 
     // Calls the closure with the bytes of a page of this shard.
+    #[inline(always)]
     fn look<T, F: FnOnce(&[u8]) -> T + Drop>(
         &mut self,
         page: PageId,
@@ -320,6 +323,7 @@ impl<D: PageDevice> Shard<D> {
     }
 
     // Calls the closure with the bytes of a page of this shard, to be written to.
+    #[inline(always)]
     fn change<T, F: FnOnce(&mut [u8]) -> T + Drop>(
         &mut self,
         page: PageId,

@@ -56,6 +56,7 @@ impl<D: PageDevice> Node<D> {
     /// Who has the node to himself while he reads the page has then the effect of a pin and an
     /// unpin, without either. `None` where the page isn't resident, or has as many pins as can be
     /// counted: [`Node::pin`] then loads it, or says why not.
+    #[inline(always)]
     pub fn look_up(&mut self, page: PageId) -> Option<Slot>
         ensures same { self.new ≡ self.old }
         ensures found { IfSome result (CanPinAgain self.old.pool page) }

@@ -32,6 +32,7 @@ impl<D: PageDevice> Pool<D> {
     ///
     /// Who has the pool to himself while he reads the page needs no pin: nothing can evict the
     /// page.
+    #[inline(always)]
     pub fn look_up(&mut self, page: PageId) -> Option<Slot>
         ensures same { self.new ≡ self.old }
         ensures ranked { KeepsRanks self.old self.new }

@@ -261,6 +261,7 @@ impl<D: PageDevice> Pool<D> {
     ///
     /// Most pins are of such pages. This way to pin them has no refusal and loads nothing, so a
     /// caller has a short path for them.
+    #[inline(always)]
     pub fn pinnable(&self, page: PageId) -> Option<Slot>
         ensures { IfSome result (CanPinAgain self.now page) }
     {
