@@ -7,9 +7,13 @@ pub returns-clause-made : goal.returns-clause-made
 returns-clause-made g c =
     let made = c.serve_held.ensures.made in
     let d = made.0 in
-    let k = c.serve_held.new.held in (
+    let k = c.serve_held.new.held in
+    let view_of = g.M.Machine.view in
+    let goes = g.M.Machine.goes in (
       d.call.value,
       d.reply.value,
       made.2,
-      λ h is. ?,
+      λ h is.
+          let same : c.in-Some.held ≡ h = same_Some c.in-Some.held h (sym c.in-Some.is ∙ is) in
+          (k, d, refl, made.1, refl, refl, subst (λ (m : CellContents g.row.M.Denot g.row.M-Call.Denot g.row.M-Reply.Denot). goes (view_of m.machine) d.call.value d.reply.value (view_of k.machine)) same made.3),
     )
