@@ -1,0 +1,2 @@
+# cc.sh X: X.ll to X.s
+/opt/rattle/toolchain/bin/clang --target=x86_64-unknown-linux-gnu --sysroot=/opt/rattle/toolchain -march=x86-64 -mllvm -no-trap-after-noreturn -ffunction-sections -fdata-sections -mllvm -trap-unreachable -mllvm -no-x86-call-frame-opt -mllvm -disable-machine-licm -mllvm -disable-postra-machine-licm -mllvm -sink-common-insts=false --no-default-config -no-canonical-prefixes -fintegrated-cc1 -fno-crash-diagnostics -S -x ir $1.ll -o $1.s -fPIE -O3 -Xclang -fmerge-functions -mllvm -mergefunc-use-aliases
