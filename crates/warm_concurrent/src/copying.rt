@@ -19,7 +19,7 @@ use warm_gossip::NodeFault;
 use warm_history::History;
 use warm_turn::{Pass, Turn};
 
-/// A history in a heap box, so that a reply has no room for one, of 4 KB. Contracts see the
+/// A history in a heap box, so that no reply has the room for a history in it. Contracts see the
 /// history.
 #[derive(Drop)]
 pub struct BoxedHistory {
