@@ -6,6 +6,7 @@ pub mod Ending
 pub mod Firsts
 pub mod Gathering
 pub mod Copies
+pub mod Told
 pub mod Parts
 pub mod Requests
 pub mod LawsHold

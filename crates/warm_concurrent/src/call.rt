@@ -91,6 +91,14 @@ pub enum ShardCall {
         /// The number of the first page.
         from: u64,
     },
+    /// Replace a device of the shard with another, and drop the old one. A value of this call brings
+    /// no device, and is refused: [`crate::SharedShards::retire`] brings one.
+    Retire {
+        /// The device.
+        dev: u16,
+        /// The state of the other device, which exists here only in contracts.
+        device: Tag,
+    },
     /// Show the bytes of a page of the shard, and load it where it isn't resident.
     Look(PageId),
     /// Let the bytes of a page of the shard be changed, and load it where it isn't resident.

@@ -281,6 +281,7 @@ fn answer<D: PageDevice>(
             Ok(ShardReply::Done)
         }
         ShardCall::ForgetPages { dev, from } => forgotten(node, dev, from),
+        ShardCall::Retire { .. } => Err(NodeFault::Memory),
         ShardCall::Look(page) => looked(node, page),
         ShardCall::Change(page) => changed(node, page),
     }
