@@ -30,7 +30,11 @@ pub enum Went<T> {
 
 // A visit with this output. The call and the reply exist only in contracts.
 #[inline(always)]
-pub(crate) fn visited<T>(call: ShardCall, reply: ShardReply, output: T) -> Visited<ShardCall, ShardReply, T>
+pub(crate) fn visited<T>(
+    call: ShardCall,
+    reply: ShardReply,
+    output: T,
+) -> Visited<ShardCall, ShardReply, T>
     ensures call { result.made.call.value ≡ call }
     ensures reply { result.made.reply.value ≡ reply }
     ensures output { result.output ≡ output }
