@@ -62,28 +62,6 @@ static void test_two_waiters(void) {
     }
 }
 
-/* A portion waits in the end for a page that another call writes, and does not try once more a page
- * that has failed: the failure is counted once. */
-static bool is_second(node_page page) { return page.no == 1; }
-
-static void test_portion_beside_a_write(void) {
-    open_dirty(3);
-    is_stuck = is_second;
-    stop_writes_of(bit(0));
-    begin(0, WRITES_ONE, page_at(0));
-    until_written(bit(0));
-    begin(1, WRITES_SOME, page_at(0));
-    until_waiting(1);
-    not_over(1);
-    MUST(in_files[10][2] == 'd');
-    end_writes(bit(0));
-    MUST(end(0) == WARM_OK && end(1) == WARM_WRITE_FAULT);
-    must_have_failed(&callers[1].handle, 1, 0, WARM_FAILED_WRITE, EIO);
-    MUST(failures(&callers[1].handle) == 1 && !is_dirty(0) && is_dirty(1) && !is_dirty(2));
-    is_stuck = NULL;
-    close_all();
-}
-
 /* A flush waits for a page that another call writes to have its frame, and syncs after that. */
 static void must_be_written(int fd) { MUST(fd == 10 && in_files[10][0] == 'd'); }
 
@@ -194,7 +172,6 @@ int main(void) {
     alarm(600);
     test_two_writers();
     test_two_waiters();
-    test_portion_beside_a_write();
     test_flush_behind_a_miss();
     test_busy_page();
     puts("waits_test: as expected");

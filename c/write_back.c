@@ -14,15 +14,14 @@
 /* ---- dirty pages of a shard ---- */
 
 /* Which pages are to be written: of this device, or of all where it is ALL; how many at most; and
- * how many were, and what the call is refused with. A walk may pass pages that another call writes,
- * for which it would wait, or mean these alone; and whether it has passed one. */
+ * how many were, and what the call is refused with. Where it passes pages that another call writes,
+ * it does not wait for these; and whether it has passed one. */
 enum { ALL = -1 };
 
 typedef struct walk {
     int dev;
     size_t limit, written;
-    enum { MEANS_ALL, PASSES_UNDER_WAY, MEANS_UNDER_WAY } means;
-    bool has_passed;
+    bool passes, has_passed;
     int status;
 } walk;
 
@@ -87,11 +86,9 @@ static bool next_dirty(shard *in, size_t *frame, node_page *page) {
 /* Whether a page is to be written, or to be waited for. */
 static bool is_meant_by(walk *of, const shard *in, node_page page) {
     if (of->dev != ALL && of->dev != page.dev) return false;
-    if (of->means == MEANS_ALL) return true;
-    bool is_under_way = write_of_page(in, page) != NULL;
-    if (of->means == MEANS_UNDER_WAY) return is_under_way;
-    of->has_passed |= is_under_way;
-    return !is_under_way;
+    if (!of->passes || write_of_page(in, page) == NULL) return true;
+    of->has_passed = true;
+    return false;
 }
 
 /* Looks at one frame after another, from this one until the end, and leaves the shard while a page
@@ -120,14 +117,14 @@ static size_t dirty_in(shard *in) {
 /* Begins behind where the last portion of the shard ended, and goes on from the first frame: so no
  * page waits for ever behind those that are changed again, or cannot be written. Pages that another
  * call writes are waited for in the end, where there are not enough others: else a portion would
- * wait for each page of a write-back of all. A page that has failed is not tried again. */
+ * wait for each page of a write-back of all. */
 static void write_from_hand(opened *its, shard *in, bool is_locked, walk *of) {
     size_t first = in->hand;
-    of->means = PASSES_UNDER_WAY;
+    of->passes = true;
     of->has_passed = false;
     in->hand = write_between(its, in, is_locked, of, first, SIZE_MAX);
     if (of->written < of->limit) in->hand = write_between(its, in, is_locked, of, 0, first);
-    of->means = MEANS_UNDER_WAY;
+    of->passes = false;
     if (of->has_passed) write_between(its, in, is_locked, of, 0, SIZE_MAX);
 }
 
