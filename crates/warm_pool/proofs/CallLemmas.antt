@@ -1,18 +1,14 @@
 -- How often devices are flushed, and that none is read.
-use Rattle.std.proofs.Common.{◌≡◌, ℕ, ◌+◌, ◌<◌, ◌≤◌, cond, Bool, true, false, List, length, set, Result, Ok, Err, IfOk, IfErr, refl, sym, ap, subst, inl, inr, arith}
+use Rattle.std.proofs.Common.{◌≡◌, ℕ, ◌+◌, ◌<◌, ◌≤◌, cond, Bool, true, false, List, length, set, Result, refl, sym, ap, subst, inl, inr, arith}
 use Rattle.std.proofs.lemmas.Bool.{cases_eq, cases_lt}
 use Rattle.warm_devices.specs.Calls.{DeviceCalls, one_call}
 use Rattle.warm_devices.specs.Device.{DeviceState, CountsSettle}
 use Rattle.warm_devices.specs.declared.fault.DeviceFault.{DeviceFault}
 use Rattle.warm_devices.specs.declared.fault.DeviceFault.TheVariants.{Flush}
-use Rattle.warm_pool.specs.State.{PoolState, nth_device, no_device}
+use Rattle.warm_pool.specs.State.{nth_device, no_device}
 use Rattle.warm_pool.specs.Calls.{FlushesNone, FlushesOnce, ReadsNone}
 use Rattle.warm_pool.specs.DeviceCalls.{PageRead, PageWrite}
 use Rattle.warm_pool.specs.steps.Flushes.{FlushedTo, FlushStops}
-use Rattle.warm_pool.specs.steps.Pinning.{FixRefused}
-use Rattle.warm_pool.specs.steps.Zeroing.{FixesZeros}
-use Rattle.warm_pool.specs.declared.slot.Slot.{Slot}
-use Rattle.warm_pool.specs.declared.fault.PoolFault.{PoolFault}
 use Rattle.warm_pool.proofs.Slots.{at_set}
 
 -- No device is flushed
@@ -48,13 +44,6 @@ pub write_unread : (old new : List DeviceState) (k n : ℕ) (bytes : List ℕ)
     (result : Result (Unit {0}) DeviceFault) → k < length old
     → PageWrite old new k n bytes result → ReadsNone old new
 write_unread old new k n bytes result there r = one_none (λ calls. calls.reads) old new k r.after there r.becomes (ap (λ calls. calls.reads) r.call.calls)
-
--- a resident page was pinned and filled with zeros, or was not
-pub zeros_none : (s t : PoolState) (i : ℕ) (r : Result Slot PoolFault)
-    → IfOk r (λ slot. FixesZeros s i slot t) → IfErr r (λ why. FixRefused s i why t)
-    → FlushesNone s.devices t.devices
-zeros_none s t i (Ok slot) fixed refused = same_none fixed.devices
-zeros_none s t i (Err why) fixed refused = same_none (ap (λ x. x.devices) refused.2)
 
 -- Each device is flushed at most once
 

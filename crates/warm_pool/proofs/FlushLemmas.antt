@@ -146,11 +146,6 @@ pub if_ok : {T E : Type 0} (P Q : T → Type 0) (r : Result T E) → IfOk r P �
 if_ok P Q (Ok x) is follows = follows x is
 if_ok P Q (Err e) is follows = tt
 
-pub if_both : {T E : Type 0} (P Q R : T → Type 0) (r : Result T E) → IfOk r P → IfOk r Q
-    → ((x : T) → P x → Q x → R x) → IfOk r R
-if_both P Q R (Ok x) p q follows = follows x p q
-if_both P Q R (Err e) p q follows = tt
-
 pub if_err : {T E : Type 0} (P Q : E → Type 0) (r : Result T E) → IfErr r P → ((e : E) → P e → Q e)
     → IfErr r Q
 if_err P Q (Ok x) is follows = tt

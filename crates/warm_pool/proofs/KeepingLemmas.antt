@@ -1,5 +1,5 @@
 -- What a call leaves unchanged, from its steps.
-use Rattle.std.proofs.Common.{◌≡◌, ℕ, ◌+◌, ◌<◌, false, List, [], length, Some, Result, IfErr, refl, sym, ◌∙◌, ap, subst}
+use Rattle.std.proofs.Common.{◌≡◌, ℕ, ◌+◌, ◌<◌, false, List, [], length, set, Some, Result, IfErr, refl, sym, ◌∙◌, ap, subst}
 use Rattle.std.proofs.lemmas.List.{get_or-set_same, get_or-set_other}
 use Rattle.warm_stamps.specs.declared.PageId.{PageId}
 use Rattle.warm_history.specs.Histories.{HistoryView}
@@ -7,7 +7,7 @@ use Rattle.warm_rank.specs.declared.RankKey.{RankKey}
 use Rattle.warm_pool.specs.declared.slot.Slot.{Slot}
 use Rattle.warm_pool.specs.declared.fault.PoolFault.{PoolFault}
 use Rattle.warm_pool.specs.declared.fault.PoolFault.TheVariants.{ReadFault, WriteBack}
-use Rattle.warm_pool.specs.Frames.{FrameState, nth_frame, fresh_frame}
+use Rattle.warm_pool.specs.Frames.{FrameState, FramesState, nth_frame, fresh_frame}
 use Rattle.warm_pool.specs.State.{PoolState, IsNowhere}
 use Rattle.warm_pool.specs.View.{view_of, HasPage}
 use Rattle.warm_pool.specs.Keeping.{KeepsOthers, KeepsBytes}
@@ -17,9 +17,11 @@ use Rattle.warm_devices.specs.Device.{DeviceState}
 use Rattle.warm_pool.specs.Calls.{FlushesNone}
 use Rattle.warm_pool.specs.DeviceCalls.{read_at}
 use Rattle.warm_pool.specs.Pinning.{IsFrameToLoad, LoadRefused, TakesFrame, LeavesDevices, IsUnwritten}
-use Rattle.warm_pool.specs.steps.Pinning.{FixRefused, LoadsInto, LoadFails}
+use Rattle.warm_pool.specs.steps.Pinning.{FixRefused, LoadsInto, FetchFails}
 use Rattle.warm_pool.proofs.Bytes.{absent_seen, frame_seen}
 use Rattle.warm_pool.proofs.FlushLemmas.{if_err}
+use Rattle.warm_pool.proofs.Keeps.{pool_from}
+use Rattle.warm_pool.proofs.Slots.{at_set}
 use Rattle.warm_pool.proofs.CallLemmas.{same_none}
 
 pub same_bytes : (s : PoolState) → KeepsBytes s s
@@ -27,6 +29,18 @@ same_bytes s = record { devices = refl; bytes = λ i. refl; dirty = λ i. refl }
 
 pub more_bytes : (s t u : PoolState) → KeepsBytes s t → KeepsBytes t u → KeepsBytes s u
 more_bytes s t u a b = record { devices = b.devices ∙ a.devices; bytes = λ i. b.bytes i ∙ a.bytes i; dirty = λ i. b.dirty i ∙ a.dirty i }
+
+-- a step that changes one frame, but neither its bytes nor its dirty flag
+pub step_kept : (old new : FramesState) {spare : ℕ} {devices : List DeviceState} (i : ℕ)
+    (g : FrameState) → new ≡ record old { frames = set old.frames i g } → i < length old.frames
+    → g.bytes ≡ (nth_frame old.frames i).bytes → g.dirty ≡ (nth_frame old.frames i).dirty
+    → KeepsBytes (pool_from old spare devices) (pool_from new spare devices)
+step_kept old new {spare} {devices} i g is there bytes dirty =
+    subst (λ x. KeepsBytes (pool_from old spare devices) (pool_from x spare devices)) (sym is) (record {
+      devices = refl;
+      bytes = at_set (fresh_frame []) (λ j x. x.bytes ≡ (nth_frame old.frames j).bytes) old.frames i g there bytes (λ j ne. refl);
+      dirty = at_set (fresh_frame []) (λ j x. x.dirty ≡ (nth_frame old.frames j).dirty) old.frames i g there dirty (λ j ne. refl);
+    })
 
 -- a resident page was given a slot
 pub stays_in_frame : (s t : PoolState) (i : ℕ) (p : PageId) (slot : Slot)
@@ -77,7 +91,7 @@ unwritten h s before t i to_load none l =
 -- what a failed read, or a failed write of the page that would leave, leaves of the devices
 pub failed_leaves : (h : HistoryView) (s t : PoolState) (i : ℕ) (p : PageId)
     → IsFrameToLoad h (view_of s) (Some i) → FlushesNone s.devices t.devices
-    → (why : PoolFault) → LoadFails s (read_at p.dev s.devices) i p why t
+    → (why : PoolFault) → FetchFails s (read_at p.dev s.devices) i p why t
     → LeavesDevices h s p why t
 failed_leaves h s t i p to_load none ReadFault l = l.devices
 failed_leaves h s t i p to_load none WriteBack l = unwritten h s (read_at p.dev s.devices) t i to_load none l

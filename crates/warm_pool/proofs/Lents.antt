@@ -67,8 +67,15 @@ module _ (old : FramesState) {spare : ℕ} {devices : List DeviceState}
         ranked = write_ranked old now w i 0 put is there some within;
       })
 
+-- of any frame that has a page
+pub lent_page_at : (s : PoolState) (slot : Slot) (w : List ℕ) → IsPool s
+    → slot.index < length s.frames → (nth_frame s.frames slot.index).page ≢ None
+    → length w ≡ s.page_size → IsWrittenWhole s slot w (relent_pool s slot.index w)
+lent_page_at s slot w pool there some size =
+    lent_written (record { page_size = s.page_size; frames = s.frames }) pool slot.index there some w slot refl size
+
 -- the law
 pub lent_page : (s : PoolState) (slot : Slot) (w : List ℕ) → IsPool s → Holds (view_of s) slot
     → length w ≡ s.page_size → IsWrittenWhole s slot w (relent_pool s slot.index w)
 lent_page s slot w pool holds size =
-    lent_written (record { page_size = s.page_size; frames = s.frames }) pool slot.index (held_there pool slot holds) (held_some pool slot holds) w slot refl size
+    lent_page_at s slot w pool (held_there pool slot holds) (held_some pool slot holds) size

@@ -15,7 +15,10 @@ pub mod Loads
 pub mod OnePage
 pub mod OnePin
 pub mod Opens
+pub mod OutcomeLemmas
+pub mod OutcomeClauses
 pub mod Pins
+pub mod PinOutcomes
 pub mod PinsAdded
 pub mod OtherDevices
 pub mod PlacedLemmas
@@ -28,6 +31,7 @@ pub mod Slots
 pub mod SomeLemmas
 pub mod WriteBacks
 pub mod Writes
+pub mod UndonePins
 pub mod KeepingLemmas
 pub mod Zeroes
 pub mod Fills

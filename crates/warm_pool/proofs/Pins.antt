@@ -15,7 +15,7 @@ use Rattle.warm_pool.specs.State.{PoolState, RankedBy, IsNowhere}
 use Rattle.warm_pool.specs.View.{frame_view, view_of, PoolView, FrameView, frame_at, HasPage, IsAbsent, Holds}
 use Rattle.warm_pool.specs.Keeping.{SameButFailures}
 use Rattle.warm_pool.specs.Pinning.{IsFrameToLoad, PutsIn, PutRefused, LoadRefused, PinRefused, AddsFix}
-use Rattle.warm_pool.specs.steps.Pinning.{LoadsInto, LoadFails, current_slot}
+use Rattle.warm_pool.specs.steps.Pinning.{LoadsInto, FetchFails, current_slot}
 use Rattle.warm_pool.proofs.Bytes.{frame_seen, absent_seen}
 use Rattle.warm_pool.proofs.Keeps.{ranked_set}
 use Rattle.warm_pool.proofs.PoolSteps.{slot_seen}
@@ -29,7 +29,7 @@ stays_by old new failures e = e ∙ ap (λ (f : List ℕ). let v : PoolView = re
 -- a page that was not put into a frame
 pub put_refused : (s : PoolState) (before : List DeviceState) (t : PoolState) (h : HistoryView) (i : ℕ) (p : PageId)
     → IsFrameToLoad h (view_of s) (Some i) → (nth_frame s.frames i).generation < 2 ^ 64 - 1
-    → (why : PoolFault) → LoadFails s before i p why t → PutRefused h (view_of s) p why (view_of t)
+    → (why : PoolFault) → FetchFails s before i p why t → PutRefused h (view_of s) p why (view_of t)
 put_refused s before t h i p to_load room ReadFault l =
     ((i, record { to_load = to_load; below = subst (λ f. f.generation < 2 ^ 64 - 1) (sym (frame_seen s i)) room }), l.fails)
 put_refused s before t h i p to_load room WriteBack l =
@@ -37,13 +37,13 @@ put_refused s before t h i p to_load room WriteBack l =
 put_refused s before t h i p to_load room why l = absurd l
 
 pub same_frames : (s : PoolState) (before : List DeviceState) (t : PoolState) (i : ℕ) (p : PageId)
-    (why : PoolFault) → LoadFails s before i p why t → t.frames ≡ s.frames
+    (why : PoolFault) → FetchFails s before i p why t → t.frames ≡ s.frames
 same_frames s before t i p ReadFault l = l.frames
 same_frames s before t i p WriteBack l = l.frames
 same_frames s before t i p why l = absurd l
 
 pub failed_ranked : (s : PoolState) (before : List DeviceState) (t : PoolState) (i : ℕ) (p : PageId)
-    (why : PoolFault) → LoadFails s before i p why t
+    (why : PoolFault) → FetchFails s before i p why t
     → (h : HistoryView) → RankedBy s h → RankedBy t h
 failed_ranked s before t i p why l h r =
     subst (λ fs. (j : ℕ) → (nth_frame fs j).key ≡ option_map (λ q. rank_key q (hist (references_of h) q)) (nth_frame fs j).page) (sym (same_frames s before t i p why l)) r
@@ -127,23 +127,6 @@ put_stays h old p new FixesFull x = stays_by old new old.failures x.1
 put_stays h old p new ReadFault x = stays_by old new _ x.1.becomes
 put_stays h old p new WriteBack x = stays_by old new _ x.4.becomes
 put_stays h old p new why x = absurd x
-
--- the outcome of a pin, from that of its last step
-module _ (s t : PoolState) (h : HistoryView) (p : PageId) (has : HasPage (view_of s) p) where
-  pub load_put_refused : {T : Type 0} → IsNowhere s.frames p → (r : Result T PoolFault)
-      → IfErr r (λ why. PutRefused h (view_of s) p why (view_of t))
-      → IfErr r (λ why. LoadRefused h (view_of s) p why (view_of t))
-  load_put_refused away r x = if_err _ _ r x (load_refused h (view_of s) p (view_of t) has (absent_seen s p away))
-
-  pub pin_put_refused : {T : Type 0} → IsNowhere s.frames p → (r : Result T PoolFault)
-      → IfErr r (λ why. PutRefused h (view_of s) p why (view_of t))
-      → IfErr r (λ why. PinRefused h (view_of s) p why (view_of t))
-  pin_put_refused away r x = if_err _ _ r (load_put_refused away r x) (pin_refused h (view_of s) p (view_of t))
-
-  pub stays_put : {T : Type 0} (r : Result T PoolFault)
-      → IfErr r (λ why. PutRefused h (view_of s) p why (view_of t))
-      → OnErr r (SameButFailures (view_of s) (view_of t))
-  stays_put r x = if_err _ _ r x (put_stays h (view_of s) p (view_of t))
 
 -- a page with the greatest pin count
 pub pin_full : (s t : PoolState) (h : HistoryView) (p : PageId) (i : ℕ) → HasPage (view_of s) p

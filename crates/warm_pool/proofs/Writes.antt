@@ -124,20 +124,27 @@ module _ (old new : FramesState) {spare : ℕ} {devices : List DeviceState}
           ∙ bytes_held (pool_from (after old i at put) spare devices) i p (stored devices p) written_pool (ap (λ f. f.page) after_frame ∙ e)
           ∙ ap (λ f. f.bytes) after_frame
 
--- the bytes of a pinned page, lent and read
+-- the bytes of a resident page, and of a pinned one, lent and read
+pub lent_at : {s : PoolState} → IsPool s → (p : PageId) (slot : Slot)
+    → slot.index < length s.frames → (nth_frame s.frames slot.index).page ≡ Some p
+    → (bytes : List ℕ) → bytes ≡ (nth_frame s.frames slot.index).bytes
+    → IsLent (view_of s) slot bytes
+lent_at {s} w p slot there held bytes is =
+    let seen : contents_at (view_of s) p ≡ (nth_frame s.frames slot.index).bytes =
+    contents_seen s p (w.has_device slot.index p held) (w.has_page slot.index p held) ∙ bytes_held s slot.index p (stored s.devices p) w held in
+    record {
+      page = p;
+      holds = ap (λ f. f.page) (frame_seen s slot.index) ∙ held;
+      size = ap length is ∙ w.frame_size slot.index there;
+      all = is ∙ sym seen;
+    }
+
 pub lent_seen : {s : PoolState} → IsPool s → (slot : Slot) → Holds (view_of s) slot
     → (bytes : List ℕ) → bytes ≡ (nth_frame s.frames slot.index).bytes
     → IsLent (view_of s) slot bytes
 lent_seen {s} w slot h bytes is =
     let page = some_page (nth_frame s.frames slot.index).page (held_some w slot h) in
-    let seen : contents_at (view_of s) page.0 ≡ (nth_frame s.frames slot.index).bytes =
-    contents_seen s page.0 (w.has_device slot.index page.0 page.1) (w.has_page slot.index page.0 page.1) ∙ bytes_held s slot.index page.0 (stored s.devices page.0) w page.1 in
-    record {
-      page = page.0;
-      holds = ap (λ f. f.page) (frame_seen s slot.index) ∙ page.1;
-      size = ap length is ∙ w.frame_size slot.index (held_there w slot h);
-      all = is ∙ sym seen;
-    }
+    lent_at w page.0 slot (held_there w slot h) page.1 bytes is
 
 pub read_lent : (v : PoolView) (slot : Slot) (at : ℕ) (got src : List ℕ) (n m : ℕ)
     → IsLent v slot src

@@ -1,5 +1,5 @@
 -- A page is put into a frame without being read, with zeros.
-use Rattle.std.proofs.Common.{◌≡◌, ◌≢◌, ℕ, ◌+◌, ◌-◌, ◌^◌, ◌<◌, true, false, IsTrue, List, [], length, map, set, replicate, Some, None, Result, Ok, Err, IfErr, refl, sym, ◌∙◌, ap, subst, inl, inr, arith}
+use Rattle.std.proofs.Common.{◌≡◌, ◌≢◌, ℕ, ◌+◌, ◌-◌, ◌^◌, ◌<◌, true, false, IsTrue, List, [], length, map, set, replicate, Some, None, Result, IfErr, refl, sym, ◌∙◌, ap, subst, inl, inr, arith}
 use Rattle.std.specs.Option.{option_map}
 use Rattle.std.proofs.lemmas.Bool.{cases_eq}
 use Rattle.std.proofs.lemmas.Option.{same_Some}
@@ -22,7 +22,7 @@ use Rattle.warm_pool.specs.steps.WritingBack.{Cleans}
 use Rattle.warm_pool.specs.Calls.{FlushesNone}
 use Rattle.warm_pool.specs.PageBytes.{Written}
 use Rattle.warm_pool.specs.Pinning.{AddsFix, IsFrameToLoad, LoadRefused, PinRefused}
-use Rattle.warm_pool.specs.steps.Pinning.{LoadFails, FixRefused, current_slot}
+use Rattle.warm_pool.specs.steps.Pinning.{FetchFails, FixRefused, current_slot}
 use Rattle.warm_pool.specs.Lending.{relent, relent_pool}
 use Rattle.warm_pool.specs.Laws.{IsWrittenWhole}
 use Rattle.warm_pool.specs.Zeroing.{KeepsContentsBut, PutsZeros, TakesZeroed, ZeroedRefused, LeavesUnread}
@@ -266,8 +266,8 @@ zeroed_holds h old p slot new x =
 
 -- the write of the page that was in the frame failed
 pub zero_failed : (s t : PoolState) (i : ℕ) (p : PageId) (why : PoolFault) → ZeroFails s i why t
-    → LoadFails s s.devices i p why t
-zero_failed s t i p why x = subst (λ y. LoadFails s s.devices i p y t) (sym x.0) x.1
+    → FetchFails s s.devices i p why t
+zero_failed s t i p why x = subst (λ y. FetchFails s s.devices i p y t) (sym x.0) x.1
 
 pub zero_leaves : (h : HistoryView) (s t : PoolState) (i : ℕ) → IsFrameToLoad h (view_of s) (Some i)
     → FlushesNone s.devices t.devices → (why : PoolFault) → ZeroFails s i why t
@@ -286,12 +286,6 @@ pub full_leaves_unread : (h : HistoryView) (s t : PoolState) (i : ℕ) {T : Type
 full_leaves_unread h s t i r x = if_err _ _ r x (λ why full. subst (λ y. LeavesUnread h s y t) (sym full.0) (ap (λ u. u.devices) full.2))
 
 -- a refused pin reads no page
-pub unread : (h : HistoryView) (old : PoolView) (p : PageId) (new : PoolView) {T : Type 0}
-    (r : Result T PoolFault) → IfErr r (λ why. PinRefused h old p why new)
-    → IfErr r (λ why. why ≢ ReadFault) → IfErr r (λ why. ZeroedRefused h old p why new)
-unread h old p new (Ok x) refused isnt = tt
-unread h old p new (Err e) refused isnt = (refused, isnt)
-
 pub unknown_unread : (h : HistoryView) (s : PoolState) (p : PageId)
     → (HasPage (view_of s) p → ⊥) → (why : PoolFault)
     → PinRefused h (view_of s) p why (view_of s) → ZeroedRefused h (view_of s) p why (view_of s)

@@ -18,6 +18,7 @@ pub mod Refreshing
 pub mod Retiring
 pub mod HandingBack
 pub mod Forgetting
+pub mod Outcomes
 pub mod Faults
 pub mod Laws
 pub mod frame_table

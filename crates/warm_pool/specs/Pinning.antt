@@ -55,6 +55,13 @@ IsNextVictim s page = (h : HistoryView) → RankedBy s h
 
 -- The effect of a successful call
 
+-- the page is in the slot's frame, which can take one more pin
+pub record CanPinAgain (s : PoolState) (p : PageId) (slot : Slot) : Type 0 where
+  pub there : slot.index < length s.frames
+  pub holds : (nth_frame s.frames slot.index).page ≡ Some p
+  pub below : (nth_frame s.frames slot.index).fixes < 2 ^ 32 - 1
+  pub current : slot.generation ≡ (nth_frame s.frames slot.index).generation
+
 -- the page is in the slot's frame, and has one more pin
 pub record AddsFix (old : PoolView) (p : PageId) (slot : Slot) (new : PoolView) : Type 0 where
   pub there : slot.index < length old.frames

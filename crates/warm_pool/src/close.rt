@@ -1,22 +1,24 @@
 //! Writing back a pool's pages, emptying the pool, and handing its devices back.
-ghost use Rattle.std.specs.Prelude.{◌≡◌, ◌<◌, length, map, true, false, OnOk, OnErr, IfOk, IfErr};
+ghost use Rattle.std.specs.Prelude.{◌≡◌, ◌<◌, length, map, false, OnOk, OnErr, IfOk, IfErr};
 ghost use Rattle.std.specs.Prelude.{MatchBool};
 ghost use Rattle.warm_devices.specs.Device.{DeviceState};
-ghost use Rattle.warm_pool.specs.State.{IsSettled, IsRankedByAll, nth_device};
+ghost use Rattle.warm_pool.specs.State.{nth_device};
 ghost use Rattle.warm_pool.specs.View.{IsUnfixed, view_of};
 ghost use Rattle.warm_pool.specs.Keeping.{FailsAt, KeepsRanks};
-ghost use Rattle.warm_pool.specs.WritingBack.{WriteBackFails, StopsAt, clean_if};
+ghost use Rattle.warm_pool.specs.WritingBack.{WriteBackFails, StopsAt};
 ghost use Rattle.warm_pool.specs.steps.WritingBack.{WritesBackAll, WritesBackOne, KeepsUnselected};
 ghost use Rattle.warm_pool.specs.steps.WritingBack.{SelectedFails};
 ghost use Rattle.warm_pool.specs.WritingSome.{KeepsOtherDevices, StopsAtDevice};
-ghost use Rattle.warm_pool.specs.Retiring.{EmptyRefused, Emptied, RetireRefused, Retired};
-ghost use Rattle.warm_pool.specs.Retiring.{KeepsElsewhere, retired};
+ghost use Rattle.warm_pool.specs.Retiring.{EmptyRefused, RetireRefused, KeepsElsewhere, retired};
 ghost use Rattle.warm_pool.specs.steps.Retiring.{AreUnfixed, AreClean, IsFixedIn, PreparesRetire};
-ghost use Rattle.warm_pool.specs.HandingBack.{HandsBack, HandsBackOne};
+ghost use Rattle.warm_pool.specs.HandingBack.{HandsBackOne};
 ghost use Rattle.warm_pool.specs.Calls.{FlushesNone, FlushesOnce};
 ghost use Rattle.warm_pool.specs.steps.Flushes.{NoneWaits};
 ghost use Rattle.warm_pool.specs.declared.fault.PoolFault.TheVariants.{Fault};
 ghost use Rattle.warm_pool.specs.declared.selection.Devices.TheVariants.{All, One};
+ghost use Rattle.warm_pool.specs.Outcomes.{EmptiesPool, EmptyFails, GivesDevices, ReplacesDevice};
+ghost use Rattle.warm_pool.specs.Outcomes.{RetireFails, RetiresDevice, WriteAllFails};
+ghost use Rattle.warm_pool.specs.Outcomes.{WritesAllBack};
 
 use crate::fault::{PoolFault, RetireError};
 use crate::flush::{exchange, flush_all, flush_device, let_all_go};
@@ -55,11 +57,8 @@ impl<D: PageDevice> Pool<D> {
     /// unchanged, and the write-backs made before it stay.
     pub fn write_back_all(&mut self) -> Result<(), PoolFault>
         ensures ranked { KeepsRanks self.old self.new }
-        ensures same { OnOk result (view_of self.new ≡ view_of self.old) }
-        ensures settled { OnOk result (IsSettled self.new) }
-        ensures refused { IfErr result (λ fault. (fault ≡ Fault) × WriteBackFails
-            self.old self.new) }
-        ensures once { FlushesOnce self.old.devices self.new.devices }
+        ensures done { OnOk result (WritesAllBack self.old self.new) }
+        ensures refused { IfErr result (λ why. WriteAllFails self.old why self.new) }
     {
         self.settle().map_err(|_| PoolFault::Fault)?;
         Ok(())
@@ -71,13 +70,9 @@ impl<D: PageDevice> Pool<D> {
     /// `Fixed` where a page is pinned, which changes nothing; otherwise `Fault`, as for
     /// [`Pool::write_back_all`].
     pub fn empty(&mut self) -> Result<(), PoolFault>
-        ensures emptied { OnOk result (Emptied (view_of self.old) (view_of self.new)) }
-        ensures settled { OnOk result (IsSettled self.new) }
-        ensures unranked { OnOk result (IsRankedByAll self.new) }
         ensures ranked { KeepsRanks self.old self.new }
-        ensures refused { IfErr result (λ fault. EmptyRefused
-            self.old fault self.new) }
-        ensures once { FlushesOnce self.old.devices self.new.devices }
+        ensures done { OnOk result (EmptiesPool self.old self.new) }
+        ensures refused { IfErr result (λ why. EmptyFails self.old why self.new) }
     {
         self.write_back_unpinned()?;
         self.frames.vacate_selected(Devices::All);
@@ -90,13 +85,9 @@ impl<D: PageDevice> Pool<D> {
     /// # Errors
     /// As [`Pool::empty`]; the pool is returned.
     pub fn into_devices(mut self) -> Result<Vec<D>, CloseError<D>>
-        ensures unfixed { OnOk result (IsUnfixed (view_of self)) }
-        ensures handed_back { IfOk result (λ devices. HandsBack self (map D.state devices.items)) }
-        ensures refused { IfErr result (λ unclosed. EmptyRefused
-            self unclosed.fault
-            unclosed.pool) }
-        ensures ranked { IfErr result (λ unclosed. KeepsRanks
-            self unclosed.pool) }
+        ensures ranked { IfErr result (λ unclosed. KeepsRanks self unclosed.pool) }
+        ensures done { IfOk result (λ devices. GivesDevices self (map D.state devices.items)) }
+        ensures refused { IfErr result (λ unclosed. EmptyFails self unclosed.fault unclosed.pool) }
     {
         match self.write_back_unpinned() {
             Ok(()) => Ok(self.take_apart()),
@@ -109,12 +100,9 @@ impl<D: PageDevice> Pool<D> {
     /// # Errors
     /// As [`Pool::empty`]; the pool is returned.
     pub fn close(self) -> Result<(), CloseError<D>>
-        ensures unfixed { OnOk result (IsUnfixed (view_of self)) }
-        ensures refused { IfErr result (λ unclosed. EmptyRefused
-            self unclosed.fault
-            unclosed.pool) }
-        ensures ranked { IfErr result (λ unclosed. KeepsRanks
-            self unclosed.pool) }
+        ensures ranked { IfErr result (λ unclosed. KeepsRanks self unclosed.pool) }
+        ensures done { OnOk result (IsUnfixed (view_of self)) }
+        ensures refused { IfErr result (λ unclosed. EmptyFails self unclosed.fault unclosed.pool) }
     {
         let devices = self.into_devices()?;
         let_all_go(devices);
@@ -135,17 +123,12 @@ impl<D: PageDevice> Pool<D> {
     /// - `Fault`: a write or the flush of the device failed, and its count of failures has
     ///   increased. The write-backs made before it stay.
     pub fn replace(&mut self, dev: u16, device: D) -> Result<D, RetireError<D>>
-        ensures retired { OnOk result (Retired (view_of self.old) dev
-            (D.state device) (view_of self.new)) }
-        ensures handed_back { IfOk result (λ old. HandsBackOne self.old dev (D.state old)) }
-        ensures refused { IfErr result (λ unretired. RetireRefused
-            (view_of self.old) dev (D.state device) unretired.fault
-            (view_of self.new)) }
-        ensures stopped { IfErr result (λ unretired. unretired.fault ≡ Fault
-            → StopsAtDevice dev self.old self.new) }
-        ensures given_back { IfErr result (λ unretired. unretired.device ≡ device) }
-        ensures elsewhere { KeepsElsewhere dev self.old self.new }
         ensures ranked { KeepsRanks self.old self.new }
+        ensures done { IfOk result (λ was. ReplacesDevice
+            dev (D.state device) self.old (D.state was) self.new) }
+        ensures refused { IfErr result (λ unretired. RetireFails
+            dev (D.state device) self.old unretired.fault self.new) }
+        ensures given_back { IfErr result (λ unretired. unretired.device ≡ device) }
     {
         match self.prepare_retire(dev, device.page_size()) {
             Ok(()) => Ok(self.install_device(dev, device)),
@@ -158,16 +141,11 @@ impl<D: PageDevice> Pool<D> {
     /// # Errors
     /// Those of [`Pool::replace`], with the same effects.
     pub fn retire(&mut self, dev: u16, device: D) -> Result<(), RetireError<D>>
-        ensures retired { OnOk result (Retired (view_of self.old) dev
-            (D.state device) (view_of self.new)) }
-        ensures refused { IfErr result (λ unretired. RetireRefused
-            (view_of self.old) dev (D.state device) unretired.fault
-            (view_of self.new)) }
-        ensures stopped { IfErr result (λ unretired. unretired.fault ≡ Fault
-            → StopsAtDevice dev self.old self.new) }
-        ensures given_back { IfErr result (λ unretired. unretired.device ≡ device) }
-        ensures elsewhere { KeepsElsewhere dev self.old self.new }
         ensures ranked { KeepsRanks self.old self.new }
+        ensures done { OnOk result (RetiresDevice dev (D.state device) self.old self.new) }
+        ensures refused { IfErr result (λ unretired. RetireFails
+            dev (D.state device) self.old unretired.fault self.new) }
+        ensures given_back { IfErr result (λ unretired. unretired.device ≡ device) }
     {
         let old = self.replace(dev, device)?;
         let_go(old);
@@ -177,8 +155,7 @@ impl<D: PageDevice> Pool<D> {
     // Writes back the pages of a device and flushes it, where a device with pages of this size may
     // replace it.
     fn prepare_retire(&mut self, dev: u16, page_size: usize) -> Result<(), PoolFault>
-        ensures way { OnOk result (PreparesRetire
-            self.old dev page_size self.new) }
+        ensures way { OnOk result (PreparesRetire self.old dev page_size self.new) }
         ensures refused { IfErr result (λ fault. (device : DeviceState) → device.page_size
             ≡ page_size → RetireRefused (view_of self.old) dev device fault
             (view_of self.new)) }
@@ -203,10 +180,8 @@ impl<D: PageDevice> Pool<D> {
     // Writes back the pages of one device and flushes it.
     pub(crate) fn settle_device(&mut self, dev: u16) -> Result<(), DeviceFault>
         requires there { dev < length self.old.devices }
-        ensures down { OnOk result (WritesBackAll (One dev)
-            self.old self.new) }
-        ensures flushed { OnOk result ((nth_device
-            self.new.devices dev).waiting ≡ false) }
+        ensures down { OnOk result (WritesBackAll (One dev) self.old self.new) }
+        ensures flushed { OnOk result ((nth_device self.new.devices dev).waiting ≡ false) }
         ensures stopped { OnErr result (FailsAt (view_of self.old) dev (view_of self.new)) }
         ensures left { OnErr result (StopsAtDevice dev self.old self.new) }
         ensures elsewhere { KeepsElsewhere dev self.old self.new }
@@ -226,8 +201,7 @@ impl<D: PageDevice> Pool<D> {
         requires unfixed { AreUnfixed (One dev) self.old.frames }
         requires quiet { (nth_device self.old.devices dev).waiting ≡ false }
         requires sized { (D.state device).page_size ≡ self.old.page_size }
-        ensures retired { self.new ≡ retired
-            self.old dev (D.state device) }
+        ensures retired { self.new ≡ retired self.old dev (D.state device) }
         ensures handed_back { HandsBackOne self.old dev (D.state result) }
     {
         self.frames.vacate_selected(Devices::One(dev));
@@ -237,11 +211,9 @@ impl<D: PageDevice> Pool<D> {
     // Writes back all pages and flushes all devices, where no page is pinned.
     fn write_back_unpinned(&mut self) -> Result<(), PoolFault>
         ensures unfixed { OnOk result (AreUnfixed All self.old.frames) }
-        ensures down { OnOk result (WritesBackAll All
-            self.old self.new) }
+        ensures down { OnOk result (WritesBackAll All self.old self.new) }
         ensures flushed { OnOk result (NoneWaits self.new.devices) }
-        ensures refused { IfErr result (λ fault. EmptyRefused
-            self.old fault self.new) }
+        ensures refused { IfErr result (λ fault. EmptyRefused self.old fault self.new) }
         ensures once { FlushesOnce self.old.devices self.new.devices }
         ensures ranked { KeepsRanks self.old self.new }
     {
@@ -254,11 +226,9 @@ impl<D: PageDevice> Pool<D> {
 
     // Writes back all pages and flushes all devices.
     fn settle(&mut self) -> Result<(), DeviceFault>
-        ensures down { OnOk result (WritesBackAll All
-            self.old self.new) }
+        ensures down { OnOk result (WritesBackAll All self.old self.new) }
         ensures flushed { OnOk result (NoneWaits self.new.devices) }
-        ensures stopped { OnErr result (WriteBackFails
-            self.old self.new) }
+        ensures stopped { OnErr result (WriteBackFails self.old self.new) }
         ensures once { FlushesOnce self.old.devices self.new.devices }
         ensures ranked { KeepsRanks self.old self.new }
     {
@@ -269,10 +239,8 @@ impl<D: PageDevice> Pool<D> {
 
     // Writes back the pages of the selected frames.
     fn clean_selected(&mut self, which: Devices) -> Result<(), DeviceFault>
-        ensures down { OnOk result (WritesBackAll which
-            self.old self.new) }
-        ensures stopped { OnErr result (StopsAt which
-            self.old self.new) }
+        ensures down { OnOk result (WritesBackAll which self.old self.new) }
+        ensures stopped { OnErr result (StopsAt which self.old self.new) }
         ensures others { KeepsUnselected which self.old self.new }
         ensures unflushed { FlushesNone self.old.devices self.new.devices }
     {
@@ -285,10 +253,8 @@ impl<D: PageDevice> Pool<D> {
     // Writes back the page of a frame, where it is selected.
     pub(crate) fn clean_if(&mut self, at: usize, which: Devices) -> Result<(), DeviceFault>
         requires there { at < length self.old.frames }
-        ensures down { OnOk result (WritesBackOne which
-            self.old at self.new) }
-        ensures failed { OnErr result (SelectedFails which
-            self.old at self.new) }
+        ensures down { OnOk result (WritesBackOne which self.old at self.new) }
+        ensures failed { OnErr result (SelectedFails which self.old at self.new) }
         ensures others { KeepsUnselected which self.old self.new }
         ensures unflushed { FlushesNone self.old.devices self.new.devices }
     {

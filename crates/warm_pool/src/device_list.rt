@@ -56,8 +56,7 @@ pub(crate) fn pages_of<D: PageDevice>(devices: &[D], device: usize) -> u64
 
 /// Whether each device has pages of this size.
 pub fn all_sized<D: PageDevice>(devices: &[D], page_size: usize) -> bool
-    ensures { IsTrue result
-        ↔ AreOfSize page_size (length devices.now) (map D.state devices.now) }
+    ensures { IsTrue result ↔ AreOfSize page_size (length devices.now) (map D.state devices.now) }
 {
     for device in devices {
         if device.page_size() != page_size {

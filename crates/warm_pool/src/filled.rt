@@ -1,20 +1,15 @@
 //! Pinning a page whose bytes are given: the caller has read them from its device.
-ghost use Rattle.std.specs.Prelude.{◌≡◌, ◌≢◌, ◌<◌, ◌-◌, ◌^◌, length, Some, IfOk, IfErr, OnOk};
-ghost use Rattle.std.specs.Prelude.{OnErr};
+ghost use Rattle.std.specs.Prelude.{◌≡◌, ◌<◌, ◌-◌, ◌^◌, length, Some, IfOk, IfErr, OnOk};
 ghost use Rattle.warm_devices.specs.Device.{GivesPage};
-ghost use Rattle.warm_history.specs.Histories.{HistoryView};
-ghost use Rattle.warm_pool.specs.declared.fault.PoolFault.TheVariants.{ReadFault};
 ghost use Rattle.warm_pool.specs.Frames.{nth_frame};
 ghost use Rattle.warm_pool.specs.State.{RankedBy, IsNowhere, nth_device};
-ghost use Rattle.warm_pool.specs.View.{view_of, HasPage, Holds};
-ghost use Rattle.warm_pool.specs.Keeping.{SameButFailures, KeepsFrames};
+ghost use Rattle.warm_pool.specs.View.{view_of, HasPage};
 ghost use Rattle.warm_pool.specs.Calls.{FlushesNone, ReadsNone};
-ghost use Rattle.warm_pool.specs.Pinning.{IsPlaced, Pinned, PinRefused, PutsIn, PutRefused};
 ghost use Rattle.warm_pool.specs.steps.Pinning.{IsNextFrameToLoad};
-ghost use Rattle.warm_pool.specs.Filling.{AreFromDevice, TakesFilled};
+ghost use Rattle.warm_pool.specs.Filling.{AreFromDevice};
 ghost use Rattle.warm_pool.specs.steps.Filling.{FillsInto};
-ghost use Rattle.warm_pool.specs.Zeroing.{LeavesUnread};
 ghost use Rattle.warm_pool.specs.steps.Zeroing.{ZeroFails};
+ghost use Rattle.warm_pool.specs.Outcomes.{FillsPage, UnreadPinFails};
 
 use crate::fault::PoolFault;
 use crate::pool::{Pool, rank_of, write_back};
@@ -46,22 +41,10 @@ impl<D: PageDevice> Pool<D> {
         requires size { length bytes.now ≡ self.old.page_size }
         requires given { AreFromDevice (view_of self.old) page bytes.now }
         ensures ranked { RankedBy self.new history.now }
-        ensures pinned { IfOk result (λ placed. Pinned history.now
-            (view_of self.old) page placed.slot (view_of self.new)) }
-        ensures evicted { IfOk result (λ placed. IsPlaced
-            (view_of self.old) page placed (view_of self.new)) }
-        ensures holds { IfOk result (λ placed. Holds (view_of self.new) placed.slot) }
-        ensures frame { IfOk result (λ placed. TakesFilled
-            self.old page bytes.now placed.slot self.new) }
-        ensures refused { IfErr result (λ fault. PinRefused history.now
-            (view_of self.old) page fault (view_of self.new)) }
-        ensures no_read_fault { IfErr result (λ fault. fault ≢ ReadFault) }
-        ensures stays { OnErr result (SameButFailures (view_of self.old) (view_of self.new)) }
-        ensures frames { OnErr result (KeepsFrames self.old self.new) }
-        ensures devices { IfErr result (λ fault. LeavesUnread history.now
-            self.old fault self.new) }
-        ensures unread { ReadsNone self.old.devices self.new.devices }
-        ensures unflushed { FlushesNone self.old.devices self.new.devices }
+        ensures done { IfOk result (λ placed. FillsPage history.now
+            page bytes.now self.old placed self.new) }
+        ensures refused { IfErr result (λ why. UnreadPinFails history.now
+            page self.old why self.new) }
     {
         self.check(page)?;
         match self.frames.find(page) {
@@ -83,20 +66,10 @@ impl<D: PageDevice> Pool<D> {
         requires size { length bytes.now ≡ self.old.page_size }
         requires given { GivesPage (nth_device self.old.devices page.dev) page.no bytes.now }
         ensures ranked { RankedBy self.new history.now }
-        ensures put { IfOk result (λ placed. PutsIn history.now
-            (view_of self.old) page 1 placed.slot (view_of self.new)) }
-        ensures evicted { IfOk result (λ placed. placed.evicted
-            ≡ (nth_frame self.old.frames placed.slot.index).page) }
-        ensures frame { IfOk result (λ placed. TakesFilled
-            self.old page bytes.now placed.slot self.new) }
-        ensures refused { IfErr result (λ fault. PutRefused history.now
-            (view_of self.old) page fault (view_of self.new)) }
-        ensures no_read_fault { IfErr result (λ fault. fault ≢ ReadFault) }
-        ensures frames { OnErr result (KeepsFrames self.old self.new) }
-        ensures devices { IfErr result (λ fault. LeavesUnread history.now
-            self.old fault self.new) }
-        ensures unread { ReadsNone self.old.devices self.new.devices }
-        ensures unflushed { FlushesNone self.old.devices self.new.devices }
+        ensures done { IfOk result (λ placed. FillsPage history.now
+            page bytes.now self.old placed self.new) }
+        ensures refused { IfErr result (λ why. UnreadPinFails history.now
+            page self.old why self.new) }
     {
         let Some(at) = self.frame_to_load() else {
             return Err(PoolFault::AllFixed);
@@ -120,20 +93,10 @@ impl<D: PageDevice> Pool<D> {
         requires to_load { IsNextFrameToLoad self.old (Some at) }
         requires there { at < length self.old.frames }
         ensures ranked { RankedBy self.new history.now }
-        ensures put { IfOk result (λ placed. PutsIn history.now
-            (view_of self.old) page 1 placed.slot (view_of self.new)) }
-        ensures evicted { IfOk result (λ placed. placed.evicted
-            ≡ (nth_frame self.old.frames placed.slot.index).page) }
-        ensures frame { IfOk result (λ placed. TakesFilled
-            self.old page bytes.now placed.slot self.new) }
-        ensures refused { IfErr result (λ fault. PutRefused history.now
-            (view_of self.old) page fault (view_of self.new)) }
-        ensures no_read_fault { IfErr result (λ fault. fault ≢ ReadFault) }
-        ensures frames { OnErr result (KeepsFrames self.old self.new) }
-        ensures devices { IfErr result (λ fault. LeavesUnread history.now
-            self.old fault self.new) }
-        ensures unread { ReadsNone self.old.devices self.new.devices }
-        ensures unflushed { FlushesNone self.old.devices self.new.devices }
+        ensures done { IfOk result (λ placed. FillsPage history.now
+            page bytes.now self.old placed self.new) }
+        ensures refused { IfErr result (λ why. UnreadPinFails history.now
+            page self.old why self.new) }
     {
         let evicted = self.frames.page(at);
         if self.frames.generation(at) < u64::MAX {

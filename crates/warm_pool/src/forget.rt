@@ -64,8 +64,7 @@ impl<D: PageDevice> Pool<D> {
 
 // Evicts the pages of the selected frames, dirty or not.
 fn forget(frames: &mut Frames, which: Devices)
-    ensures { frames.new
-        ≡ record frames.old { frames = vacated_selected which frames.old.frames } }
+    ensures { frames.new ≡ record frames.old { frames = vacated_selected which frames.old.frames } }
 {
     clean_selected(frames, which);
     frames.vacate_selected(which);

@@ -14,13 +14,14 @@
 //! is called its fixes, and a pinned page is fixed.
 //!
 //! Contracts see a pool as plain data, a `PoolState`, and `view_of` gives what a caller sees of it.
-//! They are defined in `specs/State.antt` and `specs/View.antt`, and the effects of the calls in
-//! `Opening.antt`, `Pinning.antt`, `Zeroing.antt`, `Filling.antt`, `PageBytes.antt`,
-//! `Lending.antt`, `Refreshing.antt`, `WritingBack.antt`, `WritingSome.antt`, `Retiring.antt`,
-//! `HandingBack.antt` and `Forgetting.antt` beside them. What a pool counts ([`Pool::counts`],
-//! [`Pool::last_failure`]) is no part of it. `IsPool` is the invariant of the type, which each call
-//! keeps. The devices come from the caller, and are of one type. [`Pool::into_devices`] and
-//! [`Pool::replace`] give them back, flushed and with all that was written.
+//! They are defined in `specs/State.antt` and `specs/View.antt`. `Outcomes.antt` beside them has a
+//! record for each outcome of a call: what a call did, and what a refusal left. Their fields are
+//! facts of `Pinning.antt`, `Zeroing.antt`, `Filling.antt`, `PageBytes.antt`, `Refreshing.antt`,
+//! `WritingBack.antt`, `WritingSome.antt`, `Retiring.antt` and `HandingBack.antt`. What a pool
+//! counts ([`Pool::counts`], [`Pool::last_failure`]) is no part of it. `IsPool` is the invariant of
+//! the type, which each call keeps. The devices come from the caller, and are of one type.
+//! [`Pool::into_devices`] and [`Pool::replace`] give them back, flushed and with all that was
+//! written.
 #![tactic(auto)]
 
 mod close;

@@ -1,32 +1,27 @@
 //! The pool.
-ghost use Rattle.std.specs.Prelude.{◌≡◌, ◌≢◌, ◌↔◌, ◌+◌, ◌-◌, ◌^◌, ◌<◌, ◌≤◌, map, length, true};
-ghost use Rattle.std.specs.Prelude.{false, Some, None, MatchResult, OnOk, OnErr, IfOk, IfErr};
-ghost use Rattle.std.specs.Prelude.{IfSome, IsTrue};
-ghost use Rattle.warm_stamps.specs.declared.PageId.{PageId};
+ghost use Rattle.std.specs.Prelude.{◌≡◌, ◌≢◌, ◌↔◌, ◌+◌, ◌-◌, ◌^◌, ◌<◌, ◌≤◌, map, length, Some};
+ghost use Rattle.std.specs.Prelude.{None, MatchResult, OnOk, OnErr, IfOk, IfErr, IfSome, IsTrue};
 ghost use Rattle.warm_history.specs.Histories.{HistoryView, hist, references_of};
 ghost use Rattle.warm_rank.specs.Keys.{rank_key};
 ghost use Rattle.warm_pool.specs.Frames.{nth_frame};
 ghost use Rattle.warm_pool.specs.frame_table.FrameSteps.{fresh_frames};
-ghost use Rattle.warm_pool.specs.State.{PoolState, IsPool, pool_over, RankedBy, IsRankedByAll};
-ghost use Rattle.warm_pool.specs.State.{IsNowhere, fresh_pool, nth_device};
+ghost use Rattle.warm_pool.specs.State.{PoolState, IsPool, pool_over, RankedBy, IsNowhere};
+ghost use Rattle.warm_pool.specs.State.{nth_device, IsRankedByAll, fresh_pool};
 ghost use Rattle.warm_pool.specs.View.{view_of, HasPage, IsResident, Holds};
-ghost use Rattle.warm_pool.specs.Keeping.{SameButFailures, KeepsRanks, KeepsBytes, KeepsFrames};
-ghost use Rattle.warm_pool.specs.Keeping.{KeepsOthers};
+ghost use Rattle.warm_pool.specs.Keeping.{KeepsRanks, KeepsBytes, KeepsOthers};
 ghost use Rattle.warm_pool.specs.Calls.{FlushesNone, ReadsNone};
 ghost use Rattle.warm_pool.specs.DeviceCalls.{read_at};
 ghost use Rattle.warm_pool.specs.Opening.{IsUpTo, IsSize, NewPoolRefused};
 ghost use Rattle.warm_pool.specs.steps.WritingBack.{Cleans, CleanFails, KeepsDevicesBut};
 ghost use Rattle.warm_pool.specs.steps.WritingBack.{WritesFrame};
-ghost use Rattle.warm_pool.specs.Pinning.{Pinned, PinRefused, Loaded, IsPlaced, LoadRefused};
-ghost use Rattle.warm_pool.specs.Pinning.{PutsIn, PutRefused, unpinned, IsNextVictim, TakesFrame};
-ghost use Rattle.warm_pool.specs.Pinning.{LeavesDevices};
-ghost use Rattle.warm_pool.specs.steps.Pinning.{current_slot, LoadsInto, LoadFails, FixesPage};
-ghost use Rattle.warm_pool.specs.steps.Pinning.{FixRefused, IsNextFrameToLoad};
-ghost use Rattle.warm_pool.specs.PageBytes.{IsLent, IsRead, ReadRefused, Written, WriteRefused};
-ghost use Rattle.warm_pool.specs.PageBytes.{MakesDirty};
-ghost use Rattle.warm_pool.specs.Refreshing.{UpdatesNamedRanks, RefreshesRanks, KeepsOtherRanks};
+ghost use Rattle.warm_pool.specs.Pinning.{PinRefused, LoadRefused, IsNextVictim, CanPinAgain};
+ghost use Rattle.warm_pool.specs.steps.Pinning.{current_slot, LoadsInto, FetchFails, FixesPage};
+ghost use Rattle.warm_pool.specs.steps.Pinning.{FixRefused, IsNextFrameToLoad, PutsPlaced};
+ghost use Rattle.warm_pool.specs.PageBytes.{IsLent, ReadRefused, WriteRefused};
 ghost use Rattle.warm_pool.specs.steps.Refreshing.{UpdatesRank, UpdatesRankIn};
-ghost use Rattle.warm_pool.specs.declared.fault.PoolFault.TheVariants.{OutOfPage, FixesFull};
+ghost use Rattle.warm_pool.specs.Outcomes.{LoadFails, LoadsPage, LoadsPlaced, PinFails, PinsAgain};
+ghost use Rattle.warm_pool.specs.Outcomes.{PinsPage, PinsPlaced, CopiesBytes, UnpinsPage};
+ghost use Rattle.warm_pool.specs.Outcomes.{UpdatesAllRanks, UpdatesRanks, WritesInto};
 
 use crate::MAX_DEVICES;
 use crate::device_list::{all_sized, pages_of, read_page, write_page};
@@ -206,20 +201,8 @@ impl<D: PageDevice> Pool<D> {
     pub fn pin(&mut self, page: PageId, history: &History) -> Result<Slot, PoolFault>
         requires ranked { RankedBy self.old history.now }
         ensures ranked { RankedBy self.new history.now }
-        ensures pinned { IfOk result (λ slot. Pinned history.now
-            (view_of self.old) page slot (view_of self.new)) }
-        ensures holds { IfOk result (λ slot. Holds (view_of self.new) slot) }
-        ensures frame { IfOk result (λ slot. TakesFrame
-            self.old page slot self.new) }
-        ensures refused { IfErr result (λ fault. PinRefused history.now
-            (view_of self.old) page fault (view_of self.new)) }
-        ensures stays { OnErr result (SameButFailures
-            (view_of self.old) (view_of self.new)) }
-        ensures frames { OnErr result (KeepsFrames
-            self.old self.new) }
-        ensures devices { IfErr result (λ fault. LeavesDevices history.now
-            self.old page fault self.new) }
-        ensures unflushed { FlushesNone self.old.devices self.new.devices }
+        ensures done { IfOk result (λ slot. PinsPage history.now page self.old slot self.new) }
+        ensures refused { IfErr result (λ why. PinFails history.now page self.old why self.new) }
     {
         let placed = self.pin_placed(page, history)?;
         Ok(placed.slot)
@@ -232,28 +215,44 @@ impl<D: PageDevice> Pool<D> {
     pub fn pin_placed(&mut self, page: PageId, history: &History) -> Result<Placed, PoolFault>
         requires ranked { RankedBy self.old history.now }
         ensures ranked { RankedBy self.new history.now }
-        ensures pinned { IfOk result (λ placed. Pinned history.now
-            (view_of self.old) page placed.slot (view_of self.new)) }
-        ensures evicted { IfOk result (λ placed. IsPlaced
-            (view_of self.old) page placed (view_of self.new)) }
-        ensures holds { IfOk result (λ placed. Holds (view_of self.new) placed.slot) }
-        ensures frame { IfOk result (λ placed. TakesFrame
-            self.old page placed.slot self.new) }
-        ensures refused { IfErr result (λ fault. PinRefused history.now
-            (view_of self.old) page fault (view_of self.new)) }
-        ensures stays { OnErr result (SameButFailures
-            (view_of self.old) (view_of self.new)) }
-        ensures frames { OnErr result (KeepsFrames
-            self.old self.new) }
-        ensures devices { IfErr result (λ fault. LeavesDevices history.now
-            self.old page fault self.new) }
-        ensures unflushed { FlushesNone self.old.devices self.new.devices }
+        ensures done { IfOk result (λ placed. PinsPlaced history.now
+            page self.old placed self.new) }
+        ensures refused { IfErr result (λ why. PinFails history.now page self.old why self.new) }
     {
         self.check(page)?;
         match self.frames.find(page) {
             Some(at) => self.add_fix(at),
             None => self.load_absent(page, history, 1),
         }
+    }
+
+    /// The slot of a resident page that can take one more pin, for [`Pool::pin_again`]. `None` where
+    /// the page isn't resident, or has as many pins as can be counted.
+    ///
+    /// Most pins are of such pages. This way to pin them has no refusal and loads nothing, so a
+    /// caller has a short path for them.
+    #[inline(always)]
+    pub fn pinnable(&self, page: PageId) -> Option<Slot>
+        ensures { IfSome result (CanPinAgain self.now page) }
+    {
+        let at = self.frames.find(page)?;
+        if self.frames.fixes(at) == u32::MAX {
+            return None;
+        }
+        Some(self.slot_at(at))
+    }
+
+    /// Pins a resident page once more, as [`Pool::pin_placed`] does.
+    pub fn pin_again(&mut self, _page: PageId, slot: Slot) -> Placed
+        requires can { CanPinAgain self.old _page slot }
+        ensures { PinsAgain _page self.old result self.new }
+    {
+        // It names a field, since only then does the checker know the invariant of the type.
+        let _ = &self.frames;
+        let Ok(placed) = self.add_fix(slot.index as usize) else {
+            unreachable!()
+        };
+        placed
     }
 
     /// Loads a page into a frame as [`Pool::pin`] does, but without a pin. A resident page is
@@ -265,19 +264,8 @@ impl<D: PageDevice> Pool<D> {
     pub fn load(&mut self, page: PageId, history: &History) -> Result<Slot, PoolFault>
         requires ranked { RankedBy self.old history.now }
         ensures ranked { RankedBy self.new history.now }
-        ensures loaded { IfOk result (λ slot. Loaded history.now
-            (view_of self.old) page slot (view_of self.new)) }
-        ensures frame { IfOk result (λ slot. TakesFrame
-            self.old page slot self.new) }
-        ensures refused { IfErr result (λ fault. LoadRefused history.now
-            (view_of self.old) page fault (view_of self.new)) }
-        ensures stays { OnErr result (SameButFailures
-            (view_of self.old) (view_of self.new)) }
-        ensures frames { OnErr result (KeepsFrames
-            self.old self.new) }
-        ensures devices { IfErr result (λ fault. LeavesDevices history.now
-            self.old page fault self.new) }
-        ensures unflushed { FlushesNone self.old.devices self.new.devices }
+        ensures done { IfOk result (λ slot. LoadsPage history.now page self.old slot self.new) }
+        ensures refused { IfErr result (λ why. LoadFails history.now page self.old why self.new) }
     {
         let placed = self.load_placed(page, history)?;
         Ok(placed.slot)
@@ -290,21 +278,9 @@ impl<D: PageDevice> Pool<D> {
     pub fn load_placed(&mut self, page: PageId, history: &History) -> Result<Placed, PoolFault>
         requires ranked { RankedBy self.old history.now }
         ensures ranked { RankedBy self.new history.now }
-        ensures loaded { IfOk result (λ placed. Loaded history.now
-            (view_of self.old) page placed.slot (view_of self.new)) }
-        ensures evicted { IfOk result (λ placed. IsPlaced
-            (view_of self.old) page placed (view_of self.new)) }
-        ensures frame { IfOk result (λ placed. TakesFrame
-            self.old page placed.slot self.new) }
-        ensures refused { IfErr result (λ fault. LoadRefused history.now
-            (view_of self.old) page fault (view_of self.new)) }
-        ensures stays { OnErr result (SameButFailures
-            (view_of self.old) (view_of self.new)) }
-        ensures frames { OnErr result (KeepsFrames
-            self.old self.new) }
-        ensures devices { IfErr result (λ fault. LeavesDevices history.now
-            self.old page fault self.new) }
-        ensures unflushed { FlushesNone self.old.devices self.new.devices }
+        ensures done { IfOk result (λ placed. LoadsPlaced history.now
+            page self.old placed self.new) }
+        ensures refused { IfErr result (λ why. LoadFails history.now page self.old why self.new) }
     {
         self.check(page)?;
         match self.frames.find(page) {
@@ -338,9 +314,7 @@ impl<D: PageDevice> Pool<D> {
     /// dirty.
     pub fn unpin(&mut self, slot: Slot)
         requires holds { Holds (view_of self.old) slot }
-        ensures ranked { KeepsRanks self.old self.new }
-        ensures unpinned { view_of self.new ≡ unpinned (view_of self.old) slot }
-        ensures kept { KeepsBytes self.old self.new }
+        ensures { UnpinsPage slot self.old self.new }
     {
         self.frames.unfix(slot.index as usize);
     }
@@ -367,10 +341,8 @@ impl<D: PageDevice> Pool<D> {
     /// `OutOfPage` where they reach beyond the end of the page; `into` is unchanged.
     pub fn read(&self, slot: Slot, at: usize, into: &mut [u8]) -> Result<(), PoolFault>
         requires holds { Holds (view_of self.now) slot }
-        ensures read { OnOk result (IsRead (view_of self.now) slot at into.new) }
-        ensures refused { IfErr result (λ fault. ReadRefused
-            self.now at into.old fault into.new) }
-        ensures len { length into.new ≡ length into.old }
+        ensures done { OnOk result (CopiesBytes (view_of self.now) slot at into.old into.new) }
+        ensures refused { IfErr result (λ fault. ReadRefused self.now at into.old fault into.new) }
     {
         if !self.is_within(at, into.len()) {
             return Err(PoolFault::OutOfPage);
@@ -388,13 +360,8 @@ impl<D: PageDevice> Pool<D> {
     pub fn write(&mut self, slot: Slot, at: usize, bytes: &[u8]) -> Result<(), PoolFault>
         requires holds { Holds (view_of self.old) slot }
         ensures ranked { KeepsRanks self.old self.new }
-        ensures written { OnOk result (Written (view_of self.old) slot at bytes.now
-            (view_of self.new)) }
-        ensures dirty { OnOk result (MakesDirty
-            self.old slot self.new) }
-        ensures refused { IfErr result (λ fault. WriteRefused
-            self.old at bytes.now fault
-            self.new) }
+        ensures done { OnOk result (WritesInto slot at bytes.now self.old self.new) }
+        ensures refused { IfErr result (λ why. WriteRefused self.old at bytes.now why self.new) }
     {
         if !self.is_within(at, bytes.len()) {
             return Err(PoolFault::OutOfPage);
@@ -406,12 +373,7 @@ impl<D: PageDevice> Pool<D> {
     /// Updates the ranks of those of the named pages that are resident, whatever the ranks of the
     /// others are. Other pages keep theirs. Allocation-free.
     pub fn refresh<T: NamesPage>(&mut self, history: &History, items: &[T])
-        ensures ranked { RefreshesRanks (map T.named items.now) history.now
-            self.old self.new }
-        ensures renewed { UpdatesNamedRanks (map T.named items.now) history.now self.new }
-        ensures others { KeepsOtherRanks (map T.named items.now) self.old self.new }
-        ensures same { view_of self.new ≡ view_of self.old }
-        ensures kept { KeepsBytes self.old self.new }
+        ensures { UpdatesRanks (map T.named items.now) history.now self.old self.new }
     {
         for item in items {
             self.update_rank(history, item.named());
@@ -420,9 +382,7 @@ impl<D: PageDevice> Pool<D> {
 
     /// Updates the ranks of all resident pages.
     pub fn refresh_all(&mut self, history: &History)
-        ensures ranked { RankedBy self.new history.now }
-        ensures same { view_of self.new ≡ view_of self.old }
-        ensures kept { KeepsBytes self.old self.new }
+        ensures { UpdatesAllRanks history.now self.old self.new }
     {
         for at in 0..self.frames.len() {
             self.update_rank_in(history, at);
@@ -491,15 +451,12 @@ impl<D: PageDevice> Pool<D> {
         requires there { at < length self.old.frames }
         requires held { (nth_frame self.old.frames at).page ≢ None }
         ensures ranked { KeepsRanks self.old self.new }
-        ensures fixed { FixesPage
-            self.old at result self.new }
+        ensures fixed { FixesPage self.old at result self.new }
         ensures evicted { IfOk result (λ placed. placed.evicted ≡ None) }
         ensures holds { IfOk result (λ placed. Holds (view_of self.new) placed.slot) }
         ensures kept { KeepsBytes self.old self.new }
-        ensures others { IfOk result (λ placed. KeepsOthers placed.slot.index
-            self.old self.new) }
-        ensures refused { IfErr result (λ fault. FixRefused
-            self.old at fault self.new) }
+        ensures others { IfOk result (λ placed. KeepsOthers placed.slot.index self.old self.new) }
+        ensures refused { IfErr result (λ fault. FixRefused self.old at fault self.new) }
     {
         let slot = self.slot_at(at);
         if self.frames.fixes(at) < u32::MAX {
@@ -518,8 +475,7 @@ impl<D: PageDevice> Pool<D> {
         ensures same { self.new ≡ self.old }
         ensures to_load { IsNextFrameToLoad self.old result }
         ensures there { IfSome result (λ at. at < length self.old.frames) }
-        ensures unfixed { IfSome result (λ at. (nth_frame
-            self.old.frames at).fixes ≡ 0) }
+        ensures unfixed { IfSome result (λ at. (nth_frame self.old.frames at).fixes ≡ 0) }
     {
         match self.frames.first_free() {
             Some(at) => Some(at),
@@ -538,20 +494,9 @@ impl<D: PageDevice> Pool<D> {
         requires known { HasPage (view_of self.old) page }
         requires absent { IsNowhere self.old.frames page }
         ensures ranked { RankedBy self.new history.now }
-        ensures put { IfOk result (λ placed. PutsIn history.now
-            (view_of self.old) page fixes placed.slot
-            (view_of self.new)) }
-        ensures evicted { IfOk result (λ placed. placed.evicted
-            ≡ (nth_frame self.old.frames placed.slot.index).page) }
-        ensures frame { IfOk result (λ placed. TakesFrame
-            self.old page placed.slot self.new) }
-        ensures refused { IfErr result (λ fault. PutRefused history.now
-            (view_of self.old) page fault (view_of self.new)) }
-        ensures frames { OnErr result (KeepsFrames
-            self.old self.new) }
-        ensures devices { IfErr result (λ fault. LeavesDevices history.now
-            self.old page fault self.new) }
-        ensures unflushed { FlushesNone self.old.devices self.new.devices }
+        ensures done { IfOk result (λ placed. PutsPlaced history.now
+            page fixes self.old placed self.new) }
+        ensures refused { IfErr result (λ why. LoadFails history.now page self.old why self.new) }
     {
         let Some(at) = self.frame_to_load() else {
             return Err(PoolFault::AllFixed);
@@ -573,20 +518,9 @@ impl<D: PageDevice> Pool<D> {
         requires to_load { IsNextFrameToLoad self.old (Some at) }
         requires there { at < length self.old.frames }
         ensures ranked { RankedBy self.new history.now }
-        ensures put { IfOk result (λ placed. PutsIn history.now
-            (view_of self.old) page fixes placed.slot
-            (view_of self.new)) }
-        ensures evicted { IfOk result (λ placed. placed.evicted
-            ≡ (nth_frame self.old.frames placed.slot.index).page) }
-        ensures frame { IfOk result (λ placed. TakesFrame
-            self.old page placed.slot self.new) }
-        ensures refused { IfErr result (λ fault. PutRefused history.now
-            (view_of self.old) page fault (view_of self.new)) }
-        ensures frames { OnErr result (KeepsFrames
-            self.old self.new) }
-        ensures devices { IfErr result (λ fault. LeavesDevices history.now
-            self.old page fault self.new) }
-        ensures unflushed { FlushesNone self.old.devices self.new.devices }
+        ensures done { IfOk result (λ placed. PutsPlaced history.now
+            page fixes self.old placed self.new) }
+        ensures refused { IfErr result (λ why. LoadFails history.now page self.old why self.new) }
     {
         let evicted = self.frames.page(at);
         if self.frames.generation(at) < u64::MAX {
@@ -614,7 +548,7 @@ impl<D: PageDevice> Pool<D> {
         requires absent { IsNowhere self.old.frames page }
         ensures put { OnOk result (LoadsInto self.old
             (read_at page.dev self.old.devices) at page key fixes self.new) }
-        ensures refused { IfErr result (λ fault. LoadFails self.old
+        ensures refused { IfErr result (λ fault. FetchFails self.old
             (read_at page.dev self.old.devices) at page fault self.new) }
         ensures unflushed { FlushesNone self.old.devices self.new.devices }
     {
@@ -657,8 +591,7 @@ pub(crate) fn write_back<D: PageDevice>(
         (pool_over D.state frames.new frames.old.page_size devices.new.items) }
     ensures unflushed { FlushesNone (map D.state devices.old.items)
         (map D.state devices.new.items) }
-    ensures unread { ReadsNone (map D.state devices.old.items)
-        (map D.state devices.new.items) }
+    ensures unread { ReadsNone (map D.state devices.old.items) (map D.state devices.new.items) }
 {
     let Some(page) = frames.page(at) else {
         return Ok(());

@@ -1,15 +1,12 @@
 //! Writing back some of a pool's pages, one page, and those of one device.
 ghost use Rattle.std.specs.Prelude.{◌≡◌, ◌<◌, length, OnOk, IfErr, IfOk, OnErr};
 ghost use Rattle.warm_pool.specs.Frames.{nth_frame};
-ghost use Rattle.warm_pool.specs.View.{view_of};
 ghost use Rattle.warm_pool.specs.Keeping.{KeepsRanks};
-ghost use Rattle.warm_pool.specs.Calls.{FlushesNone, FlushesOnce};
-ghost use Rattle.warm_pool.specs.Retiring.{KeepsElsewhere};
+ghost use Rattle.warm_pool.specs.Calls.{FlushesNone};
 ghost use Rattle.warm_pool.specs.steps.WritingBack.{CleanFails, Cleans, WritesFrame};
-ghost use Rattle.warm_pool.specs.WritingSome.{CleansFirst, FlushRefused, IsSettledOn, SomeFails};
-ghost use Rattle.warm_pool.specs.WritingSome.{KeepsOtherDevices, PageFails, WritesBackPage};
-ghost use Rattle.warm_pool.specs.WritingSome.{WritesBackSome, room_after};
-ghost use Rattle.warm_pool.specs.declared.fault.PoolFault.TheVariants.{Fault};
+ghost use Rattle.warm_pool.specs.WritingSome.{CleansFirst, SomeFails, room_after};
+ghost use Rattle.warm_pool.specs.Outcomes.{FlushDeviceFails, SettlesDevice, WritePageFails};
+ghost use Rattle.warm_pool.specs.Outcomes.{WriteSomeFails, WritesPageBack, WritesSomeBack};
 
 use crate::fault::PoolFault;
 use crate::pool::{Pool, write_back};
@@ -32,11 +29,8 @@ impl<D: PageDevice> Pool<D> {
     /// made before it stay, and all other pages are dirty as before.
     pub fn write_back_some(&mut self, limit: usize) -> Result<usize, PoolFault>
         ensures ranked { KeepsRanks self.old self.new }
-        ensures same { OnOk result (view_of self.new ≡ view_of self.old) }
-        ensures written { IfOk result (λ left. WritesBackSome limit self.old left self.new) }
-        ensures refused { IfErr result (λ fault. (fault ≡ Fault)
-            × SomeFails limit self.old self.new) }
-        ensures unflushed { FlushesNone self.old.devices self.new.devices }
+        ensures done { IfOk result (λ left. WritesSomeBack limit self.old left self.new) }
+        ensures refused { IfErr result (λ why. WriteSomeFails limit self.old why self.new) }
     {
         self.clean_first(limit).map_err(|_| PoolFault::Fault)?;
         Ok(self.dirty())
@@ -52,12 +46,8 @@ impl<D: PageDevice> Pool<D> {
     /// unchanged, so the page is dirty as before.
     pub fn write_back_page(&mut self, page: PageId) -> Result<bool, PoolFault>
         ensures ranked { KeepsRanks self.old self.new }
-        ensures same { OnOk result (view_of self.new ≡ view_of self.old) }
-        ensures written { IfOk result (λ was_dirty. WritesBackPage
-            self.old page was_dirty self.new) }
-        ensures refused { IfErr result (λ fault. (fault ≡ Fault)
-            × PageFails self.old page self.new) }
-        ensures unflushed { FlushesNone self.old.devices self.new.devices }
+        ensures done { IfOk result (λ was_dirty. WritesPageBack page self.old was_dirty self.new) }
+        ensures refused { IfErr result (λ why. WritePageFails page self.old why self.new) }
     {
         let Some(at) = self.frames.find(page) else {
             return Ok(false);
@@ -80,12 +70,8 @@ impl<D: PageDevice> Pool<D> {
     ///   increased. The write-backs made before it stay.
     pub fn flush_device(&mut self, dev: u16) -> Result<(), PoolFault>
         ensures ranked { KeepsRanks self.old self.new }
-        ensures same { OnOk result (view_of self.new ≡ view_of self.old) }
-        ensures settled { OnOk result (IsSettledOn dev self.new) }
-        ensures refused { IfErr result (λ fault. FlushRefused self.old dev fault self.new) }
-        ensures elsewhere { KeepsElsewhere dev self.old self.new }
-        ensures others { KeepsOtherDevices dev self.old self.new }
-        ensures once { FlushesOnce self.old.devices self.new.devices }
+        ensures done { OnOk result (SettlesDevice dev self.old self.new) }
+        ensures refused { IfErr result (λ why. FlushDeviceFails dev self.old why self.new) }
     {
         if dev as usize >= self.devices.len() {
             return Err(PoolFault::NoDevice);

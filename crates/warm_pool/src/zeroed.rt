@@ -1,20 +1,16 @@
 //! Pinning a page whose content becomes zeros, without reading it.
-ghost use Rattle.std.specs.Prelude.{◌≡◌, ◌≢◌, ◌<◌, ◌≤◌, ◌-◌, ◌^◌, length, replicate, map, None};
-ghost use Rattle.std.specs.Prelude.{Some, IfOk, IfErr, OnOk, OnErr};
+ghost use Rattle.std.specs.Prelude.{◌≡◌, ◌≢◌, ◌<◌, ◌≤◌, ◌-◌, ◌^◌, length, replicate, None, Some};
+ghost use Rattle.std.specs.Prelude.{IfOk, IfErr, OnOk};
 ghost use Rattle.warm_devices.specs.declared.TheConstants.{MAX_PAGE_SIZE};
-ghost use Rattle.warm_history.specs.Histories.{HistoryView};
-ghost use Rattle.warm_pool.specs.declared.fault.PoolFault.TheVariants.{ReadFault};
 ghost use Rattle.warm_pool.specs.Frames.{nth_frame};
 ghost use Rattle.warm_pool.specs.frame_table.FrameSteps.{changed_at};
 ghost use Rattle.warm_pool.specs.State.{RankedBy, IsNowhere, nth_device};
 ghost use Rattle.warm_pool.specs.View.{view_of, HasPage, Holds};
-ghost use Rattle.warm_pool.specs.Keeping.{SameButFailures, KeepsRanks, KeepsFrames};
-ghost use Rattle.warm_pool.specs.Calls.{FlushesNone};
-ghost use Rattle.warm_pool.specs.Pinning.{PutRefused};
+ghost use Rattle.warm_pool.specs.Keeping.{KeepsRanks};
+ghost use Rattle.warm_pool.specs.Calls.{FlushesNone, ReadsNone};
 ghost use Rattle.warm_pool.specs.steps.Pinning.{FixRefused, IsNextFrameToLoad};
-ghost use Rattle.warm_pool.specs.Zeroing.{PinnedZeroed, PutsZeros, TakesZeroed, LeavesUnread};
-ghost use Rattle.warm_pool.specs.Zeroing.{ZeroedRefused};
 ghost use Rattle.warm_pool.specs.steps.Zeroing.{FixesZeros, ZeroFails, ZeroesInto, zeroed_frame};
+ghost use Rattle.warm_pool.specs.Outcomes.{UnreadPinFails, ZeroesPage};
 
 use crate::fault::PoolFault;
 use crate::frame_table::frames::Frames;
@@ -40,17 +36,9 @@ impl<D: PageDevice> Pool<D> {
     pub fn pin_zeroed(&mut self, page: PageId, history: &History) -> Result<Slot, PoolFault>
         requires ranked { RankedBy self.old history.now }
         ensures ranked { RankedBy self.new history.now }
-        ensures pinned { IfOk result (λ slot. PinnedZeroed history.now
-            (view_of self.old) page slot (view_of self.new)) }
-        ensures holds { IfOk result (λ slot. Holds (view_of self.new) slot) }
-        ensures frame { IfOk result (λ slot. TakesZeroed self.old page slot self.new) }
-        ensures refused { IfErr result (λ fault. ZeroedRefused history.now
-            (view_of self.old) page fault (view_of self.new)) }
-        ensures stays { OnErr result (SameButFailures (view_of self.old) (view_of self.new)) }
-        ensures frames { OnErr result (KeepsFrames self.old self.new) }
-        ensures devices { IfErr result (λ fault. LeavesUnread history.now
-            self.old fault self.new) }
-        ensures unflushed { FlushesNone self.old.devices self.new.devices }
+        ensures done { IfOk result (λ slot. ZeroesPage history.now page self.old slot self.new) }
+        ensures refused { IfErr result (λ why. UnreadPinFails history.now
+            page self.old why self.new) }
     {
         self.check(page)?;
         match self.frames.find(page) {
@@ -80,16 +68,9 @@ impl<D: PageDevice> Pool<D> {
         requires known { HasPage (view_of self.old) page }
         requires absent { IsNowhere self.old.frames page }
         ensures ranked { RankedBy self.new history.now }
-        ensures put { IfOk result (λ slot. PutsZeros history.now
-            (view_of self.old) page slot (view_of self.new)) }
-        ensures frame { IfOk result (λ slot. TakesZeroed self.old page slot self.new) }
-        ensures refused { IfErr result (λ fault. PutRefused history.now
-            (view_of self.old) page fault (view_of self.new)) }
-        ensures unread { IfErr result (λ fault. fault ≢ ReadFault) }
-        ensures frames { OnErr result (KeepsFrames self.old self.new) }
-        ensures devices { IfErr result (λ fault. LeavesUnread history.now
-            self.old fault self.new) }
-        ensures unflushed { FlushesNone self.old.devices self.new.devices }
+        ensures done { IfOk result (λ slot. ZeroesPage history.now page self.old slot self.new) }
+        ensures refused { IfErr result (λ why. UnreadPinFails history.now
+            page self.old why self.new) }
     {
         let Some(at) = self.frame_to_load() else {
             return Err(PoolFault::AllFixed);
@@ -105,16 +86,9 @@ impl<D: PageDevice> Pool<D> {
         requires to_load { IsNextFrameToLoad self.old (Some at) }
         requires there { at < length self.old.frames }
         ensures ranked { RankedBy self.new history.now }
-        ensures put { IfOk result (λ slot. PutsZeros history.now
-            (view_of self.old) page slot (view_of self.new)) }
-        ensures frame { IfOk result (λ slot. TakesZeroed self.old page slot self.new) }
-        ensures refused { IfErr result (λ fault. PutRefused history.now
-            (view_of self.old) page fault (view_of self.new)) }
-        ensures unread { IfErr result (λ fault. fault ≢ ReadFault) }
-        ensures frames { OnErr result (KeepsFrames self.old self.new) }
-        ensures devices { IfErr result (λ fault. LeavesUnread history.now
-            self.old fault self.new) }
-        ensures unflushed { FlushesNone self.old.devices self.new.devices }
+        ensures done { IfOk result (λ slot. ZeroesPage history.now page self.old slot self.new) }
+        ensures refused { IfErr result (λ why. UnreadPinFails history.now
+            page self.old why self.new) }
     {
         if self.frames.generation(at) < u64::MAX {
             let key = rank_of(history, page);
@@ -133,6 +107,7 @@ impl<D: PageDevice> Pool<D> {
         requires absent { IsNowhere self.old.frames page }
         ensures put { OnOk result (ZeroesInto self.old at page key self.new) }
         ensures refused { IfErr result (λ fault. ZeroFails self.old at fault self.new) }
+        ensures unread { ReadsNone self.old.devices self.new.devices }
         ensures unflushed { FlushesNone self.old.devices self.new.devices }
     {
         if write_back(&mut self.frames, &mut self.devices, &mut self.tally, at).is_err() {

@@ -11,7 +11,7 @@ use Rattle.warm_devices.specs.Device.{DeviceState}
 use Rattle.warm_pool.specs.DeviceCalls.{failed_at}
 use Rattle.warm_pool.specs.Frames.{nth_frame}
 use Rattle.warm_pool.specs.Keeping.{FailsAt, KeepsContents}
-use Rattle.warm_pool.specs.Pinning.{AddsFix, IsFrameToLoad}
+use Rattle.warm_pool.specs.Pinning.{AddsFix, IsFrameToLoad, PutsIn, TakesFrame}
 use Rattle.warm_pool.specs.State.{PoolState, RankedBy}
 use Rattle.warm_pool.specs.View.{view_of}
 use Rattle.warm_pool.specs.WritingBack.{WaitsFor}
@@ -55,6 +55,13 @@ pub record LoadsInto (old : PoolState) (before : List DeviceState) (i : ℕ) (p 
       ≡ record (view_of old) { frames = (view_of new).frames; contents = (view_of new).contents }
   pub contents : KeepsContents (view_of old) (view_of new)
 
+-- a page that was in no frame was put into one, and the page that was there was evicted
+pub record PutsPlaced (h : HistoryView) (p : PageId) (fixes : ℕ) (old : PoolState)
+    (placed : Placed) (new : PoolState) : Type 0 where
+  pub put : PutsIn h (view_of old) p fixes placed.slot (view_of new)
+  pub evicted : placed.evicted ≡ (nth_frame old.frames placed.slot.index).page
+  pub frame : TakesFrame old p placed.slot new
+
 -- the page was not read: a failure of its device is counted, and nothing else has changed
 pub record ReadFails (old : PoolState) (p : PageId) (new : PoolState) : Type 0 where
   pub frames : new.frames ≡ old.frames
@@ -63,7 +70,7 @@ pub record ReadFails (old : PoolState) (p : PageId) (new : PoolState) : Type 0 w
 
 -- the read of the page failed, or the write of the frame's page failed, before which the devices
 -- were so
-abbrev pub LoadFails : PoolState → List DeviceState → ℕ → PageId → PoolFault → PoolState → Type 0
-LoadFails old before i p ReadFault new = ReadFails old p new
-LoadFails old before i p WriteBack new = WriteFails old before i new
-LoadFails old before i p why new = ⊥
+abbrev pub FetchFails : PoolState → List DeviceState → ℕ → PageId → PoolFault → PoolState → Type 0
+FetchFails old before i p ReadFault new = ReadFails old p new
+FetchFails old before i p WriteBack new = WriteFails old before i new
+FetchFails old before i p why new = ⊥

@@ -34,8 +34,7 @@ fn competing_key(
     requires page { at < length pages.now }
     requires status { at < length statuses.now }
     requires frame { at < length frames.now }
-    ensures { result
-        ≡ key_at (map eviction_key (frames_of pages.now statuses.now frames.now)) at }
+    ensures { result ≡ key_at (map eviction_key (frames_of pages.now statuses.now frames.now)) at }
 {
     if pages[at].is_none() {
         return None;

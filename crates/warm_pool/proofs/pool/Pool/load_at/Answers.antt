@@ -5,9 +5,11 @@ use Rattle.warm_pool.proofs.PoolSteps.{pool_seen, has_device, has_number, seen_g
 use Rattle.warm_pool.specs.DeviceCalls.{read_at}
 use Rattle.warm_pool.specs.View.{view_of}
 use Rattle.warm_pool.specs.Pinning.{PutsIn}
-use Rattle.warm_pool.proofs.Pins.{put_refused, failed_ranked, loaded_ranked, loaded_puts, loaded_slot}
-use Rattle.warm_pool.proofs.KeepingLemmas.{loaded_takes, failed_leaves}
+use Rattle.warm_pool.proofs.Pins.{failed_ranked, loaded_ranked, loaded_puts, loaded_slot}
+use Rattle.warm_pool.proofs.KeepingLemmas.{loaded_takes}
 use Rattle.warm_pool.proofs.FlushLemmas.{handed_on}
+use Rattle.warm_pool.specs.declared.fault.PoolFault.TheVariants.{FixesFull}
+use Rattle.warm_pool.proofs.OutcomeLemmas.{fetch_fails, unput_load_fails}
 use Rattle.warm_pool.proofs.pool.Pool.load_at.Goals as goal
 
 pub load_into-requires-clause-below : goal.load_into-requires-clause-below
@@ -23,50 +25,45 @@ load_into-requires-clause-known g c = has_number (pool_seen c.self.view_is c.sel
 pub returns-in_err-load_into-clause-ranked : goal.returns-in_err-load_into-clause-ranked
 returns-in_err-load_into-clause-ranked g c = failed_ranked c.args.self.now (read_at c.args.page.dev c.args.self.now.devices) c.load_into.new.self c.args.at c.args.page _ c.in_err-load_into.ensures.refused c.args.history.now c.requires.ranked
 
-pub returns-in_err-load_into-clause-refused : goal.returns-in_err-load_into-clause-refused
-returns-in_err-load_into-clause-refused g c =
-    handed_on c.from_residual.result c.in_err-load_into.field-0.0 _ c.from_residual.ensures.1 (put_refused c.args.self.now (read_at c.args.page.dev c.args.self.now.devices) c.load_into.new.self c.args.history.now c.args.at c.args.page (c.requires.to_load _ c.requires.ranked)
-    (subst (λ n. n < 18446744073709551615) (c.generation.ensures ∙ ap (λ s. (nth_frame s.frames c.args.at).generation) c.self.view_is) c.if-generation-lt18446744073709551615.true)
-    _ c.in_err-load_into.ensures.refused)
-
 pub returns-then-generation-lt18446744073709551615-clause-ranked : goal.returns-then-generation-lt18446744073709551615-clause-ranked
 returns-then-generation-lt18446744073709551615-clause-ranked g c =
     loaded_ranked c.args.self.now c.load_into.new.self c.args.at c.args.page c.rank_of-key.result c.args.fixes c.in_ok-load_into.ensures.put
     c.requires.there c.args.history.now c.rank_of-key.ensures c.requires.ranked
 
-pub returns-then-generation-lt18446744073709551615-clause-put : goal.returns-then-generation-lt18446744073709551615-clause-put
-returns-then-generation-lt18446744073709551615-clause-put g c =
+pub slot_at-slot-requires : goal.slot_at-slot-requires
+slot_at-slot-requires g c =
+    subst (λ n. c.args.at < n) (sym (ap length c.in_ok-load_into.ensures.put.frames ∙ length-set _ _ _)) c.requires.there
+
+pub returns-in_err-load_into-clause-refused : goal.returns-in_err-load_into-clause-refused
+returns-in_err-load_into-clause-refused g c =
+    handed_on c.from_residual.result c.in_err-load_into.field-0.0 _ c.from_residual.ensures.1 (
+    fetch_fails c.args.history.now c.args.self.now c.args.page c.requires.known c.requires.absent c.load_into.new.self c.args.at (c.requires.to_load _ c.requires.ranked)
+    (subst (λ n. n < 18446744073709551615) (c.generation.ensures ∙ ap (λ s. (nth_frame s.frames c.args.at).generation) c.self.view_is) c.if-generation-lt18446744073709551615.true)
+    c.in_err-load_into.ensures.unflushed _ c.in_err-load_into.ensures.refused)
+
+pub returns-then-generation-lt18446744073709551615-clause-done : goal.returns-then-generation-lt18446744073709551615-clause-done
+returns-then-generation-lt18446744073709551615-clause-done g c =
     let was : c.generation.result ≡ (nth_frame c.args.self.now.frames c.args.at).generation =
     c.generation.ensures ∙ ap (λ s. (nth_frame s.frames c.args.at).generation) c.self.view_is in
-    subst (λ slot. PutsIn c.args.history.now (view_of c.args.self.now) c.args.page c.args.fixes slot (view_of c.load_into.new.self))
-    (sym (loaded_slot c.args.self.now c.load_into.new.self c.args.at c.args.page c.rank_of-key.result c.args.fixes c.in_ok-load_into.ensures.put
-    c.requires.there _ c.slot_at-slot.ensures c.generation.result was))
-    (loaded_puts c.args.self.now c.load_into.new.self c.args.at c.args.page c.rank_of-key.result c.args.fixes c.in_ok-load_into.ensures.put
-    c.args.history.now c.requires.absent (c.requires.to_load _ c.requires.ranked) c.generation.result was c.if-generation-lt18446744073709551615.true)
+    record {
+      put = subst (λ slot. PutsIn c.args.history.now (view_of c.args.self.now) c.args.page c.args.fixes slot (view_of c.load_into.new.self))
+          (sym (loaded_slot c.args.self.now c.load_into.new.self c.args.at c.args.page c.rank_of-key.result c.args.fixes c.in_ok-load_into.ensures.put
+          c.requires.there _ c.slot_at-slot.ensures c.generation.result was))
+          (loaded_puts c.args.self.now c.load_into.new.self c.args.at c.args.page c.rank_of-key.result c.args.fixes c.in_ok-load_into.ensures.put
+          c.args.history.now c.requires.absent (c.requires.to_load _ c.requires.ranked) c.generation.result was c.if-generation-lt18446744073709551615.true);
+      evicted = c.page-evicted.ensures ∙ ap (λ s. (nth_frame s.frames c.args.at).page) c.self.view_is
+          ∙ ap (λ n. (nth_frame c.args.self.now.frames n).page) (sym (ap (λ x. x.index) c.slot_at-slot.ensures));
+      frame = loaded_takes _ _ c.args.at c.args.page c.rank_of-key.result c.args.fixes c.in_ok-load_into.ensures.put c.requires.there c.requires.absent c.in_ok-load_into.ensures.unflushed _ (ap (λ x. x.index) c.slot_at-slot.ensures);
+    }
 
 pub returns-clause-refused : goal.returns-clause-refused
 returns-clause-refused g c =
-    let full : c.generation.result ≡ 18446744073709551615 = omega arith in (
+    let full : c.generation.result ≡ 18446744073709551615 = omega arith in
+    unput_load_fails c.args.history.now c.args.self.now c.args.page c.requires.known c.requires.absent FixesFull (
       (
         c.args.at,
         c.requires.to_load _ c.requires.ranked,
         sym (seen_generation (pool_seen c.self.view_is c.self.invariant) c.args.at (c.generation.ensures ∙ ap (λ s. (nth_frame s.frames c.args.at).generation) c.self.view_is)) ∙ full,
       ),
       refl,
-    )
-
-pub returns-then-generation-lt18446744073709551615-clause-frame : goal.returns-then-generation-lt18446744073709551615-clause-frame
-returns-then-generation-lt18446744073709551615-clause-frame g c =
-    loaded_takes _ _ c.args.at c.args.page c.rank_of-key.result c.args.fixes c.in_ok-load_into.ensures.put c.requires.there c.requires.absent c.in_ok-load_into.ensures.unflushed _ (ap (λ x. x.index) c.slot_at-slot.ensures)
-
-pub returns-in_err-load_into-clause-devices : goal.returns-in_err-load_into-clause-devices
-returns-in_err-load_into-clause-devices g c = handed_on c.from_residual.result c.in_err-load_into.field-0.0 _ c.from_residual.ensures.1 (failed_leaves c.args.history.now c.args.self.now _ c.args.at c.args.page (c.requires.to_load _ c.requires.ranked) c.in_err-load_into.ensures.unflushed _ c.in_err-load_into.ensures.refused)
-
-pub slot_at-slot-requires : goal.slot_at-slot-requires
-slot_at-slot-requires g c =
-    subst (λ n. c.args.at < n) (sym (ap length c.in_ok-load_into.ensures.put.frames ∙ length-set _ _ _)) c.requires.there
-
-pub returns-then-generation-lt18446744073709551615-clause-evicted : goal.returns-then-generation-lt18446744073709551615-clause-evicted
-returns-then-generation-lt18446744073709551615-clause-evicted g c =
-    c.page-evicted.ensures ∙ ap (λ s. (nth_frame s.frames c.args.at).page) c.self.view_is
-    ∙ ap (λ n. (nth_frame c.args.self.now.frames n).page) (sym (ap (λ x. x.index) c.slot_at-slot.ensures))
+    ) refl

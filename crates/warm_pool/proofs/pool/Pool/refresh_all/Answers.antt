@@ -13,7 +13,10 @@ update_rank_in-requires g c =
 pub loop-at-preserved : goal.loop-at-preserved
 loop-at-preserved g c = next_first _ _ c.loop-at.invariant c.update_rank_in.ensures.same c.update_rank_in.ensures.kept c.update_rank_in.ensures.keys
 
-pub returns-clause-ranked : goal.returns-clause-ranked
-returns-clause-ranked g c =
-    let seen = ap (λ s. length s.frames) c.self.view_is in
-    all_first _ _ c.loop-at.invariant (omega (arith, seen, c.loop-at-test.false, c.loop-at.invariant.count, c.len-at-end.ensures))
+pub returns : goal.returns
+returns g c =
+    let seen = ap (λ s. length s.frames) c.self.view_is in record {
+      ranked = all_first _ _ c.loop-at.invariant (omega (arith, seen, c.loop-at-test.false, c.loop-at.invariant.count, c.len-at-end.ensures));
+      same = c.loop-at.invariant.same;
+      kept = c.loop-at.invariant.kept;
+    }

@@ -13,14 +13,21 @@ install_device-requires-clause-unfixed g c = way_unfixed _ _ c.args.dev _ c.in-O
 pub install_device-requires-clause-sized : goal.install_device-requires-clause-sized
 install_device-requires-clause-sized g c = sym c.page_size.ensures ∙ c.in-Ok.ensures.way.size ∙ sym c.in-Ok.ensures.way.down.same.0
 
-pub returns-in-Ok-clause-retired : goal.returns-in-Ok-clause-retired
-returns-in-Ok-clause-retired g c = retire_view _ _ _ c.args.dev _ _ c.in-Ok.ensures.way c.page_size.ensures c.install_device.ensures.retired
-
 pub returns-in-Ok-clause-ranked : goal.returns-in-Ok-clause-ranked
 returns-in-Ok-clause-ranked g c = λ h ranked. retire_ranked _ _ c.args.dev _ h c.install_device.ensures.retired (c.prepare_retire.ensures.ranked h ranked)
 
-pub returns-in-Ok-clause-elsewhere : goal.returns-in-Ok-clause-elsewhere
-returns-in-Ok-clause-elsewhere g c = elsewhere_retired c.args.self.now c.prepare_retire.new.self c.install_device.new.self c.args.dev _ c.prepare_retire.ensures.elsewhere c.install_device.ensures.retired
+pub returns-in-Ok-clause-done : goal.returns-in-Ok-clause-done
+returns-in-Ok-clause-done g c = record {
+  retires = record {
+    retired = retire_view _ _ _ c.args.dev _ _ c.in-Ok.ensures.way c.page_size.ensures c.install_device.ensures.retired;
+    elsewhere = elsewhere_retired c.args.self.now c.prepare_retire.new.self c.install_device.new.self c.args.dev _ c.prepare_retire.ensures.elsewhere c.install_device.ensures.retired;
+  };
+  handed_back = handed_down (One c.args.dev) _ _ c.args.dev _ c.in-Ok.ensures.way.down c.install_device.ensures.handed_back;
+}
 
-pub returns-in-Ok-clause-handed_back : goal.returns-in-Ok-clause-handed_back
-returns-in-Ok-clause-handed_back g c = handed_down (One c.args.dev) _ _ c.args.dev _ c.in-Ok.ensures.way.down c.install_device.ensures.handed_back
+pub returns-in-Err-clause-refused : goal.returns-in-Err-clause-refused
+returns-in-Err-clause-refused g c = record {
+  cause = c.in-Err.ensures.refused (g.D.PageDevice.state c.args.device) (sym c.page_size.ensures);
+  stopped = c.in-Err.ensures.stopped;
+  elsewhere = c.in-Err.ensures.elsewhere;
+}

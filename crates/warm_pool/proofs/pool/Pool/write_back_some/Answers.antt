@@ -1,9 +1,20 @@
-use Rattle.warm_pool.proofs.PoolSteps.{of_ok}
+use Rattle.warm_pool.proofs.PoolSteps.{of_ok, of_err}
 use Rattle.warm_pool.proofs.SomeLemmas.{first_view}
+use Rattle.warm_pool.specs.declared.fault.PoolFault.TheVariants.{Fault}
+use Rattle.warm_pool.proofs.FlushLemmas.{handed_on}
+use Rattle.std.proofs.Common.{refl, rules}
 use Rattle.warm_pool.proofs.pool.Pool.write_back_some.Goals as goal
 
-pub returns-clause-same : goal.returns-clause-same
-returns-clause-same g c = first_view c.args.limit _ _ (of_ok c.clean_first.result c.in_ok-map_err.ensures.variant c.clean_first.ensures.down)
+pub returns-clause-done : goal.returns-clause-done
+returns-clause-done g c =
+    let down = of_ok c.clean_first.result c.in_ok-map_err.ensures.variant c.clean_first.ensures.down in record {
+      same = first_view c.args.limit _ _ down;
+      written = (down, c.dirty.ensures);
+      unflushed = c.clean_first.ensures.unflushed;
+    }
 
-pub returns-clause-written : goal.returns-clause-written
-returns-clause-written g c = (of_ok c.clean_first.result c.in_ok-map_err.ensures.variant c.clean_first.ensures.down, c.dirty.ensures)
+pub returns-in_err-map_err-clause-refused : goal.returns-in_err-map_err-clause-refused
+returns-in_err-map_err-clause-refused g c = handed_on c.from_residual.result Fault _ (search rules) (record {
+  cause = (refl, of_err c.clean_first.result c.in_err-map_err.ensures.variant c.clean_first.ensures.stopped);
+  unflushed = c.clean_first.ensures.unflushed;
+})

@@ -71,3 +71,9 @@ returns-then-is_err-clause-unflushed g c = rw (← c.self.view_is) c.write_back.
 
 pub returns-clause-unflushed : goal.returns-clause-unflushed
 returns-clause-unflushed g c = rw (← c.self.view_is) c.write_back.ensures.unflushed
+
+pub returns-then-is_err-clause-unread : goal.returns-then-is_err-clause-unread
+returns-then-is_err-clause-unread g c = rw (← c.self.view_is) c.write_back.ensures.unread
+
+pub returns-clause-unread : goal.returns-clause-unread
+returns-clause-unread g c = rw (← c.self.view_is) c.write_back.ensures.unread

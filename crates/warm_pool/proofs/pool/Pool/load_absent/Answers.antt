@@ -1,0 +1,15 @@
+use Rattle.warm_pool.specs.declared.fault.PoolFault.TheVariants.{AllFixed}
+use Rattle.std.proofs.Common.{refl}
+use Rattle.warm_pool.proofs.OutcomeLemmas.{unput_load_fails}
+use Rattle.warm_pool.proofs.pool.Pool.load_absent.Goals as goal
+
+pub returns-in_default-clause-refused : goal.returns-in_default-clause-refused
+returns-in_default-clause-refused g c =
+    rw c.frame_to_load.ensures.same (unput_load_fails c.args.history.now c.args.self.now c.args.page c.requires.known c.requires.absent AllFixed
+    (c.in_default.ensures.to_load c.args.history.now c.requires.ranked, refl) refl)
+
+pub returns-clause-done : goal.returns-clause-done
+returns-clause-done g c = rw c.frame_to_load.ensures.same at c.load_at.ensures.done
+
+pub returns-clause-refused : goal.returns-clause-refused
+returns-clause-refused g c = rw c.frame_to_load.ensures.same at c.load_at.ensures.refused
