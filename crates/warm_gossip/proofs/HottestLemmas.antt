@@ -1,15 +1,14 @@
 -- With each page of a warm-up list those that leave after it are in the list too.
-use Rattle.std.proofs.Common.{◌≡◌, ◌⊎◌, ℕ, zero, suc, true, List, [], ◌∷◌, map, take, is_some, Option, Some, None, refl, sym, ap, subst, ◌∙◌, inl, inr}
-use Rattle.std.specs.List.{AllByRecursion, Contains}
+use Rattle.std.proofs.Common.{◌≡◌, ◌⊎◌, ℕ, zero, suc, true, List, [], ◌∷◌, map, take, is_some, Option, Some, None, refl, sym, ap, ◌∙◌, inl, inr}
+use Rattle.std.specs.List.{Contains}
 use Rattle.std.specs.Ordering.{flip_args}
-use Rattle.std.proofs.lemmas.List.Elements.{All-contains, All-contains_itself, All-from_recursion, recursion_from_All}
 use Rattle.std.specs.declared.cmp.Ordering.{Ordering}
 use Rattle.std.specs.declared.cmp.Ordering.TheVariants.{Less, Greater}
 use Rattle.warm_stamps.specs.declared.PageId.{PageId}
 use Rattle.warm_stamps.specs.declared.Reference.{Reference}
 use Rattle.warm_stamps.specs.Stamps.{stamp_cmp, page_cmp}
 use Rattle.warm_stamps.specs.Distinct.{distinct, IsAscending}
-use Rattle.warm_stamps.proofs.DistinctLemmas.{Has, IsStrictOrder, all_of_has, all_take, by_cases, flipped, distinct_rises, has_distinct, has_from_distinct}
+use Rattle.warm_stamps.proofs.DistinctLemmas.{Has, IsStrictOrder, by_cases, flipped, distinct_rises, has_distinct, has_from_distinct}
 use Rattle.warm_stamps.proofs.StampLemmas.{page_order, IsStrictOrder-flip}
 use Rattle.warm_history.specs.ReferenceSets.{ReferenceSet, references}
 use Rattle.warm_history.specs.declared.hist.PageHist.{PageHist}
@@ -21,26 +20,7 @@ use Rattle.warm_rank.specs.Keys.{rank_key, key_cmp}
 use Rattle.warm_rank.specs.Ranking.{eviction_cmp, IsBefore, hottest_pages}
 use Rattle.warm_rank.proofs.KeyLemmas.{keys_order_pages}
 use Rattle.warm_rank.proofs.EvictionLemmas.{eviction_order}
-
--- ---- the items of a list
-
--- what is true of all is true of each
-pub all_has : {A : Type 0} (P : A → Type 0) (xs : List A) (x : A) → AllByRecursion P xs → Has xs x
-    → P x
-all_has P [] x all has = absurd has
-all_has P (y ∷ ys) x all (inl is) = subst P is all.0
-all_has P (y ∷ ys) x all (inr later) = all_has P ys x all.1 later
-
--- the first items of a list are items of it
-has_take : {A : Type 0} (n : ℕ) (xs : List A) (x : A) → Has (take n xs) x → Has xs x
-has_take n xs x has = all_has (Has xs) (take n xs) x (all_take (Has xs) n xs (all_of_has (Has xs) xs (λ y is. is))) has
-
--- the two ways to say that a list has an item
-pub contains_has : {A : Type 0} (xs : List A) (x : A) → Contains xs x → Has xs x
-contains_has xs x contained = All-contains (Has xs) xs x (All-from_recursion (Has xs) xs (all_of_has (Has xs) xs (λ y has. has))) contained
-
-pub has_contains : {A : Type 0} (xs : List A) (x : A) → Has xs x → Contains xs x
-has_contains xs x has = all_has (Contains xs) xs x (recursion_from_All (Contains xs) xs (All-contains_itself xs)) has
+use Rattle.warm_rank.proofs.Outranked.{all_has, contains_has, has_contains, has_take}
 
 -- ---- which pages a warm-up list has
 

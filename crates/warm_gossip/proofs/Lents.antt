@@ -1,6 +1,6 @@
 -- The bytes of a page of a node's pool are lent, and whatever is left in them is the page's
 -- content.
-use Rattle.std.proofs.Common.{◌≡◌, ℕ, true, List, length, set, refl, ap, subst, ◌∙◌}
+use Rattle.std.proofs.Common.{◌≡◌, ◌≢◌, ℕ, ◌<◌, true, List, length, set, None, refl, ap, subst, ◌∙◌}
 use Rattle.warm_history.specs.Histories.{HistoryView}
 use Rattle.warm_pool.specs.declared.slot.Slot.{Slot}
 use Rattle.warm_pool.specs.Frames.{nth_frame}
@@ -9,8 +9,7 @@ use Rattle.warm_pool.specs.Lending.{refilled, relent_pool}
 use Rattle.warm_pool.specs.PageBytes.{MakesDirty}
 use Rattle.warm_pool.specs.State.{PoolState, IsPool, RankedBy}
 use Rattle.warm_pool.specs.View.{view_of, Holds}
-use Rattle.warm_pool.proofs.Keeps.{held_there}
-use Rattle.warm_pool.proofs.Lents.{length-refilled, lent_page, refilled_whole}
+use Rattle.warm_pool.proofs.Lents.{length-refilled, lent_page, lent_page_at, refilled_whole}
 use Rattle.warm_gossip.specs.declared.call.Call.TheVariants.{Write}
 use Rattle.warm_gossip.specs.declared.call.Reply.TheVariants.{Done}
 use Rattle.warm_gossip.specs.declared.warm_step.WarmUp.{WarmUp}
@@ -20,8 +19,8 @@ use Rattle.warm_gossip.specs.State.{NodeState}
 use Rattle.warm_gossip.specs.WarmingUp.{IsWarming}
 use Rattle.warm_gossip.proofs.WarmUpKept.{warms_on}
 
-module _ (s : PoolState) (slot : Slot) (pool : IsPool s) (holds : Holds (view_of s) slot)
-    (w : List ℕ) where
+module _ (s : PoolState) (slot : Slot) (pool : IsPool s) (there : slot.index < length s.frames)
+    (some : (nth_frame s.frames slot.index).page ≢ None) (w : List ℕ) where
   -- as many bytes as the page has, which is all that is left
   abbrev left : List ℕ
   left = refilled (nth_frame s.frames slot.index).bytes w
@@ -30,7 +29,7 @@ module _ (s : PoolState) (slot : Slot) (pool : IsPool s) (holds : Holds (view_of
   all_left = refilled_whole (nth_frame s.frames slot.index).bytes left (length-refilled (nth_frame s.frames slot.index).bytes w)
 
   written : IsWrittenWhole s slot left (relent_pool s slot.index left)
-  written = lent_page s slot left pool holds (length-refilled (nth_frame s.frames slot.index).bytes w ∙ pool.frame_size slot.index (held_there pool slot holds))
+  written = lent_page_at s slot left pool there some (length-refilled (nth_frame s.frames slot.index).bytes w ∙ pool.frame_size slot.index there)
 
   -- the same pool, whether all or the first of these bytes are left
   same : relent_pool s slot.index left ≡ relent_pool s slot.index w

@@ -21,6 +21,8 @@ use Rattle.warm_history.specs.Histories.{HistoryView, StandsFor, pages}
 use Rattle.warm_rank.specs.Laws.{pages_in}
 use Rattle.warm_rank.specs.Ranking.{IsVictim, eviction_cmp, hottest_pages}
 use Rattle.warm_rank.proofs.EvictionLemmas.{truncation_keeps_order}
+use Rattle.warm_rank.proofs.Outranked.{has_contains}
+use Rattle.warm_rank.proofs.RaisedLemmas.{differs}
 use Rattle.warm_pool.specs.declared.slot.Slot.{Slot}
 use Rattle.warm_pool.specs.State.{PoolState, IsPool}
 use Rattle.warm_pool.specs.View.{PoolView, FrameView, frame_at, is_page, HasPage, IsResident, IsAbsent, IsUnfixed, unfixed_page, unfixed_pages, view_of}
@@ -32,8 +34,7 @@ use Rattle.warm_gossip.specs.State.{NodeView}
 use Rattle.warm_gossip.specs.Step.{IsFirstLoadable, IsLoadable, IsNextWarm, Step, nth_page}
 use Rattle.warm_gossip.specs.WarmingUp.{IsPast}
 use Rattle.warm_gossip.specs.WarmUps.{PagesDiffer, WarmSteps, WarmStepKeepsHottest, NodeWarmUpLoads}
-use Rattle.warm_gossip.proofs.HottestLemmas.{has_contains, after_listed}
-use Rattle.warm_gossip.proofs.Ranks.{differs}
+use Rattle.warm_gossip.proofs.HottestLemmas.{after_listed}
 use Rattle.warm_gossip.proofs.VictimLemmas.{no_frame, frames_after, none_changed, refused, victim_left, victim_over}
 
 -- ---- the pages in the frames

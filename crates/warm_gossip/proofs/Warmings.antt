@@ -1,10 +1,14 @@
 -- What loading does of a page that a device has and no frame.
-use Rattle.std.proofs.Common.{◌≡◌, ◌<◌, ℕ, List, Option, Some, length, ap, inl, inr, subst, sym, arith}
+use Rattle.std.proofs.Common.{◌≡◌, ◌<◌, ◌≤◌, ℕ, List, [], Option, Some, None, length, map, ap, inl, inr, subst, sym, arith}
+use Rattle.std.proofs.lemmas.List.{length-map}
 use Rattle.warm_stamps.specs.declared.PageId.{PageId}
 use Rattle.warm_history.specs.Histories.{HistoryView, IsHistory, references_of}
 use Rattle.warm_history.proofs.JoinLemmas.{history_of_own_references}
+use Rattle.warm_rank.specs.declared.RankKey.{RankKey}
+use Rattle.warm_rank.specs.Keys.{ranked_page}
 use Rattle.warm_rank.specs.Ranking.{hottest_pages}
 use Rattle.warm_rank.specs.WarmUp.{IsWarmUp}
+use Rattle.warm_rank.proofs.RaisedLemmas.{hottest_still}
 use Rattle.warm_pool.specs.declared.slot.Slot.{Slot}
 use Rattle.warm_pool.specs.declared.fault.PoolFault.{PoolFault}
 use Rattle.warm_pool.specs.declared.fault.PoolFault.TheVariants.{NoDevice, NoPage}
@@ -12,8 +16,8 @@ use Rattle.warm_pool.specs.View.{PoolView}
 use Rattle.warm_pool.specs.Pinning.{Loaded, LoadRefused, PutsIn, PutRefused}
 use Rattle.warm_gossip.specs.State.{NodeView}
 use Rattle.warm_gossip.specs.Step.{IsFirstLoadable, IsLoadable, nth_page}
-use Rattle.warm_gossip.specs.WarmingUp.{IsPast, IsUnderWay}
-use Rattle.warm_gossip.proofs.Passed.{first_there}
+use Rattle.warm_gossip.specs.WarmingUp.{IsListed, IsPast}
+use Rattle.warm_gossip.proofs.Passed.{first_there, none_left}
 
 -- it is put into a frame
 pub loaded_in : {h : HistoryView} {v w : PoolView} {p : PageId} {slot : Slot} → IsLoadable v p
@@ -48,15 +52,26 @@ pub next_is : (v : PoolView) (h : HistoryView) (ps : List PageId) (p q : PageId)
     → IsFirstLoadable v (hottest_pages (references_of h) (length v.frames)) (Some q)
 next_is v h ps p q whole hottest first is = next_warm v h ps (Some q) whole hottest (subst (λ x. IsFirstLoadable v ps (Some x)) is first)
 
--- The page that a step loads is the next to load, and can be loaded. `ps` are the pages of the
--- warm-up, which the search for that page read as `xs`.
-pub page_to_load : (v : PoolView) (h k : HistoryView) (ps xs : List PageId) (at n : ℕ) (p : PageId)
-    → IsHistory h → k ≡ h → IsUnderWay k v ps n → xs ≡ ps → IsPast xs at v
-    → (at < length xs → IsLoadable v (nth_page xs at)) → at < length ps → nth_page ps at ≡ p
+-- The page that a step loads is the next to load, and can be loaded.
+pub page_to_load : (v : PoolView) (h k : HistoryView) (keys : List RankKey) (at n : ℕ) (p : PageId)
+    → IsHistory h → k ≡ h → IsListed k v [] keys n → IsPast (map ranked_page keys) at v
+    → (at < length keys → IsLoadable v (nth_page (map ranked_page keys) at)) → at < length keys
+    → p ≡ nth_page (map ranked_page keys) at
     → IsFirstLoadable v (hottest_pages (references_of h) (length v.frames)) (Some p)
     × IsLoadable v p
-page_to_load v h k ps xs at n p whole same under read past loads there is =
-    let hottest = subst (λ x. IsWarmUp x (length v.frames) ps) same under.hottest in
-    let first = subst (λ ys. IsPast ys at v) read past in
-    let loadable = subst (λ ys. IsLoadable v (nth_page ys at)) read (loads (subst (λ ys. at < length ys) (sym read) there)) in
-    (next_is v h ps _ p whole hottest (first_there v ps at first there loadable) is, subst (IsLoadable v) is loadable)
+page_to_load v h k keys at n p whole same under past loads there is =
+    let ps = map ranked_page keys in
+    let hottest = subst (λ x. IsWarmUp x (length v.frames) ps) same (hottest_still k (length v.frames) keys under.hottest) in
+    let within : at < length ps = omega (arith, there, length-map keys ranked_page) in
+    let loadable = loads there in
+    (next_is v h ps _ p whole hottest (first_there v ps at past within loadable) (sym is), subst (IsLoadable v) (sym is) loadable)
+
+-- Where no page of the list can be loaded, there is none to load next.
+pub none_to_load : (v : PoolView) (h k : HistoryView) (keys : List RankKey) (at n : ℕ)
+    → IsHistory h → k ≡ h → IsListed k v [] keys n → IsPast (map ranked_page keys) at v
+    → length keys ≤ at
+    → IsFirstLoadable v (hottest_pages (references_of h) (length v.frames)) None
+none_to_load v h k keys at n whole same under past all =
+    let ps = map ranked_page keys in
+    let hottest = subst (λ x. IsWarmUp x (length v.frames) ps) same (hottest_still k (length v.frames) keys under.hottest) in
+    next_warm v h ps None whole hottest (none_left v ps at past (omega (arith, all, length-map keys ranked_page)))

@@ -1,9 +1,12 @@
 -- The progress of a node's warm-up, which is kept between its steps.
-use Rattle.std.specs.Prelude.{◌≡◌, ◌⊎◌, ℕ, ◌+◌, ◌<◌, List, length, Option, Some, None, IfSome}
+use Rattle.std.specs.Prelude.{◌≡◌, ◌⊎◌, ℕ, ◌+◌, ◌<◌, ◌++◌, List, [], length, map, Option, Some}
+use Rattle.std.specs.Prelude.{None, IfSome}
 use Rattle.warm_stamps.specs.declared.PageId.{PageId}
 use Rattle.warm_history.specs.Histories.{HistoryView, references_of}
+use Rattle.warm_rank.specs.declared.RankKey.{RankKey}
+use Rattle.warm_rank.specs.Keys.{ranked_page}
 use Rattle.warm_rank.specs.Ranking.{IsBefore}
-use Rattle.warm_rank.specs.WarmUp.{IsWarmUp}
+use Rattle.warm_rank.specs.Relisting.{WereHottest, listed_page}
 use Rattle.warm_pool.specs.View.{PoolView}
 use Rattle.warm_gossip.specs.declared.warm_step.WarmUp.{WarmUp}
 use Rattle.warm_gossip.specs.Step.{IsLoadable, nth_page}
@@ -13,15 +16,22 @@ abbrev pub IsPast : List PageId → ℕ → PoolView → Type 0
 IsPast pages passed v = (j : ℕ) → j < passed → j < length pages → IsLoadable v (nth_page pages j)
     → ⊥
 
--- the pages are the hottest, as many as there are frames, and the first `passed` of them are passed
-pub record IsUnderWay (h : HistoryView) (v : PoolView) (pages : List PageId)
+-- a list that is kept: these keys were those of the hottest pages, as many as there are frames, and
+-- since then only these pages rose; the first `passed` pages are passed
+pub record IsListed (h : HistoryView) (v : PoolView) (changed : List PageId) (keys : List RankKey)
     (passed : ℕ) : Type 0 where
-  pub hottest : IsWarmUp h (length v.frames) pages
-  pub past : IsPast pages passed v
+  pub hottest : WereHottest h (length v.frames) changed keys
+  pub past : IsPast (map ranked_page keys) passed v
 
--- this holds where a list of pages is kept
+-- this holds where a list is kept
 abbrev pub IsWarming : HistoryView → PoolView → WarmUp → Type 0
-IsWarming h v warm_up = IfSome warm_up.pages (λ pages. IsUnderWay h v pages.items warm_up.passed)
+IsWarming h v warm_up =
+    IfSome warm_up.list (λ keys. IsListed h v warm_up.changed.items keys warm_up.passed)
+
+-- these pages may have risen: they are noted, or the list is dropped
+abbrev pub Notes : List PageId → WarmUp → WarmUp → Type 0
+Notes pages old new = (new.list ≡ None) ⊎ ((new.list ≡ old.list) × (new.passed ≡ old.passed)
+    × (new.changed.items ≡ old.changed.items ++ pages))
 
 -- after a pin: the count of passed pages is 0, or no page was evicted and the count is unchanged
 abbrev pub PassedAtPin : Option PageId → ℕ → ℕ → Type 0
@@ -38,12 +48,14 @@ abbrev pub PassedAtLoad : HistoryView → PageId → Option PageId → ℕ → �
 PassedAtLoad h p evicted at new = (new ≡ 0) ⊎ ((new ≡ at + 1) × IsNoneBefore h p evicted)
 
 -- the pinned page was the next one of the list, and is passed as after a load; or none is passed
-abbrev pub PassedAtNext : HistoryView → List PageId → ℕ → PageId → PageId → ℕ → Type 0
-PassedAtNext h pages at p evicted new = (new ≡ 0) ⊎ ((at < length pages) × (nth_page pages at ≡ p)
+abbrev pub PassedAtNext : HistoryView → List RankKey → ℕ → PageId → PageId → ℕ → Type 0
+PassedAtNext h keys at p evicted new = (new ≡ 0) ⊎ ((at < length keys) × (listed_page keys at ≡ p)
     × PassedAtLoad h p (Some evicted) at new)
 
--- after a pin of a page whose bytes were given
+-- after a pin of a page whose bytes were given: a list in which pages may have risen does not say
+-- in which order its pages leave
 abbrev pub PassedAtFill : HistoryView → WarmUp → PageId → Option PageId → ℕ → Type 0
 PassedAtFill h warm_up p None new = new ≡ warm_up.passed
-PassedAtFill h warm_up p (Some evicted) new =
-    IfSome warm_up.pages (λ pages. PassedAtNext h pages.items warm_up.passed p evicted new)
+PassedAtFill h warm_up p (Some evicted) new = IfSome warm_up.list (λ keys. (new ≡ 0)
+    ⊎ ((warm_up.changed.items ≡ [])
+    × PassedAtNext h keys warm_up.passed p evicted new))

@@ -15,6 +15,7 @@ ghost use Rattle.warm_gossip.specs.Clauses.{JoinsEntries, SameView, done};
 use crate::fault::NodeFault;
 use crate::node::Node;
 use crate::warm_step::WarmUp;
+use std::alloc::Global;
 use warm_devices::PageDevice;
 use warm_frames::{Message, MessageList};
 use warm_history::laws::prove_is_history;
@@ -27,13 +28,18 @@ use warm_stamps::{Bucket, PageId, PageList, Reference};
 // Where any entries of a node's history may have changed: the warm-up list, which is of the entries
 // before, is dropped, and all resident pages are ranked again. The node is not whole until then, so
 // this is a function of its parts.
-fn entries_changed<D: PageDevice>(history: &History, pool: &mut Pool<D>, warm_up: &mut WarmUp)
+fn entries_changed<D: PageDevice>(
+    alloc: Global,
+    history: &History,
+    pool: &mut Pool<D>,
+    warm_up: &mut WarmUp,
+)
     ensures ranked { RankedBy pool.new history.now }
     ensures same { view_of pool.new ≡ view_of pool.old }
     ensures kept { KeepsBytes pool.old pool.new }
-    ensures dropped { warm_up.new.pages ≡ None }
+    ensures dropped { warm_up.new.list ≡ None }
 {
-    *warm_up = WarmUp::new();
+    *warm_up = WarmUp::new(alloc);
     pool.refresh_all(history);
 }
 
@@ -41,7 +47,8 @@ impl<D: PageDevice> Node<D> {
     /// Adds references to the history: the call `Absorb`.
     ///
     /// References that are not new change nothing: digests and the warm-up list stay cached, and no
-    /// page is ranked again.
+    /// page is ranked again. Otherwise the pages that the batch names are ranked again, in the pool
+    /// now and in the list at the next warm-up step.
     ///
     /// # Errors
     /// `Memory`: an allocation failed; nothing has changed.
@@ -53,7 +60,7 @@ impl<D: PageDevice> Node<D> {
         if changed.is_empty() {
             return Ok(());
         }
-        self.warm_up = WarmUp::new();
+        self.warm_up.note(self.alloc, batch);
         self.pool.refresh(self.peer.history(), batch);
         Ok(())
     }
@@ -76,10 +83,15 @@ impl<D: PageDevice> Node<D> {
             return Ok(());
         }
         if own < horizon {
-            entries_changed(self.peer.history(), &mut self.pool, &mut self.warm_up);
+            entries_changed(
+                self.alloc,
+                self.peer.history(),
+                &mut self.pool,
+                &mut self.warm_up,
+            );
             return Ok(());
         }
-        self.warm_up = WarmUp::new();
+        self.warm_up.note(self.alloc, entries);
         self.pool.refresh(self.peer.history(), entries);
         Ok(())
     }
@@ -104,7 +116,12 @@ impl<D: PageDevice> Node<D> {
         if changed.is_empty() {
             return Ok(());
         }
-        entries_changed(self.peer.history(), &mut self.pool, &mut self.warm_up);
+        entries_changed(
+            self.alloc,
+            self.peer.history(),
+            &mut self.pool,
+            &mut self.warm_up,
+        );
         Ok(())
     }
 
@@ -128,7 +145,12 @@ impl<D: PageDevice> Node<D> {
         if lost.is_empty() {
             return self.peer.horizon();
         }
-        entries_changed(self.peer.history(), &mut self.pool, &mut self.warm_up);
+        entries_changed(
+            self.alloc,
+            self.peer.history(),
+            &mut self.pool,
+            &mut self.warm_up,
+        );
         self.peer.horizon()
     }
 

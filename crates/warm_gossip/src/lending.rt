@@ -1,10 +1,11 @@
 //! The bytes of a node's pages, lent.
 //!
-//! Neither of these is a [`crate::Call`]: a call is a value, with a reply that is one, and lent
-//! bytes are a borrow of the node.
-ghost use Rattle.std.specs.Prelude.{◌≡◌, IfErr, IfOk};
+//! None of these is a [`crate::Call`]: a call is a value, with a reply that is one, and lent bytes
+//! are a borrow of the node.
+ghost use Rattle.std.specs.Prelude.{◌≡◌, IfErr, IfOk, IfSome};
 ghost use Rattle.std.specs.Borrow.{sem};
 ghost use Rattle.warm_pool.specs.PageBytes.{IsLent};
+ghost use Rattle.warm_pool.specs.Pinning.{CanPinAgain};
 ghost use Rattle.warm_pool.specs.View.{view_of, Holds};
 ghost use Rattle.warm_gossip.specs.Lending.{LendsNodePage};
 ghost use Rattle.warm_gossip.specs.declared.fault.NodeFault.TheVariants.{StaleSlot};
@@ -13,6 +14,7 @@ use crate::fault::NodeFault;
 use crate::node::Node;
 use warm_devices::PageDevice;
 use warm_pool::Slot;
+use warm_stamps::PageId;
 
 impl<D: PageDevice> Node<D> {
     /// All bytes of the slot's page. Nothing is copied. Allocation-free.
@@ -47,5 +49,31 @@ impl<D: PageDevice> Node<D> {
     {
         self.pool.prove_is_pool();
         self.pool.bytes_mut(slot)
+    }
+
+    /// Looks a resident page up, for [`warm_pool::Pool::resident_bytes`] of [`Node::pool`]: the
+    /// slot that a pin of the page would give. Nothing that a caller sees changes. Allocation-free.
+    ///
+    /// Who has the node to himself while he reads the page has then the effect of a pin and an
+    /// unpin, without either. `None` where the page isn't resident, or has as many pins as can be
+    /// counted: [`Node::pin`] then loads it, or says why not.
+    #[inline(always)]
+    pub fn look_up(&mut self, page: PageId) -> Option<Slot>
+        ensures same { self.new ≡ self.old }
+        ensures found { IfSome result (CanPinAgain self.old.pool page) }
+    {
+        self.pool.look_up(page)
+    }
+
+    /// All bytes of a resident page, pinned or not, in the slot that [`Node::look_up`] gave, to be
+    /// written to, as [`Node::bytes_mut`] lends those of a pinned page.
+    pub fn resident_bytes_mut(&mut self, page: PageId, slot: Slot) -> &mut [u8]
+        requires can { CanPinAgain self.old.pool page slot }
+        ensures* writes_back { sem 𝓛 (LendsNodePage D.row D.PageDevice self.entry slot.index
+            result) }
+        ensures lent { IsLent (view_of self.old.pool) slot result.now }
+    {
+        self.pool.prove_is_pool();
+        self.pool.resident_bytes_mut(page, slot)
     }
 }

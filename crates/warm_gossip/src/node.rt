@@ -19,9 +19,10 @@ use warm_stamps::ReplicaId;
 /// One replica: the history of the references that it received, and its buffer pool, which that
 /// history ranks.
 ///
-/// It is a [`Peer`] beside a pool. It caches the peer's digests, and its warm-up list, until an
-/// entry of its history changes or it restarts. Calls that bring nothing new, as repeated gossip
-/// does, keep both: no offer and no warm-up step then recomputes them.
+/// It is a [`Peer`] beside a pool. It caches the digests of its history until an entry changes or it
+/// restarts, and its warm-up list, into which it merges the pages of references that came since
+/// ([`Node::warm_step`]). Calls that bring nothing new, as repeated gossip does, keep both: no
+/// offer and no warm-up step then recomputes them.
 ///
 /// A pin is not a reference: pages are ranked by the references that the node absorbed. A caller
 /// that pins a page also absorbs one.
@@ -74,7 +75,7 @@ impl<D: PageDevice> Node<D> {
             alloc,
             peer: Peer::new(alloc, id),
             pool,
-            warm_up: WarmUp::new(),
+            warm_up: WarmUp::new(alloc),
         }
     }
 

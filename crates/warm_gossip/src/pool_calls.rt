@@ -34,6 +34,21 @@ impl<D: PageDevice> Node<D> {
         ensures step { Answered self.old (Pin page) Pinned result self.new }
         ensures devices { DevicesAnswered self.old (Pin page) Pinned result self.new }
     {
+        if let Some(slot) = self.pool.pinnable(page) {
+            let placed = self.pool.pin_again(page, slot);
+            self.warm_up.passed = passed_at_pin(self.warm_up.passed, placed.evicted);
+            return Ok(placed.slot);
+        }
+        self.pin_any(page)
+    }
+
+    // The same for any page. It is a function of its own, since its results are in memory: the pin
+    // of a resident page keeps its own in registers.
+    #[inline(never)]
+    fn pin_any(&mut self, page: PageId) -> Result<Slot, NodeFault>
+        ensures step { Answered self.old (Pin page) Pinned result self.new }
+        ensures devices { DevicesAnswered self.old (Pin page) Pinned result self.new }
+    {
         let placed = self.pool.pin_placed(page, self.peer.history())?;
         self.warm_up.passed = passed_at_pin(self.warm_up.passed, placed.evicted);
         Ok(placed.slot)
@@ -130,7 +145,7 @@ impl<D: PageDevice> Node<D> {
     {
         self.pool.empty()?;
         self.peer.clear();
-        self.warm_up = WarmUp::new();
+        self.warm_up = WarmUp::new(self.alloc);
         Ok(())
     }
 

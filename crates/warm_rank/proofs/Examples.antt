@@ -1,12 +1,15 @@
 -- Distances, the eviction order, victims and warm-up lists, computed on small sets of references.
-use Rattle.std.proofs.Common.{◌≡◌, ◌≢◌, ℕ, zero, suc, [], ◌∷◌, refl, sym, subst, Some, None, arith}
+use Rattle.std.proofs.Common.{◌≡◌, ◌≢◌, ℕ, zero, suc, List, [], ◌∷◌, map, refl, sym, subst, Some, None, arith}
 use Rattle.std.specs.List.{Contains}
 use Rattle.std.specs.declared.cmp.Ordering.TheVariants.{Less}
 use Rattle.warm_stamps.specs.declared.PageId.{PageId}
 use Rattle.warm_stamps.specs.declared.Reference.{Reference}
 use Rattle.warm_history.specs.ReferenceSets.{ReferenceSet, references, set_of_list, ◌∪◌}
+use Rattle.warm_history.specs.Histories.{history}
 use Rattle.warm_rank.specs.Backward.{StampsAscend, places_back}
+use Rattle.warm_rank.specs.Keys.{ranked_page}
 use Rattle.warm_rank.specs.Ranking.{dist, eviction_cmp, IsBefore, IsVictim, hottest_pages}
+use Rattle.warm_rank.specs.Relisting.{candidates, greatest_keys, hottest_keys}
 
 -- the page 0:n
 abbrev page : ℕ → PageId
@@ -137,3 +140,51 @@ warm_two = refl
 
 warm_none : hottest_pages heated 0 ≡ []
 warm_none = refl
+
+-- ---- two pages are listed, and then references to some pages come
+
+abbrev two_listed : List PageId
+two_listed = map ranked_page (hottest_keys heated 2)
+
+listed_first : two_listed ≡ page 9 ∷ page 2 ∷ []
+unfolding history
+listed_first = refl
+
+-- the pages of the candidates after references to the pages `changed`, two of them
+abbrev listed_after : ReferenceSet → List PageId → List PageId
+listed_after T changed =
+    map ranked_page (greatest_keys (candidates T changed (hottest_keys heated 2)) 2)
+
+-- a page that was not listed comes in, and the last one leaves
+abbrev five_rose : ReferenceSet
+five_rose = heated ∪ set_of_list (seen 5 6 ∷ seen 5 7 ∷ [])
+
+five_comes_in : listed_after five_rose (page 5 ∷ []) ≡ page 5 ∷ page 9 ∷ []
+unfolding history
+five_comes_in = refl
+
+five_is_hottest : hottest_pages five_rose 2 ≡ page 5 ∷ page 9 ∷ []
+unfolding eviction_cmp
+five_is_hottest = refl
+
+-- a listed page goes to the front, also where it is named twice
+abbrev two_rose : ReferenceSet
+two_rose = heated ∪ set_of_list (seen 2 6 ∷ seen 2 7 ∷ [])
+
+two_goes_first : listed_after two_rose (page 2 ∷ page 2 ∷ []) ≡ page 2 ∷ page 9 ∷ []
+unfolding history
+two_goes_first = refl
+
+two_is_hottest : hottest_pages two_rose 2 ≡ page 2 ∷ page 9 ∷ []
+unfolding eviction_cmp
+two_is_hottest = refl
+
+-- a page that is named and not known is no candidate
+none_known : listed_after heated (page 4 ∷ []) ≡ page 9 ∷ page 2 ∷ []
+unfolding history
+none_known = refl
+
+-- without the names of the pages that rose, the list is not that of the hottest
+unnamed_stays_out : listed_after five_rose [] ≡ page 9 ∷ page 2 ∷ []
+unfolding history
+unnamed_stays_out = refl

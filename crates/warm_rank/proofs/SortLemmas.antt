@@ -116,7 +116,7 @@ module _ {A : Type 0} (cmp : A → A → Ordering) (order : IsStrictOrder cmp) w
       ∙ insert_below cmp order x (xs ++ distinct cmp ys) (all_append (λ z. cmp x z ≡ Less) xs (distinct cmp ys) rising.0 (below_distinct cmp order x ys below.0))
 
 module _ {A : Type 0} (cmp : A → A → Ordering) (order : IsStrictOrder cmp) where
-  descending_reverse : (xs : List A) → IsAscending cmp xs → IsAscending (flip_args cmp) (reverse xs)
+  pub descending_reverse : (xs : List A) → IsAscending cmp xs → IsAscending (flip_args cmp) (reverse xs)
   descending_reverse [] rising = tt
   descending_reverse (x ∷ xs) rising =
       subst (IsAscending (flip_args cmp)) (sym (reverse-append (x ∷ []) xs))

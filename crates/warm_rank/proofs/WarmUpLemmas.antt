@@ -23,6 +23,7 @@ use Rattle.warm_rank.specs.declared.RankKey.{RankKey}
 use Rattle.warm_rank.specs.Greatest.{AreGreatest}
 use Rattle.warm_rank.specs.Keys.{rank_key, entry_key, key_cmp, ranked_page}
 use Rattle.warm_rank.specs.Ranking.{eviction_cmp, hottest_pages}
+use Rattle.warm_rank.specs.Relisting.{hottest_keys}
 use Rattle.warm_rank.specs.WarmUp.{entry_keys}
 use Rattle.warm_rank.proofs.KeyLemmas.{key_order, keys_order_pages, page_of-rank_key}
 use Rattle.warm_rank.proofs.SortLemmas.{ties, ties-here, ties-other, HasNoTies, IsAbove, distinct-descending, above_from_split}
@@ -63,7 +64,7 @@ keys_of_entries f (p ∷ ps) some = go (f p) (some p (inl refl)) (keys_of_entrie
 abbrev key_by : (PageId → Option PageHist) → PageId → RankKey
 key_by f p = rank_key p (f p)
 
-keys_of_pages : (S : ReferenceSet) → entry_keys (history S) ≡ map (key_by (hist S)) (pages S)
+pub keys_of_pages : (S : ReferenceSet) → entry_keys (history S) ≡ map (key_by (hist S)) (pages S)
 unfolding history
 keys_of_pages S = keys_of_entries (hist S) (pages S) (λ p has. some_named S p (has_from_distinct page_cmp page_order (map (λ (r : Reference). r.page) (references S)) p has))
 
@@ -76,9 +77,7 @@ map_inverse f g back [] = refl
 map_inverse f g back (x ∷ xs) = ap (λ y. y ∷ map g (map f xs)) (back x) ∙ ap (λ t. x ∷ t) (map_inverse f g back xs)
 
 -- the pages of the greatest keys are the warm-up list
-pub warm_from_keys : (S : ReferenceSet) (n : ℕ)
-    → map ranked_page (take n (distinct (flip_args key_cmp) (entry_keys (history S))))
-    ≡ hottest_pages S n
+pub warm_from_keys : (S : ReferenceSet) (n : ℕ) → map ranked_page (hottest_keys S n) ≡ hottest_pages S n
 warm_from_keys S n =
     let key = key_by (hist S) in
     ap (λ ks. map ranked_page (take n (distinct (flip_args key_cmp) ks))) (keys_of_pages S)
@@ -135,28 +134,26 @@ all_of (x ∷ xs) zero short = absurd (omega arith)
 all_of (x ∷ xs) (suc n) short = ap (λ t. x ∷ t) (all_of xs n (omega arith))
 
 -- a part of a history's keys of which no item is below one of the rest
-warm_from_parts : (S : ReferenceSet) (n : ℕ) (rest top sorted : List RankKey)
+keys_from_parts : (S : ReferenceSet) (n : ℕ) (rest top sorted : List RankKey)
     → IsPermutation (entry_keys (history S)) (rest ++ top) → IsAbove key_cmp rest top
     → IsPermutation top sorted → IsSorted key_cmp sorted
     → take n (reverse sorted ++ distinct (flip_args key_cmp) rest) ≡ reverse sorted
-    → map ranked_page (reverse sorted) ≡ hottest_pages S n
-warm_from_parts S n rest top sorted parted above moved in_order first =
-    ap (map ranked_page) (sym first ∙ ap (take n) (sym (distinct-descending key_cmp key_order (entry_keys (history S)) rest top sorted (history_has_no_ties S) parted above moved in_order)))
-    ∙ warm_from_keys S n
+    → reverse sorted ≡ hottest_keys S n
+keys_from_parts S n rest top sorted parted above moved in_order first =
+    sym first ∙ ap (take n) (sym (distinct-descending key_cmp key_order (entry_keys (history S)) rest top sorted (history_has_no_ties S) parted above moved in_order))
 
 -- the n greatest of a history's keys in any order
-pub warm_from_greatest : (S : ReferenceSet) (n : ℕ) (keys top sorted : List RankKey)
+pub keys_from_greatest : (S : ReferenceSet) (n : ℕ) (keys top sorted : List RankKey)
     → IsPermutation (entry_keys (history S)) keys → AreGreatest key_cmp keys n top
-    → IsPermutation top sorted → IsSorted key_cmp sorted
-    → map ranked_page (reverse sorted) ≡ hottest_pages S n
-warm_from_greatest S n keys top sorted given great moved in_order =
-    warm_from_parts S n (great.others ++ great.next ∷ []) top sorted (IsPermutation-trans (entry_keys (history S)) keys ((great.others ++ great.next ∷ []) ++ top) given (subst (IsPermutation keys) (sym (append_assoc great.others (great.next ∷ []) top)) great.parts)) (above_from_split key_cmp key_order great.others great.next top great.split) moved in_order
+    → IsPermutation top sorted → IsSorted key_cmp sorted → reverse sorted ≡ hottest_keys S n
+keys_from_greatest S n keys top sorted given great moved in_order =
+    keys_from_parts S n (great.others ++ great.next ∷ []) top sorted (IsPermutation-trans (entry_keys (history S)) keys ((great.others ++ great.next ∷ []) ++ top) given (subst (IsPermutation keys) (sym (append_assoc great.others (great.next ∷ []) top)) great.parts)) (above_from_split key_cmp key_order great.others great.next top great.split) moved in_order
     (first_of (reverse sorted) _ n (length-reverse sorted ∙ length_permutation top sorted moved ∙ great.count))
 
 -- all of a history's keys in any order
-pub warm_from_all : (S : ReferenceSet) (n : ℕ) (keys sorted : List RankKey)
+pub keys_from_all : (S : ReferenceSet) (n : ℕ) (keys sorted : List RankKey)
     → IsPermutation (entry_keys (history S)) keys → length keys ≤ n → IsPermutation keys sorted
-    → IsSorted key_cmp sorted → map ranked_page (reverse sorted) ≡ hottest_pages S n
-warm_from_all S n keys sorted given short moved in_order =
-    warm_from_parts S n [] keys sorted given (λ r t none has. absurd none) moved in_order
+    → IsSorted key_cmp sorted → reverse sorted ≡ hottest_keys S n
+keys_from_all S n keys sorted given short moved in_order =
+    keys_from_parts S n [] keys sorted given (λ r t none has. absurd none) moved in_order
     (all_of (reverse sorted) n (omega (arith, length-reverse sorted, length_permutation keys sorted moved)))

@@ -5,6 +5,7 @@ pub mod Greatest
 pub mod Keys
 pub mod Laws
 pub mod Ranking
+pub mod Relisting
 pub mod Slots
 pub mod WarmUp
 pub mod WinnerTree

@@ -5,6 +5,7 @@ ghost use Rattle.warm_rank.specs.Keys.{key_cmp};
 ghost use Rattle.warm_rank.specs.Laws.{DistanceIsPlacesBack, KeysOrderPages, EvictionIsOrder};
 ghost use Rattle.warm_rank.specs.Laws.{LeastKeyIsVictim, TruncationKeepsOrder};
 ghost use Rattle.warm_rank.specs.Laws.{SameReferencesRankAlike, VictimIsFarthest};
+ghost use Rattle.warm_rank.specs.Relisting.{CandidatesSuffice, TakingInRaises};
 
 use crate::RankKey;
 
@@ -50,4 +51,16 @@ pub fn same_references_rank_alike()
 /// may be evicted, over all references for which the history stands.
 pub fn victim_is_farthest()
     ensures { VictimIsFarthest }
+{}
+
+/// References that a set takes in, without a later horizon, raise only pages that they name. No
+/// page falls.
+pub fn taking_in_raises()
+    ensures { TakingInRaises }
+{}
+
+/// After a raise, the hottest pages are the hottest of those that were listed and of those that
+/// rose.
+pub fn candidates_suffice()
+    ensures { CandidatesSuffice }
 {}

@@ -8,7 +8,8 @@
 //!
 //! - [`key_of`] gives the key of a page, [`eviction_order`] compares two pages.
 //! - [`Contest`] keeps a key for each slot of a pool and finds the slot of the least key.
-//! - [`warm_list`] lists the pages that are evicted last, the hottest first.
+//! - [`warm_list`] lists the pages that are evicted last, the hottest first. [`HotPages`] is such a
+//!   list that follows a history.
 #![tactic(auto)]
 
 ghost use Rattle.std.specs.Prelude.{◌≡◌, Some};
@@ -30,7 +31,7 @@ pub use slots::Contest;
 use std::cmp::Ordering;
 use warm_history::{History, PageHist};
 use warm_stamps::{PageId, Stamp};
-pub use warm_up::warm_list;
+pub use warm_up::{HotPages, warm_list};
 
 /// The maximum number of slots of a contest, and so of frames of a pool.
 pub const MAX_FRAMES: usize = 65_536;

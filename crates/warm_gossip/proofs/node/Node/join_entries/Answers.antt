@@ -1,9 +1,10 @@
-use Rattle.std.proofs.Common.{subst, sym, ◌∙◌, arith}
+use Rattle.std.proofs.Common.{◌≤◌, subst, sym, ◌∙◌, arith}
 use Rattle.std.proofs.lemmas.Bool.{eqb-true}
 use Rattle.warm_history.specs.Histories.{IsHistory}
 use Rattle.warm_history.proofs.HistoryLemmas.{IsHistory-history}
-use Rattle.warm_gossip.proofs.Passed.{none_kept}
-use Rattle.warm_gossip.proofs.Ranks.{joined_agrees, kept_by_entries}
+use Rattle.warm_pool.specs.View.{view_of}
+use Rattle.warm_gossip.proofs.Passed.{noted}
+use Rattle.warm_gossip.proofs.Ranks.{joined_agrees, joined_raises, kept_by_entries}
 use Rattle.warm_gossip.proofs.node.Node.join_entries.Goals as goal
 
 -- no entry changes
@@ -17,7 +18,8 @@ invariant_of-self-then-is_empty g c =
 pub invariant_of-self-2 : goal.invariant_of-self-2
 invariant_of-self-2 g c =
     let h = c.self.inside.peer.history in
-    let agrees = joined_agrees h c.args.horizon c.args.entries.now (omega (arith, c.if-own-horizon.false, c.horizon-own.ensures)) in (
+    let le : c.args.horizon ≤ h.horizon = omega (arith, c.if-own-horizon.false, c.horizon-own.ensures) in
+    let agrees = joined_agrees h c.args.horizon c.args.entries.now le in (
       rw c.history-2.ensures at (c.refresh.ensures.ranked h c.self.invariant.0 (rw (c.history-2.ensures, c.in_ok-changed.ensures.exact) agrees)),
-      none_kept _ _ _ c.new.ensures,
+      rw (c.in_ok-changed.ensures.exact, c.refresh.ensures.same) (noted h _ (view_of c.self.inside.pool) _ c.self.inside.warm_up c.note.new.self (joined_raises h c.args.horizon c.args.entries.now le) c.note.ensures c.self.invariant.1),
     )

@@ -8,5 +8,5 @@ invariant_of-self-2 g c = (
   rw c.history.ensures at c.pin_filled.ensures.ranked,
   filled c.self.inside.peer.history _ _ c.args.page c.in_ok-filled.filled c.self.inside.warm_up c.passed_at_fill-self-inside.result
       (subst IsHistory c.history-2.ensures c.prove_is_history.ensures) (rw c.history-history.ensures at c.passed_at_fill-self-inside.ensures)
-      (rw c.history.ensures at c.in_ok-filled.ensures.pinned) c.in_ok-filled.ensures.evicted c.self.invariant.1,
+      (rw c.history.ensures at c.in_ok-filled.ensures.done.pinned) c.in_ok-filled.ensures.done.evicted c.self.invariant.1,
 )
