@@ -10,6 +10,7 @@ mod posts;
 mod shards;
 mod shared;
 mod sizes;
+mod workers;
 
 use crate::promised::filled::Filled;
 use crate::promised::handed_back::HandedBack;
@@ -47,8 +48,10 @@ pub(crate) fn play<P: Print, R: Wait>(
     let filled = Filled::new(alloc)?;
     let posts = Posts::new(alloc)?;
     let (shared, thread) = shared::opened(alloc)?;
+    let (replica, worker, slot) = workers::opened(alloc)?;
     // from here on nothing is allocated
     shared::rows(rt, met, waits, shared, thread)?;
+    workers::rows(rt, met, waits, replica, worker, slot)?;
     calls::rows(rt, met, &mut node, ByteList::of(bytes))?;
     sharded.rows(rt, met, alloc)?;
     handed_back.rows(rt, met)?;

@@ -1,6 +1,6 @@
-//! How the refusals of a turn, a flush or a run of jobs are displayed.
+//! How the refusals of a turn, a flush, a look or a run of jobs are displayed.
 use test_kit::displays;
-use warm_replica::{FlushFault, NoThread, RunFault};
+use warm_replica::{FlushFault, LendFault, NoThread, RunFault};
 use warm_turn::{Add, Busy, Counter, Memory, TurnsSpent};
 
 #[test]
@@ -24,6 +24,8 @@ fn other_refusals_are_shown_by_their_names(rt: HostRuntime) {
     let alloc = rt.alloc();
     assert!(rt; displays(alloc, &FlushFault::Memory, "Memory"));
     assert!(rt; displays(alloc, &FlushFault::TurnsSpent, "TurnsSpent"));
+    assert!(rt; displays(alloc, &LendFault::TurnsSpent, "TurnsSpent"));
+    assert!(rt; displays(alloc, &LendFault::StaleSlot, "StaleSlot"));
     assert!(rt; displays(alloc, &RunFault::Memory, "Memory"));
     assert!(rt; displays(alloc, &RunFault::NoThread, "NoThread"));
     assert!(rt; displays(alloc, &RunFault::BadCapacity, "BadCapacity"));

@@ -1,6 +1,6 @@
 //! Tests of a replica that threads share, over only public calls: a counter that they share, and a
-//! node with its workers, jobs in threads of their own, and mail (warm_turn, warm_replica).
-//! Allocations that fail are in test_node_memory.
+//! node with its workers, looks at its pages, jobs in threads of their own, and mail (warm_turn,
+//! warm_replica). Allocations that fail are in test_node_memory.
 #![tactic(auto)]
 
 #[cfg(test)]
@@ -9,6 +9,8 @@ mod crowd;
 mod faults;
 #[cfg(test)]
 mod jobs;
+#[cfg(test)]
+mod looking;
 #[cfg(test)]
 mod mail;
 #[cfg(test)]

@@ -12,7 +12,7 @@ use Rattle.warm_gossip.specs.State.{NodeState}
 use Rattle.warm_shards.specs.Shards.{held, no_shard, shard_at, whole}
 use Rattle.warm_shards.proofs.Taking.{last_two}
 use Rattle.warm_concurrent.specs.declared.call.ShardCall.{ShardCall}
-use Rattle.warm_concurrent.specs.declared.call.ShardCall.TheVariants.{Absorb, Answer, Change, ForgetPages, Look, Offer, Pin, PinZeroed, Raise, Read, Send, SendSince, TakeIn, Unpin, Victim, WarmList, WarmStep, Write, WriteBack, WritePages, WriteSome}
+use Rattle.warm_concurrent.specs.declared.call.ShardCall.TheVariants.{Absorb, Answer, Change, CopyHistory, ForgetPages, Look, Offer, Pin, PinZeroed, Raise, Read, Retire, Send, SendSince, TakeIn, Unpin, Victim, WarmList, WarmStep, Write, WriteBack, WritePages, WriteSome}
 use Rattle.warm_concurrent.specs.declared.call.ShardReply.{ShardReply}
 use Rattle.warm_concurrent.specs.declared.call.ShardReply.TheVariants.{Answers, Done, Foreign, Kept}
 use Rattle.warm_concurrent.specs.Attached.{Known, ShardPass, ShardTurn, known_of, shard_turn}
@@ -60,6 +60,8 @@ call_gave S by (Send bucket after) Foreign = sym (union_none S)
 call_gave S by (Send bucket after) r = sym (union_none S)
 call_gave S by (SendSince bucket since after) Foreign = sym (union_none S)
 call_gave S by (SendSince bucket since after) r = sym (union_none S)
+call_gave S by CopyHistory Foreign = sym (union_none S)
+call_gave S by CopyHistory r = sym (union_none S)
 call_gave S by WritePages Foreign = sym (union_none S)
 call_gave S by WritePages r = sym (union_none S)
 call_gave S by (WriteSome limit) Foreign = sym (union_none S)
@@ -68,6 +70,8 @@ call_gave S by WriteBack Foreign = sym (union_none S)
 call_gave S by WriteBack r = sym (union_none S)
 call_gave S by (ForgetPages dev from) Foreign = sym (union_none S)
 call_gave S by (ForgetPages dev from) r = sym (union_none S)
+call_gave S by (Retire dev told) Foreign = sym (union_none S)
+call_gave S by (Retire dev told) r = sym (union_none S)
 call_gave S by (Look page) Foreign = sym (union_none S)
 call_gave S by (Look page) r = sym (union_none S)
 call_gave S by (Change page) Foreign = sym (union_none S)

@@ -1,8 +1,9 @@
 -- What a shard holds: its own pages alone, after any call.
-use Rattle.std.proofs.Common.{◌≡◌, ℕ, zero, suc, ◌<◌, List, [], ◌∷◌, length, map, Option, Some, None, Ok, refl, sym, ap, subst, arith}
+use Rattle.std.proofs.Common.{◌≡◌, ℕ, zero, suc, ◌<◌, List, [], ◌∷◌, length, map, Option, Some, None, Ok, Err, refl, sym, ap, subst, arith}
 use Rattle.std.specs.List.{AllByRecursion}
 use Rattle.warm_stamps.specs.declared.PageId.{PageId}
 use Rattle.warm_history.specs.Histories.{HistoryView, entries_of}
+use Rattle.warm_pool.specs.declared.fault.PoolFault.{PoolFault}
 use Rattle.warm_pool.specs.declared.fault.PoolFault.TheVariants.{Fixed, NoDevice}
 use Rattle.warm_pool.specs.Forgetting.{ForgetRefused}
 use Rattle.warm_pool.specs.Frames.{FrameState}
@@ -21,16 +22,16 @@ use Rattle.warm_gossip.specs.State.{NodeState, node_view}
 use Rattle.warm_shards.specs.Clauses.{KeepsKnown}
 use Rattle.warm_shards.specs.Laws.{BringsOwn}
 use Rattle.warm_shards.specs.Shards.{AreShards, HasPagesOf, HoldsPagesOf, HoldsShard, shard_at, shard_of}
-use Rattle.warm_shards.proofs.EngineCalls.{forgotten_own, same_own, zeroed_own}
+use Rattle.warm_shards.proofs.EngineCalls.{forgotten_own, retired_own, same_own, zeroed_own}
 use Rattle.warm_shards.proofs.Staying.{failures_stay, steps_stay}
 use Rattle.warm_concurrent.specs.declared.call.ShardCall.{ShardCall}
 use Rattle.warm_concurrent.specs.declared.call.ShardCall.TheVariants.{Absorb, Change, Look, Pin, PinZeroed, TakeIn}
 use Rattle.warm_concurrent.specs.declared.call.ShardReply.{ShardReply}
-use Rattle.warm_concurrent.specs.declared.call.ShardReply.TheVariants.{Changed, Dirty, Done, Foreign, Looked, Pinned, Portion, Refused}
+use Rattle.warm_concurrent.specs.declared.call.ShardReply.TheVariants.{Changed, Copied, Dirty, Done, Foreign, Looked, Pinned, Portion, Refused}
 use Rattle.warm_concurrent.specs.Attached.{Known, ShardTurn}
 use Rattle.warm_concurrent.specs.Laws.{ShardsHoldTheirPages}
 use Rattle.warm_concurrent.specs.Opening.{ClosesShard, shards_from, shards_over, state_at}
-use Rattle.warm_concurrent.specs.ShardSteps.{Asked, doing, looking, changing, CallGoes, CallStep, IsOwn, NodeGoes, NodeStep, ShardState, ShardStep, Work, calling, writing_pages, writing_some, writing_back, zeroing, forgetting, sending_since, asked_of, node_reply_of}
+use Rattle.warm_concurrent.specs.ShardSteps.{Asked, doing, looking, changing, CallGoes, CallStep, IsOwn, NodeGoes, NodeStep, ShardState, ShardStep, Work, calling, writing_pages, writing_some, writing_back, zeroing, forgetting, sending_since, copying, retiring, asked_of, node_reply_of}
 use Rattle.warm_concurrent.proofs.Steps.{runs_keep}
 
 -- ---- a node after one step
@@ -106,6 +107,15 @@ module _ (count i : ℕ) where
   step_own n m (sending_since bucket since after) (Portion message more) brings own step = subst (HoldsShard count i) (sym step.2) own
   step_own n m (sending_since bucket since after) (Refused why) brings own step = subst (HoldsShard count i) (sym step.1) own
   step_own n m (sending_since bucket since after) r brings own step = absurd step
+  step_own n m copying (Copied h) brings own step = subst (HoldsShard count i) (sym step.1) own
+  step_own n m copying (Refused why) brings own step = subst (HoldsShard count i) (sym step.1) own
+  step_own n m copying r brings own step = absurd step
+  step_own n m (retiring dev told) Done brings own step =
+      pool_own n m own step.2 (retired_own {T = Unit} {E = PoolFault} IsHere n m dev step.0 (λ f. f) (Ok tt) own.resident step.2 step.3 tt).own
+  step_own n m (retiring dev told) (Refused (Pool fault)) brings own step =
+      pool_own n m own step.2 (retired_own {T = Unit} {E = PoolFault} IsHere n m dev step.0 (λ f. f) (Err fault) own.resident step.2 tt step.3).own
+  step_own n m (retiring dev told) (Refused Memory) brings own step = subst (HoldsShard count i) (sym step) own
+  step_own n m (retiring dev told) r brings own step = absurd step
 
   -- so does all that a shard asks of its node for a call of own pages
   abbrev BringsAsked : Asked → Type 0

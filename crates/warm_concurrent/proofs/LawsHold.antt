@@ -14,18 +14,19 @@ use Rattle.warm_gossip.specs.State.{NodeState, NodeView, node_view}
 use Rattle.warm_gossip.specs.declared.call.Call.{Call}
 use Rattle.warm_gossip.specs.declared.call.Reply.{Reply}
 use Rattle.warm_gossip.specs.declared.fault.NodeFault.{NodeFault}
+use Rattle.warm_gossip.specs.declared.fault.NodeFault.TheVariants.{Memory, Pool}
 use Rattle.warm_gossip.proofs.Given.{told_is_history}
 use Rattle.warm_frames.specs.declared.message.Message.{Message}
 use Rattle.warm_stamps.specs.declared.Reference.{Reference}
 use Rattle.warm_concurrent.specs.declared.call.ShardCall.{ShardCall}
 use Rattle.warm_concurrent.specs.declared.call.ShardCall.TheVariants.{Absorb, Answer, Offer}
 use Rattle.warm_concurrent.specs.declared.call.ShardReply.{ShardReply}
-use Rattle.warm_concurrent.specs.declared.call.ShardReply.TheVariants.{Answers, Changed, Dirty, Done, Foreign, Kept, Looked, Pinned, Portion, Refused}
+use Rattle.warm_concurrent.specs.declared.call.ShardReply.TheVariants.{Answers, Changed, Copied, Dirty, Done, Foreign, Kept, Looked, Pinned, Portion, Refused}
 use Rattle.warm_concurrent.specs.Answering.{AnswersPart, Offers, offer_at, offer_reply}
 use Rattle.warm_concurrent.specs.Attached.{Known, ShardPass, known_of, no_pass, shard_pass}
 use Rattle.warm_concurrent.specs.Clauses.{AnsweredByShard, Got}
 use Rattle.warm_concurrent.specs.Laws.{CallsAreANodes, OnlySeesMore, SeesMore, ShardIsOfGiven, TogetherAreOfGiven, all_of, asked_steps, call_operations, calls_in, held_by, node_steps, reply_operations}
-use Rattle.warm_concurrent.specs.ShardSteps.{Asked, doing, looking, changing, CallGoes, NodeGoes, NodeStep, ShardState, ShardStep, Work, calling, writing_pages, writing_some, writing_back, zeroing, forgetting, sending_since, asked_of, node_reply_of}
+use Rattle.warm_concurrent.specs.ShardSteps.{Asked, doing, looking, changing, CallGoes, NodeGoes, NodeStep, ShardState, ShardStep, Work, calling, writing_pages, writing_some, writing_back, zeroing, forgetting, sending_since, copying, retiring, asked_of, node_reply_of}
 use Rattle.warm_concurrent.specs.Whole.{AbsorbsPart, Does, First, RaisesShard, TakesPart, part_call, part_of}
 use Rattle.warm_concurrent.proofs.Places.{at_each}
 
@@ -40,6 +41,8 @@ not_foreign x y writing_back step = step
 not_foreign x y (zeroing p) step = step
 not_foreign x y (forgetting dev from) step = step
 not_foreign x y (sending_since bucket since after) step = step
+not_foreign x y copying step = step
+not_foreign x y (retiring dev told) step = step
 
 asked_run : (x y : NodeState) (by : ℕ) (a : Asked) (r : ShardReply) → NodeGoes x a r y
     → Runs NodeStep x (asked_steps by a r) y
@@ -124,6 +127,13 @@ beside o y (forgetting dev from) r is step = absurd step
 beside o y (sending_since bucket since after) (Portion message more) is step = ap (λ (n : NodeState). n.history) step.2
 beside o y (sending_since bucket since after) (Refused why) is step = ap (λ (n : NodeState). n.history) step.1
 beside o y (sending_since bucket since after) r is step = absurd step
+beside o y copying (Copied h) is step = ap (λ (n : NodeState). n.history) step.1
+beside o y copying (Refused why) is step = ap (λ (n : NodeState). n.history) step.1
+beside o y copying r is step = absurd step
+beside o y (retiring dev told) Done is step = step.2.history
+beside o y (retiring dev told) (Refused (Pool fault)) is step = step.2.history
+beside o y (retiring dev told) (Refused Memory) is step = ap (λ (n : NodeState). n.history) step
+beside o y (retiring dev told) r is step = absurd step
 
 -- after one step a node has the history of what it was given
 one_given : (S : ReferenceSet) (o y : NodeState) (by : ℕ) (w : Work) (r : ShardReply)
@@ -136,6 +146,8 @@ one_given S o y by writing_back r stands step = beside o y writing_back r tt ste
 one_given S o y by (zeroing p) r stands step = beside o y (zeroing p) r tt step ∙ stands
 one_given S o y by (forgetting dev from) r stands step = beside o y (forgetting dev from) r tt step ∙ stands
 one_given S o y by (sending_since bucket since after) r stands step = beside o y (sending_since bucket since after) r tt step ∙ stands
+one_given S o y by copying r stands step = beside o y copying r tt step ∙ stands
+one_given S o y by (retiring dev told) r stands step = beside o y (retiring dev told) r tt step ∙ stands
 
 -- and so after many
 steps_given : (S : ReferenceSet) (o z : NodeState) (es : List (Operation Work ShardReply))

@@ -6,6 +6,8 @@ pub mod Numbering
 pub mod Ending
 pub mod Firsts
 pub mod Gathering
+pub mod Copies
+pub mod Told
 pub mod Parts
 pub mod Requests
 pub mod LawsHold
@@ -13,6 +15,7 @@ pub mod Sent
 pub mod Holding
 pub mod Lends
 pub mod Reading
+pub mod Looked
 pub mod Sets
 pub mod Gave
 pub mod Stopping

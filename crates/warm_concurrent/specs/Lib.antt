@@ -1,3 +1,4 @@
+pub mod ToldDevices
 pub mod ShardSteps
 pub mod Attached
 pub mod Clauses
@@ -7,5 +8,7 @@ pub mod Whole
 pub mod Laws
 pub mod Given
 pub mod Answering
+pub mod Copying
+pub mod Retiring
 pub mod Gossip
 pub mod Visits

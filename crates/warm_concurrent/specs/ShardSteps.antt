@@ -3,14 +3,17 @@ use Rattle.std.specs.Prelude.{◌≡◌, ◌↔◌, ℕ, ◌%◌, ◌<◌, IsTru
 use Rattle.std.specs.Prelude.{Result, Ok, Err}
 use Rattle.std.specs.Int.{bit_at}
 use Rattle.std.specs.List.{All}
+use Rattle.boxcar.specs.declared.tag.Tag.{Tag}
 use Rattle.warm_stamps.specs.declared.TheConstants.{BUCKETS}
 use Rattle.warm_stamps.specs.declared.PageId.{PageId}
 use Rattle.warm_frames.specs.declared.message.Message.{Message}
 use Rattle.warm_frames.specs.declared.message.Message.TheVariants.{Entries, Want}
 use Rattle.warm_pool.specs.declared.slot.Slot.{Slot}
 use Rattle.warm_pool.specs.Forgetting.{ForgetRefused, Forgets}
+use Rattle.warm_devices.specs.Device.{DeviceState}
 use Rattle.warm_pool.specs.Keeping.{KeepsFrames}
 use Rattle.warm_pool.specs.PageBytes.{IsLent}
+use Rattle.warm_pool.specs.Retiring.{KeepsElsewhere, RetireRefused, Retired}
 use Rattle.warm_pool.specs.State.{IsSettled}
 use Rattle.warm_pool.specs.View.{view_of}
 use Rattle.warm_pool.specs.WritingBack.{WriteBackFails}
@@ -21,7 +24,7 @@ use Rattle.warm_gossip.specs.declared.call.Call.TheVariants as node_call
 use Rattle.warm_gossip.specs.declared.call.Reply.{Reply}
 use Rattle.warm_gossip.specs.declared.call.Reply.TheVariants as node_reply
 use Rattle.warm_gossip.specs.declared.fault.NodeFault.{NodeFault}
-use Rattle.warm_gossip.specs.declared.fault.NodeFault.TheVariants.{Memory}
+use Rattle.warm_gossip.specs.declared.fault.NodeFault.TheVariants.{Memory, Pool}
 use Rattle.warm_gossip.specs.Clauses.{DevicesAfter, Goes, NodeWriteBackFails, OfPool, SameView}
 use Rattle.warm_peer.specs.Since.{HasMoreSince, sent_since}
 use Rattle.warm_gossip.specs.State.{NodeState}
@@ -35,12 +38,14 @@ use Rattle.warm_concurrent.specs.declared.call.ShardCall.TheVariants.{SendSince,
 use Rattle.warm_concurrent.specs.declared.call.ShardCall.TheVariants.{WriteSome, WriteBack, Look}
 use Rattle.warm_concurrent.specs.declared.call.ShardCall.TheVariants.{Change, PinZeroed}
 use Rattle.warm_concurrent.specs.declared.call.ShardCall.TheVariants.{ForgetPages, TakeIn}
+use Rattle.warm_concurrent.specs.declared.call.ShardCall.TheVariants.{CopyHistory, Retire}
+use Rattle.warm_concurrent.specs.ToldDevices.{IsTold}
 use Rattle.warm_concurrent.specs.declared.call.ShardReply.{ShardReply}
 use Rattle.warm_concurrent.specs.declared.call.ShardReply.TheVariants.{Done, Kept, Pinned, Bytes}
 use Rattle.warm_concurrent.specs.declared.call.ShardReply.TheVariants.{Page, Loaded, Sent, Answers}
 use Rattle.warm_concurrent.specs.declared.call.ShardReply.TheVariants.{Foreign, Pages, Portion}
 use Rattle.warm_concurrent.specs.declared.call.ShardReply.TheVariants.{Dirty, Refused, Looked}
-use Rattle.warm_concurrent.specs.declared.call.ShardReply.TheVariants.{Changed}
+use Rattle.warm_concurrent.specs.declared.call.ShardReply.TheVariants.{Changed, Copied}
 
 -- a shard: how many there are, its number, and its node
 pub record ShardState : Type 0 where
@@ -63,8 +68,8 @@ abbrev pub request_for : ℕ → Message
 request_for request = Want 1 0 request
 
 -- What a node does in one step: a call; to write back all pages, some, or all with a flush; a pin of
--- a page that gets zeros; to forget the pages of a device from a number on; or to send what is new in
--- a bucket since a time, after a page.
+-- a page that gets zeros; to forget the pages of a device from a number on; to send what is new in a
+-- bucket since a time, after a page; to copy its history; or to replace a device with another.
 pub data Work : Type 0 where
   calling : Call → Work
   writing_pages : Work
@@ -73,6 +78,8 @@ pub data Work : Type 0 where
   zeroing : PageId → Work
   forgetting : ℕ → ℕ → Work
   sending_since : ℕ → ℕ → Option PageId → Work
+  copying : Work
+  retiring : ℕ → Tag → Work
 
 -- what a shard asks of its node: one step; or several calls in one turn, of a page that is looked
 -- at, or changed
@@ -103,10 +110,12 @@ asked_of Offer = of_node node_call.Offer
 asked_of (Send bucket after) = of_node (node_call.Send bucket after)
 asked_of (SendSince bucket since after) = doing (sending_since bucket since after)
 asked_of (Answer request) = of_node (node_call.Receive (request_for request))
+asked_of CopyHistory = doing copying
 asked_of WritePages = doing writing_pages
 asked_of (WriteSome limit) = doing (writing_some limit)
 asked_of WriteBack = doing writing_back
 asked_of (ForgetPages dev from) = doing (forgetting dev from)
+asked_of (Retire dev device) = doing (retiring dev device)
 asked_of (Look page) = looking page
 asked_of (Change page) = changing page
 
@@ -124,6 +133,7 @@ node_reply_of (Answers messages) = Some (node_reply.Answers messages)
 node_reply_of (Refused why) = Some (node_reply.Refused why)
 node_reply_of (Dirty left) = None
 node_reply_of (Portion message more) = None
+node_reply_of (Copied history) = None
 node_reply_of (Looked slot bytes) = None
 node_reply_of (Changed slot before after) = None
 node_reply_of Foreign = None
@@ -210,6 +220,25 @@ SendSinceStep old bucket since after (Portion message more) new =
 SendSinceStep old bucket since after (Refused why) new = (why ≡ Memory) × (new ≡ old)
 SendSinceStep old bucket since after reply new = ⊥
 
+-- a copy of the history
+abbrev pub CopyStep : NodeState → ShardReply → NodeState → Type 0
+CopyStep old (Copied history) new = (history ≡ old.history) × (new ≡ old)
+CopyStep old (Refused why) new = (why ≡ Memory) × (new ≡ old)
+CopyStep old reply new = ⊥
+
+-- A device was replaced with one of the state that was told, or it is refused. A call that brought
+-- no device is refused as if no memory were left.
+abbrev pub RetireStep : NodeState → ℕ → Tag → ShardReply → NodeState → Type 0
+RetireStep old dev told Done new = (device : DeviceState) × IsTold told device × KeepsKnown old new
+    × Retired (view_of old.pool) dev device (view_of new.pool)
+    × KeepsElsewhere dev old.pool new.pool
+RetireStep old dev told (Refused (Pool fault)) new = (device : DeviceState) × IsTold told device
+    × KeepsKnown old new
+    × RetireRefused (view_of old.pool) dev device fault (view_of new.pool)
+    × KeepsElsewhere dev old.pool new.pool
+RetireStep old dev told (Refused Memory) new = new ≡ old
+RetireStep old dev told reply new = ⊥
+
 -- one step of a node, with the reply of the shard
 abbrev pub NodeStep : NodeState → Work → ShardReply → NodeState → Type 0
 NodeStep old (calling call) reply new = CallGoes old call (node_reply_of reply) new
@@ -220,6 +249,8 @@ NodeStep old (zeroing page) reply new = PinZeroedStep old page reply new
 NodeStep old (forgetting dev from) reply new = ForgetPagesStep old dev from reply new
 NodeStep old (sending_since bucket since after) reply new =
     SendSinceStep old bucket since after reply new
+NodeStep old copying reply new = CopyStep old reply new
+NodeStep old (retiring dev told) reply new = RetireStep old dev told reply new
 
 -- Steps of a shard
 

@@ -1,6 +1,7 @@
 //! The calls of a shard and its replies. None has space for a message, of 2 KB: a message is in a
 //! box.
 
+use crate::copying::BoxedHistory;
 use boxcar::tag::Tag;
 use warm_frames::{BoxedMessage, EntryList, MessageList};
 use warm_gossip::NodeFault;
@@ -75,6 +76,8 @@ pub enum ShardCall {
     },
     /// Give the entries of these buckets, in messages. All must be buckets of the shard.
     Answer(BucketSet),
+    /// Give a copy of the history of the shard.
+    CopyHistory,
     /// Write back all dirty pages of the shard. No device is flushed.
     WritePages,
     /// Write back at most this many dirty pages of the shard. No device is flushed.
@@ -87,6 +90,14 @@ pub enum ShardCall {
         dev: u16,
         /// The number of the first page.
         from: u64,
+    },
+    /// Replace a device of the shard with another, and drop the old one. A value of this call brings
+    /// no device, and is refused: [`crate::SharedShards::retire`] brings one.
+    Retire {
+        /// The device.
+        dev: u16,
+        /// The state of the other device, which exists here only in contracts.
+        device: Tag,
     },
     /// Show the bytes of a page of the shard, and load it where it isn't resident.
     Look(PageId),
@@ -124,6 +135,8 @@ pub enum ShardReply {
     },
     /// The messages with the requested entries, in order.
     Answers(MessageList),
+    /// A copy of the history.
+    Copied(BoxedHistory),
     /// The call brings a page, or a bucket, of another shard. Nothing has changed.
     Foreign,
     /// The node refused the call, or no memory was left for a box.

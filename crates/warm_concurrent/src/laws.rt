@@ -4,6 +4,7 @@ ghost use Rattle.warm_concurrent.specs.Given.{SharedIsOfGiven, SharedVictims, Th
 ghost use Rattle.warm_concurrent.specs.Given.{TwoThreadsAreHeld};
 ghost use Rattle.warm_concurrent.specs.Laws.{CallsAreANodes, OnlySeesMore, ShardIsOfGiven};
 ghost use Rattle.warm_concurrent.specs.Laws.{ShardsHoldTheirPages, TogetherAreOfGiven};
+ghost use Rattle.warm_concurrent.specs.ToldDevices.{ToldAreOne};
 ghost use Rattle.std.specs.Thread.{IsSend, IsSync};
 ghost use Rattle.warm_concurrent.specs.contracts.shared.Attached.{the_row as attached_row};
 ghost use Rattle.warm_concurrent.specs.contracts.shared.SharedShards.{the_row as shared_row};
@@ -56,6 +57,11 @@ pub fn shards_hold_their_pages()
 /// a thread that reads several shards sees nothing older than it had seen, shard by shard.
 pub fn only_sees_more()
     ensures { OnlySeesMore }
+{}
+
+/// The numbers by which the call `Retire` tells of a device are those of one state alone.
+pub fn told_devices_are_one()
+    ensures { ToldAreOne }
 {}
 
 /// Where devices may go from one thread to another, threads may share shards, and what a thread has

@@ -4,6 +4,7 @@
 mod answering;
 mod attaching;
 mod call;
+mod copying;
 mod engine_calls;
 mod fault;
 mod gossip;
@@ -12,6 +13,7 @@ pub mod laws;
 mod lending;
 mod looking;
 mod pool_calls;
+mod retiring;
 mod shard;
 mod shared;
 mod sharing;
@@ -20,9 +22,11 @@ mod writing;
 
 pub use attaching::{NotClosed, NotDetached};
 pub use call::{ShardCall, ShardReply};
+pub use copying::BoxedHistory;
 pub use fault::SharedFault;
 pub use gossip::NotReceived;
 pub use history_calls::Stopped;
+pub use retiring::NotRetired;
 pub use shard::{Shard, StateOfShard};
 pub use shared::{Attached, SharedShards};
 pub use sharing::Sharing;

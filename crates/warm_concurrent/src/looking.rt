@@ -8,41 +8,14 @@ ghost use Rattle.warm_concurrent.specs.Visits.{ChangesPageAt, LooksAt};
 ghost use Rattle.warm_concurrent.specs.declared.call.ShardCall.TheVariants.{Change, Look};
 
 use crate::fault::SharedFault;
-use crate::shard::Shard;
-use crate::shared::{Attached, SharedShards, visit_shard};
+use crate::shard::{Place, Shard};
+use crate::shared::{Attached, SharedShards, visit_or_back};
 use crate::visitors::{Changing, Looking, Went};
 use std::sync::Wait;
 use warm_devices::PageDevice;
 use warm_shards::shard_of;
 use warm_stamps::PageId;
 use warm_turn::{Pass, Turn};
-
-// Looks at a page in its shard.
-fn look_at<D: PageDevice + Send, R: Wait, T, F: FnOnce(&[u8]) -> T + Drop>(
-    rt: &R,
-    turns: &Vec<Turn<Shard<D>>>,
-    passes: &mut Vec<Pass<Shard<D>>>,
-    shard: usize,
-    page: PageId,
-    f: F,
-) -> Result<T, SharedFault>
-    requires turns { AreTurns turns.now.items }
-    requires passes { AreOf turns.now.items passes.old.items }
-    requires there { shard < length turns.now.items }
-    requires own { shard_of (length turns.now.items) page ≡ shard }
-    requires callable { F.IsAlwaysCallable f }
-    ensures passes { AreOf turns.now.items passes.new.items }
-    ensures looked { IfOk result (λ given. LooksAt passes.old.items shard page
-        (λ bytes. FnOnceReturnsAt F.FnOnce f bytes given) passes.new.items) }
-    ensures refused { IfErr result (λ why. CallFails passes.old.items shard (Look page) why
-        passes.new.items) }
-{
-    match visit_shard(rt, turns, passes, shard, Looking { page, f })? {
-        Went::Given(given) => Ok(given),
-        Went::Refused(why) => Err(SharedFault::Node(why)),
-        Went::Foreign => unreachable!(),
-    }
-}
 
 // Changes a page in its shard.
 fn change_at<D: PageDevice + Send, R: Wait, T, F: FnOnce(&mut [u8]) -> T + Drop>(
@@ -65,10 +38,11 @@ fn change_at<D: PageDevice + Send, R: Wait, T, F: FnOnce(&mut [u8]) -> T + Drop>
     ensures refused { IfErr result (λ why. CallFails passes.old.items shard (Change page) why
         passes.new.items) }
 {
-    match visit_shard(rt, turns, passes, shard, Changing { page, f })? {
-        Went::Given(given) => Ok(given),
-        Went::Refused(why) => Err(SharedFault::Node(why)),
-        Went::Foreign => unreachable!(),
+    match visit_or_back(rt, turns, passes, shard, Changing { page, f }) {
+        Ok(Went::Given(given)) => Ok(given),
+        Ok(Went::Refused(why)) => Err(SharedFault::Node(why)),
+        Ok(Went::Foreign) => unreachable!(),
+        Err(_visitor) => Err(SharedFault::TurnsSpent),
     }
 }
 
@@ -103,9 +77,19 @@ impl<D: PageDevice + Send> SharedShards<D> {
             (shard_of (length self.now) page) (Look page) why attached.new.passes) }
         ensures pins { attached.new.pins ≡ attached.old.pins }
     {
-        let shard = shard_of(self.turns.len(), page);
-        let given = look_at(rt, &self.turns, &mut attached.passes, shard, page, f)?;
-        Ok(given)
+        let count = self.turns.len();
+        let number = shard_of(count, page);
+        let looking = Looking {
+            page,
+            place: Place { count, number },
+            f,
+        };
+        match self.turns[number].visit(rt, &mut attached.passes[number], looking) {
+            Ok(Went::Given(given)) => Ok(given),
+            Ok(Went::Refused(why)) => Err(SharedFault::Node(why)),
+            Ok(Went::Foreign) => unreachable!(),
+            Err(_spent) => Err(SharedFault::TurnsSpent),
+        }
     }
 
     /// Calls the closure with all bytes of a page where they lie, to be written to, and returns

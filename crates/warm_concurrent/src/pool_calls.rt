@@ -16,7 +16,7 @@ ghost use Rattle.warm_concurrent.specs.declared.fault.SharedFault.TheVariants.{P
 use crate::call::{ShardCall, ShardReply};
 use crate::fault::SharedFault;
 use crate::shard::Shard;
-use crate::shared::{Attached, SharedShards, call_shard, visit_or_back, visit_shard};
+use crate::shared::{Attached, SharedShards, call_shard, visit_or_back};
 use crate::visitors::{Pinning, ReadInto, Reading, Unpinning, Went};
 use std::mem::replace;
 use std::sync::Wait;
@@ -42,10 +42,11 @@ fn pin_in<D: PageDevice + Send, R: Wait>(
     ensures passes { AreOf turns.now.items passes.new.items }
     ensures ends { CallEnds passes.old.items shard (Pin page) Pinned result passes.new.items }
 {
-    match visit_shard(rt, turns, passes, shard, Pinning { page })? {
-        Went::Given(slot) => Ok(slot),
-        Went::Refused(why) => Err(SharedFault::Node(why)),
-        Went::Foreign => unreachable!(),
+    match visit_or_back(rt, turns, passes, shard, Pinning { page }) {
+        Ok(Went::Given(slot)) => Ok(slot),
+        Ok(Went::Refused(why)) => Err(SharedFault::Node(why)),
+        Ok(Went::Foreign) => unreachable!(),
+        Err(_visitor) => Err(SharedFault::TurnsSpent),
     }
 }
 
@@ -64,10 +65,11 @@ fn unpin_in<D: PageDevice + Send, R: Wait>(
         passes.new.items }
 {
     let ShardSlot { shard, slot } = at;
-    match visit_shard(rt, turns, passes, shard, Unpinning { slot })? {
-        Went::Given(()) => Ok(()),
-        Went::Refused(why) => Err(SharedFault::Node(why)),
-        Went::Foreign => unreachable!(),
+    match visit_or_back(rt, turns, passes, shard, Unpinning { slot }) {
+        Ok(Went::Given(())) => Ok(()),
+        Ok(Went::Refused(why)) => Err(SharedFault::Node(why)),
+        Ok(Went::Foreign) => unreachable!(),
+        Err(_visitor) => Err(SharedFault::TurnsSpent),
     }
 }
 

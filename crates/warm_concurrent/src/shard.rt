@@ -7,10 +7,12 @@ ghost use Rattle.warm_concurrent.specs.declared.call.ShardCall.TheVariants.{Answ
 ghost use Rattle.warm_concurrent.specs.declared.call.ShardCall.TheVariants.{Offer, ForgetPages};
 ghost use Rattle.warm_concurrent.specs.declared.call.ShardCall.TheVariants.{PinZeroed, Send};
 ghost use Rattle.warm_concurrent.specs.declared.call.ShardCall.TheVariants.{SendSince, TakeIn};
+ghost use Rattle.warm_concurrent.specs.declared.call.ShardCall.TheVariants.{CopyHistory};
 ghost use Rattle.warm_concurrent.specs.declared.call.ShardCall.TheVariants.{Unpin, Write};
 ghost use Rattle.warm_concurrent.specs.declared.call.ShardCall.TheVariants.{WritePages, WriteSome};
 
 use crate::call::{ShardCall, ShardReply};
+use crate::copying::BoxedHistory;
 use crate::lending::{Left, Shown, change_in, look_in};
 use std::alloc::Global;
 use std::marker::Model;
@@ -64,6 +66,26 @@ pub(crate) fn is_own_page(count: usize, number: usize, page: PageId) -> bool
     ensures { IsTrue result ↔ (shard_of count page ≡ number) }
 {
     shard_of(count, page) == number
+}
+
+// Where a page is: the number of its shard, and of how many. A caller has reckoned it.
+#[derive(Clone, Copy)]
+pub(crate) struct Place {
+    pub(crate) count: usize,
+    pub(crate) number: usize,
+}
+
+// Whether a page is of the shard of this number. Mostly its place says so, and its shard is not
+// reckoned again, which takes a division.
+pub(crate) fn is_own_place(count: usize, number: usize, page: PageId, place: Place) -> bool
+    requires count { IsShardCount count }
+    requires place { shard_of place.count page ≡ place.number }
+    ensures { IsTrue result ↔ (shard_of count page ≡ number) }
+{
+    if place.count == count && place.number == number {
+        return true;
+    }
+    is_own_page(count, number, page)
 }
 
 // Whether all items name pages of the shard of this number.
@@ -190,6 +212,14 @@ fn taken_in<D: PageDevice>(
     Ok(ShardReply::Answers(messages))
 }
 
+// A copy of a node's history, in a box.
+fn copied<D: PageDevice>(alloc: Global, node: &Node<D>) -> Result<ShardReply, NodeFault>
+    ensures { AnsweredAs node.now CopyHistory result node.now }
+{
+    let copy = BoxedHistory::copy_of(alloc, node.history())?;
+    Ok(ShardReply::Copied(copy))
+}
+
 // Writes back all dirty pages of a node. No device is flushed.
 fn write_pages<D: PageDevice>(node: &mut Node<D>) -> Result<ShardReply, NodeFault>
     ensures { AnsweredAs node.old WritePages result node.new }
@@ -243,6 +273,7 @@ fn answer<D: PageDevice>(
             after,
         } => sent_since(alloc, node, bucket, since, after),
         ShardCall::Answer(request) => requested(node, request),
+        ShardCall::CopyHistory => copied(alloc, node),
         ShardCall::WritePages => write_pages(node),
         ShardCall::WriteSome(limit) => write_some(node, limit),
         ShardCall::WriteBack => {
@@ -250,6 +281,7 @@ fn answer<D: PageDevice>(
             Ok(ShardReply::Done)
         }
         ShardCall::ForgetPages { dev, from } => forgotten(node, dev, from),
+        ShardCall::Retire { .. } => Err(NodeFault::Memory),
         ShardCall::Look(page) => looked(node, page),
         ShardCall::Change(page) => changed(node, page),
     }

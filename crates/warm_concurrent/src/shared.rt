@@ -97,33 +97,8 @@ pub(crate) fn call_shard<D: PageDevice + Send, R: Wait>(
     Ok(reply)
 }
 
-// Lets a visitor have the shard of one turn. It enters no other turn.
-pub(crate) fn visit_shard<D: PageDevice + Send, R: Wait, V: Visit<Shard<D>> + Drop>(
-    rt: &R,
-    turns: &Vec<Turn<Shard<D>>>,
-    passes: &mut Vec<Pass<Shard<D>>>,
-    shard: usize,
-    visitor: V,
-) -> Result<V::Output, SharedFault>
-    requires turns { AreTurns turns.now.items }
-    requires passes { AreOf turns.now.items passes.old.items }
-    requires there { shard < length turns.now.items }
-    requires ready { V.ready visitor }
-    ensures passes { AreOf turns.now.items passes.new.items }
-    ensures visited { IfOk result (λ output. (call : ShardCall) × (reply : ShardReply)
-        × V.makes visitor output call reply
-        × AnsweredByShard passes.old.items shard call reply passes.new.items
-        × MayAnswer (length turns.now.items) shard call reply) }
-    ensures spent { IfErr result (λ why. (why ≡ TurnsSpent)
-        × Spent passes.old.items shard passes.new.items) }
-{
-    match visit_or_back(rt, turns, passes, shard, visitor) {
-        Ok(output) => Ok(output),
-        Err(_visitor) => Err(SharedFault::TurnsSpent),
-    }
-}
-
-// The same, for a visitor that is given back where no ticket was left.
+// Lets a visitor have the shard of one turn. It enters no other turn. The visitor is given back
+// where no ticket was left.
 pub(crate) fn visit_or_back<D: PageDevice + Send, R: Wait, V: Visit<Shard<D>>>(
     rt: &R,
     turns: &Vec<Turn<Shard<D>>>,

@@ -1,6 +1,7 @@
 //! The visitors of a shard: each has the shard for one turn.
 ghost use Rattle.std.specs.Prelude.{◌≡◌, ℕ, List, None, length};
 ghost use Rattle.std.specs.Fn.{FnOnceReturnsAt, FnOnceReturnsAtMut};
+ghost use Rattle.warm_shards.specs.Shards.{shard_of};
 ghost use Rattle.warm_concurrent.specs.Visits.{ReadsInto, Shows, ShowsBoth, VisitWentAs};
 ghost use Rattle.warm_concurrent.specs.ShardSteps.{ShardStep};
 ghost use Rattle.warm_concurrent.specs.declared.call.ShardCall.TheVariants.{Change, Look, Pin};
@@ -9,7 +10,7 @@ ghost use Rattle.warm_concurrent.specs.declared.call.ShardReply.TheVariants.{Byt
 
 use crate::call::{ShardCall, ShardReply};
 use crate::lending::{Left, Shown, change_in, look_in};
-use crate::shard::{Shard, is_own_page};
+use crate::shard::{Place, Shard, is_own_page, is_own_place};
 use std::snapshot::Snapshot;
 use warm_devices::PageDevice;
 use warm_gossip::NodeFault;
@@ -29,7 +30,11 @@ pub enum Went<T> {
 
 // A visit with this output. The call and the reply exist only in contracts.
 #[inline(always)]
-fn visited<T>(call: ShardCall, reply: ShardReply, output: T) -> Visited<ShardCall, ShardReply, T>
+pub(crate) fn visited<T>(
+    call: ShardCall,
+    reply: ShardReply,
+    output: T,
+) -> Visited<ShardCall, ShardReply, T>
     ensures call { result.made.call.value ≡ call }
     ensures reply { result.made.reply.value ≡ reply }
     ensures output { result.output ≡ output }
@@ -162,26 +167,30 @@ impl<D: PageDevice + Send> Visit<Shard<D>> for Reading {
 #[derive(Drop)]
 pub(crate) struct Looking<F> {
     pub(crate) page: PageId,
+    pub(crate) place: Place,
     pub(crate) f: F,
 }
 
 impl<D: PageDevice + Send, T, F: FnOnce(&[u8]) -> T + Drop> Visit<Shard<D>> for Looking<F> {
     ghost use Rattle.std.specs.Prelude.{◌≡◌};
     ghost use Rattle.std.specs.Fn.{FnOnceReturnsAt};
+    ghost use Rattle.warm_shards.specs.Shards.{shard_of};
     ghost use Rattle.warm_concurrent.specs.Visits.{Shows, VisitWentAs};
     ghost use Rattle.warm_concurrent.specs.declared.call.ShardCall.TheVariants.{Look};
 
     type Output = Went<T>;
 
-    ghost ready = { λ v. F.IsAlwaysCallable v.f };
+    ghost ready = { λ v. F.IsAlwaysCallable v.f
+        × (shard_of v.place.count v.page ≡ v.place.number) };
 
     ghost makes = { λ v output call reply. (call ≡ Look v.page)
         × VisitWentAs (λ given. Shows (λ bytes. FnOnceReturnsAt F.FnOnce v.f bytes given))
         output reply };
 
+    #[inline(always)]
     fn visit(self, shard: &mut Shard<D>) -> Visited<ShardCall, ShardReply, Went<T>> {
-        let Looking { page, f } = self;
-        shard.look(page, f)
+        let Looking { page, place, f } = self;
+        shard.look(page, place, f)
     }
 }
 
@@ -206,6 +215,7 @@ impl<D: PageDevice + Send, T, F: FnOnce(&mut [u8]) -> T + Drop> Visit<Shard<D>> 
         × VisitWentAs (λ given. ShowsBoth (λ before after.
         FnOnceReturnsAtMut F.FnOnce v.f before given after)) output reply };
 
+    #[inline(always)]
     fn visit(self, shard: &mut Shard<D>) -> Visited<ShardCall, ShardReply, Went<T>> {
         let Changing { page, f } = self;
         shard.change(page, f)
@@ -277,12 +287,15 @@ impl<D: PageDevice> Shard<D> {
     }
 
     // Calls the closure with the bytes of a page of this shard.
+    #[inline(always)]
     fn look<T, F: FnOnce(&[u8]) -> T + Drop>(
         &mut self,
         page: PageId,
+        place: Place,
         f: F,
     ) -> Visited<ShardCall, ShardReply, Went<T>>
         requires callable { F.IsAlwaysCallable f }
+        requires place { shard_of place.count page ≡ place.number }
         ensures call { result.made.call.value ≡ Look page }
         ensures reply { VisitWentAs (λ given. Shows (λ bytes.
             FnOnceReturnsAt F.FnOnce f bytes given))
@@ -290,7 +303,7 @@ impl<D: PageDevice> Shard<D> {
         ensures step { ShardStep self.old (Look page) result.made.reply.value
             self.new }
     {
-        if !is_own_page(self.count, self.number, page) {
+        if !is_own_place(self.count, self.number, page, place) {
             return visited(ShardCall::Look(page), ShardReply::Foreign, Went::Foreign);
         }
         match look_in(&mut self.node, page, f) {
@@ -314,6 +327,7 @@ impl<D: PageDevice> Shard<D> {
     }
 
     // Calls the closure with the bytes of a page of this shard, to be written to.
+    #[inline(always)]
     fn change<T, F: FnOnce(&mut [u8]) -> T + Drop>(
         &mut self,
         page: PageId,

@@ -1,6 +1,7 @@
-//! Why a flush or a run of jobs is refused. Each fault is displayed as its name.
+//! Why a flush, a look, a change or a run of jobs is refused. Each fault is displayed as its name.
 ghost use Rattle.std.specs.Prelude.{◌≡◌};
-ghost use Rattle.warm_replica.specs.Faults.{flush_code, flush_name, run_code, run_name};
+ghost use Rattle.warm_replica.specs.Faults.{flush_code, flush_name, lend_code, lend_name};
+ghost use Rattle.warm_replica.specs.Faults.{run_code, run_name};
 
 use std::alloc::AllocError;
 use std::thread::SpawnError;
@@ -58,6 +59,50 @@ impl FlushFault {
         match self {
             FlushFault::Memory => "Memory",
             FlushFault::TurnsSpent => "TurnsSpent",
+        }
+    }
+}
+
+/// Why the bytes of a page were not lent. The closure was not called.
+#[derive(Clone, Copy, Debug, PartialEq, Eq, Error)]
+pub enum LendFault {
+    /// 2: no ticket was left for a turn, and none is left for any later call of this worker.
+    #[error("TurnsSpent")]
+    TurnsSpent,
+    /// 13: the slot does not hold its page.
+    #[error("StaleSlot")]
+    StaleSlot,
+}
+
+impl<C: Drop> From<TurnsSpent<C>> for LendFault {
+    ghost use Rattle.std.specs.Prelude.{◌≡◌};
+    ghost use Rattle.warm_replica.specs.declared.fault.LendFault.TheVariants.{TurnsSpent};
+
+    ghost from_gives = { λ _ fault. fault ≡ TurnsSpent };
+
+    fn from(_: TurnsSpent<C>) -> LendFault {
+        LendFault::TurnsSpent
+    }
+}
+
+impl LendFault {
+    /// The number of the refusal: 2 or 13.
+    pub fn code(self) -> u8
+        ensures { result ≡ lend_code self }
+    {
+        match self {
+            LendFault::TurnsSpent => 2,
+            LendFault::StaleSlot => 13,
+        }
+    }
+
+    /// Its name, as the variant is written.
+    pub fn name(self) -> &'static str
+        ensures { result.now ≡ lend_name self }
+    {
+        match self {
+            LendFault::TurnsSpent => "TurnsSpent",
+            LendFault::StaleSlot => "StaleSlot",
         }
     }
 }

@@ -36,7 +36,7 @@ impl<D: PageDevice + Send> BatchMachine for Node<D> {
 /// buffer, and leaves its calls in the history.
 #[derive(Drop)]
 pub struct Worker<M: Machine> {
-    pass: Pass<M>,
+    pub(crate) pass: Pass<M>,
     buffer: RefBuffer,
 }
 

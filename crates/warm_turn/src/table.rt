@@ -107,6 +107,7 @@ impl<M> BoxedMachine<M> {
 
 impl<M: Machine> BoxedMachine<M> {
     // Lets the visitor have the machine.
+    #[inline(always)]
     pub(crate) fn admit<V: Visit<M>>(&mut self, visitor: V) -> Visited<M::Call, M::Reply, V::Output>
         requires ready { V.ready visitor }
         ensures makes { V.makes visitor result.output result.made.call.value

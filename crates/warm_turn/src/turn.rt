@@ -1,19 +1,20 @@
 //! The turn, its passes and notes.
 ghost use Rattle.std.specs.Prelude.{◌≡◌, ◌≢◌, ℕ, ◌<◌, [], ◌∷◌, Some};
-ghost use Rattle.std.specs.Prelude.{IfOk, IfErr, IsOk, OnOk};
+ghost use Rattle.std.specs.Prelude.{true, false, IfOk, IfErr, IsOk, OnOk};
+ghost use Rattle.warm_turn.specs.declared.table.CallMade.{CallMade};
 ghost use Rattle.warm_turn.specs.declared.table.CellContents.{CellContents};
 ghost use Rattle.warm_turn.specs.CallHistories.{calls_by, first_pass, new_pass, pass_note, marked};
 ghost use Rattle.warm_turn.specs.CallHistories.{IsPass, IsStep, IsLast, Called, Learned, Joined};
 ghost use Rattle.warm_turn.specs.CallHistories.{MadeVisit, halved};
 ghost use Rattle.warm_turn.specs.Shares.{IsWhole};
 ghost use Rattle.warm_turn.specs.Rule.{IsTicketTable, AreWords, MarkShows};
-ghost use Rattle.warm_turn.specs.Steps.{IsMade, Served, HasPassedOn};
+ghost use Rattle.warm_turn.specs.Steps.{IsMade, Served, ServedIn, HasPassedOn, before_ticket};
 
 use crate::fault::{Busy, Memory, TurnsSpent};
 use crate::plays::{Become, CatchUp, Come, End, GiveNote, GivePass, Learn, PassOn};
 use crate::table::{BoxedMachine, CellContents, MachineCell, SharedTable, TicketTable, TurnSeat};
 use crate::visit::{Calling, Visit, Visited};
-use crate::waiting::{take_ticket, wait_turn};
+use crate::waiting::{Tried, is_served, poll_for_ticket, poll_for_turn, try_ticket};
 use atomic_table::{Refused, Table};
 use std::alloc::{AllocFailed, Global};
 use std::marker::Model;
@@ -93,7 +94,38 @@ impl<M: Machine> Model for Note<M> {
     ghost invariant = { λ p. (p.seat.me.1 ≡ []) × IsNote p.seat.me.0 };
 }
 
+// Lets the visitor have the machine, and notes what it did.
+#[inline(always)]
+fn serve_held<M: Machine, V: Visit<M>>(
+    held: &mut CellContents<M, M::Call, M::Reply>,
+    visitor: V,
+) -> V::Output
+    requires ready { V.ready visitor }
+    ensures made { (d : CallMade M.Call M.Reply) × (held.new.made ≡ Some d)
+        × V.makes visitor result d.call.value d.reply.value
+        × M.goes (M.view held.old.machine) d.call.value d.reply.value
+        (M.view held.new.machine) }
+{
+    let visited = held.machine.admit(visitor);
+    let Visited { made, output } = visited;
+    held.made = Some(made);
+    output
+}
+
+// Lets the visitor have the machine in the slot, where it lies.
+#[inline(always)]
+fn serve_in<M: Machine, V: Visit<M>>(slot: &mut MachineCell<M>, visitor: V) -> V::Output
+    requires has { (h : CellContents M M.Call M.Reply) × (slot.old ≡ Some h) }
+    requires ready { V.ready visitor }
+    ensures made { (c : M.Call) × (r : M.Reply) × V.makes visitor result c r
+        × ServedIn M.view M.goes slot.old c r slot.new }
+{
+    let Some(held) = slot else { unreachable!() };
+    serve_held::<M, V>(held, visitor)
+}
+
 // Lets the visitor have the machine in the slot.
+#[inline(always)]
 fn serve<M: Machine, V: Visit<M>>(
     shared: &SharedTable<M>,
     seat: &mut TurnSeat<M>,
@@ -106,18 +138,8 @@ fn serve<M: Machine, V: Visit<M>>(
     ensures made { (c : M.Call) × (r : M.Reply) × V.makes visitor result c r
         × Served M.view M.goes seat.old.me c r seat.new.me }
 {
-    let out = shared.exchange(seat, 0, None);
-    let Some(held) = out else { unreachable!() };
-    let CellContents {
-        mut machine,
-        made: _,
-    } = held;
-    let visited = machine.admit(visitor);
-    let Visited { made, output } = visited;
-    let made = Some(made);
-    let empty = shared.exchange(seat, 0, Some(CellContents { machine, made }));
-    let None = empty else { unreachable!() };
-    output
+    let slot = seat.slot_mut(shared, 0);
+    serve_in::<M, V>(slot, visitor)
 }
 
 // Adds the call to the history, and puts the machine back into the slot for the next ticket.
@@ -132,8 +154,36 @@ fn pass_on<M: Machine>(shared: &SharedTable<M>, seat: &mut TurnSeat<M>)
     shared.fetch_add::<PassOn>(seat, 1, 1);
 }
 
-// Takes a ticket, waits for its turn, lets the visitor have the machine and passes the turn on.
-fn make_visit<M: Machine, R: Wait, V: Visit<M>>(
+// Waits until the ticket is served, lets the visitor have the machine and passes the turn on.
+#[inline(never)]
+fn visit_later<M: Machine, R: Wait, V: Visit<M>>(
+    rt: &R,
+    shared: &SharedTable<M>,
+    seat: &mut TurnSeat<M>,
+    ticket: u64,
+    visitor: V,
+) -> V::Output
+    requires table { (seat.old.table_id ≡ shared.now.table_id) × IsTicketTable shared.now.table_id }
+    requires waits { (seat.old.me.1 ≡ []) × (seat.old.me.0.waits ≡ true)
+        × (seat.old.me.0.serves ≡ false) × (seat.old.me.0.ticket ≡ ticket) }
+    requires pass { (seat.old.me.0.found_last ≡ false)
+        × IsPass M.goes (before_ticket seat.old.me.0) }
+    requires ready { V.ready visitor }
+    ensures table { (seat.new.table_id ≡ seat.old.table_id) × (seat.new.id ≡ seat.old.id)
+        × (seat.new.me.1 ≡ []) }
+    ensures pass { IsPass M.goes seat.new.me.0 }
+    ensures ok { MadeVisit M.goes (V.makes visitor result) (before_ticket seat.old.me.0)
+        seat.new.me.0 }
+{
+    poll_for_turn(rt, shared, seat, ticket);
+    let output = serve(shared, seat, visitor);
+    pass_on(shared, seat);
+    output
+}
+
+// Takes a ticket that is not served at once, and visits the machine when it is.
+#[inline(never)]
+fn wait_and_visit<M: Machine, R: Wait, V: Visit<M>>(
     rt: &R,
     shared: &SharedTable<M>,
     seat: &mut TurnSeat<M>,
@@ -150,12 +200,10 @@ fn make_visit<M: Machine, R: Wait, V: Visit<M>>(
     ensures err { IfErr result (λ e. (e.call ≡ visitor)
         × (seat.new.me.0 ≡ marked seat.old.me.0)) }
 {
-    let Some(ticket) = take_ticket(rt, shared, seat) else {
+    let Some(ticket) = poll_for_ticket(rt, shared, seat) else {
         return Err(TurnsSpent { call: visitor });
     };
-    wait_turn(rt, shared, seat, ticket);
-    let output = serve(shared, seat, visitor);
-    pass_on(shared, seat);
+    let output = visit_later(rt, shared, seat, ticket, visitor);
     Ok(output)
 }
 
@@ -329,7 +377,20 @@ impl<M: Machine> Turn<M> {
         ensures spent { IfErr result (λ e. pass.new.view ≡ marked pass.old.view) }
         ensures given_back { IfErr result (λ e. e.call ≡ visitor) }
     {
-        make_visit(rt, &self.table.shared, &mut pass.seat, visitor)
+        let shared = &self.table.shared;
+        match try_ticket(shared, &mut pass.seat) {
+            Tried::Taken(ticket) => {
+                if !is_served(shared, &mut pass.seat, ticket) {
+                    let output = visit_later(rt, shared, &mut pass.seat, ticket, visitor);
+                    return Ok(output);
+                }
+                let output = serve(shared, &mut pass.seat, visitor);
+                pass_on(shared, &mut pass.seat);
+                Ok(output)
+            }
+            Tried::Last => Err(TurnsSpent { call: visitor }),
+            Tried::Contended => wait_and_visit(rt, shared, &mut pass.seat, visitor),
+        }
     }
 
     /// Makes a call, by a visitor that calls the machine and gives its reply.

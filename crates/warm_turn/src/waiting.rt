@@ -1,11 +1,12 @@
 //! Taking a ticket, and waiting until it is served.
 //!
-//! Each of the two first tries once, which is enough where nobody else uses the machine. What polls
-//! and sleeps is a function of its own, so that the short way stays short.
-ghost use Rattle.std.specs.Prelude.{◌≡◌, ◌+◌, ◌<◌, ◌^◌, true, false, [], IfSome, IfNone};
+//! Each is tried once without waiting, which is enough where nobody else uses the machine. What
+//! polls and sleeps may wait, and each call of a function that may costs a look at a flag.
+ghost use Rattle.std.specs.Prelude.{◌≡◌, ◌+◌, ◌<◌, ◌^◌, true, false, [], IfSome, IfNone, IsTrue};
 ghost use Rattle.warm_turn.specs.CallHistories.{IsPass, marked};
 ghost use Rattle.warm_turn.specs.Rule.{IsTicketTable};
 ghost use Rattle.warm_turn.specs.Steps.{HasTicket, HasMachine};
+ghost use Rattle.warm_turn.specs.Tries.{HasTried};
 
 use crate::plays::{Look, Take};
 use crate::table::{SharedTable, TurnSeat};
@@ -66,40 +67,64 @@ fn tried_for(next: u64) -> u64
     if next == u64::MAX { 0 } else { next }
 }
 
-// Takes a ticket, or finds the last number in the ticket word.
-pub(crate) fn take_ticket<M: Machine, R: Wait>(
-    rt: &R,
-    shared: &SharedTable<M>,
-    seat: &mut TurnSeat<M>,
-) -> Option<u64>
+// What one try for a ticket gave.
+pub(crate) enum Tried {
+    // This ticket was taken.
+    Taken(u64),
+    // The last number was in the ticket word.
+    Last,
+    // The next ticket would not be served at once, or another caller took it.
+    Contended,
+}
+
+// Tries to take a ticket that is served at once. It does not wait.
+pub(crate) fn try_ticket<M: Machine>(shared: &SharedTable<M>, seat: &mut TurnSeat<M>) -> Tried
     requires table { (seat.old.table_id ≡ shared.now.table_id) × IsTicketTable shared.now.table_id }
     requires idle { IsPass M.goes seat.old.me.0 }
     ensures table { (seat.new.table_id ≡ seat.old.table_id) × (seat.new.id ≡ seat.old.id) }
-    ensures some { IfSome result (λ k. HasTicket seat.old.me k seat.new.me) }
-    ensures none { IfNone result (seat.new.me ≡ (marked seat.old.me.0, seat.old.me.1)) }
+    ensures tried { HasTried seat.old.me result seat.new.me }
 {
     let next = shared.peek(0);
     if next != shared.peek(1) {
-        return poll_for_ticket(rt, shared, seat);
+        return Tried::Contended;
     }
     let expected = tried_for(next);
     let found = shared.compare_exchange::<Take>(seat, 0, expected, expected + 1);
     if found == expected {
-        return Some(found);
+        return Tried::Taken(found);
     }
     if found == u64::MAX {
-        return None;
+        return Tried::Last;
     }
-    poll_for_ticket(rt, shared, seat)
+    Tried::Contended
 }
 
-// The same, where a ticket would not be served at once.
+// Whether the ticket is served. Then the seat has the machine. It does not wait.
+pub(crate) fn is_served<M: Machine>(
+    shared: &SharedTable<M>,
+    seat: &mut TurnSeat<M>,
+    ticket: u64,
+) -> bool
+    requires table { (seat.old.table_id ≡ shared.now.table_id) × IsTicketTable shared.now.table_id }
+    requires waits { (seat.old.me.1 ≡ []) × (seat.old.me.0.waits ≡ true)
+        × (seat.old.me.0.serves ≡ false) × (seat.old.me.0.ticket ≡ ticket) }
+    ensures table { (seat.new.table_id ≡ seat.old.table_id) × (seat.new.id ≡ seat.old.id) }
+    ensures served { IsTrue result → HasMachine M.view seat.old.me.0 seat.new.me }
+    ensures waits { result ≡ false → seat.new.me ≡ seat.old.me }
+{
+    let served = shared.load::<Look>(seat, 1);
+    if served == ticket {
+        return true;
+    }
+    false
+}
+
+// Takes a ticket, or finds the last number in the ticket word.
 //
 // It waits before it takes a ticket rather than after: a descheduled caller with a ticket delays
 // all callers with later ones, and a caller without a ticket delays nobody. After many polls it
 // takes one anyway, so that it does not starve.
-#[inline(never)]
-fn poll_for_ticket<M: Machine, R: Wait>(
+pub(crate) fn poll_for_ticket<M: Machine, R: Wait>(
     rt: &R,
     shared: &SharedTable<M>,
     seat: &mut TurnSeat<M>,
@@ -131,31 +156,10 @@ fn poll_for_ticket<M: Machine, R: Wait>(
     unreachable!()
 }
 
-// Waits until the ticket is served. Then the seat has the machine.
-pub(crate) fn wait_turn<M: Machine, R: Wait>(
-    rt: &R,
-    shared: &SharedTable<M>,
-    seat: &mut TurnSeat<M>,
-    ticket: u64,
-)
-    requires table { (seat.old.table_id ≡ shared.now.table_id) × IsTicketTable shared.now.table_id }
-    requires waits { (seat.old.me.1 ≡ []) × (seat.old.me.0.waits ≡ true)
-        × (seat.old.me.0.serves ≡ false) × (seat.old.me.0.ticket ≡ ticket) }
-    ensures table { (seat.new.table_id ≡ seat.old.table_id) × (seat.new.id ≡ seat.old.id) }
-    ensures serves { HasMachine M.view seat.old.me.0 seat.new.me }
-{
-    let served = shared.load::<Look>(seat, 1);
-    if served == ticket {
-        return;
-    }
-    poll_for_turn(rt, shared, seat, ticket);
-}
-
-// The same, where the ticket is not served yet. The next caller sleeps as the others do, and does
-// not yield: on busy processors a yield gives up a whole time slice, for which all callers behind
-// it would wait too.
-#[inline(never)]
-fn poll_for_turn<M: Machine, R: Wait>(
+// Waits until the ticket is served. Then the seat has the machine. The next caller sleeps as the
+// others do, and does not yield: on busy processors a yield gives up a whole time slice, for which
+// all callers behind it would wait too.
+pub(crate) fn poll_for_turn<M: Machine, R: Wait>(
     rt: &R,
     shared: &SharedTable<M>,
     seat: &mut TurnSeat<M>,

@@ -5,7 +5,7 @@ use crate::promised::calls::{both, opened};
 use std::alloc::Global;
 use std::io::Print;
 use test_kit::cases::{Ended, Met, is_done, takes, takes_none};
-use test_kit::{bucket, page};
+use test_kit::{bucket, page, seen};
 use warm_devices::MemDevice;
 use warm_gossip::{Call, Node, Reply};
 
@@ -92,6 +92,11 @@ impl Kept {
         takes_none(rt, "second warm_step")?;
         met.holds(is_loaded(&mut node, Some(1)), "a step of a list is refused")?;
         takes_none(rt, "warm_step with nothing to load")?;
-        met.holds(is_loaded(&mut node, None), "the last step is refused")
+        met.holds(is_loaded(&mut node, None), "the last step is refused")?;
+        takes_none(rt, "absorb of a known page, with a list")?;
+        met.holds(
+            node.absorb(&[seen(page(1), 3, 1)]).is_ok(),
+            "a reference to a known page is refused",
+        )
     }
 }

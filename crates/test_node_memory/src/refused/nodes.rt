@@ -80,7 +80,7 @@ const FIRST: Slot = Slot {
     generation: 1,
 };
 
-const CALLS: usize = 19;
+const CALLS: usize = 21;
 
 // A write to the page in slot `FIRST`.
 fn write_call(alloc: Global) -> Result<Call, Ended> {
@@ -112,7 +112,7 @@ pub(crate) fn request(horizon: u64) -> Message {
 }
 
 // Calls of each kind, one after the other, on a node of replica 1. The horizons 8, 12 and 21 drop
-// the stamps at 5, 10 and 20.
+// the stamps at 5, at 10 and 11, and at 20. Between the two steps of a warm-up references come.
 fn call_at(alloc: Global, place: usize) -> Result<Call, Ended> {
     let Some(bucket) = Bucket::new(1) else {
         return Err(Ended::Broken);
@@ -130,26 +130,28 @@ fn call_at(alloc: Global, place: usize) -> Result<Call, Ended> {
         6 => Call::Receive(request(0)),
         7 => Call::WarmList(2),
         8 => Call::WarmStep,
-        9 => Call::Receive(digest(8)),
-        10 => Call::Horizon(12),
-        11 => Call::Offer,
-        12 => Call::Absorb(RefList::of(references_to(alloc, 32, 70, 30)?)),
-        13 => Call::Receive(request(21)),
-        14 => Call::Read {
+        9 => Call::Absorb(RefList::of(references_to(alloc, 0, 6, 11)?)),
+        10 => Call::WarmStep,
+        11 => Call::Receive(digest(8)),
+        12 => Call::Horizon(12),
+        13 => Call::Offer,
+        14 => Call::Absorb(RefList::of(references_to(alloc, 32, 70, 30)?)),
+        15 => Call::Receive(request(21)),
+        16 => Call::Read {
             slot: FIRST,
             at: 0,
             len: 4,
         },
-        15 => write_call(alloc)?,
-        16 => Call::Unpin(FIRST),
-        17 => Call::Victim,
+        17 => write_call(alloc)?,
+        18 => Call::Unpin(FIRST),
+        19 => Call::Victim,
         _ => Call::Restart,
     })
 }
 
 // Whether this call is documented as allocation-free.
 fn is_free(place: usize) -> bool {
-    place == 0 || place == 10 || place >= 15
+    place == 0 || place == 12 || place >= 17
 }
 
 // Makes a call of a node. A refusal changes nothing, and the same call is then repeated.

@@ -4,7 +4,13 @@
 //! Page n is ranked by its second latest reference: pages of later ones are hotter. A page without
 //! a reference is evicted first.
 
-use super::{NO_PAGE, Row, Said, Sent, lives};
+use super::{NO_PAGE, Row, Said, Sent, lives, over};
+use std::alloc::Global;
+use std::process::Abort;
+use test_kit::{memory, page, seen};
+use warm_devices::MemDevice;
+use warm_gossip::Node;
+use warm_stamps::Reference;
 
 const NONE_LEFT: Row = Row::Loads(Said::Loaded(None));
 
@@ -137,6 +143,118 @@ const TAKEN_IN: &[Row] = &[
     FOUR,
     Row::Loads(Said::Loaded(Some(4))),
 ];
+
+// References come while the list of the four hottest pages is cached: a page stays in its place,
+// goes to the front, is left out, or comes in and puts the last one out.
+const MERGED: &[Row] = &[
+    FOUR,
+    Row::Loads(Said::Loaded(Some(4))),
+    // Page 1 is now as hot as its reference at 2: the last one still.
+    Row::Absorbs(&[(0, 1, 9, 1)]),
+    Row::Loads(Said::Loaded(Some(3))),
+    // Then as its reference at 9: the first one.
+    Row::Receives(Sent::Entries(0, &[(0, 1, 10, 1)]), &[]),
+    Row::Loads(Said::Loaded(Some(1))),
+    // A page with one reference is colder than all four.
+    Row::Absorbs(&[(0, 6, 11, 1)]),
+    Row::Loads(Said::Loaded(Some(2))),
+    NONE_LEFT,
+    // With a second one it is the hottest, and page 2 is no longer listed.
+    Row::Absorbs(&[(0, 6, 12, 1)]),
+    Row::Loads(Said::Loaded(Some(6))),
+    NONE_LEFT,
+    // Two pages come in, named twice each; equal stamps rank the greater page higher.
+    Row::Absorbs(&[(0, 7, 13, 1), (0, 2, 13, 1), (0, 7, 14, 1), (0, 2, 14, 1)]),
+    Row::Loads(Said::Loaded(Some(7))),
+    Row::Loads(Said::Loaded(Some(2))),
+    NONE_LEFT,
+    Row::Hottest(&[7, 2, 6, 1]),
+    // A page of the list that nothing names leaves by a pin, and is loaded again.
+    Row::Absorbs(&[(0, 7, 15, 1)]),
+    Row::Pins(9, Said::Pinned(2, 2)),
+    Row::Unpins(2, 2),
+    Row::Loads(Said::Loaded(Some(1))),
+    NONE_LEFT,
+];
+
+// Two references to each of these pages, each page after the one before.
+fn two_each(rt: &impl Abort, alloc: Global, from: u32, to: u32) -> Vec<Reference> {
+    let mut batch = Vec::new(alloc);
+    for no in from..to {
+        let no = u64::from(no);
+        let first = seen(page(no), 2 * no, 1);
+        batch.push(first).expect(rt, "memory for a batch");
+        let second = seen(page(no), 2 * no + 1, 1);
+        batch.push(second).expect(rt, "memory for a batch");
+    }
+    batch
+}
+
+// A node of four frames over a device of 8,192 pages.
+fn wide(rt: &impl Abort, alloc: Global) -> Node<MemDevice> {
+    let device = memory(alloc, 8_192).expect(rt, "memory for a device");
+    over(rt, alloc, 1, 4, device)
+}
+
+fn takes_in(rt: &impl Abort, alloc: Global, node: &mut Node<MemDevice>, from: u32, to: u32) {
+    let batch = two_each(rt, alloc, from, to);
+    assert!(rt; node.absorb(&batch).is_ok());
+}
+
+// A step of the warm-up loads this page.
+fn loads(rt: &impl Abort, node: &mut Node<MemDevice>, no: u64) {
+    assert!(rt; matches!(node.warm_step(), Ok(Some(found)) if found == page(no)));
+}
+
+#[test]
+fn a_list_follows_many_pages(rt: HostRuntime) {
+    let alloc = rt.alloc();
+    let mut node = wide(&rt, alloc);
+    let mut from = 0;
+    // The pages come from the last row's number up to this one, and two are then loaded. Before the
+    // last row but one more references come than a node notes.
+    let rows = [
+        (10, 9, 8),
+        (11, 10, 7),
+        (1_011, 1_010, 1_009),
+        (2_011, 2_010, 2_009),
+        (4_200, 4_199, 4_198),
+        (4_201, 4_200, 4_197),
+    ];
+    for (to, first, second) in rows {
+        takes_in(&rt, alloc, &mut node, from, to);
+        loads(&rt, &mut node, first);
+        loads(&rt, &mut node, second);
+        from = to;
+    }
+}
+
+#[test]
+fn a_list_is_dropped_where_too_many_pages_come(rt: HostRuntime) {
+    let alloc = rt.alloc();
+    let mut node = wide(&rt, alloc);
+    takes_in(&rt, alloc, &mut node, 0, 10);
+    loads(&rt, &mut node, 9);
+    // Five batches between two steps, of 1,000 references each: one too many.
+    for (from, to) in [
+        (10, 510),
+        (510, 1_010),
+        (1_010, 1_510),
+        (1_510, 2_010),
+        (2_010, 2_510),
+    ] {
+        takes_in(&rt, alloc, &mut node, from, to);
+    }
+    for no in [2_509, 2_508, 2_507, 2_506] {
+        loads(&rt, &mut node, no);
+    }
+    assert!(rt; matches!(node.warm_step(), Ok(None)));
+}
+
+#[test]
+fn references_are_merged_into_the_list(rt: HostRuntime) {
+    lives(&rt, rt.alloc(), MERGED);
+}
 
 #[test]
 fn a_warm_up_finds_what_left_again(rt: HostRuntime) {

@@ -1,16 +1,25 @@
-use Rattle.std.proofs.Common.{ℕ, List, sym, subst}
+use Rattle.std.proofs.Common.{ℕ, List, ap, sym, subst, ◌∙◌}
+use Rattle.warm_gossip.specs.State.{NodeState}
 use Rattle.warm_pool.specs.PageBytes.{IsLent}
-use Rattle.warm_pool.specs.State.{PoolState}
+use Rattle.warm_pool.specs.Pinning.{CanPinAgain}
+use Rattle.warm_pool.specs.State.{IsPool, PoolState}
 use Rattle.warm_pool.specs.View.{view_of}
+use Rattle.warm_concurrent.specs.ShardSteps.{Looks}
+use Rattle.warm_concurrent.proofs.Lends.{looks_unpinned}
 use Rattle.warm_concurrent.proofs.lending.look_in.Goals as goal
 
-pub returns-clause-looked : goal.returns-clause-looked
-returns-clause-looked g c =
-    let slot = c.in_ok-slot.slot in
-    let lent = subst (λ (s : PoolState). IsLent (view_of s) slot c.bytes-lent.result.now) c.pool.ensures c.bytes-lent.ensures in
-    record {
-      mid = c.pin.new.self;
-      pins = (c.in_ok-slot.ensures.step, c.in_ok-slot.ensures.devices);
-      lends = subst (λ (bytes : List ℕ). IsLent (view_of c.pin.new.self.pool) slot bytes) (sym c.tag_of-bytes.ensures) lent;
-      unpins = (c.in-Ok.ensures.step, c.in-Ok.ensures.devices);
-    }
+pub resident_bytes-lent-requires : goal.resident_bytes-lent-requires
+resident_bytes-lent-requires g c =
+    let is = c.pool-held.ensures ∙ ap (λ (n : NodeState). n.pool) c.in-Some.ensures.same in
+    record { can = subst (λ (s : PoolState). CanPinAgain s c.args.page c.in-Some.slot) (sym is) c.in-Some.ensures.found }
+
+pub returns-in-Some-clause-looked : goal.returns-in-Some-clause-looked
+returns-in-Some-clause-looked g c =
+    let old = c.args.node.now in
+    let slot = c.in-Some.slot in
+    let is = c.pool-held.ensures ∙ ap (λ (n : NodeState). n.pool) c.in-Some.ensures.same in
+    let pool = subst IsPool is c.prove_is_pool.ensures in
+    let lent = subst (λ (s : PoolState). IsLent (view_of s) slot c.resident_bytes-lent.result.now) is c.resident_bytes-lent.ensures in
+    let shown = subst (λ (bytes : List ℕ). IsLent (view_of old.pool) slot bytes) (sym c.tag_of-bytes.ensures) lent in
+    subst (λ (n : NodeState). Looks old c.args.page slot c.tag_of-bytes.result.numbers n) (sym c.in-Some.ensures.same)
+    (looks_unpinned old c.args.page slot c.tag_of-bytes.result.numbers pool c.in-Some.ensures.found shown)

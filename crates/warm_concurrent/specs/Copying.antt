@@ -1,0 +1,45 @@
+-- A copy of the history of all shards: shard by shard.
+use Rattle.std.specs.Prelude.{◌≡◌, ◌⊎◌, ℕ, ◌<◌, ◌≤◌, List, [], ◌∷◌, length}
+use Rattle.warm_history.specs.Histories.{HistoryView, history_of_entries, join}
+use Rattle.warm_gossip.specs.declared.fault.NodeFault.TheVariants.{Memory}
+use Rattle.warm_concurrent.specs.declared.call.ShardCall.TheVariants.{CopyHistory}
+use Rattle.warm_concurrent.specs.declared.call.ShardReply.TheVariants.{Copied}
+use Rattle.warm_concurrent.specs.declared.fault.SharedFault.{SharedFault}
+use Rattle.warm_concurrent.specs.declared.fault.SharedFault.TheVariants.{Node}
+use Rattle.warm_concurrent.specs.Answering.{FirstGave}
+use Rattle.warm_concurrent.specs.Attached.{ShardPass}
+use Rattle.warm_concurrent.specs.Clauses.{CallFails, Got}
+
+-- the history of no references
+abbrev pub no_history : HistoryView
+no_history = history_of_entries []
+
+-- the join of a history and of these, one after the other
+abbrev pub joined_to : HistoryView → List HistoryView → HistoryView
+joined_to h [] = h
+joined_to h (x ∷ xs) = joined_to (join h x) xs
+
+-- the join of these histories
+abbrev pub join_of : List HistoryView → HistoryView
+join_of copies = joined_to no_history copies
+
+-- a shard gave this copy of its history, in one turn
+abbrev pub GivesCopy : HistoryView → ℕ → ShardPass → ShardPass → Type 0
+GivesCopy copy i old new = Got old.view CopyHistory (Copied copy) new.view
+
+-- the shards below k gave these copies, and no other turn was entered
+abbrev pub CopiesFirst : List HistoryView → ℕ → List ShardPass → List ShardPass → Type 0
+CopiesFirst copies k old new = FirstGave GivesCopy no_history copies k old new
+
+-- each shard gave a copy of its history in one turn, and this is their join
+abbrev pub CopiesAll : HistoryView → List ShardPass → List ShardPass → Type 0
+CopiesAll copy old new = (copies : List HistoryView) × CopiesFirst copies (length old) old new
+    × (copy ≡ join_of copies)
+
+-- The shards below k gave copies. Then no memory was left to join them; or the shard k refused to
+-- copy its history, or found no ticket.
+abbrev pub CopyFails : ℕ → SharedFault → List ShardPass → List ShardPass → Type 0
+CopyFails k why old new = (copies : List HistoryView) × (mid : List ShardPass)
+    × CopiesFirst copies k old mid
+    × (((k ≤ length old) × (why ≡ Node Memory) × (new ≡ mid))
+    ⊎ ((k < length old) × CallFails mid k CopyHistory why new))

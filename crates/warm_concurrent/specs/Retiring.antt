@@ -1,0 +1,38 @@
+-- Replacing a device of a shard with another: what a visitor says of it, and what a thread has seen.
+use Rattle.std.specs.Prelude.{◌≡◌, ℕ, List, Result, Ok, Err}
+use Rattle.boxcar.specs.declared.tag.Tag.{Tag}
+use Rattle.warm_devices.specs.Device.{DeviceState}
+use Rattle.warm_pool.specs.declared.fault.PoolFault.{PoolFault}
+use Rattle.warm_gossip.specs.declared.fault.NodeFault.TheVariants.{Pool}
+use Rattle.warm_concurrent.specs.declared.call.ShardCall.{ShardCall}
+use Rattle.warm_concurrent.specs.declared.call.ShardCall.TheVariants.{Retire}
+use Rattle.warm_concurrent.specs.declared.call.ShardReply.{ShardReply}
+use Rattle.warm_concurrent.specs.declared.call.ShardReply.TheVariants.{Done, Refused}
+use Rattle.warm_concurrent.specs.declared.fault.SharedFault.{SharedFault}
+use Rattle.warm_concurrent.specs.declared.fault.SharedFault.TheVariants.{Node, TurnsSpent}
+use Rattle.warm_concurrent.specs.Attached.{ShardPass}
+use Rattle.warm_concurrent.specs.Clauses.{AnsweredByShard, Spent}
+use Rattle.warm_concurrent.specs.ToldDevices.{IsTold}
+
+-- How it went, as the call and the reply say: the device was replaced, or the pool refused it with
+-- the fault of this error
+abbrev pub RetiresAs : {E : Type 0} → (E → PoolFault) → ℕ → DeviceState → Result Unit E → ShardCall
+    → ShardReply → Type 0
+RetiresAs fault dev device (Ok done) call reply = (told : Tag) × IsTold told device
+    × (call ≡ Retire dev told) × (reply ≡ Done)
+RetiresAs fault dev device (Err e) call reply = (told : Tag) × IsTold told device
+    × (call ≡ Retire dev told) × (reply ≡ Refused (Pool (fault e)))
+
+-- the shard of this number replaced its device with one of this state, in one turn, and no other was
+-- entered
+abbrev pub RetiresAt : List ShardPass → ℕ → ℕ → DeviceState → List ShardPass → Type 0
+RetiresAt old i dev device new = (told : Tag) × IsTold told device
+    × AnsweredByShard old i (Retire dev told) Done new
+
+-- the shard refused to, with a fault of its pool; or no ticket was left
+abbrev pub RetireFailsAt : List ShardPass → ℕ → ℕ → DeviceState → SharedFault → List ShardPass
+    → Type 0
+RetireFailsAt old i dev device (Node (Pool fault)) new = (told : Tag) × IsTold told device
+    × AnsweredByShard old i (Retire dev told) (Refused (Pool fault)) new
+RetireFailsAt old i dev device TurnsSpent new = Spent old i new
+RetireFailsAt old i dev device why new = ⊥

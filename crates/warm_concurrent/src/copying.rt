@@ -1,0 +1,134 @@
+//! A copy of the history of all shards: shard by shard.
+ghost use Rattle.std.specs.Prelude.{◌≡◌, ◌<◌, length, IfErr, IfOk};
+ghost use Rattle.warm_concurrent.specs.Attached.{AreOf, AreTurns};
+ghost use Rattle.warm_concurrent.specs.Clauses.{CallEnds};
+ghost use Rattle.warm_concurrent.specs.Copying.{CopiesAll, CopyFails};
+ghost use Rattle.warm_concurrent.specs.declared.call.ShardCall.TheVariants.{CopyHistory};
+ghost use Rattle.warm_concurrent.specs.declared.call.ShardReply.TheVariants.{Copied};
+
+use crate::call::{ShardCall, ShardReply};
+use crate::fault::SharedFault;
+use crate::history_calls::Stopped;
+use crate::shard::Shard;
+use crate::shared::{Attached, SharedShards, call_shard};
+use std::alloc::{AllocError, Global};
+use std::marker::Model;
+use std::sync::Wait;
+use warm_devices::PageDevice;
+use warm_gossip::NodeFault;
+use warm_history::History;
+use warm_turn::{Pass, Turn};
+
+/// A history in a heap box, so that no reply has the room for a history in it. Contracts see the
+/// history.
+#[derive(Drop)]
+pub struct BoxedHistory {
+    history: Box<History>,
+}
+
+impl Model for BoxedHistory {
+    ghost use Rattle.warm_history.specs.Histories.{HistoryView};
+
+    ghost Value = { HistoryView };
+
+    ghost view = { λ boxed. boxed.history.value };
+}
+
+impl BoxedHistory {
+    /// A copy of the history, in a box.
+    ///
+    /// `AllocError` occurs only where an allocation fails.
+    pub fn copy_of(alloc: Global, history: &History) -> Result<BoxedHistory, AllocError>
+        ensures { IfOk result (λ boxed. boxed ≡ history.now) }
+    {
+        let copy = history.copy()?;
+        let history = Box::new(alloc, copy)?;
+        Ok(BoxedHistory { history })
+    }
+
+    /// Borrows the history. Allocation-free.
+    pub fn as_history(&self) -> &History
+        ensures { result.now ≡ self.now }
+    {
+        &self.history
+    }
+}
+
+// Has one shard copy its history.
+fn copy_in<D: PageDevice + Send, R: Wait>(
+    rt: &R,
+    turns: &Vec<Turn<Shard<D>>>,
+    passes: &mut Vec<Pass<Shard<D>>>,
+    shard: usize,
+) -> Result<BoxedHistory, SharedFault>
+    requires turns { AreTurns turns.now.items }
+    requires passes { AreOf turns.now.items passes.old.items }
+    requires there { shard < length turns.now.items }
+    ensures passes { AreOf turns.now.items passes.new.items }
+    ensures ends { CallEnds passes.old.items shard CopyHistory Copied result passes.new.items }
+{
+    match call_shard(rt, turns, passes, shard, ShardCall::CopyHistory)? {
+        ShardReply::Copied(history) => Ok(history),
+        ShardReply::Refused(why) => Err(SharedFault::Node(why)),
+        _ => unreachable!(),
+    }
+}
+
+// Has each shard copy its history, and joins the copies.
+fn copy_all<D: PageDevice + Send, R: Wait>(
+    rt: &R,
+    alloc: Global,
+    turns: &Vec<Turn<Shard<D>>>,
+    passes: &mut Vec<Pass<Shard<D>>>,
+) -> Result<History, Stopped>
+    requires turns { AreTurns turns.now.items }
+    requires passes { AreOf turns.now.items passes.old.items }
+    ensures passes { AreOf turns.now.items passes.new.items }
+    ensures copied { IfOk result (λ copy. CopiesAll copy passes.old.items passes.new.items) }
+    ensures stopped { IfErr result (λ at. CopyFails at.shard at.fault passes.old.items
+        passes.new.items) }
+{
+    let mut all = History::new(alloc);
+    let count = turns.len();
+    for shard in 0..count {
+        let part = match copy_in(rt, turns, passes, shard) {
+            Ok(part) => part,
+            Err(fault) => return Err(Stopped { fault, shard }),
+        };
+        if let Err(_refused) = all.join(part.as_history()) {
+            return Err(Stopped {
+                fault: SharedFault::Node(NodeFault::Memory),
+                shard: shard + 1,
+            });
+        }
+    }
+    Ok(all)
+}
+
+impl<D: PageDevice + Send> SharedShards<D> {
+    /// A copy of the history of all shards: each shard copies its own in one turn, in the order of
+    /// the shards, in which the call `CopyHistory` is answered, and the copy is their join. A dump
+    /// of it is a dump of the replica. Of what other threads give meanwhile it has what was in a
+    /// shard at that shard's turn.
+    ///
+    /// # Errors
+    /// `TurnsSpent`, or `Node(Memory)`, where an allocation failed: in a shard, of whose number it
+    /// says so, or as the copies were joined. Nothing has changed in any shard.
+    pub fn history<R: Wait>(
+        &self,
+        rt: &R,
+        alloc: Global,
+        attached: &mut Attached<D>,
+    ) -> Result<History, Stopped>
+        requires { AreOf self.now attached.old.passes }
+        ensures attached { AreOf self.now attached.new.passes }
+        ensures copied { IfOk result (λ copy.
+            CopiesAll copy attached.old.passes attached.new.passes) }
+        ensures stopped { IfErr result (λ at.
+            CopyFails at.shard at.fault attached.old.passes attached.new.passes) }
+        ensures pins { attached.new.pins ≡ attached.old.pins }
+    {
+        let copy = copy_all(rt, alloc, &self.turns, &mut attached.passes)?;
+        Ok(copy)
+    }
+}

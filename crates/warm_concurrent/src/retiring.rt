@@ -1,0 +1,161 @@
+//! Replacing a device of a shard with another, in one turn of the shard.
+ghost use Rattle.std.specs.Prelude.{◌≡◌, ◌<◌, length, IfErr, OnOk};
+ghost use Rattle.warm_concurrent.specs.Attached.{AreOf, AreTurns};
+ghost use Rattle.warm_concurrent.specs.Retiring.{RetireFailsAt, RetiresAs, RetiresAt};
+ghost use Rattle.warm_concurrent.specs.ShardSteps.{ShardStep};
+ghost use Rattle.warm_concurrent.specs.ToldDevices.{IsTold};
+
+use crate::call::{ShardCall, ShardReply};
+use crate::fault::SharedFault;
+use crate::shard::Shard;
+use crate::shared::{Attached, SharedShards, visit_or_back};
+use crate::visitors::visited;
+use boxcar::tag::{Names, Tag};
+use std::sync::Wait;
+use warm_devices::PageDevice;
+use warm_gossip::NodeFault;
+use warm_pool::RetireError;
+use warm_turn::{Pass, Turn, Visit, Visited};
+
+/// Why a device was not replaced, and the device that was to replace it.
+pub struct NotRetired<D: PageDevice> {
+    /// The reason.
+    pub fault: SharedFault,
+    /// The new device, unchanged.
+    pub device: D,
+}
+
+// A tag of the state of a device.
+struct OfDevice;
+
+impl<D: PageDevice> Names<D> for OfDevice {
+    ghost use Rattle.warm_concurrent.specs.ToldDevices.{coded_device};
+
+    ghost numbers = { λ device. coded_device (D.state device) };
+}
+
+// The state of a device as numbers, which exist only in contracts.
+fn told_of<D: PageDevice>(device: &D) -> Tag
+    ensures { IsTold result (D.state device.now) }
+{
+    Tag::of::<D, OfDevice>(device)
+}
+
+// Replaces a device with another, and drops the old one.
+pub(crate) struct Retiring<D> {
+    pub(crate) dev: u16,
+    pub(crate) device: D,
+}
+
+impl<D: PageDevice + Send> Visit<Shard<D>> for Retiring<D> {
+    ghost use Rattle.std.specs.Prelude.{◌≡◌, ⊤, IfErr};
+    ghost use Rattle.warm_concurrent.specs.Retiring.{RetiresAs};
+
+    type Output = Result<(), RetireError<D>>;
+
+    ghost ready = { λ _. ⊤ };
+
+    ghost makes = { λ v output call reply.
+        RetiresAs (λ e. e.fault) v.dev (D.state v.device) output call reply
+        × IfErr output (λ e. e.device ≡ v.device) };
+
+    fn visit(
+        self,
+        shard: &mut Shard<D>,
+    ) -> Visited<ShardCall, ShardReply, Result<(), RetireError<D>>> {
+        let Retiring { dev, device } = self;
+        shard.retire(dev, device)
+    }
+}
+
+impl<D: PageDevice> Shard<D> {
+    // Replaces a device of this shard with another, and drops the old one.
+    fn retire(
+        &mut self,
+        dev: u16,
+        device: D,
+    ) -> Visited<ShardCall, ShardReply, Result<(), RetireError<D>>>
+        ensures made { RetiresAs (λ e. e.fault) dev (D.state device) result.output
+            result.made.call.value result.made.reply.value }
+        ensures given_back { IfErr result.output (λ e. e.device ≡ device) }
+        ensures step { ShardStep self.old result.made.call.value result.made.reply.value
+            self.new }
+    {
+        let told = told_of(&device);
+        let call = ShardCall::Retire { dev, device: told };
+        match self.node.retire(dev, device) {
+            Ok(()) => visited(call, ShardReply::Done, Ok(())),
+            Err(unretired) => {
+                let why = NodeFault::Pool(unretired.fault);
+                visited(call, ShardReply::Refused(why), Err(unretired))
+            }
+        }
+    }
+}
+
+// Replaces a device of one shard.
+fn retire_in<D: PageDevice + Send, R: Wait>(
+    rt: &R,
+    turns: &Vec<Turn<Shard<D>>>,
+    passes: &mut Vec<Pass<Shard<D>>>,
+    shard: usize,
+    dev: u16,
+    device: D,
+) -> Result<(), NotRetired<D>>
+    requires turns { AreTurns turns.now.items }
+    requires passes { AreOf turns.now.items passes.old.items }
+    requires there { shard < length turns.now.items }
+    ensures passes { AreOf turns.now.items passes.new.items }
+    ensures retired { OnOk result
+        (RetiresAt passes.old.items shard dev (D.state device) passes.new.items) }
+    ensures refused { IfErr result (λ unretired. RetireFailsAt passes.old.items shard dev
+        (D.state device) unretired.fault passes.new.items) }
+    ensures given_back { IfErr result (λ unretired. unretired.device ≡ device) }
+{
+    match visit_or_back(rt, turns, passes, shard, Retiring { dev, device }) {
+        Ok(Ok(())) => Ok(()),
+        Ok(Err(unretired)) => {
+            let RetireError { fault, device } = unretired;
+            Err(NotRetired {
+                fault: SharedFault::Node(NodeFault::Pool(fault)),
+                device,
+            })
+        }
+        Err(Retiring { dev: _, device }) => Err(NotRetired {
+            fault: SharedFault::TurnsSpent,
+            device,
+        }),
+    }
+}
+
+impl<D: PageDevice + Send> SharedShards<D> {
+    /// Replaces a device of a shard with another, and drops the old one: one turn of the shard, in
+    /// which the call `Retire` is answered. The dirty pages of the old device are written back, it
+    /// is flushed, and its pages are evicted: see [`warm_gossip::Node::retire`]. Each shard has a
+    /// device of its own of this number.
+    ///
+    /// # Errors
+    /// `Node(Pool(..))`, with a fault and the effects of [`warm_gossip::Node::retire`] in the shard:
+    /// among them `Fixed`, where any thread has a pin on a page of the device. `TurnsSpent`. Each
+    /// gives the new device back.
+    pub fn retire<R: Wait>(
+        &self,
+        rt: &R,
+        attached: &mut Attached<D>,
+        shard: usize,
+        dev: u16,
+        device: D,
+    ) -> Result<(), NotRetired<D>>
+        requires passes { AreOf self.now attached.old.passes }
+        requires there { shard < length self.now }
+        ensures attached { AreOf self.now attached.new.passes }
+        ensures retired { OnOk result
+            (RetiresAt attached.old.passes shard dev (D.state device) attached.new.passes) }
+        ensures refused { IfErr result (λ unretired. RetireFailsAt attached.old.passes shard dev
+            (D.state device) unretired.fault attached.new.passes) }
+        ensures given_back { IfErr result (λ unretired. unretired.device ≡ device) }
+        ensures pins { attached.new.pins ≡ attached.old.pins }
+    {
+        retire_in(rt, &self.turns, &mut attached.passes, shard, dev, device)
+    }
+}
